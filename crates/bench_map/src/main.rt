@@ -1,10 +1,10 @@
 //! The speed of the machine with its whole record, without a gate.
 //!
-//! `bench_map CALLS BEFORE COUNT KEYS SLOTS ACTORS` performs COUNT operations after BEFORE others, over so many
+//! `bench_map CALLS BEFORE COUNT KEYS SLOTS ACTORS [STEPS]` performs COUNT operations after BEFORE others, over so many
 //! keys, and writes how many steps they took, how many nanoseconds, and how many found no free slot. CALLS is `mix`,
 //! `get`, `put`, `insert` or `freeze`. Before gets alone each key is put. `bench_map order BEFORE ..` performs those of
-//! `freeze` and writes how many nanoseconds their order takes. Without words few operations are made, and
-//! their steps written.
+//! `freeze` and writes how many nanoseconds their order takes. The memory that the record of STEPS steps takes is
+//! reserved before. Without words few operations are made, and their steps written.
 #![tactic(auto)]
 
 mod callers;
@@ -36,6 +36,8 @@ struct Load {
     count: u64,
     keys: u64,
     limits: Limits,
+    /// For how many steps the record's memory is reserved.
+    reserved: u64,
 }
 
 /// A machine that is at work, and who calls it.
@@ -55,6 +57,7 @@ struct Done {
 /// A machine after what comes before the load.
 fn prepared(alloc: Global, load: Load) -> Result<Work, Refusal> {
     let mut machine = Machine::new(alloc, load.limits)?;
+    machine.reserve(load.reserved)?;
     if load.calls == Calls::Get {
         let mut putter = Caller::new(Calls::Insert, load.keys, load.limits.actors);
         putter.perform(&mut machine, load.keys)?;
@@ -131,6 +134,7 @@ fn load_of(words: &[String]) -> Option<Load> {
             actors: u8::try_from(number(words.get(5))?).ok()?,
             hash: HashKind::Low,
         },
+        reserved: number(words.get(6)).unwrap_or(0),
     })
 }
 
@@ -164,6 +168,7 @@ fn few(alloc: Global, calls: Calls) -> Result<Done, Refusal> {
             actors: 2,
             hash: HashKind::Low,
         },
+        reserved: 0,
     };
     operate(&mut prepared(alloc, load)?, load.count)
 }

@@ -68,6 +68,21 @@ impl Chronicle {
         self.ordered.room_for(id)
     }
 
+    /// Makes room for so many generations, closings, and places of operations that are still to begin, in memory that is
+    /// written here. After an error nothing but room has changed.
+    pub fn reserve(&mut self, count: usize) -> Result<(), Refusal>
+        ensures only_memory { IsOkUnless result Memory }
+        ensures closings { self.new.closings ≡ self.old.closings }
+        ensures generations { self.new.generations ≡ self.old.generations }
+        ensures places { self.new.places ≡ self.old.places }
+        ensures to_draw { OnOk result (count ≤ self.new.room_to_draw) }
+        ensures to_add { OnOk result (count ≤ self.new.room_to_add) }
+        ensures to_close { OnOk result (count ≤ self.new.room_to_close) }
+    {
+        self.closings.reserve(count)?;
+        self.ordered.reserve(count)
+    }
+
     /// A generation is drawn, which is open.
     pub fn draw(&mut self)
         requires { 0 < self.old.room_to_draw }

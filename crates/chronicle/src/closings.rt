@@ -5,6 +5,7 @@ ghost use Rattle.chronicle.specs.Closed.{closing_step};
 
 use ctrie_base::Trace;
 use machine_model::Closing;
+use places::touch_room;
 use std::alloc::{AllocError, Global};
 use std::marker::Model;
 
@@ -52,6 +53,15 @@ impl Closings {
         ensures more { self.old.room ≤ self.new.room }
     {
         self.steps.reserve(1)
+    }
+
+    /// Makes room for so many generations more, in memory that is written here. After an error nothing but room has changed.
+    pub fn reserve(&mut self, count: usize) -> Result<(), AllocError>
+        ensures closings { self.new.closings ≡ self.old.closings }
+        ensures generations { self.new.generations ≡ self.old.generations }
+        ensures room { OnOk result (count ≤ self.new.room) }
+    {
+        touch_room(&mut self.steps, count, None)
     }
 
     /// One generation more, which is open.

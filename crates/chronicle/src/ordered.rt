@@ -6,7 +6,7 @@ ghost use Rattle.ctrie_base.specs.declared.refusals.Refusal.TheVariants.{Memory}
 ghost use Rattle.places.specs.Places.{ids_by_place};
 
 use ctrie_base::{Refusal, Ticks};
-use places::{Place, Places};
+use places::{Place, Places, touch_room};
 use std::alloc::{AllocError, Global};
 use std::marker::Model;
 
@@ -63,6 +63,19 @@ impl Ordered {
         Ok(())
     }
 
+    /// Makes room for so many closings, and for so many places of operations that are still to begin, in memory that is
+    /// written here. After an error nothing but room has changed.
+    pub fn reserve(&mut self, count: usize) -> Result<(), Refusal>
+        ensures only_memory { IsOkUnless result Memory }
+        ensures places { self.new.places ≡ self.old.places }
+        ensures closings { self.new.closings ≡ self.old.closings }
+        ensures to_add { OnOk result (count ≤ self.new.room_to_add) }
+        ensures to_close { OnOk result (count ≤ self.new.room_to_close) }
+    {
+        touch_room(&mut self.placed, count, false)?;
+        self.places.reserve(count)
+    }
+
     /// Makes room for the mark of this id.
     fn know(&mut self, id: usize) -> Result<(), AllocError>
         ensures places { self.new.places ≡ self.old.places }
@@ -73,6 +86,7 @@ impl Ordered {
     {
         mark_up_to(&mut self.placed, id)
     }
+
     /// A generation is closed at this step.
     pub fn close(&mut self, step: u64)
         requires room { 0 < self.old.room_to_close }

@@ -101,6 +101,20 @@ pub replaces : {A E : Type 0} (r : Result A E) (actors : List Actor) (i : ℕ) (
 replaces (Ok taken) actors i was is found P does = record { was = was; is = is; found = found; set = refl; does = does }
 replaces (Err refusal) actors i was is found P does = tt
 
+-- the same, of whatever it has under way
+pub replaces_all : {A E : Type 0} (r : Result A E) (actors : List Actor) (i : ℕ) (was is : Actor) → slice_get actors i ≡ Some was → (P : UnderWay → A → Actor → Actor → Type 0) →
+    IfOk r (λ taken. (u : UnderWay) → was.under_way ≡ Some u → P u taken was is) →
+    IfOk r (λ taken. (found : Actor) (u : UnderWay) → slice_get actors i ≡ Some found → found.under_way ≡ Some u → Replaces actors i (P u taken) (slice_set actors i is))
+replaces_all (Ok taken) actors i was is found P does = λ other u at runs.
+    record {
+      was = was;
+      is = is;
+      found = found;
+      set = refl;
+      does = does u (ap (λ (a : Actor). a.under_way) (same_Some was other (sym found ∙ at)) ∙ runs);
+    }
+replaces_all (Err refusal) actors i was is found P does = tt
+
 -- where nothing has changed all is kept
 pub unchanged : (before after : Parts) → after.limits ≡ before.limits → after.journal ≡ before.journal → after.begun ≡ before.begun → after.commits ≡ before.commits →
     (after.actors.items ≡ before.actors.items) × (after.table ≡ before.table) × (after.generations ≡ before.generations) × (after.heap ≡ before.heap) → IsKept before → IsKept after

@@ -75,7 +75,7 @@ left_by pins r held (Some at) small e =
     ∙ ap (λ x. limbo_after (freed r.heap x) held r.epoch (z ∷ rest)) (sym there)
     ∙ ap (λ l. limbo_after (freed r.heap at) held r.epoch l) (sym is)
 
-left : (pins : List (Option ℕ)) (r : Reclaimer) (held : List Ref) (did : Swept) (after : Reclaimer) → length r.heap.slots ≤ 2 ^ 16 → (did, after) ≡ swept_once pins r →
+pub left : (pins : List (Option ℕ)) (r : Reclaimer) (held : List Ref) (did : Swept) (after : Reclaimer) → length r.heap.slots ≤ 2 ^ 16 → (did, after) ≡ swept_once pins r →
     limbo_after after.heap held after.epoch (drop (freed_by did) r.limbo) ≡ limbo_after after.heap held after.epoch r.limbo
 left pins r held did after small e =
     subst (λ (done : Swept × Reclaimer). limbo_after done.1.heap held done.1.epoch (drop (freed_by done.0) r.limbo) ≡ limbo_after done.1.heap held done.1.epoch r.limbo)

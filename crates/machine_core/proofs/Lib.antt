@@ -10,6 +10,7 @@ pub mod Held
 pub mod Bounded
 pub mod Steps
 pub mod Ends
+pub mod Crossing
 pub mod Starts
 pub mod Numbers
 pub mod Gathering
@@ -17,9 +18,11 @@ pub mod Levels
 pub mod Named
 pub mod Knows
 pub mod Kept
+pub mod Working
 pub mod Left
 pub mod Begun
 pub mod Took
+pub mod Underway
 pub mod Allowed
 pub mod Noted
 pub mod Offering

@@ -1,5 +1,5 @@
 -- How an actor's operation begins and ends.
-use Rattle.std.specs.Prelude.{◌≡◌, ℕ, [], Some, None}
+use Rattle.std.specs.Prelude.{◌≡◌, ℕ, [], length, Some, None}
 use Rattle.history.specs.declared.calls.Access.{Access}
 use Rattle.machine_model.specs.Operations.{first_line}
 use Rattle.epochs.specs.Memories.{Memory}
@@ -7,6 +7,7 @@ use Rattle.trie_parts.specs.Holding.{KeepsOthers}
 use Rattle.running.specs.Places.{IsSound, call_for, generation_in, line_for}
 use Rattle.machine_core.specs.declared.parts.Actor.{Actor}
 use Rattle.machine_core.specs.declared.parts.UnderWay.{UnderWay}
+use Rattle.machine_core.specs.Work.{NotesUpTo}
 
 -- the actor begins this operation, on a handle of this kind
 pub record Begins (u : UnderWay) (access : Access) (before after : Actor) : Type 0 where
@@ -25,3 +26,4 @@ pub record Leaves (memory now : Memory) (before after : Actor) : Type 0 where
   pub hashes : after.programs.key.task.hashes ≡ before.programs.key.task.hashes
   pub private : after.programs.key.work.private ≡ []
   pub others : KeepsOthers before.programs.key.work.private memory [] now
+  pub work : NotesUpTo (length before.programs.key.work.private) (length before.programs.key.work.private) memory now

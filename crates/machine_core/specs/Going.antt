@@ -52,6 +52,11 @@ pub record Midway (actor : ℕ) (u : UnderWay) (fresh : Ref) (taken : Taken) (pa
   -- what the operation was about to swap in
   pub fresh_is : (found : Actor) → actor_of before actor ≡ Some found → fresh ≡ found.programs.key.work.swap.fresh
 
+-- they are so, of what the actor has under way
+pub record InMidway (actor : ℕ) (fresh : Ref) (taken : Taken) (parts : Parts) : Type 0 where
+  pub under_way : UnderWay
+  pub midway : Midway actor under_way fresh taken parts
+
 -- ---- what is noted of it
 
 -- a main node that a READ gave was committed in this step, or before

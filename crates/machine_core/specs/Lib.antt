@@ -7,3 +7,4 @@ pub mod Keeping
 pub mod Seen
 pub mod Starting
 pub mod Ties
+pub mod Work

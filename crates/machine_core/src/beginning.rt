@@ -13,6 +13,7 @@ ghost use Rattle.machine_core.specs.Beginnings.{Begins};
 ghost use Rattle.machine_core.specs.Bounds.{IsOfRun};
 ghost use Rattle.machine_core.specs.Keeping.{IsKept, Replaces};
 ghost use Rattle.machine_core.specs.Seen.{seen};
+ghost use Rattle.machine_core.specs.Work.{NotesUpTo};
 
 use crate::calls::{is_close, opens_handle, program_of};
 use crate::handles::least_free;
@@ -108,6 +109,7 @@ pub fn begin_operation(parts: &mut Parts, actor: u8, call: Call)
     ensures begun { seen parts.new ≡ with_begin (seen parts.old) actor call
         (new_operation (seen parts.old) call (unwrap_or (access_of (root_at (seen parts.old) (handle_of call))) Access.Writable)) }
     ensures kept { IsKept parts.new }
+    ensures work { NotesUpTo 8 8 parts.old.heap parts.new.heap }
 {
     let access = access_for(parts, call);
     let under_way = new_under_way(parts, actor, call);

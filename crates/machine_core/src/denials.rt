@@ -36,7 +36,7 @@ pub fn is_access(access: Access, found: Option<Access>) -> bool
 }
 
 /// Why a begin is denied, if it is.
-fn begin_denial(parts: &Parts, actor: u8, call: Call) -> Option<Refusal>
+pub fn begin_denial(parts: &Parts, actor: u8, call: Call) -> Option<Refusal>
     ensures { result ≡ begin_denial (seen parts.now) actor call }
 {
     let handle = call.handle();
@@ -63,7 +63,7 @@ fn begin_denial(parts: &Parts, actor: u8, call: Call) -> Option<Refusal>
 }
 
 /// Why a step of an actor's operation is denied, if it is.
-fn go_denial(parts: &Parts, actor: u8) -> Option<Refusal>
+pub fn go_denial(parts: &Parts, actor: u8) -> Option<Refusal>
     ensures { result ≡ go_denial (seen parts.now) actor }
 {
     if !is_actor(parts, actor) {
@@ -89,7 +89,7 @@ pub fn denial_of(parts: &Parts, step: Step) -> Option<Refusal>
 }
 
 /// Why a step of the sweep is denied, if it is.
-fn sweep_denial(parts: &Parts) -> Option<Refusal>
+pub fn sweep_denial(parts: &Parts) -> Option<Refusal>
     ensures { result ≡ denial_of (seen parts.now) steps.Sweep }
 {
     if is_spent(parts) {

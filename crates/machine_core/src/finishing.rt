@@ -1,6 +1,6 @@
 //! How an operation ends.
 
-ghost use Rattle.std.specs.Prelude.{◌≡◌, ◌<◌, ◌-◌, ◌++◌, length, vec_len, vec_capacity, slice_get, Some, IfOk, IfErr, OnErr, MatchOption, option_to_list};
+ghost use Rattle.std.specs.Prelude.{◌≡◌, ◌<◌, ◌-◌, ◌++◌, length, vec_len, vec_capacity, slice_get, Some, IfOk, IfErr, OnErr, OnOk, MatchOption, option_to_list};
 ghost use Rattle.history.specs.declared.replies.Reply.TheVariants.{Closed};
 ghost use Rattle.epochs.specs.Memories.{KeepsEpochs, KeepsRemarks};
 ghost use Rattle.trie_parts.specs.Holding.{AreHeld};
@@ -13,6 +13,7 @@ ghost use Rattle.machine_core.specs.Beginnings.{Leaves};
 ghost use Rattle.machine_core.specs.Bounds.{IsOfRun};
 ghost use Rattle.machine_core.specs.Keeping.{IsKept, Replaces};
 ghost use Rattle.machine_core.specs.Seen.{operation_at, seen, under_way_of};
+ghost use Rattle.machine_core.specs.Work.{ActsLittle};
 
 use crate::parts::{Actor, Parts, UnderWay};
 use crate::placing::place_of;
@@ -98,6 +99,7 @@ pub fn finish(parts: &mut Parts, actor: u8, under_way: UnderWay, reply: Reply, p
     requires events { vec_len parts.old.journal.events < vec_capacity parts.old.journal.events }
     ensures ended { (operation : Operation) → operation_of (seen parts.old) actor ≡ Some operation → seen parts.new ≡ ended (seen parts.old) actor operation reply }
     ensures kept { IsKept parts.new }
+    ensures work { ActsLittle parts.old actor parts.new }
 {
     vacate(&mut parts.actors, actor as usize - 1, &mut parts.heap);
     parts.heap.unpin(actor);
@@ -124,7 +126,8 @@ pub fn end(
     ensures err { OnErr result (seen parts.new ≡ seen parts.old) }
     ensures only_memory { IfErr result (λ refusal. refusal ≡ Refusal.Memory) }
     ensures kept { IsKept parts.new }
-    ensures noted { OnErr result (parts.new.heap.noted ≡ parts.old.heap.noted) }
+    ensures heap { OnErr result (parts.new.heap ≡ parts.old.heap) }
+    ensures work { OnOk result (ActsLittle parts.old actor parts.new) }
 {
     let kept = reply.copy()?;
     make_room(parts)?;

@@ -1,6 +1,6 @@
 //! A step of an operation: all of it but for limbo and the count of steps.
 
-ghost use Rattle.std.specs.Prelude.{◌≡◌, ◌⊎◌, ◌+◌, ◌-◌, ◌<◌, ◌≤◌, ◌∷◌, ◌++◌, [], All, false, length, slice_get, option_to_list, IfErr, IfOk, OnErr, Some, None, MatchOption};
+ghost use Rattle.std.specs.Prelude.{◌≡◌, ◌⊎◌, ◌+◌, ◌-◌, ◌<◌, ◌≤◌, ◌∷◌, ◌++◌, [], All, false, length, slice_get, option_to_list, is_some, IfErr, IfOk, OnErr, OnOk, Some, None, MatchOption};
 ghost use Rattle.places.specs.Places.{on_time};
 ghost use Rattle.slot_arena.specs.Heaps.{generation_at};
 ghost use Rattle.slot_arena.specs.Refs.{slot_of};
@@ -15,10 +15,12 @@ ghost use Rattle.machine_core.specs.Beneath.operate.specs.Places.{answer_of};
 ghost use Rattle.running.specs.Places.{line_for, IsSound};
 ghost use Rattle.running.specs.Steps.{scene, CanStep};
 ghost use Rattle.machine_core.specs.Bounds.{IsOfRun};
-ghost use Rattle.machine_core.specs.Going.{entered_for, moved, step_committed, CanNote, HasUnderWay, Midway, NotesCarried, NotesCommit, NotesDrawn, NotesKind, Steps, StepsTo};
+ghost use Rattle.machine_core.specs.Going.{entered_for, moved, step_committed, CanNote, HasUnderWay, InMidway, Midway, NotesCarried, NotesCommit, NotesDrawn, NotesKind, Steps, StepsTo};
 ghost use Rattle.machine_core.specs.Keeping.{IsKept, Replaces};
 ghost use Rattle.machine_core.specs.Seen.{actor_of, operation_at, operation_seen, seen, under_way_of};
+ghost use Rattle.machine_core.specs.Work.{ActsLittle, NotesUpTo};
 ghost use Rattle.machine_core.specs.declared.parts.Actor.{Actor as AnActor};
+ghost use Rattle.machine_core.specs.declared.parts.UnderWay.{UnderWay as AnUnderWay};
 
 use crate::finishing::{end, put_place};
 use crate::parts::{Actor, Parts, UnderWay};
@@ -46,12 +48,56 @@ pub fn go_on(parts: &mut Parts, actor: u8) -> Result<Outcome, Refusal>
     ensures err { OnErr result (seen parts.new ≡ seen parts.old) }
     ensures only_memory { IfErr result (λ refusal. refusal ≡ Refusal.Memory) }
     ensures kept { IsKept parts.new }
-    ensures noted { OnErr result (parts.new.heap.noted ≡ parts.old.heap.noted) }
+    ensures heap { OnErr result (parts.new.heap ≡ parts.old.heap) }
+    ensures work { OnOk result (ActsLittle parts.old actor parts.new) }
+{
+    if is_over(parts, actor) {
+        end_now(parts, actor)
+    } else {
+        proceed(parts, actor)
+    }
+}
+
+/// Whether the actor's operation ends by its next step.
+fn is_over(parts: &Parts, actor: u8) -> bool
+    ensures { (found : AnActor) (u : AnUnderWay) → actor_of parts.now actor ≡ Some found → found.under_way ≡ Some u →
+        result ≡ is_some (answer_of (line_for u.program found.programs)) }
+{
+    match parts.actor(actor) {
+        Some(found) => ends(found),
+        None => false,
+    }
+}
+
+/// The same of this actor.
+fn ends(actor: &Actor) -> bool
+    ensures { (u : AnUnderWay) → actor.now.under_way ≡ Some u → result ≡ is_some (answer_of (line_for u.program actor.now.programs)) }
+{
+    match &actor.under_way {
+        Some(under_way) => actor.programs.is_over(&under_way.program),
+        None => false,
+    }
+}
+
+/// The end of the actor's operation, which is its next step. After an error nothing that is seen has changed.
+fn end_now(parts: &mut Parts, actor: u8) -> Result<Outcome, Refusal>
+    requires run { IsOfRun (seen parts.old) }
+    requires kept { IsKept parts.old }
+    ensures ok { IfOk result (λ outcome. (operation : Operation) →
+        operation_of (seen parts.old) actor ≡ Some operation →
+        went (seen parts.old) actor operation (action_of (seen parts.old) operation)
+        ≡ (outcome, seen parts.new)) }
+    ensures err { OnErr result (seen parts.new ≡ seen parts.old) }
+    ensures only_memory { IfErr result (λ refusal. refusal ≡ Refusal.Memory) }
+    ensures kept { IsKept parts.new }
+    ensures heap { OnErr result (parts.new.heap ≡ parts.old.heap) }
+    ensures work { OnOk result (ActsLittle parts.old actor parts.new) }
 {
     match under_way(parts, actor) {
         Some(under_way) => match reply_of(parts, actor, under_way.program)? {
             Some(reply) => end(parts, actor, under_way, reply),
-            None => proceed(parts, actor, under_way),
+            // It ends.
+            None => Err(Refusal::Memory),
         },
         // It runs one.
         None => Err(Refusal::Memory),
@@ -80,12 +126,12 @@ fn reply_of(parts: &Parts, actor: u8, program: Program) -> Result<Option<Reply>,
 }
 
 /// Takes a step of the actor's operation that isn't its end. After an error nothing that is seen has changed.
-fn proceed(parts: &mut Parts, actor: u8, under_way: UnderWay) -> Result<Outcome, Refusal>
+fn proceed(parts: &mut Parts, actor: u8) -> Result<Outcome, Refusal>
     requires run { IsOfRun (seen parts.old) }
     requires kept { IsKept parts.old }
     requires allowed { go_denial (seen parts.old) actor ≡ None }
-    requires runs { under_way_of parts.old actor ≡ Some under_way }
-    requires goes_on { (found : AnActor) → actor_of parts.old actor ≡ Some found → answer_of (line_for under_way.program found.programs) ≡ None }
+    requires goes_on { (found : AnActor) (u : AnUnderWay) → actor_of parts.old actor ≡ Some found → found.under_way ≡ Some u →
+        is_some (answer_of (line_for u.program found.programs)) ≡ false }
     ensures ok { IfOk result (λ outcome. (operation : Operation) →
         operation_of (seen parts.old) actor ≡ Some operation →
         went (seen parts.old) actor operation (action_of (seen parts.old) operation)
@@ -93,12 +139,14 @@ fn proceed(parts: &mut Parts, actor: u8, under_way: UnderWay) -> Result<Outcome,
     ensures err { OnErr result (seen parts.new ≡ seen parts.old) }
     ensures only_memory { IfErr result (λ refusal. refusal ≡ Refusal.Memory) }
     ensures kept { IsKept parts.new }
-    ensures noted { OnErr result (parts.new.heap.noted ≡ parts.old.heap.noted) }
+    ensures heap { OnErr result (parts.new.heap ≡ parts.old.heap) }
+    ensures work { OnOk result (ActsLittle parts.old actor parts.new) }
 {
     parts.journal.chronicle.room_for(parts.begun)?;
     let fresh = fresh_of(parts, actor);
-    let taken = step(parts, actor, under_way)?;
-    Ok(Outcome::Went(note(parts, actor, under_way, fresh, taken)))
+    let taken = step(parts, actor)?;
+    note(parts, actor, fresh, &taken);
+    Ok(Outcome::Went(taken.kind))
 }
 
 /// The main node that the actor's operation was, or is, about to swap in.
@@ -112,21 +160,20 @@ fn fresh_of(parts: &Parts, actor: u8) -> Ref
 }
 
 /// Lets the actor's programs take the step. After an error nothing has changed.
-fn step(parts: &mut Parts, actor: u8, under_way: UnderWay) -> Result<Taken, Refusal>
+fn step(parts: &mut Parts, actor: u8) -> Result<Taken, Refusal>
     requires run { IsOfRun (seen parts.old) }
     requires kept { IsKept parts.old }
-    requires runs { under_way_of parts.old actor ≡ Some under_way }
-    ensures steps { IfOk result (λ taken. Steps parts.old actor under_way taken parts.new) }
+    requires allowed { go_denial (seen parts.old) actor ≡ None }
+    ensures steps { IfOk result (λ taken. (u : AnUnderWay) → under_way_of parts.old actor ≡ Some u → Steps parts.old actor u taken parts.new) }
     ensures err { OnErr result (seen parts.new ≡ seen parts.old) }
     ensures kept { OnErr result (IsKept parts.new) }
-    ensures noted { OnErr result (parts.new.heap.noted ≡ parts.old.heap.noted) }
+    ensures heap { OnErr result (parts.new.heap ≡ parts.old.heap) }
     ensures only_memory { IfErr result (λ refusal. refusal ≡ Refusal.Memory) }
 {
     let index = actor as usize - 1;
     step_at(
         &mut parts.actors,
         index,
-        under_way,
         &mut parts.table,
         &mut parts.generations,
         &mut parts.heap,
@@ -137,79 +184,97 @@ fn step(parts: &mut Parts, actor: u8, under_way: UnderWay) -> Result<Taken, Refu
 fn step_at(
     actors: &mut Vec<Actor>,
     index: usize,
-    under_way: UnderWay,
     table: &mut Roots,
     generations: &mut u64,
     heap: &mut Heap,
 ) -> Result<Taken, Refusal>
     requires within { index < length actors.old.items }
-    requires can { (found : AnActor) → slice_get actors.old.items index ≡ Some found → CanStep (scene heap.old table.old generations.old found.programs) under_way.program }
-    requires sound { (found : AnActor) → slice_get actors.old.items index ≡ Some found → IsSound under_way.program found.programs }
-    ensures steps { IfOk result (λ taken. Replaces actors.old.items index
-        (StepsTo under_way heap.old table.old generations.old taken heap.new table.new generations.new) actors.new.items) }
+    requires can { (found : AnActor) (u : AnUnderWay) → slice_get actors.old.items index ≡ Some found → found.under_way ≡ Some u →
+        CanStep (scene heap.old table.old generations.old found.programs) u.program }
+    requires sound { (found : AnActor) (u : AnUnderWay) → slice_get actors.old.items index ≡ Some found → found.under_way ≡ Some u → IsSound u.program found.programs }
+    ensures steps { IfOk result (λ taken. (found : AnActor) (u : AnUnderWay) → slice_get actors.old.items index ≡ Some found → found.under_way ≡ Some u →
+        Replaces actors.old.items index (StepsTo u heap.old table.old generations.old taken heap.new table.new generations.new) actors.new.items) }
     ensures err { OnErr result ((actors.new.items ≡ actors.old.items) × (table.new ≡ table.old) × (generations.new ≡ generations.old) × (heap.new ≡ heap.old)) }
     ensures only_memory { IfErr result (λ refusal. refusal ≡ Refusal.Memory) }
 {
-    step_of(&mut actors[index], under_way, table, generations, heap)
+    step_of(&mut actors[index], table, generations, heap)
 }
 
 /// The same, for this actor.
 fn step_of(
     actor: &mut Actor,
-    under_way: UnderWay,
     table: &mut Roots,
     generations: &mut u64,
     heap: &mut Heap,
 ) -> Result<Taken, Refusal>
-    requires can { CanStep (scene heap.old table.old generations.old actor.old.programs) under_way.program }
-    requires sound { IsSound under_way.program actor.old.programs }
-    ensures steps { IfOk result (λ taken. StepsTo under_way heap.old table.old generations.old taken heap.new table.new generations.new actor.old actor.new) }
+    requires can { (u : AnUnderWay) → actor.old.under_way ≡ Some u → CanStep (scene heap.old table.old generations.old actor.old.programs) u.program }
+    requires sound { (u : AnUnderWay) → actor.old.under_way ≡ Some u → IsSound u.program actor.old.programs }
+    ensures steps { IfOk result (λ taken. (u : AnUnderWay) → actor.old.under_way ≡ Some u →
+        StepsTo u heap.old table.old generations.old taken heap.new table.new generations.new actor.old actor.new) }
     ensures err { OnErr result ((actor.new ≡ actor.old) × (table.new ≡ table.old) × (generations.new ≡ generations.old) × (heap.new ≡ heap.old)) }
     ensures only_memory { IfErr result (λ refusal. refusal ≡ Refusal.Memory) }
 {
-    let UnderWay { job, program, .. } = under_way;
-    actor.programs.step(job, program, table, generations, heap)
+    match &actor.under_way {
+        Some(under_way) => {
+            let UnderWay { job, program, .. } = under_way;
+            actor.programs.step(job, program, table, generations, heap)
+        }
+        // It runs one.
+        None => Err(Refusal::Memory),
+    }
 }
 
-/// Notes what a step did that the actor's programs took, and tells its kind.
-fn note(parts: &mut Parts, actor: u8, under_way: UnderWay, fresh: Ref, taken: Taken) -> Kind
-    requires midway { Midway actor under_way fresh taken parts.old }
+/// Notes what a step did that the actor's programs took.
+fn note(parts: &mut Parts, actor: u8, fresh: Ref, taken: &Taken)
+    requires midway { InMidway actor fresh taken.now parts.old }
     requires to_draw { 0 < parts.old.journal.chronicle.room_to_draw }
     requires to_add { 0 < parts.old.journal.chronicle.room_to_add }
     requires to_close { 0 < parts.old.journal.chronicle.room_to_close }
     requires ids { parts.old.begun < parts.old.journal.chronicle.ids }
-    ensures kind { result ≡ taken.kind }
-    ensures gone { (midway : Midway actor under_way fresh taken parts.old) → (operation : Operation) → operation_of (seen midway.before) actor ≡ Some operation →
-        gone (seen midway.before) actor operation ≡ seen parts.new }
+    ensures gone { (u : AnUnderWay) (midway : Midway actor u fresh taken.now parts.old) → (operation : Operation) →
+        operation_of (seen midway.before) actor ≡ Some operation → gone (seen midway.before) actor operation ≡ seen parts.new }
     ensures kept { IsKept parts.new }
+    ensures work { NotesUpTo 0 0 parts.old.heap parts.new.heap }
 {
-    let next = moved(&parts.commits, under_way, &taken, parts.steps);
-    put_under_way(&mut parts.actors, actor as usize - 1, next);
+    let index = actor as usize - 1;
+    follow(&mut parts.actors, index, &parts.commits, taken, parts.steps);
     match taken.committed {
         Some(main) => note_commit(parts, main),
-        None => note_kind(parts, actor, fresh, &taken),
+        None => note_kind(parts, actor, fresh, taken),
     }
-    taken.kind
 }
 
-/// The operation under way behind this step.
-fn moved(commits: &Commits, under_way: UnderWay, taken: &Taken, step: u64) -> UnderWay
+/// What the actor with this index has under way goes on from this step.
+fn follow(actors: &mut Vec<Actor>, index: usize, commits: &Commits, taken: &Taken, step: u64)
+    requires within { index < length actors.old.items }
     requires newest { MatchOption taken.now.given Unit (IsNewest commits.now.commits) }
-    ensures { result ≡ moved commits.now.commits step taken.now under_way }
+    ensures { (found : AnActor) (u : AnUnderWay) → slice_get actors.old.items index ≡ Some found → found.under_way ≡ Some u →
+        Replaces actors.old.items index (HasUnderWay (moved commits.now.commits step taken.now u)) actors.new.items }
 {
-    let read_at = if taken.counts {
-        step
-    } else {
-        under_way.read_at
-    };
-    let moment = match taken.given {
-        Some(main) => read_at.max(step_committed(commits, main, taken.committed, step)),
-        None => under_way.moment,
-    };
-    UnderWay {
-        read_at,
-        moment,
-        ..under_way
+    follow_by(&mut actors[index], commits, taken, step);
+}
+
+/// The same of this actor.
+fn follow_by(actor: &mut Actor, commits: &Commits, taken: &Taken, step: u64)
+    requires { MatchOption taken.now.given Unit (IsNewest commits.now.commits) }
+    ensures { (u : AnUnderWay) → actor.old.under_way ≡ Some u → HasUnderWay (moved commits.now.commits step taken.now u) actor.old actor.new }
+{
+    if let Some(under_way) = &mut actor.under_way {
+        go_from(under_way, commits, taken, step);
+    }
+}
+
+/// The same of what is under way. Two of its numbers may change.
+fn go_from(under_way: &mut UnderWay, commits: &Commits, taken: &Taken, step: u64)
+    requires newest { MatchOption taken.now.given Unit (IsNewest commits.now.commits) }
+    ensures { under_way.new ≡ moved commits.now.commits step taken.now under_way.old }
+{
+    if taken.counts {
+        under_way.read_at = step;
+    }
+    if let Some(main) = taken.given {
+        let committed = step_committed(commits, main, taken.committed, step);
+        under_way.moment = under_way.read_at.max(committed);
     }
 }
 
@@ -222,14 +287,6 @@ fn step_committed(commits: &Commits, main: Ref, committed: Option<Ref>, step: u6
         Some(_) => step,
         None => commits.committed_at(main),
     }
-}
-
-/// The actor with this index has this under way.
-fn put_under_way(actors: &mut Vec<Actor>, index: usize, under_way: UnderWay)
-    requires within { index < length actors.old.items }
-    ensures { Replaces actors.old.items index (HasUnderWay under_way) actors.new.items }
-{
-    actors[index].under_way = Some(under_way);
 }
 
 /// Notes the commit of this main node in this step: whoever swapped it in for a change of its key enters the order,

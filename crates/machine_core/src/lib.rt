@@ -22,6 +22,7 @@ mod machine;
 mod mains;
 mod parts;
 mod placing;
+mod reserving;
 mod room;
 mod settling;
 mod starting;
@@ -30,4 +31,5 @@ mod sweeping;
 
 pub use calls::key_of;
 pub use machine::Core;
+pub use places::touch_room;
 pub use proof_records::one_place_a_step;

@@ -1,6 +1,6 @@
 //! The core as one value.
 
-ghost use Rattle.std.specs.Prelude.{◌≡◌, length, option_map, None, Some, IsSome, IfOk, IfErr, OnOk, IsOkUnless};
+ghost use Rattle.std.specs.Prelude.{◌≡◌, length, option_map, None, Some, IsSome, IfOk, IfErr, OnErr, OnOk, IsOkUnless};
 ghost use Rattle.slot_arena.specs.Heaps.{in_use};
 ghost use Rattle.machine_model.specs.States.{first_state, root_at};
 ghost use Rattle.machine_model.specs.Orders.{order_of};
@@ -8,6 +8,7 @@ ghost use Rattle.machine_model.specs.Contents.{content_at};
 ghost use Rattle.machine_model.specs.Machine.{next, is_running, is_busy, next_kind, runs_on, denial_of, is_access, access_of, handles_taken, AreLimits};
 ghost use Rattle.machine_core.specs.Bounds.{Applies};
 ghost use Rattle.machine_core.specs.Finding.{found_along};
+ghost use Rattle.machine_core.specs.Work.{WorksLittle};
 ghost use Rattle.machine_model.specs.Refusing.{RefusesLimits, RefusesContent};
 
 use crate::actors::{is_busy, next_kind, runs_on};
@@ -16,6 +17,7 @@ use crate::denials::{denial_of, is_access};
 use crate::finding::value_of;
 use crate::handles::handles_taken;
 use crate::parts::Parts;
+use crate::reserving::reserve;
 use crate::starting::{are_limits, first_parts};
 use crate::stepping::take_step;
 use ctrie_base::{Kind, Refusal, Ticks};
@@ -24,7 +26,7 @@ use machine_model::{Limits, Outcome, Step};
 use std::alloc::Global;
 use std::marker::Model;
 
-/// The state of a machine. It is seen as the definition's state, and is one to which a run of steps leads.
+/// The state of a machine. It is seen as the definition's state, one to which a run of steps leads, and the work done so far.
 pub struct Core {
     parts: Parts,
 }
@@ -38,14 +40,14 @@ impl Drop for Core {
 
 impl Model for Core {
     ghost use Rattle.std.specs.Prelude.{◌≡◌, []};
-    ghost use Rattle.machine_model.specs.States.{State};
     ghost use Rattle.machine_core.specs.Bounds.{IsOfRun};
     ghost use Rattle.machine_core.specs.Keeping.{IsKept};
     ghost use Rattle.machine_core.specs.Seen.{seen};
+    ghost use Rattle.machine_core.specs.Work.{Worked, worked};
 
-    ghost Value = { State };
+    ghost Value = { Worked };
 
-    ghost view = { λ c. seen c.parts };
+    ghost view = { λ c. worked c.parts };
 
     ghost invariant = { λ c. IsOfRun (seen c.parts) × IsKept c.parts × (c.parts.heap.noted ≡ []) };
 }
@@ -54,7 +56,7 @@ impl Core {
     /// A machine that has taken no step. The limits are checked first: `BadLimits` where one is out of
     /// range; any other refusal is `Memory`.
     pub fn new(alloc: Global, limits: Limits) -> Result<Core, Refusal>
-        ensures made { IfOk result (λ core. core ≡ first_state limits) }
+        ensures made { IfOk result (λ core. core.state ≡ first_state limits) }
         ensures refused { IfErr result (λ refusal. RefusesLimits limits refusal) }
         ensures in_range { OnOk result (AreLimits limits) }
     {
@@ -65,25 +67,36 @@ impl Core {
         Ok(Core { parts })
     }
 
+    /// Makes room in the record for so many steps more, in memory that is written here: the first touch of fresh memory
+    /// costs more than a step. Nothing has changed then; `Memory` is the only refusal.
+    pub fn reserve(&mut self, steps: usize) -> Result<(), Refusal>
+        ensures same { self.new ≡ self.old }
+        ensures only_memory { IsOkUnless result Refusal.Memory }
+    {
+        reserve(&mut self.parts, steps)
+    }
+
     /// Takes a step, or refuses it. After a refusal nothing has changed; `Memory` is the only one that the
     /// definition doesn't give, and comes only where it gives none. It looks at the slots that the step is
-    /// about, and at no other.
+    /// about, and at no other: its work is bounded, however many slots, actors and handles there are.
     pub fn apply(&mut self, step: Step) -> Result<Outcome, Refusal>
-        ensures { Applies result self.old (next self.old step) self.new }
+        ensures applies { Applies result self.old.state (next self.old.state step) self.new.state }
+        ensures work { OnOk result (WorksLittle self.old step self.new) }
+        ensures same { OnErr result (self.new ≡ self.old) }
     {
         take_step(&mut self.parts, step)
     }
 
     /// Why the step is denied, where it is. `apply` answers the same.
     pub fn denial(&self, step: Step) -> Option<Refusal>
-        ensures { result ≡ denial_of self.now step }
+        ensures { result ≡ denial_of self.now.state step }
     {
         denial_of(&self.parts, step)
     }
 
     /// The order: the ids of operations by rising place. `Memory` is the only refusal.
     pub fn order(&self) -> Result<Vec<u64>, Refusal>
-        ensures exact { IfOk result (λ order. order.items ≡ order_of self.now) }
+        ensures exact { IfOk result (λ order. order.items ≡ order_of self.now.state) }
         ensures only_memory { IsOkUnless result Refusal.Memory }
     {
         self.parts.journal.chronicle.order()
@@ -92,9 +105,9 @@ impl Core {
     /// What the map of an open handle holds, by rising key. `NoHandle` exactly where the handle isn't open;
     /// any other refusal is `Memory`.
     pub fn content(&self, handle: u16) -> Result<Pairs, Refusal>
-        ensures exact { IfOk result (λ pairs. pairs ≡ content_at self.now handle) }
-        ensures open { OnOk result (IsSome (root_at self.now handle)) }
-        ensures refused { IfErr result (λ refusal. RefusesContent self.now handle refusal) }
+        ensures exact { IfOk result (λ pairs. pairs ≡ content_at self.now.state handle) }
+        ensures open { OnOk result (IsSome (root_at self.now.state handle)) }
+        ensures refused { IfErr result (λ refusal. RefusesContent self.now.state handle refusal) }
     {
         if self.parts.table.root(handle).is_none() {
             return Err(Refusal::NoHandle);
@@ -104,17 +117,24 @@ impl Core {
 
     /// How often a place in the order was written or moved: once for each.
     pub fn ticks(&self) -> &Ticks
-        ensures { result.now.count ≡ length self.now.places }
+        ensures { result.now.count ≡ length self.now.state.places }
     {
         self.parts.journal.chronicle.ticks()
+    }
+
+    /// How much work was done: how often a link, a flag, a count, a note or an entry of a list of the heap was looked at.
+    pub fn work(&self) -> &Ticks
+        ensures { result.now.count ≡ self.now.work }
+    {
+        self.parts.heap.ticks()
     }
 
     /// The value of a key in the map of an open handle, found along its hash. `NoHandle` exactly where the
     /// handle isn't open; there is no other refusal.
     pub fn value_at(&self, handle: u16, key: u64) -> Result<Option<u64>, Refusal>
-        ensures found { IfOk result (λ value. value ≡ found_along self.now handle key) }
-        ensures open { OnOk result (IsSome (root_at self.now handle)) }
-        ensures refused { IfErr result (λ refusal. (root_at self.now handle ≡ None) × (refusal ≡ Refusal.NoHandle)) }
+        ensures found { IfOk result (λ value. value ≡ found_along self.now.state handle key) }
+        ensures open { OnOk result (IsSome (root_at self.now.state handle)) }
+        ensures refused { IfErr result (λ refusal. (root_at self.now.state handle ≡ None) × (refusal ≡ Refusal.NoHandle)) }
     {
         if self.parts.table.root(handle).is_none() {
             return Err(Refusal::NoHandle);
@@ -124,21 +144,21 @@ impl Core {
 
     /// The history.
     pub fn events(&self) -> &[Event]
-        ensures { result.now ≡ self.now.events }
+        ensures { result.now ≡ self.now.state.events }
     {
         self.parts.journal.events.as_slice()
     }
 
     /// The kind of the next step of the actor's operation, if it runs one.
     pub fn next_kind(&self, actor: u8) -> Option<Kind>
-        ensures { result ≡ next_kind self.now actor }
+        ensures { result ≡ next_kind self.now.state actor }
     {
         next_kind(&self.parts, actor)
     }
 
     /// The history, handed out. It takes no memory.
     pub fn into_events(self) -> Vec<Event>
-        ensures { result.items ≡ self.events }
+        ensures { result.items ≡ self.state.events }
     {
         let Core { parts } = self;
         let journal = parts.journal;
@@ -147,28 +167,28 @@ impl Core {
 
     /// Whether the actor runs an operation.
     pub fn is_running(&self, actor: u8) -> bool
-        ensures { result ≡ is_running self.now actor }
+        ensures { result ≡ is_running self.now.state actor }
     {
         self.parts.is_running(actor)
     }
 
     /// Whether any actor runs an operation.
     pub fn is_busy(&self) -> bool
-        ensures { result ≡ is_busy self.now }
+        ensures { result ≡ is_busy self.now.state }
     {
         is_busy(&self.parts)
     }
 
     /// Whether an operation runs that was called on the handle.
     pub fn runs_on(&self, handle: u16) -> bool
-        ensures { result ≡ runs_on self.now handle }
+        ensures { result ≡ runs_on self.now.state handle }
     {
         runs_on(&self.parts, handle)
     }
 
     /// Whether the handle is writable, if it is open.
     pub fn is_writable(&self, handle: u16) -> Option<bool>
-        ensures { result ≡ option_map (λ access. is_access Access.Writable (Some access)) (access_of (root_at self.now handle)) }
+        ensures { result ≡ option_map (λ access. is_access Access.Writable (Some access)) (access_of (root_at self.now.state handle)) }
     {
         match self.parts.access(handle) {
             None => None,
@@ -178,49 +198,49 @@ impl Core {
 
     /// How many handles are open or reserved: at most 256.
     pub fn handles_taken(&self) -> u32
-        ensures { result ≡ handles_taken self.now }
+        ensures { result ≡ handles_taken self.now.state }
     {
         u32::from(handles_taken(&self.parts))
     }
 
     /// How many slots are free.
     pub fn free_slots(&self) -> u32
-        ensures { result ≡ length self.now.heap.free }
+        ensures { result ≡ length self.now.state.heap.free }
     {
         self.parts.heap.free_slots()
     }
 
     /// How many slots are in use, those of limbo among them.
     pub fn used(&self) -> u32
-        ensures { result ≡ length (in_use self.now.heap) }
+        ensures { result ≡ length (in_use self.now.state.heap) }
     {
         self.parts.heap.used()
     }
 
     /// How many slots are in limbo.
     pub fn limbo_len(&self) -> u32
-        ensures { result ≡ length self.now.limbo }
+        ensures { result ≡ length self.now.state.limbo }
     {
         self.parts.heap.limbo_len()
     }
 
     /// The epoch.
     pub fn epoch(&self) -> u64
-        ensures { result ≡ self.now.epoch }
+        ensures { result ≡ self.now.state.epoch }
     {
         self.parts.heap.epoch()
     }
 
     /// How many steps were taken.
     pub fn steps_taken(&self) -> u64
-        ensures { result ≡ self.now.steps }
+        ensures { result ≡ self.now.state.steps }
     {
         self.parts.steps
     }
 
     /// The limits.
     pub fn limits(&self) -> Limits
-        ensures { result ≡ self.now.limits }
+        ensures { result ≡ self.now.state.limits }
     {
         self.parts.limits
     }

@@ -1,9 +1,10 @@
 //! What every step does at its end: limbo is brought up to date, and the step is counted.
 
-ghost use Rattle.std.specs.Prelude.{◌≡◌, ◌<◌, ◌^◌, []};
+ghost use Rattle.std.specs.Prelude.{◌≡◌, ◌<◌, ◌^◌, ◌*◌, [], length};
 ghost use Rattle.machine_model.specs.Counting.{settled};
 ghost use Rattle.machine_core.specs.Seen.{seen};
 ghost use Rattle.machine_core.specs.Keeping.{IsKept};
+ghost use Rattle.machine_core.specs.Work.{WorksUpTo};
 
 use crate::parts::Parts;
 
@@ -14,6 +15,7 @@ pub fn settle(parts: &mut Parts)
     ensures settled { seen parts.new ≡ settled (seen parts.old) (seen parts.old) }
     ensures kept { IsKept parts.new }
     ensures noted { parts.new.heap.noted ≡ [] }
+    ensures work { WorksUpTo (3 * length parts.old.heap.noted) parts.old.heap.ticks parts.old.heap.limbo parts.new.heap.ticks parts.new.heap.limbo }
 {
     parts.heap.settle();
     parts.steps += 1;

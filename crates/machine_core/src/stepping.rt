@@ -1,14 +1,15 @@
 //! A step: a begin, a step of an actor's operation, or a step of the sweep.
 
-ghost use Rattle.std.specs.Prelude.{◌≡◌, ◌<◌, [], Ok, None, IfErr, IfOk, OnErr};
+ghost use Rattle.std.specs.Prelude.{◌≡◌, ◌<◌, [], Ok, None, IfErr, IfOk, OnErr, OnOk};
 ghost use Rattle.machine_model.specs.declared.steps.Step.TheVariants as steps;
 ghost use Rattle.machine_model.specs.Machine.{next, denial_of};
 ghost use Rattle.machine_core.specs.Bounds.{IsOfRun, Applies};
 ghost use Rattle.machine_core.specs.Keeping.{IsKept};
 ghost use Rattle.machine_core.specs.Seen.{seen};
+ghost use Rattle.machine_core.specs.Work.{worked, WorksLittle};
 
 use crate::beginning::begin_operation;
-use crate::denials::denial_of;
+use crate::denials::{begin_denial, go_denial, sweep_denial};
 use crate::going::go_on;
 use crate::parts::Parts;
 use crate::room::make_room;
@@ -19,7 +20,6 @@ use history::Call;
 use machine_model::{Outcome, Step};
 
 /// Takes a step, or refuses it. After a refusal nothing that is seen has changed.
-#[tactic(auto, using(crate::proofs::Steps::refused))]
 pub fn take_step(parts: &mut Parts, step: Step) -> Result<Outcome, Refusal>
     requires run { IsOfRun (seen parts.old) }
     requires kept { IsKept parts.old }
@@ -27,34 +27,72 @@ pub fn take_step(parts: &mut Parts, step: Step) -> Result<Outcome, Refusal>
     ensures applies { Applies result (seen parts.old) (next (seen parts.old) step) (seen parts.new) }
     ensures kept { IsKept parts.new }
     ensures noted { parts.new.heap.noted ≡ [] }
-{
-    match denial_of(parts, step) {
-        Some(refusal) => Err(refusal),
-        None => take_allowed(parts, step),
-    }
-}
-
-/// A step that isn't denied. After an error nothing has changed.
-fn take_allowed(parts: &mut Parts, step: Step) -> Result<Outcome, Refusal>
-    requires run { IsOfRun (seen parts.old) }
-    requires allowed { denial_of (seen parts.old) step ≡ None }
-    requires kept { IsKept parts.old }
-    requires noted { parts.old.heap.noted ≡ [] }
-    ensures taken { IfOk result (λ outcome. next (seen parts.old) step ≡ Ok (outcome, seen parts.new)) }
-    ensures err { OnErr result (seen parts.new ≡ seen parts.old) }
-    ensures only_memory { IfErr result (λ refusal. refusal ≡ Refusal.Memory) }
-    ensures kept { IsKept parts.new }
-    ensures noted { parts.new.heap.noted ≡ [] }
+    ensures work { OnOk result (WorksLittle (worked parts.old) step (worked parts.new)) }
+    ensures idle { OnErr result (parts.new.heap.ticks ≡ parts.old.heap.ticks) }
 {
     match step {
         Step::Begin { actor, call } => begin(parts, actor, call),
         Step::Go { actor } => go(parts, actor),
-        Step::Sweep => Ok(sweep_once(parts)),
+        Step::Sweep => sweep(parts),
+    }
+}
+
+/// Begins an operation, or refuses to.
+#[tactic(auto, using(crate::proofs::Steps::refused))]
+fn begin(parts: &mut Parts, actor: u8, call: Call) -> Result<Outcome, Refusal>
+    requires run { IsOfRun (seen parts.old) }
+    requires kept { IsKept parts.old }
+    requires noted { parts.old.heap.noted ≡ [] }
+    ensures applies { Applies result (seen parts.old) (next (seen parts.old) (steps.Begin actor call)) (seen parts.new) }
+    ensures kept { IsKept parts.new }
+    ensures noted { parts.new.heap.noted ≡ [] }
+    ensures work { OnOk result (WorksLittle (worked parts.old) (steps.Begin actor call) (worked parts.new)) }
+    ensures idle { OnErr result (parts.new.heap.ticks ≡ parts.old.heap.ticks) }
+{
+    match begin_denial(parts, actor, call) {
+        Some(refusal) => Err(refusal),
+        None => take_begin(parts, actor, call),
+    }
+}
+
+/// Takes a step of an actor's operation, or refuses it.
+#[tactic(auto, using(crate::proofs::Steps::refused))]
+pub fn go(parts: &mut Parts, actor: u8) -> Result<Outcome, Refusal>
+    requires run { IsOfRun (seen parts.old) }
+    requires kept { IsKept parts.old }
+    requires noted { parts.old.heap.noted ≡ [] }
+    ensures applies { Applies result (seen parts.old) (next (seen parts.old) (steps.Go actor)) (seen parts.new) }
+    ensures kept { IsKept parts.new }
+    ensures noted { parts.new.heap.noted ≡ [] }
+    ensures work { OnOk result (WorksLittle (worked parts.old) (steps.Go actor) (worked parts.new)) }
+    ensures idle { OnErr result (parts.new.heap.ticks ≡ parts.old.heap.ticks) }
+{
+    match go_denial(parts, actor) {
+        Some(refusal) => Err(refusal),
+        None => take_go(parts, actor),
+    }
+}
+
+/// Takes a step of the sweep, or refuses it.
+#[tactic(auto, using(crate::proofs::Steps::refused))]
+fn sweep(parts: &mut Parts) -> Result<Outcome, Refusal>
+    requires run { IsOfRun (seen parts.old) }
+    requires kept { IsKept parts.old }
+    requires noted { parts.old.heap.noted ≡ [] }
+    ensures applies { Applies result (seen parts.old) (next (seen parts.old) steps.Sweep) (seen parts.new) }
+    ensures kept { IsKept parts.new }
+    ensures noted { parts.new.heap.noted ≡ [] }
+    ensures work { OnOk result (WorksLittle (worked parts.old) steps.Sweep (worked parts.new)) }
+    ensures idle { OnErr result (parts.new.heap.ticks ≡ parts.old.heap.ticks) }
+{
+    match sweep_denial(parts) {
+        Some(refusal) => Err(refusal),
+        None => Ok(sweep_once(parts)),
     }
 }
 
 /// A begin that isn't denied. After an error nothing has changed.
-fn begin(parts: &mut Parts, actor: u8, call: Call) -> Result<Outcome, Refusal>
+fn take_begin(parts: &mut Parts, actor: u8, call: Call) -> Result<Outcome, Refusal>
     requires run { IsOfRun (seen parts.old) }
     requires allowed { denial_of (seen parts.old) (steps.Begin actor call) ≡ None }
     requires kept { IsKept parts.old }
@@ -64,6 +102,8 @@ fn begin(parts: &mut Parts, actor: u8, call: Call) -> Result<Outcome, Refusal>
     ensures only_memory { IfErr result (λ refusal. refusal ≡ Refusal.Memory) }
     ensures kept { IsKept parts.new }
     ensures noted { parts.new.heap.noted ≡ [] }
+    ensures work { OnOk result (WorksLittle (worked parts.old) (steps.Begin actor call) (worked parts.new)) }
+    ensures idle { OnErr result (parts.new.heap.ticks ≡ parts.old.heap.ticks) }
 {
     make_room(parts)?;
     let id = parts.begun;
@@ -73,7 +113,7 @@ fn begin(parts: &mut Parts, actor: u8, call: Call) -> Result<Outcome, Refusal>
 }
 
 /// A step of an actor's operation that isn't denied. After an error nothing has changed.
-fn go(parts: &mut Parts, actor: u8) -> Result<Outcome, Refusal>
+fn take_go(parts: &mut Parts, actor: u8) -> Result<Outcome, Refusal>
     requires run { IsOfRun (seen parts.old) }
     requires allowed { denial_of (seen parts.old) (steps.Go actor) ≡ None }
     requires kept { IsKept parts.old }
@@ -83,6 +123,8 @@ fn go(parts: &mut Parts, actor: u8) -> Result<Outcome, Refusal>
     ensures only_memory { IfErr result (λ refusal. refusal ≡ Refusal.Memory) }
     ensures kept { IsKept parts.new }
     ensures noted { parts.new.heap.noted ≡ [] }
+    ensures work { OnOk result (WorksLittle (worked parts.old) (steps.Go actor) (worked parts.new)) }
+    ensures idle { OnErr result (parts.new.heap.ticks ≡ parts.old.heap.ticks) }
 {
     let outcome = go_on(parts, actor)?;
     settle(parts);

@@ -6,6 +6,7 @@ ghost use Rattle.machine_model.specs.Machine.{is_spent, next};
 ghost use Rattle.machine_core.specs.Bounds.{IsOfRun};
 ghost use Rattle.machine_core.specs.Keeping.{IsKept};
 ghost use Rattle.machine_core.specs.Seen.{seen};
+ghost use Rattle.machine_core.specs.Work.{worked, WorksLittle};
 
 use crate::parts::Parts;
 use machine_model::Outcome;
@@ -19,6 +20,7 @@ pub fn sweep_once(parts: &mut Parts) -> Outcome
     ensures swept { next (seen parts.old) steps.Sweep ≡ Ok (result, seen parts.new) }
     ensures kept { IsKept parts.new }
     ensures noted { parts.new.heap.noted ≡ [] }
+    ensures work { WorksLittle (worked parts.old) steps.Sweep (worked parts.new) }
 {
     let swept = parts.heap.sweep();
     parts.heap.settle();

@@ -3,7 +3,9 @@
 
 mod place;
 mod places;
+mod room;
 mod segment;
 
 pub use place::Place;
 pub use places::Places;
+pub use room::touch_room;

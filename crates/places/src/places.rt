@@ -7,6 +7,7 @@ ghost use Rattle.places.specs.Segments.{AreCut};
 ghost use Rattle.ctrie_base.specs.declared.refusals.Refusal.TheVariants.{Memory};
 
 use crate::place::Place;
+use crate::room::touch_room;
 use crate::segment::Segment;
 use ctrie_base::{Refusal, Ticks, Trace};
 use std::alloc::{AllocError, Global};
@@ -79,6 +80,22 @@ impl Places {
         self.closings.reserve(1)?;
         self.listed.room()?;
         self.stray.room()?;
+        Ok(())
+    }
+
+    /// Makes room for so many closings and places, in memory that is written here. An error says that memory was
+    /// refused: then at most the room has grown.
+    pub fn reserve(&mut self, count: usize) -> Result<(), Refusal>
+        ensures only_memory { IsOkUnless result Memory }
+        ensures places { self.new.places ≡ self.old.places }
+        ensures closings { self.new.closings ≡ self.old.closings }
+        ensures ticks { self.new.ticks ≡ self.old.ticks }
+        ensures to_add { OnOk result (count ≤ self.new.room_to_add) }
+        ensures to_close { OnOk result (count ≤ self.new.room_to_close) }
+    {
+        touch_room(&mut self.closings, count, 0)?;
+        self.listed.reserve(count)?;
+        self.stray.reserve(count)?;
         Ok(())
     }
 

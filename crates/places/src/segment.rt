@@ -3,8 +3,18 @@
 ghost use Rattle.std.specs.Prelude.{◌≡◌, ◌+◌, ◌<◌, ◌≤◌, ◌++◌, ◌∷◌, [], OnOk, vec_len, vec_capacity};
 
 use crate::place::Place;
+use crate::room::touch_room;
 use ctrie_base::Ticks;
 use std::alloc::{AllocError, Global};
+
+/// What is written where no place stands yet.
+const NOWHERE: Place = Place {
+    step: 0,
+    on_time: false,
+    moment: 0,
+    changed_nothing: false,
+    id: 0,
+};
 
 /// Places in the order in which they were written. The call that writes one counts one tick.
 #[derive(Drop)]
@@ -29,6 +39,15 @@ impl Segment {
         ensures capacity { vec_capacity self.old.places ≤ vec_capacity self.new.places }
     {
         self.places.reserve(1)
+    }
+
+    /// Makes room for so many places more, in memory that is written here.
+    pub(crate) fn reserve(&mut self, count: usize) -> Result<(), AllocError>
+        ensures same { self.new.places.items ≡ self.old.places.items }
+        ensures room { OnOk result (vec_len self.new.places + count ≤ vec_capacity self.new.places) }
+        ensures capacity { vec_capacity self.old.places ≤ vec_capacity self.new.places }
+    {
+        touch_room(&mut self.places, count, NOWHERE)
     }
 
     /// Writes one place.

@@ -109,15 +109,15 @@ impl Programs {
     /// Takes the operation's next step. After an error, which is want of memory, nothing has changed.
     pub fn step(
         &mut self,
-        job: Job,
-        program: Program,
+        job: &Job,
+        program: &Program,
         roots: &mut Roots,
         generations: &mut u64,
         heap: &mut Heap,
     ) -> Result<Taken, Refusal>
-        requires can { CanStep (scene heap.old roots.old generations.old self.old) program }
-        requires sound { IsSound program self.old }
-        ensures does { IfOk result (λ taken. Does job program (line_for program self.old)
+        requires can { CanStep (scene heap.old roots.old generations.old self.old) program.now }
+        requires sound { IsSound program.now self.old }
+        ensures does { IfOk result (λ taken. Does job.now program.now (line_for program.now self.old)
             (scene heap.old roots.old generations.old self.old) taken (scene heap.new roots.new generations.new self.new)) }
         ensures err { OnErr result ((self.new ≡ self.old) × (roots.new ≡ roots.old) × (generations.new ≡ generations.old) × (heap.new ≡ heap.old)) }
         ensures only_memory { IfErr result (λ refusal. refusal ≡ Refusal.Memory) }
@@ -135,21 +135,21 @@ impl Programs {
     /// Takes a step of the program, or one of ABORT in its place.
     fn go_on(
         &mut self,
-        job: Job,
-        program: Program,
+        job: &Job,
+        program: &Program,
         roots: &mut Roots,
         generations: &mut u64,
         heap: &mut Heap,
     ) -> Result<Taken, Refusal>
-        requires program { CanProgram (scene heap.old roots.old generations.old self.old) program }
+        requires program { CanProgram (scene heap.old roots.old generations.old self.old) program.now }
         requires abort { CanAbortOn heap.old roots.old (abort_of self.old.asking) }
         requires ready { IsReadyBeside heap.old roots.old.roots self.old.key.work.private }
         requires attempts { self.old.snap.attempt < 2 ^ 64 - 1 }
         requires generations { generations.old < 2 ^ 64 - 1 }
-        requires begun { IsBegun program self.old }
-        requires sound { IsWaiting self.old.asking (program_line self.old None program) }
-        requires reads { ReadsOn program self.old }
-        ensures does { IfOk result (λ taken. Does job program (asking_line self.old program Stage.Runs self.old.asking)
+        requires begun { IsBegun program.now self.old }
+        requires sound { IsWaiting self.old.asking (program_line self.old None program.now) }
+        requires reads { ReadsOn program.now self.old }
+        ensures does { IfOk result (λ taken. Does job.now program.now (asking_line self.old program.now Stage.Runs self.old.asking)
             (scene heap.old roots.old generations.old self.old) taken (scene heap.new roots.new generations.new self.new)) }
         ensures err { OnErr result ((self.new ≡ self.old) × (roots.new ≡ roots.old) × (generations.new ≡ generations.old) × (heap.new ≡ heap.old)) }
         ensures only_memory { IfErr result (λ refusal. refusal ≡ Refusal.Memory) }
@@ -171,26 +171,26 @@ impl Programs {
     fn run(
         &mut self,
         told: Option<u64>,
-        job: Job,
-        program: Program,
+        job: &Job,
+        program: &Program,
         roots: &mut Roots,
         generations: &mut u64,
         heap: &mut Heap,
     ) -> Result<Taken, Refusal>
-        requires program { CanProgram (scene heap.old roots.old generations.old self.old) program }
+        requires program { CanProgram (scene heap.old roots.old generations.old self.old) program.now }
         requires ready { IsReadyBeside heap.old roots.old.roots self.old.key.work.private }
         requires attempts { self.old.snap.attempt < 2 ^ 64 - 1 }
-        requires begun { IsBegun program self.old }
-        requires reads { ReadsOn program self.old }
+        requires begun { IsBegun program.now self.old }
+        requires reads { ReadsOn program.now self.old }
         requires generations { generations.old < 2 ^ 64 - 1 }
-        ensures does { IfOk result (λ taken. Does job program (program_line self.old told program)
+        ensures does { IfOk result (λ taken. Does job.now program.now (program_line self.old told program.now)
             (scene heap.old roots.old generations.old self.old) taken (scene heap.new roots.new generations.new self.new)) }
         ensures err { OnErr result ((self.new ≡ self.old) × (roots.new ≡ roots.old) × (generations.new ≡ generations.old) × (heap.new ≡ heap.old)) }
         ensures only_memory { IfErr result (λ refusal. refusal ≡ Refusal.Memory) }
     {
         match program {
             Program::Key(call) => self.change_key(call, told, job, roots, *generations, heap),
-            Program::Snap(call) => self.swap_root(call, told, job, roots, generations, heap),
+            Program::Snap(call) => self.swap_root(*call, told, job, roots, generations, heap),
             Program::Entries => self.list(told, job, roots, *generations, heap),
             Program::Count => self.count_up(told, job, roots, *generations, heap),
             Program::Close => Ok(self.come_to(Stage::Runs, Kind::End)),
@@ -200,32 +200,64 @@ impl Programs {
     /// Takes a step of a call on one key.
     fn change_key(
         &mut self,
-        call: KeyCall,
+        call: &KeyCall,
         told: Option<u64>,
-        job: Job,
+        job: &Job,
         roots: &mut Roots,
         generation: u64,
         heap: &mut Heap,
     ) -> Result<Taken, Refusal>
         requires can { CanKey heap.old roots.old self.old.key }
         requires ready { IsReadyBeside heap.old roots.old.roots self.old.key.work.private }
-        requires begun { self.old.key.task.call ≡ call }
-        ensures does { IfOk result (λ taken. Does job (Program.Key call) (key_line self.old.key told)
+        requires begun { self.old.key.task.call ≡ call.now }
+        ensures does { IfOk result (λ taken. Does job.now (Program.Key call.now) (key_line self.old.key told)
             (scene heap.old roots.old generation self.old) taken (scene heap.new roots.new generation self.new)) }
         ensures err { OnErr result ((self.new ≡ self.old) × (roots.new ≡ roots.old) × (heap.new ≡ heap.old)) }
         ensures only_memory { IfErr result (λ refusal. refusal ≡ Refusal.Memory) }
     {
         let is_reading = self.key.is_reading();
         match self.key.step(roots, job.handle, heap, told)? {
-            Next::More(kind) => Ok(self.come_by_key(Stage::Runs, is_reading, kind)),
+            Next::More(kind) => Ok(self.go_by_key(is_reading, kind)),
             Next::AskRoot => {
-                let program = Program::Key(call);
-                Ok(self.ask(Asking::Unasked, job, program, roots, generation, heap))
+                let program = Program::Key(*call);
+                Ok(self.ask(Asking::Unasked, job, &program, roots, generation, heap))
             }
             Next::Done(kind, reply) => {
                 Ok(self.come_by_key(Stage::Answered(reply), is_reading, kind))
             }
         }
+    }
+
+    /// Its program runs on, and knows nothing of the root. Where that is so already nothing is written.
+    fn run_on(&mut self)
+        ensures { self.new ≡ record self.old { stage = Stage.Runs; asking = Asking.Unasked } }
+    {
+        match &self.stage {
+            Stage::Runs => {}
+            _ => self.stage = Stage::Runs,
+        }
+        match &self.asking {
+            Asking::Unasked => {}
+            _ => self.asking = Asking::Unasked,
+        }
+    }
+
+    /// The call on one key took a step of this kind, was in a READ or not, and goes on.
+    fn go_by_key(&mut self, is_reading: bool, kind: Kind) -> Taken
+        ensures same { self.new ≡ record self.old { stage = Stage.Runs; asking = Asking.Unasked } }
+        ensures taken { result ≡ taken_in is_reading kind self.old.key.work.swap.read.at }
+    {
+        self.run_on();
+        Taken::by_key(is_reading, kind, &self.key.work.swap.read.at)
+    }
+
+    /// The program took a step of this kind, and goes on.
+    fn go_so(&mut self, kind: Kind) -> Taken
+        ensures same { self.new ≡ record self.old { stage = Stage.Runs; asking = Asking.Unasked } }
+        ensures taken { result ≡ taken_so kind self.old.key.work.swap.read.at }
+    {
+        self.run_on();
+        Taken::by_read(kind, &self.key.work.swap.read.at)
     }
 
     /// The call on one key took a step of this kind, was in a READ or not, and has come to this stage.
@@ -243,7 +275,7 @@ impl Programs {
         &mut self,
         call: SnapCall,
         told: Option<u64>,
-        job: Job,
+        job: &Job,
         roots: &mut Roots,
         generations: &mut u64,
         heap: &mut Heap,
@@ -253,7 +285,7 @@ impl Programs {
         requires attempts { self.old.snap.attempt < 2 ^ 64 - 1 }
         requires generations { generations.old < 2 ^ 64 - 1 }
         requires reads { ReadsOn (Program.Snap call) self.old }
-        ensures does { IfOk result (λ taken. Does job (Program.Snap call) (snap_line self.old.key.work.swap.read told self.old.snap)
+        ensures does { IfOk result (λ taken. Does job.now (Program.Snap call) (snap_line self.old.key.work.swap.read told self.old.snap)
             (scene heap.old roots.old generations.old self.old) taken (scene heap.new roots.new generations.new self.new)) }
         ensures err { OnErr result ((self.new ≡ self.old) × (roots.new ≡ roots.old) × (generations.new ≡ generations.old) × (heap.new ≡ heap.old)) }
         ensures only_memory { IfErr result (λ refusal. refusal ≡ Refusal.Memory) }
@@ -263,10 +295,10 @@ impl Programs {
             .snap
             .step(&mut self.key.work, roots, generations, heap, task, told)?
         {
-            Next::More(kind) => Ok(self.come_to(Stage::Runs, kind)),
+            Next::More(kind) => Ok(self.go_so(kind)),
             Next::AskRoot => {
                 let program = Program::Snap(call);
-                Ok(self.ask(Asking::Unasked, job, program, roots, *generations, heap))
+                Ok(self.ask(Asking::Unasked, job, &program, roots, *generations, heap))
             }
             Next::Done(kind, reply) => Ok(self.come_to(Stage::Swapped(reply), kind)),
         }
@@ -276,14 +308,14 @@ impl Programs {
     fn list(
         &mut self,
         told: Option<u64>,
-        job: Job,
+        job: &Job,
         roots: &mut Roots,
         generation: u64,
         heap: &mut Heap,
     ) -> Result<Taken, Refusal>
         requires can { CanWalk heap.old.heap self.old.key.work.swap.read self.old.entries.walk }
         requires room { IsReadyBeside heap.old roots.old.roots self.old.key.work.private }
-        ensures does { IfOk result (λ taken. Does job Program.Entries (walk_line self.old.key.work.swap.read told self.old.entries.walk)
+        ensures does { IfOk result (λ taken. Does job.now Program.Entries (walk_line self.old.key.work.swap.read told self.old.entries.walk)
             (scene heap.old roots.old generation self.old) taken (scene heap.new roots.new generation self.new)) }
         ensures err { OnErr result ((self.new ≡ self.old) × (roots.new ≡ roots.old) × (heap.new ≡ heap.old)) }
         ensures only_memory { IfErr result (λ refusal. refusal ≡ Refusal.Memory) }
@@ -292,10 +324,10 @@ impl Programs {
             .entries
             .step(&mut self.key.work, roots, job.handle, heap, told)?
         {
-            Next::More(kind) => Ok(self.come_to(Stage::Runs, kind)),
+            Next::More(kind) => Ok(self.go_so(kind)),
             Next::AskRoot => {
                 let program = Program::Entries;
-                Ok(self.ask(Asking::Unasked, job, program, roots, generation, heap))
+                Ok(self.ask(Asking::Unasked, job, &program, roots, generation, heap))
             }
             Next::Done(kind, Walked::All) => Ok(self.come_to(Stage::Listed, kind)),
             Next::Done(kind, Walked::Impossible) => Ok(self.come_to(Stage::Impossible, kind)),
@@ -306,14 +338,14 @@ impl Programs {
     fn count_up(
         &mut self,
         told: Option<u64>,
-        job: Job,
+        job: &Job,
         roots: &mut Roots,
         generation: u64,
         heap: &mut Heap,
     ) -> Result<Taken, Refusal>
         requires can { CanWalk heap.old.heap self.old.key.work.swap.read self.old.count.walk }
         requires room { IsReadyBeside heap.old roots.old.roots self.old.key.work.private }
-        ensures does { IfOk result (λ taken. Does job Program.Count (walk_line self.old.key.work.swap.read told self.old.count.walk)
+        ensures does { IfOk result (λ taken. Does job.now Program.Count (walk_line self.old.key.work.swap.read told self.old.count.walk)
             (scene heap.old roots.old generation self.old) taken (scene heap.new roots.new generation self.new)) }
         ensures err { OnErr result ((self.new ≡ self.old) × (roots.new ≡ roots.old) × (heap.new ≡ heap.old)) }
         ensures only_memory { IfErr result (λ refusal. refusal ≡ Refusal.Memory) }
@@ -322,10 +354,10 @@ impl Programs {
             .count
             .step(&mut self.key.work, roots, job.handle, heap, told)?
         {
-            Next::More(kind) => Ok(self.come_to(Stage::Runs, kind)),
+            Next::More(kind) => Ok(self.go_so(kind)),
             Next::AskRoot => {
                 let program = Program::Count;
-                Ok(self.ask(Asking::Unasked, job, program, roots, generation, heap))
+                Ok(self.ask(Asking::Unasked, job, &program, roots, generation, heap))
             }
             Next::Done(kind, Walked::All) => Ok(self.come_to(Stage::Counted, kind)),
             Next::Done(kind, Walked::Impossible) => Ok(self.come_to(Stage::Impossible, kind)),
@@ -346,18 +378,18 @@ impl Programs {
     fn ask(
         &mut self,
         asking: Asking,
-        job: Job,
-        program: Program,
+        job: &Job,
+        program: &Program,
         roots: &mut Roots,
         generation: u64,
         heap: &mut Heap,
     ) -> Taken
-        requires asks { IsAskingLine (program_line self.old None program) }
+        requires asks { IsAskingLine (program_line self.old None program.now) }
         requires untold { IsUntold asking }
-        requires begun { IsBegun program self.old }
-        requires reads { ReadsOn program self.old }
+        requires begun { IsBegun program.now self.old }
+        requires reads { ReadsOn program.now self.old }
         requires can { CanAbortOn heap.old roots.old (abort_of asking) }
-        ensures does { Does job program (asking_line self.old program Stage.Runs asking)
+        ensures does { Does job.now program.now (asking_line self.old program.now Stage.Runs asking)
             (scene heap.old roots.old generation self.old) result (scene heap.new roots.new generation self.new) }
     {
         let mut asking = asking;

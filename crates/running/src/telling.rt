@@ -1,6 +1,6 @@
 //! What the programs of an operation tell of it.
 
-ghost use Rattle.std.specs.Prelude.{◌≡◌, ℕ, Option, IfOk, IfErr};
+ghost use Rattle.std.specs.Prelude.{◌≡◌, ℕ, Option, IfOk, IfErr, is_some};
 ghost use Rattle.running.specs.Beneath.key_finding.specs.Replies.{reply_of as key_reply};
 ghost use Rattle.operate.specs.Places.{answer_of};
 ghost use Rattle.snapshot.specs.Tasks.{reply_of};
@@ -31,6 +31,32 @@ impl Programs {
             Stage::Listed => Ok(Some(Reply::Pairs(self.entries.pairs()?))),
             Stage::Counted => Ok(Some(Reply::Count(self.count.count()))),
             Stage::Impossible => Ok(None),
+        }
+    }
+
+    /// Whether the operation ends by its next step.
+    pub fn is_over(&self, program: &Program) -> bool
+        ensures { result ≡ is_some (answer_of (line_for program.now self.now)) }
+    {
+        match &self.stage {
+            Stage::Runs => self.is_at_end(program),
+            Stage::Answered(_) => true,
+            Stage::Swapped(_) => true,
+            Stage::Listed => true,
+            Stage::Counted => true,
+            Stage::Impossible => false,
+        }
+    }
+
+    fn is_at_end(&self, program: &Program) -> bool
+        ensures { (told : Option ℕ) → result ≡ is_some (answer_of (program_line self.now told program.now)) }
+    {
+        match program {
+            Program::Key(_) => self.key.reply().is_some(),
+            Program::Close => true,
+            Program::Snap(_) => false,
+            Program::Entries => false,
+            Program::Count => false,
         }
     }
 

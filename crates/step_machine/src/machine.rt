@@ -23,7 +23,7 @@ ghost use Rattle.step_machine.specs.Memory.{UsesWhatItNames, FreesLate, DrawsNew
 
 use ctrie_base::{Kind, Refusal, Ticks};
 use history::{Access, Event};
-use machine_core::Core;
+use machine_core::{Core, touch_room};
 use machine_model::{Limits, Outcome, Step};
 use std::alloc::Global;
 use std::marker::Model;
@@ -44,10 +44,10 @@ impl Model for Machine {
 
     ghost Value = { Taken };
 
-    ghost view = { λ m. record { limits = m.body.limits; steps = m.steps.items } };
+    ghost view = { λ m. record { limits = m.body.state.limits; steps = m.steps.items } };
 
-    ghost invariant = { λ m. (m.body ≡ run m.body.limits m.steps.items) × AreLimits m.body.limits
-        × AreTaken m.body.limits m.steps.items × KeysFit m.steps.items };
+    ghost invariant = { λ m. (m.body.state ≡ run m.body.state.limits m.steps.items) × AreLimits m.body.state.limits
+        × AreTaken m.body.state.limits m.steps.items × KeysFit m.steps.items };
 }
 
 impl Machine {
@@ -63,6 +63,20 @@ impl Machine {
             body: Core::new(alloc, limits)?,
             steps: Vec::new(alloc),
         })
+    }
+
+    /// Makes room in the record for so many steps more: all that they may add to steps, events and order. The memory is
+    /// written once here, since the first touch of fresh memory costs more than a step. Nothing has changed then;
+    /// `Memory` is the only refusal.
+    pub fn reserve(&mut self, steps: u64) -> Result<(), Refusal>
+        ensures same { self.new ≡ self.old }
+        ensures only_memory { IsOkUnless result Refusal.Memory }
+    {
+        let Ok(count) = usize::try_from(steps) else {
+            return Err(Refusal::Memory);
+        };
+        touch_room(&mut self.steps, count, Step::Sweep)?;
+        self.body.reserve(count)
     }
 
     /// Takes a step. Where it is refused, for want of memory too, nothing has changed; `Memory` is answered

@@ -8,3 +8,5 @@ mod alone;
 mod calls;
 #[cfg(test)]
 mod endings;
+#[cfg(test)]
+mod reserving;

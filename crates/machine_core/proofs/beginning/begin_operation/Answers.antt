@@ -16,6 +16,8 @@ use Rattle.machine_core.specs.Seen.{operation_seen, seen}
 use Rattle.machine_core.proofs.Begun.{BeginsAt, kept_begun, seen_begun}
 use Rattle.machine_core.proofs.Held.{begin_stands, ready_run}
 use Rattle.machine_core.proofs.Tied.{pins_within}
+use Rattle.machine_core.proofs.Working.{still, still_after}
+use Rattle.epochs.specs.Memories.{Memory}
 use Rattle.machine_core.proofs.beginning.begin_operation.Goals as goal
 
 pub close_handle-requires-clause-ready : goal.close_handle-requires-clause-ready
@@ -84,3 +86,10 @@ returns-clause-begun c =
 pub returns-clause-kept : goal.returns-clause-kept
 returns-clause-kept c =
     kept_begun c.args.parts.now c.close_handle.new.parts _ c.args.actor c.args.call c.new_under_way-under_way.result (begins c) c.requires.kept c.requires.run c.requires.allowed
+
+pub returns-clause-work : goal.returns-clause-work
+returns-clause-work c =
+    let is = c.pin.ensures in
+    let keeps = c.close_handle.ensures.moves.keeps in
+    still_after 8 8 c.args.parts.now.heap c.close_handle.new.parts.heap c.pin.new.self (record { limbo = keeps.epochs.0; few = keeps.few; ticks = keeps.ticks })
+    (still c.close_handle.new.parts.heap c.pin.new.self (ap (λ (m : Memory). m.limbo) is) (ap (λ (m : Memory). m.noted) is) (ap (λ (m : Memory). m.ticks) is))

@@ -6,6 +6,7 @@ use Rattle.machine_core.specs.declared.parts.Parts.{Parts}
 use Rattle.machine_core.specs.Bounds.{IsOfRun}
 use Rattle.machine_core.specs.Seen.{seen, under_way_of}
 use Rattle.machine_core.proofs.Left.{id_below, id_given, id_there}
+use Rattle.machine_core.specs.Work.{ActsLittle}
 use Rattle.machine_core.proofs.finishing.end.Goals as goal
 
 pub returns-clause-ok : goal.returns-clause-ok
@@ -33,3 +34,6 @@ finish-requires-clause-of_id c =
 pub finish-requires-clause-place : goal.finish-requires-clause-place
 finish-requires-clause-place c = λ operation found.
     c.place_at_end-place.ensures.place operation found ∙ ap (entered_at_end (seen c.make_room.new.parts) operation) (sym c.in_ok-kept.ensures)
+
+pub returns-clause-work : goal.returns-clause-work
+returns-clause-work c = subst (λ (p : Parts). ActsLittle p c.args.actor c.finish.new.parts) c.make_room.ensures.rest c.finish.ensures.work

@@ -3,6 +3,7 @@ use Rattle.std.proofs.lemmas.Option.{slice_get_within}
 use Rattle.epochs.specs.Memories.{Memory}
 use Rattle.machine_core.proofs.Kept.{seat_of}
 use Rattle.machine_core.proofs.Left.{EndsAt, held_there, kept_ended, seen_ended}
+use Rattle.machine_core.proofs.Working.{left_little, still}
 use Rattle.machine_core.proofs.finishing.finish.Goals as goal
 
 pub vacate-requires-clause-within : goal.vacate-requires-clause-within
@@ -48,3 +49,9 @@ returns-clause-ended c = seen_ended c.args.parts.now _ c.args.actor c.args.under
 
 pub returns-clause-kept : goal.returns-clause-kept
 returns-clause-kept c = kept_ended c.args.parts.now _ c.args.actor c.args.under_way c.args.reply (ends c) c.requires.runs c.requires.kept
+
+pub returns-clause-work : goal.returns-clause-work
+returns-clause-work c =
+    let is = c.unpin.ensures in
+    left_little c.args.parts.now c.args.actor c.args.under_way c.vacate.new.heap c.unpin.new.self c.vacate.new.actors.items c.requires.runs c.vacate.ensures.left
+    (still c.vacate.new.heap c.unpin.new.self (ap (λ (m : Memory). m.limbo) is) (ap (λ (m : Memory). m.noted) is) (ap (λ (m : Memory). m.ticks) is))

@@ -1,10 +1,11 @@
-use Rattle.std.proofs.Common.{◌≡◌, ◌+◌, Some, refl, ap, subst}
+use Rattle.std.proofs.Common.{length, ◌≡◌, ◌+◌, Some, refl, ap, subst}
 use Rattle.slot_arena.specs.Heaps.{Heap}
 use Rattle.slot_arena.specs.Times.{times}
 use Rattle.machine_model.specs.Grown.{standing}
 use Rattle.machine_core.specs.Seen.{seen}
 use Rattle.machine_core.proofs.Ends.{settles}
 use Rattle.machine_core.proofs.Kept.{kept_alike}
+use Rattle.machine_core.proofs.Crossing.{settling_pays}
 use Rattle.machine_core.proofs.settling.settle.Goals as goal
 
 pub returns-clause-settled : goal.returns-clause-settled
@@ -31,3 +32,9 @@ returns-clause-kept c =
       events = refl;
       slots = refl;
     }) c.requires.kept
+
+pub returns-clause-work : goal.returns-clause-work
+returns-clause-work c =
+    let before = c.args.parts.now.heap in
+    let done = c.settle.ensures in
+    (done.rising, settling_pays before.heap before.outside before.epoch before.limbo c.settle.new.self.limbo before.ticks c.settle.new.self.ticks (length before.noted) done.limbo done.ticks)

@@ -1,29 +1,13 @@
-use Rattle.std.proofs.Common.{◌≡◌, None, sym, subst, arith}
-use Rattle.machine_model.specs.declared.steps.Outcome.TheVariants as outcome
+use Rattle.std.proofs.Common.{sym}
 use Rattle.machine_model.specs.declared.steps.Step.TheVariants as steps
-use Rattle.machine_model.specs.Machine.{begin_denial}
-use Rattle.machine_model.specs.States.{State}
-use Rattle.machine_core.specs.Bounds.{IsOfRun}
 use Rattle.machine_core.specs.Seen.{seen}
-use Rattle.machine_core.proofs.Begun.{leads_from_room}
-use Rattle.machine_core.proofs.Bounded.{bounded}
-use Rattle.machine_core.proofs.Steps.{leads_taken}
+use Rattle.machine_core.proofs.Steps.{applies_so, refused}
 use Rattle.machine_core.proofs.stepping.begin.Goals as goal
 
-pub begin_operation-requires-clause-run : goal.begin_operation-requires-clause-run
-begin_operation-requires-clause-run c = subst IsOfRun (sym c.make_room.ensures.same) c.requires.run
+pub returns-in-Some-clause-applies : goal.returns-in-Some-clause-applies
+returns-in-Some-clause-applies c = refused (seen c.args.parts.now) (steps.Begin c.args.actor c.args.call) c.in-Some.refusal (sym c.in-Some.ensures)
 
-pub begin_operation-requires-clause-allowed : goal.begin_operation-requires-clause-allowed
-begin_operation-requires-clause-allowed c = subst (λ (s : State). begin_denial s c.args.actor c.args.call ≡ None) (sym c.make_room.ensures.same) c.requires.allowed
-
-pub settle-requires-clause-steps : goal.settle-requires-clause-steps
-settle-requires-clause-steps c =
-    let leads = leads_from_room c.args.parts.now c.make_room.new.parts c.begin_operation.new.parts c.args.actor c.args.call c.requires.allowed c.requires.kept c.make_room.ensures.rest
-    c.make_room.ensures.same c.begin_operation.ensures.begun in
-    omega (arith, (bounded (seen c.args.parts.now) c.requires.run).steps, leads.steps)
-
-pub returns-clause-taken : goal.returns-clause-taken
-returns-clause-taken c =
-    leads_taken (seen c.args.parts.now) (seen c.begin_operation.new.parts) (seen c.settle.new.parts) (steps.Begin c.args.actor c.args.call) (outcome.Began c.make_room.new.parts.begun)
-    (leads_from_room c.args.parts.now c.make_room.new.parts c.begin_operation.new.parts c.args.actor c.args.call c.requires.allowed c.requires.kept c.make_room.ensures.rest
-    c.make_room.ensures.same c.begin_operation.ensures.begun) c.settle.ensures.settled
+pub returns-in-None-clause-applies : goal.returns-in-None-clause-applies
+returns-in-None-clause-applies c =
+    applies_so (seen c.args.parts.now) (seen c.take_begin.new.parts) (steps.Begin c.args.actor c.args.call) c.take_begin.result (sym c.in-None.ensures) c.take_begin.ensures.taken c.take_begin.ensures.err
+    c.take_begin.ensures.only_memory

@@ -1,19 +1,13 @@
-use Rattle.std.proofs.Common.{arith}
+use Rattle.std.proofs.Common.{sym}
 use Rattle.machine_model.specs.declared.steps.Step.TheVariants as steps
 use Rattle.machine_core.specs.Seen.{seen}
-use Rattle.machine_core.proofs.Bounded.{bounded}
-use Rattle.machine_core.proofs.Steps.{go_leads, leads_taken}
+use Rattle.machine_core.proofs.Steps.{applies_so, refused}
 use Rattle.machine_core.proofs.stepping.go.Goals as goal
 
-pub settle-requires-clause-steps : goal.settle-requires-clause-steps
-settle-requires-clause-steps c =
-    let before = seen c.args.parts.now in
-    let leads = go_leads before (seen c.go_on.new.parts) c.args.actor c.in_ok-outcome.outcome c.requires.allowed c.in_ok-outcome.ensures.ok in
-    omega (arith, (bounded before c.requires.run).steps, leads.steps)
+pub returns-in-Some-clause-applies : goal.returns-in-Some-clause-applies
+returns-in-Some-clause-applies c = refused (seen c.args.parts.now) (steps.Go c.args.actor) c.in-Some.refusal (sym c.in-Some.ensures)
 
-pub returns-clause-taken : goal.returns-clause-taken
-returns-clause-taken c =
-    let before = seen c.args.parts.now in
-    let after = seen c.go_on.new.parts in
-    leads_taken before after (seen c.settle.new.parts) (steps.Go c.args.actor) c.in_ok-outcome.outcome
-    (go_leads before after c.args.actor c.in_ok-outcome.outcome c.requires.allowed c.in_ok-outcome.ensures.ok) c.settle.ensures.settled
+pub returns-in-None-clause-applies : goal.returns-in-None-clause-applies
+returns-in-None-clause-applies c =
+    applies_so (seen c.args.parts.now) (seen c.take_go.new.parts) (steps.Go c.args.actor) c.take_go.result (sym c.in-None.ensures) c.take_go.ensures.taken c.take_go.ensures.err
+    c.take_go.ensures.only_memory

@@ -7,6 +7,7 @@ use Rattle.machine_core.specs.Seen.{seen}
 use Rattle.machine_core.proofs.Bounded.{bounded}
 use Rattle.machine_core.proofs.Ends.{stood, sweeps}
 use Rattle.machine_core.proofs.Kept.{kept_alike}
+use Rattle.machine_core.proofs.Working.{swept_little}
 use Rattle.machine_core.proofs.sweeping.sweep_once.Goals as goal
 
 pub sweep-swept-requires-clause-room : goal.sweep-swept-requires-clause-room
@@ -50,3 +51,10 @@ returns-clause-kept c =
       events = refl;
       slots = refl;
     }) c.requires.kept
+
+pub returns-clause-work : goal.returns-clause-work
+returns-clause-work c =
+    let swept = c.sweep-swept.ensures in
+    let settled = c.settle.ensures in
+    swept_little c.args.parts.now.heap c.sweep-swept.new.self c.settle.new.self c.sweep-swept.result (bounded (seen c.args.parts.now) c.requires.run).slots
+    swept.swept swept.limbo swept.few swept.ticks settled.limbo settled.rising settled.ticks

@@ -6,8 +6,8 @@ returns c =
     record {
       does = rw c.of_kind.ensures (
           steps
-          c.args.job
-          c.args.program
+          c.args.job.now
+          c.args.program.now
           (record { memory = c.args.heap.now; table = c.args.roots.now; generation = c.args.generation; programs = c.args.self.now })
           c.args.asking
           c.step-kind.new.self

@@ -33,7 +33,7 @@ unfolding with_word
 ask-requires-clause-asks c =
     let p = c.args.self.now in
     let asking : IsAskingLine (key_line p.key c.args.told) =
-    (rw c.in-AskRoot.is at c.in_ok-kind.ensures.follows) (with_word (word_in c.args.roots.now c.args.job.handle)) no_operation refl in
+    (rw c.in-AskRoot.is at c.in_ok-kind.ensures.follows) (with_word (word_in c.args.roots.now c.args.job.now.handle)) no_operation refl in
     let same = (rw c.in-AskRoot.is at c.in_ok-kind.ensures.asks) (tt {0}) in
     let none : c.args.told ≡ None = untold p.key c.args.told asking in
     subst (λ (k : KeyOp). IsAskingLine (key_line k None)) (sym same.0) (subst (λ (t : Option ℕ). IsAskingLine (key_line p.key t)) none asking)
@@ -43,18 +43,18 @@ unfolding with_word
 returns-in-AskRoot-clause-does c =
     let p = c.args.self.now in
     let asking : IsAskingLine (key_line p.key c.args.told) =
-    (rw c.in-AskRoot.is at c.in_ok-kind.ensures.follows) (with_word (word_in c.args.roots.now c.args.job.handle)) no_operation refl in
+    (rw c.in-AskRoot.is at c.in_ok-kind.ensures.follows) (with_word (word_in c.args.roots.now c.args.job.now.handle)) no_operation refl in
     let same = (rw c.in-AskRoot.is at c.in_ok-kind.ensures.asks) (tt {0}) in
-    asked c.args.job c.args.call c.args.told c.args.generation p c.step.new.self c.args.heap.now c.step.new.heap c.args.roots.now c.step.new.roots c.ask.result
+    asked c.args.job.now c.args.call.now c.args.told c.args.generation p c.step.new.self c.args.heap.now c.step.new.heap c.args.roots.now c.step.new.roots c.ask.result
     (record { memory = c.ask.new.heap; table = c.ask.new.roots; generation = c.args.generation; programs = c.ask.new.self })
     same.0 same.1 same.2 (untold p.key c.args.told asking) c.ask.ensures.does
 
 pub returns-in-More-clause-does : goal.returns-in-More-clause-does
 returns-in-More-clause-does c =
-    rw (c.come_by_key.ensures.same, c.come_by_key.ensures.taken) (
+    rw (c.go_by_key.ensures.same, c.go_by_key.ensures.taken) (
     keys
-    c.args.job
-    c.args.call
+    c.args.job.now
+    c.args.call.now
     c.args.told
     (record { memory = c.args.heap.now; table = c.args.roots.now; generation = c.args.generation; programs = c.args.self.now })
     c.step.new.heap
@@ -76,10 +76,10 @@ returns-in-More-clause-does c =
 
 pub returns-in-Done-clause-does : goal.returns-in-Done-clause-does
 returns-in-Done-clause-does c =
-    rw (c.come_by_key-in-Done.ensures.same, c.come_by_key-in-Done.ensures.taken) (
+    rw (c.come_by_key.ensures.same, c.come_by_key.ensures.taken) (
     keys
-    c.args.job
-    c.args.call
+    c.args.job.now
+    c.args.call.now
     c.args.told
     (record { memory = c.args.heap.now; table = c.args.roots.now; generation = c.args.generation; programs = c.args.self.now })
     c.step.new.heap

@@ -25,9 +25,9 @@ returns-in-AskRoot-clause-does c =
 
 pub returns-in-More-clause-does : goal.returns-in-More-clause-does
 returns-in-More-clause-does c =
-    rw (c.come_to.ensures.taken, c.come_to.ensures.same) (
+    rw (c.go_so.ensures.taken, c.go_so.ensures.same) (
     walks
-    c.args.job
+    c.args.job.now
     Count
     c.args.told
     (record { memory = c.args.heap.now; table = c.args.roots.now; generation = c.args.generation; programs = c.args.self.now })
@@ -49,9 +49,9 @@ returns-in-More-clause-does c =
 
 pub returns-in-Done-default-All-clause-does : goal.returns-in-Done-default-All-clause-does
 returns-in-Done-default-All-clause-does c =
-    rw (c.come_to-in-Done-default-All.ensures.taken, c.come_to-in-Done-default-All.ensures.same) (
+    rw (c.come_to.ensures.taken, c.come_to.ensures.same) (
     walks
-    c.args.job
+    c.args.job.now
     Count
     c.args.told
     (record { memory = c.args.heap.now; table = c.args.roots.now; generation = c.args.generation; programs = c.args.self.now })
@@ -75,7 +75,7 @@ pub returns-in-Done-default-Impossible-clause-does : goal.returns-in-Done-defaul
 returns-in-Done-default-Impossible-clause-does c =
     rw (c.come_to-in-Done-default-Impossible.ensures.taken, c.come_to-in-Done-default-Impossible.ensures.same) (
     walks
-    c.args.job
+    c.args.job.now
     Count
     c.args.told
     (record { memory = c.args.heap.now; table = c.args.roots.now; generation = c.args.generation; programs = c.args.self.now })

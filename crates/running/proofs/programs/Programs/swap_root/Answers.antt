@@ -30,9 +30,9 @@ returns-in-AskRoot-clause-does c =
 
 pub returns-in-More-clause-does : goal.returns-in-More-clause-does
 returns-in-More-clause-does c =
-    rw (c.come_to.ensures.same, c.come_to.ensures.taken) (
+    rw (c.go_so.ensures.same, c.go_so.ensures.taken) (
     snaps
-    c.args.job
+    c.args.job.now
     c.args.call
     c.args.told
     (record { memory = c.args.heap.now; table = c.args.roots.now; generation = c.args.generations.now; programs = c.args.self.now })
@@ -55,9 +55,9 @@ returns-in-More-clause-does c =
 
 pub returns-in-Done-clause-does : goal.returns-in-Done-clause-does
 returns-in-Done-clause-does c =
-    rw (c.come_to-in-Done.ensures.same, c.come_to-in-Done.ensures.taken) (
+    rw (c.come_to.ensures.same, c.come_to.ensures.taken) (
     snaps
-    c.args.job
+    c.args.job.now
     c.args.call
     c.args.told
     (record { memory = c.args.heap.now; table = c.args.roots.now; generation = c.args.generations.now; programs = c.args.self.now })

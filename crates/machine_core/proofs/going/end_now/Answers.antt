@@ -1,6 +1,6 @@
 use Rattle.std.proofs.Common.{sym, ◌∙◌}
 use Rattle.machine_core.proofs.Whole.{ends_step}
-use Rattle.machine_core.proofs.going.go_on.Goals as goal
+use Rattle.machine_core.proofs.going.end_now.Goals as goal
 
 pub returns-in-Some-2-clause-ok : goal.returns-in-Some-2-clause-ok
 returns-in-Some-2-clause-ok c =

@@ -1,0 +1,123 @@
+-- How little the parts of a step note and look at, and what that makes of the whole step.
+use Rattle.std.proofs.Common.{arith, ◌≡◌, ℕ, ◌+◌, ◌-◌, ◌*◌, ◌≤◌, ◌^◌, Bool, true, false, List, [], length, drop, Some, refl, sym, ap, subst, ◌∙◌}
+use Rattle.std.specs.Prelude.{slice_get}
+use Rattle.std.proofs.lemmas.Option.{same_Some}
+use Rattle.ctrie_base.specs.declared.kinds.Kind.{Kind}
+use Rattle.ctrie_base.specs.declared.kinds.Kind.TheVariants as kind
+use Rattle.slot_arena.specs.declared.refs.Ref.{Ref}
+use Rattle.slot_arena.specs.Ticking.{TakesUpTo}
+use Rattle.epochs.specs.declared.limbo.Swept.{Swept}
+use Rattle.epochs.specs.declared.limbo.Swept.TheVariants as swept
+use Rattle.epochs.specs.declared.limbo.Zeroed.{Zeroed}
+use Rattle.epochs.specs.Limbo.{limbo_after, newly_zero}
+use Rattle.epochs.specs.Memories.{Memory, freed_by, reclaimer_of, staying}
+use Rattle.epochs.specs.Sweeping.{swept_once}
+use Rattle.machine_model.specs.Counting.{refs_of_operation}
+use Rattle.running.specs.declared.taken.Taken.{Taken}
+use Rattle.machine_core.specs.declared.parts.Actor.{Actor}
+use Rattle.machine_core.specs.declared.parts.Parts.{Parts}
+use Rattle.machine_core.specs.declared.parts.UnderWay.{UnderWay}
+use Rattle.machine_core.specs.Beginnings.{Leaves}
+use Rattle.machine_core.specs.Going.{NotesCommit, NotesKind, Steps}
+use Rattle.machine_core.specs.Keeping.{Replaces}
+use Rattle.machine_core.specs.Seen.{operation_at, seen, under_way_of}
+use Rattle.machine_core.specs.Work.{ActsLittle, NotesUpTo, WorksUpTo, crossing, held_by}
+use Rattle.machine_core.proofs.Crossing.{sweeping_pays}
+use Rattle.machine_core.proofs.Ends.{left}
+use Rattle.machine_core.proofs.Kept.{operation_there, seat_of}
+
+-- ---- parts of a step
+
+-- limbo, notes and ticks are as before
+pub still : (before after : Memory) → after.limbo ≡ before.limbo → after.noted ≡ before.noted → after.ticks ≡ before.ticks → NotesUpTo 0 0 before after
+still before after limbo noted ticks = record { limbo = limbo; few = omega (arith, ap length noted); ticks = (omega (arith, ticks), omega (arith, ticks)) }
+
+pub still_after : (most looks : ℕ) (before middle after : Memory) → NotesUpTo most looks before middle → NotesUpTo 0 0 middle after → NotesUpTo most looks before after
+still_after most looks before middle after little same = record {
+  limbo = same.limbo ∙ little.limbo;
+  few = omega (arith, same.few, little.few);
+  ticks = (omega (arith, same.ticks.0, little.ticks.0), omega (arith, same.ticks.1, little.ticks.1));
+}
+
+-- how many the actor's operation holds
+held_there : (parts : Parts) (actor : ℕ) (u : UnderWay) → under_way_of parts actor ≡ Some u → (i : ℕ) (P : Actor → Actor → Type 0) (after : List Actor) → i ≡ actor - 1 →
+    (r : Replaces parts.actors.items i P after) → held_by (seen parts) actor ≡ length r.was.programs.key.work.private
+held_there parts actor u runs i P after at r =
+    let seat = seat_of parts actor u runs in
+    let found = subst (λ (k : ℕ). slice_get parts.actors.items k ≡ Some r.was) at r.found in
+    ap (λ o. length (refs_of_operation o)) (operation_there parts actor u seat)
+    ∙ ap (λ (a : Actor). length a.programs.key.work.private) (same_Some seat.found r.was (sym seat.at ∙ found))
+
+-- a step of the programs
+pub steps_little : (before after : Parts) (actor : ℕ) (u : UnderWay) (taken : Taken) → under_way_of before actor ≡ Some u → Steps before actor u taken after → ActsLittle before actor after
+steps_little before after actor u taken runs steps =
+    let seat = seat_of before actor u runs in
+    let held = held_there before actor u runs (actor - 1) _ _ refl steps.actors in
+    let acts = (steps.actors.does.does.changes (seen before) (operation_at before.table seat.found.programs u)).acts in
+    record { limbo = acts.epochs.0; few = omega (arith, acts.few, held); ticks = (acts.ticks.0, omega (arith, acts.ticks.1, held)) }
+
+same_little : (before after : Parts) → after.heap ≡ before.heap → NotesUpTo 0 0 before.heap after.heap
+same_little before after same =
+    still before.heap after.heap (ap (λ (m : Memory). m.limbo) same) (ap (λ (m : Memory). m.noted) same) (ap (λ (m : Memory). m.ticks) same)
+
+-- what is noted of it
+pub commit_little : (before : Parts) (main : Ref) (after : Parts) → NotesCommit before main after → NotesUpTo 0 0 before.heap after.heap
+commit_little before main after notes = same_little before after (ap (λ (p : Parts). p.heap) notes.rest)
+
+pub kind_little : (k : Kind) (counts : Bool) (before : Parts) (actor : ℕ) (fresh : Ref) (after : Parts) → NotesKind k counts before actor fresh after → NotesUpTo 0 0 before.heap after.heap
+kind_little kind.SwapMain false before actor fresh after notes =
+    let same = ap (λ (p : Parts). p.heap) notes.0 in
+    still before.heap after.heap (ap (λ (m : Memory). m.limbo) same) (ap (λ (m : Memory). m.noted) same) (ap (λ (m : Memory). m.ticks) same)
+kind_little kind.SwapMain true before actor fresh after notes = same_little before after (ap (λ (p : Parts). p.heap) notes)
+kind_little kind.SwapRoot counts before actor fresh after notes = same_little before after (ap (λ (p : Parts). p.heap) notes.rest)
+kind_little kind.Make counts before actor fresh after notes = same_little before after (ap (λ (p : Parts). p.heap) notes.rest)
+kind_little k counts before actor fresh after notes = same_little before after (ap (λ (p : Parts). p.heap) notes)
+
+-- an end
+pub left_little : (before : Parts) (actor : ℕ) (u : UnderWay) (middle after : Memory) (actors : List Actor) → under_way_of before actor ≡ Some u →
+    Replaces before.actors.items (actor - 1) (Leaves before.heap middle) actors → NotesUpTo 0 0 middle after →
+    NotesUpTo (32 + held_by (seen before) actor) (36 + held_by (seen before) actor) before.heap after
+left_little before actor u middle after actors runs r same =
+    let held = held_there before actor u runs (actor - 1) _ _ refl r in
+    let work = r.does.work in
+    record {
+      limbo = same.limbo ∙ work.limbo;
+      few = omega (arith, same.few, work.few, held);
+      ticks = (omega (arith, same.ticks.0, work.ticks.0), omega (arith, same.ticks.1, work.ticks.1, held));
+    }
+
+-- ---- the whole step
+
+pub settled_little : (most looks : ℕ) (before middle after : Memory) → before.noted ≡ [] → NotesUpTo most looks before middle →
+    WorksUpTo (3 * length middle.noted) middle.ticks middle.limbo after.ticks after.limbo → WorksUpTo (looks + 3 * most) before.ticks before.limbo after.ticks after.limbo
+settled_little most looks before middle after none little works = (
+  omega (arith, little.ticks.0, works.0),
+  omega (arith, works.1, little.few, little.ticks.1, ap length none, ap (λ l. crossing l after.limbo) little.limbo),
+)
+
+pub weaker : (few many work work' : ℕ) (limbo limbo' : List Zeroed) → few ≤ many → WorksUpTo few work limbo work' limbo' → WorksUpTo many work limbo work' limbo'
+weaker few many work work' limbo limbo' less works = (works.0, omega (arith, works.1, less))
+
+one_freed : (did : Swept) → freed_by did ≤ 1
+one_freed (swept.Scanned passed) = omega arith
+one_freed (swept.Advanced epoch) = omega arith
+one_freed swept.Freed = omega arith
+
+-- a step of the sweep, whose freed slot leaves limbo before it is settled
+pub swept_little : (before middle after : Memory) (did : Swept) → length before.heap.slots ≤ 2 ^ 16 →
+    (did, record { heap = middle.heap; limbo = before.limbo; epoch = middle.epoch; cursor = middle.cursor }) ≡ swept_once before.pins (reclaimer_of before) →
+    middle.limbo ≡ drop (freed_by did) before.limbo → length middle.noted ≤ 34 → TakesUpTo 44 before.ticks middle.ticks →
+    after.limbo ≡ limbo_after middle.heap middle.outside middle.epoch middle.limbo → middle.ticks ≤ after.ticks →
+    after.ticks + 12 * length (staying middle.heap middle.outside middle.limbo)
+    ≤ middle.ticks + 3 * length middle.noted + 12 * length middle.limbo + 12 * length (newly_zero middle.heap middle.outside middle.limbo) →
+    WorksUpTo 170 before.ticks before.limbo after.ticks after.limbo
+swept_little before middle after did small done left_out few ticks settled rises takes =
+    let shorter : after.limbo ≡ limbo_after middle.heap middle.outside middle.epoch (drop (freed_by did) before.limbo) =
+    settled ∙ ap (limbo_after middle.heap middle.outside middle.epoch) left_out in
+    let whole : after.limbo ≡ limbo_after middle.heap middle.outside middle.epoch before.limbo =
+    shorter ∙ left before.pins (reclaimer_of before) middle.outside did (record { heap = middle.heap; limbo = before.limbo; epoch = middle.epoch; cursor = middle.cursor }) small done in
+    let paid = sweeping_pays middle.heap middle.outside middle.epoch before.limbo after.limbo middle.ticks after.ticks (length middle.noted) (freed_by did) (one_freed did) shorter whole
+    (subst
+    (λ (l : List Zeroed). after.ticks + 12 * length (staying middle.heap middle.outside l)
+    ≤ middle.ticks + 3 * length middle.noted + 12 * length l + 12 * length (newly_zero middle.heap middle.outside l)) left_out takes) in
+    (omega (arith, ticks.0, rises), omega (arith, paid, few, ticks.1))
