@@ -122,8 +122,16 @@ pub sweeping_pays : (heap : Heap) (outside : List Ref) (epoch : ℕ) (limbo limb
     ticks' ≤ ticks + 3 * noted + 24 + 12 * crossing limbo limbo'
 sweeping_pays heap outside epoch limbo limbo' ticks ticks' noted freed one left is takes =
     let shorter = dropped freed one limbo in
-    omega (arith, takes, pays heap outside epoch limbo, ap (crossing limbo) is, shorter, ap length (sym left ∙ is),
-    length_after heap outside epoch limbo, length_after heap outside epoch (drop freed limbo))
+    omega (
+      arith,
+      takes,
+      pays heap outside epoch limbo,
+      ap (crossing limbo) is,
+      shorter,
+      ap length (sym left ∙ is),
+      length_after heap outside epoch limbo,
+      length_after heap outside epoch (drop freed limbo),
+    )
   where
     by_first : (b : Bool) (z : Zeroed) (zs : List Zeroed) → length (cond b (z ∷ zs) zs) ≤ length zs + 1
     by_first true z zs = omega arith

@@ -1,8 +1,6 @@
 //! A step of an operation: all of it but for limbo and the count of steps.
 
-ghost use Rattle.std.specs.Prelude.{◌≡◌, ◌⊎◌, ◌+◌, ◌-◌, ◌<◌, ◌≤◌, ◌∷◌, ◌++◌, [], All, false, length, slice_get, option_to_list, is_some, IfErr, IfOk, OnErr, OnOk, Some, None, MatchOption};
-ghost use Rattle.places.specs.Places.{on_time};
-ghost use Rattle.slot_arena.specs.Heaps.{generation_at};
+ghost use Rattle.std.specs.Prelude.{◌≡◌, ◌<◌, All, false, length, slice_get, option_to_list, is_some, IfErr, IfOk, OnErr, OnOk, Some, None, MatchOption};
 ghost use Rattle.slot_arena.specs.Refs.{slot_of};
 ghost use Rattle.slot_arena.specs.Arenas.{IsLive};
 ghost use Rattle.machine_model.specs.declared.operations.Operation.{Operation};
@@ -15,7 +13,7 @@ ghost use Rattle.machine_core.specs.Beneath.operate.specs.Places.{answer_of};
 ghost use Rattle.running.specs.Places.{line_for, IsSound};
 ghost use Rattle.running.specs.Steps.{scene, CanStep};
 ghost use Rattle.machine_core.specs.Bounds.{IsOfRun};
-ghost use Rattle.machine_core.specs.Going.{entered_for, moved, step_committed, CanNote, HasUnderWay, InMidway, Midway, NotesCarried, NotesCommit, NotesDrawn, NotesKind, Steps, StepsTo};
+ghost use Rattle.machine_core.specs.Going.{entered_for, moved, step_committed, HasUnderWay, InMidway, Midway, NotesCommit, Steps, StepsTo};
 ghost use Rattle.machine_core.specs.Keeping.{IsKept, Replaces};
 ghost use Rattle.machine_core.specs.Seen.{actor_of, operation_at, operation_seen, seen, under_way_of};
 ghost use Rattle.machine_core.specs.Work.{ActsLittle, NotesUpTo};
@@ -23,17 +21,17 @@ ghost use Rattle.machine_core.specs.declared.parts.Actor.{Actor as AnActor};
 ghost use Rattle.machine_core.specs.declared.parts.UnderWay.{UnderWay as AnUnderWay};
 
 use crate::finishing::{end, put_place};
+use crate::noting::note_kind;
 use crate::parts::{Actor, Parts, UnderWay};
 use crate::placing::place_of;
-use chronicle::{Chronicle, Commits};
-use ctrie_base::{Kind, Refusal};
+use chronicle::Commits;
+use ctrie_base::Refusal;
 use epochs::Heap;
 use history::Reply;
 use machine_model::Outcome;
 use places::Place;
 use running::{Program, Roots, Taken};
 use slot_arena::Ref;
-use trie_parts::generation_at;
 
 /// What the step of the actor's operation does, but for what every step does at its end. After an error nothing
 /// that is seen has changed.
@@ -334,90 +332,5 @@ fn entered_with(parts: &Parts, owner: &Actor, under_way: UnderWay, main: Ref) ->
         Some(place_of(parts, owner, under_way, step, false))
     } else {
         None
-    }
-}
-
-/// Notes what a step of this kind did that committed nothing.
-fn note_kind(parts: &mut Parts, actor: u8, fresh: Ref, taken: &Taken)
-    requires can { CanNote parts.old fresh taken.now }
-    ensures notes { NotesKind taken.now.kind taken.now.counts parts.old actor fresh parts.new }
-{
-    match taken.kind {
-        Kind::SwapMain => note_swap(parts, actor, fresh, taken.counts),
-        Kind::SwapRoot => note_carried(parts),
-        Kind::Make => note_drawn(parts),
-        _ => {}
-    }
-}
-
-/// Notes a swap of a main word, by a READ or not: the actor owns the main node that it was about to swap in.
-fn note_swap(parts: &mut Parts, actor: u8, fresh: Ref, counts: bool)
-    requires owner { counts ≡ false → IsLive parts.old.heap.heap fresh }
-    ensures notes { NotesKind Kind.SwapMain counts parts.old actor fresh parts.new }
-{
-    if !counts {
-        parts.heap.set_owner(fresh, actor);
-    }
-}
-
-/// If an offer was carried out, the generation of the root that it took away is closed, and whoever offered enters
-/// the order.
-fn note_carried(parts: &mut Parts)
-    requires later { All (λ closing. closing.step < parts.old.steps) parts.old.journal.chronicle.closings }
-    requires behind { All (λ place. place.step ≤ parts.old.steps) parts.old.journal.chronicle.places }
-    requires closes { MatchOption parts.old.table.carried Unit (λ offer. generation_at parts.old.heap.heap offer.root < parts.old.journal.chronicle.generations) }
-    requires given { MatchOption parts.old.table.carried Unit (λ offer. offer.operation < parts.old.journal.chronicle.ids) }
-    requires to_add { 0 < parts.old.journal.chronicle.room_to_add }
-    requires to_close { 0 < parts.old.journal.chronicle.room_to_close }
-    ensures notes { NotesCarried parts.old parts.new }
-{
-    if let Some(offer) = parts.table.take_carried() {
-        let generation = generation_at(&parts.heap, offer.root);
-        close(
-            &mut parts.journal.chronicle,
-            generation,
-            parts.steps,
-            offer.operation,
-        );
-    }
-}
-
-/// The generation is closed in this step, and the operation with this id enters the order.
-fn close(chronicle: &mut Chronicle, generation: u64, step: u64, id: u64)
-    requires later { All (λ closing. closing.step < step) chronicle.old.closings }
-    requires behind { All (λ place. place.step ≤ step) chronicle.old.places }
-    requires drawn { generation < chronicle.old.generations }
-    requires of_id { id < chronicle.old.ids }
-    requires to_add { 0 < chronicle.old.room_to_add }
-    requires to_close { 0 < chronicle.old.room_to_close }
-    ensures closings { chronicle.new.closings ≡ chronicle.old.closings ++ record { generation = generation; step = step } ∷ [] }
-    ensures places { chronicle.new.places ≡ chronicle.old.places ++ on_time step false id ∷ [] }
-    ensures generations { chronicle.new.generations ≡ chronicle.old.generations }
-{
-    chronicle.close(generation, step);
-    chronicle.add(on_time(step, id));
-}
-
-/// The place of an operation whose change stands from this step on.
-fn on_time(step: u64, id: u64) -> Place
-    ensures { result ≡ on_time step false id }
-{
-    Place {
-        step,
-        on_time: true,
-        moment: step,
-        changed_nothing: false,
-        id,
-    }
-}
-
-/// All generations that were drawn are known.
-fn note_drawn(parts: &mut Parts)
-    requires drawn { (parts.old.generations ≡ parts.old.journal.chronicle.generations) ⊎ (parts.old.generations ≡ parts.old.journal.chronicle.generations + 1) }
-    requires to_draw { 0 < parts.old.journal.chronicle.room_to_draw }
-    ensures notes { NotesDrawn parts.old parts.new }
-{
-    if parts.journal.chronicle.generations() < parts.generations {
-        parts.journal.chronicle.draw();
     }
 }

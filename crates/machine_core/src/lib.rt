@@ -5,7 +5,7 @@
 //! | Module | What | Of the definition |
 //! |---|---|---|
 //! | `parts` | all that a machine remembers | `States` |
-//! | `beginning`, `going`, `finishing`, `sweeping` | a begin, a step of an operation, its end, a step of the sweep | `Machine`, `Acting` |
+//! | `beginning`, `going`, `noting`, `finishing`, `sweeping` | a begin, a step of an operation, its end, a step of the sweep | `Machine`, `Acting` |
 //! | `stepping` | denials first, then the step, then limbo | `Machine`, `Counting` |
 #![tactic(auto)]
 
@@ -20,6 +20,7 @@ mod going;
 mod handles;
 mod machine;
 mod mains;
+mod noting;
 mod parts;
 mod placing;
 mod reserving;

@@ -29,10 +29,13 @@ fn touch_room(events: &mut Vec<Event>, count: usize) -> Result<(), AllocError>
     let Some(all) = length.checked_add(count) else {
         return Err(AllocError);
     };
-    events.resize_with(all, || Event::End {
-        id: 0,
-        reply: Reply::Closed,
-    })?;
+    events.resize_with(
+        all,
+        || Event::End {
+            id: 0,
+            reply: Reply::Closed,
+        },
+    )?;
     events.truncate(length);
     Ok(())
 }

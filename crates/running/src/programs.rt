@@ -326,8 +326,14 @@ impl Programs {
         {
             Next::More(kind) => Ok(self.go_so(kind)),
             Next::AskRoot => {
-                let program = Program::Entries;
-                Ok(self.ask(Asking::Unasked, job, &program, roots, generation, heap))
+                Ok(self.ask(
+                    Asking::Unasked,
+                    job,
+                    &Program::Entries,
+                    roots,
+                    generation,
+                    heap,
+                ))
             }
             Next::Done(kind, Walked::All) => Ok(self.come_to(Stage::Listed, kind)),
             Next::Done(kind, Walked::Impossible) => Ok(self.come_to(Stage::Impossible, kind)),
@@ -356,8 +362,14 @@ impl Programs {
         {
             Next::More(kind) => Ok(self.go_so(kind)),
             Next::AskRoot => {
-                let program = Program::Count;
-                Ok(self.ask(Asking::Unasked, job, &program, roots, generation, heap))
+                Ok(self.ask(
+                    Asking::Unasked,
+                    job,
+                    &Program::Count,
+                    roots,
+                    generation,
+                    heap,
+                ))
             }
             Next::Done(kind, Walked::All) => Ok(self.come_to(Stage::Counted, kind)),
             Next::Done(kind, Walked::Impossible) => Ok(self.come_to(Stage::Impossible, kind)),

@@ -39,7 +39,7 @@ note_commit-requires-clause-ids c =
 pub note_kind-requires : goal.note_kind-requires
 note_kind-requires c = record {
   can = asks_kind c.args.actor c.requires.midway.under_way c.args.fresh c.args.taken.now c.args.parts.now c.requires.midway.midway (moved c.args.parts.now.commits.commits c.args.parts.now.steps c.args.taken.now c.requires.midway.under_way)
-    (record c.args.parts.now { actors = c.follow.new.actors }) refl (c.follow.ensures c.requires.midway.midway.steps.actors.is c.requires.midway.under_way (stands_there c.args.actor c.requires.midway.under_way c.args.fresh c.args.taken.now c.args.parts.now c.requires.midway.midway) (runs_there c.args.actor c.requires.midway.under_way c.args.fresh c.args.taken.now c.args.parts.now c.requires.midway.midway)) refl
+      (record c.args.parts.now { actors = c.follow.new.actors }) refl (c.follow.ensures c.requires.midway.midway.steps.actors.is c.requires.midway.under_way (stands_there c.args.actor c.requires.midway.under_way c.args.fresh c.args.taken.now c.args.parts.now c.requires.midway.midway) (runs_there c.args.actor c.requires.midway.under_way c.args.fresh c.args.taken.now c.args.parts.now c.requires.midway.midway)) refl
       c.requires.ids c.requires.to_draw c.requires.to_add c.requires.to_close;
 }
 
