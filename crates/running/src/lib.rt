@@ -12,6 +12,7 @@ mod job;
 mod programs;
 mod taken;
 mod telling;
+mod walking;
 
 pub use job::{Job, Program};
 pub use programs::{Programs, Stage};

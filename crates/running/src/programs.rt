@@ -10,7 +10,6 @@ ghost use Rattle.running.specs.Beneath.root_asking.specs.Asked.{IsUntold, abort_
 ghost use Rattle.operate.specs.Places.{key_line};
 ghost use Rattle.operate.specs.Steps.{CanKey};
 ghost use Rattle.snapshot.specs.Copies.{CanSnap, IsReadyBeside, snap_line};
-ghost use Rattle.snapshot.specs.Walks.{CanWalk, walk_line};
 ghost use Rattle.running.specs.Places.{asking_line, call_for, generation_in, line_for, program_line, IsBegun, IsSound, IsWaiting, ReadsOn};
 ghost use Rattle.running.specs.Steps.{CanProgram, CanStep, Does, scene, taken_in, taken_so};
 
@@ -20,7 +19,7 @@ use ctrie_base::{HashKind, Kind, Refusal};
 use epochs::Heap;
 use history::Access;
 use operate::{KeyCall, KeyOp, KeyReply};
-use snapshot::{Asking, Count, Entries, Next, Roots, Snap, SnapCall, SnapReply, Walked};
+use snapshot::{Asking, Count, Entries, Next, Roots, Snap, SnapCall, SnapReply};
 use std::alloc::Global;
 
 /// How far an operation has come.
@@ -252,7 +251,7 @@ impl Programs {
     }
 
     /// The program took a step of this kind, and goes on.
-    fn go_so(&mut self, kind: Kind) -> Taken
+    pub(crate) fn go_so(&mut self, kind: Kind) -> Taken
         ensures same { self.new ≡ record self.old { stage = Stage.Runs; asking = Asking.Unasked } }
         ensures taken { result ≡ taken_so kind self.old.key.work.swap.read.at }
     {
@@ -304,80 +303,8 @@ impl Programs {
         }
     }
 
-    /// Takes a step of a walk for all pairs.
-    fn list(
-        &mut self,
-        told: Option<u64>,
-        job: &Job,
-        roots: &mut Roots,
-        generation: u64,
-        heap: &mut Heap,
-    ) -> Result<Taken, Refusal>
-        requires can { CanWalk heap.old.heap self.old.key.work.swap.read self.old.entries.walk }
-        requires room { IsReadyBeside heap.old roots.old.roots self.old.key.work.private }
-        ensures does { IfOk result (λ taken. Does job.now Program.Entries (walk_line self.old.key.work.swap.read told self.old.entries.walk)
-            (scene heap.old roots.old generation self.old) taken (scene heap.new roots.new generation self.new)) }
-        ensures err { OnErr result ((self.new ≡ self.old) × (roots.new ≡ roots.old) × (heap.new ≡ heap.old)) }
-        ensures only_memory { IfErr result (λ refusal. refusal ≡ Refusal.Memory) }
-    {
-        match self
-            .entries
-            .step(&mut self.key.work, roots, job.handle, heap, told)?
-        {
-            Next::More(kind) => Ok(self.go_so(kind)),
-            Next::AskRoot => {
-                Ok(self.ask(
-                    Asking::Unasked,
-                    job,
-                    &Program::Entries,
-                    roots,
-                    generation,
-                    heap,
-                ))
-            }
-            Next::Done(kind, Walked::All) => Ok(self.come_to(Stage::Listed, kind)),
-            Next::Done(kind, Walked::Impossible) => Ok(self.come_to(Stage::Impossible, kind)),
-        }
-    }
-
-    /// Takes a step of a walk for their number.
-    fn count_up(
-        &mut self,
-        told: Option<u64>,
-        job: &Job,
-        roots: &mut Roots,
-        generation: u64,
-        heap: &mut Heap,
-    ) -> Result<Taken, Refusal>
-        requires can { CanWalk heap.old.heap self.old.key.work.swap.read self.old.count.walk }
-        requires room { IsReadyBeside heap.old roots.old.roots self.old.key.work.private }
-        ensures does { IfOk result (λ taken. Does job.now Program.Count (walk_line self.old.key.work.swap.read told self.old.count.walk)
-            (scene heap.old roots.old generation self.old) taken (scene heap.new roots.new generation self.new)) }
-        ensures err { OnErr result ((self.new ≡ self.old) × (roots.new ≡ roots.old) × (heap.new ≡ heap.old)) }
-        ensures only_memory { IfErr result (λ refusal. refusal ≡ Refusal.Memory) }
-    {
-        match self
-            .count
-            .step(&mut self.key.work, roots, job.handle, heap, told)?
-        {
-            Next::More(kind) => Ok(self.go_so(kind)),
-            Next::AskRoot => {
-                Ok(self.ask(
-                    Asking::Unasked,
-                    job,
-                    &Program::Count,
-                    roots,
-                    generation,
-                    heap,
-                ))
-            }
-            Next::Done(kind, Walked::All) => Ok(self.come_to(Stage::Counted, kind)),
-            Next::Done(kind, Walked::Impossible) => Ok(self.come_to(Stage::Impossible, kind)),
-        }
-    }
-
     /// The program took a step of this kind, and has come to this stage.
-    fn come_to(&mut self, stage: Stage, kind: Kind) -> Taken
+    pub(crate) fn come_to(&mut self, stage: Stage, kind: Kind) -> Taken
         ensures same { self.new ≡ record self.old { stage = stage; asking = Asking.Unasked } }
         ensures taken { result ≡ taken_so kind self.old.key.work.swap.read.at }
     {
@@ -387,7 +314,7 @@ impl Programs {
     }
 
     /// Takes a step of ABORT, for a program whose READ asks.
-    fn ask(
+    pub(crate) fn ask(
         &mut self,
         asking: Asking,
         job: &Job,
