@@ -18,10 +18,12 @@ use std::marker::Model;
 pub struct Chronicle {
     closings: Closings,
     ordered: Ordered,
+    /// Up to this id there is room for all that an operation's step may add, where that is known: so most steps ask for no more.
+    roomed: Option<u64>,
 }
 
 impl Model for Chronicle {
-    ghost use Rattle.std.specs.Prelude.{◌≡◌, map};
+    ghost use Rattle.std.specs.Prelude.{◌≡◌, ◌<◌, IfSome, map};
     ghost use Rattle.chronicle.specs.Told.{Told};
 
     ghost Value = { Told };
@@ -36,7 +38,8 @@ impl Model for Chronicle {
       room_to_close = c.ordered.room_to_close;
     } };
 
-    ghost invariant = { λ c. c.ordered.closings ≡ map (λ closing. closing.step) c.closings.closings };
+    ghost invariant = { λ c. (c.ordered.closings ≡ map (λ closing. closing.step) c.closings.closings)
+        × IfSome c.roomed (λ id. (id < c.ordered.ids) × (0 < c.closings.room) × (0 < c.ordered.room_to_add) × (0 < c.ordered.room_to_close)) };
 }
 
 impl Chronicle {
@@ -49,11 +52,13 @@ impl Chronicle {
         Ok(Chronicle {
             closings: Closings::new(alloc)?,
             ordered: Ordered::new(alloc),
+            roomed: None,
         })
     }
 
     /// Makes room for a generation, a closing, and a place of the operation with this id. After an error nothing but room
     /// has changed.
+    #[inline(always)]
     pub fn room_for(&mut self, id: u64) -> Result<(), Refusal>
         ensures only_memory { IsOkUnless result Memory }
         ensures closings { self.new.closings ≡ self.old.closings }
@@ -64,8 +69,29 @@ impl Chronicle {
         ensures to_close { OnOk result (0 < self.new.room_to_close) }
         ensures of_id { OnOk result (id < self.new.ids) }
     {
+        match self.roomed {
+            Some(last) if id <= last => Ok(()),
+            _ => self.make_room(id),
+        }
+    }
+
+    /// The same, where it isn't known whether there is room.
+    #[cold]
+    fn make_room(&mut self, id: u64) -> Result<(), Refusal>
+        ensures only_memory { IsOkUnless result Memory }
+        ensures closings { self.new.closings ≡ self.old.closings }
+        ensures generations { self.new.generations ≡ self.old.generations }
+        ensures places { self.new.places ≡ self.old.places }
+        ensures to_draw { OnOk result (0 < self.new.room_to_draw) }
+        ensures to_add { OnOk result (0 < self.new.room_to_add) }
+        ensures to_close { OnOk result (0 < self.new.room_to_close) }
+        ensures of_id { OnOk result (id < self.new.ids) }
+    {
+        self.roomed = None;
         self.closings.room()?;
-        self.ordered.room_for(id)
+        self.ordered.room_for(id)?;
+        self.roomed = Some(id);
+        Ok(())
     }
 
     /// Makes room for so many generations, closings, and places of operations that are still to begin, in memory that is
@@ -79,6 +105,7 @@ impl Chronicle {
         ensures to_add { OnOk result (count ≤ self.new.room_to_add) }
         ensures to_close { OnOk result (count ≤ self.new.room_to_close) }
     {
+        self.roomed = None;
         self.closings.reserve(count)?;
         self.ordered.reserve(count)
     }
@@ -90,6 +117,7 @@ impl Chronicle {
         ensures generations { self.new.generations ≡ self.old.generations + 1 }
         ensures places { self.new.places ≡ self.old.places }
     {
+        self.roomed = None;
         self.closings.draw();
     }
 
@@ -119,6 +147,7 @@ impl Chronicle {
         ensures ids { self.new.ids ≡ self.old.ids }
         ensures room_to_add { self.new.room_to_add ≡ self.old.room_to_add }
     {
+        self.roomed = None;
         self.closings.close(generation, step);
         self.ordered.close(step);
     }
@@ -132,6 +161,7 @@ impl Chronicle {
         ensures generations { self.new.generations ≡ self.old.generations }
         ensures room_to_draw { self.new.room_to_draw ≡ self.old.room_to_draw }
     {
+        self.roomed = None;
         self.ordered.add(at);
     }
 

@@ -32,7 +32,7 @@ use Rattle.machine_core.specs.Beneath.proof_memory.proofs.Safety.AtTimes.{action
 use Rattle.machine_core.specs.Beneath.proof_generations.proofs.Roots.OfLists.{below_along, standing_below}
 use Rattle.proof_records.specs.Beneath.proof_order.proofs.History.PlacesPast.{places_past}
 use Rattle.machine_core.specs.Beneath.snapshot.specs.Tasks.{drawn, drawn_by}
-use Rattle.running.specs.declared.taken.Taken.{Taken}
+use Rattle.running.specs.Taking.{Taken}
 use Rattle.running.proofs.Fresh.{SwapsFresh, swaps_fresh}
 use Rattle.machine_core.specs.declared.parts.Parts.{Parts}
 use Rattle.machine_core.specs.declared.parts.UnderWay.{UnderWay}

@@ -17,7 +17,7 @@ use Rattle.machine_model.specs.Operations.{action_of, kind_of}
 use Rattle.machine_model.specs.States.{word_at}
 use Rattle.machine_core.specs.Beneath.operate.specs.Places.{answer_of}
 use Rattle.machine_core.specs.Beneath.snapshot.specs.Tasks.{drawn_by}
-use Rattle.running.specs.declared.taken.Taken.{Taken}
+use Rattle.running.specs.Taking.{Taken}
 use Rattle.running.specs.Places.{line_for}
 use Rattle.machine_core.specs.declared.parts.Journal.{Journal}
 use Rattle.machine_core.specs.declared.parts.Parts.{Parts}

@@ -35,7 +35,7 @@ use Rattle.proof_records.proofs.Owners.{owner_enters}
 use Rattle.machine_core.specs.Beneath.root_asking.proofs.Holding.{each_holds}
 use Rattle.trie_parts.specs.Holding.{remarked}
 use Rattle.machine_core.specs.Beneath.snapshot.specs.Tasks.{with_generation}
-use Rattle.running.specs.declared.taken.Taken.{Taken}
+use Rattle.running.specs.Taking.{Taken}
 use Rattle.running.specs.Places.{generation_in, line_for}
 use Rattle.machine_core.specs.declared.parts.Actor.{Actor}
 use Rattle.machine_core.specs.declared.parts.Parts.{Parts}

@@ -2,7 +2,7 @@
 use Rattle.std.proofs.Common.{◌≡◌, ℕ, ◌-◌, Some, None}
 use Rattle.slot_arena.specs.declared.refs.Ref.{Ref}
 use Rattle.machine_core.specs.Beneath.operate.specs.Places.{answer_of}
-use Rattle.running.specs.declared.taken.Taken.{Taken}
+use Rattle.running.specs.Taking.{Taken}
 use Rattle.running.specs.Places.{line_for}
 use Rattle.machine_core.specs.declared.parts.Parts.{Parts}
 use Rattle.machine_core.specs.declared.parts.UnderWay.{UnderWay}

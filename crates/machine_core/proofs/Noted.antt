@@ -17,10 +17,10 @@ use Rattle.machine_model.specs.Reading.{at_indirection, read_after}
 use Rattle.machine_model.specs.States.{State, word_at}
 use Rattle.machine_model.proofs.Actors.{after_marks}
 use Rattle.machine_core.specs.Beneath.rdcss_root.specs.Tables.{Table, acted_table, word_in}
-use Rattle.running.specs.declared.taken.Taken.{Taken}
 use Rattle.running.specs.Carried.{carried_by, closed_by, placed_by}
 use Rattle.running.specs.Places.{generation_in, line_for}
 use Rattle.running.specs.Steps.{Changes, Takes, at_scene, given_by, given_in, scene}
+use Rattle.running.specs.Taking.{Taken}
 use Rattle.running.proofs.Offers.{marked_at, marks_by, unmarked}
 use Rattle.machine_core.specs.declared.parts.Actor.{Actor}
 use Rattle.machine_core.specs.declared.parts.Parts.{Parts}

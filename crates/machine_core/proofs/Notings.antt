@@ -15,7 +15,7 @@ use Rattle.machine_model.specs.Operations.{action_of, kind_of}
 use Rattle.machine_model.specs.States.{word_at}
 use Rattle.machine_model.specs.Orders.{committed_now}
 use Rattle.machine_core.specs.Beneath.rdcss_root.specs.Tables.{Table, word_in}
-use Rattle.running.specs.declared.taken.Taken.{Taken}
+use Rattle.running.specs.Taking.{Taken}
 use Rattle.running.specs.Carried.{carried_by, closed_by, placed_by}
 use Rattle.running.proofs.Offers.{carried_or, marks_by}
 use Rattle.machine_core.specs.Beneath.gcas.specs.Acted.{acted_heap}

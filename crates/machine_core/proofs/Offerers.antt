@@ -24,7 +24,7 @@ use Rattle.machine_core.specs.Beneath.proof_generations.proofs.Offers.Standing.{
 use Rattle.machine_core.specs.Beneath.proof_generations.proofs.Roots.OfLists.{has_handles_along}
 use Rattle.machine_core.specs.Beneath.rdcss_root.specs.Tables.{Table, acted_table, carried_out_in, opened_in, with_word_in, word_in}
 use Rattle.running.proofs.ByParts.{acts_by}
-use Rattle.running.specs.declared.taken.Taken.{Taken}
+use Rattle.running.specs.Taking.{Taken}
 use Rattle.machine_core.specs.declared.parts.Actor.{Actor}
 use Rattle.machine_core.specs.declared.parts.Parts.{Parts}
 use Rattle.machine_core.specs.declared.parts.UnderWay.{UnderWay}

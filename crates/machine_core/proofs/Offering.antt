@@ -17,7 +17,7 @@ use Rattle.machine_model.specs.Swapping.{is_carried_out}
 use Rattle.machine_core.specs.Beneath.proof_generations.proofs.Roots.OfLists.{has_handles_along}
 use Rattle.machine_core.specs.Beneath.proof_generations.proofs.Offers.Standing.{own_numbers}
 use Rattle.machine_core.specs.Beneath.rdcss_root.specs.Tables.{word_in}
-use Rattle.running.specs.declared.taken.Taken.{Taken}
+use Rattle.running.specs.Taking.{Taken}
 use Rattle.running.specs.Carried.{carried_by}
 use Rattle.running.proofs.Offers.{unmarked}
 use Rattle.machine_core.specs.declared.parts.Actor.{Actor}

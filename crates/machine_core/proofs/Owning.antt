@@ -34,7 +34,7 @@ use Rattle.machine_core.specs.Beneath.proof_memory.proofs.Claims.Uses.{safe_of}
 use Rattle.machine_core.specs.Beneath.proof_commits.specs.Laws.{IsInSwap}
 use Rattle.machine_core.specs.Beneath.snapshot.specs.Tasks.{with_generation}
 use Rattle.proof_records.specs.Laws.{OwnsBy, owned, swaps}
-use Rattle.running.specs.declared.taken.Taken.{Taken}
+use Rattle.running.specs.Taking.{Taken}
 use Rattle.running.specs.Places.{line_for}
 use Rattle.running.proofs.Fresh.{swaps_fresh}
 use Rattle.machine_core.specs.declared.parts.Parts.{Parts}

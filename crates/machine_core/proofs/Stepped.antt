@@ -20,9 +20,9 @@ use Rattle.machine_core.specs.Beneath.rdcss_root.specs.Tables.{Table, acted_tabl
 use Rattle.machine_core.specs.Beneath.snapshot.specs.Tasks.{drawn_by, with_generation}
 use Rattle.trie_parts.specs.Here.{at_heap, no_state}
 use Rattle.running.specs.declared.programs.Programs.{Programs}
-use Rattle.running.specs.declared.taken.Taken.{Taken}
 use Rattle.running.specs.Places.{generation_in, line_for}
 use Rattle.running.specs.Steps.{Changes, Does, Scene, Takes, at_scene}
+use Rattle.running.specs.Taking.{Taken}
 use Rattle.running.specs.Carried.{carried_by, closed_by, placed_by}
 use Rattle.running.proofs.ByParts.{ActsBy, acts_by}
 use Rattle.running.proofs.Offers.{unmarked}

@@ -6,9 +6,9 @@ use Rattle.std.proofs.lemmas.Option.{same_Some, slice_get_within}
 use Rattle.history.proofs.Places.{at_set}
 use Rattle.machine_model.specs.States.{operation_of}
 use Rattle.running.specs.declared.programs.Programs.{Programs}
-use Rattle.running.specs.declared.taken.Taken.{Taken}
 use Rattle.running.specs.Places.{line_for}
 use Rattle.running.specs.Steps.{Does, scene}
+use Rattle.running.specs.Taking.{Taken}
 use Rattle.machine_core.specs.declared.parts.Actor.{Actor}
 use Rattle.machine_core.specs.declared.parts.Parts.{Parts}
 use Rattle.machine_core.specs.declared.parts.UnderWay.{UnderWay}

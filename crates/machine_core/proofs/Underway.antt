@@ -1,11 +1,10 @@
 -- What an actor has under way whose next step isn't denied.
-use Rattle.std.proofs.Common.{arith, ◌≡◌, ℕ, suc, zero, ◌-◌, ◌<◌, Option, Some, None, length, refl, sym, ap, ◌∙◌}
+use Rattle.std.proofs.Common.{arith, ◌≡◌, ℕ, ◌-◌, ◌<◌, Option, Some, None, length, refl, sym, ap, ◌∙◌}
 use Rattle.std.specs.Prelude.{false, is_some, option_and_then, slice_get}
 use Rattle.std.proofs.lemmas.Option.{none-some, same_Some, slice_get_within}
 use Rattle.history.specs.declared.replies.Reply.{Reply}
 use Rattle.machine_model.specs.Machine.{go_denial}
 use Rattle.machine_model.specs.declared.operations.Operation.{Operation}
-use Rattle.machine_model.specs.States.{operation_of}
 use Rattle.running.specs.Places.{line_for}
 use Rattle.running.specs.Steps.{CanStep, scene}
 use Rattle.machine_core.specs.declared.parts.Actor.{Actor}

@@ -13,7 +13,7 @@ use Rattle.epochs.specs.Limbo.{limbo_after, newly_zero}
 use Rattle.epochs.specs.Memories.{Memory, freed_by, reclaimer_of, staying}
 use Rattle.epochs.specs.Sweeping.{swept_once}
 use Rattle.machine_model.specs.Counting.{refs_of_operation}
-use Rattle.running.specs.declared.taken.Taken.{Taken}
+use Rattle.running.specs.Taking.{Taken}
 use Rattle.machine_core.specs.declared.parts.Actor.{Actor}
 use Rattle.machine_core.specs.declared.parts.Parts.{Parts}
 use Rattle.machine_core.specs.declared.parts.UnderWay.{UnderWay}

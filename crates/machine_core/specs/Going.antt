@@ -17,10 +17,10 @@ use Rattle.machine_model.specs.States.{operation_of}
 use Rattle.machine_core.specs.Beneath.operate.specs.Places.{answer_of}
 use Rattle.machine_core.specs.Beneath.rdcss_root.specs.Tables.{Table}
 use Rattle.chronicle.specs.Committed.{commit_step}
-use Rattle.running.specs.declared.taken.Taken.{Taken}
 use Rattle.running.specs.Carried.{closed_by, placed_by}
 use Rattle.running.specs.Places.{line_for}
 use Rattle.running.specs.Steps.{Does, scene}
+use Rattle.running.specs.Taking.{Taken}
 use Rattle.machine_core.specs.declared.parts.Actor.{Actor}
 use Rattle.machine_core.specs.declared.parts.Parts.{Parts}
 use Rattle.machine_core.specs.declared.parts.UnderWay.{UnderWay}

@@ -25,7 +25,7 @@ use crate::noting::note_kind;
 use crate::parts::{Actor, Parts, UnderWay};
 use crate::placing::place_of;
 use chronicle::Commits;
-use ctrie_base::Refusal;
+use ctrie_base::{Kind, Refusal};
 use epochs::Heap;
 use history::Reply;
 use machine_model::Outcome;
@@ -35,6 +35,7 @@ use slot_arena::Ref;
 
 /// What the step of the actor's operation does, but for what every step does at its end. After an error nothing
 /// that is seen has changed.
+#[inline(always)]
 pub fn go_on(parts: &mut Parts, actor: u8) -> Result<Outcome, Refusal>
     requires run { IsOfRun (seen parts.old) }
     requires kept { IsKept parts.old }
@@ -52,7 +53,7 @@ pub fn go_on(parts: &mut Parts, actor: u8) -> Result<Outcome, Refusal>
     if is_over(parts, actor) {
         end_now(parts, actor)
     } else {
-        proceed(parts, actor)
+        Ok(Outcome::Went(proceed(parts, actor)?))
     }
 }
 
@@ -78,6 +79,7 @@ fn ends(actor: &Actor) -> bool
 }
 
 /// The end of the actor's operation, which is its next step. After an error nothing that is seen has changed.
+#[inline(never)]
 fn end_now(parts: &mut Parts, actor: u8) -> Result<Outcome, Refusal>
     requires run { IsOfRun (seen parts.old) }
     requires kept { IsKept parts.old }
@@ -124,16 +126,17 @@ fn reply_of(parts: &Parts, actor: u8, program: Program) -> Result<Option<Reply>,
 }
 
 /// Takes a step of the actor's operation that isn't its end. After an error nothing that is seen has changed.
-fn proceed(parts: &mut Parts, actor: u8) -> Result<Outcome, Refusal>
+#[inline(never)]
+fn proceed(parts: &mut Parts, actor: u8) -> Result<Kind, Refusal>
     requires run { IsOfRun (seen parts.old) }
     requires kept { IsKept parts.old }
     requires allowed { go_denial (seen parts.old) actor ≡ None }
     requires goes_on { (found : AnActor) (u : AnUnderWay) → actor_of parts.old actor ≡ Some found → found.under_way ≡ Some u →
         is_some (answer_of (line_for u.program found.programs)) ≡ false }
-    ensures ok { IfOk result (λ outcome. (operation : Operation) →
+    ensures ok { IfOk result (λ kind. (operation : Operation) →
         operation_of (seen parts.old) actor ≡ Some operation →
         went (seen parts.old) actor operation (action_of (seen parts.old) operation)
-        ≡ (outcome, seen parts.new)) }
+        ≡ (Outcome.Went kind, seen parts.new)) }
     ensures err { OnErr result (seen parts.new ≡ seen parts.old) }
     ensures only_memory { IfErr result (λ refusal. refusal ≡ Refusal.Memory) }
     ensures kept { IsKept parts.new }
@@ -144,7 +147,7 @@ fn proceed(parts: &mut Parts, actor: u8) -> Result<Outcome, Refusal>
     let fresh = fresh_of(parts, actor);
     let taken = step(parts, actor)?;
     note(parts, actor, fresh, &taken);
-    Ok(Outcome::Went(taken.kind))
+    Ok(taken.kind())
 }
 
 /// The main node that the actor's operation was, or is, about to swap in.
@@ -236,7 +239,7 @@ fn note(parts: &mut Parts, actor: u8, fresh: Ref, taken: &Taken)
 {
     let index = actor as usize - 1;
     follow(&mut parts.actors, index, &parts.commits, taken, parts.steps);
-    match taken.committed {
+    match taken.committed() {
         Some(main) => note_commit(parts, main),
         None => note_kind(parts, actor, fresh, taken),
     }
@@ -267,11 +270,11 @@ fn go_from(under_way: &mut UnderWay, commits: &Commits, taken: &Taken, step: u64
     requires newest { MatchOption taken.now.given Unit (IsNewest commits.now.commits) }
     ensures { under_way.new ≡ moved commits.now.commits step taken.now under_way.old }
 {
-    if taken.counts {
+    if taken.counts() {
         under_way.read_at = step;
     }
-    if let Some(main) = taken.given {
-        let committed = step_committed(commits, main, taken.committed, step);
+    if let Some(main) = taken.given() {
+        let committed = step_committed(commits, main, taken.committed(), step);
         under_way.moment = under_way.read_at.max(committed);
     }
 }

@@ -79,6 +79,7 @@ impl Core {
     /// Takes a step, or refuses it. After a refusal nothing has changed; `Memory` is the only one that the
     /// definition doesn't give, and comes only where it gives none. It looks at the slots that the step is
     /// about, and at no other: its work is bounded, however many slots, actors and handles there are.
+    #[inline(always)]
     pub fn apply(&mut self, step: Step) -> Result<Outcome, Refusal>
         ensures applies { Applies result self.old.state (next self.old.state step) self.new.state }
         ensures work { OnOk result (WorksLittle self.old step self.new) }

@@ -19,8 +19,8 @@ pub fn note_kind(parts: &mut Parts, actor: u8, fresh: Ref, taken: &Taken)
     requires can { CanNote parts.old fresh taken.now }
     ensures notes { NotesKind taken.now.kind taken.now.counts parts.old actor fresh parts.new }
 {
-    match taken.kind {
-        Kind::SwapMain => note_swap(parts, actor, fresh, taken.counts),
+    match taken.kind() {
+        Kind::SwapMain => note_swap(parts, actor, fresh, taken.counts()),
         Kind::SwapRoot => note_carried(parts),
         Kind::Make => note_drawn(parts),
         _ => {}

@@ -20,6 +20,7 @@ use history::Call;
 use machine_model::{Outcome, Step};
 
 /// Takes a step, or refuses it. After a refusal nothing that is seen has changed.
+#[inline(always)]
 pub fn take_step(parts: &mut Parts, step: Step) -> Result<Outcome, Refusal>
     requires run { IsOfRun (seen parts.old) }
     requires kept { IsKept parts.old }
@@ -39,6 +40,7 @@ pub fn take_step(parts: &mut Parts, step: Step) -> Result<Outcome, Refusal>
 
 /// Begins an operation, or refuses to.
 #[tactic(auto, using(crate::proofs::Steps::refused))]
+#[inline(never)]
 fn begin(parts: &mut Parts, actor: u8, call: Call) -> Result<Outcome, Refusal>
     requires run { IsOfRun (seen parts.old) }
     requires kept { IsKept parts.old }
@@ -57,6 +59,7 @@ fn begin(parts: &mut Parts, actor: u8, call: Call) -> Result<Outcome, Refusal>
 
 /// Takes a step of an actor's operation, or refuses it.
 #[tactic(auto, using(crate::proofs::Steps::refused))]
+#[inline(always)]
 pub fn go(parts: &mut Parts, actor: u8) -> Result<Outcome, Refusal>
     requires run { IsOfRun (seen parts.old) }
     requires kept { IsKept parts.old }
@@ -75,6 +78,7 @@ pub fn go(parts: &mut Parts, actor: u8) -> Result<Outcome, Refusal>
 
 /// Takes a step of the sweep, or refuses it.
 #[tactic(auto, using(crate::proofs::Steps::refused))]
+#[inline(never)]
 fn sweep(parts: &mut Parts) -> Result<Outcome, Refusal>
     requires run { IsOfRun (seen parts.old) }
     requires kept { IsKept parts.old }
@@ -113,6 +117,7 @@ fn take_begin(parts: &mut Parts, actor: u8, call: Call) -> Result<Outcome, Refus
 }
 
 /// A step of an actor's operation that isn't denied. After an error nothing has changed.
+#[inline(always)]
 fn take_go(parts: &mut Parts, actor: u8) -> Result<Outcome, Refusal>
     requires run { IsOfRun (seen parts.old) }
     requires allowed { denial_of (seen parts.old) (steps.Go actor) ≡ None }

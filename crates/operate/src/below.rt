@@ -123,6 +123,7 @@ impl KeyOp {
     }
 
     /// Goes where a look at this main node leads.
+    #[inline(always)]
     fn follow(&mut self, heap: &Heap, main: Ref, found: Found) -> Result<(), Refusal>
         ensures ok { OnOk result ((state : State) (hashes : HashKind) → key_line self.new None ≡ line_found (at_heap state heap.now.heap hashes) self.old.path self.old.work.swap main found) }
         ensures same { (self.new.task ≡ self.old.task) × (self.new.work.private ≡ self.old.work.private) × (self.new.work.swap.read.access ≡ self.old.work.swap.read.access) }

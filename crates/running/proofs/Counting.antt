@@ -29,7 +29,7 @@ use Rattle.running.specs.Beneath.machine_model.specs.Orders.{counted_from}
 use Rattle.running.specs.Beneath.machine_model.specs.Reading.{read_action}
 use Rattle.running.specs.Beneath.machine_model.specs.States.{State}
 use Rattle.running.specs.Beneath.machine_model.specs.Swapping.{action_at, complete_action_at}
-use Rattle.running.specs.Steps.{counts_if, given_if}
+use Rattle.running.specs.Taking.{counts_if, given_if}
 
 -- ---- in a READ
 

@@ -32,7 +32,8 @@ use Rattle.running.specs.Beneath.gcas.specs.Reads.{ReadsAlong, come_to, committe
 use Rattle.running.specs.Beneath.trie_parts.specs.Steps.{Leads}
 use Rattle.running.specs.Beneath.root_asking.proofs.Holding.{each_holds}
 use Rattle.snapshot.specs.Copies.{snap_action}
-use Rattle.running.specs.Steps.{Takes, committed_if, counts_if, given_by, given_if, given_in, if_reading, taken_in, taken_so}
+use Rattle.running.specs.Steps.{Takes, given_by, given_in, taken_in, taken_so}
+use Rattle.running.specs.Taking.{committed_if, counts_if, given_if, if_reading}
 use Rattle.running.proofs.Counting.{gives_nothing, in_read, outside}
 
 -- the line is of a program that swaps no main node but in its READ

@@ -33,34 +33,10 @@ use Rattle.running.specs.declared.job.Program.TheVariants.{Key, Snap, Entries, C
 use Rattle.running.specs.declared.programs.Programs.{Programs}
 use Rattle.running.specs.declared.programs.Stage.{Stage}
 use Rattle.running.specs.declared.programs.Stage.TheVariants.{Runs}
-use Rattle.running.specs.declared.taken.Taken.{Taken}
 use Rattle.running.specs.Places.{IsSound, generation_in, line_for, operation_for}
+use Rattle.running.specs.Taking.{Taken, committed_if, counts_if, given_if, if_reading}
 
 -- ---- what it comes to
-
--- what a READ gives by a step of this kind, behind which it has given this
-abbrev pub given_if : Kind → Option Ref → Option Ref
-given_if kind.ReadMain given = given
-given_if kind.ReadPrev given = given
-given_if kind.SwapPrev given = given
-given_if kind.SwapMain given = given
-given_if k given = None
-
--- what a READ commits by a step of this kind, behind which it has given this
-abbrev pub committed_if : Kind → Option Ref → Option Ref
-committed_if kind.SwapPrev given = given
-committed_if k given = None
-
--- a READ counts from a step of this kind on: it read the main word, or swapped it back
-abbrev pub counts_if : Kind → Bool
-counts_if kind.ReadMain = true
-counts_if kind.SwapMain = true
-counts_if k = false
-
--- what a READ gives, if the step is one of a READ
-abbrev pub if_reading : Bool → Option Ref → Option Ref
-if_reading true given = given
-if_reading false given = None
 
 -- a step of this kind of a call on one key, which was in a READ or not, and behind which its READ stands here
 abbrev pub taken_in : Bool → Kind → ReadAt → Taken

@@ -106,6 +106,7 @@ impl Programs {
     }
 
     /// Takes the operation's next step. After an error, which is want of memory, nothing has changed.
+    #[inline(always)]
     pub fn step(
         &mut self,
         job: &Job,
@@ -132,6 +133,7 @@ impl Programs {
     }
 
     /// Takes a step of the program, or one of ABORT in its place.
+    #[inline(always)]
     fn go_on(
         &mut self,
         job: &Job,
@@ -167,6 +169,7 @@ impl Programs {
     }
 
     /// Takes a step of the program, which was told this of the root's generation.
+    #[inline(always)]
     fn run(
         &mut self,
         told: Option<u64>,
@@ -260,6 +263,7 @@ impl Programs {
     }
 
     /// The call on one key took a step of this kind, was in a READ or not, and has come to this stage.
+    #[inline(always)]
     fn come_by_key(&mut self, stage: Stage, is_reading: bool, kind: Kind) -> Taken
         ensures same { self.new ≡ record self.old { stage = stage; asking = Asking.Unasked } }
         ensures taken { result ≡ taken_in is_reading kind self.old.key.work.swap.read.at }
@@ -270,6 +274,7 @@ impl Programs {
     }
 
     /// Takes a step of a snapshot, a freeze or a clear.
+    #[inline(never)]
     fn swap_root(
         &mut self,
         call: SnapCall,

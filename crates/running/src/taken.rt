@@ -1,23 +1,31 @@
 //! What a step of an operation was.
 
-ghost use Rattle.std.specs.Prelude.{◌≡◌, false};
-ghost use Rattle.running.specs.Beneath.gcas.specs.Reads.{given_so};
-ghost use Rattle.running.specs.Steps.{taken_so, taken_in, if_reading, given_if, committed_if, counts_if};
+ghost use Rattle.std.specs.Prelude.{◌≡◌, false, None};
+ghost use Rattle.running.specs.Steps.{taken_so, taken_in};
+ghost use Rattle.running.specs.Taking.{given_if, committed_if, counts_if};
 
 use ctrie_base::Kind;
 use slot_arena::Ref;
 use snapshot::ReadAt;
+use std::marker::Model;
 
-/// A step that was taken.
-#[derive(Clone, Copy)]
+/// A step that was taken. It keeps what all that is told follows from, in few words: so it costs little to hand it up.
+#[derive(Drop)]
 pub struct Taken {
-    pub kind: Kind,
-    /// The main node that it committed, if it did.
-    pub committed: Option<Ref>,
-    /// The main node that the operation's READ gave by it, if it did.
-    pub given: Option<Ref>,
-    /// Whether the operation's READ counts from it on.
-    pub counts: bool,
+    kind: Kind,
+    /// Whether the step was one of the operation's READ.
+    is_reading: bool,
+    /// Whether behind it that READ has given a main node, and which.
+    has_given: bool,
+    main: Ref,
+}
+
+impl Model for Taken {
+    ghost use Rattle.running.specs.Taking.{Taken as Told, main_if, taken_by};
+
+    ghost Value = { Told };
+
+    ghost view = { λ t. taken_by t.is_reading t.kind (main_if t.has_given t.main) };
 }
 
 impl Taken {
@@ -25,46 +33,76 @@ impl Taken {
     pub(crate) fn by_read(kind: Kind, at: &ReadAt) -> Taken
         ensures { result ≡ taken_so kind at.now }
     {
-        Taken {
-            kind,
-            committed: committed_if(kind, given_at(at)),
-            given: given_if(kind, given_at(at)),
-            counts: counts_if(kind),
-        }
+        Taken::by_key(true, kind, at)
     }
 
     /// A step of this kind of a call on one key, which was in a READ or not, and behind which its READ stands here.
     pub(crate) fn by_key(is_reading: bool, kind: Kind, at: &ReadAt) -> Taken
         ensures { result ≡ taken_in is_reading kind at.now }
     {
-        Taken {
-            kind,
-            committed: committed_if(kind, given_at(at)),
-            given: if_reading(is_reading, given_if(kind, given_at(at))),
-            counts: is_reading && counts_if(kind),
+        match at {
+            ReadAt::Given { main } => Taken {
+                kind,
+                is_reading,
+                has_given: true,
+                main: *main,
+            },
+            _ => Taken {
+                kind,
+                is_reading,
+                has_given: false,
+                main: Ref::default(),
+            },
         }
     }
 
     /// A step of this kind of no READ.
+    #[tactic(auto, using(crate::proofs::Untaken::commits_none))]
     pub(crate) fn of_kind(kind: Kind) -> Taken
         ensures { result ≡ record { kind = kind; committed = None; given = None; counts = false } }
     {
         Taken {
             kind,
-            committed: None,
-            given: None,
-            counts: false,
+            is_reading: false,
+            has_given: false,
+            main: Ref::default(),
         }
     }
-}
 
-/// What a READ that stands here has given, if it has.
-fn given_at(at: &ReadAt) -> Option<Ref>
-    ensures { result ≡ given_so at.now }
-{
-    match at {
-        ReadAt::Given { main } => Some(*main),
-        _ => None,
+    /// Its kind.
+    pub fn kind(&self) -> Kind
+        ensures { result ≡ self.now.kind }
+    {
+        self.kind
+    }
+
+    /// The main node that it committed, if it did.
+    #[tactic(auto, using(crate::proofs::Untaken::commits_none))]
+    pub fn committed(&self) -> Option<Ref>
+        ensures { result ≡ self.now.committed }
+    {
+        if self.has_given {
+            return committed_if(self.kind, Some(self.main));
+        }
+        None
+    }
+
+    /// The main node that the operation's READ gave by it, if it did.
+    #[tactic(auto, using(crate::proofs::Untaken::gives_none))]
+    pub fn given(&self) -> Option<Ref>
+        ensures { result ≡ self.now.given }
+    {
+        if self.is_reading && self.has_given {
+            return given_if(self.kind, Some(self.main));
+        }
+        None
+    }
+
+    /// Whether the operation's READ counts from it on.
+    pub fn counts(&self) -> bool
+        ensures { result ≡ self.now.counts }
+    {
+        self.is_reading && counts_if(self.kind)
     }
 }
 
@@ -96,14 +134,4 @@ fn counts_if(kind: Kind) -> bool
         Kind::ReadMain | Kind::SwapMain => true,
         _ => false,
     }
-}
-
-/// What a READ gives, if the step is one of a READ.
-fn if_reading(is_reading: bool, given: Option<Ref>) -> Option<Ref>
-    ensures { result ≡ if_reading is_reading given }
-{
-    if is_reading {
-        return given;
-    }
-    None
 }

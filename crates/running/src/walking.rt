@@ -14,6 +14,7 @@ use snapshot::{Asking, Next, Roots, Walked};
 
 impl Programs {
     /// Takes a step of a walk for all pairs.
+    #[inline(never)]
     pub(crate) fn list(
         &mut self,
         told: Option<u64>,
@@ -44,6 +45,7 @@ impl Programs {
     }
 
     /// Takes a step of a walk for their number.
+    #[inline(never)]
     pub(crate) fn count_up(
         &mut self,
         told: Option<u64>,

@@ -88,6 +88,7 @@ impl Machine {
     /// says what it does to the content of each open handle. An operation on one key, a snapshot, a freeze, a
     /// clear or a close ends within 3,962 steps of its actor alone, while so many are left (`ends`); each one
     /// that is taken leaves one less (`nearer`). What `ticks` counts grows by at most one.
+    #[inline(always)]
     pub fn apply(&mut self, step: Step) -> Result<Outcome, Refusal>
         ensures applied { Applied result self.old step self.new }
         ensures want { (actor id : ℕ) → step ≡ Step.Go actor → result ≡ Ok (Outcome.Ended id NoSlots) → FoundNoSlot self.old actor id }
@@ -115,6 +116,7 @@ impl Machine {
 
     /// The same, without what the laws say of it.
     #[tactic(auto, using(crate::proofs::Steps::kept_limits, crate::proofs::Steps::next_run, crate::proofs::Steps::holds_after, crate::proofs::Denials::wanting_applied, crate::proofs::Denials::refused_applied))]
+    #[inline(always)]
     fn take_step(&mut self, step: Step) -> Result<Outcome, Refusal>
         ensures { Applied result self.old step self.new }
     {

@@ -1,4 +1,4 @@
-use Rattle.std.proofs.Common.{refl, sym, subst, ◌<◌}
+use Rattle.std.proofs.Common.{sym, subst, ◌<◌}
 use Rattle.machine_core.specs.declared.parts.Parts.{Parts}
 use Rattle.machine_core.proofs.Underway.{at_work, tells_none}
 use Rattle.machine_core.proofs.Whole.{midway_roomed, roomed_before, whole_step}
@@ -22,11 +22,11 @@ returns-clause-ok c =
     let m = midway_roomed c.args.parts.now c.room_for.new.self c.args.actor u c.fresh_of-fresh.result c.in_ok-taken.taken c.step.new.parts
     c.room_for.ensures.closings c.room_for.ensures.places c.room_for.ensures.generations c.requires.run c.requires.kept c.requires.allowed runs none
     (c.in_ok-taken.ensures.steps u runs) c.fresh_of-fresh.ensures in
-    whole_step c.args.parts.now c.args.actor u c.fresh_of-fresh.result c.in_ok-taken.taken c.step.new.parts c.note.new.parts m c.in_ok-taken.taken.kind
+    whole_step c.args.parts.now c.args.actor u c.fresh_of-fresh.result c.in_ok-taken.taken c.step.new.parts c.note.new.parts m c.kind.result
     (roomed_before c.args.parts.now c.room_for.new.self c.args.actor u c.fresh_of-fresh.result c.in_ok-taken.taken c.step.new.parts
     c.room_for.ensures.closings c.room_for.ensures.places c.room_for.ensures.generations c.requires.run c.requires.kept c.requires.allowed runs none
     (c.in_ok-taken.ensures.steps u runs) c.fresh_of-fresh.ensures)
-    refl (c.note.ensures.gone u m) runs none
+    c.kind.ensures (c.note.ensures.gone u m) runs none
 
 pub note-requires-clause-to_draw : goal.note-requires-clause-to_draw
 note-requires-clause-to_draw c =

@@ -6,4 +6,4 @@ use Rattle.chronicle.proofs.chronicle.Chronicle.close.Goals as goal
 pub close-requires-2-clause-later : goal.close-requires-2-clause-later
 close-requires-2-clause-later c =
     let later = subst (λ (v : Told). All (λ closing. closing.step < c.args.step) v.closings) (sym c.self.view_is) c.requires.later in
-    steps_later c.self.inside.closings.closings c.self.inside.ordered.closings c.args.step c.self.invariant later
+    steps_later c.self.inside.closings.closings c.self.inside.ordered.closings c.args.step c.self.invariant.0 later

@@ -12,8 +12,8 @@ use Rattle.running.specs.declared.job.Job.{Job}
 use Rattle.running.specs.declared.job.Program.TheVariants.{Key}
 use Rattle.running.specs.declared.programs.Programs.{Programs}
 use Rattle.running.specs.declared.programs.Stage.TheVariants.{Runs, Answered}
-use Rattle.running.specs.declared.taken.Taken.{Taken}
 use Rattle.running.specs.Steps.{Does, Scene, scene}
+use Rattle.running.specs.Taking.{Taken}
 use Rattle.running.proofs.Going.{keys, with_word}
 use Rattle.running.proofs.programs.Programs.change_key.Goals as goal
 
