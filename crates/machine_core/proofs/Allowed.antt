@@ -116,14 +116,16 @@ replaces_all (Ok taken) actors i was is found P does = λ other u at runs.
 replaces_all (Err refusal) actors i was is found P does = tt
 
 -- where nothing has changed all is kept
-pub unchanged : (before after : Parts) → after.limits ≡ before.limits → after.journal ≡ before.journal → after.begun ≡ before.begun → after.commits ≡ before.commits →
+pub unchanged : (before after : Parts) → after.limits ≡ before.limits → after.handles ≡ before.handles → after.journal ≡ before.journal →
+    after.begun ≡ before.begun → after.commits ≡ before.commits →
     (after.actors.items ≡ before.actors.items) × (after.table ≡ before.table) × (after.generations ≡ before.generations) × (after.heap ≡ before.heap) → IsKept before → IsKept after
-unchanged before after limits journal begun_are commits same kept =
+unchanged before after limits handles journal begun_are commits same kept =
     kept_alike before after
     (record {
       limits = limits;
       table = same.1;
       actors = same.0;
+      handles = handles;
       outside = λ r. ap (λ (m : Memory). times r m.outside) same.3;
       pins = ap (λ (m : Memory). m.pins) same.3;
       stood = λ main slot e. subst (λ (m : Memory). standing m.heap main ≡ Some slot) same.3 e;

@@ -5,6 +5,7 @@ use Rattle.std.proofs.Common.{Global, Vec}
 use Rattle.std.proofs.lemmas.List.{get_or-set_other, length-set}
 use Rattle.std.proofs.lemmas.Option.{none-some, same_Some}
 use Rattle.ctrie_base.specs.declared.hashes.HashKind.{HashKind}
+use Rattle.handle_table.specs.Numbers.{Numbers}
 use Rattle.history.specs.declared.calls.Access.{Access}
 use Rattle.history.specs.declared.calls.Access.TheVariants.{Writable}
 use Rattle.history.specs.declared.calls.Call.{Call}
@@ -35,6 +36,7 @@ use Rattle.machine_core.specs.declared.parts.UnderWay.{UnderWay}
 use Rattle.machine_core.specs.Beginnings.{Begins}
 use Rattle.machine_core.specs.Bounds.{IsOfRun, Leads}
 use Rattle.machine_core.specs.Keeping.{AreSeated, IsKept, IsSeated, Replaces}
+use Rattle.machine_core.specs.Numbering.{KnowsNumbers, begun_on}
 use Rattle.machine_core.specs.Seen.{actors_seen, operation_at, operation_seen, seen}
 use Rattle.machine_core.specs.Ties.{IsTied, StandsAt}
 use Rattle.machine_core.proofs.Bounded.{begun_push}
@@ -43,6 +45,7 @@ use Rattle.machine_core.proofs.Kept.{replaced_seated, replaced_seen}
 use Rattle.machine_core.proofs.Knows.{IsInNoSwap, first_no_swap, offer_given, offerers_over, owners_over, runs_set}
 use Rattle.machine_core.proofs.Mapped.{found_mapped}
 use Rattle.machine_core.proofs.Marking.{remarked}
+use Rattle.machine_core.proofs.Reserved.{known_begun}
 use Rattle.machine_core.proofs.Steps.{begin_leads}
 use Rattle.machine_core.proofs.Tied.{begun_tied}
 
@@ -82,7 +85,15 @@ pub record BeginsAt (before middle after : Parts) (actor : ℕ) (call : Call) (u
   pub seated : Replaces before.actors.items (actor - 1) (Begins u (unwrap_or (access_of (root_at (seen before) (handle_of call))) Writable)) after.actors.items
   pub heap : after.heap ≡ record middle.heap { pins = set middle.heap.pins (actor - 1) (Some middle.heap.epoch) }
   pub table : after.table ≡ record middle.table { marks = set middle.table.marks actor false }
-  pub rest : after ≡ record middle { heap = after.heap; table = after.table; actors = after.actors; journal = record middle.journal { events = after.journal.events }; begun = before.begun + 1 }
+  pub rest : after ≡ record middle {
+    heap = after.heap;
+    table = after.table;
+    actors = after.actors;
+    handles = after.handles;
+    journal = record middle.journal { events = after.journal.events };
+    begun = before.begun + 1;
+  }
+  pub numbers : after.handles ≡ begun_on before.handles call u.job.opens
   pub events : after.journal.events.items ≡ before.journal.events.items ++ Begin u.job.id actor call u.job.opens ∷ []
 
 module _ (before middle after : Parts) (actor : ℕ) (call : Call) (u : UnderWay) (a : BeginsAt before middle after actor call u) (h : IsKept before) (run : IsOfRun (seen before))
@@ -207,6 +218,9 @@ module _ (before middle after : Parts) (actor : ℕ) (call : Call) (u : UnderWay
         owners = owners_over before.heap after.heap (seen before) (seen after) (ap (λ (m : Memory). m.owners) a.heap ∙ kept.remarks.0)
             (λ main slot e. subst (λ (x : Heap). standing x main ≡ Some slot) (ap (λ (m : Memory). m.heap) a.heap ∙ kept.heap) e)
             (λ other o found. elim (runs other o found) [ inl ran ↦ inl ran | inr put ↦ inr (no_swap o (same_Some operation o put)) ]) h.owners;
+        numbers = subst (KnowsNumbers after.handles) (sym seen_begun)
+            (subst (λ (n : Numbers). KnowsNumbers n (with_begin (seen before) actor call operation)) (sym (a.numbers ∙ ap (λ j. begun_on before.handles call j.opens) a.new.job))
+            (known_begun before.handles (seen before) actor call run allowed h.numbers));
         generations = ap (λ (p : Parts). p.journal.chronicle.generations) a.rest ∙ a.middle_drawn ∙ h.generations
             ∙ sym (ap (λ (p : Parts). p.generations) a.rest ∙ ap (λ (p : Parts). p.generations) a.same);
         begun_are = ap (λ (p : Parts). p.begun) a.rest ∙ (let more : before.begun + 1 ≡ begun after.journal.events.items =

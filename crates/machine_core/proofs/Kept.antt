@@ -3,6 +3,7 @@ use Rattle.std.proofs.Common.{◌≡◌, ◌≢◌, length, ℕ, zero, suc, ◌-
 use Rattle.std.specs.Prelude.{false, is_some, option_and_then, option_map, slice_get}
 use Rattle.std.proofs.lemmas.Option.{none-some, slice_get-get_or}
 use Rattle.ctrie_base.specs.declared.hashes.HashKind.{HashKind}
+use Rattle.handle_table.specs.Numbers.{Numbers}
 use Rattle.history.specs.Histories.{begun}
 use Rattle.history.proofs.Places.{at_set_cases}
 use Rattle.slot_arena.specs.declared.refs.Ref.{Ref}
@@ -21,10 +22,12 @@ use Rattle.machine_core.specs.declared.parts.Journal.{Journal}
 use Rattle.machine_core.specs.declared.parts.Parts.{Parts}
 use Rattle.machine_core.specs.declared.parts.UnderWay.{UnderWay}
 use Rattle.machine_core.specs.Keeping.{AreSeated, IsKept, IsNoted, IsSeated, Replaces}
+use Rattle.machine_core.specs.Numbering.{KnowsNumbers}
 use Rattle.machine_core.specs.Seen.{actor_of, actors_seen, operation_at, operation_seen, seen, under_way_of}
 use Rattle.machine_core.specs.Ties.{private_refs}
 use Rattle.machine_core.proofs.Knows.{offerers_over, owners_over, runs_same}
 use Rattle.machine_core.proofs.Mapped.{found_mapped, map_replaced}
+use Rattle.machine_core.proofs.Numbering.{known_same}
 
 -- ---- the heap alone changed
 
@@ -33,6 +36,7 @@ pub record Alike (before after : Parts) : Type 0 where
   pub limits : after.limits ≡ before.limits
   pub table : after.table ≡ before.table
   pub actors : after.actors.items ≡ before.actors.items
+  pub handles : after.handles ≡ before.handles
   pub outside : (r : Ref) → times r after.heap.outside ≡ times r before.heap.outside
   pub pins : after.heap.pins ≡ before.heap.pins
   pub stood : (main : Ref) (slot : Slot) → standing after.heap.heap main ≡ Some slot → standing before.heap.heap main ≡ Some slot
@@ -62,6 +66,7 @@ kept_alike before after a h =
           (λ handle offer stands actor operation found is. sym (runs_same (seen before) (seen after) actors actor) ∙ found) h.offerers;
       owners = owners_over before.heap after.heap (seen before) (seen after) a.owners a.stood
           (λ actor operation found. inl (sym (runs_same (seen before) (seen after) actors actor) ∙ found)) h.owners;
+      numbers = subst (λ (n : Numbers). KnowsNumbers n (seen after)) (sym a.handles) (known_same before.handles (seen before) (seen after) roots actors h.numbers);
       generations = a.drawn ∙ h.generations ∙ sym a.generations;
       begun_are = a.begun_are ∙ h.begun_are ∙ ap begun (sym a.events);
       slots = omega (arith, h.slots, a.slots, ap (λ l. l.slots) a.limits);
@@ -74,6 +79,7 @@ kept_journal before journal drawn events = kept_alike before (record before { jo
   limits = refl;
   table = refl;
   actors = refl;
+  handles = refl;
   outside = λ r. refl;
   pins = refl;
   stood = λ main slot e. e;

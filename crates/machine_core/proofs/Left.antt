@@ -3,6 +3,7 @@ use Rattle.std.proofs.Common.{◌≡◌, ℕ, ◌+◌, ◌-◌, ◌<◌, ◌≤�
 use Rattle.std.specs.Prelude.{MatchOption, option_map, slice_get}
 use Rattle.std.proofs.lemmas.Option.{none-some, same_Some}
 use Rattle.ctrie_base.specs.declared.hashes.HashKind.{HashKind}
+use Rattle.handle_table.specs.Numbers.{Numbers}
 use Rattle.history.specs.declared.events.Event.TheVariants.{End}
 use Rattle.history.specs.declared.replies.Reply.{Reply}
 use Rattle.history.specs.Histories.{begun}
@@ -15,6 +16,7 @@ use Rattle.machine_model.specs.declared.operations.Operation.{Operation}
 use Rattle.machine_model.specs.declared.roots.RootWord.TheVariants.{Offer}
 use Rattle.machine_model.specs.Acting.{ended, entered_at_end}
 use Rattle.machine_model.specs.Grown.{standing}
+use Rattle.machine_model.specs.Machine.{reserved_by}
 use Rattle.machine_model.specs.States.{operation_of}
 use Rattle.machine_core.specs.Beneath.rdcss_root.specs.Tables.{Table, word_in}
 use Rattle.machine_core.specs.declared.parts.Actor.{Actor}
@@ -23,11 +25,14 @@ use Rattle.machine_core.specs.declared.parts.UnderWay.{UnderWay}
 use Rattle.machine_core.specs.Beginnings.{Leaves}
 use Rattle.machine_core.specs.Bounds.{IsOfRun}
 use Rattle.machine_core.specs.Keeping.{AreSeated, IsKept, IsNoted, IsSeated, Replaces}
+use Rattle.machine_core.specs.Numbering.{KnowsNumbers, ended_on}
 use Rattle.machine_core.specs.Seen.{actors_seen, operation_at, seen, under_way_of}
 use Rattle.machine_core.specs.Ties.{IsTied}
 use Rattle.machine_core.proofs.Bounded.{begun_push}
 use Rattle.machine_core.proofs.Kept.{seat_of, operation_there, replaced_seated, replaced_seen}
 use Rattle.machine_core.proofs.Knows.{ids, offerers_over, owners_over, runs_set}
+use Rattle.machine_core.proofs.Named.{handle_named}
+use Rattle.machine_core.proofs.Reserved.{known_ended}
 use Rattle.machine_core.proofs.Tied.{ended_tied, operation_stands, private_held}
 
 -- what the operation made is held
@@ -74,6 +79,7 @@ pub record EndsAt (before after : Parts) (actor : ℕ) (u : UnderWay) (answer : 
   pub closings : after.journal.chronicle.closings ≡ before.journal.chronicle.closings
   pub places : (operation : Operation) → operation_of (seen before) actor ≡ Some operation →
       after.journal.chronicle.places ≡ before.journal.chronicle.places ++ entered_at_end (seen before) operation answer
+  pub numbers : after.handles ≡ ended_on before.handles u.job.handle (reserved_by (Some (operation_at before.table left.was.programs u)))
   pub drawn : after.journal.chronicle.generations ≡ before.journal.chronicle.generations
   pub events : after.journal.events.items ≡ before.journal.events.items ++ End u.job.id answer ∷ []
   pub steps : after.steps ≡ before.steps
@@ -103,8 +109,8 @@ module _ (before after : Parts) (actor : ℕ) (u : UnderWay) (answer : Reply) (a
   }
 
   -- and all is kept
-  pub kept_ended : under_way_of before actor ≡ Some u → IsKept before → IsKept after
-  kept_ended e h =
+  pub kept_ended : under_way_of before actor ≡ Some u → IsOfRun (seen before) → IsKept before → IsKept after
+  kept_ended e run h =
       let seat = seat_of before actor u e in
       let operation : Operation = operation_at before.table seat.found.programs u in
       let at = operation_stands (seen before) actor operation (operation_there before actor u seat) in
@@ -124,6 +130,11 @@ module _ (before after : Parts) (actor : ℕ) (u : UnderWay) (answer : Reply) (a
             (λ handle offer stands. subst (λ (t : Table). word_in t handle ≡ Offer offer) a.table stands) (λ handle offer stands other o found is. runs other o found) h.offerers;
         owners = owners_over before.heap after.heap (seen before) (seen after) a.owners (λ main slot e. subst (λ (x : Heap). standing x main ≡ Some slot) a.heap e)
             (λ other o found. inl (runs other o found)) h.owners;
+        numbers = subst (KnowsNumbers after.handles) (sym (seen_ended e operation (operation_there before actor u seat)))
+            (subst (λ (n : Numbers). KnowsNumbers n (ended (seen before) actor operation answer))
+            (sym (a.numbers ∙ ap (λ (x : Actor). ended_on before.handles u.job.handle (reserved_by (Some (operation_at before.table x.programs u)))) same
+            ∙ ap (λ n. ended_on before.handles n (reserved_by (Some operation))) (sym (handle_named u.job.handle u.program))))
+            (known_ended before.handles (seen before) actor operation answer run at h.numbers));
         generations = a.drawn ∙ h.generations ∙ sym a.generations;
         begun_are = a.begun_are ∙ h.begun_are ∙ (let more : begun before.journal.events.items ≡ begun after.journal.events.items =
             omega (arith, begun_push before.journal.events.items (End u.job.id answer), ap begun a.events) in more);

@@ -13,6 +13,8 @@ pub mod Ends
 pub mod Crossing
 pub mod Starts
 pub mod Numbers
+pub mod Numbering
+pub mod Reserved
 pub mod Gathering
 pub mod Levels
 pub mod Named

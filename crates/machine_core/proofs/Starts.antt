@@ -7,6 +7,7 @@ use Rattle.std.proofs.lemmas.List.Concat.{flat_map-cons}
 use Rattle.std.proofs.lemmas.List.Elements.{All-cons, All-get_or, All-head, All-nil, All-push, All-tail}
 use Rattle.std.proofs.lemmas.Option.{get_or_from_slice_get, none-some, slice_get_within}
 use Rattle.ctrie_base.specs.declared.hashes.HashKind.{HashKind}
+use Rattle.handle_table.specs.Numbers.{Numbers, no_numbers, with_taken}
 use Rattle.history.specs.declared.calls.Access.TheVariants.{Writable}
 use Rattle.history.specs.Histories.{begun}
 use Rattle.slot_arena.specs.declared.refs.Ref.{Ref}
@@ -31,9 +32,11 @@ use Rattle.machine_core.specs.Beneath.rdcss_root.specs.Tables.{Table, new_table,
 use Rattle.machine_core.specs.declared.parts.Actor.{Actor}
 use Rattle.machine_core.specs.declared.parts.Parts.{Parts}
 use Rattle.machine_core.specs.Keeping.{AreSeated, IsKept}
+use Rattle.machine_core.specs.Numbering.{KnowsNumbers}
 use Rattle.machine_core.specs.Seen.{actors_seen, operation_at, seen}
 use Rattle.machine_core.specs.Starting.{AreIdle, IsIdle}
 use Rattle.machine_core.specs.Ties.{private_refs}
+use Rattle.machine_core.proofs.Reserved.{known_first}
 
 -- ---- the first two references
 
@@ -180,6 +183,7 @@ pub record AreFirst (limits : Limits) (parts : Parts) : Type 0 where
   pub generations : parts.generations ≡ 1
   pub table : parts.table ≡ with_root_in (new_table limits.actors) 0 first_root
   pub actors : AreIdle limits.hash limits.actors parts.actors.items
+  pub handles : parts.handles ≡ with_taken no_numbers 0 true
   pub commits : parts.commits.commits ≡ []
   pub closings : parts.journal.chronicle.closings ≡ []
   pub places : parts.journal.chronicle.places ≡ []
@@ -220,6 +224,8 @@ kept_first limits parts h =
       };
       offerers = λ handle offer stands actor operation found same. absurd (nobody_runs (seen parts) limits.actors actor operation none found);
       owners = λ main replaced used pending actor operation at before l found swaps. absurd (nobody_runs (seen parts) limits.actors actor operation none found);
+      numbers = subst (λ (n : Numbers). KnowsNumbers n (seen parts)) (sym h.handles)
+          (subst (KnowsNumbers (with_taken no_numbers 0 true)) (sym (seen_first limits parts h)) (known_first limits));
       generations = h.drawn ∙ sym h.generations;
       begun_are = h.begun_are ∙ sym (ap begun h.events);
       slots = omega (arith, h.slots, ap (λ (x : Limits). x.slots) h.limits_are);

@@ -18,6 +18,7 @@ use Rattle.machine_model.specs.declared.lines.Line.TheVariants as line
 use Rattle.machine_model.specs.declared.operations.Operation.{Operation}
 use Rattle.machine_model.specs.declared.steps.Outcome.TheVariants as outcome
 use Rattle.machine_model.specs.Machine.{go_denial, went}
+use Rattle.machine_model.specs.Moves.{GoesOn}
 use Rattle.machine_model.specs.Operations.{action_of, kind_of, line_action}
 use Rattle.machine_model.specs.Acting.{gone}
 use Rattle.machine_model.specs.States.{State, operation_of}
@@ -155,6 +156,15 @@ pub went_on : (state : State) (actor : ℕ) (operation : Operation) → answer_o
 went_on state actor operation none =
     went_by state actor operation (action_of state operation) (λ answer e. none-some answer (sym none ∙ ap answer_of (only_end state operation operation.line answer e)))
 
+goes_unless : (action : Action) → ((answer : Reply) → action ≡ act.End answer → ⊥) → GoesOn action
+goes_unless (act.End answer) other = other answer refl
+goes_unless action other = tt
+
+-- an operation whose line tells no reply goes on
+pub no_end : (state : State) (operation : Operation) → answer_of operation.line ≡ None → GoesOn (action_of state operation)
+no_end state operation none =
+    goes_unless (action_of state operation) (λ answer e. none-some answer (sym none ∙ ap answer_of (only_end state operation operation.line answer e)))
+
 pub ends_so : (state : State) (operation : Operation) (l : Line) (answer : Reply) → answer_of l ≡ Some answer → line_action state operation l ≡ act.End answer
 ends_so state operation (line.End own) answer e = ap act.End (same_Some own answer e)
 ends_so state operation l answer e = absurd (grind (arith, e))
@@ -179,6 +189,7 @@ midway_roomed old chronicle actor u fresh taken after closings places generation
         limits = refl;
         table = refl;
         actors = refl;
+        handles = refl;
         outside = λ r. refl;
         pins = refl;
         stood = λ main slot e. e;

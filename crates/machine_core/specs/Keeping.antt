@@ -19,6 +19,7 @@ use Rattle.proof_records.specs.Beneath.proof_memory.specs.Laws.{IsInUse}
 use Rattle.machine_core.specs.declared.parts.Actor.{Actor}
 use Rattle.machine_core.specs.declared.parts.Parts.{Parts}
 use Rattle.machine_core.specs.declared.parts.UnderWay.{UnderWay}
+use Rattle.machine_core.specs.Numbering.{KnowsNumbers}
 use Rattle.machine_core.specs.Seen.{seen}
 use Rattle.machine_core.specs.Ties.{IsTied}
 
@@ -73,6 +74,7 @@ pub record IsKept (parts : Parts) : Type 0 where
   pub noted : IsNoted parts.table parts.limits.actors
   pub offerers : KnowsOfferers parts.table (seen parts)
   pub owners : KnowsOwners parts.heap (seen parts)
+  pub numbers : KnowsNumbers parts.handles (seen parts)
   pub generations : parts.journal.chronicle.generations ≡ parts.generations
   pub begun_are : parts.begun ≡ begun parts.journal.events.items
   -- the commit of each node can be noted

@@ -4,6 +4,7 @@ pub mod Bounds
 pub mod Finding
 pub mod Going
 pub mod Keeping
+pub mod Numbering
 pub mod Seen
 pub mod Starting
 pub mod Ties

@@ -1,8 +1,8 @@
-//! Actors, and on which handles their operations run.
+//! Actors, and what they run.
 
 ghost use Rattle.std.specs.Prelude.{◌≡◌, is_some, option_map, Some};
 ghost use Rattle.std.specs.List.{list_any};
-ghost use Rattle.machine_model.specs.Machine.{is_actor, is_busy, names, next_kind, runs_on};
+ghost use Rattle.machine_model.specs.Machine.{is_actor, is_busy, next_kind};
 ghost use Rattle.machine_model.specs.Operations.{action_of, kind_of};
 ghost use Rattle.machine_model.specs.States.{State};
 ghost use Rattle.machine_core.specs.Beneath.rdcss_root.specs.Tables.{Table};
@@ -65,30 +65,5 @@ fn runs(_table: &Roots, actor: &Actor) -> bool
     match actor.under_way {
         None => false,
         Some(_) => true,
-    }
-}
-
-/// Whether an operation runs whose call names this handle.
-pub fn runs_on(parts: &Parts, handle: u16) -> bool
-    ensures { result ≡ runs_on (seen parts.now) handle }
-{
-    runs_on_among(&parts.table, handle, parts.actors.as_slice())
-}
-
-/// Whether one of these actors runs an operation whose call names this handle.
-fn runs_on_among(table: &Roots, handle: u16, actors: &[Actor]) -> bool
-    ensures { result ≡ list_any (λ actor. names handle (operation_seen table.now actor)) actors.now }
-{
-    actors.iter().any(|actor| names(table, handle, actor))
-}
-
-/// Whether the actor runs an operation whose call names this handle.
-#[tactic(auto, using(crate::proofs::Named::handle_named))]
-fn names(_table: &Roots, handle: u16, actor: &Actor) -> bool
-    ensures { result ≡ names handle (operation_seen _table.now actor.now) }
-{
-    match actor.under_way {
-        None => false,
-        Some(under_way) => under_way.job.handle == handle,
     }
 }

@@ -12,11 +12,12 @@ ghost use Rattle.running.specs.Places.{call_for};
 ghost use Rattle.machine_core.specs.Beginnings.{Begins};
 ghost use Rattle.machine_core.specs.Bounds.{IsOfRun};
 ghost use Rattle.machine_core.specs.Keeping.{IsKept, Replaces};
+ghost use Rattle.machine_core.specs.Numbering.{KnowsNumbers};
 ghost use Rattle.machine_core.specs.Seen.{seen};
 ghost use Rattle.machine_core.specs.Work.{NotesUpTo};
 
 use crate::calls::{is_close, opens_handle, program_of};
-use crate::handles::least_free;
+use crate::handles::{least_free, note_begin};
 use crate::parts::{Actor, Parts, UnderWay};
 use crate::placing::on_time;
 use history::{Access, Call, Event};
@@ -31,6 +32,7 @@ fn access_for(parts: &Parts, call: Call) -> Access
 
 /// The handle that a call opens, if it opens one.
 fn handle_to_open(parts: &Parts, call: Call) -> Option<u16>
+    requires { KnowsNumbers parts.now.handles (seen parts.now) }
     ensures { result ≡ (if opens_handle call then Some (least_free (seen parts.now)) else None) }
 {
     if opens_handle(call) {
@@ -42,6 +44,7 @@ fn handle_to_open(parts: &Parts, call: Call) -> Option<u16>
 
 /// What is under way when the actor begins this call now.
 fn new_under_way(parts: &Parts, actor: u8, call: Call) -> UnderWay
+    requires { KnowsNumbers parts.now.handles (seen parts.now) }
     ensures job { result.job ≡ record { id = parts.now.begun; actor = actor; handle = handle_of call; opens = if opens_handle call then Some (least_free (seen parts.now)) else None } }
     ensures call { call_for (handle_of call) result.program ≡ call }
     ensures epoch { result.epoch ≡ parts.now.heap.epoch }
@@ -123,5 +126,6 @@ pub fn begin_operation(parts: &mut Parts, actor: u8, call: Call)
     parts.heap.pin(actor);
     parts.table.unmark(actor);
     seat(&mut parts.actors, actor as usize - 1, under_way, access);
+    note_begin(&mut parts.handles, call, under_way.job.opens);
     parts.begun += 1;
 }

@@ -3,13 +3,15 @@
 ghost use Rattle.std.specs.Prelude.{◌≡◌};
 ghost use Rattle.machine_model.specs.Machine.{is_spent, is_access, begin_denial, go_denial, denial_of};
 ghost use Rattle.machine_model.specs.declared.steps.Step.TheVariants as steps;
+ghost use Rattle.machine_core.specs.Numbering.{KnowsNumbers};
 ghost use Rattle.machine_core.specs.Seen.{seen};
 
-use crate::actors::{is_actor, runs_on};
+use crate::actors::is_actor;
 use crate::calls::{is_close, needs_read_only, needs_writable, opens_handle};
-use crate::handles::{HANDLE_LIMIT, handles_taken};
+use crate::handles::{handles_taken, runs_on};
 use crate::parts::Parts;
 use ctrie_base::Refusal;
+use handle_table::HANDLE_LIMIT;
 use history::{Access, Call};
 use machine_model::Step;
 
@@ -37,6 +39,7 @@ pub fn is_access(access: Access, found: Option<Access>) -> bool
 
 /// Why a begin is denied, if it is.
 pub fn begin_denial(parts: &Parts, actor: u8, call: Call) -> Option<Refusal>
+    requires { KnowsNumbers parts.now.handles (seen parts.now) }
     ensures { result ≡ begin_denial (seen parts.now) actor call }
 {
     let handle = call.handle();
@@ -79,6 +82,7 @@ pub fn go_denial(parts: &Parts, actor: u8) -> Option<Refusal>
 
 /// Why the step is denied, if it is.
 pub fn denial_of(parts: &Parts, step: Step) -> Option<Refusal>
+    requires { KnowsNumbers parts.now.handles (seen parts.now) }
     ensures { result ≡ denial_of (seen parts.now) step }
 {
     match step {

@@ -15,6 +15,7 @@ ghost use Rattle.machine_core.specs.Keeping.{IsKept, Replaces};
 ghost use Rattle.machine_core.specs.Seen.{operation_at, seen, under_way_of};
 ghost use Rattle.machine_core.specs.Work.{ActsLittle};
 
+use crate::handles::{note_end, reserved_by};
 use crate::parts::{Actor, Parts, UnderWay};
 use crate::placing::place_of;
 use crate::room::make_room;
@@ -101,6 +102,8 @@ pub fn finish(parts: &mut Parts, actor: u8, under_way: UnderWay, reply: Reply, p
     ensures kept { IsKept parts.new }
     ensures work { ActsLittle parts.old actor parts.new }
 {
+    let reserved = reserved_by(&parts.table, under_way);
+    note_end(&mut parts.handles, under_way.job.handle, reserved);
     vacate(&mut parts.actors, actor as usize - 1, &mut parts.heap);
     parts.heap.unpin(actor);
     parts.journal.events.push_reserved(Event::End {

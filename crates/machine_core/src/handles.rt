@@ -1,86 +1,74 @@
-//! Which handle numbers are taken.
+//! Which handle numbers are taken, and on which operations run. Both are kept, where the definition looks for them.
 
-ghost use Rattle.std.specs.Prelude.{◌≡◌};
-ghost use Rattle.std.specs.List.{list_any};
-ghost use Rattle.machine_model.specs.Machine.{reserved_by, is_number, is_taken, handles_taken, least_free};
-ghost use Rattle.machine_core.specs.Seen.{operation_seen, seen};
+ghost use Rattle.std.specs.Prelude.{◌≡◌, ◌<◌, Some};
+ghost use Rattle.handle_table.specs.Numbers.{running_on};
+ghost use Rattle.machine_model.specs.Calls.{handle_of};
+ghost use Rattle.machine_model.specs.Machine.{reserved_by, handles_taken, least_free, runs_on};
+ghost use Rattle.running.specs.declared.programs.Programs.{Programs};
+ghost use Rattle.machine_core.specs.Numbering.{KnowsNumbers, begun_on, ended_on};
+ghost use Rattle.machine_core.specs.Seen.{operation_at, seen};
 
-use crate::parts::{Actor, Parts};
+use crate::calls::is_close;
+use crate::parts::{Parts, UnderWay};
+use handle_table::Handles;
+use history::Call;
 use running::Roots;
 
-/// How many handles can be open or reserved.
-pub const HANDLE_LIMIT: u16 = 256;
-
-/// The handle that an actor's operation has reserved: it is to open it, and hasn't yet.
-fn reserved_by(table: &Roots, actor: &Actor) -> Option<u16>
-    ensures { result ≡ reserved_by (operation_seen table.now actor.now) }
-{
-    match actor.under_way {
-        None => None,
-        Some(under_way) => {
-            if table.is_marked(under_way.job.actor) {
-                None
-            } else {
-                under_way.job.opens
-            }
-        }
-    }
-}
-
-/// Whether the actor's operation has reserved this handle.
-fn is_reserved(table: &Roots, handle: u16, actor: &Actor) -> bool
-    ensures { result ≡ is_number handle (reserved_by (operation_seen table.now actor.now)) }
-{
-    match reserved_by(table, actor) {
-        None => false,
-        Some(reserved) => reserved == handle,
-    }
-}
-
-/// Whether one of these actors' operations has reserved this handle.
-fn is_reserved_among(table: &Roots, handle: u16, actors: &[Actor]) -> bool
-    ensures { result ≡ list_any (λ actor. is_number handle (reserved_by (operation_seen table.now actor))) actors.now }
-{
-    actors.iter().any(|actor| is_reserved(table, handle, actor))
-}
-
-/// Whether an operation has reserved this handle.
-fn is_reserved_by_one(parts: &Parts, handle: u16) -> bool
-    ensures { result ≡ list_any (λ operation. is_number handle (reserved_by operation)) (seen parts.now).actors }
-{
-    is_reserved_among(&parts.table, handle, parts.actors.as_slice())
-}
-
-/// Whether the handle number is open or reserved.
-pub fn is_taken(parts: &Parts, handle: u16) -> bool
-    ensures { result ≡ is_taken (seen parts.now) handle }
-{
-    parts.table.root(handle).is_some() || is_reserved_by_one(parts, handle)
-}
-
 /// How many handles are open or reserved.
-#[tactic(auto, using(crate::proofs::Numbers::none_taken, crate::proofs::Numbers::taken_more))]
 pub fn handles_taken(parts: &Parts) -> u16
+    requires { KnowsNumbers parts.now.handles (seen parts.now) }
     ensures { result ≡ handles_taken (seen parts.now) }
 {
-    let mut taken = 0;
-    for handle in 0..HANDLE_LIMIT {
-        if is_taken(parts, handle) {
-            taken += 1;
-        }
-    }
-    taken
+    parts.handles.taken()
 }
 
 /// The least handle number that is neither open nor reserved, or 256.
-#[tactic(auto, using(crate::proofs::Numbers::least_at_end, crate::proofs::Numbers::least_behind, crate::proofs::Numbers::least_here))]
 pub fn least_free(parts: &Parts) -> u16
-    ensures exact { result ≡ least_free (seen parts.now) }
+    requires { KnowsNumbers parts.now.handles (seen parts.now) }
+    ensures { result ≡ least_free (seen parts.now) }
 {
-    for handle in 0..HANDLE_LIMIT {
-        if !is_taken(parts, handle) {
-            return handle;
-        }
+    parts.handles.least_free()
+}
+
+/// Whether an operation runs whose call names this handle.
+pub fn runs_on(parts: &Parts, handle: u16) -> bool
+    requires { KnowsNumbers parts.now.handles (seen parts.now) }
+    ensures { result ≡ runs_on (seen parts.now) handle }
+{
+    parts.handles.runs_on(handle)
+}
+
+/// The handle that an operation has reserved: it is to open it, and hasn't yet.
+pub fn reserved_by(table: &Roots, under_way: UnderWay) -> Option<u16>
+    ensures { (programs : Programs) → result ≡ reserved_by (Some (operation_at table.now programs under_way)) }
+{
+    if table.is_marked(under_way.job.actor) {
+        None
+    } else {
+        under_way.job.opens
     }
-    HANDLE_LIMIT
+}
+
+/// Notes that this call begins: it reserves the handle that it is to open, and a close gives its own back.
+pub fn note_begin(handles: &mut Handles, call: Call, opens: Option<u16>)
+    requires { running_on handles.old (handle_of call) < 255 }
+    ensures { handles.new ≡ begun_on handles.old call opens }
+{
+    handles.begins_on(call.handle());
+    if is_close(call) {
+        handles.give_back(call.handle());
+    }
+    if let Some(reserved) = opens {
+        handles.take(reserved);
+    }
+}
+
+/// Notes the end of an operation on this handle: what it has reserved is free again.
+pub fn note_end(handles: &mut Handles, handle: u16, reserved: Option<u16>)
+    ensures { handles.new ≡ ended_on handles.old handle reserved }
+{
+    handles.ends_on(handle);
+    if let Some(reserved) = reserved {
+        handles.give_back(reserved);
+    }
 }

@@ -11,11 +11,11 @@ ghost use Rattle.machine_core.specs.Finding.{found_along};
 ghost use Rattle.machine_core.specs.Work.{WorksLittle};
 ghost use Rattle.machine_model.specs.Refusing.{RefusesLimits, RefusesContent};
 
-use crate::actors::{is_busy, next_kind, runs_on};
+use crate::actors::{is_busy, next_kind};
 use crate::contents::content_of;
 use crate::denials::{denial_of, is_access};
 use crate::finding::value_of;
-use crate::handles::handles_taken;
+use crate::handles::{handles_taken, runs_on};
 use crate::parts::Parts;
 use crate::reserving::reserve;
 use crate::starting::{are_limits, first_parts};

@@ -7,6 +7,7 @@ ghost use Rattle.machine_core.specs.Seen.{actor_of, seen};
 
 use chronicle::{Chronicle, Commits};
 use epochs::Heap;
+use handle_table::Handles;
 use history::{Access, Event};
 use machine_model::{Limits, RootWord};
 use running::{Job, Program, Programs, Roots};
@@ -53,6 +54,8 @@ pub struct Parts {
     /// The root words by handle.
     pub table: Roots,
     pub actors: Vec<Actor>,
+    /// Which handle numbers are taken, and how many operations run on each.
+    pub handles: Handles,
     /// The steps in which main nodes were committed.
     pub commits: Commits,
     pub journal: Journal,

@@ -1,11 +1,12 @@
 //! How a machine starts.
 
-ghost use Rattle.std.specs.Prelude.{◌≡◌, ◌≤◌, ◌↔◌, ℕ, IsTrue, [], ◌∷◌, replicate, None, Some, IfOk, OnOk, IsOkUnless};
+ghost use Rattle.std.specs.Prelude.{◌≡◌, ◌≤◌, ◌↔◌, ℕ, IsTrue, [], ◌∷◌, replicate, None, Some, true, IfOk, OnOk, IsOkUnless};
 ghost use Rattle.slot_arena.specs.Arenas.{AreSlots, IsLive};
 ghost use Rattle.slot_arena.specs.Refs.{ref_to};
 ghost use Rattle.slot_arena.specs.Times.{times};
 ghost use Rattle.epochs.specs.Limbo.{limbo_after};
 ghost use Rattle.epochs.specs.Memories.{AreSizes};
+ghost use Rattle.handle_table.specs.Numbers.{no_numbers, with_taken};
 ghost use Rattle.machine_model.specs.States.{first_heap, first_state};
 ghost use Rattle.machine_model.specs.Machine.{AreLimits};
 ghost use Rattle.machine_core.specs.Beneath.rdcss_root.specs.Tables.{new_table, with_root_in};
@@ -18,6 +19,7 @@ use arrayvec::ArrayVec;
 use chronicle::{Chronicle, Commits};
 use ctrie_base::{HashKind, Refusal};
 use epochs::Heap;
+use handle_table::Handles;
 use history::Access;
 use machine_model::{Limits, Root, RootWord};
 use running::{Programs, Roots};
@@ -89,6 +91,15 @@ fn first_table(alloc: Global, heap: &mut Heap, actors: u8) -> Result<Roots, Allo
     Ok(table)
 }
 
+/// Handle 0 is taken, and nothing runs.
+fn first_handles(alloc: Global) -> Result<Handles, AllocError>
+    ensures { IfOk result (λ handles. handles ≡ with_taken no_numbers 0 true) }
+{
+    let mut handles = Handles::new(alloc)?;
+    handles.take(0);
+    Ok(handles)
+}
+
 /// An actor who runs nothing.
 fn idle_actor(alloc: Global, hashes: HashKind) -> Result<Actor, Refusal>
     ensures idle { IfOk result (IsIdle hashes) }
@@ -136,6 +147,7 @@ pub fn first_parts(alloc: Global, limits: Limits) -> Result<Parts, Refusal>
     let mut heap = first_memory(alloc, limits.slots, limits.actors)?;
     let table = first_table(alloc, &mut heap, limits.actors)?;
     let actors = idle_actors(alloc, limits.hash, limits.actors)?;
+    let handles = first_handles(alloc)?;
     let chronicle = Chronicle::new(alloc)?;
     let commits = first_commits(alloc, limits.slots)?;
     Ok(Parts {
@@ -144,6 +156,7 @@ pub fn first_parts(alloc: Global, limits: Limits) -> Result<Parts, Refusal>
         generations: 1,
         table,
         actors,
+        handles,
         commits,
         journal: Journal {
             chronicle,

@@ -1,5 +1,5 @@
 -- What the steps of a machine add to its record, for every list of steps.
-use Rattle.std.specs.Prelude.{◌≡◌, ℕ, suc, ◌+◌, ◌<◌, ◌≤◌, true, List, All, length, Some}
+use Rattle.std.specs.Prelude.{◌≡◌, ℕ, suc, ◌+◌, ◌<◌, ◌≤◌, true, List, All, length, Some, None}
 use Rattle.proof_records.specs.Beneath.history.specs.Histories.{begun}
 use Rattle.proof_records.specs.Beneath.slot_arena.specs.declared.refs.Ref.{Ref}
 use Rattle.proof_records.specs.Beneath.slot_arena.specs.Refs.{slot_of}
@@ -10,10 +10,12 @@ use Rattle.proof_records.specs.Beneath.machine_model.specs.declared.reading.Swap
 use Rattle.proof_records.specs.Beneath.machine_model.specs.declared.reading.SwapLine.TheVariants.{Publish}
 use Rattle.proof_records.specs.Beneath.machine_model.specs.declared.steps.Limits.{Limits}
 use Rattle.proof_records.specs.Beneath.machine_model.specs.declared.steps.Step.{Step}
-use Rattle.proof_records.specs.Beneath.machine_model.specs.States.{State, operation_of}
+use Rattle.proof_records.specs.Beneath.machine_model.specs.Acting.{entered, entered_by, gone}
+use Rattle.proof_records.specs.Beneath.machine_model.specs.States.{State, handle_limit, operation_of}
 use Rattle.proof_records.specs.Beneath.machine_model.specs.Orders.{committed_now, is_placed}
-use Rattle.proof_records.specs.Beneath.machine_model.specs.Acting.{entered, entered_by}
-use Rattle.proof_records.specs.Beneath.machine_model.specs.Machine.{AreLimits, run, next_state}
+use Rattle.proof_records.specs.Beneath.machine_model.specs.Machine.{AreLimits, go_denial, is_taken, run, next_state}
+use Rattle.proof_records.specs.Beneath.machine_model.specs.Moves.{GoesOn}
+use Rattle.proof_records.specs.Beneath.machine_model.specs.Operations.{action_of}
 use Rattle.proof_records.specs.Beneath.machine_model.specs.Times.{states_of, last_of}
 use Rattle.proof_records.specs.Beneath.proof_commits.specs.Laws.{IsInSwap, Owner}
 use Rattle.proof_records.specs.Beneath.proof_memory.specs.Laws.{IsInUse}
@@ -70,3 +72,10 @@ OwnersStay =
     IsInUse (states_of limits steps (suc n)).heap main → prev_at (states_of limits steps (suc n)).heap main ≡ prev.Pending replaced →
     (actor : ℕ) (operation : Operation) (at before : Ref) (l : SwapLine) → operation_of (states_of limits steps (suc n)) actor ≡ Some operation →
     IsInSwap operation at before main l → OwnsBy (states_of limits steps n) replaced main actor
+
+-- a step of an operation that isn't its end takes no handle number and gives none back: it opens what was reserved, in the step in which it marks whose it was
+abbrev pub NumbersStay : Type 0
+NumbersStay =
+    (limits : Limits) (steps : List Step) (actor : ℕ) (operation : Operation) → AreLimits limits → go_denial (run limits steps) actor ≡ None →
+    operation_of (run limits steps) actor ≡ Some operation → GoesOn (action_of (run limits steps) operation) → (handle : ℕ) → handle < handle_limit →
+    is_taken (gone (run limits steps) actor operation) handle ≡ is_taken (run limits steps) handle

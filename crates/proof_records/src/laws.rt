@@ -1,6 +1,6 @@
 //! Laws of what the steps of a machine add to its record.
 
-ghost use Rattle.proof_records.specs.Laws.{CommittedAreNewest, IdsApart, OnePlaceAStep, OwnerEnters, OwnersStay};
+ghost use Rattle.proof_records.specs.Laws.{CommittedAreNewest, IdsApart, NumbersStay, OnePlaceAStep, OwnerEnters, OwnersStay};
 
 /// A law: a step adds at most one place to the order.
 pub fn one_place_a_step()
@@ -26,4 +26,9 @@ pub fn committed_are_newest()
 /// pending already.
 pub fn owners_stay()
     ensures { OwnersStay }
+{}
+
+/// A law: a step of an operation that isn't its end leaves each handle number taken or free.
+pub fn numbers_stay()
+    ensures { NumbersStay }
 {}

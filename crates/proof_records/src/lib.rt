@@ -3,4 +3,6 @@
 
 mod laws;
 
-pub use laws::{committed_are_newest, ids_apart, one_place_a_step, owner_enters, owners_stay};
+pub use laws::{
+    committed_are_newest, ids_apart, numbers_stay, one_place_a_step, owner_enters, owners_stay,
+};

@@ -1,6 +1,7 @@
-use Rattle.std.proofs.Common.{◌+◌, ◌-◌, ◌++◌, ◌∷◌, [], length, ap, ◌∙◌, arith, subst}
+use Rattle.std.proofs.Common.{◌+◌, ◌-◌, ◌<◌, ◌++◌, sym, ◌∷◌, [], length, ap, ◌∙◌, arith, subst}
 use Rattle.std.proofs.lemmas.List.{length-map}
 use Rattle.std.specs.Prelude.{unwrap_or}
+use Rattle.handle_table.specs.Numbers.{Numbers, running_on}
 use Rattle.history.specs.declared.calls.Access.{Access}
 use Rattle.history.specs.declared.calls.Access.TheVariants.{Writable}
 use Rattle.history.specs.declared.calls.Call.{Call}
@@ -12,9 +13,11 @@ use Rattle.machine_core.specs.Beneath.rdcss_root.proofs.Rewriting.{ready_less}
 use Rattle.machine_core.specs.declared.parts.Parts.{Parts}
 use Rattle.machine_core.specs.Keeping.{Replaces}
 use Rattle.machine_core.specs.Beginnings.{Begins}
+use Rattle.machine_core.specs.Numbering.{begun_on}
 use Rattle.machine_core.specs.Seen.{operation_seen, seen}
 use Rattle.machine_core.proofs.Begun.{BeginsAt, kept_begun, seen_begun}
 use Rattle.machine_core.proofs.Held.{begin_stands, ready_run}
+use Rattle.machine_core.proofs.Reserved.{few_run}
 use Rattle.machine_core.proofs.Tied.{pins_within}
 use Rattle.machine_core.proofs.Working.{still, still_after}
 use Rattle.epochs.specs.Memories.{Memory}
@@ -38,6 +41,12 @@ seat-requires c =
     let at = begin_stands (seen parts) c.args.actor c.args.call c.requires.run c.requires.allowed in
     omega (arith, at.within, length-map parts.actors.items (operation_seen parts.table), ap (λ (p : Parts). length p.actors.items) c.close_handle.ensures.same)
 
+pub note_begin-requires : goal.note_begin-requires
+note_begin-requires c =
+    let parts = c.args.parts.now in
+    subst (λ (n : Numbers). running_on n (handle_of c.args.call) < 255) (sym (ap (λ (p : Parts). p.handles) c.close_handle.ensures.same))
+    (few_run parts.handles (seen parts) (handle_of c.args.call) c.requires.run c.requires.kept.numbers)
+
 -- the access of the handle
 abbrev access_at : Parts → Call → Access
 access_at parts call = unwrap_or (access_of (root_at (seen parts) (handle_of call))) Writable
@@ -48,6 +57,7 @@ begins : (c : goal.After-parts-1) → BeginsAt c.args.parts.now c.close_handle.n
       heap = c.pin.new.self;
       table = c.unmark.new.self;
       actors = c.seat.new.actors;
+      handles = c.note_begin.new.handles;
       journal = record c.close_handle.new.parts.journal { events = c.push_reserved.new.self };
       begun = c.close_handle.new.parts.begun + 1;
     }) c.args.actor c.args.call c.new_under_way-under_way.result
@@ -72,9 +82,11 @@ begins c =
         heap = c.pin.new.self;
         table = c.unmark.new.self;
         actors = c.seat.new.actors;
+        handles = c.note_begin.new.handles;
         journal = record c.close_handle.new.parts.journal { events = c.push_reserved.new.self };
         begun = n + 1;
       }) (ap (λ (p : Parts). p.begun) closed.same);
+      numbers = c.note_begin.ensures ∙ ap (λ (p : Parts). begun_on p.handles c.args.call c.new_under_way-under_way.result.job.opens) closed.same;
       events = c.push_reserved.ensures.items
           ∙ ap (λ es. es.items ++ Begin c.new_under_way-under_way.result.job.id c.args.actor c.args.call c.new_under_way-under_way.result.job.opens ∷ []) closed.events;
     }

@@ -1,6 +1,7 @@
 use Rattle.std.proofs.Common.{◌-◌, ◌++◌, set, None, refl, ap, ◌∙◌}
 use Rattle.std.proofs.lemmas.Option.{slice_get_within}
 use Rattle.epochs.specs.Memories.{Memory}
+use Rattle.machine_core.specs.Numbering.{ended_on}
 use Rattle.machine_core.proofs.Kept.{seat_of}
 use Rattle.machine_core.proofs.Left.{EndsAt, held_there, kept_ended, seen_ended}
 use Rattle.machine_core.proofs.Working.{left_little, still}
@@ -17,7 +18,12 @@ vacate-requires-clause-held c = held_there c.args.parts.now c.args.actor c.args.
 
 -- what it comes to
 ends : (c : goal.After-put_place) → EndsAt c.args.parts.now
-    (record c.args.parts.now { heap = c.unpin.new.self; actors = c.vacate.new.actors; journal = record { chronicle = c.put_place.new.chronicle; events = c.push_reserved.new.self } })
+    (record c.args.parts.now {
+      heap = c.unpin.new.self;
+      actors = c.vacate.new.actors;
+      handles = c.note_end.new.handles;
+      journal = record { chronicle = c.put_place.new.chronicle; events = c.push_reserved.new.self };
+    })
     c.args.actor c.args.under_way c.args.reply
 ends c =
     let left = c.vacate.ensures in
@@ -38,6 +44,7 @@ ends c =
       commits = refl;
       closings = c.put_place.ensures.closings;
       places = λ operation found. c.put_place.ensures.places ∙ ap (λ ps. c.args.parts.now.journal.chronicle.places ++ ps) (c.requires.place operation found);
+      numbers = c.note_end.ensures ∙ ap (ended_on c.args.parts.now.handles c.args.under_way.job.handle) (c.reserved_by-reserved.ensures left.left.was.programs);
       drawn = c.put_place.ensures.generations;
       events = c.push_reserved.ensures.items;
       steps = refl;
@@ -48,7 +55,7 @@ pub returns-clause-ended : goal.returns-clause-ended
 returns-clause-ended c = seen_ended c.args.parts.now _ c.args.actor c.args.under_way c.args.reply (ends c) c.requires.runs
 
 pub returns-clause-kept : goal.returns-clause-kept
-returns-clause-kept c = kept_ended c.args.parts.now _ c.args.actor c.args.under_way c.args.reply (ends c) c.requires.runs c.requires.kept
+returns-clause-kept c = kept_ended c.args.parts.now _ c.args.actor c.args.under_way c.args.reply (ends c) c.requires.runs c.requires.run c.requires.kept
 
 pub returns-clause-work : goal.returns-clause-work
 returns-clause-work c =

@@ -13,4 +13,4 @@ pub step_at-requires-clause-sound : goal.step_at-requires-clause-sound
 step_at-requires-clause-sound c = λ found u at runs. (c.requires.kept.seats (c.args.actor - 1) found at).sound u runs
 
 pub returns-clause-kept : goal.returns-clause-kept
-returns-clause-kept c = on_error c.step_at.result _ _ (λ same. unchanged c.args.parts.now _ refl refl refl refl same c.requires.kept) c.step_at.ensures.err
+returns-clause-kept c = on_error c.step_at.result _ _ (λ same. unchanged c.args.parts.now _ refl refl refl refl refl same c.requires.kept) c.step_at.ensures.err

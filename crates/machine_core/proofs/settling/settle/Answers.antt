@@ -22,6 +22,7 @@ returns-clause-kept c =
       limits = refl;
       table = refl;
       actors = refl;
+      handles = refl;
       outside = λ r. ap (times r) done.outside;
       pins = done.epochs.2;
       stood = λ main slot e. subst (λ (h : Heap). standing h main ≡ Some slot) done.heap e;

@@ -23,6 +23,7 @@ first : (c : goal.After-new-2) → AreFirst c.args.limits (record {
   generations = 1;
   table = c.in_ok-table.table;
   actors = c.in_ok-actors.actors;
+  handles = c.in_ok-handles.handles;
   commits = c.in_ok-commits.commits;
   journal = record { chronicle = c.in_ok-chronicle.chronicle; events = c.new-2.result };
   steps = 0;
@@ -43,6 +44,7 @@ first c =
       generations = refl;
       table = table.table;
       actors = c.in_ok-actors.ensures.idle;
+      handles = c.in_ok-handles.ensures;
       commits = c.in_ok-commits.ensures.commits;
       closings = c.in_ok-chronicle.ensures.closings;
       places = c.in_ok-chronicle.ensures.places;

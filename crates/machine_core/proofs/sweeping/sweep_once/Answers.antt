@@ -38,6 +38,7 @@ returns-clause-kept c =
       limits = refl;
       table = refl;
       actors = refl;
+      handles = refl;
       outside = λ r. ap (times r) (settled.outside ∙ swept.outside);
       pins = settled.epochs.2 ∙ swept.pins;
       stood = λ main slot e.
