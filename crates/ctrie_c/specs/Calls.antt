@@ -8,6 +8,7 @@ use Rattle.history.specs.Effects.{has_value}
 use Rattle.history.specs.Worlds.{KeyMap}
 use Rattle.ctrie_map.specs.declared.errors.MapError.{MapError}
 use Rattle.ctrie_map.specs.Changes.{Changes, Closes, Copies, HasRoom, IsAny, IsCrowdedAt, IsReady, RefusesChange, RefusesClear, RefusesClose, RefusesCopy, removed_if_it_has, set_if_absent, set_if_it_has, set_if_there}
+use Rattle.ctrie_map.specs.Costs.{WorksUpTo, work_of_a_change, work_of_a_close, work_of_a_copy}
 use Rattle.ctrie_map.specs.Maps.{AreSlots, IsNew, IsSame, MapState, RefusesSizes}
 use Rattle.ctrie_map.specs.Performing.{IsForWant}
 use Rattle.ctrie_map.specs.Reading.{RefusesReading, if_finished, reading}
@@ -53,7 +54,7 @@ CountsFree told old new = IfOk told (λ free. (free ≡ old.free) × (free ≡ n
 abbrev pub Sets : ℕ → ℕ → (KeyMap → KeyMap) → Result (Option ℕ) MapError → MapState → MapState → Type 0
 Sets handle key change told old new =
     IfOk told (λ before. IsReady old new × Changes old handle (λ m. (before ≡ map.get m key) × HasRoom old key m) change new)
-    × IfErr told (RefusesChange old handle (IsCrowdedAt old handle key) (HasRoom old key) change new)
+    × IfErr told (RefusesChange old handle (IsCrowdedAt old handle key) (HasRoom old key) change new) × WorksUpTo work_of_a_change old new
 
 abbrev pub Puts : ℕ → ℕ → ℕ → Result (Option ℕ) MapError → MapState → MapState → Type 0
 Puts handle key value = Sets handle key (λ m. map.insert m key value)
@@ -65,6 +66,7 @@ PutsIfAbsent handle key value = Sets handle key (set_if_absent key value)
 abbrev pub Exchanges : ℕ → ℕ → (KeyMap → KeyMap) → Result (Option ℕ) MapError → MapState → MapState → Type 0
 Exchanges handle key change told old new =
     IfOk told (λ before. IsReady old new × Changes old handle (λ m. before ≡ map.get m key) change new) × IfErr told (RefusesChange old handle ⊥ IsAny change new)
+    × WorksUpTo work_of_a_change old new
 
 abbrev pub Replaces : ℕ → ℕ → ℕ → Result (Option ℕ) MapError → MapState → MapState → Type 0
 Replaces handle key value = Exchanges handle key (set_if_there key value)
@@ -76,6 +78,7 @@ Removes handle key = Exchanges handle key (λ m. map.remove m key)
 abbrev pub ChangesIf : ℕ → ℕ → ℕ → (KeyMap → KeyMap) → Result Bool MapError → MapState → MapState → Type 0
 ChangesIf handle key value change told old new =
     IfOk told (λ done. IsReady old new × Changes old handle (λ m. done ≡ has_value m key value) change new) × IfErr told (RefusesChange old handle ⊥ IsAny change new)
+    × WorksUpTo work_of_a_change old new
 
 abbrev pub ReplacesIf : ℕ → ℕ → ℕ → ℕ → Result Bool MapError → MapState → MapState → Type 0
 ReplacesIf handle key before value = ChangesIf handle key before (set_if_it_has key before value)
@@ -84,13 +87,16 @@ abbrev pub RemovesIf : ℕ → ℕ → ℕ → Result Bool MapError → MapState
 RemovesIf handle key value = ChangesIf handle key value (removed_if_it_has key value)
 
 abbrev pub Clears : ℕ → Result (Unit {0}) MapError → MapState → MapState → Type 0
-Clears handle told old new = IfOk told (λ _. IsReady old new × Changes old handle IsAny (λ m. map.empty) new) × IfErr told (RefusesClear old handle new)
+Clears handle told old new =
+    IfOk told (λ _. IsReady old new × Changes old handle IsAny (λ m. map.empty) new) × IfErr told (RefusesClear old handle new) × WorksUpTo work_of_a_copy old new
 
 -- ---- handles
 
 -- a copy of this kind
 abbrev pub Opens : ℕ → Access → Result ℕ MapError → MapState → MapState → Type 0
-Opens handle access told old new = IfOk told (λ copy. IsReady old new × Copies old handle access copy new) × IfErr told (RefusesCopy old handle access new)
+Opens handle access told old new =
+    IfOk told (λ copy. IsReady old new × Copies old handle access copy new) × IfErr told (RefusesCopy old handle access new) × WorksUpTo work_of_a_copy old new
 
 abbrev pub ClosesIt : ℕ → Result (Unit {0}) MapError → MapState → MapState → Type 0
-ClosesIt handle told old new = IfOk told (λ _. IsReady old new × Closes old handle new) × IfErr told (RefusesClose old handle new)
+ClosesIt handle told old new =
+    IfOk told (λ _. IsReady old new × Closes old handle new) × IfErr told (RefusesClose old handle new) × WorksUpTo work_of_a_close old new

@@ -17,14 +17,16 @@ use Rattle.machine_model.specs.Going.{go_limit}
 use Rattle.machine_model.specs.Keys.{KeysFit}
 use Rattle.machine_model.specs.Machine.{AreLimits, begin_denial, is_busy, is_spent}
 use Rattle.machine_model.specs.Moves.{begun_operation}
-use Rattle.machine_model.specs.States.{step_limit}
+use Rattle.machine_model.specs.States.{State, step_limit}
+use Rattle.machine_model.proofs.HeapMoves.{begin_heap}
 use Rattle.map_worlds.specs.Worlds.{world_of}
 use Rattle.map_worlds.proofs.Shown.{shown_is_one}
 use Rattle.step_machine.specs.Callers.{Completes, CompletesUnless, Going, going_on}
 use Rattle.step_machine.specs.Ending.{CompletesIfSure, IsBounded, IsSpared, IsSure, enough_slots}
 use Rattle.step_machine.specs.Legality.{ActedAlone, RestsIfAnswered, WentAlone}
 use Rattle.step_machine.specs.Machines.{Taken, state_of, with_step}
-use Rattle.step_machine.proofs.Ending.{begun_runs_on, enough_for_call, must_be, sure_behind}
+use Rattle.step_machine.specs.Beneath.slot_arena.specs.Heaps.{Heap}
+use Rattle.step_machine.proofs.Ending.{begun_runs_on, enough_for_call, led_so, must_be, sure_behind}
 use Rattle.step_machine.proofs.Going.{has_more}
 use Rattle.step_machine.proofs.Legality.{acted_again, rests_again, spares_again}
 use Rattle.step_machine.proofs.Resting.{unanswered_at_rest}
@@ -33,13 +35,16 @@ use Rattle.ctrie_map.specs.Beneath.proof_linearizable.proofs.Legal.{alone_it_act
 use Rattle.ctrie_map.specs.Beneath.proof_obstruction_free.specs.Laws.{most_steps_alone}
 use Rattle.ctrie_map.specs.Beneath.proof_obstruction_free.proofs.Ends.Closes.{closes_end}
 use Rattle.ctrie_map.specs.Beneath.proof_obstruction_free.proofs.Inherited.EndsAll.{each_step_leads_to_its_end}
+use Rattle.ctrie_map.specs.Beneath.proof_obstruction_free.proofs.Slots.AtBegin.{tries_first}
 use Rattle.ctrie_map.specs.Beneath.proof_obstruction_free.proofs.Slots.Tries.{enough_for_tries}
 use Rattle.ctrie_map.specs.Beneath.proof_obstruction_free.proofs.Slots.Few.{enough_for_copies}
 use Rattle.ctrie_map.specs.declared.errors.MapError.TheVariants as error
 use Rattle.ctrie_map.specs.Changes.{IsTight, is_worn_out}
+use Rattle.ctrie_map.specs.Costs.{WorksUpTo, work_of_call}
 use Rattle.ctrie_map.specs.Machines.{IsForOne, finished, state_by, swept_out, the_actor}
 use Rattle.ctrie_map.specs.Maps.{MapState, Becomes}
 use Rattle.ctrie_map.specs.Performing.{Answers, IsBegun, IsChange, Performs, denial_in}
+use Rattle.ctrie_map.proofs.Costing.{costs, same_works, swept_few, works}
 use Rattle.ctrie_map.proofs.Denying.{Due, due}
 use Rattle.ctrie_map.proofs.Finishing.{finished_at_rest, finished_while_busy, stays_same}
 use Rattle.ctrie_map.proofs.Going.{keys_behind, same_end_behind}
@@ -122,10 +127,28 @@ module _ (before : Taken) (c : Call) (for_one : IsForOne before) (rest : is_busy
     answers (id, opens, world, next, shows_before, shows_after, does) spared =
         by_does id opens world next (shown_is_one world (state_of before) shows_before ∙ sym seen) (shown_is_one next (state_of last) shows_after ∙ sym handles) spared does
 
-  -- ---- it is answered
-
   one_actor : (after : Taken) → after.limits ≡ before.limits → after.limits.actors ≡ 1
   one_actor after sizes = ap (λ (l : Limits). l.actors) sizes ∙ for_one.0
+
+  -- ---- what it costs
+
+  abbrev middle : Taken
+  middle = with_step before (Begin the_actor c)
+
+  -- behind its begin it ends here, with this seen then
+  works_so : (answer : Reply) (last : Taken) (after : MapState) → going_on go_limit the_actor middle ≡ (Ok (Some answer), last) → AreLimits last.limits → KeysFit last.steps →
+      is_busy (state_of last) ≡ false → after.age ≡ (state_of (swept_out last)).steps → after.free ≡ length (state_of (swept_out last)).heap.free →
+      WorksUpTo (work_of_call c) (state_by before) after
+  works_so answer last after goes ok fit idle age free =
+      let more = has_more go_limit the_actor middle last (Ok (Some answer)) goes in
+      let led = led_so before the_actor c begin_free in
+      works c before middle last (state_by before) after (ap (λ (s : State). s.steps) led)
+      (ap (λ (s : State). length s.heap.free) led ∙ ap (λ (h : Heap). length h.free) (begin_heap (state_of before) the_actor c (begun_operation (state_of before) c)))
+      (costs middle the_actor (subst AreLimits more.limits ok) (fit_in_front middle.steps more.more (subst KeysFit more.steps fit)) (begun_operation (state_of before) c)
+      (begun_runs_on before the_actor c begin_free) (sure_behind before the_actor c begin_free most_steps_alone sure) (tries_first c) answer last goes)
+      (swept_few last ok (one_actor last more.limits) idle) (ap (λ m. (state_of m).steps) out) free_is age free
+
+  -- ---- it is answered
 
   answered : (answer : Reply) (after : Taken) → Completes (Ok (Some answer)) before the_actor c after → ActedAlone (Ok (Some answer)) before c after →
       RestsIfAnswered (Ok (Some answer)) after → IsSpared before c (Ok (Some answer)) → IsForOne after × Performs (Ok answer) (state_by before) c (state_by after)
@@ -146,6 +169,17 @@ module _ (before : Taken) (c : Call) (for_one : IsForOne before) (rest : is_busy
       by_begin (inl memory) = cc memory.0
       by_begin (inr goes) = with_sizes (has_more go_limit the_actor (with_step before (Begin the_actor c)) after (Ok (Some answer)) goes).limits
 
+  pub answered_works : (field : Option Reply) (answer : Reply) → field ≡ Some answer → (after : Taken) → Completes (Ok field) before the_actor c after →
+      RestsIfAnswered (Ok field) after → AreLimits after.limits → KeysFit after.steps → WorksUpTo (work_of_call c) (state_by before) (state_by after)
+  answered_works field answer is after done idle ok fit =
+      by_begin (begins (Ok (Some answer)) after (subst (λ f. Completes (Ok f) before the_actor c after) is done)) (subst (λ f. RestsIfAnswered (Ok f) after) is idle)
+    where
+      by_begin : CompletesUnless None (Ok (Some answer)) before the_actor c after → is_busy (state_of after) ≡ false → WorksUpTo (work_of_call c) (state_by before) (state_by after)
+      by_begin (inl memory) idle = cc memory.0
+      by_begin (inr goes) idle =
+          let there = ap swept_out (finished_at_rest after idle) in
+          works_so answer after (state_by after) goes ok fit idle (ap (λ m. (state_of m).steps) there) (ap (λ m. length (state_of m).heap.free) there)
+
   pub answered_as : (field : Option Reply) (answer : Reply) → field ≡ Some answer → (after : Taken) → Completes (Ok field) before the_actor c after → ActedAlone (Ok field) before c after →
       RestsIfAnswered (Ok field) after → IsSpared before c (Ok field) → IsForOne after × Performs (Ok answer) (state_by before) c (state_by after)
   answered_as field answer is after done acted idle spared =
@@ -159,6 +193,9 @@ module _ (before : Taken) (c : Call) (for_one : IsForOne before) (rest : is_busy
     answer : Reply
     last : Taken
     led : going_on go_limit the_actor after ≡ (Ok (Some answer), last)
+    whole : going_on go_limit the_actor (with_step before (Begin the_actor c)) ≡ (Ok (Some answer), last)
+    limits_ok : AreLimits last.limits
+    keys_fit : KeysFit last.steps
     idle : is_busy (state_of last) ≡ false
     acted : ActedAlone (Ok (Some answer)) before c last
     spared : IsSpared before c (Ok (Some answer))
@@ -167,7 +204,6 @@ module _ (before : Taken) (c : Call) (for_one : IsForOne before) (rest : is_busy
   on_its_way : (n : ℕ) (after : Taken) → n < go_limit → going_on n the_actor (with_step before (Begin the_actor c)) ≡ (Ok None, after) → AreLimits after.limits →
       KeysFit after.steps → OnItsWay after
   on_its_way n after few so ok fit =
-      let middle = with_step before (Begin the_actor c) in
       let more = has_more n the_actor middle after (Ok None) so in
       let fit_middle : KeysFit middle.steps = fit_in_front middle.steps more.more (subst KeysFit more.steps fit) in
       let whole : Going = going_on go_limit the_actor middle in
@@ -182,6 +218,9 @@ module _ (before : Taken) (c : Call) (for_one : IsForOne before) (rest : is_busy
         answer = answer;
         last = whole.1;
         led = led;
+        whole = led_middle;
+        limits_ok = ok_last;
+        keys_fit = fit_last;
         idle = rests_again before after whole.1 the_actor c went (Ok (Some answer)) led;
         acted = acted_again before after whole.1 the_actor c went alone_it_acts ok_last fit_last (Ok (Some answer)) led;
         spared = spares_again before after whole.1 the_actor c went each_step_leads_to_its_end closes_end (enough_for_call enough_for_tries enough_for_copies) ok_last fit_last (Ok (Some answer)) led;
@@ -218,6 +257,18 @@ module _ (before : Taken) (c : Call) (for_one : IsForOne before) (rest : is_busy
       by_begin (inl memory) = absurd (false≢true (sym rest ∙ ap (λ m. is_busy (state_of m)) (sym memory.1) ∙ busy))
       by_begin (inr (n, few, so, free)) = busy_there after busy (on_its_way n after few so ok fit)
 
+  pub broken_works : (why : Refusal) (after : Taken) → Completes (Err why) before the_actor c after → CompletesIfSure before the_actor c (Err why) → AreLimits after.limits →
+      KeysFit after.steps → is_busy (state_of after) ≡ true → WorksUpTo (work_of_call c) (state_by before) (state_by after)
+  broken_works why after done ends ok fit busy =
+      by_begin (begins (Err refuse.Memory) after (subst (λ w. Completes (Err w) before the_actor c after) (for_memory why ends) done))
+    where
+      by_begin : CompletesUnless None (Err refuse.Memory) before the_actor c after → WorksUpTo (work_of_call c) (state_by before) (state_by after)
+      by_begin (inl memory) = absurd (false≢true (sym rest ∙ ap (λ m. is_busy (state_of m)) (sym memory.1) ∙ busy))
+      by_begin (inr (n, few, so, free)) =
+          let way = on_its_way n after few so ok fit in
+          let there = ap swept_out (finished_while_busy after way.last way.answer busy way.led) in
+          works_so way.answer way.last (state_by after) way.whole way.limits_ok way.keys_fit way.idle (ap (λ m. (state_of m).steps) there) (ap (λ m. length (state_of m).heap.free) there)
+
   -- or it wasn't begun
   pub not_begun : (why : Refusal) (after : Taken) → Completes (Err why) before the_actor c after → CompletesIfSure before the_actor c (Err why) → AreLimits after.limits →
       KeysFit after.steps → is_busy (state_of after) ≡ false → IsForOne after × Performs (Err error.Memory) (state_by before) c (state_by after)
@@ -228,6 +279,13 @@ module _ (before : Taken) (c : Call) (for_one : IsForOne before) (rest : is_busy
       by_begin (inl memory) =
           subst (λ m. IsForOne m × Performs (Err error.Memory) (state_by before) c (state_by m)) (sym memory.1) (for_one, (inl allowed, stays_same (state_by before)))
       by_begin (inr (n, few, so, free)) = let way = on_its_way n after few so ok fit in absurd (unanswered_at_rest go_limit the_actor after way.last way.answer idle way.led)
+
+  pub unbegun_works : (why : Refusal) (after : Taken) → Completes (Err why) before the_actor c after → CompletesIfSure before the_actor c (Err why) → AreLimits after.limits →
+      KeysFit after.steps → is_busy (state_of after) ≡ false → WorksUpTo (work_of_call c) (state_by before) (state_by after)
+  unbegun_works why after done ends ok fit idle = by (not_begun why after done ends ok fit idle).1
+    where
+      by : Performs (Err error.Memory) (state_by before) c (state_by after) → WorksUpTo (work_of_call c) (state_by before) (state_by after)
+      by (wanting, same) = same_works (work_of_call c) (state_by before) (state_by after) same
 
   -- it doesn't go on for ever
   pub never_open : CompletesIfSure before the_actor c (Ok None) → ⊥

@@ -2,6 +2,7 @@ pub mod Going
 pub mod Finishing
 pub mod Sweeping
 pub mod Unreached
+pub mod Costing
 pub mod Denying
 pub mod Carrying
 pub mod Composing

@@ -10,19 +10,18 @@ use Rattle.ctrie_base.specs.declared.refusals.Refusal.TheVariants as refuse
 use Rattle.machine_model.specs.declared.roots.Root.{Root}
 use Rattle.machine_model.specs.declared.steps.Limits.{Limits}
 use Rattle.machine_model.specs.declared.steps.Step.TheVariants.{Sweep}
-use Rattle.machine_model.specs.Machine.{AreLimits, Answer, is_busy, is_spent, is_taken_step, next, run}
+use Rattle.machine_model.specs.Machine.{AreLimits, is_busy, is_spent, next, run}
 use Rattle.machine_model.specs.States.{State, root_at, step_limit}
 use Rattle.map_worlds.specs.Beneath.proof_memory.specs.Laws.{SweepLeaves}
 use Rattle.map_worlds.specs.Beneath.proof_memory.proofs.Safety.AtEachTime.{safe_along}
 use Rattle.map_worlds.specs.Beneath.proof_memory.proofs.Limbo.Sweeps.{sweep_leaves}
 use Rattle.map_worlds.specs.Worlds.{named_at, world_of}
 use Rattle.map_worlds.proofs.Shown.{shows_roots}
-use Rattle.step_machine.specs.Callers.{AreNeeded, HasLimbo, Reclaims, ReclaimsUnless, Stepped, SweepsUntil, swept}
+use Rattle.step_machine.specs.Callers.{AreNeeded, HasLimbo, Reclaims, ReclaimsUnless, SweepsUntil, swept}
 use Rattle.step_machine.specs.Machines.{IsTaken, Taken, state_of, with_step}
 use Rattle.step_machine.specs.Reclaiming.{LooksSame}
 use Rattle.step_machine.proofs.Reclaiming.{steps_on}
-use Rattle.step_machine.proofs.Sweeping.{nearer}
-use Rattle.step_machine.proofs.Telling.{stepped}
+use Rattle.step_machine.proofs.Sweeping.{nearer, step_by}
 use Rattle.ctrie_map.specs.Changes.{is_worn_out}
 use Rattle.ctrie_map.specs.Machines.{IsForOne, finished, is_empty, state_by, swept_out, swept_within}
 use Rattle.ctrie_map.specs.Maps.{IsSame}
@@ -47,10 +46,6 @@ world_same before after same = same_map nat_cmp_total nat_cmp-IsAntisymmetric (w
 not_empty : {A : Type 0} (xs : List A) → (xs ≡ [] → ⊥) → is_empty xs ≡ false
 not_empty [] some = absurd (some refl)
 not_empty (x ∷ xs) some = refl
-
-pub step_by : (machine : Taken) (answer : Answer) → next (state_of machine) Sweep ≡ answer → is_taken_step answer ≡ true → Stepped (Ok tt) machine Sweep (with_step machine Sweep)
-step_by machine (Ok (o, state)) e taken = (o, (refl, e ∙ ap (λ s. Ok (o, s)) (sym (stepped machine Sweep o state e))))
-step_by machine (Err why) e taken = absurd (false≢true taken)
 
 one_out : (machine : Taken) → HasLimbo machine → IsTaken (state_of machine) Sweep → swept_out machine ≡ swept_out (with_step machine Sweep)
 unfolding swept_within

@@ -18,12 +18,12 @@ use Rattle.step_machine.specs.Callers.{going_on, swept}
 use Rattle.step_machine.specs.Machines.{Taken, state_of, with_step}
 use Rattle.step_machine.proofs.Going.{HasMore, has_more}
 use Rattle.step_machine.proofs.Reclaiming.{steps_on}
-use Rattle.step_machine.proofs.Sweeping.{nearer}
+use Rattle.step_machine.proofs.Sweeping.{nearer, step_by}
 use Rattle.ctrie_map.specs.Changes.{is_worn_out}
 use Rattle.ctrie_map.specs.Laws.{FreeIsUnreached}
 use Rattle.ctrie_map.specs.Machines.{IsForOne, finished, is_empty, state_by, swept_out, swept_within, the_actor}
 use Rattle.ctrie_map.proofs.Finishing.{finished_at_rest, finished_while_busy}
-use Rattle.ctrie_map.proofs.Sweeping.{leaves, step_by}
+use Rattle.ctrie_map.proofs.Sweeping.{leaves}
 
 reclaims : Reclaimed
 reclaims limits steps r ok rest empty =
@@ -61,7 +61,7 @@ empty_by [] e = refl
 empty_by (x ∷ xs) e = absurd (false≢true e)
 
 -- nothing else denies the sweep
-sweep_taken : (state : State) → is_spent state ≡ false → is_taken_step (next state Sweep) ≡ true
+pub sweep_taken : (state : State) → is_spent state ≡ false → is_taken_step (next state Sweep) ≡ true
 unfolding next
 sweep_taken state e = rw e refl
 

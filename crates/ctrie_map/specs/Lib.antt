@@ -4,6 +4,7 @@ pub mod Maps
 pub mod Machines
 pub mod Reading
 pub mod Changes
+pub mod Costs
 pub mod Performing
 pub mod Telling
 pub mod Laws

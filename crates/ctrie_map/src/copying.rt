@@ -3,6 +3,7 @@
 ghost use Rattle.std.specs.Prelude.{IfOk, IfErr};
 ghost use Rattle.history.specs.declared.calls.Access.TheVariants.{Writable, ReadOnly};
 ghost use Rattle.ctrie_map.specs.Changes.{Closes, Copies, IsReady, RefusesClose, RefusesCopy};
+ghost use Rattle.ctrie_map.specs.Costs.{WorksUpTo, work_of_a_close, work_of_a_copy};
 
 use crate::errors::MapError;
 use crate::handle::Handle;
@@ -15,6 +16,7 @@ impl Map {
     pub fn snapshot(&mut self, handle: Handle) -> Result<Handle, MapError>
         ensures done { IfOk result (λ copy. IsReady self.old self.new × Copies self.old handle Writable copy self.new) }
         ensures refused { IfErr result (RefusesCopy self.old handle Writable self.new) }
+        ensures work { WorksUpTo work_of_a_copy self.old self.new }
     {
         opened(self.perform(Call::Snapshot {
             handle: handle.number(),
@@ -25,6 +27,7 @@ impl Map {
     pub fn freeze(&mut self, handle: Handle) -> Result<Handle, MapError>
         ensures done { IfOk result (λ copy. IsReady self.old self.new × Copies self.old handle ReadOnly copy self.new) }
         ensures refused { IfErr result (RefusesCopy self.old handle ReadOnly self.new) }
+        ensures work { WorksUpTo work_of_a_copy self.old self.new }
     {
         opened(self.perform(Call::Freeze {
             handle: handle.number(),
@@ -36,6 +39,7 @@ impl Map {
     pub fn close(&mut self, handle: Handle) -> Result<(), MapError>
         ensures done { IfOk result (λ _. IsReady self.old self.new × Closes self.old handle self.new) }
         ensures refused { IfErr result (RefusesClose self.old handle self.new) }
+        ensures work { WorksUpTo work_of_a_close self.old self.new }
     {
         done(self.perform(Call::Close {
             handle: handle.number(),

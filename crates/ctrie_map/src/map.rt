@@ -1,6 +1,7 @@
 //! The map, and the one way by which its calls reach the machine below it.
 
 ghost use Rattle.std.specs.Prelude.{◌≡◌, IfOk, IfErr, OnOk};
+ghost use Rattle.ctrie_map.specs.Costs.{WorksUpTo, work_of_call};
 ghost use Rattle.ctrie_map.specs.Maps.{AreSlots, IsNew, RefusesSizes};
 ghost use Rattle.ctrie_map.specs.Performing.{IsChange, Performs};
 
@@ -64,7 +65,8 @@ impl Map {
     /// A call from its begin to its end.
     pub(crate) fn perform(&mut self, call: Call) -> Result<Reply, MapError>
         requires { IsChange call }
-        ensures { Performs result self.old call self.new }
+        ensures performs { Performs result self.old call self.new }
+        ensures work { WorksUpTo (work_of_call call) self.old self.new }
     {
         perform(&mut self.machine, call)
     }

@@ -3,6 +3,7 @@
 ghost use Rattle.std.specs.Prelude.{◌≡◌, false, [], None, OnOk, IfErr};
 ghost use Rattle.machine_model.specs.Machine.{is_busy};
 ghost use Rattle.step_machine.specs.Machines.{state_of};
+ghost use Rattle.ctrie_map.specs.Costs.{WorksUpTo, work_of_call};
 ghost use Rattle.ctrie_map.specs.Machines.{IsForOne, state_by};
 ghost use Rattle.ctrie_map.specs.Maps.{IsSame};
 ghost use Rattle.ctrie_map.specs.Performing.{IsChange, IsForWant, Performs, denial_in};
@@ -65,6 +66,7 @@ fn carry_out(machine: &mut Machine, call: Call) -> Result<Reply, MapError>
     requires allowed { denial_in (state_by machine.old) call ≡ None }
     ensures for_one { IsForOne machine.new }
     ensures performs { Performs result (state_by machine.old) call (state_by machine.new) }
+    ensures work { WorksUpTo (work_of_call call) (state_by machine.old) (state_by machine.new) }
 {
     if machine.steps_taken() > STEP_LIMIT - CALL_STEPS {
         return Err(MapError::WornOut);
@@ -101,6 +103,7 @@ pub(crate) fn perform(machine: &mut Machine, call: Call) -> Result<Reply, MapErr
     requires change { IsChange call }
     ensures for_one { IsForOne machine.new }
     ensures performs { Performs result (state_by machine.old) call (state_by machine.new) }
+    ensures work { WorksUpTo (work_of_call call) (state_by machine.old) (state_by machine.new) }
 {
     finish(machine)?;
     if let Some(refusal) = machine.denial(Step::Begin { actor: ACTOR, call }) {

@@ -3,6 +3,7 @@
 ghost use Rattle.std.specs.Prelude.{◌≡◌, IfOk, IfErr};
 ghost use Rattle.std.specs.FinMap as map;
 ghost use Rattle.ctrie_map.specs.Changes.{Changes, HasRoom, IsCrowdedAt, IsReady, RefusesChange, set_if_absent};
+ghost use Rattle.ctrie_map.specs.Costs.{WorksUpTo, work_of_a_change};
 
 use crate::errors::MapError;
 use crate::handle::Handle;
@@ -16,6 +17,7 @@ impl Map {
         ensures done { IfOk result (λ before. IsReady self.old self.new
             × Changes self.old handle (λ m. (before ≡ map.get m key) × HasRoom self.old key m) (λ m. map.insert m key value) self.new) }
         ensures refused { IfErr result (RefusesChange self.old handle (IsCrowdedAt self.old handle key) (HasRoom self.old key) (λ m. map.insert m key value) self.new) }
+        ensures work { WorksUpTo work_of_a_change self.old self.new }
     {
         found(self.perform(Call::Put {
             handle: handle.number(),
@@ -34,6 +36,7 @@ impl Map {
         ensures done { IfOk result (λ before. IsReady self.old self.new
             × Changes self.old handle (λ m. (before ≡ map.get m key) × HasRoom self.old key m) (set_if_absent key value) self.new) }
         ensures refused { IfErr result (RefusesChange self.old handle (IsCrowdedAt self.old handle key) (HasRoom self.old key) (set_if_absent key value) self.new) }
+        ensures work { WorksUpTo work_of_a_change self.old self.new }
     {
         found(self.perform(Call::PutIfAbsent {
             handle: handle.number(),

@@ -4,6 +4,7 @@ ghost use Rattle.std.specs.Prelude.{◌≡◌, IfOk, IfErr};
 ghost use Rattle.std.specs.FinMap as map;
 ghost use Rattle.history.specs.Effects.{has_value};
 ghost use Rattle.ctrie_map.specs.Changes.{Changes, IsAny, IsReady, RefusesChange, RefusesClear, removed_if_it_has};
+ghost use Rattle.ctrie_map.specs.Costs.{WorksUpTo, work_of_a_change, work_of_a_copy};
 
 use crate::errors::MapError;
 use crate::handle::Handle;
@@ -16,6 +17,7 @@ impl Map {
     pub fn remove(&mut self, handle: Handle, key: u64) -> Result<Option<u64>, MapError>
         ensures done { IfOk result (λ before. IsReady self.old self.new × Changes self.old handle (λ m. before ≡ map.get m key) (λ m. map.remove m key) self.new) }
         ensures refused { IfErr result (RefusesChange self.old handle ⊥ IsAny (λ m. map.remove m key) self.new) }
+        ensures work { WorksUpTo work_of_a_change self.old self.new }
     {
         found(self.perform(Call::Remove {
             handle: handle.number(),
@@ -27,6 +29,7 @@ impl Map {
     pub fn remove_if(&mut self, handle: Handle, key: u64, value: u64) -> Result<bool, MapError>
         ensures done { IfOk result (λ done. IsReady self.old self.new × Changes self.old handle (λ m. done ≡ has_value m key value) (removed_if_it_has key value) self.new) }
         ensures refused { IfErr result (RefusesChange self.old handle ⊥ IsAny (removed_if_it_has key value) self.new) }
+        ensures work { WorksUpTo work_of_a_change self.old self.new }
     {
         truth(self.perform(Call::RemoveIf {
             handle: handle.number(),
@@ -39,6 +42,7 @@ impl Map {
     pub fn clear(&mut self, handle: Handle) -> Result<(), MapError>
         ensures done { IfOk result (λ _. IsReady self.old self.new × Changes self.old handle IsAny (λ m. map.empty) self.new) }
         ensures refused { IfErr result (RefusesClear self.old handle self.new) }
+        ensures work { WorksUpTo work_of_a_copy self.old self.new }
     {
         done(self.perform(Call::Clear {
             handle: handle.number(),

@@ -4,6 +4,7 @@ ghost use Rattle.std.specs.Prelude.{◌≡◌, IfOk, IfErr};
 ghost use Rattle.std.specs.FinMap as map;
 ghost use Rattle.history.specs.Effects.{has_value};
 ghost use Rattle.ctrie_map.specs.Changes.{Changes, IsAny, IsReady, RefusesChange, set_if_it_has, set_if_there};
+ghost use Rattle.ctrie_map.specs.Costs.{WorksUpTo, work_of_a_change};
 
 use crate::errors::MapError;
 use crate::handle::Handle;
@@ -16,6 +17,7 @@ impl Map {
     pub fn replace(&mut self, handle: Handle, key: u64, value: u64) -> Result<Option<u64>, MapError>
         ensures done { IfOk result (λ before. IsReady self.old self.new × Changes self.old handle (λ m. before ≡ map.get m key) (set_if_there key value) self.new) }
         ensures refused { IfErr result (RefusesChange self.old handle ⊥ IsAny (set_if_there key value) self.new) }
+        ensures work { WorksUpTo work_of_a_change self.old self.new }
     {
         found(self.perform(Call::Replace {
             handle: handle.number(),
@@ -34,6 +36,7 @@ impl Map {
     ) -> Result<bool, MapError>
         ensures done { IfOk result (λ done. IsReady self.old self.new × Changes self.old handle (λ m. done ≡ has_value m key old) (set_if_it_has key old new) self.new) }
         ensures refused { IfErr result (RefusesChange self.old handle ⊥ IsAny (set_if_it_has key old new) self.new) }
+        ensures work { WorksUpTo work_of_a_change self.old self.new }
     {
         truth(self.perform(Call::ReplaceIf {
             handle: handle.number(),

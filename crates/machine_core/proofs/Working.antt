@@ -1,5 +1,5 @@
 -- How little the parts of a step note and look at, and what that makes of the whole step.
-use Rattle.std.proofs.Common.{arith, ◌≡◌, ℕ, ◌+◌, ◌-◌, ◌*◌, ◌≤◌, ◌^◌, Bool, true, false, List, [], length, drop, Some, refl, sym, ap, subst, ◌∙◌}
+use Rattle.std.proofs.Common.{arith, ◌≡◌, ℕ, ◌+◌, ◌-◌, ◌*◌, ◌≤◌, ◌^◌, Bool, true, false, List, [], length, drop, Option, Some, None, refl, sym, ap, subst, ◌∙◌}
 use Rattle.std.specs.Prelude.{slice_get}
 use Rattle.std.proofs.lemmas.Option.{same_Some}
 use Rattle.ctrie_base.specs.declared.kinds.Kind.{Kind}
@@ -12,16 +12,20 @@ use Rattle.epochs.specs.declared.limbo.Zeroed.{Zeroed}
 use Rattle.epochs.specs.Limbo.{limbo_after, newly_zero}
 use Rattle.epochs.specs.Memories.{Memory, freed_by, reclaimer_of, staying}
 use Rattle.epochs.specs.Sweeping.{swept_once}
+use Rattle.machine_model.specs.declared.operations.Operation.{Operation}
 use Rattle.machine_model.specs.Counting.{refs_of_operation}
+use Rattle.machine_model.specs.States.{State, operation_of}
+use Rattle.proof_records.proofs.Privates.{privates_short}
 use Rattle.running.specs.Taking.{Taken}
 use Rattle.machine_core.specs.declared.parts.Actor.{Actor}
 use Rattle.machine_core.specs.declared.parts.Parts.{Parts}
 use Rattle.machine_core.specs.declared.parts.UnderWay.{UnderWay}
 use Rattle.machine_core.specs.Beginnings.{Leaves}
+use Rattle.machine_core.specs.Bounds.{IsOfRun}
 use Rattle.machine_core.specs.Going.{NotesCommit, NotesKind, Steps}
 use Rattle.machine_core.specs.Keeping.{Replaces}
 use Rattle.machine_core.specs.Seen.{operation_at, seen, under_way_of}
-use Rattle.machine_core.specs.Work.{ActsLittle, NotesUpTo, WorksUpTo, crossing, held_by}
+use Rattle.machine_core.specs.Work.{ActsLittle, NotesUpTo, WorksUpTo, crossing, held_by, ticks_of_a_step}
 use Rattle.machine_core.proofs.Crossing.{sweeping_pays}
 use Rattle.machine_core.proofs.Ends.{left}
 use Rattle.machine_core.proofs.Kept.{operation_there, seat_of}
@@ -47,6 +51,14 @@ held_there parts actor u runs i P after at r =
     let found = subst (λ (k : ℕ). slice_get parts.actors.items k ≡ Some r.was) at r.found in
     ap (λ o. length (refs_of_operation o)) (operation_there parts actor u seat)
     ∙ ap (λ (a : Actor). length a.programs.key.work.private) (same_Some seat.found r.was (sym seat.at ∙ found))
+
+-- never more than 33
+pub held_few : (state : State) → IsOfRun state → (actor : ℕ) → held_by state actor ≤ 33
+held_few state run actor = by (operation_of state actor) refl
+  where
+    by : (found : Option Operation) → operation_of state actor ≡ found → length (refs_of_operation found) ≤ 33
+    by None is = omega arith
+    by (Some operation) is = privates_short state.limits run.steps actor operation (subst (λ s. operation_of s actor ≡ Some operation) run.is is)
 
 -- a step of the programs
 pub steps_little : (before after : Parts) (actor : ℕ) (u : UnderWay) (taken : Taken) → under_way_of before actor ≡ Some u → Steps before actor u taken after → ActsLittle before actor after
@@ -110,7 +122,7 @@ pub swept_little : (before middle after : Memory) (did : Swept) → length befor
     after.limbo ≡ limbo_after middle.heap middle.outside middle.epoch middle.limbo → middle.ticks ≤ after.ticks →
     after.ticks + 12 * length (staying middle.heap middle.outside middle.limbo)
     ≤ middle.ticks + 3 * length middle.noted + 12 * length middle.limbo + 12 * length (newly_zero middle.heap middle.outside middle.limbo) →
-    WorksUpTo 170 before.ticks before.limbo after.ticks after.limbo
+    WorksUpTo ticks_of_a_step before.ticks before.limbo after.ticks after.limbo
 swept_little before middle after did small done left_out few ticks settled rises takes =
     let shorter : after.limbo ≡ limbo_after middle.heap middle.outside middle.epoch (drop (freed_by did) before.limbo) =
     settled ∙ ap (limbo_after middle.heap middle.outside middle.epoch) left_out in

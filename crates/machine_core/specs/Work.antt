@@ -4,8 +4,6 @@ use Rattle.slot_arena.specs.Ticking.{TakesUpTo}
 use Rattle.epochs.specs.declared.limbo.Zeroed.{Zeroed}
 use Rattle.epochs.specs.Limbo.{is_in}
 use Rattle.epochs.specs.Memories.{Memory}
-use Rattle.machine_model.specs.declared.steps.Step.{Step}
-use Rattle.machine_model.specs.declared.steps.Step.TheVariants.{Go}
 use Rattle.machine_model.specs.States.{State, operation_of}
 use Rattle.machine_model.specs.Counting.{refs_of_operation}
 use Rattle.machine_core.specs.declared.parts.Parts.{Parts}
@@ -35,18 +33,12 @@ WorksUpTo most work limbo work' limbo' = (work ≤ work') × (work' ≤ work + m
 
 -- ---- a step
 
--- how many references the actor's operation holds in its private list
-abbrev pub held_by : State → ℕ → ℕ
-held_by state actor = length (refs_of_operation (operation_of state actor))
+-- the most ticks of a step, beside what leaves limbo and comes into it: whatever the slots, the actors, the handles and the history
+abbrev pub ticks_of_a_step : ℕ
+ticks_of_a_step = 264
 
-abbrev pub held_for : State → Step → ℕ
-held_for state (Go actor) = held_by state actor
-held_for state step = 0
-
--- A step takes at most 170 ticks, and 4 for each reference in the private list of the operation that takes it, whatever the slots, the actors, the handles and
--- the history; beside what leaves limbo and comes into it.
-abbrev pub WorksLittle : Worked → Step → Worked → Type 0
-WorksLittle before step after = WorksUpTo (170 + 4 * held_for before.state step) before.work before.state.limbo after.work after.state.limbo
+abbrev pub WorksLittle : Worked → Worked → Type 0
+WorksLittle before after = WorksUpTo ticks_of_a_step before.work before.state.limbo after.work after.state.limbo
 
 -- ---- a part of one
 
@@ -55,6 +47,10 @@ pub record NotesUpTo (most looks : ℕ) (before after : Memory) : Type 0 where
   pub limbo : after.limbo ≡ before.limbo
   pub few : length after.noted ≤ length before.noted + most
   pub ticks : TakesUpTo looks before.ticks after.ticks
+
+-- how many references the actor's operation holds in its private list
+abbrev pub held_by : State → ℕ → ℕ
+held_by state actor = length (refs_of_operation (operation_of state actor))
 
 -- the step of the actor's operation, without what every step does at its end
 abbrev pub ActsLittle : Parts → ℕ → Parts → Type 0

@@ -82,7 +82,7 @@ impl Core {
     #[inline(always)]
     pub fn apply(&mut self, step: Step) -> Result<Outcome, Refusal>
         ensures applies { Applies result self.old.state (next self.old.state step) self.new.state }
-        ensures work { OnOk result (WorksLittle self.old step self.new) }
+        ensures work { OnOk result (WorksLittle self.old self.new) }
         ensures same { OnErr result (self.new ≡ self.old) }
     {
         take_step(&mut self.parts, step)

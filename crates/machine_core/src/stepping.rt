@@ -28,7 +28,7 @@ pub fn take_step(parts: &mut Parts, step: Step) -> Result<Outcome, Refusal>
     ensures applies { Applies result (seen parts.old) (next (seen parts.old) step) (seen parts.new) }
     ensures kept { IsKept parts.new }
     ensures noted { parts.new.heap.noted ≡ [] }
-    ensures work { OnOk result (WorksLittle (worked parts.old) step (worked parts.new)) }
+    ensures work { OnOk result (WorksLittle (worked parts.old) (worked parts.new)) }
     ensures idle { OnErr result (parts.new.heap.ticks ≡ parts.old.heap.ticks) }
 {
     match step {
@@ -48,7 +48,7 @@ fn begin(parts: &mut Parts, actor: u8, call: Call) -> Result<Outcome, Refusal>
     ensures applies { Applies result (seen parts.old) (next (seen parts.old) (steps.Begin actor call)) (seen parts.new) }
     ensures kept { IsKept parts.new }
     ensures noted { parts.new.heap.noted ≡ [] }
-    ensures work { OnOk result (WorksLittle (worked parts.old) (steps.Begin actor call) (worked parts.new)) }
+    ensures work { OnOk result (WorksLittle (worked parts.old) (worked parts.new)) }
     ensures idle { OnErr result (parts.new.heap.ticks ≡ parts.old.heap.ticks) }
 {
     match begin_denial(parts, actor, call) {
@@ -67,7 +67,7 @@ pub fn go(parts: &mut Parts, actor: u8) -> Result<Outcome, Refusal>
     ensures applies { Applies result (seen parts.old) (next (seen parts.old) (steps.Go actor)) (seen parts.new) }
     ensures kept { IsKept parts.new }
     ensures noted { parts.new.heap.noted ≡ [] }
-    ensures work { OnOk result (WorksLittle (worked parts.old) (steps.Go actor) (worked parts.new)) }
+    ensures work { OnOk result (WorksLittle (worked parts.old) (worked parts.new)) }
     ensures idle { OnErr result (parts.new.heap.ticks ≡ parts.old.heap.ticks) }
 {
     match go_denial(parts, actor) {
@@ -86,7 +86,7 @@ fn sweep(parts: &mut Parts) -> Result<Outcome, Refusal>
     ensures applies { Applies result (seen parts.old) (next (seen parts.old) steps.Sweep) (seen parts.new) }
     ensures kept { IsKept parts.new }
     ensures noted { parts.new.heap.noted ≡ [] }
-    ensures work { OnOk result (WorksLittle (worked parts.old) steps.Sweep (worked parts.new)) }
+    ensures work { OnOk result (WorksLittle (worked parts.old) (worked parts.new)) }
     ensures idle { OnErr result (parts.new.heap.ticks ≡ parts.old.heap.ticks) }
 {
     match sweep_denial(parts) {
@@ -106,7 +106,7 @@ fn take_begin(parts: &mut Parts, actor: u8, call: Call) -> Result<Outcome, Refus
     ensures only_memory { IfErr result (λ refusal. refusal ≡ Refusal.Memory) }
     ensures kept { IsKept parts.new }
     ensures noted { parts.new.heap.noted ≡ [] }
-    ensures work { OnOk result (WorksLittle (worked parts.old) (steps.Begin actor call) (worked parts.new)) }
+    ensures work { OnOk result (WorksLittle (worked parts.old) (worked parts.new)) }
     ensures idle { OnErr result (parts.new.heap.ticks ≡ parts.old.heap.ticks) }
 {
     make_room(parts)?;
@@ -128,7 +128,7 @@ fn take_go(parts: &mut Parts, actor: u8) -> Result<Outcome, Refusal>
     ensures only_memory { IfErr result (λ refusal. refusal ≡ Refusal.Memory) }
     ensures kept { IsKept parts.new }
     ensures noted { parts.new.heap.noted ≡ [] }
-    ensures work { OnOk result (WorksLittle (worked parts.old) (steps.Go actor) (worked parts.new)) }
+    ensures work { OnOk result (WorksLittle (worked parts.old) (worked parts.new)) }
     ensures idle { OnErr result (parts.new.heap.ticks ≡ parts.old.heap.ticks) }
 {
     let outcome = go_on(parts, actor)?;

@@ -20,7 +20,7 @@ pub fn sweep_once(parts: &mut Parts) -> Outcome
     ensures swept { next (seen parts.old) steps.Sweep ≡ Ok (result, seen parts.new) }
     ensures kept { IsKept parts.new }
     ensures noted { parts.new.heap.noted ≡ [] }
-    ensures work { WorksLittle (worked parts.old) steps.Sweep (worked parts.new) }
+    ensures work { WorksLittle (worked parts.old) (worked parts.new) }
 {
     let swept = parts.heap.sweep();
     parts.heap.settle();

@@ -79,3 +79,8 @@ NumbersStay =
     (limits : Limits) (steps : List Step) (actor : ℕ) (operation : Operation) → AreLimits limits → go_denial (run limits steps) actor ≡ None →
     operation_of (run limits steps) actor ≡ Some operation → GoesOn (action_of (run limits steps) operation) → (handle : ℕ) → handle < handle_limit →
     is_taken (gone (run limits steps) actor operation) handle ≡ is_taken (run limits steps) handle
+
+-- a private list has 33 references at most: the links and the branch of a renewed node of 32 entries
+abbrev pub PrivatesAreShort : Type 0
+PrivatesAreShort =
+    (limits : Limits) (steps : List Step) (actor : ℕ) (operation : Operation) → operation_of (run limits steps) actor ≡ Some operation → length operation.private ≤ 33

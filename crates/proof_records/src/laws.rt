@@ -1,6 +1,6 @@
 //! Laws of what the steps of a machine add to its record.
 
-ghost use Rattle.proof_records.specs.Laws.{CommittedAreNewest, IdsApart, NumbersStay, OnePlaceAStep, OwnerEnters, OwnersStay};
+ghost use Rattle.proof_records.specs.Laws.{CommittedAreNewest, IdsApart, NumbersStay, OnePlaceAStep, OwnerEnters, OwnersStay, PrivatesAreShort};
 
 /// A law: a step adds at most one place to the order.
 pub fn one_place_a_step()
@@ -31,4 +31,9 @@ pub fn owners_stay()
 /// A law: a step of an operation that isn't its end leaves each handle number taken or free.
 pub fn numbers_stay()
     ensures { NumbersStay }
+{}
+
+/// A law: a running operation's private list has 33 references at most.
+pub fn privates_are_short()
+    ensures { PrivatesAreShort }
 {}

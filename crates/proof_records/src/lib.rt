@@ -5,4 +5,5 @@ mod laws;
 
 pub use laws::{
     committed_are_newest, ids_apart, numbers_stay, one_place_a_step, owner_enters, owners_stay,
+    privates_are_short,
 };

@@ -1,6 +1,7 @@
 -- An operation that goes on alone ends, by the law.
 use Rattle.std.specs.Prelude.{◌≢◌, ◌⊎◌, true, length}
 use Rattle.std.proofs.Common.{◌≡◌, ℕ, zero, suc, ◌+◌, ◌<◌, ◌≤◌, List, ◌∷◌, [], ◌++◌, replicate, Option, Some, None, Result, Ok, Err, OnOk, inl, inr, refl, sym, ap, subst, ◌∙◌, append_assoc, arith}
+use Rattle.std.proofs.lemmas.Bool.{cases_lt}
 use Rattle.std.proofs.lemmas.List.{append-nil, replicate-append-replicate}
 use Rattle.ctrie_base.specs.declared.refusals.Refusal.{Refusal}
 use Rattle.ctrie_base.specs.declared.refusals.Refusal.TheVariants as refuse
@@ -21,9 +22,11 @@ use Rattle.machine_model.specs.Acting.{ended as ended_state}
 use Rattle.machine_model.specs.Moves.{Moves, Begins, Goes, Ends, Sweeps, begun_operation}
 use Rattle.machine_model.specs.Counting.{settled}
 use Rattle.machine_model.specs.Going.{go_limit}
-use Rattle.machine_model.specs.Machine.{AreLimits, Answer, next, begin_denial, begin_unless, run, with_begin}
-use Rattle.machine_model.specs.States.{State, operation_of}
+use Rattle.machine_model.specs.Machine.{AreLimits, Answer, next, next_state, begin_denial, begin_unless, run, with_begin}
+use Rattle.machine_model.specs.States.{State, first_state, operation_of}
 use Rattle.step_machine.specs.Beneath.proof_commits.proofs.Known.StepsAt.{begin_own, end_own}
+use Rattle.machine_model.proofs.Along.{kept_by_moves, run_push}
+use Rattle.machine_model.proofs.Frames.{steps_counted}
 use Rattle.machine_model.proofs.HeapMoves.{begin_heap}
 use Rattle.step_machine.specs.Beneath.proof_order.proofs.Views.Unconditional.{books_of}
 use Rattle.step_machine.specs.Beneath.proof_order.proofs.History.Recalling.{begin_event}
@@ -36,7 +39,7 @@ use Rattle.proof_obstruction_free.specs.Laws.{EachStepLeadsToItsEnd, EndsAt, Goe
 use Rattle.proof_obstruction_free.specs.Slots.{EnoughForCopies, EnoughForTries}
 use Rattle.proof_obstruction_free.proofs.Slots.AtBegin.{tries_first}
 use Rattle.machine_model.specs.Lines.{new_try}
-use Rattle.step_machine.specs.Machines.{Taken, state_of, with_step, Applied}
+use Rattle.step_machine.specs.Machines.{Taken, state_of, with_step, Applied, IsTaken}
 use Rattle.step_machine.specs.Callers.{after_go, going_on, Resumes, Completes, CompletesUnless}
 use Rattle.step_machine.specs.Ending.{EndsIfSure, EndsIn, IsAnswer, IsBounded, IsNearer, IsSure, enough_slots}
 use Rattle.step_machine.proofs.Going.{goes, ends}
@@ -84,9 +87,15 @@ enough_for_call tries copies limits steps actor operation alone stands = by_call
     by_call (Close h) is few = absurd (subst IsOnKeyOrRoot is alone.call)
     by_call call is few = tries limits steps actor operation alone stands few
 
+-- a step is counted, if it is taken
+step_within : (state : State) (s : Step) → (state.steps ≤ (next_state state s).steps) × ((next_state state s).steps ≤ state.steps + 1)
+step_within state s =
+    kept_by_moves (λ x. (state.steps ≤ x.steps) × (x.steps ≤ state.steps + 1)) state s (omega arith, omega arith)
+    (λ o after m. let counted = steps_counted state s o after m in (omega (arith, counted), omega (arith, counted)))
+
 module _ (machine : Taken) (actor : ℕ) where
   -- the machine after so many steps of this actor
-  abbrev after : ℕ → Taken
+  abbrev pub after : ℕ → Taken
   after n = record machine { steps = machine.steps ++ replicate n (step.Go actor) }
 
   one_more : (n : ℕ) → after (suc n) ≡ with_step (after n) (step.Go actor)
@@ -94,6 +103,14 @@ module _ (machine : Taken) (actor : ℕ) where
 
   begins : after 0 ≡ machine
   begins = ap (λ l. record machine { steps = l }) (append-nil machine.steps)
+
+  -- each is one step more at most
+  pub steps_within : (n : ℕ) → ((state_of machine).steps ≤ (state_of (after n)).steps) × ((state_of (after n)).steps ≤ (state_of machine).steps + n)
+  steps_within zero = let same = ap (λ m. (state_of m).steps) begins in (omega (arith, same), omega (arith, same))
+  steps_within (suc n) =
+      let before = steps_within n in
+      let last = ap (λ m. (state_of m).steps) (one_more n) ∙ ap (λ (s : State). s.steps) (run_push (first_state machine.limits) (after n).steps (step.Go actor)) in
+      let one = step_within (state_of (after n)) (step.Go actor) in (omega (arith, before.0, last, one.0), omega (arith, before.1, last, one.1))
 
   -- as long as each step goes on
   going : (n : ℕ) → ((k : ℕ) → k < n → GoesOnAt machine.limits machine.steps actor k) → going_on n actor machine ≡ (Ok None, after n)
@@ -144,6 +161,13 @@ module _ (machine : Taken) (actor : ℕ) where
   closed_told (suc n) id last state e goes =
       let (told, to) = answered_parts Closed NoSlots (with_step machine (step.Go actor)) last (sym (ap (after_go (going_on n actor) machine actor) e) ∙ goes) in cc told
 
+  -- the end comes with the last of so many steps, each of which is taken
+  pub record Comes (last : Taken) : Type 0 where
+    pub before : ℕ
+    pub few : before < most_steps_alone
+    pub is : last ≡ after (suc before)
+    pub taken : (k : ℕ) → k ≤ before → IsTaken (state_of (after k)) (step.Go actor)
+
   module _ (law : EachStepLeadsToItsEnd) (closes : ClosesEnd) (sizes : AreLimits machine.limits) (keys : KeysFit machine.steps) (operation : Operation)
       (runs : operation_of (state_of machine) actor ≡ Some operation) (sure : IsSure (state_of machine) operation.call most_steps_alone) where
     abbrev LeadsToEnd : Type 0
@@ -168,6 +192,22 @@ module _ (machine : Taken) (actor : ℕ) where
         let (n, few, on, last) = leads (bounded operation.call sure.0) in
         let within : n < go_limit = omega (arith, few) in
         (last.0, after (suc n), ends n actor operation.id last.0 (outcome.Ended operation.id last.0) machine (after n) (after (suc n)) within (going n on) refl (one_more n, last.1))
+
+    -- so does this one
+    pub comes : (answer : Reply) (last : Taken) → going_on go_limit actor machine ≡ (Ok (Some answer), last) → Comes last
+    comes answer to goes =
+        let (n, few, on, last) = leads (bounded operation.call sure.0) in
+        let within : n < go_limit = omega (arith, few) in
+        let led = ends n actor operation.id last.0 (outcome.Ended operation.id last.0) machine (after n) (after (suc n)) within (going n on) refl (one_more n, last.1) in
+        record {
+          before = n;
+          few = few;
+          is = ap (λ g. g.1) (sym goes ∙ led);
+          taken = λ k low. elim (cases_lt k n) [
+            | inl less ↦ rw (on k less).1 refl
+            | inr past ↦ let same : n ≡ k = omega (arith, low, past) in subst (λ j. IsTaken (state_of (after j)) (step.Go actor)) same (rw last.1 refl)
+          ];
+        }
 
     -- and none of them is denied
     pub ends_in : (n : ℕ) × (n ≤ most_steps_alone) × EndsIn n actor machine
@@ -216,10 +256,10 @@ module _ (before : Taken) (actor : ℕ) (call : Call) (d : begin_denial (state_o
   abbrev pub middle : Taken
   middle = with_step before (step.Begin actor call)
 
-  abbrev begun_so : State
+  abbrev pub begun_so : State
   begun_so = settled (state_of before) (with_begin (state_of before) actor call (begun_operation (state_of before) call))
 
-  led_so : state_of middle ≡ begun_so
+  pub led_so : state_of middle ≡ begun_so
   led_so = let (o, e) = begun_state (state_of before) actor call d in stepped before (step.Begin actor call) o begun_so e
 
   -- the operation that began runs

@@ -11,3 +11,4 @@ pub mod Ending
 pub mod Applying
 pub mod Resting
 pub mod Looking
+pub mod Freeing

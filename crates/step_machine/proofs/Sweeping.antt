@@ -1,17 +1,19 @@
 -- Steps of the sweep, one after the other.
 use Rattle.std.specs.Prelude.{◌≡◌, ◌<◌, ◌+◌, ◌^◌, ℕ, zero, suc, Bool, true, false, [], None, Result, Ok, Err}
 use Rattle.std.proofs.Common.{refl, sym, ap, subst, arith, ◌∙◌}
+use Rattle.std.proofs.lemmas.Bool.{false≢true}
 use borrow.Author.Count.{below_more}
 use Rattle.ctrie_base.specs.declared.refusals.Refusal.{Refusal}
 use Rattle.ctrie_base.specs.declared.refusals.Refusal.TheVariants as refuse
 use Rattle.machine_model.specs.declared.steps.Step.TheVariants.{Sweep}
 use Rattle.machine_model.specs.declared.steps.Outcome.{Outcome}
 use Rattle.machine_model.specs.States.{State}
-use Rattle.machine_model.specs.Machine.{next, denial_of, is_busy, is_spent}
+use Rattle.machine_model.specs.Machine.{Answer, next, denial_of, is_busy, is_spent, is_taken_step}
 use Rattle.machine_model.proofs.Moves.{moved}
 use Rattle.machine_model.proofs.Frames.{steps_counted}
 use Rattle.step_machine.specs.Machines.{Taken, state_of, with_step, IsTaken, Applied}
 use Rattle.step_machine.specs.Callers.{Stepped, swept, HasLimbo, AreNeeded, Reclaims}
+use Rattle.step_machine.proofs.Telling.{stepped}
 
 -- so many steps of the sweep led here, and each was taken and needed
 pub record IsSwept (before machine : Taken) : Type 0 where
@@ -90,3 +92,8 @@ nearer machine after taken =
       counted (state_of machine) (is_spent (state_of machine)) o (state_of after) refl step.1,
       steps_counted (state_of machine) Sweep o (state_of after) (moved (state_of machine) Sweep o (state_of after) step.1),
     )
+
+-- a step that the definition takes
+pub step_by : (machine : Taken) (answer : Answer) → next (state_of machine) Sweep ≡ answer → is_taken_step answer ≡ true → Stepped (Ok tt) machine Sweep (with_step machine Sweep)
+step_by machine (Ok (o, state)) e taken = (o, (refl, e ∙ ap (λ s. Ok (o, s)) (sym (stepped machine Sweep o state e))))
+step_by machine (Err why) e taken = absurd (false≢true taken)

@@ -8,7 +8,7 @@ ghost use Rattle.history.specs.declared.calls.Call.{Call};
 ghost use Rattle.step_machine.specs.Machines.{Taken, state_of};
 ghost use Rattle.step_machine.specs.Callers.{Stepped, Resumes, Completes, Reclaims};
 ghost use Rattle.machine_model.specs.Machine.{is_busy};
-ghost use Rattle.step_machine.specs.Reclaiming.{UsesReached, LooksSame};
+ghost use Rattle.step_machine.specs.Reclaiming.{UsesReached, LooksSame, SweepsFew};
 ghost use Rattle.step_machine.specs.Legality.{ActedAlone, RestsIfAnswered, WentAlone};
 ghost use Rattle.step_machine.specs.Ending.{CompletesIfSure, IsSpared, ResumesIfSure};
 
@@ -100,9 +100,11 @@ impl Machine {
     /// Takes steps of the sweep until limbo is empty: the slots in use are then exactly those that the open
     /// handles reach. History, order and contents stay as they are. `Busy` while any operation runs: nothing
     /// has changed then. After `Memory` or `Spent` the steps taken so far stand; `Spent` where the machine has
-    /// taken all its steps, and `Memory` only where it hasn't.
+    /// taken all its steps, and `Memory` only where it hasn't. For each slot that becomes free it takes at most
+    /// three steps and two for each actor of the machine.
     pub fn reclaim(&mut self) -> Result<(), Refusal>
         ensures steps { Reclaims result self.old self.new }
+        ensures few { SweepsFew result self.old self.new }
         ensures reached { OnOk result (UsesReached (state_of self.new)) }
         ensures same { LooksSame (state_of self.old) (state_of self.new) }
     {

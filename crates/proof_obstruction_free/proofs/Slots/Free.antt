@@ -99,7 +99,7 @@ module _ (limits : Limits) (steps : List Step) (actor : ℕ) where
       by_test = by (makes_next (after n) actor) refl (cases_lt less (length (after n).heap.free))
 
   -- so no more slots are taken than nodes are made
-  free_after : (n : ℕ) → length (run limits steps).heap.free ≤ length (after n).heap.free + made n
+  pub free_after : (n : ℕ) → length (run limits steps).heap.free ≤ length (after n).heap.free + made n
   free_after zero = omega (arith, ap (λ (x : State). length x.heap.free) (none_more limits steps actor), none_made)
   free_after (suc n) = let before = free_after n in let next = free_next n in let one = one_made n in omega (arith, before, next, one)
 

@@ -6,4 +6,5 @@ use Rattle.ctrie_c.proofs.copying.ctrie_snapshot.Goals as goal
 pub returns-in-Some-clause-does : goal.returns-in-Some-clause-does
 returns-in-Some-clause-does c =
     carried (λ h. Opens h Writable)
-    c.new.ensures c.deref_mut.ensures.value c.in-Some.ensures.some c.give.ensures c.tell_handle.ensures.bound c.tell_handle.ensures.told (c.snapshot-told.ensures.done, c.snapshot-told.ensures.refused)
+    c.new.ensures c.deref_mut.ensures.value c.in-Some.ensures.some c.give.ensures c.tell_handle.ensures.bound c.tell_handle.ensures.told
+    (c.snapshot-told.ensures.done, c.snapshot-told.ensures.refused, c.snapshot-told.ensures.work)

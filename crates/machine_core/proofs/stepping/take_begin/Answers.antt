@@ -8,7 +8,7 @@ use Rattle.machine_core.specs.Seen.{seen}
 use Rattle.machine_core.proofs.Begun.{leads_from_room}
 use Rattle.machine_core.proofs.Bounded.{bounded}
 use Rattle.machine_core.proofs.Steps.{leads_taken}
-use Rattle.machine_core.specs.Work.{NotesUpTo}
+use Rattle.machine_core.specs.Work.{NotesUpTo, ticks_of_a_step}
 use Rattle.machine_core.proofs.Working.{settled_little, weaker}
 use Rattle.machine_core.specs.declared.parts.Parts.{Parts}
 use Rattle.machine_core.proofs.stepping.take_begin.Goals as goal
@@ -36,5 +36,5 @@ returns-clause-work c =
     let before = c.args.parts.now.heap in
     let after = c.settle.new.parts.heap in
     let little = subst (λ (p : Parts). NotesUpTo 8 8 p.heap c.begin_operation.new.parts.heap) c.make_room.ensures.rest c.begin_operation.ensures.work in
-    weaker 32 170 before.ticks after.ticks before.limbo after.limbo (omega arith)
+    weaker 32 ticks_of_a_step before.ticks after.ticks before.limbo after.limbo (omega arith)
     (settled_little 8 8 before c.begin_operation.new.parts.heap after c.requires.noted little c.settle.ensures.work)

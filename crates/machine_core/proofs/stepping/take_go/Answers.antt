@@ -3,8 +3,8 @@ use Rattle.machine_model.specs.declared.steps.Step.TheVariants as steps
 use Rattle.machine_core.specs.Seen.{seen}
 use Rattle.machine_core.proofs.Bounded.{bounded}
 use Rattle.machine_core.proofs.Steps.{go_leads, leads_taken}
-use Rattle.machine_core.specs.Work.{held_by}
-use Rattle.machine_core.proofs.Working.{settled_little, weaker}
+use Rattle.machine_core.specs.Work.{held_by, ticks_of_a_step}
+use Rattle.machine_core.proofs.Working.{held_few, settled_little, weaker}
 use Rattle.machine_core.proofs.stepping.take_go.Goals as goal
 
 pub settle-requires-clause-steps : goal.settle-requires-clause-steps
@@ -25,5 +25,5 @@ returns-clause-work c =
     let before = c.args.parts.now.heap in
     let after = c.settle.new.parts.heap in
     let held = held_by (seen c.args.parts.now) c.args.actor in
-    weaker (36 + held + 3 * (32 + held)) (170 + 4 * held) before.ticks after.ticks before.limbo after.limbo (omega arith)
+    weaker (36 + held + 3 * (32 + held)) ticks_of_a_step before.ticks after.ticks before.limbo after.limbo (omega (arith, held_few (seen c.args.parts.now) c.requires.run c.args.actor))
     (settled_little (32 + held) (36 + held) before c.go_on.new.parts.heap after c.requires.noted c.in_ok-outcome.ensures.work c.settle.ensures.work)

@@ -7,9 +7,9 @@ use Rattle.ctrie_map.proofs.map.Map.remove.Goals as goal
 pub returns-clause-done : goal.returns-clause-done
 returns-clause-done c =
     remove_done c.args.self.now c.args.handle c.args.key c.perform.new.self c.perform.result c.found.result c.found.ensures
-    (subst (λ h. Performs c.perform.result c.args.self.now (Remove h c.args.key) c.perform.new.self) c.number.ensures c.perform.ensures)
+    (subst (λ h. Performs c.perform.result c.args.self.now (Remove h c.args.key) c.perform.new.self) c.number.ensures c.perform.ensures.performs)
 
 pub returns-clause-refused : goal.returns-clause-refused
 returns-clause-refused c =
     remove_refused c.args.self.now c.args.handle c.args.key c.perform.new.self c.perform.result c.found.result c.found.ensures
-    (subst (λ h. Performs c.perform.result c.args.self.now (Remove h c.args.key) c.perform.new.self) c.number.ensures c.perform.ensures)
+    (subst (λ h. Performs c.perform.result c.args.self.now (Remove h c.args.key) c.perform.new.self) c.number.ensures c.perform.ensures.performs)

@@ -1,5 +1,9 @@
+use Rattle.step_machine.proofs.Freeing.{sweeps_few}
 use Rattle.step_machine.proofs.Reclaiming.{looks_same, on_ok}
 use Rattle.step_machine.proofs.machine.Machine.reclaim.Goals as goal
+
+pub returns-clause-few : goal.returns-clause-few
+returns-clause-few c = sweeps_few c.sweep_all-result.result c.args.self.now c.sweep_all-result.new.self c.limits.ensures.in_range c.sweep_all-result.ensures
 
 pub returns-clause-reached : goal.returns-clause-reached
 returns-clause-reached c =
