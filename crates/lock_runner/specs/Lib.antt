@@ -4,6 +4,7 @@ pub mod Boards
 pub mod Plays
 pub mod Gate
 pub mod Seats
+pub mod Naming
 pub mod Holds
 pub mod Stepping
 pub mod Performing

@@ -9,6 +9,8 @@ mod gate;
 mod holding;
 mod laws;
 mod lending;
+mod named_calls;
+mod naming;
 mod opening;
 mod performing;
 mod runner;
@@ -22,6 +24,7 @@ pub use laws::{
     answers_are_those_of_the_history, others_leave_the_account, own_steps_make_the_account,
     running_ids_differ,
 };
+pub use naming::{Name, NamedRunner, NamedSeat};
 pub use runner::Runner;
 pub use seats::{Seat, Stop};
 pub use step_machine::{GO_LIMIT, Limits, Machine, Outcome, Record, Step, run};

@@ -1,7 +1,6 @@
 -- Look-ups in a list with one element more.
-use Rattle.std.specs.Prelude.{◌≡◌, ℕ, zero, suc, ◌⊎◌, List, [], ◌∷◌, ◌++◌, length, Some, slice_get}
-use Rattle.std.proofs.Common.{refl, inl, inr, arith}
-use Rattle.std.proofs.lemmas.Option.{none-some, same_Some}
+use Rattle.std.specs.Prelude.{◌≡◌, List, [], ◌∷◌, ◌++◌, length, Some, slice_get}
+use Rattle.std.proofs.Common.{refl}
 pub use Rattle.lock_runner.specs.Beneath.proof_order.proofs.History.Growing.{get_left}
 pub use Rattle.history.proofs.Places.{at_cases as get_push}
 

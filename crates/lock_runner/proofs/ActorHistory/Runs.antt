@@ -19,7 +19,7 @@ use Rattle.lock_runner.specs.ActorHistory.{account_of, begun_at}
 use Rattle.lock_runner.specs.ActorHistory.Answers.{RunsNoOther}
 use Rattle.lock_runner.proofs.ActorHistory.Places.{get_left, get_last, get_push}
 use Rattle.lock_runner.proofs.ActorHistory.Turns.{Turns, Comes, Stays, Leaves, Rests, turns}
-use Rattle.lock_runner.proofs.ActorHistory.Sound.{told, Sound, IsAnswered, sound_along, fits_after, later_own, later_other, leave_other, leave_own}
+use Rattle.lock_runner.proofs.ActorHistory.Sound.{Sound, IsAnswered, sound_along, fits_after, later_own, later_other, leave_other, leave_own}
 use Rattle.lock_runner.proofs.ActorHistory.Steps.{none_told}
 use Rattle.lock_runner.proofs.ActorHistory.Told.{same_begin, apart_events}
 

@@ -1,5 +1,5 @@
 use Rattle.std.proofs.Common.{◌≡◌}
-use Rattle.lock_runner.proofs.runner.Runner.enter.Given as goal
+use Rattle.lock_runner.proofs.runner.Runner.wait_and_enter.Given as goal
 
 abbrev pub invariant-loop : goal.invariant-loop
 invariant-loop g l =
