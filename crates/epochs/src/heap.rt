@@ -22,8 +22,7 @@ use slot_arena::{Arena, Node, Prev, Ref, Remarks};
 use std::alloc::Global;
 use std::marker::Model;
 
-/// Slots whose nodes are freed two epochs after nothing refers to them any more. A slot to which
-/// nothing refers waits in limbo; which do is settled at the end of each step.
+/// Slots whose nodes are freed two epochs after nothing refers to them; until then they wait in limbo.
 #[derive(Drop)]
 pub struct Heap {
     arena: Arena,
@@ -92,6 +91,7 @@ impl Heap {
 
     /// Takes the first free slot for a node, under a new birth, and holds it: it has one reference from
     /// outside, no owner and no commit; None where no slot is free.
+    #[inline(always)]
     pub fn make_held(&mut self, node: Node) -> Option<Ref>
         requires births { self.old.heap.births + 1 < 2 ^ 48 }
         requires live { AreLive self.old.heap (refs_of_node node) }

@@ -58,6 +58,7 @@ pub enum Building {
 }
 
 /// The node that is made at the end of this path, for a change of this main node.
+#[inline(always)]
 pub(crate) fn built(heap: &Heap, task: Task, path: &[Ref], main: Ref, building: &Building) -> Node
     ensures { result ≡ built heap.now.heap task (build_line path.now main building.now) }
 {

@@ -158,6 +158,7 @@ impl Change {
     }
 
     /// Makes a node, and stands on the line behind that.
+    #[inline(always)]
     fn make(
         &mut self,
         work: &mut Work,

@@ -70,6 +70,7 @@ impl Arena {
 
     /// Takes the first free slot for a node, under a new birth, and holds it: it has one reference from
     /// outside; None where no slot is free.
+    #[inline(always)]
     pub fn make_held(&mut self, node: Node) -> Option<Ref>
         requires births { self.old.heap.births + 1 < 2 ^ 48 }
         requires live { AreLive self.old.heap (refs_of_node node) }

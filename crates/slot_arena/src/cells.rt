@@ -109,6 +109,7 @@ impl Cells {
     }
 
     /// Puts a node into a slot, under a birth.
+    #[inline(always)]
     pub(crate) fn fill(&mut self, slot: u16, birth: u64, node: Node)
         requires within { slot < length self.old }
         requires born { 0 < birth }

@@ -14,6 +14,7 @@ use slot_arena::{Node, Ref};
 
 /// A main node after the change, where `flag` is that of the call's key. What is no branch or list stays as
 /// it is.
+#[inline(always)]
 pub fn changed_at(heap: &Heap, main: Ref, flag: u32, change: Change) -> Node
     requires { 0 < flag }
     ensures { result ≡ changed flag (node_at heap.now.heap main) change }
@@ -25,6 +26,7 @@ pub fn changed_at(heap: &Heap, main: Ref, flag: u32, change: Change) -> Node
 }
 
 /// The node after the change.
+#[inline(always)]
 fn changed(flag: u32, node: &Node, change: Change) -> Node
     requires { 0 < flag }
     ensures { result ≡ changed flag node.now change }
@@ -47,6 +49,7 @@ fn changed(flag: u32, node: &Node, change: Change) -> Node
 }
 
 /// A branch after the change, where `flag` is that of the call's key.
+#[inline(always)]
 fn changed_branch(flag: u32, bitmap: u32, entries: &[Ref], change: Change) -> Node
     requires { 0 < flag }
     ensures { result ≡ changed_branch flag bitmap entries.now change }

@@ -41,6 +41,7 @@ impl Private {
 
     /// Makes a node. Where no slot is free all that was made before is given up. After an error nothing has
     /// changed.
+    #[inline(always)]
     pub fn make(&mut self, heap: &mut Heap, node: Node) -> Result<Option<Ref>, AllocError>
         requires births { heap.old.heap.births + 1 < 2 ^ 48 }
         requires live { AreLive heap.old.heap (refs_of_node node) }
@@ -69,6 +70,7 @@ impl Private {
     }
 
     /// As `make`, fact by fact.
+    #[inline(always)]
     fn take(&mut self, heap: &mut Heap, node: Node) -> Result<Option<Ref>, AllocError>
         requires births { heap.old.heap.births + 1 < 2 ^ 48 }
         requires live { AreLive heap.old.heap (refs_of_node node) }

@@ -46,6 +46,7 @@ impl Work {
 
     /// Makes a node. Where no slot is free all that was made before is given up. After an error, which is want
     /// of memory, nothing has changed.
+    #[inline(always)]
     pub fn make(&mut self, heap: &mut Heap, node: Node) -> Result<Option<Ref>, Refusal>
         requires can { CanMake heap.old.heap node }
         requires held { AreHeld self.old.private heap.old }
