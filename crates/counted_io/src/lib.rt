@@ -11,6 +11,3 @@ pub use counting::Counted;
 pub use failures::Failure;
 pub use reading::read_all;
 pub use writing::write_all;
-
-#[cfg(test)]
-mod tests;

@@ -15,6 +15,3 @@ fn main(rt: HostRuntime) -> ExitCode {
     }
     ExitCode::from(outcomes::exit_status(&outcome))
 }
-
-#[cfg(test)]
-mod tests;

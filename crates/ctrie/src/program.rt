@@ -36,7 +36,7 @@ fn words_of<R: AllocGlobal + Env>(rt: &R) -> Result<Vec<String>, Fault>
 }
 
 /// The file, of which no call has failed.
-pub fn opened<R: Files>(rt: &R, path: &str) -> Result<Counted<R::File>, Fault>
+fn opened<R: Files>(rt: &R, path: &str) -> Result<Counted<R::File>, Fault>
     ensures none { IfOk result (λ input. failures input ≡ 0) }
     ensures faults { IfErr result (λ fault. (fault ≡ Fault.Read) ⊎ (fault ≡ Fault.Memory)) }
 {

@@ -15,6 +15,3 @@ pub use paths::flag_position;
 pub use refusals::Refusal;
 pub use ticks::Ticks;
 pub use traces::{Change, Trace};
-
-#[cfg(test)]
-mod tests;

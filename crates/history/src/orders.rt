@@ -21,9 +21,6 @@ use crate::worlds::{World, reply_of};
 use ctrie_base::{HashKind, Refusal};
 use std::alloc::Global;
 
-#[cfg(test)]
-mod tests;
-
 /// Whether the order is legal for the history: the history is well formed; the order's ids are distinct, have
 /// begun, and are every operation that was answered and none that was refused for want of slots; no
 /// operation stands behind one that began after its end; and the calls, one after the other in this order, have

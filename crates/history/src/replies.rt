@@ -131,6 +131,3 @@ impl Reply {
         }
     }
 }
-
-#[cfg(test)]
-mod tests;

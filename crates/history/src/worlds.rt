@@ -198,6 +198,3 @@ pub fn reply_of(
         Call::Count { handle } => Ok(world.count(handle)),
     }
 }
-
-#[cfg(test)]
-mod tests;

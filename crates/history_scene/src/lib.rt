@@ -10,6 +10,3 @@ mod stands;
 
 pub use colours::Colour;
 pub use scenes::{Bar, Scene, Stand, has_each_operation, scene_of};
-
-#[cfg(test)]
-mod tests;

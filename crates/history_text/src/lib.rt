@@ -25,6 +25,3 @@ pub use reading::{Given, read_history};
 pub use reply_text::ReplyText;
 pub use text_lines::Told;
 pub use words::{actor_word, handle_word};
-
-#[cfg(test)]
-mod tests;

@@ -11,6 +11,3 @@ mod style;
 
 pub use document::SceneSvg;
 pub use laws::is_harmless;
-
-#[cfg(test)]
-mod tests;

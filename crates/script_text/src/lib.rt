@@ -15,6 +15,3 @@ pub use reading::{Script, read_script};
 pub use text_lines::Told;
 pub use thread_lines::ThreadLine;
 pub use thread_scripts::read_thread_script;
-
-#[cfg(test)]
-mod tests;

@@ -9,6 +9,3 @@ mod words;
 pub use faults::Told;
 pub use reading::{LineReader, read_text};
 pub use words::{both, number_from, number_of, number_word};
-
-#[cfg(test)]
-mod tests;

@@ -1,6 +1,6 @@
 //! Tests of replies.
 
-use super::{Pairs, Reply};
+use history::{Pairs, Reply};
 use std::test::Fail;
 
 #[test]

@@ -1,8 +1,7 @@
 //! Tests of the effects of calls.
 
-use super::{World, reply_of};
-use crate::calls::Call;
 use ctrie_base::HashKind;
+use history::{Call, World, reply_of};
 use std::process::Abort;
 use std::test::Fail;
 

@@ -1,15 +1,7 @@
-use super::*;
-use crate::words::cut;
-use ctrie_base::Refusal;
-use std::test::Fail;
+//! Tests of words and numbers.
 
-#[test]
-fn cuts_at_each_space(rt: HostRuntime) -> Result<(), Fail> {
-    let words = cut(rt.alloc(), b"put 0  1 ", b' ')?;
-    let wanted: [&[u8]; 5] = [b"put", b"0", b"", b"1", b""];
-    assert!(rt; words.as_slice() == wanted.as_slice());
-    Ok(())
-}
+use ctrie_base::Refusal;
+use text_lines::{both, number_from, number_of, number_word};
 
 // Words that are no number up to 65,535.
 const NONE: [&[u8]; 8] = [b"", b"-1", b"+5", b"05", b"00", b"65536", b"1 ", b"\xff"];

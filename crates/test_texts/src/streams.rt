@@ -2,7 +2,7 @@
 
 mod fakes;
 
-use crate::{Counted, Failure, read_all, write_all};
+use counted_io::{Counted, Failure, read_all, write_all};
 use fakes::{FailsAt, NEVER, Sink, Source};
 use std::alloc::AllocError;
 use std::io::{ErrorKind, Read, Write};

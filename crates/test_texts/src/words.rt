@@ -1,6 +1,6 @@
 //! Names, numbers, hashes and positions, against tables written by hand.
 
-use crate::{
+use ctrie_base::{
     Block, Fold, HashKind, KeyHash, Kind, Low, Refusal, Ticks, Trace, Wide, flag_position,
     hash_fits,
 };

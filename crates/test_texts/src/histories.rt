@@ -1,6 +1,8 @@
-use super::*;
+//! Tests of the texts of histories.
+
 use ctrie_base::{HashKind, Refusal};
 use history::first_fault;
+use history_text::{EventText, FaultText, Given, OrderText, Told, read_history};
 use std::alloc::Global;
 use std::test::Fail;
 

@@ -1,7 +1,9 @@
-use super::*;
+//! Tests of scripts.
+
 use ctrie_base::{HashKind, Kind, Refusal};
 use history::Call;
 use machine_model::Limits;
+use script_text::{Command, Told, read_script};
 use std::alloc::Global;
 use std::test::Fail;
 

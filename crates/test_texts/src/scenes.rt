@@ -1,4 +1,6 @@
-use super::*;
+//! Tests of pictures as scenes.
+
+use history_scene::{Colour, Scene, has_each_operation, scene_of};
 use history_text::read_history;
 use std::alloc::Global;
 use std::test::Fail;

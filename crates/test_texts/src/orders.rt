@@ -1,6 +1,10 @@
-use super::*;
-use crate::calls::Call;
-use crate::faults::Obstacle;
+//! Tests of the judge of orders.
+
+use ctrie_base::{HashKind, Refusal};
+use history::{
+    Call, Event, Obstacle, OrderFault, Reply, first_fault, has_one_first_fault, is_order,
+    leads_to_one_world,
+};
 use std::test::Fail;
 
 const PUT: Call = Call::Put {

@@ -1,5 +1,7 @@
-use super::*;
+//! Tests of pictures as SVG.
+
 use history_scene::{Bar, Colour, Scene};
+use scene_svg::{SceneSvg, is_harmless};
 use std::alloc::Global;
 use std::test::Fail;
 
