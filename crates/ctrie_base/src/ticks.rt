@@ -1,12 +1,12 @@
-//! A count of the steps on links.
+//! A count of steps on links, looks and places.
 
 ghost use Rattle.std.specs.Prelude.{◌≡◌, ◌+◌};
 
 use crate::traces::{Change, Trace};
 use std::marker::Model;
 
-/// How often a link, an end or an entry of a list was read or written. It takes no bytes: only clauses
-/// see the count.
+/// How often a link, an end, a count or an entry of a list was read or written. It takes no bytes: only
+/// clauses see the count.
 #[derive(Drop)]
 pub struct Ticks {
     /// One mark for each.

@@ -33,8 +33,8 @@ pub enum MapError {
     /// Memory was refused before the call began.
     #[error("no memory")]
     Memory,
-    /// Memory was refused in the midst of a call. The next change brings that call to its end first, and then it
-    /// is done; its reply is lost. Until then the map can't be read.
+    /// Memory was refused in the midst of a call. The next change brings that call to its end first: then it is done,
+    /// or was refused as `Crowded` or `Full`, and its reply is lost. Until then the map can't be read.
     #[error("a call is unfinished for want of memory")]
     Unfinished,
 }

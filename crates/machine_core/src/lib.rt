@@ -6,7 +6,9 @@
 //! |---|---|---|
 //! | `parts` | all that a machine remembers | `States` |
 //! | `beginning`, `going`, `noting`, `finishing`, `sweeping` | a begin, a step of an operation, its end, a step of the sweep | `Machine`, `Acting` |
-//! | `stepping` | denials first, then the step, then limbo | `Machine`, `Counting` |
+//! | `stepping`, `denials`, `settling` | denials first, then the step, then limbo | `Machine`, `Counting` |
+//! | `placing` | the places in the order | `Orders` |
+//! | `room`, `reserving` | memory for what a step adds, or many | none: the definition knows no memory |
 #![tactic(auto)]
 
 mod actors;

@@ -1,4 +1,5 @@
-//! Tests of `ctrie_base`, of `history` and of the crates of texts, through what they offer: rows written by hand.
+//! Tests of `ctrie_base`, `history`, `counted_io` and the crates of texts, through what they offer: rows written by
+//! hand.
 #![tactic(auto)]
 
 #[cfg(test)]
