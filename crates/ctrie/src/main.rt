@@ -1,17 +1,10 @@
 //! The program `ctrie`: scripts for a map, run, and histories of a map, judged, explained and drawn.
 #![tactic(auto)]
 
-mod arguments;
-mod outcomes;
-mod program;
-
+use ctrie_requests::answer;
 use std::process::ExitCode;
 
-/// The exit status is that of what came out. What stands in the way is told on standard error.
+/// Ends with the exit status of what was asked for.
 fn main(rt: HostRuntime) -> ExitCode {
-    let outcome = program::run(&rt);
-    if let Err(fault) = &outcome {
-        let _ = eprintln!(rt; "{fault}");
-    }
-    ExitCode::from(outcomes::exit_status(&outcome))
+    ExitCode::from(answer(&rt))
 }

@@ -2,7 +2,7 @@
 
 ghost use Rattle.std.specs.Prelude.{◌≡◌, map, false, IfOk};
 ghost use Rattle.clap.specs.Words.{app_of, kind_of, subcommand_rows_of};
-ghost use Rattle.ctrie.specs.Requests.{Answers, IsMatched, wants_file, has_globals, fault_for, path_of};
+ghost use Rattle.ctrie_requests.specs.Requests.{Answers, IsMatched, wants_file, has_globals, fault_for, path_of};
 
 use clap::error::ErrorKind;
 use clap::{Arg, ArgAction, ArgMatches};

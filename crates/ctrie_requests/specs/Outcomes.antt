@@ -8,10 +8,10 @@ use Rattle.ctrie_commands.specs.Explanations.{IsExplanation}
 use Rattle.ctrie_commands.specs.Pictures.{IsPicture}
 use Rattle.ctrie_commands.specs.Scripts.{IsReport, HasScriptFault}
 use Rattle.ctrie_commands.specs.Threads.{IsThreadReport, HasThreadFault}
-use Rattle.ctrie.specs.declared.arguments.Request.{Request}
-use Rattle.ctrie.specs.declared.arguments.Request.TheVariants.{Check, Run, Threads, Explain, Draw}
-use Rattle.ctrie.specs.declared.outcomes.Outcome.{Outcome}
-use Rattle.ctrie.specs.declared.outcomes.Outcome.TheVariants.{Done, Legal, NotLegal}
+use Rattle.ctrie_requests.specs.declared.arguments.Request.{Request}
+use Rattle.ctrie_requests.specs.declared.arguments.Request.TheVariants.{Check, Run, Threads, Explain, Draw}
+use Rattle.ctrie_requests.specs.declared.outcomes.Outcome.{Outcome}
+use Rattle.ctrie_requests.specs.declared.outcomes.Outcome.TheVariants.{Done, Legal, NotLegal}
 
 -- the exit status: 0 for a script that was carried out and for a legal order, 3 for another order, else the fault's
 abbrev pub exit_status_of : Result Outcome Fault → ℕ

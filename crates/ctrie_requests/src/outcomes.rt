@@ -5,7 +5,7 @@ ghost use Rattle.std.specs.Io.KnownBytes.{Keeps, IsAtEnd};
 ghost use Rattle.counted_io.specs.Counts.{inner_of, failures};
 ghost use Rattle.ctrie_commands.specs.Legality.{AppendsJudged};
 ghost use Rattle.ctrie_commands.specs.Written.{AppendsSuch, AppendsPartOf};
-ghost use Rattle.ctrie.specs.Outcomes.{Tells, HasFault, judged, exit_status_of};
+ghost use Rattle.ctrie_requests.specs.Outcomes.{Tells, HasFault, judged, exit_status_of};
 
 use crate::arguments::Request;
 use ctrie_commands::{

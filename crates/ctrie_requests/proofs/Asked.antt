@@ -16,10 +16,10 @@ use Rattle.clap.specs.declared.error.kind.ErrorKind.{ErrorKind}
 use Rattle.clap.specs.declared.error.kind.ErrorKind.TheVariants.{OutOfMemory}
 use Rattle.clap.specs.declared.parser.matches.SubCommand.{SubCommand}
 use Rattle.clap.specs.declared.parser.matches.ArgMatches.TheViews.{out-SubCommand}
-use Rattle.ctrie.specs.declared.arguments.Request.{Request}
-use Rattle.ctrie.specs.declared.arguments.Request.TheVariants.{Check, Run, Threads, Explain, Draw}
+use Rattle.ctrie_requests.specs.declared.arguments.Request.{Request}
+use Rattle.ctrie_requests.specs.declared.arguments.Request.TheVariants.{Check, Run, Threads, Explain, Draw}
 use Rattle.ctrie_commands.specs.declared.faults.Fault.TheVariants.{Usage}
-use Rattle.ctrie.specs.Requests.{Answers, IsMatched, asked_file, fault_for, file_of, has_globals, met, program, takes, wants_file}
+use Rattle.ctrie_requests.specs.Requests.{Answers, IsMatched, asked_file, fault_for, file_of, has_globals, met, program, takes, wants_file}
 
 -- the program's command is one whose parse is known
 pub program-is_simple : is_simple program ≡ true

@@ -2,8 +2,8 @@
 use Rattle.std.proofs.Common.{◌≡◌, rules}
 use Rattle.std.specs.Prelude.{Err}
 use Rattle.ctrie_commands.specs.declared.faults.Fault.TheVariants.{Line, Write}
-use Rattle.ctrie.proofs.Telling.{verdict_part, report_told, thread_report_told, explanation_told, explanation_part, picture_told, picture_part}
-use Rattle.ctrie.proofs.outcomes.carry_out.Goals as goal
+use Rattle.ctrie_requests.proofs.Telling.{verdict_part, report_told, thread_report_told, explanation_told, explanation_part, picture_told, picture_part}
+use Rattle.ctrie_requests.proofs.outcomes.carry_out.Goals as goal
 
 pub returns-in_err-check_history-in-Check-clause-line : goal.returns-in_err-check_history-in-Check-clause-line
 returns-in_err-check_history-in-Check-clause-line g c = λ number refusal e.

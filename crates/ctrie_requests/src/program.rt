@@ -1,11 +1,11 @@
-//! The program: its words and its files.
+//! The program's words, its files, and what it ends with.
 
 ghost use Rattle.std.specs.Prelude.{◌≡◌, ◌≢◌, ◌⊎◌, IfOk, IfErr};
 ghost use Rattle.std.specs.IoError.{error_kind};
 ghost use Rattle.counted_io.specs.Counts.{failures};
 
 use crate::arguments::request_of;
-use crate::outcomes::{Outcome, carry_out};
+use crate::outcomes::{Outcome, carry_out, exit_status};
 use ctrie_commands::{Counted, Fault};
 use std::fs::File;
 use std::io::ErrorKind;
@@ -14,8 +14,18 @@ use std::sync::Wait;
 use std::thread::Threads;
 use std::{env, io};
 
+/// Carries out what the program's words ask for, on the file that they name and on standard output, and tells on
+/// standard error what stands in the way. Returns the exit status of what came out.
+pub fn answer<R: AllocGlobal + Env + Eprint + Files + Print + Threads + Wait + Sync>(rt: &R) -> u8 {
+    let outcome = run(rt);
+    if let Err(fault) = &outcome {
+        let _ = eprintln!(rt; "{fault}");
+    }
+    exit_status(&outcome)
+}
+
 /// Carries out what the program's words ask for, on the file that they name and on standard output.
-pub fn run<R: AllocGlobal + Env + Files + Print + Threads + Wait + Sync>(
+fn run<R: AllocGlobal + Env + Files + Print + Threads + Wait + Sync>(
     rt: &R,
 ) -> Result<Outcome, Fault> {
     let words = words_of(rt)?;

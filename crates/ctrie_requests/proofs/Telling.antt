@@ -8,10 +8,10 @@ use Rattle.ctrie_commands.specs.Pictures.{IsPicture}
 use Rattle.ctrie_commands.proofs.Explained.{verdict_by_reason, verdict_by_scene}
 use Rattle.ctrie_commands.specs.Scripts.{AppendsReport, AppendsReportPart}
 use Rattle.ctrie_commands.specs.Threads.{AppendsThreadReport, AppendsThreadReportPart}
-use Rattle.ctrie.specs.declared.arguments.Request.TheVariants.{Check, Run, Threads, Explain, Draw}
-use Rattle.ctrie.specs.declared.outcomes.Outcome.{Outcome}
-use Rattle.ctrie.specs.declared.outcomes.Outcome.TheVariants.{Done}
-use Rattle.ctrie.specs.Outcomes.{Tells, judged}
+use Rattle.ctrie_requests.specs.declared.arguments.Request.TheVariants.{Check, Run, Threads, Explain, Draw}
+use Rattle.ctrie_requests.specs.declared.outcomes.Outcome.{Outcome}
+use Rattle.ctrie_requests.specs.declared.outcomes.Outcome.TheVariants.{Done}
+use Rattle.ctrie_requests.specs.Outcomes.{Tells, judged}
 
 -- its verdict was written
 pub verdict_told : (known old new : Option (List ℕ)) (legal : Bool) (path : _) → IfSome known (λ text. IsVerdict text legal) → Appends old new (verdict_line legal) →

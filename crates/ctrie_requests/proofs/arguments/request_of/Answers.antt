@@ -1,9 +1,9 @@
 -- The command that was built is the program's, so what its parse says is what the words ask for.
 use Rattle.std.proofs.Common.{◌≡◌, ◌∙◌, ap}
 use Rattle.clap.specs.Words.{app_of, is_simple, is_simple_and_free}
-use Rattle.ctrie.specs.Requests.{program}
-use Rattle.ctrie.proofs.Asked.{program-is_simple, program-is_simple_and_free, program_built, takes_by_none, met_by_rows, answers_found, answers_error}
-use Rattle.ctrie.proofs.arguments.request_of.Goals as goal
+use Rattle.ctrie_requests.specs.Requests.{program}
+use Rattle.ctrie_requests.proofs.Asked.{program-is_simple, program-is_simple_and_free, program_built, takes_by_none, met_by_rows, answers_found, answers_error}
+use Rattle.ctrie_requests.proofs.arguments.request_of.Goals as goal
 
 pub returns-in-Ok : goal.returns-in-Ok
 returns-in-Ok g c =

@@ -10,8 +10,8 @@ use Rattle.clap.specs.declared.builder.command.Command.{Command}
 use Rattle.clap.specs.declared.builder.command.Command.TheViews.{out-Command as fields_of}
 use Rattle.clap.specs.declared.error.kind.ErrorKind.{ErrorKind}
 use Rattle.clap.specs.declared.error.kind.ErrorKind.TheVariants as kind
-use Rattle.ctrie.specs.declared.arguments.Request.{Request}
-use Rattle.ctrie.specs.declared.arguments.Request.TheVariants.{Check, Run, Threads, Explain, Draw}
+use Rattle.ctrie_requests.specs.declared.arguments.Request.{Request}
+use Rattle.ctrie_requests.specs.declared.arguments.Request.TheVariants.{Check, Run, Threads, Explain, Draw}
 use Rattle.ctrie_commands.specs.declared.faults.Fault.{Fault}
 use Rattle.ctrie_commands.specs.declared.faults.Fault.TheVariants.{Memory, Usage}
 
