@@ -3,8 +3,6 @@
 #![tactic(auto)]
 
 #[cfg(test)]
-mod arenas;
-#[cfg(test)]
 mod branches;
 #[cfg(test)]
 mod heaps;

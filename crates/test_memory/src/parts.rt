@@ -1,6 +1,6 @@
-//! References, lists of them, links and remarks against values written by hand.
+//! References, links and remarks against values written by hand.
 
-use slot_arena::{Flags, Links, Ref, Refs, Remarks};
+use slot_arena::{Flags, Links, Ref, Remarks};
 use std::test::Fail;
 
 #[test]
@@ -11,32 +11,6 @@ fn names_slots(rt: HostRuntime) {
     assert!(rt; first != Ref::new(2, 65535), "another birth");
     assert!(rt; first < Ref::new(2, 0), "births go before slots");
     assert_eq!(rt; Ref::default().birth(), 0);
-}
-
-#[test]
-fn adds_to_lists(rt: HostRuntime) -> Result<(), Fail> {
-    let (a, b) = (Ref::new(1, 7), Ref::new(2, 5));
-    let mut list = Refs::new(rt.alloc());
-    list.push(a)?;
-    assert!(rt; list.as_slice() == [a].as_slice(), "pushed");
-    assert!(rt;
-        list.with(b)?.copy()?.as_slice() == [a, b].as_slice(),
-        "with one more"
-    );
-    Ok(())
-}
-
-#[test]
-fn joins_lists(rt: HostRuntime) -> Result<(), Fail> {
-    let (a, b) = (Ref::new(1, 7), Ref::new(2, 5));
-    let list = Refs::from_slice(rt.alloc(), &[b])?;
-    assert!(rt; list.as_slice() == [b].as_slice(), "of a slice");
-    let both = Refs::from_both(list.allocator(), &[b], &[a])?;
-    assert!(rt;
-        both.as_slice() == [b, a].as_slice(),
-        "one behind the other"
-    );
-    Ok(())
 }
 
 #[test]
