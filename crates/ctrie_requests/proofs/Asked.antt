@@ -1,5 +1,5 @@
 -- What the parser's answer says of what the words ask for.
-use Rattle.std.proofs.Common.{◌≡◌, ◌⊎◌, Bool, true, false, List, [], ◌∷◌, Option, Some, None, option_map, codes, length, if◌then◌else◌, refl, sym, ap, ap₂, ◌∙◌, subst, inl, inr}
+use Rattle.std.proofs.Common.{◌≡◌, ◌⊎◌, Bool, true, false, ◌&&◌, List, [], ◌∷◌, Option, Some, None, option_map, codes, length, if◌then◌else◌, refl, sym, ap, ap₂, ◌∙◌, subst, inl, inr}
 use Rattle.std.proofs.Math.Dec.{eqb-suc-zero}
 use Rattle.std.specs.Prelude.{Box, Err}
 use Rattle.std.specs.Box.{box_value}
@@ -22,13 +22,16 @@ use Rattle.ctrie_commands.specs.declared.faults.Fault.TheVariants.{Usage}
 use Rattle.ctrie_requests.specs.Requests.{Answers, IsMatched, asked_file, fault_for, file_of, has_globals, met, program, takes, wants_file}
 
 -- the program's command is one whose parse is known
-pub program-is_simple : is_simple program ≡ true
-unfolding program clap_on_literals
-program-is_simple = refl
-
 pub program-is_simple_and_free : is_simple_and_free program ≡ true
 unfolding program clap_on_literals
 program-is_simple_and_free = refl
+
+left_true : (a b : Bool) → (a && b) ≡ true → a ≡ true
+left_true true b both = refl
+left_true false b both = both
+
+pub program-is_simple : is_simple program ≡ true
+program-is_simple = left_true (is_simple program) _ program-is_simple_and_free
 
 -- what one call of the builder makes
 added : (name : Text) (before after sub : Command) (app : App) → app_of before ≡ app → app_of sub ≡ wants_file name → has_globals sub ≡ false → AddsSubcommand before sub after
