@@ -14,12 +14,21 @@ use std::alloc::{AllocError, Global};
 use std::marker::Model;
 
 /// The steps in which generations were closed, and the places of operations in the order.
-#[derive(Drop)]
 pub struct Chronicle {
     closings: Closings,
     ordered: Ordered,
     /// Up to this id there is room for all that an operation's step may add, where that is known: so most steps ask for no more.
     roomed: Option<u64>,
+}
+
+impl Drop for Chronicle {
+    fn drop(self) {
+        let Chronicle {
+            closings: _,
+            ordered: _,
+            roomed: _,
+        } = self;
+    }
 }
 
 impl Model for Chronicle {

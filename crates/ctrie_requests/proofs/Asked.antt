@@ -1,17 +1,15 @@
 -- What the parser's answer says of what the words ask for.
-use Rattle.std.proofs.Common.{◌≡◌, ◌⊎◌, Bool, true, false, ◌&&◌, List, [], ◌∷◌, Option, Some, None, option_map, codes, length, if◌then◌else◌, refl, sym, ap, ap₂, ◌∙◌, subst, inl, inr}
+use Rattle.std.proofs.Common.{◌≡◌, ◌⊎◌, Bool, true, false, ◌&&◌, List, [], ◌∷◌, Option, Some, None, option_map, codes, length, if◌then◌else◌, refl, sym, ap, ◌∙◌, subst, inl, inr}
 use Rattle.std.proofs.Math.Dec.{eqb-suc-zero}
 use Rattle.std.specs.Prelude.{Box, Err}
 use Rattle.std.specs.Box.{box_value}
 use Rattle.std.specs.Option.{ok_or}
 use Rattle.std.specs.Str.{bytes_eq}
 use Rattle.clap.specs.Kinds.{IsAmong, Kinds}
-use Rattle.clap.specs.Simple.{app_of_fields, on_top, subcommand_rows}
+use Rattle.clap.specs.Simple.{subcommand_rows}
 use Rattle.clap.specs.Walk.{is_empty}
-use Rattle.clap.specs.Words.{AddsSubcommand, App, Row, Text, app_of, fault_of, first_of, is_simple, is_simple_and_free, new_app, subcommand_of, with_subcommand}
+use Rattle.clap.specs.Words.{App, Row, Text, fault_of, first_of, is_simple, is_simple_and_free, subcommand_of}
 use Rattle.clap.proofs.OnLiterals.{clap_on_literals}
-use Rattle.clap.specs.declared.builder.command.Command.TheViews.{out-Command as fields_of}
-use Rattle.clap.specs.declared.builder.command.Command.{Command}
 use Rattle.clap.specs.declared.error.kind.ErrorKind.{ErrorKind}
 use Rattle.clap.specs.declared.error.kind.ErrorKind.TheVariants.{OutOfMemory}
 use Rattle.clap.specs.declared.parser.matches.SubCommand.{SubCommand}
@@ -19,7 +17,7 @@ use Rattle.clap.specs.declared.parser.matches.ArgMatches.TheViews.{out-SubComman
 use Rattle.ctrie_requests.specs.declared.arguments.Request.{Request}
 use Rattle.ctrie_requests.specs.declared.arguments.Request.TheVariants.{Check, Run, Threads, Explain, Draw}
 use Rattle.ctrie_commands.specs.declared.faults.Fault.TheVariants.{Usage}
-use Rattle.ctrie_requests.specs.Requests.{Answers, IsMatched, asked_file, fault_for, file_of, has_globals, met, program, takes, wants_file}
+use Rattle.ctrie_requests.specs.Requests.{Answers, IsMatched, asked_file, fault_for, file_of, met, program, takes}
 
 -- the program's command is one whose parse is known
 pub program-is_simple_and_free : is_simple_and_free program ≡ true
@@ -32,29 +30,6 @@ left_true false b both = both
 
 pub program-is_simple : is_simple program ≡ true
 program-is_simple = left_true (is_simple program) _ program-is_simple_and_free
-
--- what one call of the builder makes
-added : (name : Text) (before after sub : Command) (app : App) → app_of before ≡ app → app_of sub ≡ wants_file name → has_globals sub ≡ false → AddsSubcommand before sub after
-    → app_of after ≡ with_subcommand app (wants_file name).top
-added name before after sub app is_before is_sub local adds = adds.shape local ∙ ap₂ with_subcommand is_before (ap (λ (a : App). a.top) is_sub)
-
--- a command that wants a file
-abbrev pub Wants : Text → Command → Type 0
-Wants name command = (app_of command ≡ wants_file name) × (has_globals command ≡ false)
-
--- what the calls of the builders make
-pub program_built : (run threads check explain draw p0 p1 p2 p3 p4 p5 p6 : Command) → Wants (codes "run") run → Wants (codes "threads") threads → Wants (codes "check") check
-    → Wants (codes "explain") explain → Wants (codes "draw") draw → app_of p0 ≡ new_app (codes "ctrie") → fields_of p1 ≡ record (fields_of p0) { subcommand_required = true }
-    → AddsSubcommand p1 run p2 → AddsSubcommand p2 threads p3 → AddsSubcommand p3 check p4 → AddsSubcommand p4 explain p5 → AddsSubcommand p5 draw p6 → app_of p6 ≡ program
-unfolding program
-program_built run threads check explain draw p0 p1 p2 p3 p4 p5 p6 is_run is_threads is_check is_explain is_draw is_program wanted adds_run adds_threads adds_check adds_explain adds_draw =
-    let wants : app_of p1 ≡ on_top (λ s. record s { subcommand_required = true }) (new_app (codes "ctrie"))
-    = ap app_of_fields wanted ∙ ap (on_top (λ s. record s { subcommand_required = true })) is_program in
-    let first = added (codes "run") p1 p2 run _ wants is_run.0 is_run.1 adds_run in
-    let second = added (codes "threads") p2 p3 threads _ first is_threads.0 is_threads.1 adds_threads in
-    let third = added (codes "check") p3 p4 check _ second is_check.0 is_check.1 adds_check in
-    let fourth = added (codes "explain") p4 p5 explain _ third is_explain.0 is_explain.1 adds_explain in
-    added (codes "draw") p5 p6 draw _ fourth is_draw.0 is_draw.1 adds_draw
 
 -- the name of the subcommand that was met
 pub rows-name : {Z : Type 0} (sub : Option (Box SubCommand Z)) → option_map (λ s. s.0) (subcommand_rows sub) ≡ option_map (λ b. (out-SubCommand (box_value b)).name.now) sub

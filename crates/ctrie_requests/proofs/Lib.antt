@@ -1,2 +1,3 @@
+mod Building
 pub mod Asked
 pub mod Telling

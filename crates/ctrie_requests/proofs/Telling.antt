@@ -1,5 +1,5 @@
 -- What tells of a request, from what the calls say.
-use Rattle.std.proofs.Common.{◌≡◌, ℕ, List, Option, None, Some, Bool, true, false, IfSome, refl, sym, subst}
+use Rattle.std.proofs.Common.{ℕ, List, Option, None, Some, Bool, true, false, IfSome, refl, sym, subst}
 use Rattle.std.specs.Io.KnownBytes.{Appends}
 use Rattle.ctrie_commands.specs.Written.{AppendsSuch, AppendsPartOf}
 use Rattle.ctrie_commands.specs.Verdicts.{IsVerdict, verdict_line, AppendsPart}

@@ -1,8 +1,8 @@
 //! The program's words.
 
 ghost use Rattle.std.specs.Prelude.{◌≡◌, map, false, IfOk};
-ghost use Rattle.clap.specs.Words.{app_of, kind_of, subcommand_rows_of};
-ghost use Rattle.ctrie_requests.specs.Requests.{Answers, IsMatched, wants_file, has_globals, fault_for, path_of};
+ghost use Rattle.clap.specs.Words.{app_of, kind_of, subcommand_rows_of, with_subcommand};
+ghost use Rattle.ctrie_requests.specs.Requests.{Answers, IsMatched, program, wants_file, has_globals, fault_for, path_of};
 
 use clap::error::ErrorKind;
 use clap::{Arg, ArgAction, ArgMatches};
@@ -82,24 +82,36 @@ fn wants_file<'a>(alloc: Global, name: &'a str) -> Result<clap::Command<'a>, All
     clap::Command::new(alloc, name).arg(file)
 }
 
+/// The command, with one more subcommand that wants one file.
+fn with_file<'a>(
+    alloc: Global,
+    command: clap::Command<'a>,
+    name: &'a str,
+) -> Result<clap::Command<'a>, AllocError>
+    ensures { IfOk result (λ more. app_of more ≡ with_subcommand (app_of command.entry) (wants_file name.entry.now).top) }
+{
+    let wanted = wants_file(alloc, name)?;
+    command.subcommand(wanted)
+}
+
+/// The program's command.
+fn program<'a>(alloc: Global) -> Result<clap::Command<'a>, AllocError>
+    ensures { IfOk result (λ command. app_of command ≡ program) }
+{
+    let command = clap::Command::new(alloc, "ctrie").subcommand_required(true);
+    let command = with_file(alloc, command, "run")?;
+    let command = with_file(alloc, command, "threads")?;
+    let command = with_file(alloc, command, "check")?;
+    let command = with_file(alloc, command, "explain")?;
+    with_file(alloc, command, "draw")
+}
+
 /// The request that the words make, of which the first is the program's name. It is refused by `Usage`
 /// where they make none, and by `Memory`.
 pub fn request_of<'a, S: AsStr>(alloc: Global, words: &'a [S]) -> Result<Request<'a>, Fault>
     ensures { Answers (map S.text words.entry.now) result }
 {
-    let run = wants_file(alloc, "run")?;
-    let threads = wants_file(alloc, "threads")?;
-    let check = wants_file(alloc, "check")?;
-    let explain = wants_file(alloc, "explain")?;
-    let draw = wants_file(alloc, "draw")?;
-    let program = clap::Command::new(alloc, "ctrie")
-        .subcommand_required(true)
-        .subcommand(run)?
-        .subcommand(threads)?
-        .subcommand(check)?
-        .subcommand(explain)?
-        .subcommand(draw)?;
-    match program.try_get_matches_from(words) {
+    match program(alloc)?.try_get_matches_from(words) {
         Ok(matches) => matched(&matches).ok_or(Fault::Usage),
         Err(error) => Err(fault_of(&error)),
     }

@@ -22,9 +22,8 @@ pub record Memory : Type 0 where
   pub cursor : ℕ
   -- the epochs that the actors have recorded
   pub pins : List (Option ℕ)
-  -- the actor and the step that were set beside each slot
+  -- the actor that was set beside each slot
   pub owners : List ℕ
-  pub commits : List ℕ
   -- the slots that the next settling looks at
   pub noted : List ℕ
   -- how often a link, a flag, a count, a note or an entry of a list was looked at
@@ -38,14 +37,10 @@ reclaimer_of memory = record { heap = memory.heap; limbo = memory.limbo; epoch =
 abbrev pub KeepsEpochs : Memory → Memory → Type 0
 KeepsEpochs before after = (after.limbo ≡ before.limbo) × (after.epoch ≡ before.epoch) × (after.cursor ≡ before.cursor) × (after.pins ≡ before.pins)
 
--- what was set beside the slots is as before
-abbrev pub KeepsRemarks : Memory → Memory → Type 0
-KeepsRemarks before after = (after.owners ≡ before.owners) × (after.commits ≡ before.commits)
-
--- what was set beside the slot, if one was taken, is taken back
+-- the actors beside the slots, once this slot, if one, is taken: none is beside it
 abbrev pub cleared : Option Ref → List ℕ → List ℕ
-cleared None words = words
-cleared (Some r) words = slice_set words (slot_of r) 0
+cleared None actors = actors
+cleared (Some r) actors = slice_set actors (slot_of r) 0
 
 -- as many slots and actors as there may be
 abbrev pub AreSizes : ℕ → ℕ → Type 0
@@ -61,8 +56,6 @@ new_memory slots actors = record {
   cursor = 1;
   pins = replicate actors None;
   owners = replicate slots 0;
-  commits =
-      replicate slots 0;
   noted = [];
   ticks = slots + 6;
 }

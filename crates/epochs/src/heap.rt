@@ -1,7 +1,7 @@
 //! The arena with limbo, epochs and the sweep.
 
-ghost use Rattle.std.specs.Prelude.{◌≡◌, ℕ, ◌+◌, ◌-◌, ◌*◌, ◌<◌, ◌≤◌, ◌^◌, ◌==◌, ◌∷◌, ◌++◌, [], List, length, take, drop, option_map, All, slice_index, true};
-ghost use Rattle.std.specs.Prelude.{false, IsTrue, ◌↔◌, IfSome, Some, None, slice_set, slice_index_or, IfOk, IfErr, ◌⊎◌, if◌then◌else◌};
+ghost use Rattle.std.specs.Prelude.{◌≡◌, ◌+◌, ◌-◌, ◌*◌, ◌<◌, ◌≤◌, ◌^◌, ◌==◌, ◌∷◌, ◌++◌, [], length, take, drop, option_map, All, slice_index, true};
+ghost use Rattle.std.specs.Prelude.{false, IsTrue, ◌↔◌, IfSome, Some, None, slice_set, IfOk, IfErr, ◌⊎◌, if◌then◌else◌};
 ghost use Rattle.slot_arena.specs.Heaps.{node_at, prev_at, main_at, refs_of_node, refs_of_prev, refs_of_option, stored, next_ref, in_use, taken, with_main, with_prev};
 ghost use Rattle.slot_arena.specs.Counts.{count_of};
 ghost use Rattle.slot_arena.specs.Times.{times, without};
@@ -9,7 +9,7 @@ ghost use Rattle.slot_arena.specs.Ticking.{TakesUpTo};
 ghost use Rattle.slot_arena.specs.Refs.{slot_of};
 ghost use Rattle.slot_arena.specs.Arenas.{IsLive, AreLive, is_live, is_indirection, is_main_node};
 ghost use Rattle.epochs.specs.Sweeping.{swept_once, IsOlder};
-ghost use Rattle.epochs.specs.Memories.{reclaimer_of, KeepsEpochs, KeepsRemarks, cleared, AreSizes, new_memory, freed_by, staying};
+ghost use Rattle.epochs.specs.Memories.{reclaimer_of, KeepsEpochs, cleared, AreSizes, new_memory, freed_by, staying};
 ghost use Rattle.epochs.specs.Limbo.{limbo_after, newly_zero};
 
 use crate::advancing::{advance, ticks_of};
@@ -18,12 +18,11 @@ use crate::limbo::Swept;
 use crate::ring::Ring;
 use crate::settling::{enter_all, sift};
 use ctrie_base::{Refusal, Ticks};
-use slot_arena::{Arena, Node, Prev, Ref, Remarks};
+use slot_arena::{Arena, Node, Owners, Prev, Ref};
 use std::alloc::Global;
 use std::marker::Model;
 
 /// Slots whose nodes are freed two epochs after nothing refers to them; until then they wait in limbo.
-#[derive(Drop)]
 pub struct Heap {
     arena: Arena,
     bags: Ring,
@@ -33,9 +32,24 @@ pub struct Heap {
     /// The actor whose record is read next, from 1.
     cursor: u8,
     pins: Vec<Option<u64>>,
-    remarks: Remarks,
+    owners: Owners,
     /// Those of the arena, the bags and the new ones.
     ticks: Ticks,
+}
+
+impl Drop for Heap {
+    fn drop(self) {
+        let Heap {
+            arena: _,
+            bags: _,
+            fresh: _,
+            epoch: _,
+            cursor: _,
+            pins: _,
+            owners: _,
+            ticks: _,
+        } = self;
+    }
 }
 
 impl Model for Heap {
@@ -51,8 +65,7 @@ impl Model for Heap {
       epoch = h.epoch;
       cursor = h.cursor;
       pins = h.pins.items;
-      owners = h.remarks.owners;
-      commits = h.remarks.commits;
+      owners = h.owners;
       noted = h.arena.noted;
       ticks = h.ticks.count;
     } };
@@ -62,7 +75,7 @@ impl Model for Heap {
         × (h.fresh.refs ≡ [])
         × (length h.arena.heap.slots ≤ h.fresh.room)
         × (h.ticks.count ≡ h.arena.ticks + h.bags.ticks + h.fresh.ticks)
-        × (length h.remarks.owners ≡ length h.arena.heap.slots) };
+        × (length h.owners ≡ length h.arena.heap.slots) };
 }
 
 impl Heap {
@@ -82,7 +95,7 @@ impl Heap {
             epoch: 0,
             cursor: 1,
             pins: vec![in alloc; None; actors as usize]?,
-            remarks: Remarks::new(alloc, slots as usize)?,
+            owners: Owners::new(alloc, slots as usize)?,
             arena,
             bags,
             fresh,
@@ -90,7 +103,7 @@ impl Heap {
     }
 
     /// Takes the first free slot for a node, under a new birth, and holds it: it has one reference from
-    /// outside, no owner and no commit; None where no slot is free.
+    /// outside, and no owner; None where no slot is free.
     #[inline(always)]
     pub fn make_held(&mut self, node: Node) -> Option<Ref>
         requires births { self.old.heap.births + 1 < 2 ^ 48 }
@@ -103,14 +116,13 @@ impl Heap {
         ensures outside { self.new.outside ≡ refs_of_option result ++ self.old.outside }
         ensures epochs { KeepsEpochs self.old self.new }
         ensures owners { self.new.owners ≡ cleared result self.old.owners }
-        ensures commits { self.new.commits ≡ cleared result self.old.commits }
         ensures few { length self.new.noted ≤ length self.old.noted + 32 }
         ensures ticks { TakesUpTo 36 self.old.ticks self.new.ticks }
     {
         let made = self.arena.make_held(node);
         self.ticks = ticks_of(&self.arena, &self.bags, &self.fresh);
         if let Some(at) = made {
-            self.remarks.clear(at.slot());
+            self.owners.set(at.slot(), 0);
         }
         made
     }
@@ -176,7 +188,7 @@ impl Heap {
         ensures outside { self.new.outside ≡ self.old.outside }
         ensures stay { (q : Ref) → is_live self.new.heap q ≡ is_live self.old.heap q }
         ensures epochs { KeepsEpochs self.old self.new }
-        ensures remarks { KeepsRemarks self.old self.new }
+        ensures owners { self.new.owners ≡ self.old.owners }
         ensures few { length self.new.noted ≤ length self.old.noted + 2 }
         ensures ticks { TakesUpTo 2 self.old.ticks self.new.ticks }
     {
@@ -195,7 +207,7 @@ impl Heap {
         ensures outside { self.new.outside ≡ self.old.outside }
         ensures stay { (q : Ref) → is_live self.new.heap q ≡ is_live self.old.heap q }
         ensures epochs { KeepsEpochs self.old self.new }
-        ensures remarks { KeepsRemarks self.old self.new }
+        ensures owners { self.new.owners ≡ self.old.owners }
         ensures few { length self.new.noted ≤ length self.old.noted + 2 }
         ensures ticks { TakesUpTo 2 self.old.ticks self.new.ticks }
     {
@@ -214,7 +226,7 @@ impl Heap {
         ensures outside { self.new.outside ≡ self.old.outside }
         ensures stay { (q : Ref) → is_live self.new.heap q ≡ is_live self.old.heap q }
         ensures epochs { KeepsEpochs self.old self.new }
-        ensures remarks { KeepsRemarks self.old self.new }
+        ensures owners { self.new.owners ≡ self.old.owners }
         ensures few { length self.new.noted ≤ length self.old.noted + 2 }
         ensures ticks { TakesUpTo 2 self.old.ticks self.new.ticks }
     {
@@ -228,7 +240,7 @@ impl Heap {
         requires { IsLive self.now.heap at }
         ensures { result ≡ slice_index self.now.owners (slot_of at) }
     {
-        self.remarks.owner(at.slot())
+        self.owners.get(at.slot())
     }
 
     /// Sets an actor beside a slot in use.
@@ -237,24 +249,7 @@ impl Heap {
         ensures same { self.new ≡ record self.old { owners = slice_set self.old.owners (slot_of at) actor } }
         ensures set { slice_index self.new.owners (slot_of at) ≡ actor }
     {
-        self.remarks.set_owner(at.slot(), actor);
-    }
-
-    /// The step that was set beside a slot in use, 0 where none was.
-    pub fn commit(&self, at: Ref) -> u64
-        requires { IsLive self.now.heap at }
-        ensures { result ≡ slice_index self.now.commits (slot_of at) }
-    {
-        self.remarks.commit(at.slot())
-    }
-
-    /// Sets a step beside a slot in use.
-    pub fn set_commit(&mut self, at: Ref, step: u64)
-        requires { IsLive self.old.heap at }
-        ensures same { self.new ≡ record self.old { commits = slice_set self.old.commits (slot_of at) step } }
-        ensures set { slice_index self.new.commits (slot_of at) ≡ step }
-    {
-        self.remarks.set_commit(at.slot(), step);
+        self.owners.set(at.slot(), actor);
     }
 
     /// One reference from outside the slots more.
@@ -264,7 +259,7 @@ impl Heap {
         ensures heap { self.new.heap ≡ self.old.heap }
         ensures outside { self.new.outside ≡ at ∷ self.old.outside }
         ensures epochs { KeepsEpochs self.old self.new }
-        ensures remarks { KeepsRemarks self.old self.new }
+        ensures owners { self.new.owners ≡ self.old.owners }
         ensures few { length self.new.noted ≤ length self.old.noted + 1 }
         ensures ticks { self.new.ticks ≡ self.old.ticks + 1 }
     {
@@ -278,7 +273,7 @@ impl Heap {
         ensures heap { self.new.heap ≡ self.old.heap }
         ensures outside { self.new.outside ≡ without at self.old.outside }
         ensures epochs { KeepsEpochs self.old self.new }
-        ensures remarks { KeepsRemarks self.old self.new }
+        ensures owners { self.new.owners ≡ self.old.owners }
         ensures few { length self.new.noted ≤ length self.old.noted + 1 }
         ensures ticks { self.new.ticks ≡ self.old.ticks + 1 }
     {
@@ -310,7 +305,7 @@ impl Heap {
         ensures heap { self.new.heap ≡ self.old.heap }
         ensures outside { self.new.outside ≡ self.old.outside }
         ensures epochs { (self.new.epoch ≡ self.old.epoch) × (self.new.cursor ≡ self.old.cursor) × (self.new.pins ≡ self.old.pins) }
-        ensures remarks { KeepsRemarks self.old self.new }
+        ensures owners { self.new.owners ≡ self.old.owners }
         ensures ticks { self.new.ticks + 12 * length (staying self.old.heap self.old.outside self.old.limbo)
             ≤ self.old.ticks + 3 * length self.old.noted + 12 * length self.old.limbo + 12 * length (newly_zero self.old.heap self.old.outside self.old.limbo) }
         ensures rising { self.old.ticks ≤ self.new.ticks }
@@ -337,7 +332,7 @@ impl Heap {
         ensures stay { (q : Ref) → IsLive self.old.heap q → 0 < count_of self.old.heap self.old.outside q → IsLive self.new.heap q }
         ensures outside { self.new.outside ≡ self.old.outside }
         ensures pins { self.new.pins ≡ self.old.pins }
-        ensures remarks { KeepsRemarks self.old self.new }
+        ensures owners { self.new.owners ≡ self.old.owners }
         ensures few { length self.new.noted ≤ 34 }
         ensures ticks { TakesUpTo 44 self.old.ticks self.new.ticks }
     {

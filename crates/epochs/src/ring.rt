@@ -15,7 +15,6 @@ use std::mem;
 
 /// Three bags of slots, in one ring: behind each bag's beginning its slots, in the order in which they
 /// entered. The beginnings have numbers behind those of the slots. Links and flags count their own ticks.
-#[derive(Drop)]
 pub(crate) struct Ring {
     next: Links,
     back: Links,
@@ -29,6 +28,24 @@ pub(crate) struct Ring {
     oldest: Trace<Ref>,
     middle: Trace<Ref>,
     present: Trace<Ref>,
+}
+
+impl Drop for Ring {
+    fn drop(self) {
+        let Ring {
+            next: _,
+            back: _,
+            is_in: _,
+            size: _,
+            first: _,
+            second: _,
+            third: _,
+            len: _,
+            oldest: _,
+            middle: _,
+            present: _,
+        } = self;
+    }
 }
 
 impl Model for Ring {

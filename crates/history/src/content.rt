@@ -19,12 +19,22 @@ const CROWD: u64 = 32;
 
 /// The pairs of a map. Beside them stands for each hash how many keys have it, so that a new key
 /// needs no pass over the others.
-#[derive(Drop)]
 pub struct Content {
     pairs: BTreeMap<u64, u64>,
     crowds: BTreeMap<u64, u64>,
     kind: HashKind,
     alloc: Global,
+}
+
+impl Drop for Content {
+    fn drop(self) {
+        let Content {
+            pairs: _,
+            crowds: _,
+            kind: _,
+            alloc: _,
+        } = self;
+    }
 }
 
 impl Model for Content {

@@ -67,7 +67,6 @@ pub fn has_one_first_fault()
 {}
 
 /// What is left of an order's beginning once it is replayed.
-#[derive(Drop)]
 struct Replay {
     /// By ids, whether the operation stands in it.
     taken: Vec<bool>,
@@ -75,6 +74,16 @@ struct Replay {
     latest: usize,
     /// The world that it leads to.
     world: World,
+}
+
+impl Drop for Replay {
+    fn drop(self) {
+        let Replay {
+            taken: _,
+            latest: _,
+            world: _,
+        } = self;
+    }
 }
 
 impl Replay {

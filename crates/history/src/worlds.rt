@@ -17,9 +17,14 @@ use std::collections::BTreeMap;
 use std::marker::Model;
 
 /// The world of a history: what each open handle names.
-#[derive(Drop)]
 pub struct World {
     handles: BTreeMap<u16, Handle>,
+}
+
+impl Drop for World {
+    fn drop(self) {
+        let World { handles: _ } = self;
+    }
 }
 
 impl Model for World {

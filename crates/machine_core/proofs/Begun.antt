@@ -215,7 +215,7 @@ module _ (before middle after : Parts) (actor : ℕ) (call : Call) (u : UnderWay
               | inl ran ↦ ran
               | inr put ↦ absurd (omega (arith, offer_given (seen before) run handle offer (words handle offer stood), is, ap (λ (x : Operation). x.id) (same_Some operation o put)))
             ]) h.offerers;
-        owners = owners_over before.heap after.heap (seen before) (seen after) (ap (λ (m : Memory). m.owners) a.heap ∙ kept.remarks.0)
+        owners = owners_over before.heap after.heap (seen before) (seen after) (ap (λ (m : Memory). m.owners) a.heap ∙ kept.owners)
             (λ main slot e. subst (λ (x : Heap). standing x main ≡ Some slot) (ap (λ (m : Memory). m.heap) a.heap ∙ kept.heap) e)
             (λ other o found. elim (runs other o found) [ inl ran ↦ inl ran | inr put ↦ inr (no_swap o (same_Some operation o put)) ]) h.owners;
         numbers = subst (KnowsNumbers after.handles) (sym seen_begun)

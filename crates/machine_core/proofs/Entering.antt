@@ -33,7 +33,7 @@ use Rattle.machine_model.specs.States.{State, operation_of, word_at}
 use Rattle.proof_records.specs.Laws.{EntersAlone}
 use Rattle.proof_records.proofs.Owners.{owner_enters}
 use Rattle.machine_core.specs.Beneath.root_asking.proofs.Holding.{each_holds}
-use Rattle.trie_parts.specs.Holding.{remarked}
+use Rattle.trie_parts.specs.Holding.{owners_after}
 use Rattle.machine_core.specs.Beneath.snapshot.specs.Tasks.{with_generation}
 use Rattle.running.specs.Taking.{Taken}
 use Rattle.running.specs.Places.{generation_in, line_for}
@@ -150,7 +150,7 @@ module _ (before : Parts) (actor : ℕ) (u next : UnderWay) (taken : Taken) (now
   owners_same : now.heap.owners ≡ before.heap.owners
   owners_same =
       let changed = (changes before actor u next taken now t run kept is).acts.owners in
-      changed ∙ ap (λ (a : Action). remarked before.heap.heap (with_generation before.generations a) before.heap.owners) decides_now.is
+      changed ∙ ap (λ (a : Action). owners_after before.heap.heap (with_generation before.generations a) before.heap.owners) decides_now.is
 
   -- the actor itself, if it owns the node
   by_itself : alone.owner.actor ≡ actor → operation_of (seen now) actor ≡ Some (operation_at now.table t.programs next) →

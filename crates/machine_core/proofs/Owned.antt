@@ -49,7 +49,7 @@ use Rattle.machine_core.specs.Beneath.proof_commits.proofs.Known.StepsAt.{after_
 use Rattle.proof_records.specs.Beneath.proof_shape.proofs.Sites.Fixed.{states_of-append, taken-append}
 use Rattle.proof_records.specs.Laws.{OwnsBy}
 use Rattle.proof_records.proofs.Swapping.{owners_stay}
-use Rattle.trie_parts.specs.Holding.{remarked}
+use Rattle.trie_parts.specs.Holding.{owners_after}
 use Rattle.machine_core.specs.Bounds.{IsOfRun}
 use Rattle.machine_core.proofs.Bounded.{applied_run}
 
@@ -82,14 +82,14 @@ made_apart state h node made main e used same = elim (cases_eq main made) [
     others = (taken_all state.limits.slots state.heap I.sound.heap I.small node made e).2
 
 -- what stands beside the slot of a node in use is left by an action
-pub remark_stays : (state : State) → IsOfRun state → (action : Action) (words : List ℕ) (main : Ref) → IsInUse state.heap main →
-    slice_index (remarked state.heap action words) (slot_of main) ≡ slice_index words (slot_of main)
-remark_stays state h (act.Make node) words main used = by (next_ref state.heap) refl
+pub owner_stays : (state : State) → IsOfRun state → (action : Action) (words : List ℕ) (main : Ref) → IsInUse state.heap main →
+    slice_index (owners_after state.heap action words) (slot_of main) ≡ slice_index words (slot_of main)
+owner_stays state h (act.Make node) words main used = by (next_ref state.heap) refl
   where
     by : (o : Option Ref) → next_ref state.heap ≡ o → slice_index (cleared o words) (slot_of main) ≡ slice_index words (slot_of main)
     by None e = refl
     by (Some made) e = get_or-set_other words (slot_of made) (slot_of main) 0 0 (made_apart state h node made main e used)
-remark_stays state h action words main used = refl
+owner_stays state h action words main used = refl
 
 -- what stands behind a step stood before it, or is neither pending nor failed
 stood_or_new : (C : List Claim → Type 0) (f g : Ref → Option Slot) (b c : ℕ) (due : Option Ref) → Effect C f g b c due → (r : Ref) (slot : Slot) → g r ≡ Some slot →

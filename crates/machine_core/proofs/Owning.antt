@@ -49,7 +49,7 @@ use Rattle.machine_core.proofs.Kept.{operation_there}
 use Rattle.machine_core.proofs.Noted.{NotedSo, changes, gone_seen, takes}
 use Rattle.machine_core.proofs.Notings.{noted_commit, noted_kind}
 use Rattle.machine_core.proofs.Offering.{knows_offered}
-use Rattle.machine_core.proofs.Owned.{only_actor, owned_at, owns, remark_stays, same_slot, used_before}
+use Rattle.machine_core.proofs.Owned.{only_actor, owned_at, owns, owner_stays, same_slot, used_before}
 use Rattle.machine_core.proofs.Steps.{go_leads}
 use Rattle.machine_core.proofs.Took.{Took}
 use Rattle.machine_core.proofs.Whole.{went_on}
@@ -155,7 +155,7 @@ module _ (before : Parts) (actor : ℕ) (u next : UnderWay) (taken : Taken) (now
   now_stays main used =
       let action : Action = action_of (seen before) Own in
       ap (λ os. slice_index os (slot_of main)) (changes before actor u next taken now t run kept is).acts.owners
-      ∙ remark_stays (seen before) run (with_generation before.generations action) before.heap.owners main used
+      ∙ owner_stays (seen before) run (with_generation before.generations action) before.heap.owners main used
 
   -- behind the note of a commit
   pub owners_kept : (main : Ref) → taken.committed ≡ Some main → KnowsOwners now.heap (seen now)

@@ -2,7 +2,7 @@
 
 ghost use Rattle.std.specs.Prelude.{◌≡◌, ◌<◌, ◌-◌, ◌++◌, length, vec_len, vec_capacity, slice_get, Some, IfOk, IfErr, OnErr, OnOk, MatchOption, option_to_list};
 ghost use Rattle.history.specs.declared.replies.Reply.TheVariants.{Closed};
-ghost use Rattle.epochs.specs.Memories.{KeepsEpochs, KeepsRemarks};
+ghost use Rattle.epochs.specs.Memories.{KeepsEpochs};
 ghost use Rattle.trie_parts.specs.Holding.{AreHeld};
 ghost use Rattle.machine_model.specs.declared.actions.Action.TheVariants as actions;
 ghost use Rattle.machine_model.specs.declared.operations.Operation.{Operation};
@@ -57,7 +57,7 @@ fn leave(actor: &mut Actor, heap: &mut Heap)
     ensures leaves { Leaves heap.old heap.new actor.old actor.new }
     ensures heap { heap.new.heap ≡ heap.old.heap }
     ensures epochs { KeepsEpochs heap.old heap.new }
-    ensures remarks { KeepsRemarks heap.old heap.new }
+    ensures owners { heap.new.owners ≡ heap.old.owners }
 {
     actor.programs.end(heap);
     actor.under_way = None;
@@ -70,7 +70,7 @@ fn vacate(actors: &mut Vec<Actor>, index: usize, heap: &mut Heap)
     ensures left { Replaces actors.old.items index (Leaves heap.old heap.new) actors.new.items }
     ensures heap { heap.new.heap ≡ heap.old.heap }
     ensures epochs { KeepsEpochs heap.old heap.new }
-    ensures remarks { KeepsRemarks heap.old heap.new }
+    ensures owners { heap.new.owners ≡ heap.old.owners }
 {
     leave(&mut actors[index], heap);
 }

@@ -27,11 +27,19 @@ pub struct UnderWay {
 }
 
 /// An actor. Its programs stay in their place from one operation to the next.
-#[derive(Drop)]
 pub struct Actor {
     pub programs: Programs,
     /// Its operation, if it runs one.
     pub under_way: Option<UnderWay>,
+}
+
+impl Drop for Actor {
+    fn drop(self) {
+        let Actor {
+            programs: _,
+            under_way: _,
+        } = self;
+    }
 }
 
 /// What is kept of operations that may have ended.

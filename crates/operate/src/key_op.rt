@@ -66,7 +66,6 @@ pub enum KeyAt {
 }
 
 /// A call on one key, kept in place: an actor has one for all its calls.
-#[derive(Drop)]
 pub struct KeyOp {
     /// What the call is, and the generation of the root that ROOT gave last.
     pub task: Task,
@@ -81,6 +80,23 @@ pub struct KeyOp {
     pub(crate) clean: Clean,
     pub(crate) climb: Climb,
     pub(crate) reply: KeyReply,
+}
+
+impl Drop for KeyOp {
+    fn drop(self) {
+        let KeyOp {
+            task: _,
+            path: _,
+            work: _,
+            place: _,
+            root: _,
+            change: _,
+            renew: _,
+            clean: _,
+            climb: _,
+            reply: _,
+        } = self;
+    }
 }
 
 impl KeyOp {

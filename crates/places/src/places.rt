@@ -17,7 +17,6 @@ use std::marker::Model;
 ///
 /// A closing ends a segment: the places up to its step. All segments stand in one list, one behind the
 /// other, but for the places that came after their segment was ended.
-#[derive(Drop)]
 pub struct Places {
     /// Those of all segments, one segment behind the other.
     listed: Segment,
@@ -29,6 +28,19 @@ pub struct Places {
     /// All of them in the order in which they came, for clauses alone.
     arrivals: Trace<Place>,
     ticks: Ticks,
+}
+
+impl Drop for Places {
+    fn drop(self) {
+        let Places {
+            listed: _,
+            stray: _,
+            closings: _,
+            closed: _,
+            arrivals: _,
+            ticks: _,
+        } = self;
+    }
 }
 
 impl Model for Places {

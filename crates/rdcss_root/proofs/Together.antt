@@ -16,7 +16,7 @@ use Rattle.rdcss_root.specs.Beneath.gcas.specs.Acted.{acted_heap}
 use Rattle.rdcss_root.specs.Beneath.gcas.specs.Kept.{KeepsBeside}
 use Rattle.trie_parts.specs.Here.{at_heap, no_state}
 use Rattle.trie_parts.specs.Holding.{Acts}
-use Rattle.trie_parts.proofs.Unmade.{read_privates, read_remarks}
+use Rattle.trie_parts.proofs.Unmade.{read_privates, read_owners}
 use Rattle.rdcss_root.specs.Acts.{ActsInAll}
 use Rattle.rdcss_root.specs.Holds.{Moves}
 use Rattle.rdcss_root.proofs.Keeping.{kept}
@@ -31,7 +31,6 @@ by_parts roots acts = record {
   stay = acts.stay;
   epochs = acts.epochs;
   owners = acts.owners;
-  commits = acts.commits;
   few = acts.few;
   ticks = acts.ticks;
 }
@@ -45,8 +44,7 @@ by_read {before} {after} roots private indirection line heap beside = record {
   others = λ r. omega (arith, ap (times r) beside.outside);
   stay = λ q live. beside.stay q ∙ live;
   epochs = beside.epochs;
-  owners = beside.remarks.0 ∙ read_remarks before.heap indirection line before.owners;
-  commits = beside.remarks.1 ∙ read_remarks before.heap indirection line before.commits;
+  owners = beside.owners ∙ read_owners before.heap indirection line before.owners;
   few = omega (arith, beside.few);
   ticks = (beside.ticks.0, omega (arith, beside.ticks.1));
 }
@@ -60,7 +58,6 @@ by_looking m roots private = record {
   stay = λ q live. live;
   epochs = (kept m).epochs;
   owners = refl;
-  commits = refl;
   few = omega arith;
   ticks = (omega arith, omega arith);
 }
@@ -74,8 +71,7 @@ by_swap private offer main moves = record {
   others = λ r. omega (arith, moves.outside r);
   stay = λ q live. ap (λ h. is_live h q) moves.keeps.heap ∙ live;
   epochs = moves.keeps.epochs;
-  owners = moves.keeps.remarks.0;
-  commits = moves.keeps.remarks.1;
+  owners = moves.keeps.owners;
   few = omega (arith, moves.keeps.few);
   ticks = (moves.keeps.ticks.0, omega (arith, moves.keeps.ticks.1));
 }

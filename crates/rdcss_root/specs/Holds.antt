@@ -3,7 +3,7 @@ use Rattle.std.specs.Prelude.{◌≡◌, ℕ, ◌+◌, ◌*◌, ◌<◌, ◌≤�
 use Rattle.slot_arena.specs.declared.refs.Ref.{Ref}
 use Rattle.slot_arena.specs.Times.{times}
 use Rattle.slot_arena.specs.Ticking.{TakesUpTo}
-use Rattle.epochs.specs.Memories.{Memory, KeepsEpochs, KeepsRemarks}
+use Rattle.epochs.specs.Memories.{Memory, KeepsEpochs}
 use Rattle.rdcss_root.specs.Beneath.machine_model.specs.declared.roots.Root.{Root}
 use Rattle.rdcss_root.specs.Beneath.machine_model.specs.Counting.{refs_of_root}
 
@@ -11,7 +11,7 @@ use Rattle.rdcss_root.specs.Beneath.machine_model.specs.Counting.{refs_of_root}
 pub record KeepsMemory (before after : Memory) (most : ℕ) : Type 0 where
   pub heap : after.heap ≡ before.heap
   pub epochs : KeepsEpochs before after
-  pub remarks : KeepsRemarks before after
+  pub owners : after.owners ≡ before.owners
   pub few : length after.noted ≤ length before.noted + most
   pub ticks : TakesUpTo most before.ticks after.ticks
 

@@ -1,10 +1,8 @@
 //! References that are held from outside the slots, for what stands in root words.
 
-ghost use Rattle.std.specs.Prelude.{◌≡◌, ◌+◌, ◌<◌, ◌≤◌, ◌^◌, ℕ, length};
+ghost use Rattle.std.specs.Prelude.{◌+◌, ◌<◌, ◌^◌, ℕ, length};
 ghost use Rattle.slot_arena.specs.Times.{times};
-ghost use Rattle.slot_arena.specs.Ticking.{TakesUpTo};
 ghost use Rattle.slot_arena.specs.Arenas.{AreLive};
-ghost use Rattle.epochs.specs.Memories.{KeepsEpochs, KeepsRemarks};
 ghost use Rattle.rdcss_root.specs.Beneath.machine_model.specs.Counting.{refs_of_word, refs_of_root};
 ghost use Rattle.trie_parts.specs.Holding.{AreHeld};
 ghost use Rattle.rdcss_root.specs.Holds.{Holds, Releases};

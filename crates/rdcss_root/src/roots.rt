@@ -22,7 +22,6 @@ use trie_parts::{Descriptor, Root, RootWord};
 const HANDLES: usize = 256;
 
 /// The root words by handle, and the marks of those who offered in them.
-#[derive(Drop)]
 pub struct Roots {
     /// Each handle number, if it is open.
     roots: Vec<Option<Root>>,
@@ -32,6 +31,17 @@ pub struct Roots {
     marks: Vec<bool>,
     /// The offer that was carried out last, until it is taken note of.
     carried: Option<Descriptor>,
+}
+
+impl Drop for Roots {
+    fn drop(self) {
+        let Roots {
+            roots: _,
+            offerers: _,
+            marks: _,
+            carried: _,
+        } = self;
+    }
 }
 
 impl Model for Roots {

@@ -19,7 +19,7 @@ use Rattle.root_asking.specs.Beneath.machine_model.specs.States.{State}
 use Rattle.root_asking.specs.Beneath.gcas.specs.declared.next.Next.TheVariants.{More, Done}
 use Rattle.root_asking.specs.Beneath.gcas.specs.Acted.{acted_heap}
 use Rattle.root_asking.specs.Beneath.trie_parts.specs.Here.{at_heap, no_state}
-use Rattle.root_asking.specs.Beneath.trie_parts.specs.Holding.{remarked}
+use Rattle.root_asking.specs.Beneath.trie_parts.specs.Holding.{owners_after}
 use Rattle.rdcss_root.specs.declared.abort.AbortRead.{AbortRead}
 use Rattle.rdcss_root.specs.declared.abort.AbortRead.TheVariants as abort
 use Rattle.rdcss_root.specs.Acts.{ActsInAll}
@@ -72,16 +72,15 @@ is_told heap table handle (Told other) after k generation untold steps = absurd 
 -- ---- what it does
 
 moved_by : {before after : Memory} {roots roots' : List (Option Root)} (private : List Ref) (action : Action) → before.heap ≡ acted_heap before.heap action →
-    private ≡ private_after (at_heap no_state before.heap Low) private action → ((words : List ℕ) → words ≡ remarked before.heap action words) → Moves before after roots roots' 4 →
+    private ≡ private_after (at_heap no_state before.heap Low) private action → ((words : List ℕ) → words ≡ owners_after before.heap action words) → Moves before after roots roots' 4 →
     ActsInAll before roots private action after roots' private
-moved_by {before} private action heap made remarks moves = record {
+moved_by {before} private action heap made same moves = record {
   heap = moves.keeps.heap ∙ heap;
   made = made;
   others = λ r. omega (arith, moves.outside r);
   stay = λ q live. ap (λ h. is_live h q) moves.keeps.heap ∙ live;
   epochs = moves.keeps.epochs;
-  owners = moves.keeps.remarks.0 ∙ remarks before.owners;
-  commits = moves.keeps.remarks.1 ∙ remarks before.commits;
+  owners = moves.keeps.owners ∙ same before.owners;
   few = omega (arith, moves.keeps.few);
   ticks = (moves.keeps.ticks.0, omega (arith, moves.keeps.ticks.1));
 }

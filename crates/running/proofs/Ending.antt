@@ -47,7 +47,6 @@ idle job scene (act.End answer) none = record {
     stay = λ q live. live;
     epochs = (refl, refl, refl, refl);
     owners = refl;
-    commits = refl;
     few = omega arith;
     ticks = (omega arith, omega arith);
   };
@@ -63,7 +62,6 @@ idle job scene act.ReadRoot none = record {
     stay = λ q live. live;
     epochs = (refl, refl, refl, refl);
     owners = refl;
-    commits = refl;
     few = omega arith;
     ticks = (omega arith, omega arith);
   };

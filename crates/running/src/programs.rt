@@ -1,7 +1,7 @@
 //! The programs of an actor's operations, changed in place.
 
 ghost use Rattle.std.specs.Prelude.{◌≡◌, ◌<◌, ◌≤◌, ◌+◌, ◌-◌, ◌^◌, ℕ, [], length, Option, None, Some, IfOk, IfErr, OnErr};
-ghost use Rattle.epochs.specs.Memories.{KeepsEpochs, KeepsRemarks};
+ghost use Rattle.epochs.specs.Memories.{KeepsEpochs};
 ghost use Rattle.running.specs.Beneath.machine_model.specs.Operations.{first_line};
 ghost use Rattle.running.specs.Beneath.trie_parts.specs.Holding.{AreHeld, KeepsOthers};
 ghost use Rattle.running.specs.Beneath.trie_parts.specs.Steps.{IsAskingLine};
@@ -40,7 +40,6 @@ pub enum Stage {
 }
 
 /// The programs of an actor's operations, kept in place: one at most is under way.
-#[derive(Drop)]
 pub struct Programs {
     pub(crate) stage: Stage,
     pub(crate) asking: Asking,
@@ -49,6 +48,19 @@ pub struct Programs {
     pub(crate) snap: Snap,
     pub(crate) entries: Entries,
     pub(crate) count: Count,
+}
+
+impl Drop for Programs {
+    fn drop(self) {
+        let Programs {
+            stage: _,
+            asking: _,
+            key: _,
+            snap: _,
+            entries: _,
+            count: _,
+        } = self;
+    }
 }
 
 impl Programs {
@@ -98,7 +110,7 @@ impl Programs {
         ensures heap { heap.new.heap ≡ heap.old.heap }
         ensures others { KeepsOthers self.old.key.work.private heap.old [] heap.new }
         ensures epochs { KeepsEpochs heap.old heap.new }
-        ensures remarks { KeepsRemarks heap.old heap.new }
+        ensures owners { heap.new.owners ≡ heap.old.owners }
         ensures few { length heap.new.noted ≤ length heap.old.noted + length self.old.key.work.private }
         ensures ticks { heap.new.ticks ≡ heap.old.ticks + length self.old.key.work.private }
     {

@@ -18,8 +18,3 @@ slots_from (birth ∷ births) (node ∷ nodes) (prev ∷ prevs) = slot_from birt
 abbrev pub birth_of_slot : Option Slot → ℕ
 birth_of_slot None = 0
 birth_of_slot (Some slot) = slot.birth
-
--- what callers set beside the slots: an actor, and a step
-pub record Remarked : Type 0 where
-  pub owners : List ℕ
-  pub commits : List ℕ

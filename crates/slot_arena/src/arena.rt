@@ -1,6 +1,6 @@
 //! The arena: slots, counts of references, free slots.
 
-ghost use Rattle.std.specs.Prelude.{◌≡◌, ℕ, ◌+◌, ◌<◌, ◌≤◌, ◌^◌, ◌==◌, ◌∷◌, ◌++◌, [], length, true, false, IsTrue, option_map, MatchOption, ◌↔◌, IfSome, IfOk, IfErr, ◌⊎◌, if◌then◌else◌};
+ghost use Rattle.std.specs.Prelude.{◌≡◌, ◌+◌, ◌<◌, ◌≤◌, ◌^◌, ◌==◌, ◌∷◌, ◌++◌, [], length, true, false, IsTrue, option_map, MatchOption, ◌↔◌, IfSome, IfOk, IfErr, ◌⊎◌, if◌then◌else◌};
 ghost use Rattle.slot_arena.specs.Refs.{slot_of};
 ghost use Rattle.slot_arena.specs.Heaps.{node_at, prev_at, main_at, refs_of_node, refs_of_prev, refs_of_option, stored, next_ref, in_use, taken, with_main, with_prev, freed};
 ghost use Rattle.slot_arena.specs.Counts.{count_of};
@@ -27,7 +27,6 @@ use std::slice::from_ref;
 /// A call notes few slots (clauses `few`): its own, the one of a `prev` word, and those that a node names,
 /// which are at most 32. It looks at few links, counts and notes (clauses `ticks`), however many slots there
 /// are. A look at what stands in a slot counts none.
-#[derive(Drop)]
 pub struct Arena {
     cells: Cells,
     tally: Tally,
@@ -35,6 +34,19 @@ pub struct Arena {
     births: u64,
     used: u32,
     outside: Trace<Ref>,
+}
+
+impl Drop for Arena {
+    fn drop(self) {
+        let Arena {
+            cells: _,
+            tally: _,
+            free: _,
+            births: _,
+            used: _,
+            outside: _,
+        } = self;
+    }
 }
 
 impl Model for Arena {

@@ -13,11 +13,20 @@ use std::marker::Model;
 
 /// What stands in the slots, part by part. A slot without a birth isn't in use, and what stands in it
 /// doesn't matter.
-#[derive(Drop)]
 pub(crate) struct Cells {
     births: Vec<u64>,
     nodes: Vec<Node>,
     prevs: Vec<Prev>,
+}
+
+impl Drop for Cells {
+    fn drop(self) {
+        let Cells {
+            births: _,
+            nodes: _,
+            prevs: _,
+        } = self;
+    }
 }
 
 impl Model for Cells {

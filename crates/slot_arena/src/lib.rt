@@ -7,8 +7,8 @@ mod free_slots;
 mod links;
 mod lists;
 mod nodes;
+mod owners;
 mod refs;
-mod remarks;
 mod tally;
 mod word_swaps;
 
@@ -16,5 +16,5 @@ pub use arena::Arena;
 pub use links::{Flags, Links};
 pub use lists::Refs;
 pub use nodes::{Node, Prev, Slot};
+pub use owners::Owners;
 pub use refs::Ref;
-pub use remarks::Remarks;

@@ -12,13 +12,23 @@ use std::marker::Model;
 
 /// How many references each slot has, and the slots whose count reached or left zero, each once. A call
 /// looks at one slot, and counts one tick of its own; one that is given references, one for each.
-#[derive(Drop)]
 pub(crate) struct Tally {
     counts: Vec<u32>,
     noted: Vec<u16>,
     /// Whether the slot is noted, by slot: so the list never lacks room.
     is_noted: Vec<bool>,
     ticks: Ticks,
+}
+
+impl Drop for Tally {
+    fn drop(self) {
+        let Tally {
+            counts: _,
+            noted: _,
+            is_noted: _,
+            ticks: _,
+        } = self;
+    }
 }
 
 impl Model for Tally {

@@ -30,10 +30,15 @@ use std::marker::Model;
 
 /// A map that many actors change step by step, with all that was done to it. At first handle 0 is open,
 /// writable and empty, and no step was taken.
-#[derive(Drop)]
 pub struct Machine {
     body: Core,
     steps: Vec<Step>,
+}
+
+impl Drop for Machine {
+    fn drop(self) {
+        let Machine { body: _, steps: _ } = self;
+    }
 }
 
 impl Model for Machine {

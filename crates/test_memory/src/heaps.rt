@@ -164,15 +164,12 @@ fn publishes_main_nodes(rt: HostRuntime) -> Result<(), Fail> {
 }
 
 #[test]
-fn remarks_on_slots(rt: HostRuntime) -> Result<(), Fail> {
+fn tells_owners(rt: HostRuntime) -> Result<(), Fail> {
     let mut heap = Heap::new(rt.alloc(), 4, 1)?;
     let leaf = single(&rt, &mut heap);
     assert_eq!(rt; heap.owner(leaf), 0);
-    assert_eq!(rt; heap.commit(leaf), 0);
     heap.set_owner(leaf, 3);
-    heap.set_commit(leaf, 1 << 40);
     assert_eq!(rt; heap.owner(leaf), 3);
-    assert_eq!(rt; heap.commit(leaf), 1 << 40);
     Ok(())
 }
 

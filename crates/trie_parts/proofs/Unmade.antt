@@ -10,7 +10,7 @@ use Rattle.trie_parts.specs.Beneath.machine_model.specs.Reading.{read_action}
 use Rattle.trie_parts.specs.Beneath.machine_model.specs.Swapping.{action_at}
 use Rattle.trie_parts.specs.Beneath.machine_model.specs.Acting.{private_after}
 use Rattle.trie_parts.specs.Beneath.machine_model.specs.States.{State}
-use Rattle.trie_parts.specs.Holding.{remarked}
+use Rattle.trie_parts.specs.Holding.{owners_after}
 
 pub read_privates : (state : State) (private : List Ref) (indirection : Ref) (line : ReadLine) → private ≡ private_after state private (read_action indirection line)
 read_privates state private indirection read.Main = refl
@@ -20,15 +20,15 @@ read_privates state private indirection (read.Abort main previous offer) = refl
 read_privates state private indirection (read.Decide main previous told) = refl
 read_privates state private indirection (read.Restore main previous) = refl
 
-pub read_remarks : (heap : Heap) (indirection : Ref) (line : ReadLine) (words : List ℕ) → words ≡ remarked heap (read_action indirection line) words
-read_remarks heap indirection read.Main words = refl
-read_remarks heap indirection (read.Prev main) words = refl
-read_remarks heap indirection (read.AskRoot main previous) words = refl
-read_remarks heap indirection (read.Abort main previous offer) words = refl
-read_remarks heap indirection (read.Decide main previous told) words = refl
-read_remarks heap indirection (read.Restore main previous) words = refl
+pub read_owners : (heap : Heap) (indirection : Ref) (line : ReadLine) (words : List ℕ) → words ≡ owners_after heap (read_action indirection line) words
+read_owners heap indirection read.Main words = refl
+read_owners heap indirection (read.Prev main) words = refl
+read_owners heap indirection (read.AskRoot main previous) words = refl
+read_owners heap indirection (read.Abort main previous offer) words = refl
+read_owners heap indirection (read.Decide main previous told) words = refl
+read_owners heap indirection (read.Restore main previous) words = refl
 
-pub swap_remarks : (heap : Heap) (indirection replaced fresh : Ref) (line : SwapLine) (words : List ℕ) → words ≡ remarked heap (action_at indirection replaced fresh line) words
-swap_remarks heap indirection replaced fresh swap.Publish words = refl
-swap_remarks heap indirection replaced fresh (swap.Deciding line) words = read_remarks heap indirection line words
-swap_remarks heap indirection replaced fresh swap.Check words = refl
+pub swap_owners : (heap : Heap) (indirection replaced fresh : Ref) (line : SwapLine) (words : List ℕ) → words ≡ owners_after heap (action_at indirection replaced fresh line) words
+swap_owners heap indirection replaced fresh swap.Publish words = refl
+swap_owners heap indirection replaced fresh (swap.Deciding line) words = read_owners heap indirection line words
+swap_owners heap indirection replaced fresh swap.Check words = refl

@@ -4,7 +4,7 @@ ghost use Rattle.std.specs.Prelude.{◌≡◌, ◌+◌, ◌<◌, ◌≤◌, ◌^
 ghost use Rattle.slot_arena.specs.Heaps.{refs_of_node, next_ref, taken};
 ghost use Rattle.slot_arena.specs.Arenas.{IsLive, AreLive};
 ghost use Rattle.slot_arena.specs.Ticking.{TakesUpTo};
-ghost use Rattle.epochs.specs.Memories.{KeepsEpochs, KeepsRemarks, cleared};
+ghost use Rattle.epochs.specs.Memories.{KeepsEpochs, cleared};
 ghost use Rattle.trie_parts.specs.Beneath.machine_model.specs.Acting.{with_made};
 ghost use Rattle.trie_parts.specs.Beneath.machine_model.specs.declared.actions.Action.TheVariants as act;
 ghost use Rattle.trie_parts.specs.Holding.{Acts, AreHeld, KeepsOthers};
@@ -61,7 +61,7 @@ impl Private {
         ensures heap { heap.new.heap ≡ heap.old.heap }
         ensures others { KeepsOthers self.old heap.old self.new heap.new }
         ensures epochs { KeepsEpochs heap.old heap.new }
-        ensures remarks { KeepsRemarks heap.old heap.new }
+        ensures owners { heap.new.owners ≡ heap.old.owners }
         ensures few { length heap.new.noted ≤ length heap.old.noted + length self.old }
         ensures ticks { heap.new.ticks ≡ heap.old.ticks + length self.old }
     {
@@ -83,7 +83,6 @@ impl Private {
         ensures stay { (q : Ref) → IsLive heap.old.heap q → IsLive heap.new.heap q }
         ensures epochs { KeepsEpochs heap.old heap.new }
         ensures owners { OnOk result (heap.new.owners ≡ cleared (next_ref heap.old.heap) heap.old.owners) }
-        ensures commits { OnOk result (heap.new.commits ≡ cleared (next_ref heap.old.heap) heap.old.commits) }
         ensures few { length heap.new.noted ≤ length heap.old.noted + (32 + length self.old) }
         ensures ticks { TakesUpTo (36 + length self.old) heap.old.ticks heap.new.ticks }
     {
@@ -111,7 +110,7 @@ pub fn release_all(heap: &mut Heap, held: &[Ref])
     ensures heap { heap.new.heap ≡ heap.old.heap }
     ensures others { KeepsOthers held.now heap.old [] heap.new }
     ensures epochs { KeepsEpochs heap.old heap.new }
-    ensures remarks { KeepsRemarks heap.old heap.new }
+    ensures owners { heap.new.owners ≡ heap.old.owners }
     ensures few { length heap.new.noted ≤ length heap.old.noted + length held.now }
     ensures ticks { heap.new.ticks ≡ heap.old.ticks + length held.now }
 {

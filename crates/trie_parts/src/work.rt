@@ -5,7 +5,7 @@ ghost use Rattle.slot_arena.specs.declared.refs.Ref.{Ref as ARef};
 ghost use Rattle.slot_arena.specs.Arenas.{is_live};
 ghost use Rattle.slot_arena.specs.Heaps.{next_ref};
 ghost use Rattle.slot_arena.specs.Ticking.{TakesUpTo};
-ghost use Rattle.epochs.specs.Memories.{KeepsEpochs, KeepsRemarks};
+ghost use Rattle.epochs.specs.Memories.{KeepsEpochs};
 ghost use Rattle.trie_parts.specs.Beneath.machine_model.specs.Acting.{private_after};
 ghost use Rattle.trie_parts.specs.Beneath.machine_model.specs.declared.actions.Action.TheVariants as act;
 ghost use Rattle.trie_parts.specs.Beneath.machine_model.specs.States.{State};
@@ -85,7 +85,7 @@ impl Work {
         ensures others { KeepsOthers self.old.private heap.old self.new.private heap.new }
         ensures stay { (q : ARef) → is_live heap.new.heap q ≡ is_live heap.old.heap q }
         ensures epochs { KeepsEpochs heap.old heap.new }
-        ensures remarks { KeepsRemarks heap.old heap.new }
+        ensures owners { heap.new.owners ≡ heap.old.owners }
         ensures few { length heap.new.noted ≤ length heap.old.noted + (2 + length self.old.private) }
         ensures ticks { TakesUpTo (2 + length self.old.private) heap.old.ticks heap.new.ticks }
         ensures asks { IsAskingRoot result → (self.new ≡ self.old) × (heap.new ≡ heap.old) }

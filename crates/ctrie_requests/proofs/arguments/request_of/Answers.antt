@@ -1,24 +1,17 @@
 -- The command that was built is the program's, so what its parse says is what the words ask for.
-use Rattle.std.proofs.Common.{◌≡◌, ◌∙◌, ap}
-use Rattle.clap.specs.Words.{app_of, is_simple, is_simple_and_free}
-use Rattle.ctrie_requests.specs.Requests.{program}
-use Rattle.ctrie_requests.proofs.Asked.{program-is_simple, program-is_simple_and_free, program_built, takes_by_none, met_by_rows, answers_found, answers_error}
+use Rattle.std.proofs.Common.{ap, ◌∙◌}
+use Rattle.clap.specs.Words.{is_simple, is_simple_and_free}
+use Rattle.ctrie_requests.proofs.Asked.{program-is_simple, program-is_simple_and_free, takes_by_none, met_by_rows, answers_found, answers_error}
 use Rattle.ctrie_requests.proofs.arguments.request_of.Goals as goal
 
 pub returns-in-Ok : goal.returns-in-Ok
 returns-in-Ok g c =
-    let same : app_of c.in_ok-program.program ≡ program =
-    program_built _ _ _ _ _ _ _ _ _ _ _ _ (c.in_ok-run.ensures.app, c.in_ok-run.ensures.local) (c.in_ok-threads.ensures.app, c.in_ok-threads.ensures.local)
-    (c.in_ok-check.ensures.app, c.in_ok-check.ensures.local) (c.in_ok-explain.ensures.app, c.in_ok-explain.ensures.local) (c.in_ok-draw.ensures.app, c.in_ok-draw.ensures.local)
-    c.new.ensures.app c.subcommand_required.ensures c.in_ok-subcommand.ensures c.in_ok-subcommand-2.ensures c.in_ok-subcommand-3.ensures c.in_ok-subcommand-4.ensures c.in_ok-program.ensures in
+    let same = c.in_ok-program.ensures in
     let taken = takes_by_none _ _ same (c.in-Ok.ensures.kinds (ap is_simple_and_free same ∙ program-is_simple_and_free)) in
     let named = met_by_rows _ _ _ same (c.in-Ok.ensures.matches (ap is_simple same ∙ program-is_simple)).1 in
     rw c.ok_or.ensures.value (answers_found _ _ c.matched.result taken named c.matched.ensures)
 
 pub returns-in-Err : goal.returns-in-Err
 returns-in-Err g c =
-    let same : app_of c.in_ok-program.program ≡ program =
-    program_built _ _ _ _ _ _ _ _ _ _ _ _ (c.in_ok-run.ensures.app, c.in_ok-run.ensures.local) (c.in_ok-threads.ensures.app, c.in_ok-threads.ensures.local)
-    (c.in_ok-check.ensures.app, c.in_ok-check.ensures.local) (c.in_ok-explain.ensures.app, c.in_ok-explain.ensures.local) (c.in_ok-draw.ensures.app, c.in_ok-draw.ensures.local)
-    c.new.ensures.app c.subcommand_required.ensures c.in_ok-subcommand.ensures c.in_ok-subcommand-2.ensures c.in_ok-subcommand-3.ensures c.in_ok-subcommand-4.ensures c.in_ok-program.ensures in
+    let same = c.in_ok-program.ensures in
     rw c.fault_of.ensures (answers_error _ _ _ same (c.in-Err.ensures.kinds (ap is_simple_and_free same ∙ program-is_simple_and_free)))

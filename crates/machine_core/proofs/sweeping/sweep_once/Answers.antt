@@ -45,7 +45,7 @@ returns-clause-kept c =
           stood parts.heap.pins (reclaimer_of parts.heap) c.sweep-swept.result
           (record { heap = c.sweep-swept.new.self.heap; limbo = parts.heap.limbo; epoch = c.sweep-swept.new.self.epoch; cursor = c.sweep-swept.new.self.cursor }) swept.swept main slot
           (subst (λ (h : Heap). standing h main ≡ Some slot) settled.heap e);
-      owners = settled.remarks.0 ∙ swept.remarks.0;
+      owners = settled.owners ∙ swept.owners;
       drawn = refl;
       generations = refl;
       begun_are = refl;

@@ -28,7 +28,7 @@ loop-at-preserved c = record {
       (record {
         heap = c.hold.ensures.heap;
         epochs = c.hold.ensures.epochs;
-        remarks = c.hold.ensures.remarks;
+        owners = c.hold.ensures.owners;
         few = c.hold.ensures.few;
         ticks = (omega (arith, c.hold.ensures.ticks), omega (arith, c.hold.ensures.ticks));
       })

@@ -9,7 +9,7 @@ returns c =
       keeps = record {
         heap = released.heap;
         epochs = released.epochs;
-        remarks = released.remarks;
+        owners = released.owners;
         few = released.few;
         ticks = (omega (arith, released.ticks), omega (arith, released.ticks));
       };

@@ -33,7 +33,7 @@ loop-at-preserved c =
         c.release.ensures.epochs.2 ∙ c.loop-at.invariant.epochs.2,
         c.release.ensures.epochs.3 ∙ c.loop-at.invariant.epochs.3,
       );
-      remarks = (c.release.ensures.remarks.0 ∙ c.loop-at.invariant.remarks.0, c.release.ensures.remarks.1 ∙ c.loop-at.invariant.remarks.1);
+      owners = c.release.ensures.owners ∙ c.loop-at.invariant.owners;
       few = omega (arith, c.release.ensures.few, c.loop-at.invariant.few);
       ticks = omega (arith, c.release.ensures.ticks, c.loop-at.invariant.ticks);
     }

@@ -5,8 +5,8 @@ use Rattle.slot_arena.specs.Arenas.{Contents}
 use Rattle.epochs.proofs.Listing.{lists_kept, memory_kept, length-taken, live_slot}
 use Rattle.epochs.proofs.heap.Heap.make_held.Goals as goal
 
-pub clear-requires : goal.clear-requires
-clear-requires c =
+pub set-requires : goal.set-requires
+set-requires c =
     let now : Contents = c.make_held-made.new.self in
     let size : length now.heap.slots ≡ length c.self.inside.arena.heap.slots = ap (λ (h : Heap). length h.slots) c.make_held-made.ensures.heap ∙ length-taken c.self.inside.arena.heap c.args.node in
     let owners_are = c.self.invariant.4 in
@@ -22,7 +22,7 @@ invariant_of-self c =
       c.self.invariant.1,
       omega (arith, c.self.invariant.2),
       c.ticks_of-self-inside.ensures,
-      omega (arith, ap length c.clear.ensures.owners, length-set c.self.inside.remarks.owners c.slot.result 0),
+      omega (arith, ap length c.set.ensures.same, length-set c.self.inside.owners c.slot.result 0),
     )
 
 pub invariant_of-self-in_default : goal.invariant_of-self-in_default

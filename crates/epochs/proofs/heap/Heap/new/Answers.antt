@@ -2,7 +2,6 @@ use Rattle.std.proofs.Common.{◌≡◌, ℕ, ◌+◌, ◌<◌, [], length, repl
 use Rattle.std.proofs.lemmas.List.{length-replicate}
 use Rattle.slot_arena.specs.declared.nodes.Slot.{Slot}
 use Rattle.slot_arena.specs.Arenas.{Contents, new_arena}
-use Rattle.slot_arena.specs.Cells.{Remarked}
 use Rattle.epochs.specs.Rings.{Bags, Ringed}
 use Rattle.epochs.specs.Memories.{Lists, IsMemory}
 use Rattle.epochs.proofs.Sweeps.{lists_new}
@@ -32,5 +31,5 @@ invariant_of-result c =
       c.in_ok-fresh.ensures.refs,
       omega (arith, size, c.in_ok-fresh.ensures.room),
       c.ticks_of.ensures,
-      ap (λ (r : Remarked). length r.owners) c.in_ok-new.ensures ∙ length-replicate n 0 ∙ sym size,
+      ap length c.in_ok-new.ensures ∙ length-replicate n 0 ∙ sym size,
     )

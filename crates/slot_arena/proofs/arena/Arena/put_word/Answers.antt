@@ -3,7 +3,7 @@ use Rattle.std.specs.Prelude.{option_map}
 use Rattle.slot_arena.specs.declared.refs.Ref.{Ref}
 use Rattle.slot_arena.specs.Refs.{slot_of}
 use Rattle.slot_arena.specs.Tallies.{naming}
-use Rattle.slot_arena.specs.WordSwaps.{coming, going, word_changed}
+use Rattle.slot_arena.specs.WordSwaps.{coming, word_changed}
 use Rattle.slot_arena.specs.Arenas.{Contents, AreLive}
 use Rattle.slot_arena.specs.Kept.{live, IsKept}
 use Rattle.slot_arena.proofs.Live.{live_within, all_within}

@@ -12,7 +12,7 @@ returns-then-matches-clause-acts c =
     c.give_up.ensures.heap
     c.give_up.ensures.others
     c.give_up.ensures.epochs
-    c.give_up.ensures.remarks
+    c.give_up.ensures.owners
     c.give_up.ensures.few
     c.give_up.ensures.ticks
     c.step-stood.ensures.moves
@@ -25,7 +25,7 @@ returns-else-matches-clause-acts c =
     c.give_up.ensures.heap
     c.give_up.ensures.others
     c.give_up.ensures.epochs
-    c.give_up.ensures.remarks
+    c.give_up.ensures.owners
     c.give_up.ensures.few
     c.give_up.ensures.ticks
     c.step-stood.ensures.moves

@@ -10,7 +10,6 @@ returns-clause-acts c =
       stay = told.stay;
       epochs = told.epochs;
       owners = told.owners;
-      commits = told.commits;
       few = told.few;
       ticks = told.ticks;
     }

@@ -2,7 +2,7 @@ use Rattle.std.proofs.Common.{◌∙◌, arith}
 use Rattle.ctrie_base.specs.declared.hashes.HashKind.TheVariants.{Low}
 use Rattle.gcas.specs.Swaps.{swap_of}
 use Rattle.trie_parts.specs.Here.{no_state, at_heap}
-use Rattle.trie_parts.proofs.Unmade.{swap_remarks}
+use Rattle.trie_parts.proofs.Unmade.{swap_owners}
 use Rattle.trie_parts.proofs.work.Work.swap.Goals as goal
 
 pub returns-clause-acts : goal.returns-clause-acts
@@ -16,8 +16,7 @@ returns-clause-acts c =
       others = told.others;
       stay = λ q live. told.stay q ∙ live;
       epochs = told.epochs;
-      owners = told.remarks.0 ∙ swap_remarks heap s.indirection s.replaced s.fresh s.line c.args.heap.now.owners;
-      commits = told.remarks.1 ∙ swap_remarks heap s.indirection s.replaced s.fresh s.line c.args.heap.now.commits;
+      owners = told.owners ∙ swap_owners heap s.indirection s.replaced s.fresh s.line c.args.heap.now.owners;
       few = omega (arith, told.few);
       ticks = (told.ticks.0, omega (arith, told.ticks.1));
     }
