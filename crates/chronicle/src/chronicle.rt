@@ -85,7 +85,7 @@ impl Chronicle {
     }
 
     /// The same, where it isn't known whether there is room.
-    #[cold]
+    #[inline(always)]
     fn make_room(&mut self, id: u64) -> Result<(), Refusal>
         ensures only_memory { IsOkUnless result Memory }
         ensures closings { self.new.closings ≡ self.old.closings }

@@ -9,8 +9,7 @@ ghost use Rattle.slot_arena.specs.Ticking.{TakesUpTo};
 ghost use Rattle.slot_arena.specs.Refs.{slot_of};
 ghost use Rattle.slot_arena.specs.Arenas.{IsLive, AreLive, is_live, is_indirection, is_main_node};
 ghost use Rattle.epochs.specs.Sweeping.{swept_once, IsOlder};
-ghost use Rattle.epochs.specs.Memories.{reclaimer_of, KeepsEpochs, cleared, AreSizes, new_memory, freed_by, staying};
-ghost use Rattle.epochs.specs.Limbo.{limbo_after, newly_zero};
+ghost use Rattle.epochs.specs.Memories.{reclaimer_of, KeepsEpochs, Settles, cleared, AreSizes, new_memory, freed_by};
 
 use crate::advancing::{advance, ticks_of};
 use crate::fresh::Fresh;
@@ -298,22 +297,23 @@ impl Heap {
     }
 
     /// Ends a step: slots that are referred to leave limbo, and those to which nothing refers any more enter
-    /// it, by rising birth, with the present epoch. It looks at the noted slots alone.
+    /// it, by rising birth, with the present epoch. It looks at the noted slots alone: at most steps there are none.
+    #[inline(always)]
     pub fn settle(&mut self)
-        ensures limbo { self.new.limbo ≡ limbo_after self.old.heap self.old.outside self.old.epoch self.old.limbo }
-        ensures settled { self.new.noted ≡ [] }
-        ensures heap { self.new.heap ≡ self.old.heap }
-        ensures outside { self.new.outside ≡ self.old.outside }
-        ensures epochs { (self.new.epoch ≡ self.old.epoch) × (self.new.cursor ≡ self.old.cursor) × (self.new.pins ≡ self.old.pins) }
-        ensures owners { self.new.owners ≡ self.old.owners }
-        ensures ticks { self.new.ticks + 12 * length (staying self.old.heap self.old.outside self.old.limbo)
-            ≤ self.old.ticks + 3 * length self.old.noted + 12 * length self.old.limbo + 12 * length (newly_zero self.old.heap self.old.outside self.old.limbo) }
-        ensures rising { self.old.ticks ≤ self.new.ticks }
+        ensures { Settles self.old self.new }
     {
         prove!(self.arena.len() <= 65536);
-        if self.arena.noted_len() == 0 {
-            return;
+        if self.arena.noted_len() != 0 {
+            self.settle_noted();
         }
+    }
+
+    /// The same, where slots are noted.
+    #[inline(never)]
+    fn settle_noted(&mut self)
+        ensures { Settles self.old self.new }
+    {
+        prove!(self.arena.len() <= 65536);
         sift(&mut self.arena, &mut self.bags, &mut self.fresh);
         self.fresh.sort();
         enter_all(&mut self.bags, &mut self.fresh);

@@ -105,6 +105,7 @@ impl Read {
     }
 
     /// Takes its next step, unless it has to be told the generation of the root first.
+    #[inline(always)]
     pub fn step(&mut self, heap: &mut Heap, root_seen: Option<u64>) -> Next<Ref>
         requires { CanReadOn heap.old.heap self.old }
         ensures follows { ReadsOn heap.old.heap self.old.access self.old.indirection (line_of self.old root_seen) self.new.at result }
@@ -130,6 +131,7 @@ impl Read {
         }
     }
 
+    #[inline(always)]
     fn read_main(&mut self, heap: &Heap) -> Next<Ref>
         ensures follows { ReadsOn heap.now.heap self.old.access self.old.indirection (line_at self.old.access None ReadAt.Main) self.new.at result }
         ensures same { self.new ≡ record self.old { at = self.new.at } }
@@ -140,6 +142,7 @@ impl Read {
         Next::More(Kind::ReadMain)
     }
 
+    #[inline(always)]
     fn read_prev(&mut self, heap: &Heap, main: Ref) -> Next<Ref>
         ensures follows { ReadsOn heap.now.heap self.old.access self.old.indirection (line_at self.old.access None (ReadAt.Prev main)) self.new.at result }
         ensures same { self.new ≡ record self.old { at = self.new.at } }
@@ -160,6 +163,7 @@ impl Read {
         }
     }
 
+    #[inline(always)]
     fn decide(
         &mut self,
         heap: &mut Heap,
@@ -185,6 +189,7 @@ impl Read {
 
     /// Commits the node where the root was told to have the indirection's generation, else refuses it; a
     /// node that another step has decided is read again.
+    #[inline(always)]
     fn decide_by(
         &mut self,
         heap: &mut Heap,
@@ -222,6 +227,7 @@ impl Read {
         }
     }
 
+    #[inline(always)]
     fn restore(&mut self, heap: &mut Heap, main: Ref, previous: Ref) -> Next<Ref>
         requires { CanReadAt heap.old.heap self.old.indirection (ReadAt.Restore main previous) }
         ensures follows { ReadsOn heap.old.heap self.old.access self.old.indirection (line_at self.old.access None (ReadAt.Restore main previous)) self.new.at result }

@@ -79,6 +79,7 @@ impl Swap {
 
     /// Takes its next step, unless it has to be told the generation of the root first. It gives whether the
     /// fresh node was committed.
+    #[inline(always)]
     pub fn step(&mut self, heap: &mut Heap, root_seen: Option<u64>) -> Next<bool>
         requires { CanSwapOn heap.old.heap self.old }
         ensures follows { SwapsOn heap.old.heap self.old.read.access (swap_of self.old root_seen) self.new result }
@@ -94,6 +95,7 @@ impl Swap {
         }
     }
 
+    #[inline(always)]
     fn publish(&mut self, heap: &mut Heap) -> Next<bool>
         requires { CanSwapAt heap.old.heap self.old.read self.old.fresh SwapAt.Publish }
         ensures follows { SwapsOn heap.old.heap self.old.read.access (swap_with self.old.read self.old.replaced self.old.fresh SwapAt.Publish (line_of self.old.read None)) self.new result }
@@ -111,6 +113,7 @@ impl Swap {
         Next::More(Kind::SwapMain)
     }
 
+    #[inline(always)]
     fn decide(&mut self, heap: &mut Heap, root_seen: Option<u64>) -> Next<bool>
         requires { CanReadOn heap.old.heap self.old.read }
         ensures follows { SwapsOn heap.old.heap self.old.read.access (swap_with self.old.read self.old.replaced self.old.fresh SwapAt.Deciding (line_of self.old.read root_seen)) self.new result }
@@ -135,6 +138,7 @@ impl Swap {
         }
     }
 
+    #[inline(always)]
     fn check(&mut self, heap: &Heap) -> Next<bool>
         ensures follows { SwapsOn heap.now.heap self.old.read.access (swap_with self.old.read self.old.replaced self.old.fresh SwapAt.Check (line_of self.old.read None)) self.new result }
         ensures same { self.new ≡ record self.old { at = self.new.at } }

@@ -34,6 +34,7 @@ use slot_arena::{Node, Ref};
 use trie_parts::{Change, KeyCall, Site, Task, entry_at, entry_count, is_below_root, node_at};
 
 /// After the look at the main node: the entry of the key's flag, or the first single of a list.
+#[inline(always)]
 pub fn after_main(heap: &Heap, task: Task, access: Access, path: &[Ref], main: Ref) -> Found
     ensures { (state : State) (operation : Operation) (s : Swap) →
         line_found (at_heap state heap.now.heap task.hashes) path.now s main result ≡ key_after_main (at_heap state heap.now.heap task.hashes)
@@ -49,6 +50,7 @@ pub fn after_main(heap: &Heap, task: Task, access: Access, path: &[Ref], main: R
 }
 
 /// In a branch with this bitmap: the entry of the key's flag, if it has one.
+#[inline(always)]
 fn in_branch(task: Task, path: &[Ref], bitmap: u32) -> Found
     ensures { (state : State) (handle : ℕ) (main : ARef) (s : Swap) →
         line_found state path.now s main result ≡ (let flag = flag_of (hash_of task.hashes (key_of (call_of handle task.call))) (depth_of path.now) in
@@ -65,6 +67,7 @@ fn in_branch(task: Task, path: &[Ref], bitmap: u32) -> Found
 
 /// At a tomb, which never stands at a root: a writable operation cleans the parent first, a read-only one
 /// looks at its single.
+#[inline(always)]
 fn at_tomb(access: Access, path: &[Ref]) -> Found
     ensures { (state : State) (main : ARef) (s : Swap) → line_found state path.now s main result ≡ after_tomb access path.now main }
 {
@@ -76,6 +79,7 @@ fn at_tomb(access: Access, path: &[Ref]) -> Found
 }
 
 /// Where the key is absent: the call makes its single for this site, or answers.
+#[inline(always)]
 fn absent(call: KeyCall, site: Site) -> Found
     ensures { (state : State) (path : List ARef) (main : ARef) (s : Swap) (handle : ℕ) → line_found state path s main result ≡ absent_for (call_of handle call) path main site }
 {
@@ -86,6 +90,7 @@ fn absent(call: KeyCall, site: Site) -> Found
 }
 
 /// After the look at a branch's entry: down through an indirection, or the key or another one is found.
+#[inline(always)]
 pub fn after_entry(
     heap: &Heap,
     task: Task,
@@ -118,6 +123,7 @@ pub fn after_entry(
 
 /// At an indirection of this generation: a writable operation goes through those of its root's generation
 /// alone.
+#[inline(always)]
 fn at_indirection(task: Task, access: Access, generation: u64, below: Ref) -> Found
     ensures { (state : State) (operation : Operation) (path : List ARef) (main : ARef) (s : Swap) →
         line_found state path s main result ≡ (if is_passable (for_task task access operation) generation then going_down path below else renew_next state path main []) }
@@ -172,6 +178,7 @@ fn absent_listed(call: KeyCall, singles: usize) -> Found
 }
 
 /// Where the key stands at this position of the main node, with this value.
+#[inline(always)]
 fn found(heap: &Heap, call: KeyCall, path: &[Ref], main: Ref, position: usize, value: u64) -> Found
     ensures { (state : State) (hashes : HashKind) (s : Swap) (handle : ℕ) →
         line_found (at_heap state heap.now.heap hashes) path.now s main result ≡ found_so (at_heap state heap.now.heap hashes) path.now main position value

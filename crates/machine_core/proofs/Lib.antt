@@ -20,6 +20,7 @@ pub mod Levels
 pub mod Named
 pub mod Knows
 pub mod Kept
+pub mod Over
 pub mod Working
 pub mod Left
 pub mod Begun

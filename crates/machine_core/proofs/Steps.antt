@@ -1,6 +1,7 @@
 -- What steps come to.
 use Rattle.std.proofs.Common.{◌≡◌, ℕ, ◌+◌, ◌-◌, slice_set, inl, inr, true, false, if◌then◌else◌, Option, Some, None, IfErr, IfOk, OnErr, Result, Ok, Err, refl, sym, ap, ◌∙◌, arith, Bool}
 use Rattle.std.proofs.lemmas.Option.{none-some, same_Some}
+use Rattle.ctrie_base.specs.declared.kinds.Kind.{Kind}
 use Rattle.ctrie_base.specs.declared.refusals.Refusal.{Refusal}
 use Rattle.ctrie_base.specs.declared.refusals.Refusal.TheVariants as refuse
 use Rattle.history.specs.declared.calls.Call.{Call}
@@ -22,6 +23,7 @@ use Rattle.machine_model.specs.Machine.{next, begin_denial, begin_unless, with_b
 use Rattle.machine_model.proofs.Frames.{acted_framed}
 use Rattle.machine_model.specs.Moves.{begun_operation}
 use Rattle.machine_core.specs.Bounds.{Applies, Leads}
+use Rattle.machine_core.specs.Walking.{walked}
 
 -- ---- denied steps
 
@@ -84,6 +86,11 @@ pub applies_so : (before after : State) (s : Step) (r : Result Outcome Refusal) 
     IfErr r (λ why. why ≡ refuse.Memory) → Applies r before (next before s) after
 applies_so before after s (Ok o) d taken same memory = taken
 applies_so before after s (Err why) d taken same memory = (same, inr (memory, allowed before s d))
+
+pub applies_walked : (before after : State) (s : Step) (r : Result Kind Refusal) → denial_of before s ≡ None → IfOk r (λ k. next before s ≡ Ok (outcome.Went k, after)) → OnErr r (after ≡ before) →
+    IfErr r (λ why. why ≡ refuse.Memory) → Applies (walked r) before (next before s) after
+applies_walked before after s (Ok k) d taken same memory = applies_so before after s (Ok (outcome.Went k)) d taken same memory
+applies_walked before after s (Err why) d taken same memory = applies_so before after s (Err why) d taken same memory
 
 -- ---- what they lead to
 

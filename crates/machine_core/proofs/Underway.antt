@@ -1,9 +1,9 @@
 -- What an actor has under way whose next step isn't denied.
 use Rattle.std.proofs.Common.{arith, ◌≡◌, ℕ, ◌-◌, ◌<◌, Option, Some, None, length, refl, sym, ap, ◌∙◌}
-use Rattle.std.specs.Prelude.{false, is_some, option_and_then, slice_get}
+use Rattle.std.specs.Prelude.{false, is_some, option_and_then, option_map, slice_get}
 use Rattle.std.proofs.lemmas.Option.{none-some, same_Some, slice_get_within}
 use Rattle.history.specs.declared.replies.Reply.{Reply}
-use Rattle.machine_model.specs.Machine.{go_denial}
+use Rattle.machine_model.specs.Machine.{go_denial, next_kind}
 use Rattle.machine_model.specs.declared.operations.Operation.{Operation}
 use Rattle.running.specs.Places.{line_for}
 use Rattle.running.specs.Steps.{CanStep, scene}
@@ -13,9 +13,11 @@ use Rattle.machine_core.specs.declared.parts.UnderWay.{UnderWay}
 use Rattle.machine_core.specs.Bounds.{IsOfRun}
 use Rattle.machine_core.specs.Beneath.operate.specs.Places.{answer_of}
 use Rattle.machine_core.specs.Keeping.{IsKept}
-use Rattle.machine_core.specs.Seen.{actor_of, operation_seen, seen, under_way_of}
+use Rattle.machine_core.specs.Seen.{actor_of, operation_at, operation_seen, seen, under_way_of}
+use Rattle.machine_core.specs.Walking.{is_over}
 use Rattle.machine_core.proofs.Allowed.{can, owner_runs}
 use Rattle.machine_core.proofs.Kept.{Seat, seat_of}
+use Rattle.machine_core.proofs.Over.{line_over, over_of, over_there}
 use Rattle.machine_core.proofs.Steps.{running}
 use Rattle.machine_core.proofs.Took.{actor_there}
 
@@ -60,9 +62,13 @@ no_answer None e = refl
 no_answer (Some reply) e = absurd (grind (arith, e))
 
 -- where it doesn't end next it tells no reply
-pub tells_none : (parts : Parts) (actor : ℕ) → ((found : Actor) (u : UnderWay) → actor_of parts actor ≡ Some found → found.under_way ≡ Some u →
-    is_some (answer_of (line_for u.program found.programs)) ≡ false) → (u : UnderWay) → under_way_of parts actor ≡ Some u →
+pub tells_none : (parts : Parts) (actor : ℕ) → is_over (next_kind (seen parts) actor) ≡ false → (u : UnderWay) → under_way_of parts actor ≡ Some u →
     (found : Actor) → actor_of parts actor ≡ Some found → answer_of (line_for u.program found.programs) ≡ None
 tells_none parts actor goes_on u runs found at =
+    let seat = seat_of parts actor u runs in
+    let same = same_Some seat.found found (sym (actor_there parts actor u seat) ∙ at) in
+    let own = operation_at parts.table found.programs u in
+    let held : found.under_way ≡ Some u = ap (λ (a : Actor). a.under_way) (sym same) ∙ seat.runs in
     no_answer (answer_of (line_for u.program found.programs))
-    (goes_on found u at (sym (ap (option_and_then (λ (a : Actor). a.under_way)) at) ∙ runs))
+    (line_over (seen parts) own own.line ∙ ap (λ o. over_of (seen parts) (option_map (operation_at parts.table found.programs) o)) (sym held)
+    ∙ over_there parts actor (Some found) (sym at) ∙ goes_on)

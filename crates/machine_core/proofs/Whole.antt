@@ -43,6 +43,7 @@ use Rattle.machine_core.proofs.Kept.{Seat, kept_alike, operation_there, seat_of}
 use Rattle.machine_core.proofs.Noted.{NotedSo, gone_seen}
 use Rattle.machine_core.proofs.Notings.{noted_commit, noted_kind}
 use Rattle.machine_core.proofs.Offering.{knows_offered}
+use Rattle.machine_core.proofs.Over.{only_end}
 use Rattle.machine_core.proofs.Took.{Took, actor_there, took}
 
 module _ (actor : ℕ) (u : UnderWay) (fresh : Ref) (taken : Taken) (middle : Parts) (m : Midway actor u fresh taken middle) (next : UnderWay) (now : Parts)
@@ -147,9 +148,6 @@ went_by : (state : State) (actor : ℕ) (operation : Operation) (action : Action
     went state actor operation action ≡ (outcome.Went (kind_of action), gone state actor operation)
 went_by state actor operation (act.End answer) other = absurd (other answer refl)
 went_by state actor operation action other = refl
-
-only_end : (state : State) (operation : Operation) (l : Line) (answer : Reply) → line_action state operation l ≡ act.End answer → l ≡ line.End answer
-only_end state operation l answer e = grind arith
 
 pub went_on : (state : State) (actor : ℕ) (operation : Operation) → answer_of operation.line ≡ None →
     went state actor operation (action_of state operation) ≡ (outcome.Went (kind_of (action_of state operation)), gone state actor operation)

@@ -25,7 +25,7 @@ use Rattle.machine_core.specs.Bounds.{IsOfRun}
 use Rattle.machine_core.specs.Going.{NotesCommit, NotesKind, Steps}
 use Rattle.machine_core.specs.Keeping.{Replaces}
 use Rattle.machine_core.specs.Seen.{operation_at, seen, under_way_of}
-use Rattle.machine_core.specs.Work.{ActsLittle, NotesUpTo, WorksUpTo, crossing, held_by, ticks_of_a_step}
+use Rattle.machine_core.specs.Work.{ActsLittle, NotesUpTo, WorksLittle, WorksUpTo, crossing, held_by, ticks_of_a_step, worked}
 use Rattle.machine_core.proofs.Crossing.{sweeping_pays}
 use Rattle.machine_core.proofs.Ends.{left}
 use Rattle.machine_core.proofs.Kept.{operation_there, seat_of}
@@ -109,6 +109,14 @@ settled_little most looks before middle after none little works = (
 
 pub weaker : (few many work work' : ℕ) (limbo limbo' : List Zeroed) → few ≤ many → WorksUpTo few work limbo work' limbo' → WorksUpTo many work limbo work' limbo'
 weaker few many work work' limbo limbo' less works = (works.0, omega (arith, works.1, less))
+
+-- a step of an operation
+pub operation_little : (before middle after : Parts) (actor : ℕ) → IsOfRun (seen before) → before.heap.noted ≡ [] → ActsLittle before actor middle →
+    WorksUpTo (3 * length middle.heap.noted) middle.heap.ticks middle.heap.limbo after.heap.ticks after.heap.limbo → WorksLittle (worked before) (worked after)
+operation_little before middle after actor run none little works =
+    let held = held_by (seen before) actor in
+    weaker (36 + held + 3 * (32 + held)) ticks_of_a_step before.heap.ticks after.heap.ticks before.heap.limbo after.heap.limbo (omega (arith, held_few (seen before) run actor))
+    (settled_little (32 + held) (36 + held) before.heap middle.heap after.heap none little works)
 
 one_freed : (did : Swept) → freed_by did ≤ 1
 one_freed (swept.Scanned passed) = omega arith

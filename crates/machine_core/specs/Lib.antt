@@ -8,4 +8,5 @@ pub mod Numbering
 pub mod Seen
 pub mod Starting
 pub mod Ties
+pub mod Walking
 pub mod Work

@@ -1,21 +1,23 @@
 //! A step of an operation: all of it but for limbo and the count of steps.
 
-ghost use Rattle.std.specs.Prelude.{◌≡◌, ◌<◌, All, false, length, slice_get, option_to_list, is_some, IfErr, IfOk, OnErr, OnOk, Some, None, MatchOption};
+ghost use Rattle.std.specs.Prelude.{◌≡◌, ◌<◌, All, false, length, slice_get, option_map, option_to_list, IfErr, IfOk, OnErr, OnOk, Some, None, MatchOption};
 ghost use Rattle.slot_arena.specs.Refs.{slot_of};
 ghost use Rattle.slot_arena.specs.Arenas.{IsLive};
 ghost use Rattle.machine_model.specs.declared.operations.Operation.{Operation};
-ghost use Rattle.machine_model.specs.States.{operation_of};
-ghost use Rattle.machine_model.specs.Operations.{action_of};
+ghost use Rattle.machine_model.specs.States.{State, operation_of};
+ghost use Rattle.machine_model.specs.Operations.{action_of, kind_of};
 ghost use Rattle.machine_model.specs.Acting.{entered_by, gone};
-ghost use Rattle.machine_model.specs.Machine.{go_denial, went};
+ghost use Rattle.machine_model.specs.Machine.{go_denial, next_kind, went};
 ghost use Rattle.chronicle.specs.Committed.{IsNewest};
 ghost use Rattle.machine_core.specs.Beneath.operate.specs.Places.{answer_of};
+ghost use Rattle.machine_core.specs.Beneath.rdcss_root.specs.Tables.{Table};
 ghost use Rattle.running.specs.Places.{line_for, IsSound};
 ghost use Rattle.running.specs.Steps.{scene, CanStep};
 ghost use Rattle.machine_core.specs.Bounds.{IsOfRun};
 ghost use Rattle.machine_core.specs.Going.{entered_for, moved, step_committed, HasUnderWay, InMidway, Midway, NotesCommit, Steps, StepsTo};
 ghost use Rattle.machine_core.specs.Keeping.{IsKept, Replaces};
 ghost use Rattle.machine_core.specs.Seen.{actor_of, operation_at, operation_seen, seen, under_way_of};
+ghost use Rattle.machine_core.specs.Walking.{is_over};
 ghost use Rattle.machine_core.specs.Work.{ActsLittle, NotesUpTo};
 ghost use Rattle.machine_core.specs.declared.parts.Actor.{Actor as AnActor};
 ghost use Rattle.machine_core.specs.declared.parts.UnderWay.{UnderWay as AnUnderWay};
@@ -33,34 +35,10 @@ use places::Place;
 use running::{Program, Roots, Taken};
 use slot_arena::Ref;
 
-/// What the step of the actor's operation does, but for what every step does at its end. After an error nothing
-/// that is seen has changed.
-#[inline(always)]
-pub fn go_on(parts: &mut Parts, actor: u8) -> Result<Outcome, Refusal>
-    requires run { IsOfRun (seen parts.old) }
-    requires kept { IsKept parts.old }
-    requires allowed { go_denial (seen parts.old) actor ≡ None }
-    ensures ok { IfOk result (λ outcome. (operation : Operation) →
-        operation_of (seen parts.old) actor ≡ Some operation →
-        went (seen parts.old) actor operation (action_of (seen parts.old) operation)
-        ≡ (outcome, seen parts.new)) }
-    ensures err { OnErr result (seen parts.new ≡ seen parts.old) }
-    ensures only_memory { IfErr result (λ refusal. refusal ≡ Refusal.Memory) }
-    ensures kept { IsKept parts.new }
-    ensures heap { OnErr result (parts.new.heap ≡ parts.old.heap) }
-    ensures work { OnOk result (ActsLittle parts.old actor parts.new) }
-{
-    if is_over(parts, actor) {
-        end_now(parts, actor)
-    } else {
-        Ok(Outcome::Went(proceed(parts, actor)?))
-    }
-}
-
 /// Whether the actor's operation ends by its next step.
-fn is_over(parts: &Parts, actor: u8) -> bool
-    ensures { (found : AnActor) (u : AnUnderWay) → actor_of parts.now actor ≡ Some found → found.under_way ≡ Some u →
-        result ≡ is_some (answer_of (line_for u.program found.programs)) }
+#[inline(always)]
+pub fn is_over(parts: &Parts, actor: u8) -> bool
+    ensures { result ≡ is_over (next_kind (seen parts.now) actor) }
 {
     match parts.actor(actor) {
         Some(found) => ends(found),
@@ -69,8 +47,9 @@ fn is_over(parts: &Parts, actor: u8) -> bool
 }
 
 /// The same of this actor.
+#[inline(always)]
 fn ends(actor: &Actor) -> bool
-    ensures { (u : AnUnderWay) → actor.now.under_way ≡ Some u → result ≡ is_some (answer_of (line_for u.program actor.now.programs)) }
+    ensures { (state : State) → (table : Table) → result ≡ is_over (option_map (λ operation. kind_of (action_of state operation)) (operation_seen table actor.now)) }
 {
     match &actor.under_way {
         Some(under_way) => actor.programs.is_over(&under_way.program),
@@ -80,7 +59,7 @@ fn ends(actor: &Actor) -> bool
 
 /// The end of the actor's operation, which is its next step. After an error nothing that is seen has changed.
 #[inline(never)]
-fn end_now(parts: &mut Parts, actor: u8) -> Result<Outcome, Refusal>
+pub fn end_now(parts: &mut Parts, actor: u8) -> Result<Outcome, Refusal>
     requires run { IsOfRun (seen parts.old) }
     requires kept { IsKept parts.old }
     ensures ok { IfOk result (λ outcome. (operation : Operation) →
@@ -127,12 +106,11 @@ fn reply_of(parts: &Parts, actor: u8, program: Program) -> Result<Option<Reply>,
 
 /// Takes a step of the actor's operation that isn't its end. After an error nothing that is seen has changed.
 #[inline(never)]
-fn proceed(parts: &mut Parts, actor: u8) -> Result<Kind, Refusal>
+pub fn proceed(parts: &mut Parts, actor: u8) -> Result<Kind, Refusal>
     requires run { IsOfRun (seen parts.old) }
     requires kept { IsKept parts.old }
     requires allowed { go_denial (seen parts.old) actor ≡ None }
-    requires goes_on { (found : AnActor) (u : AnUnderWay) → actor_of parts.old actor ≡ Some found → found.under_way ≡ Some u →
-        is_some (answer_of (line_for u.program found.programs)) ≡ false }
+    requires goes_on { is_over (next_kind (seen parts.old) actor) ≡ false }
     ensures ok { IfOk result (λ kind. (operation : Operation) →
         operation_of (seen parts.old) actor ≡ Some operation →
         went (seen parts.old) actor operation (action_of (seen parts.old) operation)
@@ -152,12 +130,11 @@ fn proceed(parts: &mut Parts, actor: u8) -> Result<Kind, Refusal>
 
 /// The main node that the actor's operation was, or is, about to swap in.
 fn fresh_of(parts: &Parts, actor: u8) -> Ref
+    requires allowed { go_denial (seen parts.now) actor ≡ None }
     ensures { (found : AnActor) → actor_of parts.now actor ≡ Some found → result ≡ found.programs.key.work.swap.fresh }
 {
-    match parts.actor(actor) {
-        Some(found) => found.programs.fresh(),
-        None => Ref::default(),
-    }
+    let index = actor as usize - 1;
+    parts.actors[index].programs.fresh()
 }
 
 /// Lets the actor's programs take the step. After an error nothing has changed.

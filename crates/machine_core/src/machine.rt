@@ -1,13 +1,15 @@
 //! The core as one value.
 
-ghost use Rattle.std.specs.Prelude.{◌≡◌, length, option_map, None, Some, IsSome, IfOk, IfErr, OnErr, OnOk, IsOkUnless};
+ghost use Rattle.std.specs.Prelude.{◌≡◌, false, length, option_map, None, Some, IsSome, IfOk, IfErr, OnErr, OnOk, IsOkUnless};
 ghost use Rattle.slot_arena.specs.Heaps.{in_use};
+ghost use Rattle.machine_model.specs.declared.steps.Step.TheVariants as steps;
 ghost use Rattle.machine_model.specs.States.{first_state, root_at};
 ghost use Rattle.machine_model.specs.Orders.{order_of};
 ghost use Rattle.machine_model.specs.Contents.{content_at};
 ghost use Rattle.machine_model.specs.Machine.{next, is_running, is_busy, next_kind, runs_on, denial_of, is_access, access_of, handles_taken, AreLimits};
 ghost use Rattle.machine_core.specs.Bounds.{Applies};
 ghost use Rattle.machine_core.specs.Finding.{found_along};
+ghost use Rattle.machine_core.specs.Walking.{is_over, walked};
 ghost use Rattle.machine_core.specs.Work.{WorksLittle};
 ghost use Rattle.machine_model.specs.Refusing.{RefusesLimits, RefusesContent};
 
@@ -15,11 +17,12 @@ use crate::actors::{is_busy, next_kind};
 use crate::contents::content_of;
 use crate::denials::{denial_of, is_access};
 use crate::finding::value_of;
+use crate::going::is_over;
 use crate::handles::{handles_taken, runs_on};
 use crate::parts::Parts;
 use crate::reserving::reserve;
 use crate::starting::{are_limits, first_parts};
-use crate::stepping::take_step;
+use crate::stepping::{take_step, walk};
 use ctrie_base::{Kind, Refusal, Ticks};
 use history::{Access, Event, Pairs};
 use machine_model::{Limits, Outcome, Step};
@@ -86,6 +89,26 @@ impl Core {
         ensures same { OnErr result (self.new ≡ self.old) }
     {
         take_step(&mut self.parts, step)
+    }
+
+    /// Whether the actor's operation ends by its next step; none does where it runs none.
+    #[inline(always)]
+    pub fn is_over(&self, actor: u8) -> bool
+        ensures { result ≡ is_over (next_kind self.now.state actor) }
+    {
+        is_over(&self.parts, actor)
+    }
+
+    /// Takes a step of the actor's operation that isn't its end, or refuses it: as `apply` does, but what comes of it
+    /// is told by the step's kind alone.
+    #[inline(always)]
+    pub fn walk(&mut self, actor: u8) -> Result<Kind, Refusal>
+        requires { is_over (next_kind self.old.state actor) ≡ false }
+        ensures applies { Applies (walked result) self.old.state (next self.old.state (steps.Go actor)) self.new.state }
+        ensures work { OnOk result (WorksLittle self.old self.new) }
+        ensures same { OnErr result (self.new ≡ self.old) }
+    {
+        walk(&mut self.parts, actor)
     }
 
     /// Why the step is denied, where it is. `apply` answers the same.

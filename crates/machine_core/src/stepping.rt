@@ -1,21 +1,22 @@
 //! A step: a begin, a step of an actor's operation, or a step of the sweep.
 
-ghost use Rattle.std.specs.Prelude.{◌≡◌, ◌<◌, [], Ok, None, IfErr, IfOk, OnErr, OnOk};
+ghost use Rattle.std.specs.Prelude.{◌≡◌, ◌<◌, [], false, Ok, None, IfErr, IfOk, OnErr, OnOk};
 ghost use Rattle.machine_model.specs.declared.steps.Step.TheVariants as steps;
-ghost use Rattle.machine_model.specs.Machine.{next, denial_of};
+ghost use Rattle.machine_model.specs.Machine.{next, next_kind, denial_of};
 ghost use Rattle.machine_core.specs.Bounds.{IsOfRun, Applies};
 ghost use Rattle.machine_core.specs.Keeping.{IsKept};
 ghost use Rattle.machine_core.specs.Seen.{seen};
+ghost use Rattle.machine_core.specs.Walking.{is_over, walked};
 ghost use Rattle.machine_core.specs.Work.{worked, WorksLittle};
 
 use crate::beginning::begin_operation;
 use crate::denials::{begin_denial, go_denial, sweep_denial};
-use crate::going::go_on;
+use crate::going::{end_now, is_over, proceed};
 use crate::parts::Parts;
 use crate::room::make_room;
 use crate::settling::settle;
 use crate::sweeping::sweep_once;
-use ctrie_base::Refusal;
+use ctrie_base::{Kind, Refusal};
 use history::Call;
 use machine_model::{Outcome, Step};
 
@@ -58,9 +59,49 @@ fn begin(parts: &mut Parts, actor: u8, call: Call) -> Result<Outcome, Refusal>
 }
 
 /// Takes a step of an actor's operation, or refuses it.
+#[inline(always)]
+fn go(parts: &mut Parts, actor: u8) -> Result<Outcome, Refusal>
+    requires run { IsOfRun (seen parts.old) }
+    requires kept { IsKept parts.old }
+    requires noted { parts.old.heap.noted ≡ [] }
+    ensures applies { Applies result (seen parts.old) (next (seen parts.old) (steps.Go actor)) (seen parts.new) }
+    ensures kept { IsKept parts.new }
+    ensures noted { parts.new.heap.noted ≡ [] }
+    ensures work { OnOk result (WorksLittle (worked parts.old) (worked parts.new)) }
+    ensures idle { OnErr result (parts.new.heap.ticks ≡ parts.old.heap.ticks) }
+{
+    if is_over(parts, actor) {
+        end(parts, actor)
+    } else {
+        Ok(Outcome::Went(walk(parts, actor)?))
+    }
+}
+
+/// Takes a step of an actor's operation that isn't its end, or refuses it. Its outcome is told by the kind alone: most
+/// steps are such, and two small numbers take no way through memory.
 #[tactic(auto, using(crate::proofs::Steps::refused))]
 #[inline(always)]
-pub fn go(parts: &mut Parts, actor: u8) -> Result<Outcome, Refusal>
+pub fn walk(parts: &mut Parts, actor: u8) -> Result<Kind, Refusal>
+    requires run { IsOfRun (seen parts.old) }
+    requires kept { IsKept parts.old }
+    requires noted { parts.old.heap.noted ≡ [] }
+    requires goes_on { is_over (next_kind (seen parts.old) actor) ≡ false }
+    ensures applies { Applies (walked result) (seen parts.old) (next (seen parts.old) (steps.Go actor)) (seen parts.new) }
+    ensures kept { IsKept parts.new }
+    ensures noted { parts.new.heap.noted ≡ [] }
+    ensures work { OnOk result (WorksLittle (worked parts.old) (worked parts.new)) }
+    ensures idle { OnErr result (parts.new.heap.ticks ≡ parts.old.heap.ticks) }
+{
+    match go_denial(parts, actor) {
+        Some(refusal) => Err(refusal),
+        None => take_walk(parts, actor),
+    }
+}
+
+/// Ends an actor's operation, or refuses to.
+#[tactic(auto, using(crate::proofs::Steps::refused))]
+#[inline(never)]
+fn end(parts: &mut Parts, actor: u8) -> Result<Outcome, Refusal>
     requires run { IsOfRun (seen parts.old) }
     requires kept { IsKept parts.old }
     requires noted { parts.old.heap.noted ≡ [] }
@@ -72,13 +113,13 @@ pub fn go(parts: &mut Parts, actor: u8) -> Result<Outcome, Refusal>
 {
     match go_denial(parts, actor) {
         Some(refusal) => Err(refusal),
-        None => take_go(parts, actor),
+        None => take_end(parts, actor),
     }
 }
 
 /// Takes a step of the sweep, or refuses it.
 #[tactic(auto, using(crate::proofs::Steps::refused))]
-#[inline(never)]
+#[inline(always)]
 fn sweep(parts: &mut Parts) -> Result<Outcome, Refusal>
     requires run { IsOfRun (seen parts.old) }
     requires kept { IsKept parts.old }
@@ -116,9 +157,29 @@ fn take_begin(parts: &mut Parts, actor: u8, call: Call) -> Result<Outcome, Refus
     Ok(Outcome::Began(id))
 }
 
-/// A step of an actor's operation that isn't denied. After an error nothing has changed.
+/// A step of an actor's operation that is neither denied nor its end. After an error nothing has changed.
 #[inline(always)]
-fn take_go(parts: &mut Parts, actor: u8) -> Result<Outcome, Refusal>
+fn take_walk(parts: &mut Parts, actor: u8) -> Result<Kind, Refusal>
+    requires run { IsOfRun (seen parts.old) }
+    requires allowed { denial_of (seen parts.old) (steps.Go actor) ≡ None }
+    requires kept { IsKept parts.old }
+    requires noted { parts.old.heap.noted ≡ [] }
+    requires goes_on { is_over (next_kind (seen parts.old) actor) ≡ false }
+    ensures taken { IfOk result (λ kind. next (seen parts.old) (steps.Go actor) ≡ Ok (Outcome.Went kind, seen parts.new)) }
+    ensures err { OnErr result (seen parts.new ≡ seen parts.old) }
+    ensures only_memory { IfErr result (λ refusal. refusal ≡ Refusal.Memory) }
+    ensures kept { IsKept parts.new }
+    ensures noted { parts.new.heap.noted ≡ [] }
+    ensures work { OnOk result (WorksLittle (worked parts.old) (worked parts.new)) }
+    ensures idle { OnErr result (parts.new.heap.ticks ≡ parts.old.heap.ticks) }
+{
+    let kind = proceed(parts, actor)?;
+    settle(parts);
+    Ok(kind)
+}
+
+/// The end of an actor's operation, which isn't denied. After an error nothing has changed.
+fn take_end(parts: &mut Parts, actor: u8) -> Result<Outcome, Refusal>
     requires run { IsOfRun (seen parts.old) }
     requires allowed { denial_of (seen parts.old) (steps.Go actor) ≡ None }
     requires kept { IsKept parts.old }
@@ -131,7 +192,7 @@ fn take_go(parts: &mut Parts, actor: u8) -> Result<Outcome, Refusal>
     ensures work { OnOk result (WorksLittle (worked parts.old) (worked parts.new)) }
     ensures idle { OnErr result (parts.new.heap.ticks ≡ parts.old.heap.ticks) }
 {
-    let outcome = go_on(parts, actor)?;
+    let outcome = end_now(parts, actor)?;
     settle(parts);
     Ok(outcome)
 }

@@ -1,3 +1,4 @@
+pub mod Apart
 pub mod Beneath
 pub mod Places
 pub mod Reach

@@ -15,6 +15,7 @@ use slot_arena::Ref;
 
 impl KeyOp {
     /// Whether its next step is a READ's.
+    #[inline(always)]
     pub fn is_reading(&self) -> bool
         ensures { (told : Option ℕ) → result ≡ is_some (read_of (key_line self.now told)) }
     {
@@ -25,6 +26,7 @@ impl KeyOp {
         }
     }
 
+    #[inline(always)]
     fn is_reading_at(&self, at: &BelowAt) -> bool
         ensures { (told : Option ℕ) → result ≡ is_some (read_of (below_line self.now told at.now)) }
     {

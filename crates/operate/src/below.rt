@@ -19,10 +19,12 @@ ghost use Rattle.trie_parts.specs.Holding.{AreHeld};
 ghost use Rattle.operate.specs.Beneath.key_change.specs.Lines.{line_of as change_line};
 ghost use Rattle.operate.specs.Beneath.key_change.specs.Steps.{CanChange, line_behind as line_tried};
 ghost use Rattle.key_finding.specs.Lines.{line_found};
+ghost use Rattle.operate.specs.Apart.{told};
 ghost use Rattle.operate.specs.Places.{key_line, changed_line, former_of};
 ghost use Rattle.operate.specs.Steps.{CommitsNoMore, KeySteps, KeyActs, ReadsKey, operation_for};
 
 use crate::key_op::{BelowAt, KeyAt, KeyOp};
+use crate::went::Went;
 use ctrie_base::{Kind, Refusal};
 use epochs::Heap;
 use key_finding::{Change, Found, KeyReply, Tried, after_entry, after_listed, after_main};
@@ -31,6 +33,7 @@ use trie_parts::{Next, above, current, node_at};
 
 impl KeyOp {
     /// Takes a step of the current indirection's READ.
+    #[inline(always)]
     pub(crate) fn read(&mut self, heap: &mut Heap, root_seen: Option<u64>) -> Next<KeyReply>
         requires at { self.old.place ≡ KeyAt.Down BelowAt.Read }
         requires can { CanReadOn heap.old.heap self.old.work.swap.read }
@@ -51,6 +54,7 @@ impl KeyOp {
     }
 
     /// Looks at the main node.
+    #[inline(always)]
     pub(crate) fn look_at_main(&mut self, heap: &Heap, main: Ref) -> Result<Next<KeyReply>, Refusal>
         ensures follows { IfOk result (λ next. KeySteps heap.now.heap self.old (line.Key (key.Main self.old.path main)) self.new next) }
         ensures same { (self.new.task ≡ self.old.task) × (self.new.work.private ≡ self.old.work.private) × (self.new.work.swap.read.access ≡ self.old.work.swap.read.access) }
@@ -71,6 +75,7 @@ impl KeyOp {
     }
 
     /// Looks at a branch's entry.
+    #[inline(always)]
     pub(crate) fn look_at_entry(
         &mut self,
         heap: &Heap,
@@ -97,18 +102,14 @@ impl KeyOp {
     }
 
     /// Looks at a single of a list, or at a tomb's.
-    pub(crate) fn look_at_single(
-        &mut self,
-        heap: &Heap,
-        main: Ref,
-        position: usize,
-    ) -> Result<Next<KeyReply>, Refusal>
-        ensures follows { IfOk result (λ next. KeySteps heap.now.heap self.old (line.Key (key.Listed self.old.path main position)) self.new next) }
+    #[inline(never)]
+    pub(crate) fn look_at_single(&mut self, heap: &Heap, main: Ref, position: usize) -> Went
+        ensures follows { IfOk (told result) (λ next. KeySteps heap.now.heap self.old (line.Key (key.Listed self.old.path main position)) self.new next) }
         ensures same { (self.new.task ≡ self.old.task) × (self.new.work.private ≡ self.old.work.private) × (self.new.work.swap.read.access ≡ self.old.work.swap.read.access) }
-        ensures taken { IfOk result (λ next. IsAskingRoot next → ⊥) }
-        ensures err { OnErr result (self.new ≡ self.old) }
-        ensures only_memory { IfErr result (λ refusal. refusal ≡ Refusal.Memory) }
-        ensures stands { OnOk result (ReadsKey self.new) }
+        ensures taken { IfOk (told result) (λ next. IsAskingRoot next → ⊥) }
+        ensures err { OnErr (told result) (self.new ≡ self.old) }
+        ensures only_memory { IfErr (told result) (λ refusal. refusal ≡ Refusal.Memory) }
+        ensures stands { OnOk (told result) (ReadsKey self.new) }
     {
         let found = after_listed(
             heap,
@@ -118,8 +119,10 @@ impl KeyOp {
             main,
             position,
         );
-        self.follow(heap, main, found)?;
-        Ok(Next::More(Kind::Look))
+        match self.follow(heap, main, found) {
+            Ok(()) => Went::More(Kind::Look),
+            Err(refusal) => Went::Refused(refusal),
+        }
     }
 
     /// Goes where a look at this main node leads.
@@ -167,6 +170,7 @@ impl KeyOp {
     }
 
     /// Reads the indirection below the current one next.
+    #[inline(always)]
     fn go_down(&mut self, below: Ref) -> Result<(), Refusal>
         ensures ok { OnOk result (key_line self.new None ≡ going_down self.old.path below) }
         ensures same { (self.new.task ≡ self.old.task) × (self.new.work.private ≡ self.old.work.private) × (self.new.work.swap.read.access ≡ self.old.work.swap.read.access) }
@@ -191,21 +195,18 @@ impl KeyOp {
     }
 
     /// Takes a step of a change.
-    pub(crate) fn change(
-        &mut self,
-        heap: &mut Heap,
-        root_seen: Option<u64>,
-    ) -> Result<Next<KeyReply>, Refusal>
+    #[inline(never)]
+    pub(crate) fn change(&mut self, heap: &mut Heap, root_seen: Option<u64>) -> Went
         requires at { self.old.place ≡ KeyAt.Down BelowAt.Change }
         requires can { CanChange heap.old.heap self.old.task self.old.path self.old.work.swap self.old.change }
         requires held { AreHeld self.old.work.private heap.old }
-        ensures follows { IfOk result (λ next. KeySteps heap.old.heap self.old (change_line self.old.path self.old.work.swap root_seen self.old.change) self.new next) }
-        ensures acts { OnOk result (KeyActs heap.old self.old (change_line self.old.path self.old.work.swap root_seen self.old.change) heap.new self.new.work.private) }
+        ensures follows { IfOk (told result) (λ next. KeySteps heap.old.heap self.old (change_line self.old.path self.old.work.swap root_seen self.old.change) self.new next) }
+        ensures acts { OnOk (told result) (KeyActs heap.old self.old (change_line self.old.path self.old.work.swap root_seen self.old.change) heap.new self.new.work.private) }
         ensures same { (self.new.task ≡ self.old.task) × (self.new.work.swap.read.access ≡ self.old.work.swap.read.access) }
-        ensures asks { IfOk result (λ next. IsAskingRoot next → (self.new ≡ self.old) × (heap.new ≡ heap.old)) }
-        ensures err { OnErr result ((self.new ≡ self.old) × (heap.new ≡ heap.old)) }
-        ensures only_memory { IfErr result (λ refusal. refusal ≡ Refusal.Memory) }
-        ensures stands { OnOk result (ReadsKey self.new) }
+        ensures asks { IfOk (told result) (λ next. IsAskingRoot next → (self.new ≡ self.old) × (heap.new ≡ heap.old)) }
+        ensures err { OnErr (told result) ((self.new ≡ self.old) × (heap.new ≡ heap.old)) }
+        ensures only_memory { IfErr (told result) (λ refusal. refusal ≡ Refusal.Memory) }
+        ensures stands { OnOk (told result) (ReadsKey self.new) }
     {
         let tomb = tomb_at(heap, self.work.swap.fresh);
         match self.change.step(
@@ -214,13 +215,14 @@ impl KeyOp {
             self.task,
             self.path.as_slice(),
             root_seen,
-        )? {
-            Next::More(kind) => Ok(Next::More(kind)),
-            Next::AskRoot => Ok(Next::AskRoot),
-            Next::Done(kind, tried) => {
+        ) {
+            Ok(Next::More(kind)) => Went::More(kind),
+            Ok(Next::AskRoot) => Went::AskRoot,
+            Ok(Next::Done(kind, tried)) => {
                 self.after_try(tried, tomb);
-                Ok(Next::More(kind))
+                Went::More(kind)
             }
+            Err(refusal) => Went::Refused(refusal),
         }
     }
 

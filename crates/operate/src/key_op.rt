@@ -1,6 +1,6 @@
 //! A call on one key, step by step.
 
-ghost use Rattle.std.specs.Prelude.{◌≡◌, if◌then◌else◌, List, [], None, IfOk, IfErr, OnOk, OnErr};
+ghost use Rattle.std.specs.Prelude.{◌≡◌, if◌then◌else◌, List, [], None, IfOk, IfErr, IsOk, OnOk, OnErr};
 ghost use Rattle.slot_arena.specs.declared.refs.Ref.{Ref as ARef};
 ghost use Rattle.history.specs.declared.calls.Access.{Access as AnAccess};
 ghost use Rattle.operate.specs.Beneath.machine_model.specs.Climbing.{climbed, climbing};
@@ -15,10 +15,12 @@ ghost use Rattle.operate.specs.Beneath.rdcss_root.specs.Acts.{ActsInAll};
 ghost use Rattle.operate.specs.Beneath.rdcss_root.specs.Programs.{root_of, CanRootOn, rooted_at};
 ghost use Rattle.operate.specs.Beneath.rdcss_root.specs.Tables.{word_in};
 ghost use Rattle.contract.specs.Climbing.{climb_of};
+ghost use Rattle.operate.specs.Apart.{told};
 ghost use Rattle.operate.specs.Places.{key_line, key_line_at};
 ghost use Rattle.operate.specs.Steps.{RootSteps, RootActs, CommitsNoMore, KeepsGeneration, CanKey, ReadsKey, table_after};
 
 use crate::path::Path;
+use crate::went::Went;
 use contract::{Clean, Climb, ClimbAt, Renew};
 use ctrie_base::{HashKind, Kind, Refusal};
 use epochs::Heap;
@@ -158,6 +160,7 @@ impl KeyOp {
 
     /// Takes the call's next step, on this handle, unless it has to be told the generation of the root first.
     /// After an error, which is want of memory, nothing has changed.
+    #[inline(always)]
     pub fn step(
         &mut self,
         roots: &mut Roots,
@@ -179,8 +182,8 @@ impl KeyOp {
         ensures only_memory { IfErr result (λ refusal. refusal ≡ Refusal.Memory) }
     {
         match &self.place {
-            KeyAt::Root => Ok(self.find_root(roots, handle, heap, root_seen)),
-            KeyAt::RootAgain => Ok(self.find_root_again(roots, handle, heap, root_seen)),
+            KeyAt::Root => self.find_root(roots, handle, heap, root_seen).told(),
+            KeyAt::RootAgain => self.find_root_again(roots, handle, heap, root_seen).told(),
             KeyAt::Down(at) => match at {
                 BelowAt::Read => Ok(self.read(heap, root_seen)),
                 BelowAt::Main { main } => {
@@ -193,12 +196,12 @@ impl KeyOp {
                 }
                 BelowAt::Listed { main, position } => {
                     let (main, position) = (*main, *position);
-                    self.look_at_single(heap, main, position)
+                    self.look_at_single(heap, main, position).told()
                 }
-                BelowAt::Change => self.change(heap, root_seen),
-                BelowAt::Renew => self.renew(heap, root_seen),
-                BelowAt::Clean => self.clean(heap, root_seen),
-                BelowAt::Climb => self.climb(heap, root_seen),
+                BelowAt::Change => self.change(heap, root_seen).told(),
+                BelowAt::Renew => self.renew(heap, root_seen).told(),
+                BelowAt::Clean => self.clean(heap, root_seen).told(),
+                BelowAt::Climb => self.climb(heap, root_seen).told(),
                 BelowAt::End => Ok(Next::Done(Kind::End, self.reply)),
                 BelowAt::Impossible => Ok(Next::More(Kind::ReadRoot)),
             },
@@ -214,35 +217,37 @@ impl KeyOp {
     }
 
     /// Takes a step of ROOT at the beginning of a try.
+    #[inline(never)]
     fn find_root(
         &mut self,
         roots: &mut Roots,
         handle: u16,
         heap: &mut Heap,
         root_seen: Option<u64>,
-    ) -> Next<KeyReply>
+    ) -> Went
         requires at { self.old.place ≡ KeyAt.Root }
         requires can { CanRootOn heap.old roots.old self.old.root self.old.work.swap.read }
-        ensures follows { RootSteps heap.old.heap (word_in roots.old handle) self.old (line.Root (root_of self.old.root self.old.work.swap.read root_seen)) self.new result }
+        ensures follows { IfOk (told result) (λ next. RootSteps heap.old.heap (word_in roots.old handle) self.old (line.Root (root_of self.old.root self.old.work.swap.read root_seen)) self.new next) }
         ensures acts { (private : List ARef) → ActsInAll heap.old roots.old.roots private (root_action (root_of self.old.root self.old.work.swap.read root_seen)) heap.new roots.new.roots private }
         ensures table { roots.new ≡ rooted_at roots.old handle self.old.root }
-        ensures generation { KeepsGeneration heap.old.heap (word_in roots.old handle) self.old (line.Root (root_of self.old.root self.old.work.swap.read root_seen)) self.new.task result }
+        ensures generation { IfOk (told result) (λ next. KeepsGeneration heap.old.heap (word_in roots.old handle) self.old (line.Root (root_of self.old.root self.old.work.swap.read root_seen)) self.new.task next) }
         ensures task { self.new.task ≡ record self.old.task { generation = self.new.task.generation } }
         ensures same { (self.new.work.private ≡ self.old.work.private) × (self.new.work.swap.read.access ≡ self.old.work.swap.read.access) }
-        ensures asks { IsAskingRoot result → (self.new ≡ self.old) × (roots.new ≡ roots.old) × (heap.new ≡ heap.old) }
+        ensures asks { IfOk (told result) (λ next. IsAskingRoot next → (self.new ≡ self.old) × (roots.new ≡ roots.old) × (heap.new ≡ heap.old)) }
+        ensures taken { IsOk (told result) }
         ensures stands { ReadsKey self.new }
     {
         match self
             .root
             .step(&mut self.work.swap.read, roots, handle, heap, root_seen)
         {
-            Next::More(kind) => Next::More(kind),
-            Next::AskRoot => Next::AskRoot,
+            Next::More(kind) => Went::More(kind),
+            Next::AskRoot => Went::AskRoot,
             Next::Done(kind, found) => {
                 self.task.generation = Some(generation_at(heap, found));
                 self.path.restart(found);
                 self.read_next(found);
-                Next::More(kind)
+                Went::More(kind)
             }
         }
     }
@@ -259,32 +264,34 @@ impl KeyOp {
     }
 
     /// Takes a step of ROOT after a climb whose swap failed.
+    #[inline(never)]
     fn find_root_again(
         &mut self,
         roots: &mut Roots,
         handle: u16,
         heap: &mut Heap,
         root_seen: Option<u64>,
-    ) -> Next<KeyReply>
+    ) -> Went
         requires at { self.old.place ≡ KeyAt.RootAgain }
         requires can { CanRootOn heap.old roots.old self.old.root self.old.work.swap.read }
-        ensures follows { RootSteps heap.old.heap (word_in roots.old handle) self.old (key_line_at self.old root_seen KeyAt.RootAgain) self.new result }
+        ensures follows { IfOk (told result) (λ next. RootSteps heap.old.heap (word_in roots.old handle) self.old (key_line_at self.old root_seen KeyAt.RootAgain) self.new next) }
         ensures acts { (private : List ARef) → ActsInAll heap.old roots.old.roots private (root_action (root_of self.old.root self.old.work.swap.read root_seen)) heap.new roots.new.roots private }
         ensures table { roots.new ≡ rooted_at roots.old handle self.old.root }
         ensures same { (self.new.task ≡ self.old.task) × (self.new.work.private ≡ self.old.work.private) × (self.new.work.swap.read.access ≡ self.old.work.swap.read.access) }
-        ensures asks { IsAskingRoot result → (self.new ≡ self.old)
-            × (roots.new ≡ roots.old) × (heap.new ≡ heap.old) }
+        ensures asks { IfOk (told result) (λ next. IsAskingRoot next → (self.new ≡ self.old)
+            × (roots.new ≡ roots.old) × (heap.new ≡ heap.old)) }
+        ensures taken { IsOk (told result) }
         ensures stands { ReadsKey self.new }
     {
         match self
             .root
             .step(&mut self.work.swap.read, roots, handle, heap, root_seen)
         {
-            Next::More(kind) => Next::More(kind),
-            Next::AskRoot => Next::AskRoot,
+            Next::More(kind) => Went::More(kind),
+            Next::AskRoot => Went::AskRoot,
             Next::Done(kind, found) => {
                 self.climb_again(generation_at(heap, found));
-                Next::More(kind)
+                Went::More(kind)
             }
         }
     }

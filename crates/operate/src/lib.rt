@@ -15,6 +15,7 @@ mod key_op;
 mod laws;
 mod path;
 mod repairs;
+mod went;
 
 pub use key_finding::KeyReply;
 pub use key_op::{BelowAt, KeyAt, KeyOp};

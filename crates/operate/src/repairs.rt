@@ -10,10 +10,12 @@ ghost use Rattle.trie_parts.specs.Holding.{AreHeld};
 ghost use Rattle.contract.specs.Cleaning.{clean_line, CanClean, line_behind as line_cleaned};
 ghost use Rattle.contract.specs.Climbing.{climb_line, climb_of, CanClimb, line_behind as line_climbed};
 ghost use Rattle.contract.specs.Renewing.{renew_line, CanRenew, line_behind as line_renewed};
+ghost use Rattle.operate.specs.Apart.{told};
 ghost use Rattle.operate.specs.Places.{key_line};
 ghost use Rattle.operate.specs.Steps.{CommitsNoMore, KeySteps, KeyActs, ReadsKey};
 
 use crate::key_op::{BelowAt, KeyAt, KeyOp};
+use crate::went::Went;
 use contract::{Cleaned, Climbed, Renewed};
 use ctrie_base::Refusal;
 use epochs::Heap;
@@ -23,21 +25,18 @@ use trie_parts::{Next, above, current};
 
 impl KeyOp {
     /// Takes a step of a renewing.
-    pub(crate) fn renew(
-        &mut self,
-        heap: &mut Heap,
-        root_seen: Option<u64>,
-    ) -> Result<Next<KeyReply>, Refusal>
+    #[inline(never)]
+    pub(crate) fn renew(&mut self, heap: &mut Heap, root_seen: Option<u64>) -> Went
         requires at { self.old.place ≡ KeyAt.Down BelowAt.Renew }
         requires can { CanRenew heap.old.heap self.old.work.swap self.old.renew }
         requires held { AreHeld self.old.work.private heap.old }
-        ensures follows { IfOk result (λ next. KeySteps heap.old.heap self.old (renew_line self.old.path self.old.work.swap root_seen self.old.renew) self.new next) }
-        ensures acts { OnOk result (KeyActs heap.old self.old (renew_line self.old.path self.old.work.swap root_seen self.old.renew) heap.new self.new.work.private) }
+        ensures follows { IfOk (told result) (λ next. KeySteps heap.old.heap self.old (renew_line self.old.path self.old.work.swap root_seen self.old.renew) self.new next) }
+        ensures acts { OnOk (told result) (KeyActs heap.old self.old (renew_line self.old.path self.old.work.swap root_seen self.old.renew) heap.new self.new.work.private) }
         ensures same { (self.new.task ≡ self.old.task) × (self.new.work.swap.read.access ≡ self.old.work.swap.read.access) }
-        ensures asks { IfOk result (λ next. IsAskingRoot next → (self.new ≡ self.old) × (heap.new ≡ heap.old)) }
-        ensures err { OnErr result ((self.new ≡ self.old) × (heap.new ≡ heap.old)) }
-        ensures only_memory { IfErr result (λ refusal. refusal ≡ Refusal.Memory) }
-        ensures stands { OnOk result (ReadsKey self.new) }
+        ensures asks { IfOk (told result) (λ next. IsAskingRoot next → (self.new ≡ self.old) × (heap.new ≡ heap.old)) }
+        ensures err { OnErr (told result) ((self.new ≡ self.old) × (heap.new ≡ heap.old)) }
+        ensures only_memory { IfErr (told result) (λ refusal. refusal ≡ Refusal.Memory) }
+        ensures stands { OnOk (told result) (ReadsKey self.new) }
     {
         match self.renew.step(
             &mut self.work,
@@ -45,13 +44,14 @@ impl KeyOp {
             self.task,
             self.path.as_slice(),
             root_seen,
-        )? {
-            Next::More(kind) => Ok(Next::More(kind)),
-            Next::AskRoot => Ok(Next::AskRoot),
-            Next::Done(kind, renewed) => {
+        ) {
+            Ok(Next::More(kind)) => Went::More(kind),
+            Ok(Next::AskRoot) => Went::AskRoot,
+            Ok(Next::Done(kind, renewed)) => {
                 self.after_renewing(renewed);
-                Ok(Next::More(kind))
+                Went::More(kind)
             }
+            Err(refusal) => Went::Refused(refusal),
         }
     }
 
@@ -74,33 +74,31 @@ impl KeyOp {
     }
 
     /// Takes a step of a cleaning.
-    pub(crate) fn clean(
-        &mut self,
-        heap: &mut Heap,
-        root_seen: Option<u64>,
-    ) -> Result<Next<KeyReply>, Refusal>
+    #[inline(never)]
+    pub(crate) fn clean(&mut self, heap: &mut Heap, root_seen: Option<u64>) -> Went
         requires at { self.old.place ≡ KeyAt.Down BelowAt.Clean }
         requires can { CanClean heap.old.heap (above self.old.path) self.old.work.swap self.old.clean }
         requires held { AreHeld self.old.work.private heap.old }
-        ensures follows { IfOk result (λ next. KeySteps heap.old.heap self.old (clean_line (above self.old.path) self.old.work.swap root_seen self.old.clean) self.new next) }
-        ensures acts { OnOk result (KeyActs heap.old self.old (clean_line (above self.old.path) self.old.work.swap root_seen self.old.clean) heap.new self.new.work.private) }
+        ensures follows { IfOk (told result) (λ next. KeySteps heap.old.heap self.old (clean_line (above self.old.path) self.old.work.swap root_seen self.old.clean) self.new next) }
+        ensures acts { OnOk (told result) (KeyActs heap.old self.old (clean_line (above self.old.path) self.old.work.swap root_seen self.old.clean) heap.new self.new.work.private) }
         ensures same { (self.new.task ≡ self.old.task) × (self.new.work.swap.read.access ≡ self.old.work.swap.read.access) }
-        ensures asks { IfOk result (λ next. IsAskingRoot next → (self.new ≡ self.old) × (heap.new ≡ heap.old)) }
-        ensures err { OnErr result ((self.new ≡ self.old) × (heap.new ≡ heap.old)) }
-        ensures only_memory { IfErr result (λ refusal. refusal ≡ Refusal.Memory) }
-        ensures stands { OnOk result (ReadsKey self.new) }
+        ensures asks { IfOk (told result) (λ next. IsAskingRoot next → (self.new ≡ self.old) × (heap.new ≡ heap.old)) }
+        ensures err { OnErr (told result) ((self.new ≡ self.old) × (heap.new ≡ heap.old)) }
+        ensures only_memory { IfErr (told result) (λ refusal. refusal ≡ Refusal.Memory) }
+        ensures stands { OnOk (told result) (ReadsKey self.new) }
     {
         let parents = above(self.path.as_slice());
         match self
             .clean
-            .step(&mut self.work, heap, self.task, parents, root_seen)?
+            .step(&mut self.work, heap, self.task, parents, root_seen)
         {
-            Next::More(kind) => Ok(Next::More(kind)),
-            Next::AskRoot => Ok(Next::AskRoot),
-            Next::Done(kind, cleaned) => {
+            Ok(Next::More(kind)) => Went::More(kind),
+            Ok(Next::AskRoot) => Went::AskRoot,
+            Ok(Next::Done(kind, cleaned)) => {
                 self.after_cleaning(cleaned);
-                Ok(Next::More(kind))
+                Went::More(kind)
             }
+            Err(refusal) => Went::Refused(refusal),
         }
     }
 
@@ -118,21 +116,18 @@ impl KeyOp {
     }
 
     /// Takes a step of a climb.
-    pub(crate) fn climb(
-        &mut self,
-        heap: &mut Heap,
-        root_seen: Option<u64>,
-    ) -> Result<Next<KeyReply>, Refusal>
+    #[inline(never)]
+    pub(crate) fn climb(&mut self, heap: &mut Heap, root_seen: Option<u64>) -> Went
         requires at { self.old.place ≡ KeyAt.Down BelowAt.Climb }
         requires can { CanClimb heap.old.heap self.old.task self.old.path self.old.work.swap self.old.climb }
         requires held { AreHeld self.old.work.private heap.old }
-        ensures follows { IfOk result (λ next. KeySteps heap.old.heap self.old (climb_line self.old.path self.old.work.swap root_seen self.old.climb) self.new next) }
-        ensures acts { OnOk result (KeyActs heap.old self.old (climb_line self.old.path self.old.work.swap root_seen self.old.climb) heap.new self.new.work.private) }
+        ensures follows { IfOk (told result) (λ next. KeySteps heap.old.heap self.old (climb_line self.old.path self.old.work.swap root_seen self.old.climb) self.new next) }
+        ensures acts { OnOk (told result) (KeyActs heap.old self.old (climb_line self.old.path self.old.work.swap root_seen self.old.climb) heap.new self.new.work.private) }
         ensures same { (self.new.task ≡ self.old.task) × (self.new.work.swap.read.access ≡ self.old.work.swap.read.access) }
-        ensures asks { IfOk result (λ next. IsAskingRoot next → (self.new ≡ self.old) × (heap.new ≡ heap.old)) }
-        ensures err { OnErr result ((self.new ≡ self.old) × (heap.new ≡ heap.old)) }
-        ensures only_memory { IfErr result (λ refusal. refusal ≡ Refusal.Memory) }
-        ensures stands { OnOk result (ReadsKey self.new) }
+        ensures asks { IfOk (told result) (λ next. IsAskingRoot next → (self.new ≡ self.old) × (heap.new ≡ heap.old)) }
+        ensures err { OnErr (told result) ((self.new ≡ self.old) × (heap.new ≡ heap.old)) }
+        ensures only_memory { IfErr (told result) (λ refusal. refusal ≡ Refusal.Memory) }
+        ensures stands { OnOk (told result) (ReadsKey self.new) }
     {
         match self.climb.step(
             &mut self.work,
@@ -140,13 +135,14 @@ impl KeyOp {
             self.task,
             self.path.as_slice(),
             root_seen,
-        )? {
-            Next::More(kind) => Ok(Next::More(kind)),
-            Next::AskRoot => Ok(Next::AskRoot),
-            Next::Done(kind, climbed) => {
+        ) {
+            Ok(Next::More(kind)) => Went::More(kind),
+            Ok(Next::AskRoot) => Went::AskRoot,
+            Ok(Next::Done(kind, climbed)) => {
                 self.after_climb(climbed);
-                Ok(Next::More(kind))
+                Went::More(kind)
             }
+            Err(refusal) => Went::Refused(refusal),
         }
     }
 

@@ -108,6 +108,11 @@ abbrev pub IsBegun : Program → Programs → Type 0
 IsBegun (Key call) p = p.key.task.call ≡ call
 IsBegun program p = Unit {0}
 
+-- it is no call on one key
+abbrev pub IsNoKeyCall : Program → Type 0
+IsNoKeyCall (Key call) = ⊥
+IsNoKeyCall program = Unit {0}
+
 -- while an offer is completed the READ is one of its root
 abbrev pub ReadsOn : Program → Programs → Type 0
 ReadsOn (Key call) p = ReadsKey p.key

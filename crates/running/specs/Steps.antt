@@ -1,7 +1,7 @@
 -- What a step of an operation comes to, does and asks.
-use Rattle.std.specs.Prelude.{◌≡◌, ℕ, Bool, true, false, ◌&&◌, ◌<◌, ◌-◌, ◌^◌, Option, Some, None, if◌then◌else◌}
+use Rattle.std.specs.Prelude.{◌≡◌, ℕ, Bool, false, ◌&&◌, ◌<◌, ◌-◌, ◌^◌, Option, Some, None, Result, Ok, Err, if◌then◌else◌}
 use Rattle.ctrie_base.specs.declared.kinds.Kind.{Kind}
-use Rattle.ctrie_base.specs.declared.kinds.Kind.TheVariants as kind
+use Rattle.ctrie_base.specs.declared.refusals.Refusal.{Refusal}
 use Rattle.slot_arena.specs.declared.refs.Ref.{Ref}
 use Rattle.epochs.specs.Memories.{Memory}
 use Rattle.running.specs.Beneath.machine_model.specs.declared.actions.Action.{Action}
@@ -33,6 +33,8 @@ use Rattle.running.specs.declared.job.Program.TheVariants.{Key, Snap, Entries, C
 use Rattle.running.specs.declared.programs.Programs.{Programs}
 use Rattle.running.specs.declared.programs.Stage.{Stage}
 use Rattle.running.specs.declared.programs.Stage.TheVariants.{Runs}
+use Rattle.running.specs.declared.ran.Ran.{Ran}
+use Rattle.running.specs.declared.ran.Ran.TheVariants.{Reading, Beside, Refused}
 use Rattle.running.specs.Places.{IsSound, generation_in, line_for, operation_for}
 use Rattle.running.specs.Taking.{Taken, committed_if, counts_if, given_if, if_reading}
 
@@ -46,6 +48,16 @@ taken_in reading k place =
 -- a step of this kind of any other call, behind which the operation's READ stands here
 abbrev pub taken_so : Kind → ReadAt → Taken
 taken_so k place = record { kind = k; committed = committed_if k (given_so place); given = given_if k (given_so place); counts = counts_if k }
+
+-- a step of this kind of no READ
+abbrev pub taken_beside : Kind → Taken
+taken_beside k = record { kind = k; committed = None; given = None; counts = false }
+
+-- what is told in few words: the step, behind which the operation's READ stands here, or why it was refused
+abbrev pub outcome_of : Ran → ReadAt → Result Taken Refusal
+outcome_of (Reading k) place = Ok (taken_so k place)
+outcome_of (Beside k) place = Ok (taken_beside k)
+outcome_of (Refused refusal) place = Err refusal
 
 abbrev pub given_by : After ReadLine Ref → Option Ref
 given_by (Goes l) = None

@@ -8,8 +8,11 @@
 //! comes to. `specs/Places` says which line that is, `specs/Steps` what a step does.
 #![tactic(auto)]
 
+mod asking;
+mod beside;
 mod job;
 mod programs;
+mod ran;
 mod taken;
 mod telling;
 mod walking;

@@ -4,14 +4,13 @@ ghost use Rattle.std.specs.Prelude.{◌≡◌, ◌<◌, ◌≤◌, ◌+◌, ◌-
 ghost use Rattle.epochs.specs.Memories.{KeepsEpochs};
 ghost use Rattle.running.specs.Beneath.machine_model.specs.Operations.{first_line};
 ghost use Rattle.running.specs.Beneath.trie_parts.specs.Holding.{AreHeld, KeepsOthers};
-ghost use Rattle.running.specs.Beneath.trie_parts.specs.Steps.{IsAskingLine};
 ghost use Rattle.running.specs.Beneath.rdcss_root.specs.Programs.{CanAbortOn};
-ghost use Rattle.running.specs.Beneath.root_asking.specs.Asked.{IsUntold, abort_of};
+ghost use Rattle.running.specs.Beneath.root_asking.specs.Asked.{abort_of};
 ghost use Rattle.operate.specs.Places.{key_line};
 ghost use Rattle.operate.specs.Steps.{CanKey};
-ghost use Rattle.snapshot.specs.Copies.{CanSnap, IsReadyBeside, snap_line};
+ghost use Rattle.snapshot.specs.Copies.{IsReadyBeside};
 ghost use Rattle.running.specs.Places.{asking_line, call_for, generation_in, line_for, program_line, IsBegun, IsSound, IsWaiting, ReadsOn};
-ghost use Rattle.running.specs.Steps.{CanProgram, CanStep, Does, scene, taken_in, taken_so};
+ghost use Rattle.running.specs.Steps.{CanProgram, CanStep, Does, scene, taken_in};
 
 use crate::job::{Job, Program};
 use crate::taken::Taken;
@@ -19,7 +18,7 @@ use ctrie_base::{HashKind, Kind, Refusal};
 use epochs::Heap;
 use history::Access;
 use operate::{KeyCall, KeyOp, KeyReply};
-use snapshot::{Asking, Count, Entries, Next, Roots, Snap, SnapCall, SnapReply};
+use snapshot::{Asking, Count, Entries, Next, Roots, Snap, SnapReply};
 use std::alloc::Global;
 
 /// How far an operation has come.
@@ -91,15 +90,21 @@ impl Programs {
         ensures private { self.new.key.work.private ≡ self.old.key.work.private }
         ensures sound { IsSound program self.new }
     {
-        self.stage = Stage::Runs;
-        self.asking = Asking::Unasked;
+        self.run_on();
         self.key.work.swap.read.access = access;
-        self.snap = Snap::new();
+        self.snap.attempt = 0;
         match program {
             Program::Key(call) => self.key.begin(access, call),
-            Program::Entries => self.entries.begin(),
-            Program::Count => self.count.begin(),
-            Program::Snap(_) | Program::Close => {}
+            Program::Snap(_) => self.snap = Snap::new(),
+            Program::Entries => {
+                self.snap.generation = None;
+                self.entries.begin();
+            }
+            Program::Count => {
+                self.snap.generation = None;
+                self.count.begin();
+            }
+            Program::Close => self.snap.generation = None,
         }
     }
 
@@ -173,9 +178,9 @@ impl Programs {
                 let told = Some(*generation);
                 self.run(told, job, program, roots, generations, heap)
             }
-            Asking::Met(offer) => {
-                let asking = Asking::Met(*offer);
-                Ok(self.ask(asking, job, program, roots, *generations, heap))
+            Asking::Met(_) => {
+                let kind = self.ask_on(job, program, roots, *generations, heap);
+                Ok(Taken::of_kind(kind))
             }
         }
     }
@@ -204,14 +209,15 @@ impl Programs {
     {
         match program {
             Program::Key(call) => self.change_key(call, told, job, roots, *generations, heap),
-            Program::Snap(call) => self.swap_root(*call, told, job, roots, generations, heap),
-            Program::Entries => self.list(told, job, roots, *generations, heap),
-            Program::Count => self.count_up(told, job, roots, *generations, heap),
-            Program::Close => Ok(self.come_to(Stage::Runs, Kind::End)),
+            _ => {
+                let ran = self.run_beside(told, job, program, roots, generations, heap);
+                ran.taken(&self.key.work.swap.read.at)
+            }
         }
     }
 
     /// Takes a step of a call on one key.
+    #[inline(always)]
     fn change_key(
         &mut self,
         call: &KeyCall,
@@ -233,8 +239,8 @@ impl Programs {
         match self.key.step(roots, job.handle, heap, told)? {
             Next::More(kind) => Ok(self.go_by_key(is_reading, kind)),
             Next::AskRoot => {
-                let program = Program::Key(*call);
-                Ok(self.ask(Asking::Unasked, job, &program, roots, generation, heap))
+                let kind = self.ask_for_key(call, job, roots, generation, heap);
+                Ok(Taken::of_kind(kind))
             }
             Next::Done(kind, reply) => {
                 Ok(self.come_by_key(Stage::Answered(reply), is_reading, kind))
@@ -243,7 +249,8 @@ impl Programs {
     }
 
     /// Its program runs on, and knows nothing of the root. Where that is so already nothing is written.
-    fn run_on(&mut self)
+    #[inline(always)]
+    pub(crate) fn run_on(&mut self)
         ensures { self.new ≡ record self.old { stage = Stage.Runs; asking = Asking.Unasked } }
     {
         match &self.stage {
@@ -257,21 +264,13 @@ impl Programs {
     }
 
     /// The call on one key took a step of this kind, was in a READ or not, and goes on.
+    #[inline(always)]
     fn go_by_key(&mut self, is_reading: bool, kind: Kind) -> Taken
         ensures same { self.new ≡ record self.old { stage = Stage.Runs; asking = Asking.Unasked } }
         ensures taken { result ≡ taken_in is_reading kind self.old.key.work.swap.read.at }
     {
         self.run_on();
         Taken::by_key(is_reading, kind, &self.key.work.swap.read.at)
-    }
-
-    /// The program took a step of this kind, and goes on.
-    pub(crate) fn go_so(&mut self, kind: Kind) -> Taken
-        ensures same { self.new ≡ record self.old { stage = Stage.Runs; asking = Asking.Unasked } }
-        ensures taken { result ≡ taken_so kind self.old.key.work.swap.read.at }
-    {
-        self.run_on();
-        Taken::by_read(kind, &self.key.work.swap.read.at)
     }
 
     /// The call on one key took a step of this kind, was in a READ or not, and has come to this stage.
@@ -283,75 +282,5 @@ impl Programs {
         self.stage = stage;
         self.asking = Asking::Unasked;
         Taken::by_key(is_reading, kind, &self.key.work.swap.read.at)
-    }
-
-    /// Takes a step of a snapshot, a freeze or a clear.
-    #[inline(never)]
-    fn swap_root(
-        &mut self,
-        call: SnapCall,
-        told: Option<u64>,
-        job: &Job,
-        roots: &mut Roots,
-        generations: &mut u64,
-        heap: &mut Heap,
-    ) -> Result<Taken, Refusal>
-        requires can { CanSnap heap.old roots.old self.old.key.work.swap.read generations.old self.old.snap }
-        requires ready { IsReadyBeside heap.old roots.old.roots self.old.key.work.private }
-        requires attempts { self.old.snap.attempt < 2 ^ 64 - 1 }
-        requires generations { generations.old < 2 ^ 64 - 1 }
-        requires reads { ReadsOn (Program.Snap call) self.old }
-        ensures does { IfOk result (λ taken. Does job.now (Program.Snap call) (snap_line self.old.key.work.swap.read told self.old.snap)
-            (scene heap.old roots.old generations.old self.old) taken (scene heap.new roots.new generations.new self.new)) }
-        ensures err { OnErr result ((self.new ≡ self.old) × (roots.new ≡ roots.old) × (generations.new ≡ generations.old) × (heap.new ≡ heap.old)) }
-        ensures only_memory { IfErr result (λ refusal. refusal ≡ Refusal.Memory) }
-    {
-        let task = job.swapping(call);
-        match self
-            .snap
-            .step(&mut self.key.work, roots, generations, heap, task, told)?
-        {
-            Next::More(kind) => Ok(self.go_so(kind)),
-            Next::AskRoot => {
-                let program = Program::Snap(call);
-                Ok(self.ask(Asking::Unasked, job, &program, roots, *generations, heap))
-            }
-            Next::Done(kind, reply) => Ok(self.come_to(Stage::Swapped(reply), kind)),
-        }
-    }
-
-    /// The program took a step of this kind, and has come to this stage.
-    pub(crate) fn come_to(&mut self, stage: Stage, kind: Kind) -> Taken
-        ensures same { self.new ≡ record self.old { stage = stage; asking = Asking.Unasked } }
-        ensures taken { result ≡ taken_so kind self.old.key.work.swap.read.at }
-    {
-        self.stage = stage;
-        self.asking = Asking::Unasked;
-        Taken::by_read(kind, &self.key.work.swap.read.at)
-    }
-
-    /// Takes a step of ABORT, for a program whose READ asks.
-    pub(crate) fn ask(
-        &mut self,
-        asking: Asking,
-        job: &Job,
-        program: &Program,
-        roots: &mut Roots,
-        generation: u64,
-        heap: &mut Heap,
-    ) -> Taken
-        requires asks { IsAskingLine (program_line self.old None program.now) }
-        requires untold { IsUntold asking }
-        requires begun { IsBegun program.now self.old }
-        requires reads { ReadsOn program.now self.old }
-        requires can { CanAbortOn heap.old roots.old (abort_of asking) }
-        ensures does { Does job.now program.now (asking_line self.old program.now Stage.Runs asking)
-            (scene heap.old roots.old generation self.old) result (scene heap.new roots.new generation self.new) }
-    {
-        let mut asking = asking;
-        let kind = asking.step(roots, job.handle, heap);
-        self.stage = Stage::Runs;
-        self.asking = asking;
-        Taken::of_kind(kind)
     }
 }

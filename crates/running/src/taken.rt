@@ -1,7 +1,7 @@
 //! What a step of an operation was.
 
-ghost use Rattle.std.specs.Prelude.{◌≡◌, false, None};
-ghost use Rattle.running.specs.Steps.{taken_so, taken_in};
+ghost use Rattle.std.specs.Prelude.{◌≡◌};
+ghost use Rattle.running.specs.Steps.{taken_beside, taken_in, taken_so};
 ghost use Rattle.running.specs.Taking.{given_if, committed_if, counts_if};
 
 use ctrie_base::Kind;
@@ -30,6 +30,7 @@ impl Model for Taken {
 
 impl Taken {
     /// A step of this kind, behind which the operation's READ stands here.
+    #[inline(always)]
     pub(crate) fn by_read(kind: Kind, at: &ReadAt) -> Taken
         ensures { result ≡ taken_so kind at.now }
     {
@@ -37,6 +38,7 @@ impl Taken {
     }
 
     /// A step of this kind of a call on one key, which was in a READ or not, and behind which its READ stands here.
+    #[inline(always)]
     pub(crate) fn by_key(is_reading: bool, kind: Kind, at: &ReadAt) -> Taken
         ensures { result ≡ taken_in is_reading kind at.now }
     {
@@ -58,8 +60,9 @@ impl Taken {
 
     /// A step of this kind of no READ.
     #[tactic(auto, using(crate::proofs::Untaken::commits_none))]
+    #[inline(always)]
     pub(crate) fn of_kind(kind: Kind) -> Taken
-        ensures { result ≡ record { kind = kind; committed = None; given = None; counts = false } }
+        ensures { result ≡ taken_beside kind }
     {
         Taken {
             kind,
@@ -70,6 +73,7 @@ impl Taken {
     }
 
     /// Its kind.
+    #[inline(always)]
     pub fn kind(&self) -> Kind
         ensures { result ≡ self.now.kind }
     {
@@ -78,6 +82,7 @@ impl Taken {
 
     /// The main node that it committed, if it did.
     #[tactic(auto, using(crate::proofs::Untaken::commits_none))]
+    #[inline(always)]
     pub fn committed(&self) -> Option<Ref>
         ensures { result ≡ self.now.committed }
     {
@@ -89,6 +94,7 @@ impl Taken {
 
     /// The main node that the operation's READ gave by it, if it did.
     #[tactic(auto, using(crate::proofs::Untaken::gives_none))]
+    #[inline(always)]
     pub fn given(&self) -> Option<Ref>
         ensures { result ≡ self.now.given }
     {
@@ -99,6 +105,7 @@ impl Taken {
     }
 
     /// Whether the operation's READ counts from it on.
+    #[inline(always)]
     pub fn counts(&self) -> bool
         ensures { result ≡ self.now.counts }
     {
@@ -107,6 +114,7 @@ impl Taken {
 }
 
 /// What a READ gives by a step of this kind.
+#[inline(always)]
 fn given_if(kind: Kind, given: Option<Ref>) -> Option<Ref>
     ensures { result ≡ given_if kind given }
 {
@@ -117,6 +125,7 @@ fn given_if(kind: Kind, given: Option<Ref>) -> Option<Ref>
 }
 
 /// What a READ commits by a step of this kind, behind which it has given this.
+#[inline(always)]
 fn committed_if(kind: Kind, given: Option<Ref>) -> Option<Ref>
     ensures { result ≡ committed_if kind given }
 {
@@ -127,6 +136,7 @@ fn committed_if(kind: Kind, given: Option<Ref>) -> Option<Ref>
 }
 
 /// Whether a READ counts from a step of this kind on: it read the main word, or swapped it back.
+#[inline(always)]
 fn counts_if(kind: Kind) -> bool
     ensures { result ≡ counts_if kind }
 {

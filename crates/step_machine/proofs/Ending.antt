@@ -191,14 +191,14 @@ module _ (machine : Taken) (actor : ℕ) where
     answered =
         let (n, few, on, last) = leads (bounded operation.call sure.0) in
         let within : n < go_limit = omega (arith, few) in
-        (last.0, after (suc n), ends n actor operation.id last.0 (outcome.Ended operation.id last.0) machine (after n) (after (suc n)) within (going n on) refl (one_more n, last.1))
+        (last.0, after (suc n), ends n actor operation.id last.0 machine (after n) (after (suc n)) within (going n on) (one_more n, last.1))
 
     -- so does this one
     pub comes : (answer : Reply) (last : Taken) → going_on go_limit actor machine ≡ (Ok (Some answer), last) → Comes last
     comes answer to goes =
         let (n, few, on, last) = leads (bounded operation.call sure.0) in
         let within : n < go_limit = omega (arith, few) in
-        let led = ends n actor operation.id last.0 (outcome.Ended operation.id last.0) machine (after n) (after (suc n)) within (going n on) refl (one_more n, last.1) in
+        let led = ends n actor operation.id last.0 machine (after n) (after (suc n)) within (going n on) (one_more n, last.1) in
         record {
           before = n;
           few = few;

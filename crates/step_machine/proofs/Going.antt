@@ -11,7 +11,7 @@ use Rattle.machine_model.specs.declared.steps.Outcome.TheVariants as outcome
 use Rattle.machine_model.specs.Machine.{Answer, next, denial_of}
 use Rattle.step_machine.specs.Machines.{Taken, state_of, with_step, Applied}
 use Rattle.machine_model.specs.Going.{go_limit}
-use Rattle.step_machine.specs.Callers.{Going, after_outcome, after_go, going_on, Resumes}
+use Rattle.step_machine.specs.Callers.{Going, after_outcome, after_go, going_on, Replies, Resumes}
 
 -- what goes on after this outcome leads on
 onwards : (k actor : ℕ) (n : ℕ) (from machine : Taken) (o : Outcome) →
@@ -47,12 +47,18 @@ left : (i : ℕ) → i < go_limit → i + suc (go_limit - (i + 1)) ≡ go_limit
 left i within = omega (arith, within)
 
 -- the operation ends
-pub ends : (i actor id : ℕ) (answer : Reply) (o : Outcome) (from machine after : Taken) → i < go_limit → going_on i actor from ≡ (Ok None, machine) →
-    o ≡ outcome.Ended id answer → Applied (Ok o) machine (Go actor) after → going_on go_limit actor from ≡ (Ok (Some answer), after)
-ends i actor id answer o from machine after within so is applied =
-    let step = subst (λ x. Applied (Ok x) machine (Go actor) after) is applied in
+pub ends : (i actor id : ℕ) (answer : Reply) (from machine after : Taken) → i < go_limit → going_on i actor from ≡ (Ok None, machine) →
+    Applied (Ok (outcome.Ended id answer)) machine (Go actor) after → going_on go_limit actor from ≡ (Ok (Some answer), after)
+ends i actor id answer from machine after within so step =
     subst (λ n. going_on n actor from ≡ (Ok (Some answer), after)) (left i within)
     (last_answer actor from machine i (go_limit - (i + 1)) (Ok (outcome.Ended id answer, state_of after)) so step.1 ∙ ap (λ m. (Ok (Some answer), m)) (sym step.0))
+
+-- and its reply is told
+pub replies : (i actor : ℕ) (answer : Reply) (told : Option Reply) (from machine after : Taken) → i < go_limit → going_on i actor from ≡ (Ok None, machine) →
+    told ≡ Some answer → Replies (Ok told) machine actor after → going_on go_limit actor from ≡ (Ok (Some answer), after)
+replies i actor answer told from machine after within so is step =
+    let (id, ended) = subst (λ (x : Option Reply). Replies (Ok x) machine actor after) is step in
+    ends i actor id answer from machine after within so ended
 
 -- a step is refused
 pub stops : (i actor : ℕ) (refusal : Refusal) (from machine after : Taken) → i < go_limit → going_on i actor from ≡ (Ok None, machine) →
@@ -74,6 +80,12 @@ goes i actor (outcome.Went kind) from machine after so step other =
     last_answer actor from machine i zero (Ok (outcome.Went kind, state_of after)) so step.1 ∙ ap (λ m. (Ok None, m)) (sym step.0)
 goes i actor (outcome.Swept done) from machine after so step other =
     last_answer actor from machine i zero (Ok (outcome.Swept done, state_of after)) so step.1 ∙ ap (λ m. (Ok None, m)) (sym step.0)
+
+-- and tells no reply
+pub stays : (i actor : ℕ) (told : Option Reply) (from machine after : Taken) → going_on i actor from ≡ (Ok None, machine) →
+    Replies (Ok told) machine actor after → ((answer : Reply) → told ≡ Some answer → ⊥) → going_on (i + 1) actor from ≡ (Ok None, after)
+stays i actor (Some answer) from machine after so replies other = absurd (other answer refl)
+stays i actor None from machine after so (o, no_end, step) other = goes i actor o from machine after so step no_end
 
 -- so many steps didn't end it
 pub reached : (i actor : ℕ) (from machine : Taken) → go_limit ≤ i → i ≤ go_limit → going_on i actor from ≡ (Ok None, machine) →

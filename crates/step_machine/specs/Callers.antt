@@ -17,6 +17,12 @@ abbrev pub Stepped : Result (Unit {0}) Refusal → Taken → Step → Taken → 
 Stepped (Ok done) before step after = (o : Outcome) × Applied (Ok o) before step after
 Stepped (Err refusal) before step after = Applied (Err refusal) before step after
 
+-- the same as of a step of the actor's operation of which the reply is told, where it is the end
+abbrev pub Replies : Result (Option Reply) Refusal → Taken → ℕ → Taken → Type 0
+Replies (Ok (Some answer)) before actor after = (id : ℕ) × Applied (Ok (Ended id answer)) before (Go actor) after
+Replies (Ok None) before actor after = (o : Outcome) × ((id : ℕ) (answer : Reply) → o ≡ Ended id answer → ⊥) × Applied (Ok o) before (Go actor) after
+Replies (Err refusal) before actor after = Applied (Err refusal) before (Go actor) after
+
 -- what steps of an operation come to: its reply if it has ended, or a denial, and the machine after them
 abbrev pub Going : Type 0
 Going = Result (Option Reply) Refusal × Taken

@@ -6,7 +6,7 @@ ghost use Rattle.machine_model.specs.declared.steps.Step.{Step};
 ghost use Rattle.step_machine.specs.Records.{IsAfter};
 ghost use Rattle.history.specs.declared.calls.Call.{Call};
 ghost use Rattle.step_machine.specs.Machines.{Taken, state_of};
-ghost use Rattle.step_machine.specs.Callers.{Stepped, Resumes, Completes, Reclaims};
+ghost use Rattle.step_machine.specs.Callers.{Stepped, Replies, Resumes, Completes, Reclaims};
 ghost use Rattle.machine_model.specs.Machine.{is_busy};
 ghost use Rattle.step_machine.specs.Reclaiming.{UsesReached, LooksSame, SweepsFew};
 ghost use Rattle.step_machine.specs.Legality.{ActedAlone, RestsIfAnswered, WentAlone};
@@ -90,11 +90,27 @@ impl Machine {
         ensures { Resumes result self.old actor self.new }
     {
         for _ in 0..GO_LIMIT {
-            if let Outcome::Ended(_, reply) = self.apply(Step::Go { actor })? {
-                return Ok(Some(reply));
+            if self.is_over(actor) {
+                if let Some(reply) = self.reply(actor)? {
+                    return Ok(Some(reply));
+                }
+            } else {
+                self.walk(actor)?;
             }
         }
         Ok(None)
+    }
+
+    /// Takes a step of the actor's operation, and tells the reply, if it is the end. It stands alone, so that the loop
+    /// around it has no outcome in memory.
+    #[inline(never)]
+    fn reply(&mut self, actor: u8) -> Result<Option<Reply>, Refusal>
+        ensures { Replies result self.old actor self.new }
+    {
+        match self.apply(Step::Go { actor })? {
+            Outcome::Ended(_, reply) => Ok(Some(reply)),
+            _ => Ok(None),
+        }
     }
 
     /// Takes steps of the sweep until limbo is empty: the slots in use are then exactly those that the open

@@ -1,6 +1,6 @@
 //! A machine and its steps.
 
-ghost use Rattle.std.specs.Prelude.{◌≡◌, ◌≢◌, ◌+◌, ◌≤◌, ℕ, length, None, option_map, Some, Ok, IsSome, IfOk, IfErr, OnOk, IsOkUnless};
+ghost use Rattle.std.specs.Prelude.{◌≡◌, ◌≢◌, ◌+◌, ◌≤◌, ℕ, false, length, unwrap_or, None, option_map, Some, Ok, IsSome, IfOk, IfErr, OnOk, IsOkUnless};
 ghost use Rattle.std.specs.FinMap as map;
 ghost use Rattle.std.specs.Ordering.{nat_cmp};
 ghost use Rattle.ctrie_base.specs.declared.kinds.Kind.TheVariants.{Make};
@@ -12,6 +12,7 @@ ghost use Rattle.step_machine.specs.Beneath.slot_arena.specs.Heaps.{in_use};
 ghost use Rattle.machine_model.specs.Orders.{order_of};
 ghost use Rattle.machine_model.specs.Contents.{content_at};
 ghost use Rattle.machine_core.specs.Finding.{found_along};
+ghost use Rattle.machine_core.specs.Walking.{is_over, walked};
 ghost use Rattle.machine_model.specs.Keys.{KeysFit};
 ghost use Rattle.machine_model.specs.Machine.{AreLimits, denial_of, is_running, is_busy, runs_on, next_kind, handles_taken, is_access, access_of};
 ghost use Rattle.machine_model.specs.Refusing.{RefusesLimits, RefusesContent};
@@ -127,12 +128,54 @@ impl Machine {
     {
         // The room is taken first, so that a step that was taken can be recorded.
         if self.steps.reserve(1).is_err() {
-            return Err(self.denial(step).unwrap_or(Refusal::Memory));
+            return Err(self.wanting(step));
         }
         let outcome = self.body.apply(step)?;
         let _ = self.steps.push(step);
         Machine::fits(step);
         Ok(outcome)
+    }
+
+    /// A step of the actor's operation that isn't its end, told by its kind alone.
+    #[tactic(auto, using(crate::proofs::Steps::kept_limits, crate::proofs::Steps::next_run, crate::proofs::Steps::holds_after, crate::proofs::Denials::wanting_applied, crate::proofs::Denials::refused_applied))]
+    #[inline(always)]
+    pub(crate) fn walk(&mut self, actor: u8) -> Result<Kind, Refusal>
+        requires { is_over (next_kind (state_of self.old) actor) ≡ false }
+        ensures { Applied (walked result) self.old (Step.Go actor) self.new }
+    {
+        if self.steps.reserve(1).is_err() {
+            return Err(self.wanting_to_go(actor));
+        }
+        let kind = self.body.walk(actor)?;
+        let _ = self.steps.push(Step::Go { actor });
+        Machine::fits(Step::Go { actor });
+        Ok(kind)
+    }
+
+    /// Whether the actor's operation ends by its next step.
+    #[inline(always)]
+    pub(crate) fn is_over(&self, actor: u8) -> bool
+        ensures { result ≡ is_over (next_kind (state_of self.now) actor) }
+    {
+        self.body.is_over(actor)
+    }
+
+    /// Why a step is refused for which there is no room.
+    #[cold]
+    #[inline(never)]
+    fn wanting(&self, step: Step) -> Refusal
+        ensures { result ≡ unwrap_or (denial_of (state_of self.now) step) Refusal.Memory }
+    {
+        self.denial(step).unwrap_or(Refusal::Memory)
+    }
+
+    /// The same of the actor's next step. It is made here, and not where there is room.
+    #[cold]
+    #[inline(never)]
+    fn wanting_to_go(&self, actor: u8) -> Refusal
+        ensures { result ≡ unwrap_or (denial_of (state_of self.now) (Step.Go actor)) Refusal.Memory }
+    {
+        self.wanting(Step::Go { actor })
     }
 
     /// Why a step is denied, if it is: what `apply` answers, but for want of memory.

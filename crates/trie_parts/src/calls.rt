@@ -73,6 +73,7 @@ pub struct Task {
 
 impl Task {
     /// The hash of the call's key.
+    #[inline(always)]
     pub fn hash(self) -> u64
         ensures { (handle : ℕ) → result ≡ hash_of self.hashes (key_of (call_of handle self.call)) }
     {
@@ -80,6 +81,7 @@ impl Task {
     }
 
     /// The flag of the call's key at the end of a path.
+    #[inline(always)]
     pub fn flag_at(self, path: &[Ref]) -> u32
         ensures flag { (handle : ℕ) → result ≡ flag_of (hash_of self.hashes (key_of (call_of handle self.call))) (depth_of path.now) }
         ensures some { 0 < result }
@@ -88,6 +90,7 @@ impl Task {
     }
 
     /// The generation of the root; 0 before there is one.
+    #[inline(always)]
     pub fn start(self) -> u64
         ensures { result ≡ unwrap_or self.generation 0 }
     {
@@ -95,6 +98,7 @@ impl Task {
     }
 
     /// Whether this is the generation of the root.
+    #[inline(always)]
     pub fn is_start(self, generation: u64) -> bool
         ensures { result ≡ is_begun_in self generation }
     {

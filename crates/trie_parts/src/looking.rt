@@ -12,6 +12,7 @@ use std::slice::from_ref;
 
 /// The node that stands in a slot; where none does, the definition has a branch without entries.
 #[tactic(auto, using(gcas::proofs::Stored::stands), unfolding(slot_arena::specs::Heaps::node_at))]
+#[inline(always)]
 pub fn node_at(heap: &Heap, at: Ref) -> Option<&Node>
     ensures { node_at heap.now.heap at ≡ unwrap_or (option_map (λ node. node.now) result) empty_branch }
 {
@@ -19,6 +20,7 @@ pub fn node_at(heap: &Heap, at: Ref) -> Option<&Node>
 }
 
 /// The entries of a main node: those of a branch, the singles of a list, the single of a tomb.
+#[inline(always)]
 pub fn entries_at(heap: &Heap, main: Ref) -> &[Ref]
     ensures { result.now ≡ entries_of (node_at heap.now.heap main) }
 {
@@ -38,6 +40,7 @@ pub fn entry_count(heap: &Heap, main: Ref) -> usize
 }
 
 /// The entry of a main node at a position, or the reference that names no slot.
+#[inline(always)]
 pub fn entry_at(heap: &Heap, main: Ref, position: usize) -> Ref
     ensures { result ≡ entry_at heap.now.heap main position }
 {

@@ -34,6 +34,7 @@ pub struct Work {
 
 impl Work {
     /// Takes the READ's next step, unless it has to be told the generation of the root first.
+    #[inline(always)]
     pub fn read(&mut self, heap: &mut Heap, root_seen: Option<u64>) -> Next<Ref>
         requires { CanReadOn heap.old.heap self.old.swap.read }
         ensures follows { ReadsInside heap.old.heap self.old.swap.read.access (read_of self.old.swap.read root_seen) self.new.swap.read result }
@@ -62,6 +63,7 @@ impl Work {
     /// Takes the SWAP's next step, unless it has to be told the generation of the root first. With its first
     /// step, which swaps the last of the private slots in or fails to, all of them are given up: what stands
     /// in the trie by now is referred to from there.
+    #[inline(always)]
     pub fn swap(&mut self, heap: &mut Heap, root_seen: Option<u64>) -> Next<bool>
         requires can { CanSwapOn heap.old.heap self.old.swap }
         requires held { AreHeld self.old.private heap.old }
@@ -75,6 +77,7 @@ impl Work {
     }
 
     /// As `swap`, fact by fact.
+    #[inline(always)]
     fn step_swap(&mut self, heap: &mut Heap, root_seen: Option<u64>) -> Next<bool>
         requires can { CanSwapOn heap.old.heap self.old.swap }
         requires held { AreHeld self.old.private heap.old }

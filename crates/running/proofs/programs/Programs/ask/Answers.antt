@@ -4,7 +4,7 @@ use Rattle.running.proofs.programs.Programs.ask.Goals as goal
 pub returns : goal.returns
 returns c =
     record {
-      does = rw c.of_kind.ensures (
+      does =
           steps
           c.args.job.now
           c.args.program.now
@@ -20,6 +20,5 @@ returns c =
           c.requires.reads
           c.step-kind.ensures.follows
           c.step-kind.ensures.table
-          (c.step-kind.ensures.acts c.args.self.now.key.work.private)
-          );
+          (c.step-kind.ensures.acts c.args.self.now.key.work.private);
     }

@@ -12,7 +12,7 @@ use Rattle.running.specs.declared.job.Job.{Job}
 use Rattle.running.specs.declared.job.Program.TheVariants.{Key}
 use Rattle.running.specs.declared.programs.Programs.{Programs}
 use Rattle.running.specs.declared.programs.Stage.TheVariants.{Runs, Answered}
-use Rattle.running.specs.Steps.{Does, Scene, scene}
+use Rattle.running.specs.Steps.{Does, Scene, scene, taken_beside}
 use Rattle.running.specs.Taking.{Taken}
 use Rattle.running.proofs.Going.{keys, with_word}
 use Rattle.running.proofs.programs.Programs.change_key.Goals as goal
@@ -28,9 +28,9 @@ asked job call told generation p key heap heap' roots roots' taken after same wo
     (subst (λ (t : Table). Does job (Key call) (key_line p.key None) (scene heap' t generation p) taken after) words
     (subst (λ (k : KeyOp). Does job (Key call) (key_line k None) (scene heap' roots' generation (record p { key = k })) taken after) same does)))
 
-pub ask-requires-clause-asks : goal.ask-requires-clause-asks
+pub ask_for_key-kind-requires-clause-asks : goal.ask_for_key-kind-requires-clause-asks
 unfolding with_word
-ask-requires-clause-asks c =
+ask_for_key-kind-requires-clause-asks c =
     let p = c.args.self.now in
     let asking : IsAskingLine (key_line p.key c.args.told) =
     (rw c.in-AskRoot.is at c.in_ok-kind.ensures.follows) (with_word (word_in c.args.roots.now c.args.job.now.handle)) no_operation refl in
@@ -45,9 +45,10 @@ returns-in-AskRoot-clause-does c =
     let asking : IsAskingLine (key_line p.key c.args.told) =
     (rw c.in-AskRoot.is at c.in_ok-kind.ensures.follows) (with_word (word_in c.args.roots.now c.args.job.now.handle)) no_operation refl in
     let same = (rw c.in-AskRoot.is at c.in_ok-kind.ensures.asks) (tt {0}) in
-    asked c.args.job.now c.args.call.now c.args.told c.args.generation p c.step.new.self c.args.heap.now c.step.new.heap c.args.roots.now c.step.new.roots c.ask.result
-    (record { memory = c.ask.new.heap; table = c.ask.new.roots; generation = c.args.generation; programs = c.ask.new.self })
-    same.0 same.1 same.2 (untold p.key c.args.told asking) c.ask.ensures.does
+    rw c.of_kind.ensures (
+    asked c.args.job.now c.args.call.now c.args.told c.args.generation p c.step.new.self c.args.heap.now c.step.new.heap c.args.roots.now c.step.new.roots (taken_beside c.ask_for_key-kind.result)
+    (record { memory = c.ask_for_key-kind.new.heap; table = c.ask_for_key-kind.new.roots; generation = c.args.generation; programs = c.ask_for_key-kind.new.self })
+    same.0 same.1 same.2 (untold p.key c.args.told asking) c.ask_for_key-kind.ensures.does)
 
 pub returns-in-More-clause-does : goal.returns-in-More-clause-does
 returns-in-More-clause-does c =

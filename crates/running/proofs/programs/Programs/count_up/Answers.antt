@@ -7,25 +7,25 @@ use Rattle.running.proofs.Going.{walks}
 use Rattle.running.proofs.Lasting.{walk_untold}
 use Rattle.running.proofs.programs.Programs.count_up.Goals as goal
 
-pub ask-requires-clause-asks : goal.ask-requires-clause-asks
-ask-requires-clause-asks c =
+pub ask-kind-requires-clause-asks : goal.ask-kind-requires-clause-asks
+ask-kind-requires-clause-asks c =
     let p = c.args.self.now in
-    let asking : IsAskingLine (walk_line p.key.work.swap.read c.args.told p.count.walk) = (rw c.in-AskRoot.is at c.in_ok-kind.ensures.follows) no_state no_operation in
-    let same = (rw c.in-AskRoot.is at c.in_ok-kind.ensures.asks) (tt {0}) in
+    let asking : IsAskingLine (walk_line p.key.work.swap.read c.args.told p.count.walk) = (rw c.in-Ok-AskRoot.field-0-is at c.in-Ok-AskRoot.ensures.follows) no_state no_operation in
+    let same = (rw c.in-Ok-AskRoot.field-0-is at c.in-Ok-AskRoot.ensures.asks) (tt {0}) in
     let untold : c.args.told ≡ None = walk_untold p.key.work.swap.read c.args.told p.count.walk asking in
     rw (same.0, same.1) (rw untold at asking)
 
-pub returns-in-AskRoot-clause-does : goal.returns-in-AskRoot-clause-does
-returns-in-AskRoot-clause-does c =
+pub returns-in-Ok-AskRoot-clause-does : goal.returns-in-Ok-AskRoot-clause-does
+returns-in-Ok-AskRoot-clause-does c =
     let p = c.args.self.now in
-    let asking : IsAskingLine (walk_line p.key.work.swap.read c.args.told p.count.walk) = (rw c.in-AskRoot.is at c.in_ok-kind.ensures.follows) no_state no_operation in
-    let same = (rw c.in-AskRoot.is at c.in_ok-kind.ensures.asks) (tt {0}) in
+    let asking : IsAskingLine (walk_line p.key.work.swap.read c.args.told p.count.walk) = (rw c.in-Ok-AskRoot.field-0-is at c.in-Ok-AskRoot.ensures.follows) no_state no_operation in
+    let same = (rw c.in-Ok-AskRoot.field-0-is at c.in-Ok-AskRoot.ensures.asks) (tt {0}) in
     let untold : c.args.told ≡ None = walk_untold p.key.work.swap.read c.args.told p.count.walk asking in
-    rw untold (rw (same.0, same.1, same.2) at c.ask.ensures.does)
+    rw untold (rw (same.0, same.1, same.2) at c.ask-kind.ensures.does)
 
-pub returns-in-More-clause-does : goal.returns-in-More-clause-does
-returns-in-More-clause-does c =
-    rw (c.go_so.ensures.taken, c.go_so.ensures.same) (
+pub returns-in-Ok-More-clause-does : goal.returns-in-Ok-More-clause-does
+returns-in-Ok-More-clause-does c =
+    rw (c.go_so.ensures.ran, c.go_so.ensures.same) (
     walks
     c.args.job.now
     Count
@@ -34,9 +34,9 @@ returns-in-More-clause-does c =
     c.step.new.heap
     c.args.self.now.count.walk
     _
-    c.in-More.kind
-    (rw c.in-More.is at c.in_ok-kind.ensures.follows)
-    c.in_ok-kind.ensures.acts
+    c.in-Ok-More.kind
+    (rw c.in-Ok-More.field-0-is at c.in-Ok-More.ensures.follows)
+    c.in-Ok-More.ensures.acts
     c.step.ensures.access
     refl
     refl
@@ -47,9 +47,9 @@ returns-in-More-clause-does c =
     tt
     )
 
-pub returns-in-Done-default-All-clause-does : goal.returns-in-Done-default-All-clause-does
-returns-in-Done-default-All-clause-does c =
-    rw (c.come_to.ensures.taken, c.come_to.ensures.same) (
+pub returns-in-Ok-Done-default-All-clause-does : goal.returns-in-Ok-Done-default-All-clause-does
+returns-in-Ok-Done-default-All-clause-does c =
+    rw (c.come_to.ensures.ran, c.come_to.ensures.same) (
     walks
     c.args.job.now
     Count
@@ -58,9 +58,9 @@ returns-in-Done-default-All-clause-does c =
     c.step.new.heap
     c.args.self.now.count.walk
     _
-    c.in-Done-default-All.kind
-    (rw (c.in-Done-default-All.is, c.in-Done-default-All.field-1-is) at c.in_ok-kind.ensures.follows)
-    c.in_ok-kind.ensures.acts
+    c.in-Ok-Done-default-All.kind
+    (rw (c.in-Ok-Done-default-All.field-0-is, c.in-Ok-Done-default-All.field-0-1-is) at c.in-Ok-Done-default-All.ensures.follows)
+    c.in-Ok-Done-default-All.ensures.acts
     c.step.ensures.access
     refl
     refl
@@ -71,9 +71,9 @@ returns-in-Done-default-All-clause-does c =
     tt
     )
 
-pub returns-in-Done-default-Impossible-clause-does : goal.returns-in-Done-default-Impossible-clause-does
-returns-in-Done-default-Impossible-clause-does c =
-    rw (c.come_to-in-Done-default-Impossible.ensures.taken, c.come_to-in-Done-default-Impossible.ensures.same) (
+pub returns-in-Ok-Done-default-Impossible-clause-does : goal.returns-in-Ok-Done-default-Impossible-clause-does
+returns-in-Ok-Done-default-Impossible-clause-does c =
+    rw (c.come_to-in-Ok-Done-default-Impossible.ensures.ran, c.come_to-in-Ok-Done-default-Impossible.ensures.same) (
     walks
     c.args.job.now
     Count
@@ -82,9 +82,9 @@ returns-in-Done-default-Impossible-clause-does c =
     c.step.new.heap
     c.args.self.now.count.walk
     _
-    c.in-Done-default-Impossible.kind
-    (rw (c.in-Done-default-Impossible.is, c.in-Done-default-Impossible.field-1-is) at c.in_ok-kind.ensures.follows)
-    c.in_ok-kind.ensures.acts
+    c.in-Ok-Done-default-Impossible.kind
+    (rw (c.in-Ok-Done-default-Impossible.field-0-is, c.in-Ok-Done-default-Impossible.field-0-1-is) at c.in-Ok-Done-default-Impossible.ensures.follows)
+    c.in-Ok-Done-default-Impossible.ensures.acts
     c.step.ensures.access
     refl
     refl

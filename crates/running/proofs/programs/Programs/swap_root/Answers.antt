@@ -7,30 +7,30 @@ use Rattle.running.proofs.Going.{snaps}
 use Rattle.running.proofs.Lasting.{snap_untold}
 use Rattle.running.proofs.programs.Programs.swap_root.Goals as goal
 
-pub ask-requires-clause-asks : goal.ask-requires-clause-asks
-ask-requires-clause-asks c =
+pub ask-kind-requires-clause-asks : goal.ask-kind-requires-clause-asks
+ask-kind-requires-clause-asks c =
     let p = c.args.self.now in
-    let asking : IsAskingLine (snap_line p.key.work.swap.read c.args.told p.snap) = (rw c.in-AskRoot.is at c.in_ok-kind.ensures.follows) no_state no_operation in
-    let same = (rw c.in-AskRoot.is at c.in_ok-kind.ensures.asks) (tt {0}) in
+    let asking : IsAskingLine (snap_line p.key.work.swap.read c.args.told p.snap) = (rw c.in-Ok-AskRoot.field-0-is at c.in-Ok-AskRoot.ensures.follows) no_state no_operation in
+    let same = (rw c.in-Ok-AskRoot.field-0-is at c.in-Ok-AskRoot.ensures.asks) (tt {0}) in
     let untold : c.args.told ≡ None = snap_untold p.key.work.swap.read c.args.told p.snap asking in
     rw (same.0, same.1) (rw untold at asking)
 
-pub ask-requires-clause-reads : goal.ask-requires-clause-reads
-ask-requires-clause-reads c =
-    let same = (rw c.in-AskRoot.is at c.in_ok-kind.ensures.asks) (tt {0}) in
+pub ask-kind-requires-clause-reads : goal.ask-kind-requires-clause-reads
+ask-kind-requires-clause-reads c =
+    let same = (rw c.in-Ok-AskRoot.field-0-is at c.in-Ok-AskRoot.ensures.asks) (tt {0}) in
     rw (same.0, same.1) c.requires.reads
 
-pub returns-in-AskRoot-clause-does : goal.returns-in-AskRoot-clause-does
-returns-in-AskRoot-clause-does c =
+pub returns-in-Ok-AskRoot-clause-does : goal.returns-in-Ok-AskRoot-clause-does
+returns-in-Ok-AskRoot-clause-does c =
     let p = c.args.self.now in
-    let asking : IsAskingLine (snap_line p.key.work.swap.read c.args.told p.snap) = (rw c.in-AskRoot.is at c.in_ok-kind.ensures.follows) no_state no_operation in
-    let same = (rw c.in-AskRoot.is at c.in_ok-kind.ensures.asks) (tt {0}) in
+    let asking : IsAskingLine (snap_line p.key.work.swap.read c.args.told p.snap) = (rw c.in-Ok-AskRoot.field-0-is at c.in-Ok-AskRoot.ensures.follows) no_state no_operation in
+    let same = (rw c.in-Ok-AskRoot.field-0-is at c.in-Ok-AskRoot.ensures.asks) (tt {0}) in
     let untold : c.args.told ≡ None = snap_untold p.key.work.swap.read c.args.told p.snap asking in
-    rw (untold, same.3) (rw (same.0, same.1, same.2, same.3, same.4) at c.ask.ensures.does)
+    rw (untold, same.3) (rw (same.0, same.1, same.2, same.3, same.4) at c.ask-kind.ensures.does)
 
-pub returns-in-More-clause-does : goal.returns-in-More-clause-does
-returns-in-More-clause-does c =
-    rw (c.go_so.ensures.same, c.go_so.ensures.taken) (
+pub returns-in-Ok-More-clause-does : goal.returns-in-Ok-More-clause-does
+returns-in-Ok-More-clause-does c =
+    rw (c.go_so.ensures.same, c.go_so.ensures.ran) (
     snaps
     c.args.job.now
     c.args.call
@@ -41,21 +41,21 @@ returns-in-More-clause-does c =
     c.step.new.generations
     c.step.new.work
     c.step.new.self
-    c.in-More.kind
+    c.in-Ok-More.kind
     Runs
-    (rw (c.swapping-task.ensures, c.in-More.is) at c.in_ok-kind.ensures.follows)
-    c.in_ok-kind.ensures.acts
-    (rw c.swapping-task.ensures at c.in_ok-kind.ensures.table)
-    c.in_ok-kind.ensures.drawn
-    c.in_ok-kind.ensures.attempt
-    (rw (c.swapping-task.ensures, c.in-More.is) at c.in_ok-kind.ensures.generation)
+    (rw (c.swapping-task.ensures, c.in-Ok-More.field-0-is) at c.in-Ok-More.ensures.follows)
+    c.in-Ok-More.ensures.acts
+    (rw c.swapping-task.ensures at c.in-Ok-More.ensures.table)
+    c.in-Ok-More.ensures.drawn
+    c.in-Ok-More.ensures.attempt
+    (rw (c.swapping-task.ensures, c.in-Ok-More.field-0-is) at c.in-Ok-More.ensures.generation)
     c.step.ensures.access
-    (rw c.in-More.is at c.in_ok-kind.ensures.stands)
+    (rw c.in-Ok-More.field-0-is at c.in-Ok-More.ensures.stands)
     )
 
-pub returns-in-Done-clause-does : goal.returns-in-Done-clause-does
-returns-in-Done-clause-does c =
-    rw (c.come_to.ensures.same, c.come_to.ensures.taken) (
+pub returns-in-Ok-Done-clause-does : goal.returns-in-Ok-Done-clause-does
+returns-in-Ok-Done-clause-does c =
+    rw (c.come_to.ensures.same, c.come_to.ensures.ran) (
     snaps
     c.args.job.now
     c.args.call
@@ -66,14 +66,14 @@ returns-in-Done-clause-does c =
     c.step.new.generations
     c.step.new.work
     c.step.new.self
-    c.in-Done.kind
-    (Swapped c.in-Done.reply)
-    (rw (c.swapping-task.ensures, c.in-Done.is) at c.in_ok-kind.ensures.follows)
-    c.in_ok-kind.ensures.acts
-    (rw c.swapping-task.ensures at c.in_ok-kind.ensures.table)
-    c.in_ok-kind.ensures.drawn
-    c.in_ok-kind.ensures.attempt
-    (rw (c.swapping-task.ensures, c.in-Done.is) at c.in_ok-kind.ensures.generation)
+    c.in-Ok-Done.kind
+    (Swapped c.in-Ok-Done.reply)
+    (rw (c.swapping-task.ensures, c.in-Ok-Done.field-0-is) at c.in-Ok-Done.ensures.follows)
+    c.in-Ok-Done.ensures.acts
+    (rw c.swapping-task.ensures at c.in-Ok-Done.ensures.table)
+    c.in-Ok-Done.ensures.drawn
+    c.in-Ok-Done.ensures.attempt
+    (rw (c.swapping-task.ensures, c.in-Ok-Done.field-0-is) at c.in-Ok-Done.ensures.generation)
     c.step.ensures.access
     tt
     )

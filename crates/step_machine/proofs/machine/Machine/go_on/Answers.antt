@@ -1,15 +1,23 @@
-use Rattle.std.proofs.Common.{arith}
-use Rattle.step_machine.proofs.Going.{ends, goes, reached}
+use Rattle.std.proofs.Common.{arith, ◌≡◌, ◌+◌, Ok, None, subst, sym}
+use Rattle.machine_model.specs.declared.steps.Outcome.TheVariants as outcome
+use Rattle.step_machine.specs.Callers.{going_on}
+use Rattle.step_machine.specs.Machines.{Taken}
+use Rattle.step_machine.proofs.Going.{goes, reached, replies, stays}
+use Rattle.step_machine.proofs.machine.Machine.go_on.Goals.{then-is_over+in_ok-reply+in_default, else-is_over+in_ok-walk}
 use Rattle.step_machine.proofs.machine.Machine.go_on.Goals as goal
 
-pub returns-in-Ended : goal.returns-in-Ended
-returns-in-Ended c =
-    ends c.loop.counter c.args.actor c.in-Ended.field-0 c.in-Ended.reply c.in_ok-reply.field-0 c.args.self.now c.loop.self c.apply.new.self (omega (arith, c.loop-test.true)) c.loop.invariant
-    c.in-Ended.is c.in_ok-reply.ensures.applied
+pub returns-in-Some : goal.returns-in-Some
+returns-in-Some c =
+    replies c.loop.counter c.args.actor c.in-Some.reply c.in_ok-reply.field-0 c.args.self.now c.loop.self c.reply.new.self (omega (arith, c.loop-test.true)) c.loop.invariant c.in-Some.is
+    c.in_ok-reply.ensures
 
 pub loop-preserved : goal.loop-preserved
-loop-preserved c =
-    goes c.loop.counter c.args.actor c.in_ok-reply.field-0 c.args.self.now c.loop.self c.apply.new.self c.loop.invariant c.in_ok-reply.ensures.applied c.in_default.not-Ended
+loop-preserved c = elim c.if-is_over.branch [
+  | then-is_over+in_ok-reply+in_default w ↦ subst (λ (m : Taken). going_on (c.loop.counter + 1) c.args.actor c.args.self.now ≡ (Ok None, m)) (sym w.self-is)
+      (stays c.loop.counter c.args.actor w.in_ok-reply.field-0 c.args.self.now c.loop.self w.reply.new.self c.loop.invariant w.in_ok-reply.ensures w.in_default.not-Some)
+  | else-is_over+in_ok-walk w ↦ subst (λ (m : Taken). going_on (c.loop.counter + 1) c.args.actor c.args.self.now ≡ (Ok None, m)) (sym w.self-is)
+      (goes c.loop.counter c.args.actor (outcome.Went w.in_ok-walk.field-0) c.args.self.now c.loop.self w.walk.new.self c.loop.invariant w.in_ok-walk.ensures (λ id answer e. cc e))
+]
 
 pub returns : goal.returns
 returns c = reached c.loop.counter c.args.actor c.args.self.now c.loop.self (omega (arith, c.loop-test.false)) (omega (arith, c.loop.auto.counter-end)) c.loop.invariant
