@@ -216,6 +216,7 @@ impl Heap {
     }
 
     /// Where the main word is `from` it becomes `to`, which becomes pending over `from`. Tells whether it was.
+    #[inline(always)]
     pub fn publish(&mut self, at: Ref, from: Ref, to: Ref) -> bool
         requires live { IsLive self.old.heap at }
         requires kind { is_indirection (node_at self.old.heap at) ≡ true }

@@ -20,7 +20,8 @@ pub mod Levels
 pub mod Named
 pub mod Knows
 pub mod Kept
-pub mod Over
+pub mod Onward
+pub mod Undenied
 pub mod Working
 pub mod Left
 pub mod Begun

@@ -1,6 +1,6 @@
 -- What an actor has under way whose next step isn't denied.
 use Rattle.std.proofs.Common.{arith, ◌≡◌, ℕ, ◌-◌, ◌<◌, Option, Some, None, length, refl, sym, ap, ◌∙◌}
-use Rattle.std.specs.Prelude.{false, is_some, option_and_then, option_map, slice_get}
+use Rattle.std.specs.Prelude.{true, not, is_some, option_and_then, option_map, slice_get}
 use Rattle.std.proofs.lemmas.Option.{none-some, same_Some, slice_get_within}
 use Rattle.history.specs.declared.replies.Reply.{Reply}
 use Rattle.machine_model.specs.Machine.{go_denial, next_kind}
@@ -14,14 +14,14 @@ use Rattle.machine_core.specs.Bounds.{IsOfRun}
 use Rattle.machine_core.specs.Beneath.operate.specs.Places.{answer_of}
 use Rattle.machine_core.specs.Keeping.{IsKept}
 use Rattle.machine_core.specs.Seen.{actor_of, operation_at, operation_seen, seen, under_way_of}
-use Rattle.machine_core.specs.Walking.{is_over}
+use Rattle.machine_core.specs.Walking.{goes_on}
 use Rattle.machine_core.proofs.Allowed.{can, owner_runs}
 use Rattle.machine_core.proofs.Kept.{Seat, seat_of}
-use Rattle.machine_core.proofs.Over.{line_over, over_of, over_there}
+use Rattle.machine_core.proofs.Onward.{line_onward, onward_of, onward_there}
 use Rattle.machine_core.proofs.Steps.{running}
 use Rattle.machine_core.proofs.Took.{actor_there}
 
-by_actor : (parts : Parts) (found : Option Actor) (operation : Operation) → option_and_then (operation_seen parts.table) found ≡ Some operation →
+pub by_actor : (parts : Parts) (found : Option Actor) (operation : Operation) → option_and_then (operation_seen parts.table) found ≡ Some operation →
     (u : UnderWay) × (option_and_then (λ (a : Actor). a.under_way) found ≡ Some u)
 by_actor parts None operation e = absurd (none-some operation e)
 by_actor parts (Some found) operation e = by_held found.under_way refl e
@@ -57,18 +57,18 @@ pub can_of : (parts : Parts) (actor : ℕ) → IsOfRun (seen parts) → IsKept p
     slice_get parts.actors.items (actor - 1) ≡ Some found → found.under_way ≡ Some u → CanStep (scene parts.heap parts.table parts.generations found.programs) u.program
 can_of parts actor run kept allowed found u at runs = can parts actor u run kept (is_under_way parts actor allowed found u at runs) found at
 
-no_answer : (answer : Option Reply) → is_some answer ≡ false → answer ≡ None
+no_answer : (answer : Option Reply) → not (is_some answer) ≡ true → answer ≡ None
 no_answer None e = refl
 no_answer (Some reply) e = absurd (grind (arith, e))
 
--- where it doesn't end next it tells no reply
-pub tells_none : (parts : Parts) (actor : ℕ) → is_over (next_kind (seen parts) actor) ≡ false → (u : UnderWay) → under_way_of parts actor ≡ Some u →
+-- where it goes on it tells no reply
+pub tells_none : (parts : Parts) (actor : ℕ) → goes_on (next_kind (seen parts) actor) ≡ true → (u : UnderWay) → under_way_of parts actor ≡ Some u →
     (found : Actor) → actor_of parts actor ≡ Some found → answer_of (line_for u.program found.programs) ≡ None
-tells_none parts actor goes_on u runs found at =
+tells_none parts actor on u runs found at =
     let seat = seat_of parts actor u runs in
     let same = same_Some seat.found found (sym (actor_there parts actor u seat) ∙ at) in
     let own = operation_at parts.table found.programs u in
     let held : found.under_way ≡ Some u = ap (λ (a : Actor). a.under_way) (sym same) ∙ seat.runs in
     no_answer (answer_of (line_for u.program found.programs))
-    (line_over (seen parts) own own.line ∙ ap (λ o. over_of (seen parts) (option_map (operation_at parts.table found.programs) o)) (sym held)
-    ∙ over_there parts actor (Some found) (sym at) ∙ goes_on)
+    (line_onward (seen parts) own own.line ∙ ap (λ o. onward_of (seen parts) (option_map (operation_at parts.table found.programs) o)) (sym held)
+    ∙ onward_there parts actor (Some found) (sym at) ∙ on)

@@ -43,7 +43,7 @@ use Rattle.machine_core.proofs.Kept.{Seat, kept_alike, operation_there, seat_of}
 use Rattle.machine_core.proofs.Noted.{NotedSo, gone_seen}
 use Rattle.machine_core.proofs.Notings.{noted_commit, noted_kind}
 use Rattle.machine_core.proofs.Offering.{knows_offered}
-use Rattle.machine_core.proofs.Over.{only_end}
+use Rattle.machine_core.proofs.Onward.{only_end}
 use Rattle.machine_core.proofs.Took.{Took, actor_there, took}
 
 module _ (actor : ℕ) (u : UnderWay) (fresh : Ref) (taken : Taken) (middle : Parts) (m : Midway actor u fresh taken middle) (next : UnderWay) (now : Parts)

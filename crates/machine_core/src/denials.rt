@@ -1,10 +1,12 @@
 //! Why steps are denied.
 
-ghost use Rattle.std.specs.Prelude.{◌≡◌};
-ghost use Rattle.machine_model.specs.Machine.{is_spent, is_access, begin_denial, go_denial, denial_of};
+ghost use Rattle.std.specs.Prelude.{◌≡◌, true};
+ghost use Rattle.machine_model.specs.Machine.{is_spent, is_access, begin_denial, go_denial, denial_of, next_kind};
 ghost use Rattle.machine_model.specs.declared.steps.Step.TheVariants as steps;
+ghost use Rattle.machine_core.specs.Bounds.{IsOfRun};
 ghost use Rattle.machine_core.specs.Numbering.{KnowsNumbers};
 ghost use Rattle.machine_core.specs.Seen.{seen};
+ghost use Rattle.machine_core.specs.Walking.{goes_on};
 
 use crate::actors::is_actor;
 use crate::calls::{is_close, needs_read_only, needs_writable, opens_handle};
@@ -74,6 +76,21 @@ pub fn go_denial(parts: &Parts, actor: u8) -> Option<Refusal>
     } else if !parts.is_running(actor) {
         Some(Refusal::Idle)
     } else if is_spent(parts) {
+        Some(Refusal::Spent)
+    } else {
+        None
+    }
+}
+
+/// The same where the operation goes on behind that step: so there is an actor who runs it, and only a machine that has
+/// taken all its steps denies one more.
+#[inline(always)]
+pub fn walk_denial(parts: &Parts, _actor: u8) -> Option<Refusal>
+    requires run { IsOfRun (seen parts.now) }
+    requires goes_on { goes_on (next_kind (seen parts.now) _actor) ≡ true }
+    ensures { result ≡ go_denial (seen parts.now) _actor }
+{
+    if is_spent(parts) {
         Some(Refusal::Spent)
     } else {
         None

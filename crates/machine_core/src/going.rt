@@ -1,6 +1,6 @@
 //! A step of an operation: all of it but for limbo and the count of steps.
 
-ghost use Rattle.std.specs.Prelude.{◌≡◌, ◌<◌, All, false, length, slice_get, option_map, option_to_list, IfErr, IfOk, OnErr, OnOk, Some, None, MatchOption};
+ghost use Rattle.std.specs.Prelude.{◌≡◌, ◌<◌, All, true, length, slice_get, option_map, option_to_list, IfErr, IfOk, OnErr, OnOk, Some, None, MatchOption};
 ghost use Rattle.slot_arena.specs.Refs.{slot_of};
 ghost use Rattle.slot_arena.specs.Arenas.{IsLive};
 ghost use Rattle.machine_model.specs.declared.operations.Operation.{Operation};
@@ -17,7 +17,7 @@ ghost use Rattle.machine_core.specs.Bounds.{IsOfRun};
 ghost use Rattle.machine_core.specs.Going.{entered_for, moved, step_committed, HasUnderWay, InMidway, Midway, NotesCommit, Steps, StepsTo};
 ghost use Rattle.machine_core.specs.Keeping.{IsKept, Replaces};
 ghost use Rattle.machine_core.specs.Seen.{actor_of, operation_at, operation_seen, seen, under_way_of};
-ghost use Rattle.machine_core.specs.Walking.{is_over};
+ghost use Rattle.machine_core.specs.Walking.{goes_on};
 ghost use Rattle.machine_core.specs.Work.{ActsLittle, NotesUpTo};
 ghost use Rattle.machine_core.specs.declared.parts.Actor.{Actor as AnActor};
 ghost use Rattle.machine_core.specs.declared.parts.UnderWay.{UnderWay as AnUnderWay};
@@ -35,30 +35,30 @@ use places::Place;
 use running::{Program, Roots, Taken};
 use slot_arena::Ref;
 
-/// Whether the actor's operation ends by its next step.
+/// Whether the actor's operation goes on behind its next step: it runs one, and that isn't its end.
 #[inline(always)]
-pub fn is_over(parts: &Parts, actor: u8) -> bool
-    ensures { result ≡ is_over (next_kind (seen parts.now) actor) }
+pub fn goes_on(parts: &Parts, actor: u8) -> bool
+    ensures { result ≡ goes_on (next_kind (seen parts.now) actor) }
 {
     match parts.actor(actor) {
-        Some(found) => ends(found),
+        Some(found) => has_steps(found),
         None => false,
     }
 }
 
 /// The same of this actor.
 #[inline(always)]
-fn ends(actor: &Actor) -> bool
-    ensures { (state : State) → (table : Table) → result ≡ is_over (option_map (λ operation. kind_of (action_of state operation)) (operation_seen table actor.now)) }
+fn has_steps(actor: &Actor) -> bool
+    ensures { (state : State) → (table : Table) → result ≡ goes_on (option_map (λ operation. kind_of (action_of state operation)) (operation_seen table actor.now)) }
 {
     match &actor.under_way {
-        Some(under_way) => actor.programs.is_over(&under_way.program),
+        Some(under_way) => !actor.programs.is_over(&under_way.program),
         None => false,
     }
 }
 
 /// The end of the actor's operation, which is its next step. After an error nothing that is seen has changed.
-#[inline(never)]
+#[inline(always)]
 pub fn end_now(parts: &mut Parts, actor: u8) -> Result<Outcome, Refusal>
     requires run { IsOfRun (seen parts.old) }
     requires kept { IsKept parts.old }
@@ -110,7 +110,7 @@ pub fn proceed(parts: &mut Parts, actor: u8) -> Result<Kind, Refusal>
     requires run { IsOfRun (seen parts.old) }
     requires kept { IsKept parts.old }
     requires allowed { go_denial (seen parts.old) actor ≡ None }
-    requires goes_on { is_over (next_kind (seen parts.old) actor) ≡ false }
+    requires goes_on { goes_on (next_kind (seen parts.old) actor) ≡ true }
     ensures ok { IfOk result (λ kind. (operation : Operation) →
         operation_of (seen parts.old) actor ≡ Some operation →
         went (seen parts.old) actor operation (action_of (seen parts.old) operation)

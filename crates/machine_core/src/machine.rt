@@ -1,6 +1,6 @@
 //! The core as one value.
 
-ghost use Rattle.std.specs.Prelude.{◌≡◌, false, length, option_map, None, Some, IsSome, IfOk, IfErr, OnErr, OnOk, IsOkUnless};
+ghost use Rattle.std.specs.Prelude.{◌≡◌, true, length, option_map, None, Some, IsSome, IfOk, IfErr, OnErr, OnOk, IsOkUnless};
 ghost use Rattle.slot_arena.specs.Heaps.{in_use};
 ghost use Rattle.machine_model.specs.declared.steps.Step.TheVariants as steps;
 ghost use Rattle.machine_model.specs.States.{first_state, root_at};
@@ -9,7 +9,7 @@ ghost use Rattle.machine_model.specs.Contents.{content_at};
 ghost use Rattle.machine_model.specs.Machine.{next, is_running, is_busy, next_kind, runs_on, denial_of, is_access, access_of, handles_taken, AreLimits};
 ghost use Rattle.machine_core.specs.Bounds.{Applies};
 ghost use Rattle.machine_core.specs.Finding.{found_along};
-ghost use Rattle.machine_core.specs.Walking.{is_over, walked};
+ghost use Rattle.machine_core.specs.Walking.{goes_on, walked};
 ghost use Rattle.machine_core.specs.Work.{WorksLittle};
 ghost use Rattle.machine_model.specs.Refusing.{RefusesLimits, RefusesContent};
 
@@ -17,7 +17,7 @@ use crate::actors::{is_busy, next_kind};
 use crate::contents::content_of;
 use crate::denials::{denial_of, is_access};
 use crate::finding::value_of;
-use crate::going::is_over;
+use crate::going::goes_on;
 use crate::handles::{handles_taken, runs_on};
 use crate::parts::Parts;
 use crate::reserving::reserve;
@@ -91,19 +91,19 @@ impl Core {
         take_step(&mut self.parts, step)
     }
 
-    /// Whether the actor's operation ends by its next step; none does where it runs none.
+    /// Whether the actor's operation goes on behind its next step: it runs one, and that isn't its end.
     #[inline(always)]
-    pub fn is_over(&self, actor: u8) -> bool
-        ensures { result ≡ is_over (next_kind self.now.state actor) }
+    pub fn goes_on(&self, actor: u8) -> bool
+        ensures { result ≡ goes_on (next_kind self.now.state actor) }
     {
-        is_over(&self.parts, actor)
+        goes_on(&self.parts, actor)
     }
 
     /// Takes a step of the actor's operation that isn't its end, or refuses it: as `apply` does, but what comes of it
     /// is told by the step's kind alone.
     #[inline(always)]
     pub fn walk(&mut self, actor: u8) -> Result<Kind, Refusal>
-        requires { is_over (next_kind self.old.state actor) ≡ false }
+        requires { goes_on (next_kind self.old.state actor) ≡ true }
         ensures applies { Applies (walked result) self.old.state (next self.old.state (steps.Go actor)) self.new.state }
         ensures work { OnOk result (WorksLittle self.old self.new) }
         ensures same { OnErr result (self.new ≡ self.old) }

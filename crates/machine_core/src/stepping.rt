@@ -1,17 +1,17 @@
 //! A step: a begin, a step of an actor's operation, or a step of the sweep.
 
-ghost use Rattle.std.specs.Prelude.{◌≡◌, ◌<◌, [], false, Ok, None, IfErr, IfOk, OnErr, OnOk};
+ghost use Rattle.std.specs.Prelude.{◌≡◌, ◌<◌, [], true, Ok, None, IfErr, IfOk, OnErr, OnOk};
 ghost use Rattle.machine_model.specs.declared.steps.Step.TheVariants as steps;
 ghost use Rattle.machine_model.specs.Machine.{next, next_kind, denial_of};
 ghost use Rattle.machine_core.specs.Bounds.{IsOfRun, Applies};
 ghost use Rattle.machine_core.specs.Keeping.{IsKept};
 ghost use Rattle.machine_core.specs.Seen.{seen};
-ghost use Rattle.machine_core.specs.Walking.{is_over, walked};
+ghost use Rattle.machine_core.specs.Walking.{goes_on, walked};
 ghost use Rattle.machine_core.specs.Work.{worked, WorksLittle};
 
 use crate::beginning::begin_operation;
-use crate::denials::{begin_denial, go_denial, sweep_denial};
-use crate::going::{end_now, is_over, proceed};
+use crate::denials::{begin_denial, go_denial, sweep_denial, walk_denial};
+use crate::going::{end_now, goes_on, proceed};
 use crate::parts::Parts;
 use crate::room::make_room;
 use crate::settling::settle;
@@ -70,10 +70,10 @@ fn go(parts: &mut Parts, actor: u8) -> Result<Outcome, Refusal>
     ensures work { OnOk result (WorksLittle (worked parts.old) (worked parts.new)) }
     ensures idle { OnErr result (parts.new.heap.ticks ≡ parts.old.heap.ticks) }
 {
-    if is_over(parts, actor) {
-        end(parts, actor)
-    } else {
+    if goes_on(parts, actor) {
         Ok(Outcome::Went(walk(parts, actor)?))
+    } else {
+        end(parts, actor)
     }
 }
 
@@ -85,14 +85,14 @@ pub fn walk(parts: &mut Parts, actor: u8) -> Result<Kind, Refusal>
     requires run { IsOfRun (seen parts.old) }
     requires kept { IsKept parts.old }
     requires noted { parts.old.heap.noted ≡ [] }
-    requires goes_on { is_over (next_kind (seen parts.old) actor) ≡ false }
+    requires goes_on { goes_on (next_kind (seen parts.old) actor) ≡ true }
     ensures applies { Applies (walked result) (seen parts.old) (next (seen parts.old) (steps.Go actor)) (seen parts.new) }
     ensures kept { IsKept parts.new }
     ensures noted { parts.new.heap.noted ≡ [] }
     ensures work { OnOk result (WorksLittle (worked parts.old) (worked parts.new)) }
     ensures idle { OnErr result (parts.new.heap.ticks ≡ parts.old.heap.ticks) }
 {
-    match go_denial(parts, actor) {
+    match walk_denial(parts, actor) {
         Some(refusal) => Err(refusal),
         None => take_walk(parts, actor),
     }
@@ -164,7 +164,7 @@ fn take_walk(parts: &mut Parts, actor: u8) -> Result<Kind, Refusal>
     requires allowed { denial_of (seen parts.old) (steps.Go actor) ≡ None }
     requires kept { IsKept parts.old }
     requires noted { parts.old.heap.noted ≡ [] }
-    requires goes_on { is_over (next_kind (seen parts.old) actor) ≡ false }
+    requires goes_on { goes_on (next_kind (seen parts.old) actor) ≡ true }
     ensures taken { IfOk result (λ kind. next (seen parts.old) (steps.Go actor) ≡ Ok (Outcome.Went kind, seen parts.new)) }
     ensures err { OnErr result (seen parts.new ≡ seen parts.old) }
     ensures only_memory { IfErr result (λ refusal. refusal ≡ Refusal.Memory) }

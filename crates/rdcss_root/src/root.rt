@@ -50,6 +50,7 @@ impl ReadRoot {
     }
 
     /// Takes its next step, unless it has to be told the generation of the root first. It gives the root.
+    #[inline(always)]
     pub fn step(
         &mut self,
         read: &mut Read,

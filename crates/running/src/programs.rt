@@ -149,7 +149,7 @@ impl Programs {
         }
     }
 
-    /// Takes a step of the program, or one of ABORT in its place.
+    /// Takes a step of the program, which runs, or one of ABORT in its place.
     #[inline(always)]
     fn go_on(
         &mut self,
@@ -159,6 +159,7 @@ impl Programs {
         generations: &mut u64,
         heap: &mut Heap,
     ) -> Result<Taken, Refusal>
+        requires runs { self.old.stage ≡ Stage.Runs }
         requires program { CanProgram (scene heap.old roots.old generations.old self.old) program.now }
         requires abort { CanAbortOn heap.old roots.old (abort_of self.old.asking) }
         requires ready { IsReadyBeside heap.old roots.old.roots self.old.key.work.private }
@@ -185,7 +186,7 @@ impl Programs {
         }
     }
 
-    /// Takes a step of the program, which was told this of the root's generation.
+    /// Takes a step of the program, which runs, and was told this of the root's generation.
     #[inline(always)]
     fn run(
         &mut self,
@@ -196,6 +197,8 @@ impl Programs {
         generations: &mut u64,
         heap: &mut Heap,
     ) -> Result<Taken, Refusal>
+        requires runs { self.old.stage ≡ Stage.Runs }
+        requires untold { told ≡ None → self.old.asking ≡ Asking.Unasked }
         requires program { CanProgram (scene heap.old roots.old generations.old self.old) program.now }
         requires ready { IsReadyBeside heap.old roots.old.roots self.old.key.work.private }
         requires attempts { self.old.snap.attempt < 2 ^ 64 - 1 }
@@ -227,6 +230,8 @@ impl Programs {
         generation: u64,
         heap: &mut Heap,
     ) -> Result<Taken, Refusal>
+        requires runs { self.old.stage ≡ Stage.Runs }
+        requires untold { told ≡ None → self.old.asking ≡ Asking.Unasked }
         requires can { CanKey heap.old roots.old self.old.key }
         requires ready { IsReadyBeside heap.old roots.old.roots self.old.key.work.private }
         requires begun { self.old.key.task.call ≡ call.now }
@@ -237,7 +242,7 @@ impl Programs {
     {
         let is_reading = self.key.is_reading();
         match self.key.step(roots, job.handle, heap, told)? {
-            Next::More(kind) => Ok(self.go_by_key(is_reading, kind)),
+            Next::More(kind) => Ok(self.go_by_key(told, is_reading, kind)),
             Next::AskRoot => {
                 let kind = self.ask_for_key(call, job, roots, generation, heap);
                 Ok(Taken::of_kind(kind))
@@ -263,13 +268,18 @@ impl Programs {
         }
     }
 
-    /// The call on one key took a step of this kind, was in a READ or not, and goes on.
+    /// The call on one key took a step of this kind, was in a READ or not, and goes on. At most steps it was told nothing,
+    /// and then nothing is written.
     #[inline(always)]
-    fn go_by_key(&mut self, is_reading: bool, kind: Kind) -> Taken
+    fn go_by_key(&mut self, told: Option<u64>, is_reading: bool, kind: Kind) -> Taken
+        requires runs { self.old.stage ≡ Stage.Runs }
+        requires untold { told ≡ None → self.old.asking ≡ Asking.Unasked }
         ensures same { self.new ≡ record self.old { stage = Stage.Runs; asking = Asking.Unasked } }
         ensures taken { result ≡ taken_in is_reading kind self.old.key.work.swap.read.at }
     {
-        self.run_on();
+        if told.is_some() {
+            self.asking = Asking::Unasked;
+        }
         Taken::by_key(is_reading, kind, &self.key.work.swap.read.at)
     }
 

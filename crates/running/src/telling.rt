@@ -34,8 +34,20 @@ impl Programs {
         }
     }
 
-    /// Whether the operation ends by its next step.
+    /// Whether the operation ends by its next step. Most often its program runs: that is asked first.
+    #[inline(always)]
     pub fn is_over(&self, program: &Program) -> bool
+        ensures { result ≡ is_some (answer_of (line_for program.now self.now)) }
+    {
+        match &self.stage {
+            Stage::Runs => self.is_at_end(program),
+            _ => self.is_over_at(program),
+        }
+    }
+
+    /// The same, whatever its stage.
+    #[inline(never)]
+    fn is_over_at(&self, program: &Program) -> bool
         ensures { result ≡ is_some (answer_of (line_for program.now self.now)) }
     {
         match &self.stage {
@@ -48,7 +60,20 @@ impl Programs {
         }
     }
 
+    /// The same where its program runs. Most are calls on one key: that is asked first.
+    #[inline(always)]
     fn is_at_end(&self, program: &Program) -> bool
+        ensures { (told : Option ℕ) → result ≡ is_some (answer_of (program_line self.now told program.now)) }
+    {
+        match program {
+            Program::Key(_) => self.key.reply().is_some(),
+            _ => self.is_at_end_of(program),
+        }
+    }
+
+    /// The same, whichever program it is.
+    #[inline(never)]
+    fn is_at_end_of(&self, program: &Program) -> bool
         ensures { (told : Option ℕ) → result ≡ is_some (answer_of (program_line self.now told program.now)) }
     {
         match program {

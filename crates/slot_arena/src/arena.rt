@@ -203,6 +203,7 @@ impl Arena {
     }
 
     /// Replaces a word of a slot.
+    #[inline(always)]
     fn put_word(&mut self, at: Ref, swap: WordSwap)
         requires live { IsLive self.old.heap at }
         requires stands { StandsIn self.old.heap at swap }

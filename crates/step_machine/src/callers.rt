@@ -90,12 +90,10 @@ impl Machine {
         ensures { Resumes result self.old actor self.new }
     {
         for _ in 0..GO_LIMIT {
-            if self.is_over(actor) {
-                if let Some(reply) = self.reply(actor)? {
-                    return Ok(Some(reply));
-                }
-            } else {
+            if self.goes_on(actor) {
                 self.walk(actor)?;
+            } else if let Some(reply) = self.reply(actor)? {
+                return Ok(Some(reply));
             }
         }
         Ok(None)

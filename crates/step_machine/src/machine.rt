@@ -1,6 +1,6 @@
 //! A machine and its steps.
 
-ghost use Rattle.std.specs.Prelude.{◌≡◌, ◌≢◌, ◌+◌, ◌≤◌, ℕ, false, length, unwrap_or, None, option_map, Some, Ok, IsSome, IfOk, IfErr, OnOk, IsOkUnless};
+ghost use Rattle.std.specs.Prelude.{◌≡◌, ◌≢◌, ◌+◌, ◌≤◌, ℕ, true, length, unwrap_or, None, option_map, Some, Ok, IsSome, IfOk, IfErr, OnOk, IsOkUnless};
 ghost use Rattle.std.specs.FinMap as map;
 ghost use Rattle.std.specs.Ordering.{nat_cmp};
 ghost use Rattle.ctrie_base.specs.declared.kinds.Kind.TheVariants.{Make};
@@ -12,7 +12,7 @@ ghost use Rattle.step_machine.specs.Beneath.slot_arena.specs.Heaps.{in_use};
 ghost use Rattle.machine_model.specs.Orders.{order_of};
 ghost use Rattle.machine_model.specs.Contents.{content_at};
 ghost use Rattle.machine_core.specs.Finding.{found_along};
-ghost use Rattle.machine_core.specs.Walking.{is_over, walked};
+ghost use Rattle.machine_core.specs.Walking.{goes_on, walked};
 ghost use Rattle.machine_model.specs.Keys.{KeysFit};
 ghost use Rattle.machine_model.specs.Machine.{AreLimits, denial_of, is_running, is_busy, runs_on, next_kind, handles_taken, is_access, access_of};
 ghost use Rattle.machine_model.specs.Refusing.{RefusesLimits, RefusesContent};
@@ -131,33 +131,33 @@ impl Machine {
             return Err(self.wanting(step));
         }
         let outcome = self.body.apply(step)?;
-        let _ = self.steps.push(step);
+        self.steps.push_reserved(step);
         Machine::fits(step);
         Ok(outcome)
     }
 
-    /// A step of the actor's operation that isn't its end, told by its kind alone.
+    /// A step of the actor's operation behind which it goes on, told by its kind alone.
     #[tactic(auto, using(crate::proofs::Steps::kept_limits, crate::proofs::Steps::next_run, crate::proofs::Steps::holds_after, crate::proofs::Denials::wanting_applied, crate::proofs::Denials::refused_applied))]
     #[inline(always)]
     pub(crate) fn walk(&mut self, actor: u8) -> Result<Kind, Refusal>
-        requires { is_over (next_kind (state_of self.old) actor) ≡ false }
+        requires { goes_on (next_kind (state_of self.old) actor) ≡ true }
         ensures { Applied (walked result) self.old (Step.Go actor) self.new }
     {
         if self.steps.reserve(1).is_err() {
             return Err(self.wanting_to_go(actor));
         }
         let kind = self.body.walk(actor)?;
-        let _ = self.steps.push(Step::Go { actor });
+        self.steps.push_reserved(Step::Go { actor });
         Machine::fits(Step::Go { actor });
         Ok(kind)
     }
 
-    /// Whether the actor's operation ends by its next step.
+    /// Whether the actor's operation goes on behind its next step.
     #[inline(always)]
-    pub(crate) fn is_over(&self, actor: u8) -> bool
-        ensures { result ≡ is_over (next_kind (state_of self.now) actor) }
+    pub(crate) fn goes_on(&self, actor: u8) -> bool
+        ensures { result ≡ goes_on (next_kind (state_of self.now) actor) }
     {
-        self.body.is_over(actor)
+        self.body.goes_on(actor)
     }
 
     /// Why a step is refused for which there is no room.
