@@ -6,18 +6,14 @@ use Rattle.std.proofs.Math.Bool.{or-true, or-false}
 use Rattle.std.proofs.lemmas.List.{get_or-set_same, get_or-set_other, take_all}
 use Rattle.places.specs.declared.place.Place.{Place}
 use Rattle.chronicle.specs.Entered.{AreMarked}
+use Rattle.machine_model.specs.Beneath.epochs.proofs.Turns.{no_mark}
 
 pub none_marked : AreMarked [] []
 none_marked id = refl
 
 -- more ids, none of which is marked
 marks_longer : (marks : List Bool) (n id : ℕ) → get_or (marks ++ replicate n false) id false ≡ get_or marks id false
-marks_longer [] n id = by n id
-  where
-    by : (n id : ℕ) → get_or (replicate n false) id false ≡ false
-    by zero id = refl
-    by (suc n) zero = refl
-    by (suc n) (suc id) = by n id
+marks_longer [] n id = no_mark n id
 marks_longer (m ∷ marks) n zero = refl
 marks_longer (m ∷ marks) n (suc id) = marks_longer marks n id
 

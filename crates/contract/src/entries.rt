@@ -16,7 +16,7 @@ use trie_parts::{Work, keep};
 
 /// The entries so far of a main node that is made from another.
 #[derive(Drop)]
-pub struct Entries {
+pub(crate) struct Entries {
     items: Vec<Ref>,
 }
 

@@ -19,5 +19,4 @@ mod renew;
 
 pub use clean::{Clean, CleanAt, Cleaned};
 pub use climb::{Climb, ClimbAt, Climbed};
-pub use entries::Entries;
 pub use renew::{Renew, RenewAt, Renewed};

@@ -7,7 +7,8 @@ use Rattle.history.specs.declared.calls.Access.{Access}
 use Rattle.history.specs.Effects.{has_value}
 use Rattle.history.specs.Worlds.{KeyMap}
 use Rattle.ctrie_map.specs.declared.errors.MapError.{MapError}
-use Rattle.ctrie_map.specs.Changes.{Changes, Closes, Copies, HasRoom, IsAny, IsCrowdedAt, IsReady, RefusesChange, RefusesClear, RefusesClose, RefusesCopy, removed_if_it_has, set_if_absent, set_if_it_has, set_if_there}
+use Rattle.ctrie_map.specs.Changes.{Changes, Closes, Copies, HasRoom, IsAny, IsCrowdedAt, IsReady, RefusesChange, RefusesClear, RefusesClose, RefusesCopy}
+use Rattle.ctrie_map.specs.Changes.{removed_if_it_has, set_if_absent, set_if_it_has, set_if_there}
 use Rattle.ctrie_map.specs.Costs.{WorksUpTo, work_of_a_change, work_of_a_close, work_of_a_copy}
 use Rattle.ctrie_map.specs.Maps.{AreSlots, IsNew, IsSame, MapState, RefusesSizes}
 use Rattle.ctrie_map.specs.Performing.{IsForWant}

@@ -20,8 +20,8 @@ use Rattle.machine_model.specs.Machine.{AreLimits, begin_denial, go_denial, go_o
 use Rattle.machine_model.specs.States.{State, first_state, operation_of}
 use Rattle.machine_model.proofs.Along.{run-append, run_push}
 use Rattle.machine_model.specs.Moves.{begun_operation}
-use Rattle.proof_obstruction_free.specs.Closes.{ClosesEnd}
-use Rattle.proof_obstruction_free.specs.Laws.{AloneItEnds, HasEnded, alone_after, most_steps_alone}
+use Rattle.ctrie_commands.specs.Beneath.proof_obstruction_free.specs.Closes.{ClosesEnd}
+use Rattle.ctrie_commands.specs.Beneath.proof_obstruction_free.specs.Laws.{AloneItEnds, HasEnded, alone_after, most_steps_alone}
 use Rattle.ctrie_commands.specs.Beneath.step_machine.specs.Ending.{IsSure}
 use Rattle.ctrie_commands.specs.Beneath.step_machine.specs.Machines.{Taken, state_of}
 use Rattle.ctrie_commands.specs.Beneath.step_machine.proofs.Ending.{begun_runs_on, bounded, sure_behind}

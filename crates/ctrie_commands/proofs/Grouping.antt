@@ -7,7 +7,7 @@ use Rattle.std.specs.Global.{Vec}
 use Rattle.std.proofs.lemmas.List.{map-append, flat_map_more, length-map}
 use Rattle.std.proofs.lemmas.List.Elements.{All-nil, All-cons, All-head, All-tail, All-same, All-push}
 use Rattle.lock_runner.specs.Seats.{Seated}
-use Rattle.lock_runner.proofs.ActorHistory.Places.{get_push}
+use Rattle.history.proofs.Places.{at_cases}
 use Rattle.lock_runner.proofs.Ends.{of_each}
 use Rattle.script_text.specs.Threads.Reading.{Reading}
 use Rattle.ctrie_commands.specs.declared.working.Worker.{Worker}
@@ -64,7 +64,7 @@ pub none_more : (script : Reading) (before after : List Seated) (seat : Seated) 
 none_more script before after seat all one is = All-same (HasNone script) after _ is (All-push (HasNone script) before seat all one)
 
 pub is_group : (script : Reading) (before seats : List Seated) (last : Seated) → All (HasNone script) before → seats ≡ before ++ last ∷ [] → IsGroup script seats
-is_group script before seats last none is k seat at below = elim (get_push before last k seat (ap (λ xs. slice_get xs k) (sym is) ∙ at)) [
+is_group script before seats last none is k seat at below = elim (at_cases before last k seat (ap (λ xs. slice_get xs k) (sym is) ∙ at)) [
   | inl h ↦ of_each (HasNone script) before k seat none h
   | inr h ↦ absurd (omega (arith, h.0, below, ap (λ xs. length xs) is, length-append before (last ∷ [])))
 ]

@@ -23,14 +23,14 @@ use Rattle.ctrie_commands.specs.Beneath.step_machine.specs.Legality.{IsLegalFor,
 use Rattle.ctrie_commands.specs.Beneath.step_machine.specs.Records.{IsRecordOf}
 use Rattle.ctrie_commands.specs.Beneath.step_machine.specs.declared.records.Record.{Record}
 use Rattle.lock_runner.specs.Finishing.{recorded}
-use Rattle.proof_obstruction_free.specs.Closes.{ClosesEnd}
-use Rattle.proof_obstruction_free.specs.Laws.{AloneItEnds}
+use Rattle.ctrie_commands.specs.Beneath.proof_obstruction_free.specs.Closes.{ClosesEnd}
+use Rattle.ctrie_commands.specs.Beneath.proof_obstruction_free.specs.Laws.{AloneItEnds}
 use Rattle.script_text.specs.Reading.{Reading as Script, script_of}
 use Rattle.script_text.specs.Steps.{all_steps}
 use Rattle.ctrie_commands.specs.Reports.{last_state, report}
 use Rattle.ctrie_commands.specs.Scripts.{IsReport}
 use Rattle.ctrie_commands.specs.Threads.{thread_report}
-use Rattle.ctrie_commands.specs.Verdicts.{IsVerdict}
+use Rattle.history_commands.specs.Verdicts.{IsVerdict}
 use Rattle.ctrie_commands.specs.Legality.{told_in, IsLegalText, AppendsJudged}
 use Rattle.ctrie_commands.proofs.Endings.{each_line_ends}
 use Rattle.machine_model.proofs.Along.{limits_along}

@@ -1,5 +1,3 @@
-pub mod Known
-pub mod Explained
 pub mod Carrying
 pub mod Telling
 pub mod Later

@@ -3,3 +3,5 @@ pub use Rattle.lock_runner.specs.Beneath.slot_arena as slot_arena
 pub use Rattle.lock_runner.specs.Beneath.proof_generations as proof_generations
 pub use Rattle.lock_runner.specs.Beneath.proof_order as proof_order
 pub use Rattle.lock_runner.specs.Beneath.step_machine as step_machine
+pub use Rattle.lock_runner.specs.Beneath.proof_obstruction_free as proof_obstruction_free
+pub use Rattle.history_commands as history_commands

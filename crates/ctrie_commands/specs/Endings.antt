@@ -5,7 +5,7 @@ use Rattle.history.specs.declared.calls.Call.{Call}
 use Rattle.machine_model.specs.declared.operations.Operation.{Operation}
 use Rattle.machine_model.specs.Machine.{begin_denial}
 use Rattle.machine_model.specs.States.{State, operation_of}
-use Rattle.proof_obstruction_free.specs.Laws.{HasEnded, most_steps_alone}
+use Rattle.ctrie_commands.specs.Beneath.proof_obstruction_free.specs.Laws.{HasEnded, most_steps_alone}
 use Rattle.ctrie_commands.specs.Beneath.step_machine.specs.Ending.{IsSure}
 use Rattle.script_text.specs.declared.commands.Command.{Command}
 use Rattle.script_text.specs.declared.commands.Command.TheVariants.{Finish, Do}

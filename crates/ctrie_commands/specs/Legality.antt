@@ -8,7 +8,7 @@ use Rattle.history_text.specs.Reading.{Reading}
 use Rattle.history_text.specs.Grammar.{IsSpelling}
 use Rattle.machine_model.specs.States.{State}
 use Rattle.machine_model.specs.Orders.{order_of}
-use Rattle.ctrie_commands.specs.Verdicts.{IsVerdict}
+use Rattle.history_commands.specs.Verdicts.{IsVerdict}
 
 -- what a machine has to tell: which hash it uses, its history and its order
 abbrev pub told_in : HashKind → State → Reading

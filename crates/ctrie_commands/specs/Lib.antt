@@ -1,9 +1,4 @@
 pub mod Beneath
-pub mod Faults
-pub mod Written
-pub mod Verdicts
-pub mod Explanations
-pub mod Pictures
 pub mod Legality
 pub mod Denials
 pub mod Reports

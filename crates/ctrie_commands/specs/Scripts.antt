@@ -4,10 +4,10 @@ use Rattle.ctrie_base.specs.declared.refusals.Refusal.{Refusal}
 use Rattle.script_text.specs.Reading.{Reading, script_of}
 use Rattle.ctrie_commands.specs.Endings.{EachLineEnds}
 use Rattle.ctrie_commands.specs.Reports.{last_state, report}
-use Rattle.ctrie_commands.specs.Verdicts.{IsVerdict}
+use Rattle.history_commands.specs.Verdicts.{IsVerdict}
 use Rattle.ctrie_commands.specs.Legality.{told_in, IsLegalText}
-use Rattle.ctrie_commands.specs.Faults.{IsFault}
-use Rattle.ctrie_commands.specs.Written.{AppendsSuch, AppendsPartOf}
+use Rattle.history_commands.specs.Faults.{IsFault}
+use Rattle.history_commands.specs.Written.{AppendsSuch, AppendsPartOf}
 
 -- The text is a script without a fault, and these bytes are its report. They spell the history and the order of its run; the order is legal, and a check
 -- of the report answers true. Its lines have ended the operations that are sure to end.

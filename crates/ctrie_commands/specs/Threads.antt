@@ -5,8 +5,8 @@ use Rattle.ctrie_base.specs.declared.refusals.Refusal.{Refusal}
 use Rattle.ctrie_base.specs.declared.refusals.Refusal.TheVariants.{Spent}
 use Rattle.ctrie_base.specs.declared.hashes.HashKind.{HashKind}
 use Rattle.history.specs.Histories.{IsRunning}
-use Rattle.ctrie_commands.specs.Faults.{IsFault}
-use Rattle.ctrie_commands.specs.Written.{AppendsSuch, AppendsPartOf}
+use Rattle.history_commands.specs.Faults.{IsFault}
+use Rattle.history_commands.specs.Written.{AppendsSuch, AppendsPartOf}
 use Rattle.machine_model.specs.declared.steps.Limits.{Limits}
 use Rattle.machine_model.specs.States.{State}
 use Rattle.ctrie_commands.specs.Beneath.step_machine.specs.Machines.{Taken, state_of, AreTaken}
@@ -15,7 +15,7 @@ use Rattle.lock_runner.specs.ActorHistory.Answers.{AreAnswersOf}
 use Rattle.lock_runner.specs.Boards.{sweeps_in}
 use Rattle.script_text.specs.Threads.Reading.{Reading, thread_script_of}
 use Rattle.ctrie_commands.specs.Reports.{line, hash_text, event_lines, last_lines, denied_lines}
-use Rattle.ctrie_commands.specs.Verdicts.{IsVerdict}
+use Rattle.history_commands.specs.Verdicts.{IsVerdict}
 use Rattle.ctrie_commands.specs.Legality.{told_in, IsLegalText}
 use Rattle.ctrie_commands.specs.Working.{calls_of, Performed, answered_calls, Swept}
 

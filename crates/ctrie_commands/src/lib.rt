@@ -1,11 +1,7 @@
-//! What the program `ctrie` does, as calls over any reader and writer: scripts for a map run, and
-//! histories of a map judged, explained and drawn.
+//! What the program `ctrie` does, as calls over any reader and writer: scripts for a map run, by one thread or
+//! by many. What it does with histories is passed on.
 #![tactic(auto)]
 
-mod checking;
-mod drawing;
-mod explaining;
-mod faults;
 mod groups;
 mod reports;
 mod scripts;
@@ -13,11 +9,8 @@ mod stepping;
 mod threads;
 mod working;
 
-pub use checking::check_history;
 pub use counted_io::Counted;
-pub use drawing::draw_history;
-pub use explaining::explain_history;
-pub use faults::Fault;
+pub use history_commands::{Fault, check_history, draw_history, explain_history};
 pub use lock_runner::{Between, Nothing};
 pub use scripts::run_script;
 pub use threads::run_threads;

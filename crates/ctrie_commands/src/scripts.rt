@@ -5,13 +5,13 @@ ghost use Rattle.std.specs.Io.KnownBytes.{Keeps, IsAtEnd};
 ghost use Rattle.std.specs.String.{string_bytes};
 ghost use Rattle.counted_io.specs.Counts.{inner_of, failures};
 ghost use Rattle.script_text.specs.Reading.{script_of};
-ghost use Rattle.ctrie_commands.specs.Faults.{IsOf};
+ghost use Rattle.history_commands.specs.Faults.{IsOf};
 ghost use Rattle.ctrie_commands.specs.Legality.{AppendsJudged};
 ghost use Rattle.ctrie_commands.specs.Scripts.{IsReport, HasScriptFault, AppendsReport, AppendsReportPart};
 
-use crate::faults::Fault;
 use crate::reports::report_of;
 use counted_io::{Counted, read_all, write_all};
+use history_commands::Fault;
 use script_text::read_script;
 use std::alloc::Global;
 use std::io::{Read, Write};
@@ -21,8 +21,8 @@ fn carried_out(alloc: Global, text: &[u8]) -> Result<String, Fault>
     ensures report { IfOk result (λ report. IsReport text.now (string_bytes report)) }
     ensures faults { IfErr result (IsOf (script_of text.now)) }
 {
-    proof_obstruction_free::alone_it_ends();
-    proof_obstruction_free::closes_end();
+    lock_runner::alone_it_ends();
+    lock_runner::closes_end();
     let script = read_script(alloc, text)?;
     Ok(report_of(alloc, &script)?)
 }

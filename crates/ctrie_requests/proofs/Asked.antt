@@ -16,7 +16,7 @@ use Rattle.clap.specs.declared.parser.matches.SubCommand.{SubCommand}
 use Rattle.clap.specs.declared.parser.matches.ArgMatches.TheViews.{out-SubCommand}
 use Rattle.ctrie_requests.specs.declared.arguments.Request.{Request}
 use Rattle.ctrie_requests.specs.declared.arguments.Request.TheVariants.{Check, Run, Threads, Explain, Draw}
-use Rattle.ctrie_commands.specs.declared.faults.Fault.TheVariants.{Usage}
+use Rattle.ctrie_requests.specs.Beneath.history_commands.specs.declared.faults.Fault.TheVariants.{Usage}
 use Rattle.ctrie_requests.specs.Requests.{Answers, IsMatched, asked_file, fault_for, file_of, met, program, takes}
 
 -- the program's command is one whose parse is known

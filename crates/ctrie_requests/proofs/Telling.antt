@@ -1,11 +1,11 @@
 -- What tells of a request, from what the calls say.
 use Rattle.std.proofs.Common.{ℕ, List, Option, None, Some, Bool, true, false, IfSome, refl, sym, subst}
 use Rattle.std.specs.Io.KnownBytes.{Appends}
-use Rattle.ctrie_commands.specs.Written.{AppendsSuch, AppendsPartOf}
-use Rattle.ctrie_commands.specs.Verdicts.{IsVerdict, verdict_line, AppendsPart}
-use Rattle.ctrie_commands.specs.Explanations.{IsExplanation}
-use Rattle.ctrie_commands.specs.Pictures.{IsPicture}
-use Rattle.ctrie_commands.proofs.Explained.{verdict_by_reason, verdict_by_scene}
+use Rattle.ctrie_requests.specs.Beneath.history_commands.specs.Written.{AppendsSuch, AppendsPartOf}
+use Rattle.ctrie_requests.specs.Beneath.history_commands.specs.Verdicts.{IsVerdict, verdict_line, AppendsPart}
+use Rattle.ctrie_requests.specs.Beneath.history_commands.specs.Explanations.{IsExplanation}
+use Rattle.ctrie_requests.specs.Beneath.history_commands.specs.Pictures.{IsPicture}
+use Rattle.ctrie_requests.specs.Beneath.history_commands.proofs.Explained.{verdict_by_reason, verdict_by_scene}
 use Rattle.ctrie_commands.specs.Scripts.{AppendsReport, AppendsReportPart}
 use Rattle.ctrie_commands.specs.Threads.{AppendsThreadReport, AppendsThreadReportPart}
 use Rattle.ctrie_requests.specs.declared.arguments.Request.TheVariants.{Check, Run, Threads, Explain, Draw}
@@ -79,3 +79,6 @@ pub picture_part : (known old new : Option (List ℕ)) (path : _) → IfSome kno
 picture_part None old new path part = tt
 picture_part (Some text) old new path (bytes, (true, told), part) = (bytes, (judged true, (drawn text bytes true told, told)), part)
 picture_part (Some text) old new path (bytes, (false, told), part) = (bytes, (judged false, (drawn text bytes false told, told)), part)
+
+-- those that close goals of `carry_out` with no answer
+pub ruleset tellings = (verdict_told, verdict_part, report_part, thread_report_part, explanation_told, explanation_part, picture_told, picture_part)

@@ -1,11 +1,11 @@
 -- What comes of a request, and the exit status that tells of it.
 use Rattle.std.specs.Prelude.{◌≡◌, ℕ, Bool, true, false, List, Result, Ok, Err}
 use Rattle.ctrie_base.specs.declared.refusals.Refusal.{Refusal}
-use Rattle.ctrie_commands.specs.declared.faults.Fault.{Fault}
-use Rattle.ctrie_commands.specs.Faults.{status_of}
-use Rattle.ctrie_commands.specs.Verdicts.{IsVerdict, verdict_line, HasLineFault}
-use Rattle.ctrie_commands.specs.Explanations.{IsExplanation}
-use Rattle.ctrie_commands.specs.Pictures.{IsPicture}
+use Rattle.ctrie_requests.specs.Beneath.history_commands.specs.declared.faults.Fault.{Fault}
+use Rattle.ctrie_requests.specs.Beneath.history_commands.specs.Faults.{status_of}
+use Rattle.ctrie_requests.specs.Beneath.history_commands.specs.Verdicts.{IsVerdict, verdict_line, HasLineFault}
+use Rattle.ctrie_requests.specs.Beneath.history_commands.specs.Explanations.{IsExplanation}
+use Rattle.ctrie_requests.specs.Beneath.history_commands.specs.Pictures.{IsPicture}
 use Rattle.ctrie_commands.specs.Scripts.{IsReport, HasScriptFault}
 use Rattle.ctrie_commands.specs.Threads.{IsThreadReport, HasThreadFault}
 use Rattle.ctrie_requests.specs.declared.arguments.Request.{Request}

@@ -12,8 +12,8 @@ use Rattle.clap.specs.declared.error.kind.ErrorKind.{ErrorKind}
 use Rattle.clap.specs.declared.error.kind.ErrorKind.TheVariants as kind
 use Rattle.ctrie_requests.specs.declared.arguments.Request.{Request}
 use Rattle.ctrie_requests.specs.declared.arguments.Request.TheVariants.{Check, Run, Threads, Explain, Draw}
-use Rattle.ctrie_commands.specs.declared.faults.Fault.{Fault}
-use Rattle.ctrie_commands.specs.declared.faults.Fault.TheVariants.{Memory, Usage}
+use Rattle.ctrie_requests.specs.Beneath.history_commands.specs.declared.faults.Fault.{Fault}
+use Rattle.ctrie_requests.specs.Beneath.history_commands.specs.declared.faults.Fault.TheVariants.{Memory, Usage}
 
 -- the fault that tells of such an error
 abbrev pub fault_for : ErrorKind → Fault

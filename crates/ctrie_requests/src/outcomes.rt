@@ -4,7 +4,7 @@ ghost use Rattle.std.specs.Prelude.{◌≡◌, ◌≢◌, ◌<◌, ◌^◌, ℕ,
 ghost use Rattle.std.specs.Io.KnownBytes.{Keeps, IsAtEnd};
 ghost use Rattle.counted_io.specs.Counts.{inner_of, failures};
 ghost use Rattle.ctrie_commands.specs.Legality.{AppendsJudged};
-ghost use Rattle.ctrie_commands.specs.Written.{AppendsSuch, AppendsPartOf};
+ghost use Rattle.ctrie_requests.specs.Beneath.history_commands.specs.Written.{AppendsSuch, AppendsPartOf};
 ghost use Rattle.ctrie_requests.specs.Outcomes.{Tells, HasFault, judged, exit_status_of};
 
 use crate::arguments::Request;
@@ -51,7 +51,7 @@ fn judged(legal: bool) -> Outcome
 }
 
 /// Reads a text to its end, does with it what is asked for, and writes what tells of it.
-#[tactic(auto, using(crate::proofs::Telling::verdict_told, crate::proofs::Telling::verdict_part, crate::proofs::Telling::report_part, crate::proofs::Telling::thread_report_part, crate::proofs::Telling::explanation_told, crate::proofs::Telling::explanation_part, crate::proofs::Telling::picture_told, crate::proofs::Telling::picture_part))]
+#[tactic(auto, using(crate::proofs::Telling::tellings))]
 pub fn carry_out<R: Threads + Wait + Sync, I: Read, W: Write>(
     rt: &R,
     alloc: Global,

@@ -3,8 +3,7 @@
 ghost use Rattle.std.specs.Prelude.{◌≡◌};
 ghost use Rattle.machine_model.specs.Beneath.slot_arena.specs.Heaps.{main_of, main_at, generation_of, generation_at};
 
-use epochs::Heap;
-use slot_arena::{Node, Ref};
+use machine_model::{Heap, Node, Ref};
 
 /// The main word of an indirection; the default reference where none stands there.
 #[tactic(auto, using(crate::proofs::Stored::node_is, crate::proofs::Stored::nothing_is))]

@@ -7,14 +7,12 @@ ghost use Rattle.gcas.specs.Acted.{acted_heap};
 ghost use Rattle.gcas.specs.Kept.{KeepsBeside};
 ghost use Rattle.gcas.specs.Reads.{deciding, line_at, line_of, ReadsOn, CanReadOn, CanReadAt, IsAskingRoot, begun, given_so, committed_so};
 ghost use Rattle.machine_model.specs.Operations.{kind_of};
-ghost use Rattle.slot_arena.specs.declared.refs.Ref.{Ref as ARef};
+ghost use Rattle.machine_model.specs.Beneath.slot_arena.specs.declared.refs.Ref.{Ref as ARef};
 
 use crate::looks::{generation_at, main_at};
 use crate::next::Next;
 use ctrie_base::Kind;
-use epochs::Heap;
-use history::Access;
-use slot_arena::{Prev, Ref};
+use machine_model::{Access, Heap, Prev, Ref};
 
 /// Where a READ stands.
 #[derive(Clone, Copy)]

@@ -11,9 +11,7 @@ ghost use Rattle.machine_model.specs.Operations.{kind_of, swapping_read};
 use crate::next::Next;
 use crate::read::{Read, ReadAt};
 use ctrie_base::Kind;
-use epochs::Heap;
-use history::Access;
-use slot_arena::{Prev, Ref};
+use machine_model::{Access, Heap, Prev, Ref};
 
 /// Where a SWAP stands.
 #[derive(Clone, Copy)]

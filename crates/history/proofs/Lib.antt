@@ -2,6 +2,7 @@ pub mod EntryMaps
 pub mod CrowdCounts
 pub mod WorldSteps
 pub mod Places
+pub mod Among
 pub mod Begins
 pub mod Rows
 pub mod Noting

@@ -16,6 +16,16 @@ at_push [] x (suc i) e = absurd (omega (arith, e))
 at_push (a ∷ xs) x zero e = absurd (omega (arith, e))
 at_push (a ∷ xs) x (suc i) e = at_push xs x i (omega (arith, e))
 
+-- the same where more than one stand behind them
+pub at_front : {X : Type 0} (xs ys : List X) (i : ℕ) (y : X) → slice_get xs i ≡ Some y → slice_get (xs ++ ys) i ≡ Some y
+at_front [] ys i y e = cc
+at_front (a ∷ xs) ys zero y e = e
+at_front (a ∷ xs) ys (suc i) y e = at_front xs ys i y e
+
+pub at_seam : {X : Type 0} (xs ys : List X) (y : X) → slice_get (xs ++ y ∷ ys) (length xs) ≡ Some y
+at_seam [] ys y = refl
+at_seam (a ∷ xs) ys y = at_seam xs ys y
+
 -- an element of the longer list is an old one, or the new one at its end
 pub at_cases : {X : Type 0} (xs : List X) (x : X) (i : ℕ) (y : X) → slice_get (xs ++ x ∷ []) i ≡ Some y → (slice_get xs i ≡ Some y) ⊎ ((i ≡ length xs) × (x ≡ y))
 at_cases [] x zero y e = inr (refl, cc)

@@ -28,7 +28,7 @@ pub struct Row {
 
 impl Row {
     /// Whether it ends before this place.
-    pub fn ends_before(&self, place: usize) -> bool
+    pub(crate) fn ends_before(&self, place: usize) -> bool
         ensures { IsTrue result ↔ IsSomeAnd self.now.end (λ end. end < place) }
     {
         self.end.is_some_and(|end| end < place)

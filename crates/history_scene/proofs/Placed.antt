@@ -1,17 +1,18 @@
 -- Where operations stand in the beginning of an order, as it goes on.
-use Rattle.std.proofs.Common.{◌≡◌, ◌≢◌, ℕ, ◌+◌, ◌<◌, ◌≤◌, max, ◌⊎◌, inl, inr, List, length, set, Option, Some, None, slice_get, refl, sym, ap, ◌∙◌, subst, arith, length-set}
+use Rattle.std.proofs.Common.{◌≡◌, ◌≢◌, ℕ, ◌+◌, ◌<◌, ◌≤◌, max, ◌⊎◌, inl, inr, List, length, Option, Some, None, slice_get, refl, sym, ◌∙◌, subst, arith, length-set}
 use Rattle.std.specs.Ordering.{ord_max, nat_cmp}
 use Rattle.std.proofs.lemmas.Grind.{common_steps}
 use Rattle.std.proofs.lemmas.Bool.{cases_order, cases_lt}
 use Rattle.std.proofs.lemmas.Option.{slice_get_within, same_Some}
 use Rattle.history.specs.declared.events.Event.{Event}
 use Rattle.history.specs.declared.tables.Row.{Row}
-use Rattle.history.specs.Histories.{Operation, BeginsAt, HasBegun}
+use Rattle.history.specs.Histories.{BeginsAt, HasBegun}
 use Rattle.history.specs.Orders.{OrderedAt}
 use Rattle.history.specs.Tables.{IsRowOf, AreRecords, operation_of}
 use Rattle.history.proofs.Places.{at_set_cases, at_within}
+use Rattle.history.proofs.Standing.{not_begun}
 use Rattle.history_scene.specs.declared.stands.Place.{Place}
-use Rattle.history_scene.specs.Stands.{StandsFirst, IsLatestBegin}
+use Rattle.history_scene.specs.Stands.{IsLatestBegin}
 use Rattle.history_scene.specs.Placing.{IsPlaced, ArePlaced, IsLatestOf, noted_at, noted}
 
 -- a place below the next number is below this one, or is it
@@ -24,13 +25,6 @@ below_next i n lt = elim (cases_order i n) [
 -- two operations at one place are one
 pub same_id : (order : List ℕ) (i n id other : ℕ) → OrderedAt order n id → OrderedAt order i other → i ≡ n → id ≡ other
 same_id order i n id other at_n at_i same = same_Some id other (sym at_n ∙ subst (λ k. slice_get order k ≡ Some other) same at_i)
-
--- an operation that hasn't begun has no row
-pub no_row : (history : List Event) (rows : List Row) (running : List (Option ℕ)) (id : ℕ) → AreRecords history rows running → slice_get rows id ≡ None → ¬ HasBegun history id
-no_row history rows running id known none begun =
-    let row = at_within rows id (known.has_row id begun) in
-    let wrong : ⊥ = cc (row.1, none) in
-    wrong
 
 -- an operation that stood there or stands at the next place alone
 placed_more : (history : List Event) (order : List ℕ) (n id other : ℕ) (place : Option Place) → OrderedAt order n id → (place ≡ None → id ≢ other) → IsPlaced history order n other place
@@ -46,7 +40,7 @@ pub placed_skip : (history : List Event) (order : List ℕ) (n id latest : ℕ) 
     → OrderedAt order n id → slice_get rows id ≡ None → length places ≡ length rows → ArePlaced history order n places → IsLatestOf history order n latest
     → ArePlaced history order (n + 1) places × IsLatestOf history order (n + 1) latest
 placed_skip history order n id latest places rows running known at none size placed last =
-    let never : ¬ HasBegun history id = no_row history rows running id known none in (
+    let never : ¬ HasBegun history id = not_begun history id rows running known none in (
       λ other place at_other.
           let below = slice_get_within places other place at_other in
           let row = at_within rows other (omega arith) in

@@ -1,14 +1,9 @@
 -- The operations that run, with one event more, and what is tested of them.
-use Rattle.std.proofs.Common.{◌≡◌, ℕ, ◌+◌, List, [], ◌∷◌, ◌++◌, refl, Ok, Err, true, false, cond, eqb, arith}
+use Rattle.std.proofs.Common.{◌≡◌, ℕ, List, [], ◌∷◌, ◌++◌, refl, Ok, Err, true, false, eqb}
 use Rattle.std.specs.List.{list_any}
-use Rattle.std.proofs.lemmas.List.Sums.{fold-append, sum_by-append}
+use Rattle.std.proofs.lemmas.List.Sums.{fold-append}
 use Rattle.ctrie_base.specs.declared.refusals.Refusal.TheVariants.{BadLine}
-use Rattle.history.specs.declared.calls.Call.{Call}
-use Rattle.history.specs.declared.replies.Reply.{Reply}
 use Rattle.history.specs.declared.events.Event.{Event}
-use Rattle.history.specs.declared.events.Event.TheVariants.{Begin, End}
-use Rattle.history.specs.Histories.{begun, is_begin}
-use Rattle.std.specs.Prelude.{Option}
 use Rattle.history_text.specs.Words.{value_word, actor_word}
 use Rattle.history_text.specs.Running.{running, with_event, idle_actor, running_id}
 

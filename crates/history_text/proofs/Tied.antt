@@ -11,7 +11,9 @@ use Rattle.history.specs.Histories.{Operation, BeginsAt, EndsAt, IsRunning, begu
 use Rattle.history_text.specs.Running.{running, is_running, is_busy}
 use Rattle.history_text.proofs.Runs.{running_push}
 use Rattle.history.proofs.Begins.{begun_push, begun_same}
-use Rattle.history_text.proofs.Among.{Among, among_push, among_before, among_last, among_filter, among_kept, any_among, among_any, get_push, get_before, get_last}
+use Rattle.history.proofs.Places.{at_cases, at_front, at_seam}
+use Rattle.history.proofs.Among.{Among, among_left, among_right, among_filter, filter_among}
+use Rattle.history_text.proofs.Among.{among_push, any_among, among_any}
 
 -- the list that is kept has just the operations that run, and only ids that have begun are known
 pub record Tied (es : List Event) : Type 0 where
@@ -29,10 +31,10 @@ tied_nil = record {
 }
 
 begins_before : (es : List Event) (e : Event) (place id : ℕ) (op : Operation) → BeginsAt (es ++ e ∷ []) place id op → BeginsAt es place id op ⊎ (e ≡ Begin id op.actor op.call op.opens)
-begins_before es e place id op b = elim (get_push es e (Begin id op.actor op.call op.opens) place b) [ inl h ↦ inl h | inr h ↦ inr h.1 ]
+begins_before es e place id op b = elim (at_cases es e place (Begin id op.actor op.call op.opens) b) [ inl h ↦ inl h | inr h ↦ inr h.1 ]
 
 ends_before : (es : List Event) (e : Event) (place id : ℕ) (answer : Reply) → EndsAt (es ++ e ∷ []) place id answer → EndsAt es place id answer ⊎ (e ≡ End id answer)
-ends_before es e place id answer b = elim (get_push es e (End id answer) place b) [ inl h ↦ inl h | inr h ↦ inr h.1 ]
+ends_before es e place id answer b = elim (at_cases es e place (End id answer) b) [ inl h ↦ inl h | inr h ↦ inr h.1 ]
 
 -- A begin.
 
@@ -40,12 +42,12 @@ begin_runs : (es : List Event) (n a : ℕ) (c : Call) (o : Option ℕ) → Tied 
     → IsRunning (es ++ Begin n a c o ∷ []) id actor
 begin_runs es n a c o t next id actor (inl m) =
     let r = t.runs id actor m in (
-      (r.0.0, r.0.1, get_before es (Begin n a c o ∷ []) _ r.0.0 r.0.2, r.0.3),
+      (r.0.0, r.0.1, at_front es (Begin n a c o ∷ []) r.0.0 _ r.0.2, r.0.3),
       λ answer h. elim (ends_before es (Begin n a c o) h.0 id answer h.1) [ inl g ↦ r.1 answer (h.0, g) | inr g ↦ absurd cc ],
     )
 begin_runs es n a c o t next id actor (inr e) =
     subst (λ (p : ℕ × ℕ). IsRunning (es ++ Begin n a c o ∷ []) p.0 p.1) e (
-      (length es, record { actor = a; call = c; opens = o }, get_last es (Begin n a c o) [], refl),
+      (length es, record { actor = a; call = c; opens = o }, at_seam es [] (Begin n a c o), refl),
       λ answer h. elim (ends_before es (Begin n a c o) h.0 n answer h.1) [ inl g ↦ absurd (omega (arith, t.ended h.0 n answer g)) | inr g ↦ absurd cc ],
     )
 
@@ -63,8 +65,10 @@ tied_begin es n a c o t next =
       runs = λ id actor m. begin_runs es n a c o t next id actor (among_push (id, actor) (running es) (n, a) (subst (λ (l : List (ℕ × ℕ)). Among (id, actor) l) (running_push es e) m));
       listed = λ id actor r. subst (λ (l : List (ℕ × ℕ)). Among (id, actor) l) (sym (running_push es e))
           (elim (begins_before es e r.0.0 id r.0.1 r.0.2) [
-            | inl b ↦ among_before (id, actor) (running es) (n, a) (t.listed id actor ((r.0.0, r.0.1, b, r.0.3), λ answer h. r.1 answer (h.0, get_before es (e ∷ []) _ h.0 h.1)))
-            | inr s ↦ (let q = begin_pair n a id r.0.1.actor c r.0.1.call o r.0.1.opens s in among_last (id, actor) (running es) (n, a) (pair_same n a id r.0.1.actor actor q.0 q.1 r.0.3))
+            | inl b ↦ among_left (running es) ((n, a) ∷ []) (id, actor) (t.listed id actor ((r.0.0, r.0.1, b, r.0.3), λ answer h. r.1 answer (h.0, at_front es (e ∷ []) h.0 _ h.1)))
+            | inr s ↦
+                let q = begin_pair n a id r.0.1.actor c r.0.1.call o r.0.1.opens s in
+                among_right (running es) ((n, a) ∷ []) (id, actor) (inl (sym (pair_same n a id r.0.1.actor actor q.0 q.1 r.0.3)))
           ]);
       known = λ place id op b. elim (begins_before es e place id op b)
           [ inl g ↦ omega (arith, t.known place id op g, more) | inr s ↦ (let q = begin_pair n a id op.actor c op.call o op.opens s in omega (arith, q.0, next, more)) ];
@@ -92,18 +96,18 @@ tied_end es n a t x run =
     let n_known = t.known run.0.0 n run.0.1 run.0.2 in
     record {
       runs = λ id actor m.
-          (let f = among_filter test (id, actor) (running es) (subst (λ (l : List (ℕ × ℕ)). Among (id, actor) l) (running_push es e) m) in
+          (let f = among_filter test (running es) (id, actor) (subst (λ (l : List (ℕ × ℕ)). Among (id, actor) l) (running_push es e) m) in
           let r = t.runs id actor f.0 in (
-            (r.0.0, r.0.1, get_before es (e ∷ []) _ r.0.0 r.0.2, r.0.3),
+            (r.0.0, r.0.1, at_front es (e ∷ []) r.0.0 _ r.0.2, r.0.3),
             λ answer h. elim (ends_before es e h.0 id answer h.1) [ inl g ↦ r.1 answer (h.0, g) | inr s ↦ clash (eqb id n) (eq-eqb id n (sym (end_id n id a answer s))) f.1 ],
           ));
       listed = λ id actor r. subst (λ (l : List (ℕ × ℕ)). Among (id, actor) l) (sym (running_push es e))
-          (among_kept test (id, actor) (running es)
+          (filter_among test (running es) (id, actor)
           (elim (begins_before es e r.0.0 id r.0.1 r.0.2) [
-            | inl b ↦ t.listed id actor ((r.0.0, r.0.1, b, r.0.3), λ answer h. r.1 answer (h.0, get_before es (e ∷ []) _ h.0 h.1))
+            | inl b ↦ t.listed id actor ((r.0.0, r.0.1, b, r.0.3), λ answer h. r.1 answer (h.0, at_front es (e ∷ []) h.0 _ h.1))
             | inr s ↦ absurd cc
           ])
-          (apart (eqb id n) (λ q. r.1 a (length es, subst (λ (i : ℕ). EndsAt (es ++ e ∷ []) (length es) i a) (sym (eqb-true id n q)) (get_last es e [])))));
+          (apart (eqb id n) (λ q. r.1 a (length es, subst (λ (i : ℕ). EndsAt (es ++ e ∷ []) (length es) i a) (sym (eqb-true id n q)) (at_seam es [] e)))));
       known = λ place id op b. elim (begins_before es e place id op b) [ inl g ↦ omega (arith, t.known place id op g, same) | inr s ↦ absurd cc ];
       ended = λ place id answer b. elim (ends_before es e place id answer b)
           [ inl g ↦ omega (arith, t.ended place id answer g, same) | inr s ↦ (let q = end_id n id a answer s in omega (arith, q, n_known, same)) ];
@@ -145,4 +149,4 @@ pub well_nil : IsWellFormed []
 well_nil place event e = absurd cc
 
 pub well_next : (es : List Event) (e : Event) (more : List Event) → IsWellFormed (es ++ e ∷ more) → MayFollow es e
-well_next es e more well = subst (λ (l : List Event). MayFollow l e) (take-append_seam es (e ∷ more)) (well (length es) e (get_last es e more))
+well_next es e more well = subst (λ (l : List Event). MayFollow l e) (take-append_seam es (e ∷ more)) (well (length es) e (at_seam es more e))

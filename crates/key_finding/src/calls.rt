@@ -46,7 +46,7 @@ pub(crate) fn inserts(call: KeyCall) -> bool
 }
 
 /// The reply where the key is absent and stays so.
-pub fn absent_reply(call: KeyCall) -> KeyReply
+pub(crate) fn absent_reply(call: KeyCall) -> KeyReply
     ensures { (handle : ℕ) → reply_of result ≡ absent_reply (call_of handle call) }
 {
     match call {

@@ -2,7 +2,6 @@
 pub mod Pushes
 pub mod Turns
 pub mod Sound
-pub mod Places
 pub mod Told
 pub mod Runs
 pub mod Steps

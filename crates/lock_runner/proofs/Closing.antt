@@ -11,11 +11,11 @@ use Rattle.lock_runner.specs.declared.gate.Entry.{Entry}
 use Rattle.lock_runner.specs.declared.gate.View.{View}
 use Rattle.lock_runner.specs.Boards.{sweeps_in}
 use Rattle.lock_runner.specs.Plays.{crew_view, HaveFollowed}
-use Rattle.lock_runner.specs.Gate.{IsKept, EachStands, HasSeen, HasActor, AreAll, sweeps_of}
+use Rattle.lock_runner.specs.Gate.{IsKept, AreEntriesOf, HasSeen, HasActor, AreAll, sweeps_of}
 use Rattle.lock_runner.proofs.Lists.{one_counts}
 
 -- whose actor is here is its owner, and one of the seats'
-stands_of : (terms : Terms) (board : Taken) (owner : ℕ → ℕ) (seat actor : ℕ) (es : List Entry) → EachStands terms board owner seat es → HasActor actor es →
+stands_of : (terms : Terms) (board : Taken) (owner : ℕ → ℕ) (seat actor : ℕ) (es : List Entry) → AreEntriesOf terms board owner seat es → HasActor actor es →
     (owner actor ≡ seat) × (1 ≤ actor) × (actor ≤ terms.seats)
 stands_of terms board owner seat actor [] stand has = absurd has
 stands_of terms board owner seat actor (e ∷ es) stand (inl same) =
@@ -27,7 +27,7 @@ has_actor actor board [] saw = saw
 has_actor actor board (e ∷ es) (inl h) = inl h.0
 has_actor actor board (e ∷ es) (inr h) = inr (has_actor actor board es h)
 
-have_followed : (terms : Terms) (board : Taken) (owner : ℕ → ℕ) (seat : ℕ) (es : List Entry) → EachStands terms board owner seat es → HaveFollowed board es
+have_followed : (terms : Terms) (board : Taken) (owner : ℕ → ℕ) (seat : ℕ) (es : List Entry) → AreEntriesOf terms board owner seat es → HaveFollowed board es
 have_followed terms board owner seat [] stand = tt
 have_followed terms board owner seat (e ∷ es) stand = (stand.0.followed, have_followed terms board owner seat es stand.1)
 
@@ -38,11 +38,11 @@ pub record IsClosed (terms : Terms) (es : List Entry) (board : Taken) : Type 0 w
   pub sweeps : sum_by (λ e. e.sweeps) es ≡ sweeps_in board
 
 module _ (terms : Terms) (s : State Taken View) (kept : IsKept terms s) (id : ℕ) (es : List Entry) (at_seat : get_elem? s.views id ≡ some (crew_view es)) (all : AreAll terms.seats es) where
-  stand : EachStands terms kept.board kept.owner id es
+  stand : AreEntriesOf terms kept.board kept.owner id es
   stand = kept.entries id (crew_view es) at_seat
 
   -- no other seat has an actor
-  only_here : (seat actor : ℕ) (fs : List Entry) → EachStands terms kept.board kept.owner seat fs → HasActor actor fs → seat ≡ id
+  only_here : (seat actor : ℕ) (fs : List Entry) → AreEntriesOf terms kept.board kept.owner seat fs → HasActor actor fs → seat ≡ id
   only_here seat actor fs others has =
       let there = stands_of terms kept.board kept.owner seat actor fs others has in
       sym there.0 ∙ (stands_of terms kept.board kept.owner id actor es stand (all actor there.1 there.2)).0
@@ -58,7 +58,7 @@ module _ (terms : Terms) (s : State Taken View) (kept : IsKept terms s) (id : �
   is_free : kept.word ≡ 0
   is_free = elim (cases_eq kept.word 0) [ inl free ↦ free | inr busy ↦ absurd (still_busy busy) ]
 
-  empty : (seat : ℕ) (fs : List Entry) → (seat ≡ id → ⊥) → EachStands terms kept.board kept.owner seat fs → sum_by (λ (e : Entry). e.sweeps) fs ≡ 0
+  empty : (seat : ℕ) (fs : List Entry) → (seat ≡ id → ⊥) → AreEntriesOf terms kept.board kept.owner seat fs → sum_by (λ (e : Entry). e.sweeps) fs ≡ 0
   empty seat [] apart others = refl
   empty seat (f ∷ fs) apart others = absurd (apart (only_here seat f.actor (f ∷ fs) others (inl refl)))
 

@@ -11,7 +11,7 @@ use Rattle.lock_runner.specs.declared.gate.Terms.{Terms}
 use Rattle.lock_runner.specs.declared.gate.Entry.{Entry}
 use Rattle.lock_runner.specs.declared.gate.View.{View}
 use Rattle.lock_runner.specs.Plays.{entry, crew_view, gathered, has_sat}
-use Rattle.lock_runner.specs.Gate.{IsKept, Stands, EachStands, HasSeen, all_sweeps, sweeps_of, crew, first_view}
+use Rattle.lock_runner.specs.Gate.{IsKept, IsEntryOf, AreEntriesOf, HasSeen, all_sweeps, sweeps_of, crew, first_view}
 use Rattle.lock_runner.proofs.Lists.{sum_set}
 use Rattle.lock_runner.proofs.Boards.{has_followed_same}
 
@@ -28,17 +28,17 @@ at_push (z ∷ xs) x y (suc j) e = elim (at_push xs x y j e) [
 -- ---- other owners
 
 -- entries stand with other owners where these agree on their actors
-stand_with : (terms : Terms) (board : Taken) (owner other : ℕ → ℕ) (seat to : ℕ) (e : Entry) → Stands terms board owner seat e → other e.actor ≡ to → Stands terms board other to e
+stand_with : (terms : Terms) (board : Taken) (owner other : ℕ → ℕ) (seat to : ℕ) (e : Entry) → IsEntryOf terms board owner seat e → other e.actor ≡ to → IsEntryOf terms board other to e
 stand_with terms board owner other seat to e stands same = record { owned = same; low = stands.low; high = stands.high; followed = stands.followed }
 
-each_with : (terms : Terms) (board : Taken) (owner other : ℕ → ℕ) (seat to : ℕ) (es : List Entry) → EachStands terms board owner seat es →
-    ((actor : ℕ) → owner actor ≡ seat → other actor ≡ to) → EachStands terms board other to es
+each_with : (terms : Terms) (board : Taken) (owner other : ℕ → ℕ) (seat to : ℕ) (es : List Entry) → AreEntriesOf terms board owner seat es →
+    ((actor : ℕ) → owner actor ≡ seat → other actor ≡ to) → AreEntriesOf terms board other to es
 each_with terms board owner other seat to [] stand same = tt
 each_with terms board owner other seat to (e ∷ es) stand same =
     (stand_with terms board owner other seat to e stand.0 (same e.actor stand.0.owned), each_with terms board owner other seat to es stand.1 same)
 
-each_append : (terms : Terms) (board : Taken) (owner : ℕ → ℕ) (seat : ℕ) (es fs : List Entry) → EachStands terms board owner seat es → EachStands terms board owner seat fs →
-    EachStands terms board owner seat (es ++ fs)
+each_append : (terms : Terms) (board : Taken) (owner : ℕ → ℕ) (seat : ℕ) (es fs : List Entry) → AreEntriesOf terms board owner seat es → AreEntriesOf terms board owner seat fs →
+    AreEntriesOf terms board owner seat (es ++ fs)
 each_append terms board owner seat [] fs stand also = also
 each_append terms board owner seat (e ∷ es) fs stand also = (stand.0, each_append terms board owner seat es fs stand.1 also)
 
@@ -59,8 +59,8 @@ moved_here actor seat owner = rw (eq-eqb actor actor refl) refl
 moved_else : (actor seat : ℕ) (owner : ℕ → ℕ) (other : ℕ) → (other ≡ actor → ⊥) → moved_to actor seat owner other ≡ owner other
 moved_else actor seat owner other apart = rw (ne_eqb other actor apart) refl
 
-each_moved : (terms : Terms) (board : Taken) (owner : ℕ → ℕ) (seat actor to : ℕ) (es : List Entry) → EachStands terms board owner seat es → AreOthers actor es →
-    EachStands terms board (moved_to actor to owner) seat es
+each_moved : (terms : Terms) (board : Taken) (owner : ℕ → ℕ) (seat actor to : ℕ) (es : List Entry) → AreEntriesOf terms board owner seat es → AreOthers actor es →
+    AreEntriesOf terms board (moved_to actor to owner) seat es
 each_moved terms board owner seat actor to [] stand others = tt
 each_moved terms board owner seat actor to (e ∷ es) stand others = (
   stand_with terms board owner (moved_to actor to owner) seat seat e stand.0 (moved_else actor to owner e.actor others.0 ∙ stand.0.owned),
@@ -77,7 +77,7 @@ module _ (terms : Terms) (s : State Taken View) (kept : IsKept terms s) (views :
       (seat : ℕ) (view : View) → get_elem? views seat ≡ some view → (view.inside ≡ 0 → ⊥) → (view.inside ≡ kept.word) × HasSeen view.inside kept.board view.entries
 
   abbrev HaveEntries : Type 0
-  HaveEntries = (seat : ℕ) (view : View) → get_elem? views seat ≡ some view → EachStands terms kept.board owner seat view.entries
+  HaveEntries = (seat : ℕ) (view : View) → get_elem? views seat ≡ some view → AreEntriesOf terms kept.board owner seat view.entries
 
   kept_by : HasHolder → HaveSeen → HaveEntries → all_sweeps views ≡ all_sweeps s.views → IsKept terms (record { words = s.words; homes = s.homes; views = views })
   kept_by holder insides entries sweeps = record {
@@ -104,7 +104,7 @@ module _ (terms : Terms) (s : State Taken View) (kept : IsKept terms s) (id : �
   abbrev owners : ℕ → ℕ
   owners = moved_to e.actor (length parts) kept.owner
 
-  stand : EachStands terms kept.board kept.owner id (e ∷ es)
+  stand : AreEntriesOf terms kept.board kept.owner id (e ∷ es)
   stand = kept.entries id (crew_view (e ∷ es)) at_seat
 
   cut_holder : HasHolder terms s kept views owners
@@ -129,17 +129,17 @@ module _ (terms : Terms) (s : State Taken View) (kept : IsKept terms s) (id : �
   cut_else : (seat actor : ℕ) → (seat ≡ id → ⊥) → kept.owner actor ≡ seat → owners actor ≡ seat
   cut_else seat actor apart own = moved_else e.actor (length parts) kept.owner actor (λ same. apart (sym own ∙ ap kept.owner same ∙ stand.0.owned)) ∙ own
 
-  cut_entries_old : (seat : ℕ) (view : View) → get_elem? parts seat ≡ some view → EachStands terms kept.board owners seat view.entries
+  cut_entries_old : (seat : ℕ) (view : View) → get_elem? parts seat ≡ some view → AreEntriesOf terms kept.board owners seat view.entries
   cut_entries_old seat view at = elim (at_set s.views id seat (crew_view es) view at) [
-    | inl h ↦ subst (λ (v : View). EachStands terms kept.board owners seat v.entries) h.1
-        (subst (λ n. EachStands terms kept.board owners n es) (sym h.0) (each_moved terms kept.board kept.owner id e.actor (length parts) es stand.1 others))
+    | inl h ↦ subst (λ (v : View). AreEntriesOf terms kept.board owners seat v.entries) h.1
+        (subst (λ n. AreEntriesOf terms kept.board owners n es) (sym h.0) (each_moved terms kept.board kept.owner id e.actor (length parts) es stand.1 others))
     | inr h ↦ each_with terms kept.board kept.owner owners seat seat view.entries (kept.entries seat view h.1) (λ actor own. cut_else seat actor h.0 own)
   ]
 
   cut_entries : HaveEntries terms s kept views owners
   cut_entries seat view at = elim (at_push parts (crew_view (e ∷ [])) view seat at) [
     | inl h ↦ cut_entries_old seat view h.1
-    | inr h ↦ subst (λ (v : View). EachStands terms kept.board owners seat v.entries) h.1
+    | inr h ↦ subst (λ (v : View). AreEntriesOf terms kept.board owners seat v.entries) h.1
         (stand_with terms kept.board kept.owner owners id seat e stand.0 (moved_here e.actor (length parts) kept.owner ∙ sym h.0), tt)
   ]
 
@@ -212,16 +212,16 @@ module _ (terms : Terms) (s : State Taken View) (kept : IsKept terms s) (id othe
     ]
   ]
 
-  join_both : EachStands terms kept.board owned id (es ++ fs)
+  join_both : AreEntriesOf terms kept.board owned id (es ++ fs)
   join_both = each_append terms kept.board owned id es fs
       (each_with terms kept.board kept.owner owned id id es (kept.entries id (crew_view es) at_seat) (λ actor own. merged_else other id kept.owner actor id own (λ same. apart (sym same))))
       (each_with terms kept.board kept.owner owned other id fs (kept.entries other (crew_view fs) was_other) (λ actor own. merged_here other id kept.owner actor own))
 
   join_entries : HaveEntries terms s kept joined owned
   join_entries seat view at = elim (joined_at seat view at) [
-    | inl h ↦ subst (λ (v : View). EachStands terms kept.board owned seat v.entries) h.1 (subst (λ n. EachStands terms kept.board owned n (es ++ fs)) (sym h.0) join_both)
+    | inl h ↦ subst (λ (v : View). AreEntriesOf terms kept.board owned seat v.entries) h.1 (subst (λ n. AreEntriesOf terms kept.board owned n (es ++ fs)) (sym h.0) join_both)
     | inr g ↦ elim g [
-      | inl h ↦ subst (λ (v : View). EachStands terms kept.board owned seat v.entries) h.1 tt
+      | inl h ↦ subst (λ (v : View). AreEntriesOf terms kept.board owned seat v.entries) h.1 tt
       | inr h ↦ each_with terms kept.board kept.owner owned seat seat view.entries (kept.entries seat view h.2) (λ actor own. merged_else other id kept.owner actor seat own h.1)
     ]
   ]
@@ -242,7 +242,7 @@ join_allowed terms id other es fs s kept at_seat apart at_other = join_kept term
 
 -- ---- the start
 
-crew_stands : (terms : Terms) (n actor : ℕ) → 1 ≤ actor → actor + n ≤ terms.seats + 1 → EachStands terms (fresh terms.limits) (λ a. 0) 0 (crew (fresh terms.limits) actor n)
+crew_stands : (terms : Terms) (n actor : ℕ) → 1 ≤ actor → actor + n ≤ terms.seats + 1 → AreEntriesOf terms (fresh terms.limits) (λ a. 0) 0 (crew (fresh terms.limits) actor n)
 crew_stands terms zero actor low high = tt
 crew_stands terms (suc n) actor low high =
     (record { owned = refl; low = low; high = omega arith; followed = has_followed_same actor (fresh terms.limits) }, crew_stands terms n (actor + 1) (omega arith) (omega arith))
@@ -266,8 +266,8 @@ opening_kept terms = record {
   holder = λ busy. absurd (busy refl);
   insides = λ seat view at busy. absurd (busy (ap (λ (v : View). v.inside) (sym (alone (first_view terms) view seat at).1)));
   entries = λ seat view at. let here = alone (first_view terms) view seat at in
-      subst (λ (v : View). EachStands terms (fresh terms.limits) (λ a. 0) seat v.entries) here.1
-      (subst (λ n. EachStands terms (fresh terms.limits) (λ a. 0) n (first_view terms).entries) (sym here.0) (crew_stands terms terms.seats 1 (omega arith) (omega arith)));
+      subst (λ (v : View). AreEntriesOf terms (fresh terms.limits) (λ a. 0) seat v.entries) here.1
+      (subst (λ n. AreEntriesOf terms (fresh terms.limits) (λ a. 0) n (first_view terms).entries) (sym here.0) (crew_stands terms terms.seats 1 (omega arith) (omega arith)));
   sweeps = omega (arith, sum_by-cons sweeps_of (first_view terms) [], crew_sweeps (fresh terms.limits) terms.seats 1);
 }
 
@@ -282,34 +282,26 @@ module _ (terms : Terms) (s : State Taken View) (kept : IsKept terms s) where
   abbrev with_one : List View
   with_one = s.views ++ crew_view [] ∷ []
 
-  sit_holder : (kept.word ≡ 0 → ⊥) → (seat : ℕ) × (view : View) × (get_elem? with_one seat ≡ some view) × (view.inside ≡ kept.word)
+  sit_holder : HasHolder terms s kept with_one kept.owner
   sit_holder busy = let h = kept.holder busy in (h.0, h.1, at_longer s.views _ h.0 h.1 h.2, h.3)
 
-  sit_insides : (seat : ℕ) (view : View) → get_elem? with_one seat ≡ some view → (view.inside ≡ 0 → ⊥) → (view.inside ≡ kept.word) × HasSeen view.inside kept.board view.entries
+  sit_insides : HaveSeen terms s kept with_one kept.owner
   sit_insides seat view at busy = elim (at_push s.views (crew_view []) view seat at) [
     | inl h ↦ kept.insides seat view h.1 busy
     | inr h ↦ absurd (busy (ap (λ (v : View). v.inside) (sym h.1)))
   ]
 
-  sit_entries : (seat : ℕ) (view : View) → get_elem? with_one seat ≡ some view → EachStands terms kept.board kept.owner seat view.entries
+  sit_entries : HaveEntries terms s kept with_one kept.owner
   sit_entries seat view at = elim (at_push s.views (crew_view []) view seat at) [
     | inl h ↦ kept.entries seat view h.1
-    | inr h ↦ subst (λ (v : View). EachStands terms kept.board kept.owner seat v.entries) h.1 tt
+    | inr h ↦ subst (λ (v : View). AreEntriesOf terms kept.board kept.owner seat v.entries) h.1 tt
   ]
 
+  sit_sweeps : all_sweeps with_one ≡ all_sweeps s.views
+  sit_sweeps = omega (arith, sum_by-append sweeps_of s.views (crew_view [] ∷ []))
+
   sit_kept : IsKept terms (record { words = s.words; homes = s.homes; views = with_one })
-  sit_kept = record {
-    word = kept.word;
-    board = kept.board;
-    owner = kept.owner;
-    words = kept.words;
-    limits = kept.limits;
-    home = kept.home;
-    holder = sit_holder;
-    insides = sit_insides;
-    entries = sit_entries;
-    sweeps = omega (arith, sum_by-append sweeps_of s.views (crew_view [] ∷ []), kept.sweeps);
-  }
+  sit_kept = kept_by terms s kept with_one kept.owner sit_holder sit_insides sit_entries sit_sweeps
 
 pub sit_allowed : (terms : Terms) (slots : ℕ) → Enters (IsKept terms) slots 0 (λ n w. has_sat (step slots 0 0 0 none) (first_view terms, []) n (w, []))
 sit_allowed terms slots s kept size low = (crew_view [], sit_kept terms s kept, refl)

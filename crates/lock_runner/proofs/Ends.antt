@@ -13,7 +13,7 @@ use Rattle.step_machine.specs.Records.{IsRecordOf}
 use Rattle.step_machine.specs.Legality.{IsLegalRecord}
 use Rattle.lock_runner.specs.declared.finishing.Unfinished.TheVariants.{Memory}
 use Rattle.lock_runner.specs.ActorHistory.Answers.{AreAnswersOf, RunsNoOther}
-use Rattle.lock_runner.proofs.ActorHistory.Places.{get_push}
+use Rattle.history.proofs.Places.{at_cases}
 use Rattle.lock_runner.proofs.ActorHistory.Told.{answers_are_those_of_the_history}
 use Rattle.lock_runner.proofs.ActorHistory.Runs.{runs_no_other}
 use Rattle.lock_runner.specs.declared.gate.Terms.{Terms}
@@ -74,7 +74,7 @@ gathered_one me him after seats seat is his joined =
     ∙ ap (λ es. (crew_view es, [])) (sym (map-append (λ s. entry s.actor s.seen s.sweeps) seats (seat ∷ [])))
 
 pub told_one : (seats : List Seated) (seat : Seated) → AreTold seats → account_in seat.actor seat.seen ≡ record { answers = seat.answers; running = seat.running } → AreTold (seats ++ seat ∷ [])
-told_one seats seat before last k x e = elim (get_push seats seat k x e) [
+told_one seats seat before last k x e = elim (at_cases seats seat k x e) [
   | inl h ↦ before k x h
   | inr h ↦ subst (λ (s : Seated). account_in s.actor s.seen ≡ record { answers = s.answers; running = s.running }) h.1 last
 ]

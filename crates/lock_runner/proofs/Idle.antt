@@ -1,6 +1,6 @@
 -- Where a step of an actor's operation is denied since it runs none.
-use Rattle.std.specs.Prelude.{◌≡◌, ℕ, ◌≤◌, ◌↔◌, ◌&&◌, Bool, true, false, not, is_some, nat_lt, nat_le, MatchOption, [], ◌∷◌, Option, Some, None, Err}
-use Rattle.std.proofs.Common.{refl, sym, ap, ◌∙◌, lt-ltb, le-leb, arith}
+use Rattle.std.specs.Prelude.{◌≡◌, ℕ, ◌≤◌, ◌↔◌, Bool, true, false, not, is_some, MatchOption, [], ◌∷◌, Option, Some, None, Err}
+use Rattle.std.proofs.Common.{refl, sym, ap, ◌∙◌, arith}
 use Rattle.std.proofs.lemmas.Option.{none-some}
 use Rattle.ctrie_base.specs.declared.refusals.Refusal.{Refusal}
 use Rattle.ctrie_base.specs.declared.refusals.Refusal.TheVariants as refuse
@@ -16,6 +16,7 @@ use Rattle.lock_runner.specs.declared.accounts.Running.{Running}
 use Rattle.lock_runner.proofs.ActorHistory.Turns.{shown}
 use Rattle.lock_runner.proofs.ActorHistory.Sound.{told, sound_along}
 use Rattle.lock_runner.specs.Boards.{account_in}
+use Rattle.machine_model.proofs.Actors.{actor_by}
 use Rattle.machine_model.proofs.Along.{limits_along}
 use Rattle.lock_runner.proofs.ActorHistory.Steps.{none_told}
 
@@ -41,9 +42,6 @@ not_denied state actor operation refusal e = ok_err state (went state actor oper
 going : (state : State) (actor : ℕ) (refusal : Refusal) (o : Option Operation) → is_some o ≡ true → go_on state actor o ≡ Err refusal → ⊥
 going state actor refusal None runs e = grind (arith, runs)
 going state actor refusal (Some operation) runs e = not_denied state actor operation refusal e
-
-actor_by : (actor most : ℕ) → 1 ≤ actor → actor ≤ most → (nat_lt 0 actor && nat_le actor most) ≡ true
-actor_by actor most low high = grind (arith, low, high, lt-ltb, le-leb)
 
 -- where it runs nothing it is idle, else all steps are taken
 pub idle_denied : (state : State) (actor : ℕ) (refusal : Refusal) (a r s : Bool) → a ≡ true → is_some (operation_of state actor) ≡ r →

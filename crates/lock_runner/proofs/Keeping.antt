@@ -12,7 +12,7 @@ use Rattle.lock_runner.specs.declared.gate.Entry.{Entry}
 use Rattle.lock_runner.specs.declared.gate.View.{View}
 use Rattle.lock_runner.specs.Boards.{sweeps_in, HasWorked}
 use Rattle.lock_runner.specs.Plays.{entry, outside, inside, entered, has_left}
-use Rattle.lock_runner.specs.Gate.{IsKept, Stands, EachStands, HasSeen, all_sweeps, sweeps_of}
+use Rattle.lock_runner.specs.Gate.{IsKept, IsEntryOf, AreEntriesOf, HasSeen, all_sweeps, sweeps_of}
 use Rattle.lock_runner.proofs.Lists.{sum_set}
 use Rattle.lock_runner.proofs.Boards.{goes_on_by_one, has_followed_same, still_followed, sweeps_grow}
 
@@ -29,7 +29,7 @@ module _ (terms : Terms) (s : State Taken View) (kept : IsKept terms s) (id acto
   abbrev taken : View
   taken = inside actor kept.board sweeps
 
-  mine : Stands terms kept.board kept.owner id (entry actor seen sweeps)
+  mine : IsEntryOf terms kept.board kept.owner id (entry actor seen sweeps)
   mine = (kept.entries id (outside actor seen sweeps) at_seat).0
 
   abbrev after : State Taken View
@@ -42,13 +42,13 @@ module _ (terms : Terms) (s : State Taken View) (kept : IsKept terms s) (id acto
     | inr h ↦ absurd (busy ((kept.insides seat view h.1 busy).0 ∙ free))
   ]
 
-  take_mine : Stands terms kept.board kept.owner id (entry actor kept.board sweeps)
+  take_mine : IsEntryOf terms kept.board kept.owner id (entry actor kept.board sweeps)
   take_mine = record { owned = mine.owned; low = mine.low; high = mine.high; followed = has_followed_same actor kept.board }
 
-  take_entries : (seat : ℕ) (view : View) → get_elem? after.views seat ≡ some view → EachStands terms kept.board kept.owner seat view.entries
+  take_entries : (seat : ℕ) (view : View) → get_elem? after.views seat ≡ some view → AreEntriesOf terms kept.board kept.owner seat view.entries
   take_entries seat view e = elim (at_set s.views id seat taken view e) [
-    | inl h ↦ subst (λ (v : View). EachStands terms kept.board kept.owner seat v.entries) h.1
-        (subst (λ n. EachStands terms kept.board kept.owner n taken.entries) (sym h.0) (take_mine, tt))
+    | inl h ↦ subst (λ (v : View). AreEntriesOf terms kept.board kept.owner seat v.entries) h.1
+        (subst (λ n. AreEntriesOf terms kept.board kept.owner n taken.entries) (sym h.0) (take_mine, tt))
     | inr h ↦ kept.entries seat view h.1
   ]
 
@@ -120,14 +120,14 @@ one_slot (y ∷ []) x e = refl
 one_slot (y ∷ z ∷ xs) x e = absurd (omega (arith, e))
 
 -- whose actor has seen the board is its owner
-pub owner_of : (terms : Terms) (board : Taken) (owner : ℕ → ℕ) (seat actor : ℕ) (seen : Taken) (es : List Entry) → EachStands terms board owner seat es → HasSeen actor seen es → owner actor ≡ seat
+pub owner_of : (terms : Terms) (board : Taken) (owner : ℕ → ℕ) (seat actor : ℕ) (seen : Taken) (es : List Entry) → AreEntriesOf terms board owner seat es → HasSeen actor seen es → owner actor ≡ seat
 owner_of terms board owner seat actor seen [] stand saw = absurd saw
 owner_of terms board owner seat actor seen (e ∷ es) stand (inl h) = ap owner (sym h.0) ∙ stand.0.owned
 owner_of terms board owner seat actor seen (e ∷ es) stand (inr h) = owner_of terms board owner seat actor seen es stand.1 h
 
 -- another seat's actors are left alone
 each_still : (terms : Terms) (board now : Taken) (owner : ℕ → ℕ) (actor id seat : ℕ) → HasWorked actor board now → owner actor ≡ id → (seat ≡ id → ⊥) →
-    (es : List Entry) → EachStands terms board owner seat es → EachStands terms now owner seat es
+    (es : List Entry) → AreEntriesOf terms board owner seat es → AreEntriesOf terms now owner seat es
 each_still terms board now owner actor id seat worked own other [] stand = tt
 each_still terms board now owner actor id seat worked own other (e ∷ es) stand = (
   record {
@@ -150,7 +150,7 @@ module _ (terms : Terms) (s : State Taken View) (kept : IsKept terms s) (id acto
   abbrev later : State Taken View
   later = stepped s 0 0 id ((0, now) ∷ []) left gives
 
-  its : Stands terms kept.board kept.owner id (entry actor board sweeps)
+  its : IsEntryOf terms kept.board kept.owner id (entry actor board sweeps)
   its = (kept.entries id (inside actor board sweeps) at_seat).0
 
   saw : (actor ≡ kept.word) × HasSeen actor kept.board (entry actor board sweeps ∷ [])
@@ -171,13 +171,13 @@ module _ (terms : Terms) (s : State Taken View) (kept : IsKept terms s) (id acto
         absurd (h.0 (sym owns ∙ ap kept.owner (its_word.0 ∙ sym saw.0) ∙ its.owned))
   ]
 
-  leave_its : Stands terms now kept.owner id (entry actor now counted)
+  leave_its : IsEntryOf terms now kept.owner id (entry actor now counted)
   leave_its = record { owned = its.owned; low = its.low; high = its.high; followed = has_followed_same actor now }
 
-  leave_entries : (seat : ℕ) (view : View) → get_elem? later.views seat ≡ some view → EachStands terms now kept.owner seat view.entries
+  leave_entries : (seat : ℕ) (view : View) → get_elem? later.views seat ≡ some view → AreEntriesOf terms now kept.owner seat view.entries
   leave_entries seat view e = elim (at_set s.views id seat left view e) [
-    | inl h ↦ subst (λ (v : View). EachStands terms now kept.owner seat v.entries) h.1
-        (subst (λ n. EachStands terms now kept.owner n left.entries) (sym h.0) (leave_its, tt))
+    | inl h ↦ subst (λ (v : View). AreEntriesOf terms now kept.owner seat v.entries) h.1
+        (subst (λ n. AreEntriesOf terms now kept.owner n left.entries) (sym h.0) (leave_its, tt))
     | inr h ↦ each_still terms kept.board now kept.owner actor id seat works its.owned h.0 view.entries (kept.entries seat view h.1)
   ]
 

@@ -4,7 +4,7 @@ use Rattle.std.proofs.Common.{sym, ap, ◌∙◌, inl, inr, arith, length-append
 use Rattle.std.proofs.lemmas.Option.{same_Some}
 use Rattle.history.specs.declared.calls.Call.{Call}
 use Rattle.history.specs.declared.replies.Reply.{Reply}
-use Rattle.lock_runner.proofs.ActorHistory.Places.{get_last}
+use Rattle.history.proofs.Places.{at_seam}
 use Rattle.lock_runner.specs.declared.accounts.Answer.{Answer}
 use Rattle.lock_runner.specs.declared.accounts.Running.{Running}
 use Rattle.lock_runner.specs.declared.seats.Stop.{Stop}
@@ -76,5 +76,5 @@ pub last_lent : (all before : List Answer) (last found : Answer) (reply : Reply)
     last.reply ≡ reply
 last_lent all before last found reply is at same =
     let place : length all - 1 ≡ length before = omega (arith, ap (λ xs. length xs) is, length-append before (last ∷ [])) in
-    let there : slice_get all (length all - 1) ≡ Some last = ap (λ n. slice_get all n) place ∙ ap (λ xs. slice_get xs (length before)) is ∙ get_last before last in
+    let there : slice_get all (length all - 1) ≡ Some last = ap (λ n. slice_get all n) place ∙ ap (λ xs. slice_get xs (length before)) is ∙ at_seam before [] last in
     ap (λ a. a.reply) (same_Some _ _ (sym there ∙ at)) ∙ sym same

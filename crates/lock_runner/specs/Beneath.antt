@@ -3,3 +3,4 @@ pub use Rattle.step_machine as step_machine
 pub use Rattle.step_machine.specs.Beneath.slot_arena as slot_arena
 pub use Rattle.step_machine.specs.Beneath.proof_generations as proof_generations
 pub use Rattle.step_machine.specs.Beneath.proof_order as proof_order
+pub use Rattle.step_machine.specs.Beneath.proof_obstruction_free as proof_obstruction_free

@@ -27,15 +27,15 @@ abbrev pub all_sweeps : List View → ℕ
 all_sweeps views = sum_by sweeps_of views
 
 -- the actor is one of the seats' and belongs to this one, and since the seat left the board no step was the actor's
-pub record Stands (terms : Terms) (board : Taken) (owner : ℕ → ℕ) (seat : ℕ) (e : Entry) : Type 0 where
+pub record IsEntryOf (terms : Terms) (board : Taken) (owner : ℕ → ℕ) (seat : ℕ) (e : Entry) : Type 0 where
   pub owned : owner e.actor ≡ seat
   pub low : 1 ≤ e.actor
   pub high : e.actor ≤ terms.seats
   pub followed : HasFollowed e.actor e.seen board
 
-abbrev pub EachStands : Terms → Taken → (ℕ → ℕ) → ℕ → List Entry → Type 0
-EachStands terms board owner seat [] = Unit {0}
-EachStands terms board owner seat (e ∷ es) = Stands terms board owner seat e × EachStands terms board owner seat es
+abbrev pub AreEntriesOf : Terms → Taken → (ℕ → ℕ) → ℕ → List Entry → Type 0
+AreEntriesOf terms board owner seat [] = Unit {0}
+AreEntriesOf terms board owner seat (e ∷ es) = IsEntryOf terms board owner seat e × AreEntriesOf terms board owner seat es
 
 -- among these is the actor's, and it has seen this very board
 abbrev pub HasSeen : ℕ → Taken → List Entry → Type 0
@@ -55,7 +55,7 @@ pub record IsKept (terms : Terms) (s : State Taken View) : Type 0 where
   pub holder : (word ≡ 0 → ⊥) → (seat : ℕ) × (view : View) × (get_elem? s.views seat ≡ some view) × (view.inside ≡ word)
   pub insides : (seat : ℕ) (view : View) → get_elem? s.views seat ≡ some view → (view.inside ≡ 0 → ⊥) →
       (view.inside ≡ word) × HasSeen view.inside board view.entries
-  pub entries : (seat : ℕ) (view : View) → get_elem? s.views seat ≡ some view → EachStands terms board owner seat view.entries
+  pub entries : (seat : ℕ) (view : View) → get_elem? s.views seat ≡ some view → AreEntriesOf terms board owner seat view.entries
   pub sweeps : all_sweeps s.views ≡ sweeps_in board
 
 -- among these is the actor's

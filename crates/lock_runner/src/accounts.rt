@@ -16,7 +16,7 @@ pub struct Answer {
 
 /// An operation that runs.
 #[derive(Clone, Copy, Debug, PartialEq, Eq)]
-pub struct Running {
+pub(crate) struct Running {
     pub id: u64,
     pub call: Call,
     /// The place of its begin in the history.

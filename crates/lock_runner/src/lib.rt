@@ -17,7 +17,7 @@ mod runner;
 mod seats;
 mod stepping;
 
-pub use accounts::{Answer, Running};
+pub use accounts::Answer;
 pub use between::{Between, Nothing};
 pub use finishing::Unfinished;
 pub use laws::{
@@ -27,4 +27,6 @@ pub use laws::{
 pub use naming::{Name, NamedRunner, NamedSeat};
 pub use runner::Runner;
 pub use seats::{Seat, Stop};
-pub use step_machine::{GO_LIMIT, Limits, Machine, Outcome, Record, Step, run};
+pub use step_machine::{
+    GO_LIMIT, Limits, Machine, Outcome, Record, Step, alone_it_ends, closes_end, run,
+};

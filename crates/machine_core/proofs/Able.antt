@@ -15,17 +15,17 @@ use Rattle.machine_model.specs.States.{State}
 use Rattle.machine_core.specs.Beneath.proof_memory.specs.Wants.{action_wants, line_wants}
 use Rattle.machine_core.specs.Beneath.gcas.specs.declared.read.ReadAt.{ReadAt}
 use Rattle.machine_core.specs.Beneath.gcas.specs.Reads.{line_of}
-use Rattle.trie_parts.specs.Steps.{IsAskingLine}
-use Rattle.trie_parts.specs.Tasks.{call_of as key_call}
-use Rattle.trie_parts.specs.declared.calls.KeyCall.{KeyCall}
-use Rattle.machine_core.specs.Beneath.rdcss_root.specs.Holds.{IsReady}
+use Rattle.machine_core.specs.Beneath.trie_parts.specs.Steps.{IsAskingLine}
+use Rattle.machine_core.specs.Beneath.trie_parts.specs.Tasks.{call_of as key_call}
+use Rattle.machine_core.specs.Beneath.trie_parts.specs.declared.calls.KeyCall.{KeyCall}
+use Rattle.machine_core.specs.Beneath.rdcss_root.specs.Holding.{IsReady}
 use Rattle.machine_core.specs.Beneath.rdcss_root.specs.Programs.{CanAbortOn}
 use Rattle.machine_core.specs.Beneath.rdcss_root.specs.Tables.{Table}
 use Rattle.machine_core.specs.Beneath.root_asking.specs.declared.asking.Asking.{Asking}
 use Rattle.machine_core.specs.Beneath.root_asking.specs.declared.asking.Asking.TheVariants.{Unasked, Met, Told}
 use Rattle.machine_core.specs.Beneath.root_asking.specs.Asked.{abort_of}
 use Rattle.machine_core.specs.Beneath.root_asking.specs.Inside.{with_read}
-use Rattle.machine_core.specs.Beneath.root_asking.proofs.Holding.{each_holds}
+use Rattle.machine_core.specs.Beneath.root_asking.proofs.Embedding.{each_embeds}
 use Rattle.machine_core.specs.Beneath.operate.specs.Steps.{operation_for as as_key}
 use Rattle.machine_core.specs.Beneath.snapshot.specs.Copies.{IsReadyBeside}
 use Rattle.running.specs.declared.job.Program.{Program}
@@ -40,14 +40,14 @@ use Rattle.running.proofs.Lasting.{tells}
 use Rattle.machine_core.specs.declared.parts.UnderWay.{UnderWay}
 use Rattle.machine_core.specs.Seen.{operation_at}
 use Rattle.machine_core.proofs.Claims.{Lives, read_claims, root_live}
-use Rattle.machine_core.proofs.Conditions.{Finds, Stands, can_key, can_snap, can_walk, met, told}
+use Rattle.machine_core.proofs.Conditions.{Finds, IsLineOf, can_key, can_snap, can_walk, met, told}
 
 -- ---- the line of a program that runs
 
 -- it is the program's, with its READ on the line on which that stands
 record Within (p : Programs) (program : Program) (l : Line) : Type 0 where
   here : ReadLine
-  stands : Stands p.key.work.swap.read here
+  stands : IsLineOf p.key.work.swap.read here
   is : l ≡ with_read here (program_line p None program)
 
 within : (p : Programs) (program : Program) (asking : Asking) → IsWaiting asking (program_line p None program) → Within p program (asking_line p program Runs asking)
@@ -111,7 +111,7 @@ module _ (state : State) (memory : Memory) (table : Table) (generation : ℕ) (p
       let l : Line = program_line p None program in
       let h : Asks p.key.work.swap.read l = asks p program asking in
       let acts = ap (line_action (There state memory table generation p) (Own table p u program)) (asked p program (Met offer) h)
-      ∙ (each_holds l _ h.reads).acts (There state memory table generation p) (Own table p u program) (read.Abort h.main h.previous offer) in (
+      ∙ (each_embeds l _ h.reads).embedded.acts (There state memory table generation p) (Own table p u program) (read.Abort h.main h.previous offer) in (
         root_live memory.heap offer (subst (λ (a : Action). Lives memory.heap (action_wants a)) acts finds.does),
         record { held = ready.held; room = λ r. omega (arith, ready.room r) },
       )

@@ -1,5 +1,5 @@
 -- In a run, an operation's programs can take its next step.
-use Rattle.std.proofs.Common.{arith, ◌≡◌, ℕ, zero, suc, ◌-◌, List, Option, Some, refl, sym, ap, subst, ◌∙◌}
+use Rattle.std.proofs.Common.{arith, ◌≡◌, ℕ, ◌-◌, List, Option, Some, refl, sym, ap, subst, ◌∙◌}
 use Rattle.std.specs.Prelude.{option_and_then, slice_get, slice_set, IfOk, OnErr, Result, Ok, Err}
 use Rattle.std.proofs.lemmas.Option.{same_Some}
 use Rattle.ctrie_base.specs.declared.hashes.HashKind.{HashKind}
@@ -31,8 +31,7 @@ use Rattle.machine_core.proofs.Able.{can_step}
 use Rattle.machine_core.proofs.Bounded.{bounded}
 use Rattle.machine_core.proofs.Claims.{Lives}
 use Rattle.machine_core.proofs.Held.{claims, few_held}
-use Rattle.machine_core.proofs.Kept.{Seat, kept_alike, operation_there, seat_of}
-use Rattle.machine_core.proofs.Mapped.{found_mapped}
+use Rattle.machine_core.proofs.Kept.{Seat, kept_alike, operation_there, seat_of, found_operation}
 use Rattle.machine_core.proofs.Tied.{operation_stands, private_held}
 
 -- what a running operation's line takes its references for
@@ -138,11 +137,6 @@ unchanged before after limits handles journal begun_are commits same kept =
     })
     kept
 
--- what an actor runs
-pub runs_there : (parts : Parts) (n : ℕ) → operation_of (seen parts) n ≡ option_and_then (operation_seen parts.table) (actor_of parts n)
-runs_there parts zero = refl
-runs_there parts (suc n) = found_mapped (operation_seen parts.table) parts.actors.items n
-
 -- what the owner of this number runs
 pub owner_runs : (parts : Parts) (n owner : ℕ) (found : Option Actor) → actor_of parts n ≡ found → n ≡ owner → operation_of (seen parts) owner ≡ option_and_then (operation_seen parts.table) found
-owner_runs parts n owner found at is = ap (operation_of (seen parts)) (sym is) ∙ runs_there parts n ∙ ap (option_and_then (operation_seen parts.table)) at
+owner_runs parts n owner found at is = ap (operation_of (seen parts)) (sym is) ∙ found_operation parts n ∙ ap (option_and_then (operation_seen parts.table)) at

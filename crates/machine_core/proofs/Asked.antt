@@ -30,7 +30,7 @@ use Rattle.machine_core.specs.Beneath.proof_memory.proofs.Holding.Lives.{in_use_
 use Rattle.machine_core.specs.Beneath.proof_memory.proofs.Safety.AtEachTime.{safe_along}
 use Rattle.machine_core.specs.Beneath.proof_memory.proofs.Safety.AtTimes.{action_finds}
 use Rattle.machine_core.specs.Beneath.proof_generations.proofs.Roots.OfLists.{below_along, standing_below}
-use Rattle.proof_records.specs.Beneath.proof_order.proofs.History.PlacesPast.{places_past}
+use Rattle.machine_core.specs.Beneath.proof_order.proofs.History.PlacesPast.{places_past}
 use Rattle.machine_core.specs.Beneath.snapshot.specs.Tasks.{drawn, drawn_by}
 use Rattle.running.specs.Taking.{Taken}
 use Rattle.running.proofs.Fresh.{SwapsFresh, swaps_fresh}

@@ -1,5 +1,5 @@
 -- What a begin leaves: the state is the definition's, and all that is kept is kept.
-use Rattle.std.proofs.Common.{◌≡◌, ℕ, zero, suc, ◌+◌, ◌-◌, Bool, false, List, [], ◌∷◌, ◌++◌, length, set, get_or, Option, Some, None, refl, sym, ap, ◌∙◌, subst, arith, inl, inr}
+use Rattle.std.proofs.Common.{◌≡◌, ℕ, ◌+◌, ◌-◌, Bool, false, List, [], ◌∷◌, ◌++◌, length, set, get_or, Option, Some, None, refl, sym, ap, ◌∙◌, subst, arith, inl, inr}
 use Rattle.std.specs.Prelude.{option_and_then, option_map, unwrap_or, if◌then◌else◌, ◌⊎◌}
 use Rattle.std.proofs.Common.{Global, Vec}
 use Rattle.std.proofs.lemmas.List.{get_or-set_other, length-set}
@@ -28,7 +28,7 @@ use Rattle.machine_model.specs.Machine.{access_of, begin_denial, handle_closed, 
 use Rattle.machine_model.specs.Moves.{begun_operation}
 use Rattle.machine_model.specs.Operations.{first_line}
 use Rattle.machine_model.specs.States.{State, operation_of, root_at, with_operation, word_of}
-use Rattle.machine_core.specs.Beneath.rdcss_root.specs.Holds.{Moves, root_refs}
+use Rattle.machine_core.specs.Beneath.rdcss_root.specs.Holding.{Moves, root_refs}
 use Rattle.machine_core.specs.Beneath.rdcss_root.specs.Tables.{Table, word_in}
 use Rattle.running.specs.Places.{IsSound, call_for}
 use Rattle.machine_core.specs.declared.parts.Parts.{Parts}
@@ -48,13 +48,9 @@ use Rattle.machine_core.proofs.Marking.{remarked}
 use Rattle.machine_core.proofs.Reserved.{known_begun}
 use Rattle.machine_core.proofs.Steps.{begin_leads}
 use Rattle.machine_core.proofs.Tied.{begun_tied}
+use Rattle.machine_core.proofs.Stepped.{unset}
 
 -- ---- marks
-
-unmarked_here : (marks : List Bool) (i : ℕ) → get_or (set marks i false) i false ≡ false
-unmarked_here [] i = refl
-unmarked_here (m ∷ marks) zero = refl
-unmarked_here (m ∷ marks) (suc i) = unmarked_here marks i
 
 -- an operation by its fields
 by_fields : {i j : ℕ} → i ≡ j → {c d : Call} → c ≡ d → {a b : Access} → a ≡ b → {e f : ℕ} → e ≡ f → {p q : List Ref} → p ≡ q → {o w : Option ℕ} → o ≡ w → {n m : ℕ} → n ≡ m →
@@ -120,7 +116,7 @@ module _ (before middle after : Parts) (actor : ℕ) (call : Call) (u : UnderWay
       let private : a.seated.is.programs.key.work.private ≡ [] = d.private ∙ (h.seats (actor - 1) a.seated.was a.seated.found).idle idle in
       let opens = ap (λ j. j.opens) job in
       let mark : get_or after.table.marks u.job.actor false ≡ false =
-      ap (λ (t : Table). get_or t.marks u.job.actor false) a.table ∙ ap (λ j. get_or (set middle.table.marks actor false) j.actor false) job ∙ unmarked_here middle.table.marks actor in
+      ap (λ (t : Table). get_or t.marks u.job.actor false) a.table ∙ ap (λ j. get_or (set middle.table.marks actor false) j.actor false) job ∙ unset middle.table.marks actor in
       let line = d.line (handle_of call) ∙ ap first_line a.new.call_is in
       by_fields id called d.access_is a.new.epoch private opens d.attempt mark d.generation a.new.moments.0 a.new.moments.1 line
 

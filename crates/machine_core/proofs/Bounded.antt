@@ -4,38 +4,40 @@ use Rattle.std.proofs.lemmas.List.Sums.{sum_by-append}
 use Rattle.ctrie_base.specs.declared.refusals.Refusal.{Refusal}
 use Rattle.history.specs.declared.calls.Call.{Call}
 use Rattle.history.specs.declared.events.Event.{Event}
-use Rattle.history.specs.declared.events.Event.TheVariants.{Begin, End}
+use Rattle.history.specs.declared.events.Event.TheVariants.{End}
 use Rattle.history.specs.Histories.{is_begin, begun}
 use Rattle.slot_arena.specs.declared.refs.Ref.{Ref}
 use Rattle.slot_arena.specs.declared.nodes.Node.{Node}
-use Rattle.slot_arena.specs.declared.nodes.Prev.{Prev}
 use Rattle.machine_model.specs.declared.actions.Action.{Action}
 use Rattle.machine_model.specs.declared.actions.Action.TheVariants as act
 use Rattle.machine_model.specs.declared.operations.Operation.{Operation}
-use Rattle.machine_model.specs.declared.roots.Descriptor.{Descriptor}
 use Rattle.machine_model.specs.declared.steps.Limits.{Limits}
 use Rattle.machine_model.specs.declared.steps.Outcome.{Outcome}
 use Rattle.machine_model.specs.declared.steps.Step.{Step}
 use Rattle.machine_model.specs.declared.steps.Step.TheVariants as step
 use Rattle.machine_model.specs.Calls.{handle_of}
-use Rattle.slot_arena.specs.Heaps.{Heap, empty_branch, with_main, with_prev, taken, take_from, freed}
+use Rattle.slot_arena.specs.Heaps.{Heap, empty_branch, with_main, taken, take_from, freed}
 use Rattle.slot_arena.specs.Refs.{ref_to}
 use Rattle.slot_arena.specs.declared.nodes.Node.TheVariants.{Indirection}
 use Rattle.machine_model.specs.States.{State, empty_heap, first_state, step_limit}
 use Rattle.machine_model.specs.Operations.{action_of}
 use Rattle.slot_arena.specs.declared.nodes.Prev.TheVariants as prev
 use Rattle.epochs.specs.Sweeping.{Reclaimer, ripe, sweep_by}
-use Rattle.machine_model.specs.Acting.{acted, aborted, offered, completed, new_root_taken, attempt_after, operation_after, gone}
+use Rattle.machine_model.specs.Acting.{acted, new_root_taken, attempt_after, operation_after}
 use Rattle.machine_model.specs.Machine.{next, next_state, state_after, is_spent, begin_denial, go_denial, with_begin, pin_of, reclaimer_of, run, run_from, AreLimits}
 use Rattle.machine_model.proofs.Along.{along, run_push, kept_by_moves}
 use Rattle.machine_model.proofs.Actors.{mark_one, mark_only, marks_by, marks_in}
 use Rattle.machine_model.proofs.EachOperation.{OfEach, of_each_along, of_running}
-use Rattle.machine_model.proofs.Frames.{acted_framed, limits_kept, steps_counted}
+use Rattle.machine_model.proofs.Frames.{acted_framed, begin_events, limits_kept, steps_counted}
 use Rattle.machine_model.proofs.HeapMoves.{HeapMoves, Stays, Takes, Publishes, Restores, Commit, Fail, Frees, heap_moves}
 use Rattle.machine_model.proofs.Moves.{moved}
 use Rattle.machine_model.specs.Moves.{Begins, Goes, Ends, Sweeps}
 use Rattle.machine_model.specs.Moves.{Moves, begun_operation}
 use Rattle.machine_model.proofs.Slots.{sound_along}
+use Rattle.machine_core.specs.Beneath.proof_memory.proofs.Heap.Effects.{births_prev}
+use Rattle.machine_core.specs.Beneath.proof_memory.proofs.Heap.Under.{main_births}
+use Rattle.machine_core.specs.Beneath.proof_memory.proofs.Safety.Steps.{gone_epoch}
+use Rattle.machine_core.specs.Beneath.proof_generations.proofs.Counter.Drawn.{aborted_generations, completed_generations, offered_generations}
 use Rattle.machine_core.specs.Bounds.{IsOfRun, IsBounded, Applies}
 
 -- ---- steps
@@ -61,15 +63,6 @@ steps_after state s o after m = omega (arith, leb-false, unspent state s o after
 
 -- ---- births
 
--- a write draws none
-main_births : (heap : Heap) (r m : Ref) → (with_main heap r m).births ≡ heap.births
-unfolding with_main
-main_births heap r m = refl
-
-prev_births : (heap : Heap) (r : Ref) (p : Prev) → (with_prev heap r p).births ≡ heap.births
-unfolding with_prev
-prev_births heap r p = refl
-
 freed_births : (heap : Heap) (r : Ref) → (freed heap r).births ≡ heap.births
 unfolding freed
 freed_births heap r = refl
@@ -90,22 +83,13 @@ taken_most before after node is = omega (arith, ap (λ (h : Heap). h.births) is,
 heap_births : (heap : Heap) (due : Option Ref) (after : Heap) → HeapMoves heap due after → after.births ≤ heap.births + 1
 heap_births heap due after Stays = omega arith
 heap_births heap due after (Takes node) = taken_births heap node
-heap_births heap due after (Publishes indirection replaced fresh e) = omega (arith, prev_births (with_main heap indirection fresh) fresh (prev.Pending replaced), main_births heap indirection fresh)
+heap_births heap due after (Publishes indirection replaced fresh e) = omega (arith, births_prev (with_main heap indirection fresh) fresh (prev.Pending replaced), main_births heap indirection fresh)
 heap_births heap due after (Restores indirection main previous e) = omega (arith, main_births heap indirection previous)
-heap_births heap due after (Commit indirection main previous told e) = omega (arith, prev_births heap main prev.None)
-heap_births heap due after (Fail indirection main previous told e) = omega (arith, prev_births heap main (prev.Failed previous))
+heap_births heap due after (Commit indirection main previous told e) = omega (arith, births_prev heap main prev.None)
+heap_births heap due after (Fail indirection main previous told e) = omega (arith, births_prev heap main (prev.Failed previous))
 heap_births heap due after (Frees r e) = omega (arith, freed_births heap r)
 
 -- ---- generations
-
-aborted_generations : (state : State) (handle : ℕ) (offer : Descriptor) → (aborted state handle offer).generations ≡ state.generations
-aborted_generations state handle offer = grind arith
-
-offered_generations : (state : State) (handle : ℕ) (offer : Descriptor) → (offered state handle offer).generations ≡ state.generations
-offered_generations state handle offer = grind arith
-
-completed_generations : (state : State) (handle : ℕ) (offer : Descriptor) (main : Ref) → (completed state handle offer main).generations ≡ state.generations
-completed_generations state handle offer main = grind arith
 
 root_taken_generations : (state : State) (main : Ref) (made : Option Ref) → (new_root_taken state main made).generations ≤ state.generations + 1
 root_taken_generations state main None = omega arith
@@ -136,9 +120,6 @@ begin_epoch state actor call operation = grind arith
 sweep_epoch : (pins : List (Option ℕ)) (r : Reclaimer) (due : Option Ref) → (sweep_by pins r due).1.epoch ≤ r.epoch + 1
 sweep_epoch pins r due = grind arith
 
-gone_epoch : (state : State) (actor : ℕ) (operation : Operation) → (gone state actor operation).epoch ≡ state.epoch
-gone_epoch state actor operation = (acted_framed _ (handle_of operation.call) (action_of state operation)).epoch
-
 epoch_after : (state : State) (s : Step) (o : Outcome) (after : State) → Moves state s o after → after.epoch ≤ state.epoch + 1
 epoch_after state s o after (Begins {actor} {call} d) = omega (arith, begin_epoch state actor call (begun_operation state call))
 epoch_after state s o after (Goes {actor} {operation} d is a g) = omega (arith, gone_epoch state actor operation)
@@ -162,10 +143,6 @@ pub none_begins : (s : Step) → ((actor : ℕ) (call : Call) → s ≡ step.Beg
 none_begins (step.Begin actor call) h = absurd (h actor call refl)
 none_begins (step.Go actor) h = refl
 none_begins step.Sweep h = refl
-
-begin_events : (state : State) (actor : ℕ) (call : Call) (operation : Operation) →
-    (with_begin state actor call operation).events ≡ state.events ++ Begin operation.id actor call operation.opens ∷ []
-begin_events state actor call operation = grind arith
 
 -- a begin is one more, and nothing else is
 pub begins_after : (state : State) (s : Step) (o : Outcome) (after : State) → Moves state s o after → begun after.events ≡ begun state.events + one_if_begin s

@@ -39,7 +39,7 @@ Lives heap claims = AllHold (IsLive heap) heap claims
 
 -- ---- what is live
 
-one_live : (heap : Heap) (r : Ref) → IsLive heap r → AreLive heap (r ∷ [])
+pub one_live : (heap : Heap) (r : Ref) → IsLive heap r → AreLive heap (r ∷ [])
 one_live heap r h = All-cons (IsLive heap) r [] h (All-nil (IsLive heap))
 
 met_live : (heap : Heap) (wanted : Wanted) (rs : List Ref) → All (Meets (IsLive heap) heap wanted) rs → AreLive heap rs

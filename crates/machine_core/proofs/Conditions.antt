@@ -30,13 +30,13 @@ use Rattle.machine_core.specs.Beneath.operate.specs.Beneath.gcas.specs.declared.
 use Rattle.machine_core.specs.Beneath.operate.specs.Beneath.gcas.specs.declared.swap.SwapAt.TheVariants as swap
 use Rattle.machine_core.specs.Beneath.operate.specs.Beneath.gcas.specs.Reads.{CanReadAt, CanReadOn, line_at, line_of}
 use Rattle.machine_core.specs.Beneath.operate.specs.Beneath.gcas.specs.Swaps.{CanSwapAt, swap_line_at}
-use Rattle.trie_parts.specs.Here.{at_heap}
-use Rattle.trie_parts.specs.Steps.{CanMake}
+use Rattle.machine_core.specs.Beneath.trie_parts.specs.Here.{at_heap}
+use Rattle.machine_core.specs.Beneath.trie_parts.specs.Steps.{CanMake}
 use Rattle.machine_core.specs.Beneath.rdcss_root.specs.declared.complete.CompleteAt.{CompleteAt}
 use Rattle.machine_core.specs.Beneath.rdcss_root.specs.declared.complete.CompleteAt.TheVariants as complete
 use Rattle.machine_core.specs.Beneath.rdcss_root.specs.declared.root.ReadRoot.{ReadRoot}
 use Rattle.machine_core.specs.Beneath.rdcss_root.specs.declared.root.ReadRoot.TheVariants as rooting
-use Rattle.machine_core.specs.Beneath.rdcss_root.specs.Holds.{IsReady}
+use Rattle.machine_core.specs.Beneath.rdcss_root.specs.Holding.{IsReady}
 use Rattle.machine_core.specs.Beneath.rdcss_root.specs.Programs.{CanCompleteAt, CanRootOn, ReadsItsRoot, ReadsOffered, complete_line_at, root_of}
 use Rattle.machine_core.specs.Beneath.rdcss_root.specs.Tables.{Table}
 use Rattle.machine_core.specs.Beneath.root_asking.specs.Inside.{completing_at, rooting_at, swapping_at, with_read}
@@ -75,9 +75,9 @@ use Rattle.machine_core.proofs.Claims.{Lives, node_live, offer_live}
 -- ---- a READ
 
 -- the definition's line of this READ, whatever it was told, or while it takes an offer back
-pub data Stands (r : Read) : ReadLine → Type 0 where
-  told : (t : Option ℕ) → Stands r (line_of r t)
-  met : (main previous : Ref) (offer : Descriptor) → r.at ≡ at.Decide main previous → Stands r (read.Abort main previous offer)
+pub data IsLineOf (r : Read) : ReadLine → Type 0 where
+  told : (t : Option ℕ) → IsLineOf r (line_of r t)
+  met : (main previous : Ref) (offer : Descriptor) → r.at ≡ at.Decide main previous → IsLineOf r (read.Abort main previous offer)
 
 reads_at : (heap : Heap) (indirection : Ref) (access : Access) (t : Option ℕ) (place : ReadAt) → Lives heap (read_wants indirection (line_at access t place)) → CanReadAt heap indirection place
 reads_at heap indirection access t at.Main h = tt
@@ -88,7 +88,7 @@ reads_at heap indirection Writable (Some generation) (at.Decide main previous) h
 reads_at heap indirection access t (at.Restore main previous) h = (safe_of h.0, meets_of h.0, safe_of h.1.1.0)
 reads_at heap indirection access t (at.Given main) h = tt
 
-can_read : (heap : Heap) (r : Read) (here : ReadLine) → Stands r here → Lives heap (read_wants r.indirection here) → CanReadOn heap r
+can_read : (heap : Heap) (r : Read) (here : ReadLine) → IsLineOf r here → Lives heap (read_wants r.indirection here) → CanReadOn heap r
 can_read heap r here (told t) h = reads_at heap r.indirection r.access t r.at h
 can_read heap r here (met main previous offer is) h = subst (CanReadAt heap r.indirection) (sym is) (safe_of h.1.0, meets_of h.1.0, safe_of h.1.1.0)
 
@@ -104,7 +104,7 @@ module _ (memory : Memory) (table : Table) (state : State) (operation : Operatio
   made : (l : Line) (node : Node) → Finds memory.heap state operation l → line_action state operation l ≡ act.Make node → CanMake memory.heap node
   made l node finds is = (finds.births, node_live memory.heap node (subst (λ (a : Action). Lives memory.heap (action_wants a)) is finds.does).1)
 
-  module _ (r : Read) (here : ReadLine) (stands : Stands r here) where
+  module _ (r : Read) (here : ReadLine) (stands : IsLineOf r here) where
     -- the READ is the one of this line
     own_read : (l : Line) → Finds memory.heap state operation l → read_of l ≡ Some (record { indirection = r.indirection; line = here }) → CanReadOn memory.heap r
     own_read l finds is = can_read memory.heap r here stands (finds.reads (record { indirection = r.indirection; line = here }) is)
@@ -166,7 +166,7 @@ module _ (memory : Memory) (table : Table) (state : State) (operation : Operatio
 
 -- ---- a call on one key
 
-module _ (memory : Memory) (table : Table) (other : State) (beside : Operation) (ready : IsReady memory table.roots 8) (op : KeyOp) (here : ReadLine) (stands : Stands op.work.swap.read here) where
+module _ (memory : Memory) (table : Table) (other : State) (beside : Operation) (ready : IsReady memory table.roots 8) (op : KeyOp) (here : ReadLine) (stands : IsLineOf op.work.swap.read here) where
   can_change : (main : Ref) (place : ChangeAt) →
       Finds memory.heap (at_heap other memory.heap op.task.hashes) (operation_for op beside) (with_read here (change_at op.path op.work.swap None main place)) →
       CanChangeAt memory.heap op.task op.path op.work.swap main place

@@ -1,5 +1,6 @@
 -- What the settling of a heap takes, by what leaves limbo and comes into it.
-use Rattle.std.proofs.Common.{◌≡◌, ℕ, ◌+◌, ◌*◌, ◌<◌, ◌≤◌, ◌==◌, ◌&&◌, not, nat_lt, Bool, true, false, cond, List, [], ◌∷◌, ◌++◌, drop, length, filter, zero, suc, refl, sym, ap, ◌∙◌, inl, inr, arith, eqb-true, ltb-true}
+use Rattle.std.proofs.Common.{◌≡◌, ℕ, ◌+◌, ◌*◌, ◌<◌, ◌≤◌, ◌==◌, ◌&&◌, not, nat_lt, Bool, true, false, cond, List, [], ◌∷◌, ◌++◌, drop, length, filter, zero, suc}
+use Rattle.std.proofs.Common.{refl, sym, ap, ◌∙◌, inl, inr, arith, eqb-true, ltb-true}
 use Rattle.std.proofs.lemmas.Bool.{lt-ltb, or_cases, false≢true}
 use Rattle.std.proofs.lemmas.List.{length-append}
 use Rattle.std.proofs.lemmas.List.Elements.{filter-append}
@@ -56,7 +57,8 @@ in_zeroed epoch rs r = in_limbo epoch (record { oldest = []; middle = []; presen
 all_zeroed : (q : Ref → Bool) (epoch : ℕ) (rs : List Ref) → ((r : Ref) → 0 < times r rs → q r ≡ true) → filter (λ z. q z.at) (zeroed_at epoch rs) ≡ zeroed_at epoch rs
 all_zeroed q epoch [] all = refl
 all_zeroed q epoch (r ∷ rs) all =
-    ap (λ b. cond b ((record { at = r; epoch = epoch }) ∷ filter (λ z. q z.at) (zeroed_at epoch rs)) (filter (λ z. q z.at) (zeroed_at epoch rs))) (all r (omega (arith, times-cons r r rs, once_same r)))
+    ap (λ b. cond b ((record { at = r; epoch = epoch }) ∷ filter (λ z. q z.at) (zeroed_at epoch rs)) (filter (λ z. q z.at) (zeroed_at epoch rs)))
+    (all r (omega (arith, times-cons r r rs, once_same r)))
     ∙ ap (λ zs. (record { at = r; epoch = epoch }) ∷ zs) (all_zeroed q epoch rs (λ p some. all p (omega (arith, some, times-cons p r rs))))
 
 module _ (heap : Heap) (outside : List Ref) (epoch : ℕ) (limbo : List Zeroed) where

@@ -19,7 +19,7 @@ use Rattle.machine_model.specs.Grown.{standing}
 use Rattle.machine_model.specs.Machine.{next, is_spent, pin_of, reclaimer_of, swept_with, settled_after}
 use Rattle.machine_model.specs.States.{State}
 use Rattle.machine_core.specs.Beneath.proof_memory.proofs.Heap.Under.{freed_before}
-use Rattle.machine_core.specs.Beneath.rdcss_root.specs.Holds.{root_refs}
+use Rattle.machine_core.specs.Beneath.rdcss_root.specs.Holding.{root_refs}
 use Rattle.machine_core.specs.Ties.{IsTied, private_refs}
 use Rattle.machine_core.proofs.Steps.{sweep_answer}
 

@@ -32,8 +32,8 @@ use Rattle.machine_model.specs.Swapping.{after_deciding, on_line}
 use Rattle.machine_model.specs.States.{State, operation_of, word_at}
 use Rattle.proof_records.specs.Laws.{EntersAlone}
 use Rattle.proof_records.proofs.Owners.{owner_enters}
-use Rattle.machine_core.specs.Beneath.root_asking.proofs.Holding.{each_holds}
-use Rattle.trie_parts.specs.Holding.{owners_after}
+use Rattle.machine_core.specs.Beneath.root_asking.proofs.Embedding.{each_embeds}
+use Rattle.machine_core.specs.Beneath.trie_parts.specs.Holding.{owners_after}
 use Rattle.machine_core.specs.Beneath.snapshot.specs.Tasks.{with_generation}
 use Rattle.running.specs.Taking.{Taken}
 use Rattle.running.specs.Places.{generation_in, line_for}
@@ -44,8 +44,7 @@ use Rattle.machine_core.specs.Bounds.{IsOfRun}
 use Rattle.machine_core.specs.Going.{entered_for, moved}
 use Rattle.machine_core.specs.Keeping.{IsKept}
 use Rattle.machine_core.specs.Seen.{actor_of, operation_at, operation_seen, seen}
-use Rattle.machine_core.proofs.Allowed.{runs_there}
-use Rattle.machine_core.proofs.Kept.{operation_there}
+use Rattle.machine_core.proofs.Kept.{operation_there, found_operation}
 use Rattle.machine_core.proofs.Noted.{changes, generation_is, takes}
 use Rattle.machine_core.proofs.Took.{Took, runs_now}
 
@@ -74,8 +73,8 @@ decided_by state indirection main (read.Restore m p) e = absurd (none-some main 
 decides_in : (state : State) (operation : Operation) (l : Line) (main : Ref) (o : Option Read) → read_of l ≡ o → committed_in state o ≡ Some main → Decides (line_action state operation l) main
 decides_in state operation l main None is e = absurd (none-some main e)
 decides_in state operation l main (Some r) is e =
-    let holds = each_holds l r is in
-    let acts = sym (ap (line_action state operation) holds.here) ∙ holds.acts state operation r.line in
+    let embeds = each_embeds l r is in
+    let acts = sym (ap (line_action state operation) embeds.here) ∙ embeds.embedded.acts state operation r.line in
     let d = decided_by state r.indirection main r.line e in
     record { indirection = d.indirection; previous = d.previous; told = d.told; is = acts ∙ d.is }
 
@@ -194,8 +193,8 @@ module _ (before : Parts) (actor : ℕ) (u next : UnderWay) (taken : Taken) (now
   another : (alone.owner.actor ≡ actor → ⊥) → entered_by (seen now) main (operation_of (seen now) alone.owner.actor) ≡ entered_by (seen before) main (Some alone.owner.operation)
   another apart =
       let k : ℕ = alone.owner.actor in
-      ap (entered_by (seen now) main) (runs_there now k ∙ ap (option_and_then (operation_seen now.table)) (stands_other k alone.owner.operation alone.owner.runs apart))
-      ∙ seen_other (actor_of before k) alone.owner.operation (sym (runs_there before k) ∙ alone.owner.runs)
+      ap (entered_by (seen now) main) (found_operation now k ∙ ap (option_and_then (operation_seen now.table)) (stands_other k alone.owner.operation alone.owner.runs apart))
+      ∙ seen_other (actor_of before k) alone.owner.operation (sym (found_operation before k) ∙ alone.owner.runs)
 
   pub entering : entered_for now main ≡ entered (seen before) (Some main)
   entering =

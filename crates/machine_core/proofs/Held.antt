@@ -1,7 +1,8 @@
 -- What a state of a run gives: the claims of the next action, how often references are held, who runs no operation.
-use Rattle.std.proofs.Common.{◌≡◌, ℕ, zero, suc, ◌-◌, ◌<◌, ◌≤◌, ◌^◌, ◌&&◌, true, false, nat_lt, nat_le, length, get_or, is_some, Option, Some, None, refl, sym, ap, ◌∙◌, subst, arith}
+use Rattle.std.proofs.Common.{◌≡◌, ℕ, zero, suc, ◌-◌, ◌<◌, ◌≤◌, ◌^◌, ◌&&◌, true, false, nat_lt, nat_le, length, get_or, Option, Some, None, refl, sym, ap, ◌∙◌, subst, arith}
 use Rattle.std.proofs.lemmas.Bool.Decides.{nat_tests}
 use Rattle.history.specs.declared.calls.Call.{Call}
+use Rattle.history.proofs.Places.{option_untested}
 use Rattle.slot_arena.specs.declared.refs.Ref.{Ref}
 use Rattle.slot_arena.specs.Times.{times}
 use Rattle.slot_arena.specs.Arenas.{IsLive}
@@ -10,13 +11,14 @@ use Rattle.machine_model.specs.declared.operations.Operation.{Operation}
 use Rattle.machine_model.specs.States.{State, operation_of, handle_limit}
 use Rattle.machine_model.specs.Counting.{refs_of_root, refs_of_operation}
 use Rattle.machine_model.specs.Operations.{action_of}
-use Rattle.machine_model.specs.Machine.{begin_denial, is_actor, is_running}
+use Rattle.machine_model.specs.Machine.{begin_denial, is_running}
+use Rattle.machine_model.proofs.Actors.{begin_actor}
 use Rattle.machine_core.specs.Beneath.proof_memory.specs.Wants.{AllHold, action_wants}
 use Rattle.machine_core.specs.Beneath.proof_memory.proofs.Holding.Lives.{lines_live}
 use Rattle.machine_core.specs.Beneath.proof_memory.proofs.Holding.Privates.{privates_once}
 use Rattle.machine_core.specs.Beneath.proof_memory.proofs.Holding.Sizes.{sizes_stay}
 use Rattle.machine_core.specs.Bounds.{IsOfRun}
-use Rattle.machine_core.specs.Beneath.rdcss_root.specs.Holds.{IsReady}
+use Rattle.machine_core.specs.Beneath.rdcss_root.specs.Holding.{IsReady}
 use Rattle.machine_core.specs.Ties.{IsTied, StandsAt}
 use Rattle.machine_core.proofs.Tying.{times_most, root_few}
 
@@ -56,15 +58,8 @@ ready_run memory state h tied = record { held = λ r. omega (arith, tied.held r)
 -- ---- a begin
 
 -- a begin that isn't denied is of an actor that runs nothing
-begin_actor : (state : State) (actor : ℕ) (call : Call) → begin_denial state actor call ≡ None → is_actor state actor ≡ true
-begin_actor state actor call d = grind arith
-
 begin_idle : (state : State) (actor : ℕ) (call : Call) → begin_denial state actor call ≡ None → is_running state actor ≡ false
 begin_idle state actor call d = grind arith
-
-none_by : {X : Type 0} (o : Option X) → is_some o ≡ false → o ≡ None
-none_by None e = refl
-none_by (Some x) e = absurd (grind arith)
 
 within_by : (actor actors : ℕ) → (nat_lt 0 actor && nat_le actor actors) ≡ true → (0 < actor) × (actor ≤ actors)
 within_by actor actors e = grind (arith, nat_tests)
@@ -77,5 +72,5 @@ begin_stands state (suc n) call h d =
     record {
       counts = omega arith;
       within = omega (arith, most, actors);
-      is = ap (λ i. get_or state.actors i None) (let same : suc n - 1 ≡ n = omega arith in same) ∙ none_by (operation_of state (suc n)) (begin_idle state (suc n) call d);
+      is = ap (λ i. get_or state.actors i None) (let same : suc n - 1 ≡ n = omega arith in same) ∙ option_untested (operation_of state (suc n)) (begin_idle state (suc n) call d);
     }

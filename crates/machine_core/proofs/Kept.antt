@@ -13,7 +13,7 @@ use Rattle.machine_model.specs.declared.roots.RootWord.TheVariants.{Offer}
 use Rattle.machine_model.specs.Grown.{standing}
 use Rattle.machine_model.specs.Machine.{is_running, pin_of}
 use Rattle.machine_model.specs.States.{operation_of}
-use Rattle.machine_core.specs.Beneath.rdcss_root.specs.Holds.{root_refs}
+use Rattle.machine_core.specs.Beneath.rdcss_root.specs.Holding.{root_refs}
 use Rattle.machine_core.specs.Beneath.rdcss_root.specs.Tables.{Table, word_in}
 use Rattle.running.specs.declared.programs.Programs.{Programs}
 use Rattle.running.specs.Places.{IsSound}

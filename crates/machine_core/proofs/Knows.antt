@@ -26,7 +26,7 @@ use Rattle.machine_model.proofs.Found.{found_elsewhere, found_here}
 use Rattle.machine_model.proofs.Grown.{prev_standing}
 use Rattle.machine_core.specs.Beneath.proof_generations.proofs.Roots.OfLists.{has_handles_along}
 use Rattle.machine_core.specs.Beneath.proof_generations.proofs.Offers.Standing.{own_numbers}
-use Rattle.proof_records.specs.Beneath.proof_commits.specs.Laws.{IsInSwap}
+use Rattle.machine_core.specs.Beneath.proof_commits.specs.Laws.{IsInSwap}
 use Rattle.proof_records.specs.Laws.{HaveIds}
 use Rattle.proof_records.proofs.Given.{ids_apart}
 use Rattle.machine_core.specs.Beneath.rdcss_root.specs.Tables.{Table, with_root_in, word_in}

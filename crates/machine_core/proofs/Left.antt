@@ -31,9 +31,9 @@ use Rattle.machine_core.specs.Ties.{IsTied}
 use Rattle.machine_core.proofs.Bounded.{begun_push}
 use Rattle.machine_core.proofs.Kept.{seat_of, operation_there, replaced_seated, replaced_seen}
 use Rattle.machine_core.proofs.Knows.{ids, offerers_over, owners_over, runs_set}
-use Rattle.machine_core.proofs.Named.{handle_named}
 use Rattle.machine_core.proofs.Reserved.{known_ended}
 use Rattle.machine_core.proofs.Tied.{ended_tied, operation_stands, private_held}
+use Rattle.running.proofs.Asks.{handle_named}
 
 -- what the operation made is held
 pub held_there : (parts : Parts) (actor : ℕ) (u : UnderWay) → under_way_of parts actor ≡ Some u → IsKept parts → (found : Actor) → slice_get parts.actors.items (actor - 1) ≡ Some found →

@@ -17,7 +17,6 @@ pub mod Numbering
 pub mod Reserved
 pub mod Gathering
 pub mod Levels
-pub mod Named
 pub mod Knows
 pub mod Kept
 pub mod Onward

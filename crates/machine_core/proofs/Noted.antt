@@ -22,6 +22,7 @@ use Rattle.running.specs.Places.{generation_in, line_for}
 use Rattle.running.specs.Steps.{Changes, Takes, at_scene, given_by, given_in, scene}
 use Rattle.running.specs.Taking.{Taken}
 use Rattle.running.proofs.Offers.{marked_at, marks_by, unmarked}
+use Rattle.running.proofs.Asks.{handle_named}
 use Rattle.machine_core.specs.declared.parts.Actor.{Actor}
 use Rattle.machine_core.specs.declared.parts.Parts.{Parts}
 use Rattle.machine_core.specs.declared.parts.UnderWay.{UnderWay}
@@ -31,7 +32,6 @@ use Rattle.machine_core.specs.Keeping.{IsKept, IsSeated}
 use Rattle.machine_core.specs.Seen.{actors_seen, operation_at, seen}
 use Rattle.machine_core.proofs.Allowed.{there_is}
 use Rattle.machine_core.proofs.Marking.{Offered, marks_alike, stood}
-use Rattle.machine_core.proofs.Named.{handle_named}
 use Rattle.machine_core.proofs.Stepped.{became, carried_now, gone_so}
 use Rattle.machine_core.proofs.Took.{Took}
 

@@ -8,15 +8,12 @@ use Rattle.slot_arena.specs.declared.refs.Ref.{Ref}
 use Rattle.slot_arena.specs.declared.nodes.Node.{Node}
 use Rattle.slot_arena.specs.declared.nodes.Prev.TheVariants as prev
 use Rattle.slot_arena.specs.declared.nodes.Slot.{Slot}
-use Rattle.slot_arena.specs.Heaps.{Heap, next_ref, prev_at, taken}
+use Rattle.slot_arena.specs.Heaps.{next_ref, prev_at, taken}
 use Rattle.slot_arena.specs.Refs.{slot_of}
-use Rattle.slot_arena.proofs.Live.{one_live}
-use Rattle.slot_arena.proofs.Reading.{live_seen}
 use Rattle.epochs.specs.Memories.{cleared}
 use Rattle.machine_model.specs.declared.actions.Action.{Action}
 use Rattle.machine_model.specs.declared.actions.Action.TheVariants as act
 use Rattle.machine_model.specs.declared.operations.Operation.{Operation}
-use Rattle.machine_model.specs.declared.reading.ReadLine.{ReadLine}
 use Rattle.machine_model.specs.declared.reading.SwapLine.{SwapLine}
 use Rattle.machine_model.specs.declared.reading.SwapLine.TheVariants.{Publish}
 use Rattle.machine_model.specs.declared.steps.Limits.{Limits}
@@ -37,7 +34,6 @@ use Rattle.machine_core.specs.Beneath.proof_memory.specs.Laws.{IsInUse}
 use Rattle.machine_core.specs.Beneath.proof_memory.specs.Wants.{Claim}
 use Rattle.machine_core.specs.Beneath.proof_memory.proofs.Heap.Effects.{Effect, Keeps, Makes, Publishes, Restores, Decides, Frees}
 use Rattle.machine_core.specs.Beneath.proof_memory.proofs.Heap.Under.{fresh_slot, taken_all}
-use Rattle.machine_core.specs.Beneath.proof_memory.proofs.Holding.Lives.{in_use_lives}
 use Rattle.machine_core.specs.Beneath.proof_memory.proofs.Safety.AtEachTime.{safe_along}
 use Rattle.machine_core.specs.Beneath.proof_memory.proofs.Safety.States.{IsSafe}
 use Rattle.machine_core.specs.Beneath.proof_memory.proofs.Safety.Steps.{step_effect}
@@ -48,16 +44,14 @@ use Rattle.machine_core.specs.Beneath.proof_commits.proofs.Course.OfLists.{pendi
 use Rattle.machine_core.specs.Beneath.proof_commits.proofs.Known.StepsAt.{after_mark, go_others, mark_stage}
 use Rattle.proof_records.specs.Beneath.proof_shape.proofs.Sites.Fixed.{states_of-append, taken-append}
 use Rattle.proof_records.specs.Laws.{OwnsBy}
-use Rattle.proof_records.proofs.Swapping.{owners_stay}
-use Rattle.trie_parts.specs.Holding.{owners_after}
+use Rattle.proof_records.proofs.Newest.{same_slot}
+use Rattle.proof_records.proofs.Swapping.{owners_stay, publishes_other}
+use Rattle.machine_core.specs.Beneath.trie_parts.specs.Holding.{owners_after}
 use Rattle.machine_core.specs.Bounds.{IsOfRun}
 use Rattle.machine_core.proofs.Bounded.{applied_run}
+use Rattle.machine_core.specs.Beneath.proof_commits.proofs.Words.Stood.{none≢pending}
 
 -- ---- nodes in use
-
--- nodes in use in one slot are one
-pub same_slot : (heap : Heap) (a b : Ref) → IsInUse heap a → IsInUse heap b → slot_of a ≡ slot_of b → a ≡ b
-same_slot heap a b at_a at_b same = one_live heap.slots a b (live_seen heap a (in_use_lives heap a at_a)) (live_seen heap b (in_use_lives heap b at_b)) same
 
 safe_there : (state : State) → IsOfRun state → IsSafe state
 safe_there state h = subst IsSafe (sym h.is) (safe_along state.limits h.limits h.steps)
@@ -116,9 +110,6 @@ stood_or_new C f g b c due (Frees q e is_due none others) r slot h = elim (cases
   | inr other ↦ inl (slot, sym (others r other) ∙ h)
 ]
 
-none_pending : (replaced : Ref) → prev.None ≡ prev.Pending replaced → ⊥
-none_pending replaced e = cc
-
 -- ---- owners at a state of a run
 
 -- the pending node has one running operation that swapped it in, and nobody else is in a SWAP of it
@@ -176,7 +167,7 @@ module _ (state : State) (h : IsOfRun state) (s : Step) (o : Outcome) (after : S
   pub used_before : IsInUse state.heap main
   used_before = elim (stood_or_new _ _ _ _ _ _ ((step_effect state (safe_there state h) s o after (moved state s o after leads)).3) main still.0 still.1) [
     | inl stood ↦ stood
-    | inr none ↦ absurd (none_pending replaced (sym none ∙ sym (prev_standing after.heap main still.0 still.1) ∙ pending))
+    | inr none ↦ absurd (none≢pending (prev_standing after.heap main still.0 still.1 ∙ none) pending)
   ]
 
   -- who is in the SWAP of it swaps it in by this step, or owned it before
@@ -188,9 +179,6 @@ module _ (state : State) (h : IsOfRun state) (s : Step) (o : Outcome) (after : S
 
   run_after : IsOfRun after
   run_after = applied_run state after s (Ok o) leads h
-
-  decides_other : (i a f j b g : Ref) (l : ReadLine) → stage.Publishes i a f ≡ stage.Decides j b g l → ⊥
-  decides_other i a f j b g l e = cc
 
   -- whoever swaps it in takes the step
   pub only_actor : (actor : ℕ) (own : Operation) → 0 < actor → after ≡ settled state (gone state actor own) → (k : ℕ) (was : Operation) (indirection : Ref) →
@@ -206,4 +194,4 @@ module _ (state : State) (h : IsOfRun state) (s : Step) (o : Outcome) (after : S
       ap stage_of_actor behind ∙ mark_stage (marks_by state (Some own)) (operation_of state k) ∙ ap stage_of_actor ran ∙ ap stage_of publishes.1 in
       let decides : stage_of_actor (operation_of after k) ≡ stage.Decides owned.indirection replaced main who.line =
       ap (λ n. stage_of_actor (operation_of after n)) same ∙ ap stage_of_actor who.runs ∙ ap stage_of who.swaps.1 in
-      decides_other indirection replaced main owned.indirection replaced main who.line (sym stands ∙ decides)
+      publishes_other indirection replaced main owned.indirection replaced main who.line (sym stands ∙ decides)

@@ -34,6 +34,7 @@ use Rattle.machine_core.specs.Beneath.proof_memory.proofs.Claims.Uses.{safe_of}
 use Rattle.machine_core.specs.Beneath.proof_commits.specs.Laws.{IsInSwap}
 use Rattle.machine_core.specs.Beneath.snapshot.specs.Tasks.{with_generation}
 use Rattle.proof_records.specs.Laws.{OwnsBy, owned, swaps}
+use Rattle.proof_records.proofs.Newest.{same_slot}
 use Rattle.running.specs.Taking.{Taken}
 use Rattle.running.specs.Places.{line_for}
 use Rattle.running.proofs.Fresh.{swaps_fresh}
@@ -49,7 +50,7 @@ use Rattle.machine_core.proofs.Kept.{operation_there}
 use Rattle.machine_core.proofs.Noted.{NotedSo, changes, gone_seen, takes}
 use Rattle.machine_core.proofs.Notings.{noted_commit, noted_kind}
 use Rattle.machine_core.proofs.Offering.{knows_offered}
-use Rattle.machine_core.proofs.Owned.{only_actor, owned_at, owns, owner_stays, same_slot, used_before}
+use Rattle.machine_core.proofs.Owned.{only_actor, owned_at, owns, owner_stays, used_before}
 use Rattle.machine_core.proofs.Steps.{go_leads}
 use Rattle.machine_core.proofs.Took.{Took}
 use Rattle.machine_core.proofs.Whole.{went_on}

@@ -4,7 +4,7 @@ use Rattle.std.proofs.Common.{◌++◌, map, filter, set, get_or, replicate, fla
 use Rattle.std.specs.Prelude.{option_map, slice_get}
 use Rattle.std.proofs.lemmas.List.{length-append, length-replicate}
 use Rattle.std.proofs.lemmas.List.Concat.{flat_map-cons}
-use Rattle.std.proofs.lemmas.List.Elements.{All-cons, All-get_or, All-head, All-nil, All-push, All-tail}
+use Rattle.std.proofs.lemmas.List.Elements.{All-get_or, All-head, All-push, All-tail}
 use Rattle.std.proofs.lemmas.Option.{get_or_from_slice_get, none-some, slice_get_within}
 use Rattle.ctrie_base.specs.declared.hashes.HashKind.{HashKind}
 use Rattle.handle_table.specs.Numbers.{Numbers, no_numbers, with_taken}
@@ -15,7 +15,6 @@ use Rattle.slot_arena.specs.declared.nodes.Slot.{Slot}
 use Rattle.slot_arena.specs.Refs.{ref_to}
 use Rattle.slot_arena.specs.Heaps.{Heap, taken, empty_branch, next_ref, named_from, in_use, heap_refs, refs_of_slot}
 use Rattle.slot_arena.specs.Counts.{count_of}
-use Rattle.slot_arena.specs.Arenas.{AreLive, IsLive}
 use Rattle.slot_arena.specs.Times.{times, without}
 use Rattle.slot_arena.proofs.Times.{once_same, times-cons, times-without, times_le}
 use Rattle.epochs.specs.Memories.{Memory}
@@ -27,7 +26,7 @@ use Rattle.machine_model.specs.declared.steps.Limits.{Limits}
 use Rattle.machine_model.specs.Counting.{refs_of_root, refs_of_operation}
 use Rattle.machine_model.specs.Machine.{pin_of}
 use Rattle.machine_model.specs.States.{State, empty_heap, first_heap, first_state, operation_of}
-use Rattle.machine_core.specs.Beneath.rdcss_root.specs.Holds.{IsReady, Moves, root_refs}
+use Rattle.machine_core.specs.Beneath.rdcss_root.specs.Holding.{IsReady, Moves, root_refs}
 use Rattle.machine_core.specs.Beneath.rdcss_root.specs.Tables.{Table, new_table, with_root_in}
 use Rattle.machine_core.specs.declared.parts.Actor.{Actor}
 use Rattle.machine_core.specs.declared.parts.Parts.{Parts}
@@ -91,9 +90,6 @@ first_root_refs : (root : Option Root) (r : Ref) → refs_of_root root ≡ r ∷
 first_root_refs root r e =
     flat_map-cons refs_of_root root (replicate 255 None) ∙ ap (λ rs. rs ++ flat_map refs_of_root (replicate 255 None)) e
     ∙ ap (λ rs. r ∷ rs) (none_flat refs_of_root None 255 refl)
-
-pub one_live : (heap : Heap) (r : Ref) → IsLive heap r → AreLive heap (r ∷ [])
-one_live heap r h = All-cons (IsLive heap) r [] h (All-nil (IsLive heap))
 
 -- before any handle is open nothing has to be held
 pub none_ready : (memory : Memory) (table : Table) (actors : ℕ) → table ≡ new_table actors → memory.outside ≡ ref_to 2 1 ∷ [] → IsReady memory table.roots 4

@@ -18,7 +18,7 @@ use Rattle.machine_model.proofs.Actors.{after_marks}
 use Rattle.machine_core.specs.Beneath.operate.specs.Beneath.gcas.specs.Acted.{acted_heap}
 use Rattle.machine_core.specs.Beneath.rdcss_root.specs.Tables.{Table, acted_table}
 use Rattle.machine_core.specs.Beneath.snapshot.specs.Tasks.{drawn_by, with_generation}
-use Rattle.trie_parts.specs.Here.{at_heap, no_state}
+use Rattle.machine_core.specs.Beneath.trie_parts.specs.Here.{at_heap, no_state}
 use Rattle.running.specs.declared.programs.Programs.{Programs}
 use Rattle.running.specs.Places.{generation_in, line_for}
 use Rattle.running.specs.Steps.{Changes, Does, Scene, Takes, at_scene}
@@ -117,7 +117,8 @@ private_same there here private generation (act.MakeRoot main) same = ap (λ h. 
 private_same there here private generation (act.Make node) same = ap (λ h. private_after (record here { heap = h }) private (act.Make node)) same
 private_same there here private generation action same = refl
 
-unset : (marks : List Bool) (i : ℕ) → get_or (set marks i false) i false ≡ false
+-- an actor whose mark was taken has none
+pub unset : (marks : List Bool) (i : ℕ) → get_or (set marks i false) i false ≡ false
 unset [] i = refl
 unset (m ∷ marks) zero = refl
 unset (m ∷ marks) (suc i) = unset marks i

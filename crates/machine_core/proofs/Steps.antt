@@ -32,7 +32,8 @@ sweep_denied : (state : State) (b : Bool) (why : Refusal) → (if b then Some re
 sweep_denied state true why e = ap Err (same_Some refuse.Spent why e)
 sweep_denied state false why e = absurd (none-some why e)
 
-denied : (state : State) (s : Step) (why : Refusal) → denial_of state s ≡ Some why → next state s ≡ Err why
+-- a step is denied as the definition says
+pub denied : (state : State) (s : Step) (why : Refusal) → denial_of state s ≡ Some why → next state s ≡ Err why
 unfolding next
 denied state (step.Begin actor call) why e = ap (λ d. begin_unless state actor call d) e
 denied state (step.Go actor) why e = ap (λ d. go_unless state actor d) e

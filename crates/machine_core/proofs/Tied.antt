@@ -12,7 +12,7 @@ use Rattle.machine_model.specs.States.{State, operation_of}
 use Rattle.machine_model.specs.Counting.{refs_of_operation}
 use Rattle.machine_model.specs.Machine.{pin_of}
 use Rattle.machine_model.proofs.Found.{found_within}
-use Rattle.machine_core.specs.Beneath.rdcss_root.specs.Holds.{root_refs}
+use Rattle.machine_core.specs.Beneath.rdcss_root.specs.Holding.{root_refs}
 use Rattle.machine_core.specs.Ties.{IsTied, StandsAt}
 use Rattle.machine_core.specs.Beneath.rdcss_root.proofs.Rewriting.{times_set}
 use Rattle.machine_core.proofs.Tying.{times_part}

@@ -1,6 +1,6 @@
 -- Why a step of an operation is denied that goes on behind it: only where all steps are taken.
-use Rattle.std.proofs.Common.{◌≡◌, ℕ, ◌-◌, ◌≤◌, ◌&&◌, not, true, [], ◌∷◌, Bool, Option, Some, None, if◌then◌else◌, refl, sym, ap, ◌∙◌, arith, le-leb, lt-ltb}
-use Rattle.std.specs.Prelude.{is_some, nat_lt, nat_le, option_map}
+use Rattle.std.proofs.Common.{◌≡◌, ℕ, ◌-◌, not, true, [], ◌∷◌, Bool, Option, Some, None, if◌then◌else◌, refl, sym, ap, ◌∙◌, arith}
+use Rattle.std.specs.Prelude.{is_some, option_map}
 use Rattle.std.proofs.lemmas.List.{length-map}
 use Rattle.std.proofs.lemmas.Option.{slice_get_within}
 use Rattle.ctrie_base.specs.declared.refusals.Refusal.TheVariants as refuse
@@ -8,6 +8,7 @@ use Rattle.machine_model.specs.Machine.{first_reason, go_denial, is_actor, is_ru
 use Rattle.machine_model.specs.Operations.{action_of, kind_of}
 use Rattle.machine_model.specs.States.{operation_of}
 use Rattle.machine_model.specs.declared.operations.Operation.{Operation}
+use Rattle.machine_model.proofs.Actors.{actor_by}
 use Rattle.machine_core.specs.declared.parts.Parts.{Parts}
 use Rattle.machine_core.specs.Bounds.{IsOfRun}
 use Rattle.machine_core.specs.Seen.{actor_of, operation_seen, seen}
@@ -16,9 +17,6 @@ use Rattle.machine_core.proofs.Allowed.{owner_runs}
 use Rattle.machine_core.proofs.Held.{sizes}
 use Rattle.machine_core.proofs.Kept.{seat_of}
 use Rattle.machine_core.proofs.Underway.{by_actor}
-
-actor_by : (actor most : ℕ) → 1 ≤ actor → actor ≤ most → (nat_lt 0 actor && nat_le actor most) ≡ true
-actor_by actor most low high = grind (arith, low, high, lt-ltb, le-leb)
 
 spent_alone : (own running spent : Bool) → own ≡ true → running ≡ true →
     (if spent then Some refuse.Spent else None) ≡ first_reason ((not own, refuse.NoActor) ∷ (not running, refuse.Idle) ∷ (spent, refuse.Spent) ∷ [])

@@ -1,5 +1,5 @@
 -- A step of an operation that isn't its end, with all that is noted of it.
-use Rattle.std.proofs.Common.{arith, ◌≡◌, ℕ, ◌-◌, ◌<◌, All, length, Some, None, refl, sym, ap, subst, ◌∙◌}
+use Rattle.std.proofs.Common.{arith, ◌≡◌, ℕ, ◌-◌, ◌<◌, All, List, length, Some, None, refl, sym, ap, subst, ◌∙◌}
 use Rattle.std.specs.Prelude.{IfOk, MatchOption, Result, Ok, Err, slice_get}
 use Rattle.ctrie_base.specs.declared.refusals.Refusal.{Refusal}
 use Rattle.machine_model.specs.declared.steps.Outcome.{Outcome}
@@ -130,17 +130,22 @@ module _ (actor : ℕ) (u : UnderWay) (fresh : Ref) (taken : Taken) (middle : Pa
       omega (arith, slice_get_within m.before.actors.items (actor - 1) r.was r.found, ap length r.set, length-set m.before.actors.items (actor - 1) r.is)
 
   -- what stands at the actor's place, and that the operation is under way still
-  pub stands_there : slice_get middle.actors.items (actor - 1) ≡ Some m.steps.actors.is
+  stands_there : slice_get middle.actors.items (actor - 1) ≡ Some m.steps.actors.is
   stands_there =
       let r = m.steps.actors in
       ap (λ xs. slice_get xs (actor - 1)) r.set ∙ at_set m.before.actors.items (actor - 1) r.is (slice_get_within m.before.actors.items (actor - 1) r.was r.found)
 
-  pub runs_there : m.steps.actors.is.under_way ≡ Some u
+  runs_there : m.steps.actors.is.under_way ≡ Some u
   runs_there =
       let r = m.steps.actors in
       let seat = seat_of m.before actor u m.runs in
       let was : r.was ≡ seat.found = same_Some r.was seat.found (sym r.found ∙ seat.at) in
       r.does.under_way ∙ ap (λ (a : Actor). a.under_way) was ∙ seat.runs
+
+  pub follows_there : (actors : List Actor) → ((found : Actor) (v : UnderWay) → slice_get middle.actors.items (actor - 1) ≡ Some found → found.under_way ≡ Some v →
+      Replaces middle.actors.items (actor - 1) (HasUnderWay (moved middle.commits.commits middle.steps taken v)) actors) →
+      Replaces middle.actors.items (actor - 1) (HasUnderWay (moved middle.commits.commits middle.steps taken u)) actors
+  follows_there actors follows = follows m.steps.actors.is u stands_there runs_there
 
 -- ---- ends and others
 

@@ -4,7 +4,6 @@ pub use Rattle.running.specs.Beneath.snapshot as snapshot
 pub use Rattle.running.specs.Beneath.root_asking as root_asking
 pub use Rattle.running.specs.Beneath.rdcss_root as rdcss_root
 pub use Rattle.running.specs.Beneath.gcas as gcas
-pub use Rattle.running.specs.Beneath.key_finding as key_finding
 pub use Rattle.proof_records.specs.Beneath.nodes as nodes
 pub use Rattle.proof_records.specs.Beneath.proof_contents as proof_contents
 pub use Rattle.proof_records.specs.Beneath.proof_memory as proof_memory
@@ -12,3 +11,4 @@ pub use Rattle.proof_records.specs.Beneath.proof_commits as proof_commits
 pub use Rattle.proof_records.specs.Beneath.proof_generations as proof_generations
 pub use Rattle.proof_records.specs.Beneath.proof_order as proof_order
 pub use Rattle.proof_records as proof_records
+pub use Rattle.running.specs.Beneath.trie_parts as trie_parts

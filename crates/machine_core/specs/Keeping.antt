@@ -14,8 +14,8 @@ use Rattle.machine_model.specs.declared.roots.RootWord.TheVariants.{Offer}
 use Rattle.machine_model.specs.States.{State, handle_limit, operation_of}
 use Rattle.machine_core.specs.Beneath.rdcss_root.specs.Tables.{Table, word_in}
 use Rattle.running.specs.Places.{IsSound}
-use Rattle.proof_records.specs.Beneath.proof_commits.specs.Laws.{IsInSwap}
-use Rattle.proof_records.specs.Beneath.proof_memory.specs.Laws.{IsInUse}
+use Rattle.machine_core.specs.Beneath.proof_commits.specs.Laws.{IsInSwap}
+use Rattle.machine_core.specs.Beneath.proof_memory.specs.Laws.{IsInUse}
 use Rattle.machine_core.specs.declared.parts.Actor.{Actor}
 use Rattle.machine_core.specs.declared.parts.Parts.{Parts}
 use Rattle.machine_core.specs.declared.parts.UnderWay.{UnderWay}

@@ -7,7 +7,7 @@ use Rattle.machine_model.specs.declared.operations.Operation.{Operation}
 use Rattle.machine_model.specs.declared.roots.Root.{Root}
 use Rattle.machine_model.specs.Counting.{refs_of_operation}
 use Rattle.machine_model.specs.Machine.{pin_of}
-use Rattle.machine_core.specs.Beneath.rdcss_root.specs.Holds.{root_refs}
+use Rattle.machine_core.specs.Beneath.rdcss_root.specs.Holding.{root_refs}
 
 -- the references in the private lists of running operations
 abbrev pub private_refs : List (Option Operation) → List Ref

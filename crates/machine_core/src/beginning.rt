@@ -4,7 +4,7 @@ ghost use Rattle.std.specs.Prelude.{◌≡◌, ◌<◌, ℕ, length, vec_len, ve
 ghost use Rattle.machine_model.specs.States.{root_at};
 ghost use Rattle.machine_model.specs.Calls.{handle_of, opens_handle};
 ghost use Rattle.machine_model.specs.Machine.{access_of, begin_denial, new_operation, handle_closed, with_begin, least_free};
-ghost use Rattle.machine_core.specs.Beneath.rdcss_root.specs.Holds.{IsReady, Moves};
+ghost use Rattle.machine_core.specs.Beneath.rdcss_root.specs.Holding.{IsReady, Moves};
 ghost use Rattle.machine_core.specs.Beneath.rdcss_root.specs.Tables.{word_in};
 ghost use Rattle.machine_model.specs.declared.roots.Descriptor.{Descriptor};
 ghost use Rattle.machine_model.specs.declared.roots.RootWord.TheVariants.{Offer};

@@ -5,8 +5,7 @@ ghost use Rattle.machine_model.specs.Calls.{handle_of, key_of, needs_writable, n
 ghost use Rattle.running.specs.Places.{call_for};
 
 use history::Call;
-use running::{Program, SnapCall};
-use trie_parts::KeyCall;
+use running::{KeyCall, Program, SnapCall};
 
 /// The call without the handle.
 pub fn program_of(call: Call) -> Program

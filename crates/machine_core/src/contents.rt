@@ -11,9 +11,9 @@ use crate::mains::{logical_main, root_of};
 use crate::parts::Parts;
 use epochs::Heap;
 use history::Pairs;
+use running::{entries_at, node_at};
 use slot_arena::{Node, Ref};
 use std::alloc::{AllocError, Global};
-use trie_parts::{entries_at, node_at};
 
 /// A root, 13 levels of indirections below it, and the singles.
 pub const MOST_LEVELS: u32 = 15;

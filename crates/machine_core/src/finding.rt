@@ -10,8 +10,8 @@ use crate::contents::MOST_LEVELS;
 use crate::mains::{has_flag, logical_main, position_of, root_of};
 use crate::parts::Parts;
 use epochs::Heap;
+use running::{entry_at, flag_of, node_at};
 use slot_arena::{Node, Ref};
-use trie_parts::{entry_at, flag_of, node_at};
 
 /// What a main node says of a key.
 pub enum Found {

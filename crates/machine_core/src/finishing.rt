@@ -3,7 +3,7 @@
 ghost use Rattle.std.specs.Prelude.{◌≡◌, ◌<◌, ◌-◌, ◌++◌, length, vec_len, vec_capacity, slice_get, Some, IfOk, IfErr, OnErr, OnOk, MatchOption, option_to_list};
 ghost use Rattle.history.specs.declared.replies.Reply.TheVariants.{Closed};
 ghost use Rattle.epochs.specs.Memories.{KeepsEpochs};
-ghost use Rattle.trie_parts.specs.Holding.{AreHeld};
+ghost use Rattle.machine_core.specs.Beneath.trie_parts.specs.Holding.{AreHeld};
 ghost use Rattle.machine_model.specs.declared.actions.Action.TheVariants as actions;
 ghost use Rattle.machine_model.specs.declared.operations.Operation.{Operation};
 ghost use Rattle.machine_model.specs.States.{operation_of};

@@ -8,8 +8,8 @@ ghost use Rattle.machine_model.specs.States.{root_of};
 
 use epochs::Heap;
 use machine_model::RootWord;
+use running::node_at;
 use slot_arena::{Node, Prev, Ref};
-use trie_parts::node_at;
 
 /// The root that stands while an offer does.
 pub fn root_of(word: RootWord) -> Ref

@@ -10,9 +10,8 @@ use crate::parts::Parts;
 use crate::placing::on_time;
 use chronicle::Chronicle;
 use ctrie_base::Kind;
-use running::Taken;
+use running::{Taken, generation_at};
 use slot_arena::Ref;
-use trie_parts::generation_at;
 
 /// Notes what a step of this kind did that committed nothing.
 pub fn note_kind(parts: &mut Parts, actor: u8, fresh: Ref, taken: &Taken)

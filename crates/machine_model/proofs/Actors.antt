@@ -1,5 +1,6 @@
 -- What a step does to the running operations.
-use Rattle.std.proofs.Common.{◌≡◌, ℕ, suc, ◌-◌, ◌==◌, true, Option, Some, None, List, map, set, get_or, ◌<◌, ◌∙◌, refl, sym, ap, subst, if◌then◌else◌, arith}
+use Rattle.std.specs.Prelude.{◌≤◌, ◌&&◌, nat_lt, nat_le}
+use Rattle.std.proofs.Common.{lt-ltb, le-leb, ◌≡◌, ℕ, suc, ◌-◌, ◌==◌, true, Option, Some, None, List, map, set, get_or, ◌<◌, ◌∙◌, refl, sym, ap, subst, if◌then◌else◌, arith}
 use native.Mathlib.Decide.{ℕ_discrete}
 use Rattle.std.proofs.Math.ListN.{get_or-map}
 use Rattle.std.proofs.lemmas.Option.{none-some, same_Some}
@@ -17,10 +18,14 @@ use Rattle.machine_model.specs.Operations.{action_of}
 use Rattle.machine_model.specs.Calls.{handle_of}
 use Rattle.machine_model.specs.Swapping.{is_carried_out}
 use Rattle.machine_model.specs.Acting.{acted, aborted, offered, completed, new_root_taken, marked, operation_after, gone}
-use Rattle.machine_model.specs.Machine.{with_begin, begin_denial, go_denial}
+use Rattle.machine_model.specs.Machine.{with_begin, begin_denial, go_denial, is_actor}
 use Rattle.machine_model.proofs.Found.{found_elsewhere, found_here}
 use Rattle.machine_model.specs.Moves.{Begins, Goes, Ends, Sweeps}
 use Rattle.machine_model.specs.Moves.{Moves}
+
+-- a number from 1 to the limit is that of an actor
+pub actor_by : (actor most : ℕ) → 1 ≤ actor → actor ≤ most → (nat_lt 0 actor && nat_le actor most) ≡ true
+actor_by actor most low high = grind (arith, low, high, lt-ltb, le-leb)
 
 -- the id of the operation that an action marks, if it does: it carries its offer out
 abbrev pub marks_of : State → ℕ → Action → Option ℕ
@@ -124,7 +129,11 @@ marks_in state step.Sweep = None
 pub begin_counts : (state : State) (actor : ℕ) (call : Call) → begin_denial state actor call ≡ None → 0 < actor
 begin_counts state actor call d = grind arith
 
--- the same of a step that goes on
+-- it is one of the machine's
+pub begin_actor : (state : State) (actor : ℕ) (call : Call) → begin_denial state actor call ≡ None → is_actor state actor ≡ true
+begin_actor state actor call d = grind arith
+
+-- who goes on isn't 0 either
 pub go_counts : (state : State) (actor : ℕ) → go_denial state actor ≡ None → 0 < actor
 go_counts state actor d = grind arith
 

@@ -1,6 +1,6 @@
 -- A running operation: what its next step does, of which kind it is, and on which line the operation stands after it. All of
 -- this, here and in the programs' own files, is computed from the state before the step.
-use Rattle.std.specs.Prelude.{ℕ, Bool, true, false, List, [], Option, Some, None}
+use Rattle.std.specs.Prelude.{◌≡◌, ℕ, Bool, true, false, List, [], Option, Some, None}
 use Rattle.ctrie_base.specs.declared.kinds.Kind.{Kind}
 use Rattle.ctrie_base.specs.declared.kinds.Kind.TheVariants as kind
 use Rattle.history.specs.declared.calls.Call.{Call}
@@ -13,6 +13,7 @@ use Rattle.machine_model.specs.declared.operations.Operation.{Operation}
 use Rattle.machine_model.specs.declared.reading.After.{After}
 use Rattle.machine_model.specs.declared.reading.After.TheVariants.{Goes, Gives}
 use Rattle.machine_model.specs.declared.reading.Read.{Read}
+use Rattle.machine_model.specs.declared.reading.ReadLine.{ReadLine}
 use Rattle.machine_model.specs.declared.reading.Swap.{Swap}
 use Rattle.machine_model.specs.declared.reading.SwapLine.{SwapLine}
 use Rattle.machine_model.specs.declared.reading.SwapLine.TheVariants as swap
@@ -44,7 +45,7 @@ use Rattle.slot_arena.specs.Heaps.{node_at, generation_at}
 use Rattle.machine_model.specs.Calls.{handle_of}
 use Rattle.machine_model.specs.States.{State, word_at}
 use Rattle.machine_model.specs.Paths.{current}
-use Rattle.machine_model.specs.Reading.{reading}
+use Rattle.machine_model.specs.Reading.{reading, read_action}
 use Rattle.machine_model.specs.Swapping.{swap_action, swap_after, root_action, root_after}
 use Rattle.machine_model.specs.Renewing.{renew_action, renew_after}
 use Rattle.machine_model.specs.Lines.{new_try, impossible}
@@ -203,6 +204,11 @@ read_of (line.Copy l) = copying_read l
 read_of (line.Walk l) = walking_read l
 read_of (line.End answer) = None
 read_of line.Impossible = None
+
+-- The lines of a READ of this indirection within a program: its READ is that one, and a step of it is the READ's, whichever line that is on.
+pub record EmbedsRead (wrap : ReadLine → Line) (indirection : Ref) : Type 0 where
+  pub reads : (l : ReadLine) → read_of (wrap l) ≡ Some (record { indirection = indirection; line = l })
+  pub acts : (state : State) (operation : Operation) (l : ReadLine) → line_action state operation (wrap l) ≡ read_action indirection l
 
 abbrev pub given_root : State → After RootLine Ref → Option ℕ → Option ℕ
 given_root state (Goes l) generation = generation

@@ -25,8 +25,10 @@ mod walking;
 pub use actions::Action;
 pub use building::{BuildLine, Change, Site};
 pub use copying::CopyLine;
+pub use epochs::Heap;
 pub use finding::{KeyLine, WhenFound};
 pub use heaps::{Closing, Commit};
+pub use history::Access;
 pub use laws::{
     one_slot_a_step, readers_make_nothing, readers_never_refused, refused_for_want_alone,
     slots_add_up, taken_steps_suffice,
@@ -37,5 +39,6 @@ pub use reading::{After, Read, ReadLine, Swap, SwapLine};
 pub use repairs::{CleanLine, Climb, ClimbLine, RenewLine};
 pub use roots::{Complete, CompleteLine, Descriptor, Root, RootLine, RootWord};
 pub use runs::{late_put, put_and_get, refused_for_want_of_slots};
+pub use slot_arena::{Node, Prev, Ref};
 pub use steps::{Limits, Outcome, Step};
 pub use walking::WalkLine;

@@ -230,7 +230,8 @@ impl KeyOp {
         ensures follows { IfOk (told result) (λ next. RootSteps heap.old.heap (word_in roots.old handle) self.old (line.Root (root_of self.old.root self.old.work.swap.read root_seen)) self.new next) }
         ensures acts { (private : List ARef) → ActsInAll heap.old roots.old.roots private (root_action (root_of self.old.root self.old.work.swap.read root_seen)) heap.new roots.new.roots private }
         ensures table { roots.new ≡ rooted_at roots.old handle self.old.root }
-        ensures generation { IfOk (told result) (λ next. KeepsGeneration heap.old.heap (word_in roots.old handle) self.old (line.Root (root_of self.old.root self.old.work.swap.read root_seen)) self.new.task next) }
+        ensures generation { IfOk (told result) (λ next.
+            KeepsGeneration heap.old.heap (word_in roots.old handle) self.old (line.Root (root_of self.old.root self.old.work.swap.read root_seen)) self.new.task next) }
         ensures task { self.new.task ≡ record self.old.task { generation = self.new.task.generation } }
         ensures same { (self.new.work.private ≡ self.old.work.private) × (self.new.work.swap.read.access ≡ self.old.work.swap.read.access) }
         ensures asks { IfOk (told result) (λ next. IsAskingRoot next → (self.new ≡ self.old) × (roots.new ≡ roots.old) × (heap.new ≡ heap.old)) }

@@ -5,8 +5,8 @@
 //! another generation and cleans where it meets a tomb, and both of them and its own change come about by one GCAS each;
 //! whatever of these is lost begins the next try. Behind a removal that left a tomb it climbs.
 //!
-//! Computed are `Finding` and `Keys` of `machine_model`, and of its `Operations` how the programs of a call on one key lead
-//! into each other.
+//! Computed are `Finding` of `machine_model`, and of its `Operations` how the programs of a call on one key lead into each
+//! other.
 #![tactic(auto)]
 
 mod ahead;
@@ -20,5 +20,4 @@ mod went;
 pub use key_finding::KeyReply;
 pub use key_op::{BelowAt, KeyAt, KeyOp};
 pub use laws::{acts_of_key, tells_key};
-pub use path::Path;
-pub use trie_parts::KeyCall;
+pub use trie_parts::{KeyCall, entries_at, entry_at, flag_of, generation_at, node_at};

@@ -11,7 +11,7 @@ use trie_parts::keep;
 
 /// The indirections from the root down to the current one, kept in place. There is always room for the root.
 #[derive(Drop)]
-pub struct Path {
+pub(crate) struct Path {
     items: Vec<Ref>,
     ghost room: { 0 < vec_capacity items },
 }

@@ -2,22 +2,25 @@
 use Rattle.std.specs.Prelude.{◌≡◌, ℕ, Option, Some, None, refl}
 use Rattle.std.proofs.Common.{◌∙◌, ap, sym, subst}
 use Rattle.std.proofs.lemmas.Option.{none-some}
+use Rattle.proof_calls.specs.Beneath.history.specs.declared.calls.Call.{Call}
 use Rattle.proof_calls.specs.Beneath.history.specs.declared.calls.Call.TheVariants.{Close}
+use Rattle.proof_calls.specs.Beneath.slot_arena.specs.declared.refs.Ref.{Ref}
 use Rattle.proof_calls.specs.Beneath.machine_model.specs.declared.lines.Line.TheVariants as line
 use Rattle.proof_calls.specs.Beneath.machine_model.specs.declared.lines.Purpose.{Purpose}
 use Rattle.proof_calls.specs.Beneath.machine_model.specs.declared.lines.Purpose.TheVariants as purpose
 use Rattle.proof_calls.specs.Beneath.machine_model.specs.declared.operations.Operation.{Operation}
 use Rattle.proof_calls.specs.Beneath.machine_model.specs.declared.steps.Step.{Step}
 use Rattle.proof_calls.specs.Beneath.machine_model.specs.declared.steps.Step.TheVariants as step
+use Rattle.proof_calls.specs.Beneath.machine_model.specs.Machine.{run}
 use Rattle.proof_calls.specs.Beneath.machine_model.specs.Operations.{action_of, line_action, read_of}
 use Rattle.proof_calls.specs.Beneath.machine_model.specs.Orders.{committed_in}
 use Rattle.proof_calls.specs.Beneath.machine_model.specs.Paths.{above}
 use Rattle.proof_calls.specs.Beneath.machine_model.specs.States.{State, operation_of}
 use Rattle.proof_calls.specs.Beneath.gcas.specs.Swaps.{swap_of}
 use Rattle.proof_calls.specs.Beneath.proof_order.specs.Facts.{committed_by_step, committed_of}
-use Rattle.proof_updates.specs.Touching.{Touches}
+use Rattle.proof_updates.specs.Touching.{CommitsUpdate, Reaches, Touches}
 use Rattle.proof_updates.specs.Touching.Touches.{updates, clears, closes}
-use Rattle.proof_updates.proofs.Handles.OfLists.{untouched_stay, updates_change, repairs_stay}
+use Rattle.proof_updates.proofs.Handles.OfLists.{one_update, untouched_stay, updates_change, repairs_stay}
 use Rattle.proof_calls.specs.Beneath.key_change.specs.Lines.{line_at as change_at}
 use Rattle.proof_calls.specs.Beneath.contract.specs.Cleaning.{clean_line_at}
 use Rattle.proof_calls.specs.Beneath.contract.specs.Climbing.{climb_line_at, climb_of}
@@ -29,7 +32,7 @@ use Rattle.operate.specs.Places.{below_line}
 use Rattle.operate.proofs.Going.{LeavesRoots}
 use Rattle.operate.proofs.Wherever.{calm_below}
 use Rattle.proof_calls.specs.Standing.{StepsBelow, SwapsChanged, SwapsRepaired, committed}
-use Rattle.proof_calls.specs.Laws.{ChangesItsKey, OfEachKeyStep, OnlyCommitsChange, RepairsLeave}
+use Rattle.proof_calls.specs.Laws.{ChangesItsKey, LeavesOthers, OfEachKeyStep, OnlyCommitsChange, RepairsLeave}
 
 module _ (before : State) (s : Step) (op : KeyOp) (told : Option ℕ) (place : BelowAt) (operation : Operation) (x : StepsBelow before s op told place operation) where
   -- what the step commits is what the call's READ does
@@ -46,13 +49,17 @@ module _ (before : State) (s : Step) (op : KeyOp) (told : Option ℕ) (place : B
   same_operation : (actor : ℕ) (other : Operation) → s ≡ step.Go actor → operation_of before actor ≡ Some other → other ≡ operation
   same_operation actor other is runs = cc
 
-  touches_none : committed before op told place ≡ None → (handle : ℕ) → Touches before s handle → ⊥
-  touches_none none handle (updates i call former u reaches) = none-some u.swap.fresh (sym (commits ∙ none) ∙ u.commits)
-  touches_none none handle (clears opens c) =
+  -- what it touches it touches by an update
+  touches_by : (handle : ℕ) → ((i : Ref) (call : Call) (former : Option ℕ) → CommitsUpdate before s i call former → Reaches before handle i → ⊥) → Touches before s handle → ⊥
+  touches_by handle none (updates i call former u reaches) = none i call former u reaches
+  touches_by handle none (clears opens c) =
       let carries = c.carries in
       let same = same_operation carries.0 carries.1 carries.3 carries.4 in
       subst LeavesRoots (ap (action_of before) (sym same) ∙ carries.5) leaves
-  touches_none none handle (closes actor e) = begins actor handle e
+  touches_by handle none (closes actor e) = begins actor handle e
+
+  touches_none : committed before op told place ≡ None → (handle : ℕ) → Touches before s handle → ⊥
+  touches_none none handle = touches_by handle (λ i call former u reaches. none-some u.swap.fresh (sym (commits ∙ none) ∙ u.commits))
 
 pub only_commits : OfEachKeyStep OnlyCommitsChange
 only_commits limits steps s outcome after ok fit taken op told place operation x none handle access pairs holds =
@@ -108,16 +115,32 @@ changing op told at.Climb former e = absurd e
 changing op told at.End former e = absurd e
 changing op told at.Impossible former e = absurd e
 
+-- the call's own commit, as an update of its key
+update : (before : State) (s : Step) (op : KeyOp) (told : Option ℕ) (place : BelowAt) (operation : Operation) → StepsBelow before s op told place operation → (former : Option ℕ) →
+    SwapsChanged op place former → committed before op told place ≡ Some op.work.swap.fresh → CommitsUpdate before s op.work.swap.read.indirection operation.call former
+update before s op told place operation x former changed own = record {
+  actor = x.actor;
+  operation = operation;
+  runs = x.runs;
+  calls = refl;
+  path = op.path;
+  swap = swap_of op.work.swap told;
+  swaps = x.stands ∙ changing op told place former changed;
+  into = refl;
+  commits = commits before s op told place operation x ∙ own;
+}
+
 pub changes_its_key : OfEachKeyStep ChangesItsKey
-changes_its_key limits steps s outcome after ok fit taken op told place operation x former changed own handle access pairs holds reaches =
-    updates_change limits steps s outcome after ok fit taken handle access pairs op.work.swap.read.indirection operation.call former holds (record {
-      actor = x.actor;
-      operation = operation;
-      runs = x.runs;
-      calls = refl;
-      path = op.path;
-      swap = swap_of op.work.swap told;
-      swaps = x.stands ∙ changing op told place former changed;
-      into = refl;
-      commits = commits _ s op told place operation x ∙ own;
-    }) reaches
+changes_its_key limits steps s outcome after ok fit taken op told place operation x former changed own handle access pairs holds =
+    updates_change limits steps s outcome after ok fit taken handle access pairs op.work.swap.read.indirection operation.call former holds
+    (update _ s op told place operation x former changed own)
+
+pub leaves_others : OfEachKeyStep LeavesOthers
+leaves_others limits steps s outcome after ok fit taken op told place operation x former changed own handle access pairs holds misses =
+    untouched_stay limits steps s outcome after ok fit taken handle access pairs holds
+    (touches_by _ s op told place operation x handle (λ i call known u reaches. misses (subst (Reaches (run limits steps) handle) (same i call known u) reaches)))
+  where
+    same : (i : Ref) (call : Call) (known : Option ℕ) → CommitsUpdate (run limits steps) s i call known → i ≡ op.work.swap.read.indirection
+    same i call known u =
+        one_update limits steps s outcome after ok fit taken i op.work.swap.read.indirection call operation.call known former u
+        (update _ s op told place operation x former changed own)

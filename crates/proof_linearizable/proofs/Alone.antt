@@ -22,7 +22,8 @@ use Rattle.proof_linearizable.specs.Beneath.machine_model.proofs.Times.{run_is, 
 use Rattle.proof_linearizable.specs.Beneath.machine_model.specs.Times.{states_of, last_of}
 use Rattle.proof_linearizable.specs.Beneath.proof_order.specs.Facts.{Facts}
 use Rattle.proof_linearizable.specs.Beneath.proof_order.specs.Laws.Orders.{IsExplained, ShowsContents}
-use Rattle.proof_linearizable.specs.Beneath.proof_order.proofs.Places.Elements.{Among, of_each, among_right, get_among, among_get, among_map, among_mapped, contains_among}
+use Rattle.proof_linearizable.specs.Beneath.history.proofs.Among.{Among, among_right}
+use Rattle.proof_linearizable.specs.Beneath.proof_order.proofs.Places.Elements.{of_each, get_among, among_get, among_map, among_mapped, contains_among}
 use Rattle.proof_linearizable.specs.Beneath.proof_order.proofs.Places.Sorting.{AreApart, among_rising, rising_among}
 use Rattle.proof_linearizable.specs.Beneath.proof_order.proofs.History.Growing.{Grows, IsKept, holds_later, events_grow, get_grown}
 use Rattle.proof_linearizable.specs.Beneath.proof_order.proofs.Views.Unconditional.{books_of, stay}

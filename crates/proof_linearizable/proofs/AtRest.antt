@@ -13,7 +13,8 @@ use Rattle.proof_linearizable.specs.Beneath.machine_model.specs.States.{State}
 use Rattle.proof_linearizable.specs.Beneath.machine_model.specs.Machine.{is_busy}
 use Rattle.proof_linearizable.specs.Beneath.proof_order.specs.Facts.{Runs}
 use Rattle.proof_linearizable.specs.Beneath.proof_order.proofs.History.Books.{Books}
-use Rattle.proof_linearizable.specs.Beneath.proof_order.proofs.Places.Elements.{Among, among_get_or}
+use Rattle.proof_linearizable.specs.Beneath.history.proofs.Among.{Among}
+use Rattle.proof_linearizable.specs.Beneath.proof_order.proofs.Places.Elements.{among_get_or}
 
 -- an end of the operation stands in the history, or none
 abbrev Decided : List Event → ℕ → Type 0

@@ -3,7 +3,7 @@ use Rattle.std.specs.Prelude.{◌≡◌, ◌<◌, ◌≤◌, ℕ, Bool, true, fa
 use Rattle.std.proofs.Common.{refl, ap, arith, ◌∙◌, inl, inr, cond}
 use Rattle.proof_linearizable.specs.Beneath.places.specs.declared.place.Place.{Place}
 use Rattle.proof_linearizable.specs.Beneath.places.specs.Places.{is_before, placed, rising, ids_by_place}
-use Rattle.proof_linearizable.specs.Beneath.proof_order.proofs.Places.Elements.{Among}
+use Rattle.proof_linearizable.specs.Beneath.history.proofs.Among.{Among}
 
 -- a place of an earlier step comes before
 earlier_before : (p q : Place) → p.step < q.step → is_before p q ≡ true

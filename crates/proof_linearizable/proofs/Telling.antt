@@ -15,7 +15,8 @@ use Rattle.proof_linearizable.specs.Beneath.history.specs.Orders.{OrderedAt, Ans
 use Rattle.proof_linearizable.specs.Beneath.history.proofs.Begins.{begins_once}
 use Rattle.proof_linearizable.specs.Beneath.history.proofs.OneWorld.{one_world}
 use Rattle.proof_linearizable.specs.Beneath.proof_order.proofs.History.Books.{id_below}
-use Rattle.proof_linearizable.specs.Beneath.proof_order.proofs.History.Growing.{ended_before, get_left}
+use Rattle.proof_linearizable.specs.Beneath.proof_order.proofs.History.Growing.{ended_before}
+use Rattle.proof_linearizable.specs.Beneath.history.proofs.Places.{at_front, at_seam}
 
 -- ---- replays of a list with one call more
 
@@ -49,10 +50,6 @@ last_of hash history (x ∷ ids) id (one ∷ more) world next r p =
 
 -- ---- the longer history
 
-pub get_at_seam : {X : Type 0} (xs ys : List X) (y : X) → slice_get (xs ++ y ∷ ys) (length xs) ≡ Some y
-get_at_seam [] ys y = refl
-get_at_seam (x ∷ xs) ys y = get_at_seam xs ys y
-
 get_behind_seam : {X : Type 0} (xs : List X) (y z : X) → slice_get (xs ++ y ∷ z ∷ []) (suc (length xs)) ≡ Some z
 get_behind_seam [] y z = refl
 get_behind_seam (x ∷ xs) y z = get_behind_seam xs y z
@@ -71,7 +68,7 @@ module _ (history : List Event) (id actor : ℕ) (call : Call) (opens : Option �
   its = record { actor = actor; call = call; opens = opens }
 
   pub begins_here : BeginsAt longer (length history) id its
-  begins_here = get_at_seam history (End id answer ∷ []) (Begin id actor call opens)
+  begins_here = at_seam history (End id answer ∷ []) (Begin id actor call opens)
 
   pub has_begun : HasBegun longer id
   has_begun = (length history, its, begins_here)
@@ -86,7 +83,7 @@ module _ (history : List Event) (id actor : ℕ) (call : Call) (opens : Option �
   pub well_before : IsWellFormed history
   well_before place event e =
       subst (λ h. MayFollow h event) (take-append-le place history (Begin id actor call opens ∷ End id answer ∷ []) (omega (arith, slice_get_within history place event e)))
-      (well place event (get_left history (Begin id actor call opens ∷ End id answer ∷ []) place event e))
+      (well place event (at_front history (Begin id actor call opens ∷ End id answer ∷ []) place event e))
 
   -- who had begun is another one
   pub another : (x : ℕ) → HasBegun history x → x ≢ id
@@ -121,7 +118,7 @@ module _ (history : List Event) (id actor : ℕ) (call : Call) (opens : Option �
 
   recalls_on : (x : ℕ) (one : Answered) → HasBegun history x → Recalls history x one → Recalls longer x one
   recalls_on x one begun_x ((place, told, at, same_call, same_opens), answers) = (
-    (place, told, get_left history (Begin id actor call opens ∷ End id answer ∷ []) place (Begin x told.actor told.call told.opens) at, same_call, same_opens),
+    (place, told, at_front history (Begin id actor call opens ∷ End id answer ∷ []) place (Begin x told.actor told.call told.opens) at, same_call, same_opens),
     λ other ended. elim (ended_back x other ended) [ inl old ↦ answers other old | inr bad ↦ absurd (another x begun_x bad) ],
   )
 

@@ -2,8 +2,6 @@
 pub use Rattle.proof_updates as proof_updates
 pub use Rattle.proof_updates.specs.Beneath.ctrie_base as ctrie_base
 pub use Rattle.proof_updates.specs.Beneath.slot_arena as slot_arena
-pub use Rattle.proof_updates.specs.Beneath.epochs as epochs
-pub use Rattle.proof_updates.specs.Beneath.nodes as nodes
 pub use Rattle.proof_updates.specs.Beneath.places as places
 pub use Rattle.proof_updates.specs.Beneath.history as history
 pub use Rattle.proof_updates.specs.Beneath.machine_model as machine_model

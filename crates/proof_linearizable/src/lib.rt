@@ -4,3 +4,4 @@
 mod laws;
 
 pub use laws::{alone_it_acts, every_order_is_legal};
+pub use proof_updates::{contents_of_handles, looking_finds};

@@ -1,7 +1,5 @@
 -- A pass of KEY down the trie, level by level.
-pub mod Bottoms
-pub mod BottomsLines
-pub mod BottomsStale
+pub mod Key
 pub mod Sees
 pub mod Chains
 pub mod Lines

@@ -1,10 +1,8 @@
 -- What lies below this crate, named through the nearest crates alone: crates.txt lists only these, since the toolchain goes along each of its paths.
-pub use Rattle.proof_updates as proof_updates
 pub use Rattle.proof_updates.specs.Beneath.ctrie_base as ctrie_base
 pub use Rattle.proof_updates.specs.Beneath.slot_arena as slot_arena
 pub use Rattle.proof_updates.specs.Beneath.epochs as epochs
 pub use Rattle.proof_updates.specs.Beneath.nodes as nodes
-pub use Rattle.proof_updates.specs.Beneath.places as places
 pub use Rattle.proof_updates.specs.Beneath.history as history
 pub use Rattle.proof_updates.specs.Beneath.machine_model as machine_model
 pub use Rattle.proof_updates.specs.Beneath.proof_contents as proof_contents

@@ -18,8 +18,8 @@ use Rattle.proof_obstruction_free.specs.Beneath.machine_model.specs.declared.roo
 use Rattle.proof_obstruction_free.specs.Beneath.machine_model.specs.declared.roots.RootLine.TheVariants as root
 use Rattle.proof_obstruction_free.specs.Beneath.machine_model.specs.Calls.{handle_of}
 use Rattle.proof_obstruction_free.specs.Beneath.machine_model.specs.Climbing.{climbing, climbed}
-use Rattle.proof_obstruction_free.specs.Beneath.machine_model.specs.Operations.{line_action, line_after, generation_from, from_root, swapped, read_of}
-use Rattle.proof_obstruction_free.specs.Beneath.machine_model.specs.Reading.{read_action, read_after}
+use Rattle.proof_obstruction_free.specs.Beneath.machine_model.specs.Operations.{line_after, generation_from, from_root, swapped, EmbedsRead}
+use Rattle.proof_obstruction_free.specs.Beneath.machine_model.specs.Reading.{read_after}
 use Rattle.proof_obstruction_free.specs.Beneath.machine_model.specs.States.{State, word_at}
 use Rattle.proof_obstruction_free.specs.Beneath.machine_model.specs.Swapping.{swapping}
 use Rattle.proof_obstruction_free.specs.Alone.{Lone, Stands, Has, Keeps, KeepsBut, WordStays, IsPlain, IsCurrent, Within, node, generation}
@@ -30,10 +30,9 @@ abbrev pub lead : (ReadLine → Line) → (Ref → Line) → After ReadLine Ref 
 lead wrap gives (Goes l) = wrap l
 lead wrap gives (Gives m) = gives m
 
--- The lines of a READ of this indirection within a program: a step of them is the READ's, and where it gives a main node this line comes after it.
+-- The lines of a READ of this indirection within a program, and the line that comes after it where it gives a main node.
 pub record HoldsRead (own : Operation) (wrap : ReadLine → Line) (gives : Ref → Line) (i : Ref) : Type 0 where
-  pub reads : (l : ReadLine) → read_of (wrap l) ≡ Some (record { indirection = i; line = l })
-  pub acts : (state : State) (operation : Operation) (l : ReadLine) → line_action state operation (wrap l) ≡ read_action i l
+  pub embedded : EmbedsRead wrap i
   pub goes : (state : State) (operation : Operation) (l : ReadLine) → operation.call ≡ own.call → operation.access ≡ own.access →
       line_after state operation (wrap l) ≡ lead wrap gives (read_after state.heap own.access (word_at state (handle_of own.call)) i l)
   pub stays : (state : State) (operation : Operation) (l : ReadLine) → generation_from state operation (wrap l) ≡ operation.generation

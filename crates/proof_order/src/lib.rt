@@ -11,6 +11,7 @@ mod laws;
 
 pub use laws::openings::{
     closed_roots_stay, closings_differ, handles_rise, new_roots_follow, one_root,
+    roots_swapped_as_expected,
 };
 pub use laws::orders::{
     answered_are_ordered, histories_well_formed, legal_by_facts, ordered_have_begun, places_past,

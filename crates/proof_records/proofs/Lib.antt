@@ -7,7 +7,7 @@ pub mod Newest
 pub mod Swapping
 pub mod Numbers
 pub mod Entries
-pub mod Holds
+pub mod MostHeld
 pub mod Building
 pub mod Holding
 pub mod Privates

@@ -42,7 +42,7 @@ older : (a b births : ℕ) → birth_of a ≤ births → birth_of b ≡ births +
 older a b births low high = omega (arith, low, high)
 
 -- nodes in use in one slot are one
-same_slot : (heap : Heap) (a b : Ref) → IsInUse heap a → IsInUse heap b → slot_of a ≡ slot_of b → a ≡ b
+pub same_slot : (heap : Heap) (a b : Ref) → IsInUse heap a → IsInUse heap b → slot_of a ≡ slot_of b → a ≡ b
 same_slot heap a b at_a at_b same =
     one_live heap.slots a b (live_seen heap a (in_use_lives heap a at_a)) (live_seen heap b (in_use_lives heap b at_b)) same
 

@@ -30,11 +30,12 @@ use Rattle.proof_records.specs.Beneath.proof_generations.specs.Running.{Runs}
 use Rattle.proof_records.specs.Beneath.proof_generations.proofs.Handles.Footings.{ActionCarriesOut}
 use Rattle.proof_records.specs.Beneath.proof_generations.proofs.Handles.Operations.{HasHandles, ran_or_began, stays, stays_none}
 use Rattle.proof_records.specs.Beneath.proof_generations.proofs.Handles.Running.{Follows, rests, steps, ends, at_place, comes, follows, one_at}
-use Rattle.proof_records.specs.Beneath.proof_generations.proofs.Offers.Marks.{Marks, carried_stands, marked_in}
+use Rattle.proof_records.specs.Beneath.proof_generations.proofs.Offers.Marks.{Marks, carried_stands, marked_in, mark_cases}
 use Rattle.proof_records.specs.Beneath.proof_generations.proofs.Offers.Same.{HasOffers}
 use Rattle.proof_records.specs.Beneath.proof_generations.proofs.Offers.Standing.{own_numbers}
 use Rattle.proof_records.specs.Beneath.proof_generations.proofs.Roots.OfLists.{has_handles_along}
 use Rattle.proof_records.specs.Laws.{NumbersStay}
+use Rattle.proof_records.specs.Beneath.ctrie_base.proofs.SameTests.{same_tests}
 
 -- ---- what is reserved
 
@@ -112,15 +113,6 @@ carried_opens state at handle action offer c opens within =
 
 -- ---- a step
 
--- what is marked after it and wasn't before was marked by it
-newly_marked : (m : Option ℕ) (operation : Operation) → operation.is_marked ≡ false → (mark_one m operation).is_marked ≡ true → m ≡ Some operation.id
-newly_marked None operation f e = absurd (true≢false (sym e ∙ f))
-newly_marked (Some id) operation f e = by (operation.id == id) refl e
-  where
-    by : (b : Bool) → (operation.id == id) ≡ b → (cond b (record operation { is_marked = true }) operation).is_marked ≡ true → Some id ≡ Some operation.id
-    by true t e = ap Some (sym (eqb-true operation.id id t))
-    by false t e = absurd (true≢false (sym e ∙ f))
-
 stays_unmarked : (mark : Bool) (action : Action) → mark ≡ false → mark_after mark action ≡ false
 stays_unmarked mark (act.Offer offer) e = refl
 stays_unmarked mark action e = e
@@ -154,7 +146,7 @@ module _ (state : State) (I : HasOffers state) (H : HasHandles state) (actor : �
   reserved_on k was next at_k opens id same unmarked now = by (mark_one (marks_in state (step.Go actor)) next).is_marked refl
     where
       by : (b : Bool) → (mark_one (marks_in state (step.Go actor)) next).is_marked ≡ b → is_taken after handle ≡ true
-      by true e = opened_now k was at_k opens (marked_in state I (step.Go actor) k was at_k (newly_marked (marks_in state (step.Go actor)) next unmarked e ∙ ap Some id))
+      by true e = opened_now k was at_k opens (marked_in state I (step.Go actor) k was at_k (mark_cases (marks_in state (step.Go actor)) next e unmarked ∙ ap Some id))
       by false e =
           reserved_taken after handle (reserved_at handle after.actors k (mark_one (marks_in state (step.Go actor)) next) now e
           (ap (λ (x : Operation). x.opens) (mark_only (marks_in state (step.Go actor)) next) ∙ same ∙ opens))
@@ -211,12 +203,7 @@ module _ (state : State) (I : HasOffers state) (H : HasHandles state) (actor : �
       ]
 
   same_taken : is_taken after handle ≡ is_taken state handle
-  same_taken = alike (is_taken after handle) (is_taken state handle) was_taken still_taken
-    where
-      alike : (a b : Bool) → (a ≡ true → b ≡ true) → (b ≡ true → a ≡ true) → a ≡ b
-      alike true b there back = sym (there refl)
-      alike false true there back = back refl
-      alike false false there back = refl
+  same_taken = same_tests (is_taken after handle) (is_taken state handle) was_taken still_taken
 
 pub numbers_stay : NumbersStay
 numbers_stay limits before actor operation ok d is g handle within =

@@ -14,12 +14,12 @@ use Rattle.proof_records.specs.Beneath.machine_model.proofs.EachOperation.{OfEac
 use Rattle.proof_records.specs.Laws.{PrivatesAreShort}
 use Rattle.proof_records.proofs.Entries.{few_entries}
 use Rattle.proof_records.proofs.Holding.{holds_after}
-use Rattle.proof_records.proofs.Holds.{Holds, most}
+use Rattle.proof_records.proofs.MostHeld.{LineHolds, most}
 
 abbrev HoldsFew : State → Operation → Type 0
-HoldsFew state operation = Holds (length operation.private) operation.line
+HoldsFew state operation = LineHolds (length operation.private) operation.line
 
-first_holds : (call : Call) → Holds 0 (first_line call)
+first_holds : (call : Call) → LineHolds 0 (first_line call)
 first_holds (Entries h) = omega arith
 first_holds (Count h) = omega arith
 first_holds (Close h) = omega arith

@@ -41,7 +41,7 @@ decides_free i a f l s e free = subst IsFree e free
 same_fresh : (i a f j b g : Ref) (l k : ReadLine) → Decides i a f l ≡ Decides j b g k → f ≡ g
 same_fresh i a f j b g l k e = cc
 
-publishes_other : (i a f j b g : Ref) (l : ReadLine) → Publishes i a f ≡ Decides j b g l → ⊥
+pub publishes_other : (i a f j b g : Ref) (l : ReadLine) → Publishes i a f ≡ Decides j b g l → ⊥
 publishes_other i a f j b g l e = cc
 
 reads_other : (i j b g : Ref) (k l : ReadLine) → Reads i k ≡ Decides j b g l → ⊥

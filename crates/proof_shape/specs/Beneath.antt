@@ -1,5 +1,4 @@
 -- What lies below this crate, named through the nearest crates alone: crates.txt lists only these, since the toolchain goes along each of its paths.
-pub use Rattle.proof_generations as proof_generations
 pub use Rattle.proof_generations.specs.Beneath.ctrie_base as ctrie_base
 pub use Rattle.proof_generations.specs.Beneath.slot_arena as slot_arena
 pub use Rattle.proof_generations.specs.Beneath.epochs as epochs

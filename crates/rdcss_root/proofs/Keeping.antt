@@ -6,7 +6,7 @@ use Rattle.slot_arena.specs.declared.refs.Ref.{Ref}
 use Rattle.slot_arena.specs.Heaps.{Heap}
 use Rattle.slot_arena.specs.Arenas.{is_live, IsLive, AreLive}
 use Rattle.epochs.specs.Memories.{Memory}
-use Rattle.rdcss_root.specs.Holds.{KeepsMemory}
+use Rattle.rdcss_root.specs.Holding.{KeepsMemory}
 
 pub kept : (m : Memory) → KeepsMemory m m 0
 kept m = record { heap = refl; epochs = (refl, refl, refl, refl); owners = refl; few = omega arith; ticks = (omega arith, omega arith) }

@@ -1,5 +1,5 @@
 -- What is held, where one root word gives way to another.
-use Rattle.std.specs.Prelude.{◌≡◌, ℕ, ◌+◌, ◌*◌, ◌<◌, ◌≤◌, List, [], ◌∷◌, length, flat_map, slice_set, slice_index_or, Option, Some, None}
+use Rattle.std.specs.Prelude.{◌≡◌, ℕ, ◌+◌, ◌<◌, ◌≤◌, List, [], ◌∷◌, length, flat_map, slice_set, slice_index_or, Option, Some, None}
 use Rattle.std.specs.List.{sum_by}
 use Rattle.std.proofs.Common.{arith, rules, ◌∙◌, refl, sym, ap, subst}
 use Rattle.std.proofs.lemmas.List.{set_past}
@@ -17,7 +17,7 @@ use Rattle.rdcss_root.specs.Beneath.machine_model.specs.declared.roots.RootWord.
 use Rattle.rdcss_root.specs.Beneath.machine_model.specs.Counting.{refs_of_root, refs_of_word}
 use Rattle.rdcss_root.specs.Beneath.machine_model.specs.States.{rewritten}
 use Rattle.trie_parts.specs.Holding.{AreHeld}
-use Rattle.rdcss_root.specs.Holds.{Holds, Releases, IsReady, Moves}
+use Rattle.rdcss_root.specs.Holding.{HoldsMore, Releases, IsReady, Moves}
 use Rattle.rdcss_root.proofs.Keeping.{kept, kept_on}
 
 -- what stands in lists of lists
@@ -48,11 +48,11 @@ few_of_root (Some root) = few_of_word root.word
 
 -- what stands in one root word is held
 pub found_held : {before held : Memory} {n : ℕ} (roots : List (Option Root)) (i : ℕ) (root : Option Root) → i < length roots → IsReady before roots n →
-    Holds (refs_of_root root) before held → AreHeld (refs_of_root (slice_index_or roots i None)) held
+    HoldsMore (refs_of_root root) before held → AreHeld (refs_of_root (slice_index_or roots i None)) held
 found_held roots i root within ready holds = λ r. omega (arith, times_set r refs_of_root roots i None None within, ready.held r, holds.outside r)
 
 set_once : {before held after : Memory} (roots : List (Option Root)) (i : ℕ) (root : Option Root) → i < length roots →
-    Holds (refs_of_root root) before held → Releases (refs_of_root (slice_index_or roots i None)) held after → Moves before after roots (slice_set roots i root) 4
+    HoldsMore (refs_of_root root) before held → Releases (refs_of_root (slice_index_or roots i None)) held after → Moves before after roots (slice_set roots i root) 4
 set_once roots i root within holds releases = record {
   outside = λ r. omega (arith, times_set r refs_of_root roots i root None within, holds.outside r, releases.outside r);
   more = λ r. omega (arith, holds.outside r, releases.outside r, times_le r (refs_of_root root), few_of_root root);
@@ -60,7 +60,7 @@ set_once roots i root within holds releases = record {
 }
 
 pub moved : {before held after : Memory} (roots now : List (Option Root)) (i : ℕ) (root : Option Root) → i < length roots → now ≡ slice_set roots i root →
-    Holds (refs_of_root root) before held → Releases (refs_of_root (slice_index_or roots i None)) held after → Moves before after roots now 4
+    HoldsMore (refs_of_root root) before held → Releases (refs_of_root (slice_index_or roots i None)) held after → Moves before after roots now 4
 moved {before} {held} {after} roots now i root within set holds releases =
     subst (λ xs. Moves before after roots xs 4) (sym set) (set_once roots i root within holds releases)
 

@@ -18,7 +18,7 @@ use Rattle.trie_parts.specs.Here.{at_heap, no_state}
 use Rattle.trie_parts.specs.Holding.{Acts}
 use Rattle.trie_parts.proofs.Unmade.{read_privates, read_owners}
 use Rattle.rdcss_root.specs.Acts.{ActsInAll}
-use Rattle.rdcss_root.specs.Holds.{Moves}
+use Rattle.rdcss_root.specs.Holding.{Moves}
 use Rattle.rdcss_root.proofs.Keeping.{kept}
 
 -- the root words stay

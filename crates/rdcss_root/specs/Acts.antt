@@ -12,7 +12,7 @@ use Rattle.rdcss_root.specs.Beneath.machine_model.specs.Acting.{private_after}
 use Rattle.rdcss_root.specs.Beneath.gcas.specs.Acted.{acted_heap}
 use Rattle.trie_parts.specs.Here.{at_heap, no_state}
 use Rattle.trie_parts.specs.Holding.{owners_after}
-use Rattle.rdcss_root.specs.Holds.{root_refs}
+use Rattle.rdcss_root.specs.Holding.{root_refs}
 
 -- The step with this action leads from one heap, private list and table of root words to others. It notes few slots and takes few ticks, however large the heap.
 pub record ActsInAll (before : Memory) (roots : List (Option Root)) (private : List Ref) (action : Action) (after : Memory) (roots' : List (Option Root)) (private' : List Ref) : Type 0 where

@@ -1,5 +1,5 @@
 pub mod Beneath
 pub mod Acts
-pub mod Holds
+pub mod Holding
 pub mod Tables
 pub mod Programs

@@ -33,7 +33,7 @@ use Rattle.rdcss_root.specs.declared.abort.AbortRead.{AbortRead}
 use Rattle.rdcss_root.specs.declared.abort.AbortRead.TheVariants as abort
 use Rattle.rdcss_root.specs.declared.root.ReadRoot.{ReadRoot}
 use Rattle.rdcss_root.specs.declared.root.ReadRoot.TheVariants as rooting
-use Rattle.rdcss_root.specs.Holds.{IsReady, Moves}
+use Rattle.rdcss_root.specs.Holding.{IsReady, Moves}
 use Rattle.rdcss_root.specs.Tables.{Table, aborted_in, completed_in}
 
 -- ---- COMPLETE

@@ -2,7 +2,7 @@
 
 ghost use Rattle.std.specs.Prelude.{◌≡◌};
 ghost use Rattle.slot_arena.specs.declared.refs.Ref.{Ref};
-ghost use Rattle.rdcss_root.specs.Holds.{Moves};
+ghost use Rattle.rdcss_root.specs.Holding.{Moves};
 ghost use Rattle.rdcss_root.specs.Tables.{word_in, aborted_in};
 ghost use Rattle.rdcss_root.specs.Programs.{AbortsOn, CanAbortOn, table_after_abort};
 

@@ -11,7 +11,7 @@ ghost use Rattle.rdcss_root.specs.Beneath.gcas.specs.Acted.{acted_heap};
 ghost use Rattle.rdcss_root.specs.Beneath.gcas.specs.Kept.{KeepsBeside};
 ghost use Rattle.rdcss_root.specs.Beneath.gcas.specs.Reads.{begun, line_of, CanReadOn, IsAskingRoot};
 ghost use Rattle.rdcss_root.specs.Acts.{ActsInAll};
-ghost use Rattle.rdcss_root.specs.Holds.{Moves, IsReady};
+ghost use Rattle.rdcss_root.specs.Holding.{Moves, IsReady};
 ghost use Rattle.rdcss_root.specs.Tables.{word_in, completed_in};
 ghost use Rattle.rdcss_root.specs.Programs.{complete_of, complete_with, CompletesOn, CanCompleteOn, KeepsUnlessSwapped, ReadsOffered, completed_at};
 ghost use Rattle.rdcss_root.specs.Beneath.machine_model.specs.Operations.{kind_of, completing_read};

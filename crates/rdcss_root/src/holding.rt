@@ -5,7 +5,7 @@ ghost use Rattle.slot_arena.specs.Times.{times};
 ghost use Rattle.slot_arena.specs.Arenas.{AreLive};
 ghost use Rattle.rdcss_root.specs.Beneath.machine_model.specs.Counting.{refs_of_word, refs_of_root};
 ghost use Rattle.trie_parts.specs.Holding.{AreHeld};
-ghost use Rattle.rdcss_root.specs.Holds.{Holds, Releases};
+ghost use Rattle.rdcss_root.specs.Holding.{HoldsMore, Releases};
 
 use epochs::Heap;
 use slot_arena::Ref;
@@ -15,7 +15,7 @@ use trie_parts::{Root, RootWord};
 fn hold_all(heap: &mut Heap, refs: &[Ref])
     requires live { AreLive heap.old.heap refs.now }
     requires room { (r : ℕ) → times r heap.old.outside + length refs.now < 2 ^ 31 }
-    ensures { Holds refs.now heap.old heap.new }
+    ensures { HoldsMore refs.now heap.old heap.new }
 {
     for at in refs {
         heap.hold(*at);
@@ -33,7 +33,7 @@ fn release_all(heap: &mut Heap, refs: &[Ref])
 fn hold_word(heap: &mut Heap, word: RootWord)
     requires live { AreLive heap.old.heap (refs_of_word word) }
     requires room { (r : ℕ) → times r heap.old.outside + 4 < 2 ^ 31 }
-    ensures { Holds (refs_of_word word) heap.old heap.new }
+    ensures { HoldsMore (refs_of_word word) heap.old heap.new }
 {
     match word {
         RootWord::Plain(root) => hold_all(heap, &[root]),
@@ -64,7 +64,7 @@ fn release_word(heap: &mut Heap, word: RootWord)
 pub(crate) fn hold_root(heap: &mut Heap, root: &Option<Root>)
     requires live { AreLive heap.old.heap (refs_of_root root.now) }
     requires room { (r : ℕ) → times r heap.old.outside + 4 < 2 ^ 31 }
-    ensures { Holds (refs_of_root root.now) heap.old heap.new }
+    ensures { HoldsMore (refs_of_root root.now) heap.old heap.new }
 {
     if let Some(root) = root {
         hold_word(heap, root.word);

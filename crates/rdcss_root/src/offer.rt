@@ -4,7 +4,7 @@ ghost use Rattle.std.specs.Prelude.{◌≡◌};
 ghost use Rattle.slot_arena.specs.Arenas.{AreLive};
 ghost use Rattle.rdcss_root.specs.Beneath.machine_model.specs.Counting.{refs_of_word};
 ghost use Rattle.rdcss_root.specs.Beneath.machine_model.specs.Swapping.{is_plain};
-ghost use Rattle.rdcss_root.specs.Holds.{IsReady, Moves};
+ghost use Rattle.rdcss_root.specs.Holding.{IsReady, Moves};
 ghost use Rattle.rdcss_root.specs.Tables.{word_in, offered_in};
 
 use crate::roots::Roots;

@@ -4,7 +4,7 @@ ghost use Rattle.std.specs.Prelude.{◌≡◌, ◌<◌, [], ◌∷◌, IfOk, rep
 ghost use Rattle.slot_arena.specs.Arenas.{AreLive};
 ghost use Rattle.rdcss_root.specs.Beneath.machine_model.specs.Counting.{refs_of_root, refs_of_word};
 ghost use Rattle.rdcss_root.specs.Beneath.machine_model.specs.States.{handle_limit, rewritten};
-ghost use Rattle.rdcss_root.specs.Holds.{IsReady, Moves};
+ghost use Rattle.rdcss_root.specs.Holding.{IsReady, Moves};
 ghost use Rattle.rdcss_root.specs.Beneath.machine_model.specs.Swapping.{is_plain, is_carried_out};
 ghost use Rattle.rdcss_root.specs.Beneath.machine_model.specs.Acting.{opened_root};
 ghost use Rattle.rdcss_root.specs.Tables.{new_table, root_in, word_in, with_root_in, with_word_in, aborted_in, offered_in, completed_in, carried_out_in};

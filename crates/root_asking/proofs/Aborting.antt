@@ -23,15 +23,16 @@ use Rattle.root_asking.specs.Beneath.trie_parts.specs.Holding.{owners_after}
 use Rattle.rdcss_root.specs.declared.abort.AbortRead.{AbortRead}
 use Rattle.rdcss_root.specs.declared.abort.AbortRead.TheVariants as abort
 use Rattle.rdcss_root.specs.Acts.{ActsInAll}
-use Rattle.rdcss_root.specs.Holds.{Moves}
+use Rattle.rdcss_root.specs.Holding.{Moves}
 use Rattle.rdcss_root.specs.Programs.{AbortsOn}
 use Rattle.rdcss_root.specs.Tables.{Table, word_in}
 use Rattle.root_asking.specs.declared.asking.Asking.{Asking}
 use Rattle.root_asking.specs.declared.asking.Asking.TheVariants.{Unasked, Met, Told}
 use Rattle.root_asking.specs.Asked.{IsUntold, AsksOn, abort_of, asking_of, ask_action, asked_at, asked_read}
-use Rattle.root_asking.proofs.Holding.{each_holds}
+use Rattle.root_asking.proofs.Embedding.{each_embeds}
 
-same_action : (indirection main previous : Ref) (asking : Asking) → IsUntold asking → read_action indirection (asked_at main previous asking) ≡ ask_action asking
+-- what the READ of ABORT's step does
+pub same_action : (indirection main previous : Ref) (asking : Asking) → IsUntold asking → read_action indirection (asked_at main previous asking) ≡ ask_action asking
 same_action indirection main previous Unasked untold = refl
 same_action indirection main previous (Met offer) untold = refl
 same_action indirection main previous (Told generation) untold = absurd untold
@@ -47,12 +48,12 @@ asks : (heap : Heap) (table : Table) (handle : ℕ) (before after : Asking) (k :
 asks heap table handle before after k untold steps = λ state operation l indirection main previous is writable same.
     let there : State = record state { heap = heap; roots = table.roots } in
     let at = asked_at main previous before in
-    let holds = each_holds l (asked_read indirection main previous Unasked) is in
+    let embeds = each_embeds l (asked_read indirection main previous Unasked) is in
     let step = steps indirection main previous in
     let action = same_action indirection main previous before untold in
     let here = subst (λ n. read_after heap Writable (word_in table n) indirection at ≡ Goes (asked_at main previous after)) (sym same) step.1 in
     let goes = subst (λ a. read_after heap a (word_in table (handle_of operation.call)) indirection at ≡ Goes (asked_at main previous after)) (sym writable) here in
-    (holds.acts there operation at ∙ action, ap kind_of (sym action) ∙ step.0, holds.goes there operation at (asked_at main previous after) goes, holds.reads at)
+    (embeds.embedded.acts there operation at ∙ action, ap kind_of (sym action) ∙ step.0, embeds.goes there operation at (asked_at main previous after) goes, embeds.embedded.reads at)
 
 pub goes_on : (heap : Heap) (table : Table) (handle : ℕ) (before : Asking) (after : AbortRead) (k : Kind) → IsUntold before →
     ((indirection main previous : Ref) → AbortsOn heap (word_in table handle) (abort_of before) after (More k) indirection main previous) → AsksOn heap table handle before (asking_of after) k

@@ -1,2 +1,2 @@
 pub mod Aborting
-pub mod Holding
+pub mod Embedding

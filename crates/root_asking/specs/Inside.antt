@@ -25,8 +25,8 @@ use Rattle.root_asking.specs.Beneath.machine_model.specs.declared.roots.RootLine
 use Rattle.root_asking.specs.Beneath.machine_model.specs.declared.walking.WalkLine.{WalkLine}
 use Rattle.root_asking.specs.Beneath.machine_model.specs.declared.walking.WalkLine.TheVariants as walk
 use Rattle.root_asking.specs.Beneath.machine_model.specs.Calls.{handle_of}
-use Rattle.root_asking.specs.Beneath.machine_model.specs.Operations.{line_action, line_after, read_of}
-use Rattle.root_asking.specs.Beneath.machine_model.specs.Reading.{read_action, read_after}
+use Rattle.root_asking.specs.Beneath.machine_model.specs.Operations.{EmbedsRead, line_after, read_of}
+use Rattle.root_asking.specs.Beneath.machine_model.specs.Reading.{read_after}
 use Rattle.root_asking.specs.Beneath.machine_model.specs.States.{State, word_at}
 
 abbrev pub read_at : Read → ReadLine → Read
@@ -86,15 +86,14 @@ with_read l (line.Walk w) = line.Walk (walking_at l w)
 with_read l (line.End answer) = line.End answer
 with_read l line.Impossible = line.Impossible
 
--- The line of a program holds this READ: a step of it is the READ's, whichever line that is on, and where the READ goes on the program goes on with it.
-pub record Holds (l : Line) (r : Read) : Type 0 where
+-- The line of a program embeds this READ: a step of it is the READ's, whichever line that is on, and where the READ goes on the program goes on with it.
+pub record Embeds (l : Line) (r : Read) : Type 0 where
   pub here : with_read r.line l ≡ l
-  pub reads : (at : ReadLine) → read_of (with_read at l) ≡ Some (read_at r at)
+  pub embedded : EmbedsRead (λ at. with_read at l) r.indirection
   pub again : (at other : ReadLine) → with_read at (with_read other l) ≡ with_read at l
-  pub acts : (state : State) (operation : Operation) (at : ReadLine) → line_action state operation (with_read at l) ≡ read_action r.indirection at
   pub goes : (state : State) (operation : Operation) (at after : ReadLine) →
       read_after state.heap operation.access (word_at state (handle_of operation.call)) r.indirection at ≡ Goes after → line_after state operation (with_read at l) ≡ with_read after l
 
--- a law: each line holds the READ that it is in
-abbrev pub EachHolds : Type 0
-EachHolds = (l : Line) → (r : Read) → read_of l ≡ Some r → Holds l r
+-- a law: each line embeds the READ that it is in
+abbrev pub EachEmbeds : Type 0
+EachEmbeds = (l : Line) → (r : Read) → read_of l ≡ Some r → Embeds l r

@@ -6,7 +6,7 @@
 //! old generation, where a call that only wants the root completes it.
 //!
 //! In the definition these steps are lines of the READ, and so of the program in which it runs. `specs/Inside` says for all
-//! programs at once what it is that a READ runs in one (`Holds`), `specs/Asked` on which line the program stands while its
+//! programs at once what it is that a READ runs in one (`Embeds`), `specs/Asked` on which line the program stands while its
 //! READ asks.
 #![tactic(auto)]
 
@@ -14,5 +14,5 @@ mod asking;
 mod laws;
 
 pub use asking::Asking;
-pub use laws::each_holds;
+pub use laws::each_embeds;
 pub use rdcss_root::{Complete, Offer, ReadRoot, Roots};

@@ -26,7 +26,6 @@ use Rattle.running.specs.Beneath.machine_model.specs.Acting.{attempt_after}
 use Rattle.running.specs.Beneath.machine_model.specs.Calls.{handle_of}
 use Rattle.running.specs.Beneath.machine_model.specs.Operations.{generation_from, given_root, kind_of, line_action, line_after, read_of, rooting_read}
 use Rattle.running.specs.Beneath.machine_model.specs.Orders.{committed_in, counted_from}
-use Rattle.running.specs.Beneath.machine_model.specs.Reading.{read_action}
 use Rattle.running.specs.Beneath.machine_model.specs.States.{State, word_at}
 use Rattle.running.specs.Beneath.machine_model.specs.Swapping.{root_after}
 use Rattle.running.specs.Beneath.gcas.specs.declared.read.Read.{Read as Running}
@@ -44,7 +43,7 @@ use Rattle.running.specs.Beneath.root_asking.specs.declared.asking.Asking.{Askin
 use Rattle.running.specs.Beneath.root_asking.specs.declared.asking.Asking.TheVariants.{Unasked, Met, Told}
 use Rattle.running.specs.Beneath.root_asking.specs.Asked.{AsksOn, IsUntold, abort_of, ask_action, asked_at, asked_line, asked_read}
 use Rattle.running.specs.Beneath.root_asking.specs.Inside.{rooting_at, with_read}
-use Rattle.running.specs.Beneath.root_asking.proofs.Holding.{each_holds}
+use Rattle.running.specs.Beneath.root_asking.proofs.Embedding.{each_embeds}
 use Rattle.snapshot.specs.Tasks.{drawn_by, with_generation}
 use Rattle.running.specs.declared.job.Job.{Job}
 use Rattle.running.specs.declared.job.Program.{Program}
@@ -55,6 +54,7 @@ use Rattle.running.specs.Places.{IsBegun, IsWaiting, ReadsOn, generation_in, ask
 use Rattle.running.specs.Steps.{Changes, Does, Scene, at_scene, given_in, operation_in}
 use Rattle.running.proofs.Lasting.{tells}
 use Rattle.running.proofs.Giving.{asked_gives}
+use Rattle.running.specs.Beneath.root_asking.proofs.Aborting.{same_action}
 use Rattle.snapshot.specs.declared.tasks.SnapCall.TheVariants.{Snapshot, Freeze, Clear}
 
 -- ---- that a program's READ asks
@@ -84,7 +84,7 @@ asks_by r l indirection ReadOnly (at.Given main) writable decides reads asks = a
 
 -- the line of a program that was told this has the READ on the line that it was told
 told_read : (l told : Line) (here : ReadLine) (q : Read) → told ≡ with_read here l → read_of l ≡ Some q → read_of told ≡ Some (record q { line = here })
-told_read l told here q is reads = ap read_of is ∙ (each_holds l q reads).reads here
+told_read l told here q is reads = ap read_of is ∙ (each_embeds l q reads).embedded.reads here
 
 asks_read : (r : Running) (l : Line) (o : Option Read) → l ≡ with_read (line_of r None) l → read_of l ≡ o → IsAskingRead o → Asks r l
 asks_read r l None same reads asks = absurd asks
@@ -106,7 +106,7 @@ told_here access generation main previous place writable decides =
 -- it is that of the program with its READ on ABORT's line
 pub asked : (p : Programs) (program : Program) (asking : Asking) → (h : Asks p.key.work.swap.read (program_line p None program)) →
     asking_line p program Runs asking ≡ asked_line h.main h.previous asking (program_line p None program)
-asked p program Unasked h = sym (each_holds (program_line p None program) _ h.reads).here
+asked p program Unasked h = sym (each_embeds (program_line p None program) _ h.reads).here
 asked p program (Met offer) h = ap (λ (x : ReadAt). with_read (met_at x offer) (program_line p None program)) h.decides
 asked p program (Told generation) h =
     tells p (Some generation) program
@@ -123,14 +123,15 @@ key_handle handle (ReplaceIf k a b) = refl
 key_handle handle (Remove k) = refl
 key_handle handle (RemoveIf k v) = refl
 
-handle_is : (handle : ℕ) (program : Program) → handle_of (call_for handle program) ≡ handle
-handle_is handle (Key call) = key_handle handle call
-handle_is handle (Snap Snapshot) = refl
-handle_is handle (Snap Freeze) = refl
-handle_is handle (Snap Clear) = refl
-handle_is handle Entries = refl
-handle_is handle Count = refl
-handle_is handle Close = refl
+-- a program's call is on its handle
+pub handle_named : (handle : ℕ) (program : Program) → handle_of (call_for handle program) ≡ handle
+handle_named handle (Key call) = key_handle handle call
+handle_named handle (Snap Snapshot) = refl
+handle_named handle (Snap Freeze) = refl
+handle_named handle (Snap Clear) = refl
+handle_named handle Entries = refl
+handle_named handle Count = refl
+handle_named handle Close = refl
 
 commits_none : (state : State) (indirection main previous : Ref) (asking : Asking) → IsUntold asking → committed_in state (Some (asked_read indirection main previous asking)) ≡ None
 commits_none state indirection main previous Unasked untold = refl
@@ -171,16 +172,11 @@ keeps_generation state operation (line.Walk l) r main previous asking untold is 
 keeps_generation state operation (line.End answer) r main previous asking untold is = refl
 keeps_generation state operation line.Impossible r main previous asking untold is = refl
 
-reads_so : (indirection main previous : Ref) (asking : Asking) → IsUntold asking → read_action indirection (asked_at main previous asking) ≡ ask_action asking
-reads_so indirection main previous Unasked untold = refl
-reads_so indirection main previous (Met offer) untold = refl
-reads_so indirection main previous (Told generation) untold = absurd untold
-
 -- what a step of ABORT does, whatever the state
 acts_so : (state : State) (operation : Operation) (l : Line) (r : Read) (main previous : Ref) (asking : Asking) → IsUntold asking → read_of l ≡ Some r →
     line_action state operation (asked_line main previous asking l) ≡ ask_action asking
 acts_so state operation l r main previous asking untold is =
-    (each_holds l r is).acts state operation (asked_at main previous asking) ∙ reads_so r.indirection main previous asking untold
+    (each_embeds l r is).embedded.acts state operation (asked_at main previous asking) ∙ same_action r.indirection main previous asking untold
 
 -- a READ that has met an offer takes it back
 pub met_kind : (p : Programs) (program : Program) (offer : Descriptor) (state : State) (operation : Operation) → IsAskingLine (program_line p None program) →
@@ -263,7 +259,7 @@ steps job program before asking asking' memory' table' k ask untold begun stands
       takes = λ state operation.
           let there : State = at_scene state before in
           let o : Operation = operation_in job program before operation in
-          let step = on there o l h.indirection h.main h.previous h.reads h.writable (handle_is job.handle program) in
+          let step = on there o l h.indirection h.main h.previous h.reads h.writable (handle_named job.handle program) in
           record {
             kind = ap (λ m. kind_of (line_action there o m)) from ∙ ap kind_of step.0 ∙ step.1;
             line = ap (λ m. line_after there o m) from ∙ step.2 ∙ sym (asked p program asking' h);

@@ -30,7 +30,7 @@ use Rattle.running.specs.Beneath.gcas.specs.declared.read.ReadAt.{ReadAt}
 use Rattle.running.specs.Beneath.gcas.specs.declared.read.ReadAt.TheVariants as at
 use Rattle.running.specs.Beneath.gcas.specs.Reads.{ReadsAlong, come_to, committed_so, given_so}
 use Rattle.running.specs.Beneath.trie_parts.specs.Steps.{Leads}
-use Rattle.running.specs.Beneath.root_asking.proofs.Holding.{each_holds}
+use Rattle.running.specs.Beneath.root_asking.proofs.Embedding.{each_embeds}
 use Rattle.snapshot.specs.Copies.{snap_action}
 use Rattle.running.specs.Steps.{Takes, given_by, given_in, taken_in, taken_so}
 use Rattle.running.specs.Taking.{committed_if, counts_if, given_if, if_reading}
@@ -123,8 +123,8 @@ choose a b step was same = ap (λ (x : Bool). if x then step else was) same
 read_counts : (state : State) (operation : Operation) (l : Line) (r : Read) (step was : ℕ) → read_of l ≡ Some r →
     counted_from (line_action state operation l) step was ≡ (if counts_if (kind_of (line_action state operation l)) then step else was)
 read_counts state operation l r step was is =
-    let holds = each_holds l r is in
-    let acts = sym (ap (λ m. line_action state operation m) holds.here) ∙ holds.acts state operation r.line in
+    let embeds = each_embeds l r is in
+    let acts = sym (ap (λ m. line_action state operation m) embeds.here) ∙ embeds.embedded.acts state operation r.line in
     ap (λ a. counted_from a step was) acts ∙ in_read r.indirection r.line step was
     ∙ choose (counts_if (kind_of (read_action r.indirection r.line))) (counts_if (kind_of (line_action state operation l))) step was (ap (λ a. counts_if (kind_of a)) (sym acts))
 
@@ -152,8 +152,8 @@ module _ (state : State) (operation : Operation) (l : Line) (k : Kind) (place : 
   read_gives : (r : Read) → read_of l ≡ Some r → kind_of (line_action state operation l) ≡ k → ReadsAlong state.heap operation.access (Some r) k place →
       given_in state operation (Some r) ≡ given_if k (given_so place)
   read_gives r is same along =
-      let holds = each_holds l r is in
-      let acts = sym (holds.acts state operation r.line) ∙ ap (λ m. line_action state operation m) holds.here in
+      let embeds = each_embeds l r is in
+      let acts = sym (embeds.embedded.acts state operation r.line) ∙ ap (λ m. line_action state operation m) embeds.here in
       gives state.heap operation.access (word_at state (handle_of operation.call)) r.indirection r.line k place (ap kind_of acts ∙ same) (along.0 (word_at state (handle_of operation.call)))
 
   given_by_read : (o : Option Read) → read_of l ≡ o → SwapsNone l → kind_of (line_action state operation l) ≡ k → ReadsAlong state.heap operation.access o k place →

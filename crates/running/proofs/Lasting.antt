@@ -1,13 +1,9 @@
 -- Lines of the programs: what is told comes to them by their READ alone, and they swap no main node of their own.
 use Rattle.std.specs.Prelude.{◌≡◌, ℕ, List, Option, Some, None, refl}
-use Rattle.history.specs.declared.calls.Access.{Access}
-use Rattle.history.specs.declared.calls.Access.TheVariants.{Writable, ReadOnly}
 use Rattle.slot_arena.specs.declared.refs.Ref.{Ref}
 use Rattle.running.specs.Beneath.machine_model.specs.declared.roots.Descriptor.{Descriptor}
 use Rattle.running.specs.Beneath.gcas.specs.declared.read.Read.{Read}
-use Rattle.running.specs.Beneath.gcas.specs.declared.read.ReadAt.{ReadAt}
-use Rattle.running.specs.Beneath.gcas.specs.declared.read.ReadAt.TheVariants as read
-use Rattle.running.specs.Beneath.gcas.specs.Reads.{IsAsking, line_at, line_of}
+use Rattle.running.specs.Beneath.gcas.specs.Reads.{line_of}
 use Rattle.running.specs.Beneath.trie_parts.specs.Steps.{IsAskingLine}
 use Rattle.running.specs.Beneath.rdcss_root.specs.declared.complete.CompleteAt.{CompleteAt}
 use Rattle.running.specs.Beneath.rdcss_root.specs.declared.complete.CompleteAt.TheVariants as complete
@@ -23,6 +19,7 @@ use Rattle.snapshot.specs.declared.walk.WalkAt.TheVariants as walk
 use Rattle.snapshot.specs.Copies.{snap_line, snap_line_at}
 use Rattle.snapshot.specs.Walks.{walk_line, walk_line_at}
 use Rattle.operate.proofs.Wherever.{tells as key_tells}
+use Rattle.operate.proofs.Going.{told_on}
 use Rattle.snapshot.proofs.Told.{tells_snap, tells_walk}
 use Rattle.running.specs.declared.job.Program.{Program}
 use Rattle.running.specs.declared.job.Program.TheVariants.{Key, Snap, Entries, Count, Close}
@@ -60,18 +57,6 @@ pub walk_swaps_none : (q : Read) (told : Option ℕ) (w : Walk) → SwapsNone (w
 walk_swaps_none q told w = walks_at q told w.todo w.pairs w.at
 
 -- ---- a program that was told the generation doesn't ask for it
-
-told_on : (access : Access) (generation : ℕ) (place : ReadAt) → IsAsking (line_at access (Some generation) place) → ⊥
-told_on Writable generation read.Main asks = asks
-told_on Writable generation (read.Prev main) asks = asks
-told_on Writable generation (read.Decide main previous) asks = asks
-told_on Writable generation (read.Restore main previous) asks = asks
-told_on Writable generation (read.Given main) asks = asks
-told_on ReadOnly generation read.Main asks = asks
-told_on ReadOnly generation (read.Prev main) asks = asks
-told_on ReadOnly generation (read.Decide main previous) asks = asks
-told_on ReadOnly generation (read.Restore main previous) asks = asks
-told_on ReadOnly generation (read.Given main) asks = asks
 
 snap_told : (r : Ref) (q : Read) (generation : ℕ) (place : SnapAt) → IsAskingLine (snap_line_at r q (Some generation) place) → ⊥
 snap_told r q generation (at.Root rooting.Read) asks = asks

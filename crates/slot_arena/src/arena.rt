@@ -107,16 +107,6 @@ impl Arena {
         Some(made)
     }
 
-    /// The reference that the next slot to be taken will have, if one is free.
-    pub fn next_ref(&mut self) -> Option<Ref>
-        requires { self.old.heap.births + 1 < 2 ^ 48 }
-        ensures next { result ≡ next_ref self.old.heap }
-        ensures same { self.new ≡ record self.old { ticks = self.old.ticks + 1 } }
-    {
-        let slot = self.free.first()?;
-        Some(Ref::new(self.births + 1, slot))
-    }
-
     /// The node.
     pub fn look(&self, at: Ref) -> &Node
         requires { IsLive self.now.heap at }

@@ -1,6 +1,6 @@
 //! The free slots, as a chain through them.
 
-ghost use Rattle.std.specs.Prelude.{◌≡◌, ℕ, ◌+◌, ◌<◌, ◌≤◌, [], ◌∷◌, drop, IfOk, MatchOption};
+ghost use Rattle.std.specs.Prelude.{◌≡◌, ℕ, ◌+◌, ◌<◌, ◌≤◌, [], ◌∷◌, IfOk, MatchOption};
 ghost use Rattle.std.specs.List.{range_with_len};
 ghost use Rattle.slot_arena.specs.Times.{times};
 ghost use Rattle.slot_arena.specs.Ticking.{TakesUpTo};
@@ -45,18 +45,6 @@ impl FreeSlots {
             end: slots,
             slots: Trace::changed::<u32, Below>(&Trace::new(), &slots),
         })
-    }
-
-    /// The first one, which stays.
-    pub(crate) fn first(&mut self) -> Option<u16>
-        ensures slots { MatchOption result (self.old.slots ≡ []) (λ slot. self.old.slots ≡ slot ∷ drop 1 self.old.slots) }
-        ensures same { self.new ≡ record self.old { ticks = self.old.ticks + 1 } }
-    {
-        let first = self.links.read(self.end as usize);
-        if first != self.end {
-            return Some(first as u16);
-        }
-        None
     }
 
     /// Takes the first one.

@@ -10,7 +10,7 @@ use Rattle.snapshot.specs.Beneath.machine_model.specs.declared.roots.Descriptor.
 use Rattle.snapshot.specs.Beneath.machine_model.specs.declared.roots.Root.{Root}
 use Rattle.trie_parts.specs.Holding.{KeepsOthers}
 use Rattle.snapshot.specs.Beneath.rdcss_root.specs.Acts.{ActsInAll}
-use Rattle.snapshot.specs.Beneath.rdcss_root.specs.Holds.{IsReady, Moves}
+use Rattle.snapshot.specs.Beneath.rdcss_root.specs.Holding.{IsReady, Moves}
 use Rattle.snapshot.specs.Copies.{IsReadyBeside}
 
 -- what stands in root words is held still

@@ -24,7 +24,7 @@ use Rattle.snapshot.specs.Beneath.gcas.specs.declared.read.Read.{Read}
 use Rattle.snapshot.specs.Beneath.gcas.specs.Reads.{read_of, CanReadOn}
 use Rattle.trie_parts.specs.Here.{no_state, no_operation}
 use Rattle.trie_parts.specs.Steps.{CanMake}
-use Rattle.snapshot.specs.Beneath.rdcss_root.specs.Holds.{root_refs}
+use Rattle.snapshot.specs.Beneath.rdcss_root.specs.Holding.{root_refs}
 use Rattle.snapshot.specs.Beneath.rdcss_root.specs.Programs.{root_of, complete_of, CanRootOn, CanCompleteOn, ReadsItsRoot, ReadsOffered}
 use Rattle.snapshot.specs.Beneath.rdcss_root.specs.Tables.{Table}
 use Rattle.snapshot.specs.declared.snap.Making.{Making}

@@ -18,7 +18,7 @@ use Rattle.proof_memory.proofs.Heap.Later.{onward, births_later}
 use Rattle.proof_memory.proofs.Safety.AtEachTime.{safe_along}
 use Rattle.proof_memory.proofs.Safety.States.{stood_or_made}
 use Rattle.proof_memory.proofs.Safety.Steps.{step_effect}
-use Rattle.proof_updates.specs.Laws.Handles.{OfEachStep, UntouchedStay, UpdatesChange, RepairsStay, ClearsEmpty, ClosesTake, OpenedCopy}
+use Rattle.step_machine.specs.Beneath.proof_updates.specs.Laws.Handles.{OfEachStep, UntouchedStay, UpdatesChange, RepairsStay, ClearsEmpty, ClosesTake, OpenedCopy}
 use Rattle.step_machine.specs.Contents.{ChangesContents}
 use Rattle.step_machine.specs.Machines.{Taken, state_of, with_step, Applied}
 use Rattle.step_machine.specs.Memory.{Uses, UsesWhatItNames, FreesLate, DrawsNew}

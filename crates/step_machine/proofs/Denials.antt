@@ -10,20 +10,7 @@ use Rattle.machine_model.specs.declared.steps.Step.TheVariants as step
 use Rattle.machine_model.specs.States.{State, operation_of}
 use Rattle.machine_model.specs.Machine.{next, denial_of, begin_denial, begin_unless, go_denial, go_unless, first_reason, is_spent, is_taken_step}
 use Rattle.step_machine.specs.Machines.{Taken, state_of, Applied}
-
--- what denies a sweep
-sweep_denied : (state : State) (spent : Bool) (refusal : Refusal) → is_spent state ≡ spent → cond spent (Some refuse.Spent) None ≡ Some refusal →
-    next state step.Sweep ≡ Err refusal
-unfolding next
-sweep_denied state true refusal e d = grind (arith, e, d)
-sweep_denied state false refusal e d = grind (arith, d)
-
--- a step is denied as the definition says
-pub denied : (state : State) (s : Step) (refusal : Refusal) → denial_of state s ≡ Some refusal → next state s ≡ Err refusal
-unfolding next
-denied state (step.Begin actor call) refusal d = rw d refl
-denied state (step.Go actor) refusal d = rw d refl
-denied state step.Sweep refusal d = sweep_denied state (is_spent state) refusal refl d
+use Rattle.machine_core.proofs.Steps.{denied}
 
 -- none of the reasons is want of memory, so the first isn't either
 
@@ -111,3 +98,6 @@ refused_applied machine s refuse.Memory (inl e) = absurd (never_memory (state_of
 refused_applied machine s refuse.Memory (inr e) = (refl, allowed (state_of machine) s e.1)
 refused_applied machine s refusal (inl e) = (refl, e)
 refused_applied machine s refusal (inr e) = let is = e.0 in absurd (grind (arith, is))
+
+-- what contracts say of a step that wasn't taken
+pub ruleset not_taken = (wanting_applied, refused_applied)

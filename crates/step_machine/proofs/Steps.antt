@@ -77,6 +77,9 @@ holds_after before after steps items s o e is led sizes all keys last =
     subst (λ xs. (after ≡ run after.limits xs) × AreLimits after.limits × AreTaken after.limits xs × KeysFit xs) (sym is)
     (next_run before steps s o after led e, subst AreLimits (sym (kept_limits before s o after e)) sizes, all_taken before steps s o after led all e, keys_with steps s keys last)
 
+-- what one step more leaves and leads to
+pub ruleset one_more = (kept_limits, next_run, holds_after)
+
 -- ---- it holds of a machine that has taken none
 
 nothing_cut : {A : Type 0} (before : List A) (at : A) (after : List A) → [] ≡ before ++ at ∷ after → ⊥

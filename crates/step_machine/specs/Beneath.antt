@@ -5,4 +5,5 @@ pub use Rattle.proof_linearizable.specs.Beneath.proof_commits as proof_commits
 pub use Rattle.proof_linearizable.specs.Beneath.proof_generations as proof_generations
 pub use Rattle.proof_linearizable.specs.Beneath.proof_order as proof_order
 pub use Rattle.proof_linearizable.specs.Beneath.proof_shape as proof_shape
+pub use Rattle.proof_linearizable.specs.Beneath.proof_updates as proof_updates
 pub use Rattle.proof_obstruction_free as proof_obstruction_free

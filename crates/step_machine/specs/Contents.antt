@@ -1,6 +1,6 @@
 -- What a step does to the contents of the open handles.
 use Rattle.machine_model.specs.declared.steps.Step.{Step}
-use Rattle.proof_updates.specs.Laws.Handles.{UntouchedStay, UpdatesChange, RepairsStay, ClearsEmpty, ClosesTake, OpenedCopy}
+use Rattle.step_machine.specs.Beneath.proof_updates.specs.Laws.Handles.{UntouchedStay, UpdatesChange, RepairsStay, ClearsEmpty, ClosesTake, OpenedCopy}
 use Rattle.step_machine.specs.Machines.{Taken, state_of}
 
 -- A handle that the step doesn't touch stays open, of its kind, with its content. The commit of an operation's own update does its call's change, with its

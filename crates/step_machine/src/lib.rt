@@ -1,4 +1,7 @@
 //! The map's machine: its public calls. Each is the definition's, of the steps taken so far.
+//!
+//! Computed are `Machine`, `Acting`, `Operations`, `Orders` and `Contents` of `machine_model`: one step by `machine_core`, and
+//! here the run of all that were taken.
 #![tactic(auto)]
 
 mod callers;
@@ -10,4 +13,5 @@ pub use callers::GO_LIMIT;
 pub use epochs::Swept;
 pub use machine::Machine;
 pub use machine_model::{Limits, Outcome, Step};
+pub use proof_obstruction_free::{alone_it_ends, closes_end};
 pub use records::{Record, run};

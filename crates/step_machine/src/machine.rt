@@ -113,7 +113,7 @@ impl Machine {
         machine_model::refused_for_want_alone();
         proof_memory::references_in_use();
         proof_memory::freed_when_zero_for_two_epochs();
-        proof_updates::contents_of_handles();
+        proof_linearizable::contents_of_handles();
         proof_obstruction_free::each_step_leads_to_its_end();
         proof_obstruction_free::closes_end();
         machine_core::one_place_a_step();
@@ -121,7 +121,7 @@ impl Machine {
     }
 
     /// The same, without what the laws say of it.
-    #[tactic(auto, using(crate::proofs::Steps::kept_limits, crate::proofs::Steps::next_run, crate::proofs::Steps::holds_after, crate::proofs::Denials::wanting_applied, crate::proofs::Denials::refused_applied))]
+    #[tactic(auto, using(crate::proofs::Steps::one_more, crate::proofs::Denials::not_taken))]
     #[inline(always)]
     fn take_step(&mut self, step: Step) -> Result<Outcome, Refusal>
         ensures { Applied result self.old step self.new }
@@ -137,7 +137,7 @@ impl Machine {
     }
 
     /// A step of the actor's operation behind which it goes on, told by its kind alone.
-    #[tactic(auto, using(crate::proofs::Steps::kept_limits, crate::proofs::Steps::next_run, crate::proofs::Steps::holds_after, crate::proofs::Denials::wanting_applied, crate::proofs::Denials::refused_applied))]
+    #[tactic(auto, using(crate::proofs::Steps::one_more, crate::proofs::Denials::not_taken))]
     #[inline(always)]
     pub(crate) fn walk(&mut self, actor: u8) -> Result<Kind, Refusal>
         requires { goes_on (next_kind (state_of self.old) actor) ≡ true }
@@ -268,7 +268,7 @@ impl Machine {
     {
         let _ = self.limits();
         let _ = self.steps();
-        proof_updates::looking_finds();
+        proof_linearizable::looking_finds();
         self.looked_up(handle, key)
     }
 

@@ -19,6 +19,6 @@ pub use gcas::{Change, Descriptor, Next, Read, ReadAt, Root, RootWord, Site, Swa
 pub use looking::{bitmap_at, entries_at, entry_at, entry_count, is_single_at, key_at, node_at};
 pub use made::{changed_at, contracted, contracted_at, renewed};
 pub use nodes::{dual, flag_of, parting, rung};
-pub use paths::{above, current, depth_of, is_below_root};
+pub use paths::{above, current, is_below_root};
 pub use private::{Private, keep, release_all};
 pub use work::Work;

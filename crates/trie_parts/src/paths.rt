@@ -27,7 +27,7 @@ pub fn is_below_root(path: &[Ref]) -> bool
 }
 
 /// The depth of the last indirection: the root's is 0.
-pub fn depth_of(path: &[Ref]) -> usize
+pub(crate) fn depth_of(path: &[Ref]) -> usize
     ensures { result ≡ depth_of path.now }
 {
     path.len().saturating_sub(1)

@@ -8,6 +8,7 @@ use Rattle.history.specs.declared.replies.Reply.{Reply}
 use Rattle.history.specs.declared.events.Event.{Event}
 use Rattle.history.specs.declared.events.Event.TheVariants.{Begin, End}
 use Rattle.history.specs.Histories.{Operation, BeginsAt, EndsAt, HasEnded, IsRunning, begun}
+use Rattle.history.proofs.Places.{at_cases, at_front, at_seam}
 use Rattle.machine_model.specs.declared.steps.Limits.{Limits}
 use Rattle.machine_model.specs.declared.steps.Step.{Step}
 use Rattle.machine_model.specs.declared.steps.Outcome.{Outcome}
@@ -17,7 +18,6 @@ use Rattle.machine_model.proofs.Along.{along}
 use Rattle.lock_runner.specs.declared.accounts.Running.{Running}
 use Rattle.lock_runner.specs.ActorHistory.{account_of, begun_at}
 use Rattle.lock_runner.specs.ActorHistory.Answers.{RunsNoOther}
-use Rattle.lock_runner.proofs.ActorHistory.Places.{get_left, get_last, get_push}
 use Rattle.lock_runner.proofs.ActorHistory.Turns.{Turns, Comes, Stays, Leaves, Rests, turns}
 use Rattle.lock_runner.proofs.ActorHistory.Sound.{Sound, IsAnswered, sound_along, fits_after, later_own, later_other, leave_other, leave_own}
 use Rattle.lock_runner.proofs.ActorHistory.Steps.{none_told}
@@ -31,7 +31,7 @@ RunAll history = (actor : ℕ) → RunsNoOther actor history (account_of actor h
 ran_before : (history : List Event) (event : Event) (id actor place : ℕ) (operation : Operation) → BeginsAt history place id operation → operation.actor ≡ actor →
     ((answer : Reply) → ¬ HasEnded (history ++ event ∷ []) id answer) → IsRunning history id actor
 ran_before history event id actor place operation at own unended =
-    ((place, operation, at, own), λ answer ended. unended answer (ended.0, get_left history (event ∷ []) ended.0 _ ended.1))
+    ((place, operation, at, own), λ answer ended. unended answer (ended.0, at_front history (event ∷ []) ended.0 _ ended.1))
 
 -- ---- a begin
 
@@ -55,7 +55,7 @@ module _ (history : List Event) (all : RunAll history) (owner : ℕ) (call : Cal
       (was.0, ap (λ a. a.running) (later_other history owner call opens actor other) ∙ was.1, was.2)
 
   begin_all : RunAll later
-  begin_all actor id runs = elim (get_push history (Begin (begun history) owner call opens) runs.0.0 _ runs.0.2) [
+  begin_all actor id runs = elim (at_cases history (Begin (begun history) owner call opens) runs.0.0 _ runs.0.2) [
     | inl h ↦ old_has actor id (ran_before history _ id actor runs.0.0 runs.0.1 h runs.0.3 runs.1) (cases_eq owner actor)
     | inr h ↦ let same = same_begin _ _ _ _ _ _ _ _ _ _ refl refl h.1 in new_has actor id same.0 (same.1 ∙ runs.0.3)
   ]
@@ -73,7 +73,7 @@ module _ (history : List Event) (all : RunAll history) (owner id : ℕ) (reply :
   none_left jd runs unended =
       let was = all owner jd runs in
       let same : id ≡ jd = sym own.same ∙ ap (λ r. r.id) (same_Some _ _ (sym own.is ∙ was.1)) ∙ was.2 in
-      unended reply (length history, subst (λ n. EndsAt ended (length history) n reply) same (get_last history (End id reply)))
+      unended reply (length history, subst (λ n. EndsAt ended (length history) n reply) same (at_seam history [] (End id reply)))
 
   still_has : (actor jd : ℕ) → IsRunning history jd actor → ((answer : Reply) → ¬ HasEnded ended jd answer) → (owner ≡ actor) ⊎ (owner ≡ actor → ⊥) →
       (operation : Running) × ((account_of actor ended).running ≡ Some operation) × (operation.id ≡ jd)
@@ -83,7 +83,7 @@ module _ (history : List Event) (all : RunAll history) (owner id : ℕ) (reply :
       (was.0, ap (λ a. a.running) (others actor other) ∙ was.1, was.2)
 
   end_all : RunAll ended
-  end_all actor jd runs = elim (get_push history (End id reply) runs.0.0 _ runs.0.2) [
+  end_all actor jd runs = elim (at_cases history (End id reply) runs.0.0 _ runs.0.2) [
     | inl h ↦ still_has actor jd (ran_before history _ jd actor runs.0.0 runs.0.1 h runs.0.3 runs.1) runs.1 (cases_eq owner actor)
     | inr h ↦ apart_events _ _ _ _ _ _ (sym h.1)
   ]

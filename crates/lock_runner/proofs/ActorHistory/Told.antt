@@ -19,9 +19,9 @@ use Rattle.lock_runner.specs.declared.accounts.Running.{Running}
 use Rattle.lock_runner.specs.ActorHistory.{account_of, account_from, begun_at, answered_at}
 use Rattle.lock_runner.specs.ActorHistory.Answers.{IsOperationOf, IsToldIn, AreAnswersOf}
 use Rattle.lock_runner.specs.ActorHistory.Laws.{AnswersAreThoseOfTheHistory}
-use Rattle.lock_runner.proofs.ActorHistory.Places.{get_left, get_last, get_push}
 use Rattle.lock_runner.proofs.ActorHistory.Turns.{Turns, Comes, Stays, Leaves, Rests, turns}
 use Rattle.history.proofs.Begins.{begun_push, begun_same}
+use Rattle.history.proofs.Places.{at_cases, at_front, at_seam}
 use Rattle.lock_runner.proofs.ActorHistory.Sound.{Sound, IsAnswered, sound_along, fits_after, later_own, later_other, leave_other, leave_own}
 
 -- ---- events
@@ -47,8 +47,8 @@ opened actor running opens = record { actor = actor; call = running.call; opens 
 told_left : (history rest : List Event) (actor : ℕ) (answer : Answer) → IsToldIn history actor answer → IsToldIn (history ++ rest) actor answer
 told_left history rest actor answer so = record {
   opens = so.opens;
-  begin = get_left history rest answer.began _ so.begin;
-  end = get_left history rest answer.ended _ so.end;
+  begin = at_front history rest answer.began _ so.begin;
+  end = at_front history rest answer.ended _ so.end;
 }
 
 -- an event that tells the actor nothing
@@ -58,7 +58,7 @@ more_events : (actor : ℕ) (history : List Event) (event : Event) (answers : Li
     AreAnswersOf actor (history ++ event ∷ []) answers
 more_events actor history event answers so old new = record {
   each = λ k answer e. told_left history (event ∷ []) actor answer (so.each k answer e);
-  all = λ place id reply e own. elim (get_push history event place _ e) [
+  all = λ place id reply e own. elim (at_cases history event place _ e) [
     | inl h ↦ so.all place id reply h (old place id reply h own)
     | inr h ↦ absurd (new id reply h.1 own)
   ];
@@ -67,7 +67,7 @@ more_events actor history event answers so old new = record {
 
 -- behind an end no operation is new
 begun_before_end : (actor : ℕ) (history : List Event) (id jd : ℕ) (reply : Reply) → IsOperationOf (history ++ End jd reply ∷ []) actor id → IsOperationOf history actor id
-begun_before_end actor history id jd reply own = elim (get_push history (End jd reply) own.0 _ own.2) [
+begun_before_end actor history id jd reply own = elim (at_cases history (End jd reply) own.0 _ own.2) [
   | inl h ↦ (own.0, own.1, h, own.3)
   | inr h ↦ apart_events _ _ _ _ _ _ (sym h.1)
 ]
@@ -83,32 +83,32 @@ module _ (actor : ℕ) (history : List Event) (operation : Running) (opens : Opt
   last_told : IsToldIn answered actor last
   last_told = record {
     opens = opens;
-    begin = get_left history (End operation.id reply ∷ []) operation.began _ begin;
-    end = get_last history (End operation.id reply);
+    begin = at_front history (End operation.id reply ∷ []) operation.began _ begin;
+    end = at_seam history [] (End operation.id reply);
   }
 
   one_each : (k : ℕ) (answer : Answer) → slice_get (answers ++ last ∷ []) k ≡ Some answer → IsToldIn answered actor answer
-  one_each k answer e = elim (get_push answers last k answer e) [
+  one_each k answer e = elim (at_cases answers last k answer e) [
     | inl h ↦ told_left history _ actor answer (so.each k answer h)
     | inr h ↦ subst (λ a. IsToldIn answered actor a) h.1 last_told
   ]
 
   one_all : (place id : ℕ) (r : Reply) → EndsAt answered place id r → IsOperationOf answered actor id →
       (k : ℕ) × (answer : Answer) × (slice_get (answers ++ last ∷ []) k ≡ Some answer) × (answer.ended ≡ place)
-  one_all place id r e own = elim (get_push history (End operation.id reply) place _ e) [
+  one_all place id r e own = elim (at_cases history (End operation.id reply) place _ e) [
     | inl h ↦ let found = so.all place id r h (begun_before_end actor history id operation.id reply own) in
-        (found.0, found.1, get_left answers (last ∷ []) found.0 found.1 found.2, found.3)
-    | inr h ↦ (length answers, last, get_last answers last, sym h.0)
+        (found.0, found.1, at_front answers (last ∷ []) found.0 found.1 found.2, found.3)
+    | inr h ↦ (length answers, last, at_seam answers [] last, sym h.0)
   ]
 
   one_rising : (j k : ℕ) (earlier later : Answer) → j < k → slice_get (answers ++ last ∷ []) j ≡ Some earlier →
       slice_get (answers ++ last ∷ []) k ≡ Some later → earlier.ended < later.ended
-  one_rising j k earlier later within e f = elim (get_push answers last k later f) [
-    | inl h ↦ elim (get_push answers last j earlier e) [
+  one_rising j k earlier later within e f = elim (at_cases answers last k later f) [
+    | inl h ↦ elim (at_cases answers last j earlier e) [
       | inl g ↦ so.rising j k earlier later within g h
       | inr g ↦ absurd (omega (arith, g.0, within, slice_get_within answers k later h))
     ]
-    | inr h ↦ elim (get_push answers last j earlier e) [
+    | inr h ↦ elim (at_cases answers last j earlier e) [
       | inl g ↦ subst (λ (a : Answer). earlier.ended < a.ended) h.1 (slice_get_within history earlier.ended _ (so.each j earlier g).end)
       | inr g ↦ absurd (omega (arith, g.0, h.0, within))
     ]
@@ -140,24 +140,24 @@ module _ (history : List Event) (told : Told history) (owner : ℕ) (call : Call
   later_begun = begun_push history begin refl
 
   later_ids : (place id : ℕ) (operation : Operation) → BeginsAt later place id operation → id < begun later
-  later_ids place id operation e = elim (get_push history begin place _ e) [
+  later_ids place id operation e = elim (at_cases history begin place _ e) [
     | inl h ↦ omega (arith, later_begun, told.ids place id operation h)
     | inr h ↦ let same = (same_begin _ _ _ _ _ _ _ _ _ _ refl refl h.1).0 in omega (arith, later_begun, same)
   ]
 
   later_ends : (place id : ℕ) (reply : Reply) → EndsAt later place id reply → (EndsAt history place id reply) × (id < begun history)
-  later_ends place id reply e = elim (get_push history begin place _ e) [
+  later_ends place id reply e = elim (at_cases history begin place _ e) [
     | inl h ↦ (h, told.ends place id reply h)
     | inr h ↦ apart_events _ _ _ _ _ _ h.1
   ]
 
   later_unique : (p q id : ℕ) (a b : Operation) → BeginsAt later p id a → BeginsAt later q id b → p ≡ q
-  later_unique p q id a b e f = elim (get_push history begin p _ e) [
-    | inl g ↦ elim (get_push history begin q _ f) [
+  later_unique p q id a b e f = elim (at_cases history begin p _ e) [
+    | inl g ↦ elim (at_cases history begin q _ f) [
       | inl h ↦ told.unique p q id a b g h
       | inr h ↦ absurd (omega (arith, told.ids p id a g, (same_begin _ _ _ _ _ _ _ _ _ _ refl refl h.1).0))
     ]
-    | inr g ↦ elim (get_push history begin q _ f) [
+    | inr g ↦ elim (at_cases history begin q _ f) [
       | inl h ↦ absurd (omega (arith, told.ids q id b h, (same_begin _ _ _ _ _ _ _ _ _ _ refl refl g.1).0))
       | inr h ↦ g.0 ∙ sym h.0
     ]
@@ -167,7 +167,7 @@ module _ (history : List Event) (told : Told history) (owner : ℕ) (call : Call
       (o : Option ℕ) × BeginsAt later running.began running.id (opened owner running o)
   later_begins_own running e =
       let same : begun_at (length history) (begun history) call ≡ running = same_Some _ _ (ap (λ a. a.running) (sym (later_own history owner call opens)) ∙ e) in
-      (opens, subst (λ r. BeginsAt later r.began r.id (opened owner r opens)) same (get_last history begin))
+      (opens, subst (λ r. BeginsAt later r.began r.id (opened owner r opens)) same (at_seam history [] begin))
 
   later_begins_by : (actor : ℕ) → (owner ≡ actor) ⊎ (owner ≡ actor → ⊥) → (running : Running) → (account_of actor later).running ≡ Some running →
       (o : Option ℕ) × BeginsAt later running.began running.id (opened actor running o)
@@ -175,7 +175,7 @@ module _ (history : List Event) (told : Told history) (owner : ℕ) (call : Call
       subst (λ a. (running : Running) → (account_of a later).running ≡ Some running → (o : Option ℕ) × BeginsAt later running.began running.id (opened a running o)) own later_begins_own
   later_begins_by actor (inr other) = λ running e.
       let was = told.begins actor running (ap (λ a. a.running) (sym (later_other history owner call opens actor other)) ∙ e) in
-      (was.0, get_left history (begin ∷ []) running.began _ was.1)
+      (was.0, at_front history (begin ∷ []) running.began _ was.1)
 
   later_answers_by : (actor : ℕ) → (owner ≡ actor) ⊎ (owner ≡ actor → ⊥) → (account_of actor later).answers ≡ (account_of actor history).answers
   later_answers_by actor (inl own) = subst (λ a. (account_of a later).answers ≡ (account_of a history).answers) own (ap (λ a. a.answers) (later_own history owner call opens))
@@ -183,7 +183,7 @@ module _ (history : List Event) (told : Told history) (owner : ℕ) (call : Call
 
   -- an operation that has ended isn't the new one
   later_old : (actor place id : ℕ) (reply : Reply) → EndsAt history place id reply → IsOperationOf later actor id → IsOperationOf history actor id
-  later_old actor place id reply e own = elim (get_push history begin own.0 _ own.2) [
+  later_old actor place id reply e own = elim (at_cases history begin own.0 _ own.2) [
     | inl h ↦ (own.0, own.1, h, own.3)
     | inr h ↦ absurd (omega (arith, told.ends place id reply e, (same_begin _ _ _ _ _ _ _ _ _ _ refl refl h.1).0))
   ]
@@ -216,13 +216,13 @@ module _ (history : List Event) (told : Told history) (owner id : ℕ) (reply : 
   own_begin = told.begins owner own.operation own.is
 
   ended_begins : (place jd : ℕ) (operation : Operation) → BeginsAt ended place jd operation → BeginsAt history place jd operation
-  ended_begins place jd operation e = elim (get_push history (End id reply) place _ e) [
+  ended_begins place jd operation e = elim (at_cases history (End id reply) place _ e) [
     | inl h ↦ h
     | inr h ↦ apart_events _ _ _ _ _ _ (sym h.1)
   ]
 
   ended_ends : (place jd : ℕ) (r : Reply) → EndsAt ended place jd r → jd < begun ended
-  ended_ends place jd r e = elim (get_push history (End id reply) place _ e) [
+  ended_ends place jd r e = elim (at_cases history (End id reply) place _ e) [
     | inl h ↦ omega (arith, begun_same history (End id reply) refl, told.ends place jd r h)
     | inr h ↦ omega (arith, begun_same history (End id reply) refl, same_end _ id jd reply r refl h.1, own.same, told.ids _ _ _ own_begin.1)
   ]
@@ -243,7 +243,7 @@ module _ (history : List Event) (told : Told history) (owner id : ℕ) (reply : 
       absurd (none-some running (ap (λ a. a.running) (sym own.answered) ∙ ap (λ n. (account_of n ended).running) is ∙ e))
   ended_begins_by actor (inr other) running e =
       let was = told.begins actor running (ap (λ a. a.running) (sym (others actor other)) ∙ e) in
-      (was.0, get_left history (End id reply ∷ []) running.began _ was.1)
+      (was.0, at_front history (End id reply ∷ []) running.began _ was.1)
 
   ended_right_own : AreAnswersOf owner ended (account_of owner ended).answers
   ended_right_own =

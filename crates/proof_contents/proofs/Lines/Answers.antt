@@ -20,7 +20,7 @@ use Rattle.proof_contents.specs.Lines.Changes.{IsGet}
 use Rattle.proof_contents.proofs.Shapes.Nodes.{list_shape}
 use Rattle.proof_contents.proofs.Lines.Readers.{absent_reply_right, found_reply_right, crowded_reply_right, get_reply_right}
 use Rattle.proof_contents.proofs.Changes.Updating.{found_of}
-use Rattle.proof_contents.proofs.Lines.KeyEnds.{Answering}
+use Rattle.proof_contents.proofs.Lines.Key.Ends.{Answering}
 
 module _ (trie : Trie) (ok : IsTrie trie) (state : State) (operation : Operation) (first : Ref → Ref) (same_hash : state.limits.hash ≡ trie.kind) (depth : ℕ)
     (i main : Ref) (at : depth ≡ trie.depth i) where

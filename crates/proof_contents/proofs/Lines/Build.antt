@@ -29,7 +29,7 @@ use Rattle.machine_model.specs.Building.{changed, key_in, old_hash, after_single
 use Rattle.proof_contents.specs.Lines.Changes.{Known, Absence, no_flag, not_listed, Presence, in_branch, in_list, Neighbour, IsOther, of_branch, of_list, LeadsToBoth, LeadsBelow}
 use Rattle.proof_contents.specs.Lines.Changes.{by_pair, by_link, KnowsChange, KnowsBuild, KnowsLine, main_of_build, build_path}
 use Rattle.proof_contents.proofs.Shapes.Nodes.{list_depth-le}
-use Rattle.proof_contents.proofs.Lines.Key.{known, Sees}
+use Rattle.proof_contents.proofs.Lines.Key.Knows.{known, Sees}
 
 -- a pair is a main node
 pair_main : (kind : HashKind) (d a b : ℕ) (x y : Ref) (g : ℕ) (m : Ref) → pair kind d a b x y ≢ Indirection g m

@@ -32,19 +32,20 @@ use Rattle.proof_generations.specs.Beneath.proof_memory.proofs.Heap.Moves.{WordM
 
 -- ---- the counter
 
+-- what an action makes of the root words draws none
+pub aborted_generations : (state : State) (handle : ℕ) (offer : Descriptor) → (aborted state handle offer).generations ≡ state.generations
+aborted_generations state handle offer = grind arith
+
+pub offered_generations : (state : State) (handle : ℕ) (offer : Descriptor) → (offered state handle offer).generations ≡ state.generations
+offered_generations state handle offer = grind arith
+
+pub completed_generations : (state : State) (handle : ℕ) (offer : Descriptor) (main : Ref) → (completed state handle offer main).generations ≡ state.generations
+completed_generations state handle offer main = grind arith
+
 pub acted_counts : (st : State) (at : ℕ) (action : Action) → st.generations ≤ (acted st at action).generations
-acted_counts st at (act.Abort offer) = omega (arith, aborted_same st at offer)
-  where
-    aborted_same : (st : State) (at : ℕ) (offer : Descriptor) → (aborted st at offer).generations ≡ st.generations
-    aborted_same st at offer = grind arith
-acted_counts st at (act.Offer offer) = omega (arith, offered_same st at offer)
-  where
-    offered_same : (st : State) (at : ℕ) (offer : Descriptor) → (offered st at offer).generations ≡ st.generations
-    offered_same st at offer = grind arith
-acted_counts st at (act.Complete offer main) = omega (arith, completed_same st at offer main)
-  where
-    completed_same : (st : State) (at : ℕ) (offer : Descriptor) (main : Ref) → (completed st at offer main).generations ≡ st.generations
-    completed_same st at offer main = grind arith
+acted_counts st at (act.Abort offer) = omega (arith, aborted_generations st at offer)
+acted_counts st at (act.Offer offer) = omega (arith, offered_generations st at offer)
+acted_counts st at (act.Complete offer main) = omega (arith, completed_generations st at offer main)
 acted_counts st at (act.MakeRoot main) = taken_more st main (next_ref st.heap)
   where
     taken_more : (st : State) (main : Ref) (made : Option Ref) → st.generations ≤ (new_root_taken st main made).generations

@@ -103,7 +103,7 @@ abbrev pub AllDone : State → Type 0
 AllDone state = (k : ℕ) (operation : Operation) → Runs state k operation → operation.is_marked ≡ true → is_done operation.line ≡ true
 
 -- a marked operation was so before, or the step marks it
-mark_cases : (m : Option ℕ) (operation : Operation) → (mark_one m operation).is_marked ≡ true → (operation.is_marked ≡ false → m ≡ Some operation.id)
+pub mark_cases : (m : Option ℕ) (operation : Operation) → (mark_one m operation).is_marked ≡ true → (operation.is_marked ≡ false → m ≡ Some operation.id)
 mark_cases None operation e f = absurd (true≢false (sym e ∙ f))
 mark_cases (Some id) operation e f = by (operation.id == id) refl e
   where

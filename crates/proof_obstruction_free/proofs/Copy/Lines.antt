@@ -39,8 +39,7 @@ module _ (own : Operation) where
 
     pub copy_reads : HoldsRead own copying given i
     copy_reads = record {
-      reads = λ l. refl;
-      acts = λ state operation l. refl;
+      embedded = record { reads = λ l. refl; acts = λ state operation l. refl };
       goes = λ state operation l call access.
           ap (λ x. copy_after_read operation root (at_indirection i x)) (same_read own state operation i l call access)
           ∙ copying_goes operation call (read_after state.heap own.access (word_at state (handle_of own.call)) i l);
@@ -62,8 +61,7 @@ module _ (own : Operation) where
 
     pub complete_reads : HoldsRead own completing_line swapping_line offer.root
     complete_reads = record {
-      reads = λ l. refl;
-      acts = λ state operation l. refl;
+      embedded = record { reads = λ l. refl; acts = λ state operation l. refl };
       goes = λ state operation l call access.
           ap (λ x. copy_after_complete operation (of_offer offer (after_reading x))) (same_read own state operation offer.root l call access)
           ∙ completing_goes operation (read_after state.heap own.access (word_at state (handle_of own.call)) offer.root l);

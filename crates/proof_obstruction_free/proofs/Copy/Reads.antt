@@ -77,7 +77,7 @@ module _ (a : Lone) (steps : Stepping a) (writable : a.own.access ≡ Writable) 
     }
 
     told : (l : ReadLine) → Stands a u g (wrap l) → IsPlain a u i → generation_at (a.states u).heap i ≡ generation a i
-    told l s plain = root_generation a u g (wrap l) s (reads_on (wrap l) _ (holds.reads l)) i plain
+    told l s plain = root_generation a u g (wrap l) s (reads_on (wrap l) _ (holds.embedded.reads l)) i plain
 
     -- it was told its own generation: it commits
     decides : (m q : Ref) → Stands a u g (wrap (read.Decide m q (Some (generation a i)))) → Sees a u i m (over.Pending q) → IsPlain a u i → Given u 1

@@ -1,29 +1,26 @@
 -- Who runs an operation is one of the machine's actors.
-use Rattle.std.proofs.Common.{◌≡◌, ℕ, suc, ◌&&◌, true, List, Some, None, sym, ap, ◌∙◌, subst, arith}
+use Rattle.std.proofs.Common.{◌≡◌, ℕ, suc, ◌&&◌, true, List, Some, sym, ap, ◌∙◌, subst}
 use Rattle.std.specs.Prelude.{nat_lt, nat_le}
-use Rattle.proof_obstruction_free.specs.Beneath.history.specs.declared.calls.Call.{Call}
 use Rattle.proof_obstruction_free.specs.Beneath.machine_model.specs.declared.operations.Operation.{Operation}
 use Rattle.proof_obstruction_free.specs.Beneath.machine_model.specs.declared.steps.Limits.{Limits}
 use Rattle.proof_obstruction_free.specs.Beneath.machine_model.specs.declared.steps.Step.{Step}
-use Rattle.proof_obstruction_free.specs.Beneath.machine_model.specs.Machine.{begin_denial, is_actor, run}
+use Rattle.proof_obstruction_free.specs.Beneath.machine_model.specs.Machine.{is_actor, run}
 use Rattle.proof_obstruction_free.specs.Beneath.machine_model.specs.States.{State, first_state, operation_of}
 use Rattle.proof_obstruction_free.specs.Beneath.machine_model.proofs.Along.{along}
 use Rattle.proof_obstruction_free.specs.Beneath.machine_model.proofs.Found.{none_found}
 use Rattle.proof_obstruction_free.specs.Beneath.machine_model.proofs.Frames.{limits_kept}
 use Rattle.proof_obstruction_free.specs.Beneath.proof_generations.proofs.Handles.Running.{Comes, began, comes, place_of_actor, rested, went}
 use Rattle.proof_obstruction_free.specs.Beneath.proof_generations.specs.Running.{Runs}
+use Rattle.proof_obstruction_free.specs.Beneath.machine_model.proofs.Actors.{begin_actor}
 
 abbrev AllActors : State → Type 0
 AllActors state = (k : ℕ) (operation : Operation) → Runs state k operation → is_actor state (suc k) ≡ true
-
-of_begin : (state : State) (actor : ℕ) (call : Call) → begin_denial state actor call ≡ None → is_actor state actor ≡ true
-of_begin state actor call d = grind arith
 
 same_actors : (before after : State) → after.limits ≡ before.limits → (actor : ℕ) → is_actor before actor ≡ true → is_actor after actor ≡ true
 same_actors before after same actor own = ap (λ (l : Limits). nat_lt 0 actor && nat_le actor l.actors) same ∙ own
 
 by_coming : (before : State) (s : Step) (k : ℕ) (found : Operation) → Comes before s k found → AllActors before → is_actor before (suc k) ≡ true
-by_coming before s k found (began call e d same) all = of_begin before (suc k) call d
+by_coming before s k found (began call e d same) all = begin_actor before (suc k) call d
 by_coming before s k found (rested was runs same) all = all k was runs
 by_coming before s k found (went was e runs g same) all = all k was runs
 

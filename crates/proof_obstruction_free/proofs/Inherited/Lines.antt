@@ -29,7 +29,7 @@ use Rattle.proof_obstruction_free.specs.Keys.{IsOf, WasRenewing}
 use Rattle.proof_obstruction_free.specs.Machines.{IsSwapped, Machines, WasRead, WasSwapped}
 use Rattle.proof_obstruction_free.specs.Stale.{Tries}
 use Rattle.proof_obstruction_free.specs.Stepping.{Stepping}
-use Rattle.proof_obstruction_free.proofs.Pass.BottomsStale.{entries_again, lists_again, siblings_again}
+use Rattle.proof_obstruction_free.proofs.Pass.Key.Stale.{entries_again, lists_again, siblings_again}
 use Rattle.proof_obstruction_free.proofs.Build.Steps.{quiet_on}
 use Rattle.proof_obstruction_free.proofs.Pass.Lines.{down_reads, key_gives, key_holds_read_of, key_read_of}
 use Rattle.proof_obstruction_free.proofs.Pass.Sees.{link_seen, sees_entry}

@@ -24,8 +24,8 @@ use Rattle.proof_obstruction_free.specs.Keys.{BottomEnds, IsEnd, IsOnKey, PassEn
 use Rattle.proof_obstruction_free.specs.Machines.{IsRooted, IsSwapped, Machines, WasSwapped}
 use Rattle.proof_obstruction_free.specs.Stale.{Tries}
 use Rattle.proof_obstruction_free.specs.Stepping.{Stepping}
-use Rattle.proof_obstruction_free.proofs.Pass.Bottoms.{bottom_ends}
-use Rattle.proof_obstruction_free.proofs.Pass.BottomsStale.{absent_again, builds_again, entries_again, lists_again, updates_on}
+use Rattle.proof_obstruction_free.proofs.Pass.Key.Fresh.{bottom_ends}
+use Rattle.proof_obstruction_free.proofs.Pass.Key.Stale.{absent_again, builds_again, entries_again, lists_again, updates_on}
 use Rattle.proof_obstruction_free.proofs.Clean.Current.{cleans_current}
 use Rattle.proof_obstruction_free.proofs.Clean.On.{cleans_on}
 use Rattle.proof_obstruction_free.proofs.Climb.On.{climb_swaps_on, climbs_on}

@@ -26,7 +26,7 @@ use Rattle.proof_obstruction_free.proofs.Making.Down.{Bottom, pass_made}
 use Rattle.proof_obstruction_free.proofs.Making.Few.{Few, after_none, bind, of_within, one, weaken}
 use Rattle.proof_obstruction_free.proofs.Making.Machines.{roots, swaps_current}
 use Rattle.proof_obstruction_free.proofs.Pass.Along.{key_begins}
-use Rattle.proof_obstruction_free.proofs.Pass.Bottoms.{Fresh, fresh_on, from_here}
+use Rattle.proof_obstruction_free.proofs.Pass.Key.Fresh.{Fresh, fresh_on, from_here}
 use Rattle.proof_obstruction_free.proofs.Pass.Chains.{AtEnd, chain_root, current_later, ended_later}
 use Rattle.proof_obstruction_free.proofs.Pass.Fresh.{root_link}
 use Rattle.proof_obstruction_free.proofs.Pass.FreshTombs.{above_length, chain_above, last_link, tomb_below, tomb_or_none}

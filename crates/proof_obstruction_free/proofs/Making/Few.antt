@@ -11,8 +11,9 @@ use Rattle.proof_obstruction_free.specs.Alone.{Lone, Stands, IsStill, Within, wo
 use Rattle.proof_obstruction_free.specs.Slots.{is_make, makes_next}
 use Rattle.proof_obstruction_free.specs.Stepping.{Stepping}
 use Rattle.proof_obstruction_free.specs.Weighing.{Acts}
-use Rattle.proof_obstruction_free.proofs.Slots.Free.{bit, one_at_most}
 use Rattle.proof_obstruction_free.proofs.Weights.Offers.{flat, weighs_at_most}
+use Rattle.proof_obstruction_free.specs.Beneath.slot_arena.proofs.Times.{bit}
+use Rattle.proof_obstruction_free.specs.Beneath.epochs.proofs.InUse.{bit_small}
 
 -- how many nodes the actor makes before step t
 unfoldable pub made : Lone → ℕ → ℕ
@@ -48,7 +49,7 @@ module _ (a : Lone) where
   made_next t = refl
 
   pub made_one : (t : ℕ) → made a (suc t) ≤ made a t + 1
-  made_one t = omega (arith, made_next t, one_at_most (makes_next (a.states t) a.actor))
+  made_one t = omega (arith, made_next t, bit_small (makes_next (a.states t) a.actor))
 
   pub made_no_less : (t n : ℕ) → made a t ≤ made a (t + n)
   made_no_less t zero = let same : t + 0 ≡ t = omega arith in omega (arith, ap (made a) same)

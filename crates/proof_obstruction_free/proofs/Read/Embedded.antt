@@ -31,8 +31,7 @@ module _ (own : Operation) (into : Read → Line) (gives : Ref → Line) (next :
 
   pub holds_read : HoldsRead own wrap gives i
   holds_read = record {
-    reads = λ l. reads (record { indirection = i; line = l });
-    acts = λ state operation l. acts state operation (record { indirection = i; line = l });
+    embedded = record { reads = λ l. reads (record { indirection = i; line = l }); acts = λ state operation l. acts state operation (record { indirection = i; line = l }) };
     goes = λ state operation l same_call same_access. goes state operation (record { indirection = i; line = l })
         ∙ leads (read_after state.heap operation.access (word_at state (handle_of operation.call)) i l)
         ∙ ap (λ (x : Access). lead wrap gives (read_after state.heap x (word_at state (handle_of operation.call)) i l)) same_access

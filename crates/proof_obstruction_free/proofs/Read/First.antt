@@ -12,11 +12,11 @@ use Rattle.proof_obstruction_free.specs.Beneath.machine_model.specs.declared.rea
 use Rattle.proof_obstruction_free.specs.Beneath.machine_model.specs.declared.roots.Descriptor.{Descriptor}
 use Rattle.proof_obstruction_free.specs.Beneath.machine_model.specs.declared.roots.RootWord.{RootWord}
 use Rattle.proof_obstruction_free.specs.Beneath.machine_model.specs.declared.roots.RootWord.TheVariants.{Plain, Offer}
-use Rattle.proof_obstruction_free.specs.Beneath.machine_model.specs.Reading.{verdict_by, read_action, is_licensed, is_pending, after_prev, after_ask, after_decide, after_restore}
+use Rattle.proof_obstruction_free.specs.Beneath.machine_model.specs.Reading.{verdict_by, is_licensed, is_pending, after_prev, after_ask, after_decide, after_restore}
 use Rattle.proof_obstruction_free.specs.Beneath.machine_model.specs.Grown.{grown, main_word, prev_word}
 use Rattle.proof_obstruction_free.specs.Beneath.proof_commits.proofs.Known.Given.{GrownStays, GrownChanges, Either, Decided}
 use Rattle.proof_obstruction_free.specs.Beneath.proof_commits.proofs.Words.OfRuns.{link_made}
-use Rattle.proof_obstruction_free.specs.Alone.{Lone, Stands, Within, IsPlain, IsStill, word}
+use Rattle.proof_obstruction_free.specs.Alone.{Lone, Stands, Within, IsPlain, word}
 use Rattle.proof_obstruction_free.specs.Machines.{HoldsRead, IsRead, ReadsFirst, lead}
 use Rattle.proof_obstruction_free.specs.Weighing.{Weighing, Sees}
 use Rattle.proof_obstruction_free.proofs.Step.Within.{Comes, at_once, within, keeps_now, keeps_on, stays, stays_on}
@@ -54,9 +54,6 @@ module _ (a : Lone) (weight : ℕ → ℕ) (x f : ℕ) (wt : Weighing a weight x
   given : (t b : ℕ) (m : Ref) → weight t ≤ b → Stands a t g (gives m) → Sees a t i m prev.None → C (P t) b t
   given t b m enough s sees = at_once a weight (P t) b t enough (record { main = m; stands = s; has = sees_has a t i m sees; keeps = keeps_now a t; word = stays a t })
 
-  quiet : (t : ℕ) (l : ReadLine) → S t l → t < a.last → IsStill (read_action i l) → weight (suc t) ≤ weight t
-  quiet t l s more is = light a wrap gives i h weight wt.quiet t g l s more is
-
   -- ---- the node before is put back
 
   restore : (t b : ℕ) (m q : Ref) → S t (read.Restore m q) → Sees a t i m (prev.Failed q) → 1 + weight t ≤ b + f → C (P t) b t
@@ -78,7 +75,7 @@ module _ (a : Lone) (weight : ℕ → ℕ) (x f : ℕ) (wt : Weighing a weight x
       on a wrap gives i h weight P counts b t g (read.Prev m) s (omega (arith, enough))
       (λ more next.
       let found = read_acts a wrap gives i h t g (read.Prev m) s more in
-      let less = quiet t (read.Prev m) s more tt in
+      let less = light a wrap gives i h weight wt.quiet t g (read.Prev m) s more tt in
       given (suc t) (b - 1) m (omega (arith, enough, less)) (subst (λ v. Stands a (suc t) g (lead wrap gives (after_prev a.own.access m v))) (found.0.prev ∙ sees.prev) next)
       (still_sees a t i m prev.None found.1 sees))
 
@@ -88,7 +85,7 @@ module _ (a : Lone) (weight : ℕ → ℕ) (x f : ℕ) (wt : Weighing a weight x
       on a wrap gives i h weight P counts b t g (read.Prev m) s (omega (arith, enough, some))
       (λ more next.
       let found = read_acts a wrap gives i h t g (read.Prev m) s more in
-      let less = quiet t (read.Prev m) s more tt in
+      let less = light a wrap gives i h weight wt.quiet t g (read.Prev m) s more tt in
       restore (suc t) (b - 1) m q (subst (λ v. Stands a (suc t) g (lead wrap gives (after_prev a.own.access m v))) (found.0.prev ∙ sees.prev) next)
       (still_sees a t i m (prev.Failed q) found.1 sees) (omega (arith, enough, some, less)))
 
@@ -98,7 +95,7 @@ module _ (a : Lone) (weight : ℕ → ℕ) (x f : ℕ) (wt : Weighing a weight x
       on a wrap gives i h weight P counts b t g read.Main s (omega (arith, enough, some))
       (λ more next.
       let found = read_acts a wrap gives i h t g read.Main s more in
-      let less = quiet t read.Main s more tt in
+      let less = light a wrap gives i h weight wt.quiet t g read.Main s more tt in
       prev_failed (suc t) (b - 1) m q (subst (λ x. Stands a (suc t) g (wrap (read.Prev x))) (found.0.main ∙ sees.main) next)
       (still_sees a t i m (prev.Failed q) found.1 sees) (omega (arith, enough, some, less)))
 
@@ -136,7 +133,7 @@ module _ (a : Lone) (weight : ℕ → ℕ) (x f : ℕ) (wt : Weighing a weight x
       let some = wt.weighs t i m q s.since s.until sees in
       on a wrap gives i h weight P counts b t g (read.AskRoot m q) s (omega (arith, enough, some))
       (λ more next.
-      let less = quiet t (read.AskRoot m q) s more tt in
+      let less = light a wrap gives i h weight wt.quiet t g (read.AskRoot m q) s more tt in
       decide (suc t) (b - 1) m q (Some (generation_at (a.states t).heap r))
       (subst (λ y. Stands a (suc t) g (lead wrap gives (after_ask (a.states t).heap m q y))) plain next)
       (still_sees a t i m (prev.Pending q) (read_acts a wrap gives i h t g (read.AskRoot m q) s more) sees) (omega (arith, enough, some, less)))
@@ -157,7 +154,7 @@ module _ (a : Lone) (weight : ℕ → ℕ) (x f : ℕ) (wt : Weighing a weight x
       let some = wt.weighs t i m q s.since s.until sees in
       on a wrap gives i h weight P counts b t g (read.AskRoot m q) s (omega (arith, enough, some))
       (λ more next.
-      let less = quiet t (read.AskRoot m q) s more tt in
+      let less = light a wrap gives i h weight wt.quiet t g (read.AskRoot m q) s more tt in
       abort (suc t) (b - 1) m q offer
       (subst (λ y. Stands a (suc t) g (lead wrap gives (after_ask (a.states t).heap m q y))) e next)
       (still_sees a t i m (prev.Pending q) (read_acts a wrap gives i h t g (read.AskRoot m q) s more) sees)
@@ -175,7 +172,7 @@ module _ (a : Lone) (weight : ℕ → ℕ) (x f : ℕ) (wt : Weighing a weight x
       on a wrap gives i h weight P counts b t g (read.Prev m) s (omega (arith, enough, some))
       (λ more next.
       let found = read_acts a wrap gives i h t g (read.Prev m) s more in
-      let less = quiet t (read.Prev m) s more tt in
+      let less = light a wrap gives i h weight wt.quiet t g (read.Prev m) s more tt in
       pending_by (suc t) (b - 1) m q a.own.access (subst (λ v. Stands a (suc t) g (lead wrap gives (after_prev a.own.access m v))) (found.0.prev ∙ sees.prev) next)
       (still_sees a t i m (prev.Pending q) found.1 sees) (omega (arith, enough, some, less)))
 
@@ -191,7 +188,7 @@ module _ (a : Lone) (weight : ℕ → ℕ) (x f : ℕ) (wt : Weighing a weight x
       on a wrap gives i h weight P counts b t g read.Main s (omega (arith, decided))
       (λ more next.
       let found = read_acts a wrap gives i h t g read.Main s more in
-      let less = quiet t read.Main s more tt in
+      let less = light a wrap gives i h weight wt.quiet t g read.Main s more tt in
       let m : Ref = main_word a.states t i in
       prev_by (suc t) (b - 1) m (subst (λ x. Stands a (suc t) g (wrap (read.Prev x))) found.0.main next) (prev_word a.states t m)
       (still_sees a t i m (prev_word a.states t m) found.1 (record { made = link_made _ found.0.link; main = refl; prev = refl }))

@@ -9,18 +9,18 @@ use Rattle.proof_obstruction_free.specs.Beneath.slot_arena.specs.Heaps.{prev_at,
 use Rattle.proof_obstruction_free.specs.Beneath.machine_model.specs.declared.lines.Line.{Line}
 use Rattle.proof_obstruction_free.specs.Beneath.machine_model.specs.declared.reading.ReadLine.{ReadLine}
 use Rattle.proof_obstruction_free.specs.Beneath.machine_model.specs.declared.reading.ReadLine.TheVariants as read
-use Rattle.proof_obstruction_free.specs.Beneath.machine_model.specs.Reading.{read_action, verdict_by, is_licensed, is_pending, after_prev, after_ask, after_decide}
+use Rattle.proof_obstruction_free.specs.Beneath.machine_model.specs.Reading.{verdict_by, is_licensed, is_pending, after_prev, after_ask, after_decide}
 use Rattle.proof_obstruction_free.specs.Beneath.machine_model.specs.Grown.{main_word, prev_word}
 use Rattle.proof_obstruction_free.specs.Beneath.proof_commits.proofs.Known.Given.{Decided}
 use Rattle.proof_obstruction_free.specs.Beneath.proof_commits.proofs.Words.OfRuns.{link_made}
 use Rattle.proof_obstruction_free.specs.Beneath.proof_generations.proofs.Falling.KnownRoots.{reads_on}
-use Rattle.proof_obstruction_free.specs.Alone.{Lone, Stands, IsPlain, IsStill, generation}
+use Rattle.proof_obstruction_free.specs.Alone.{Lone, Stands, IsPlain, generation}
 use Rattle.proof_obstruction_free.specs.Machines.{HoldsRead, lead}
 use Rattle.proof_obstruction_free.specs.Weighing.{Weighing, Sees}
 use Rattle.proof_obstruction_free.proofs.Step.Within.{Comes}
 use Rattle.proof_obstruction_free.proofs.Read.Words.{still_sees, sees_written}
 use Rattle.proof_obstruction_free.proofs.Read.Lines.{on_line}
-use Rattle.proof_obstruction_free.proofs.Read.Step.{Counts, acting, on, stays}
+use Rattle.proof_obstruction_free.proofs.Read.Step.{acting, on, stays, light}
 use Rattle.proof_obstruction_free.proofs.Read.First as First
 use Rattle.proof_obstruction_free.proofs.Read.On as On
 use Rattle.proof_obstruction_free.proofs.Swap.Found.{generation_for_good, root_generation}
@@ -41,18 +41,9 @@ module _ (a : Lone) (weight : ℕ → ℕ) (x f : ℕ) (wt : Weighing a weight x
   abbrev S : ℕ → ReadLine → Type 0
   S t l = Stands a t g (wrap l)
 
-  counts : Counts a wrap gives i h P
-  counts = On.counts a weight x f wt wrap gives i h c g two three seven
-
-  given : (t b : ℕ) (m : Ref) → weight t ≤ b → Stands a t g (gives m) → C (P t) b t
-  given = On.given a weight x f wt wrap gives i h c g two three seven
-
-  quiet : (t : ℕ) (l : ReadLine) → S t l → t < a.last → IsStill (read_action i l) → weight (suc t) ≤ weight t
-  quiet = On.quiet a weight x f wt wrap gives i h c g two three seven
-
   -- the generation that is told stays that of the root
   pub told_so : (t : ℕ) (l : ReadLine) → S t l → (r : Ref) → IsPlain a t r → generation_at (a.states t).heap r ≡ generation a r
-  told_so t l s r plain = root_generation a t g (wrap l) s (reads_on (wrap l) _ (h.reads l)) r plain
+  told_so t l s r plain = root_generation a t g (wrap l) s (reads_on (wrap l) _ (h.embedded.reads l)) r plain
 
   -- the indirection's stays too
   pub own_so : (t : ℕ) (m q : Ref) (told : Option ℕ) → S t (read.Decide m q told) → t < a.last → generation_at (a.states t).heap i ≡ generation a i
@@ -64,7 +55,7 @@ module _ (a : Lone) (weight : ℕ → ℕ) (x f : ℕ) (wt : Weighing a weight x
     decide : (t b : ℕ) (m q : Ref) (told : Option ℕ) → S t (read.Decide m q told) → Sees a t i m (prev.Pending q) → told ≡ Some (generation a i) → 1 + weight t ≤ b + x → C (P t) b t
     decide t b m q told s sees own enough =
         let some = wt.weighs t i m q s.since s.until sees in
-        on a wrap gives i h weight P counts b t g (read.Decide m q told) s (omega (arith, enough, some))
+        on a wrap gives i h weight P (On.counts a weight x f wt wrap gives i h c g two three seven) b t g (read.Decide m q told) s (omega (arith, enough, some))
         (λ more next.
         let found = read_acts a wrap gives i h t g (read.Decide m q told) s more in
         let pending : is_pending (prev_at (a.states t).heap m) q ≡ true = ap (λ v. is_pending v q) (found.1.prev ∙ sees.prev) ∙ First.still_pending q in
@@ -73,16 +64,16 @@ module _ (a : Lone) (weight : ℕ → ℕ) (x f : ℕ) (wt : Weighing a weight x
         let changed = subst (λ l. Decided a.states t m q (verdict_by l true)) licensed (subst (λ y. Decided a.states t m q (verdict_by (is_licensed (a.states t).heap i told) y)) pending found.3) in
         let now = sees_written a t i m (prev.Pending q) prev.None found.1.made changed sees in
         let off = wt.commit t i m q told (acting a wrap gives i h t g (read.Decide m q told) s more) sees now in
-        given (suc t) (b - 1) m (omega (arith, enough, off))
+        On.given a weight x f wt wrap gives i h c g two three seven (suc t) (b - 1) m (omega (arith, enough, off))
         (subst (λ l. Stands a (suc t) g (lead wrap gives (after_decide m (verdict_by l true)))) licensed
         (subst (λ y. Stands a (suc t) g (lead wrap gives (after_decide m (verdict_by (is_licensed (a.states t).heap i told) y)))) pending next)))
 
     ask : (t b : ℕ) (m q : Ref) → S t (read.AskRoot m q) → Sees a t i m (prev.Pending q) → IsPlain a t r → 2 + weight t ≤ b + x → C (P t) b t
     ask t b m q s sees plain enough =
         let some = wt.weighs t i m q s.since s.until sees in
-        on a wrap gives i h weight P counts b t g (read.AskRoot m q) s (omega (arith, enough, some))
+        on a wrap gives i h weight P (On.counts a weight x f wt wrap gives i h c g two three seven) b t g (read.AskRoot m q) s (omega (arith, enough, some))
         (λ more next.
-        let less = quiet t (read.AskRoot m q) s more tt in
+        let less = light a wrap gives i h weight wt.quiet t g (read.AskRoot m q) s more tt in
         decide (suc t) (b - 1) m q (Some (generation_at (a.states t).heap r))
         (subst (λ y. Stands a (suc t) g (lead wrap gives (after_ask (a.states t).heap m q y))) plain next)
         (still_sees a t i m (prev.Pending q) (read_acts a wrap gives i h t g (read.AskRoot m q) s more) sees)
@@ -91,10 +82,10 @@ module _ (a : Lone) (weight : ℕ → ℕ) (x f : ℕ) (wt : Weighing a weight x
     prev_pending : (t b : ℕ) (m q : Ref) → S t (read.Prev m) → Sees a t i m (prev.Pending q) → IsPlain a t r → 3 + weight t ≤ b + x → C (P t) b t
     prev_pending t b m q s sees plain enough =
         let some = wt.weighs t i m q s.since s.until sees in
-        on a wrap gives i h weight P counts b t g (read.Prev m) s (omega (arith, enough, some))
+        on a wrap gives i h weight P (On.counts a weight x f wt wrap gives i h c g two three seven) b t g (read.Prev m) s (omega (arith, enough, some))
         (λ more next.
         let found = read_acts a wrap gives i h t g (read.Prev m) s more in
-        let less = quiet t (read.Prev m) s more tt in
+        let less = light a wrap gives i h weight wt.quiet t g (read.Prev m) s more tt in
         ask (suc t) (b - 1) m q
         (subst (λ y. Stands a (suc t) g (lead wrap gives (after_prev y m (prev.Pending q)))) writable
         (subst (λ v. Stands a (suc t) g (lead wrap gives (after_prev a.own.access m v))) (found.0.prev ∙ sees.prev) next))
@@ -110,10 +101,10 @@ module _ (a : Lone) (weight : ℕ → ℕ) (x f : ℕ) (wt : Weighing a weight x
 
     main : (t b : ℕ) → S t read.Main → IsPlain a t r → 4 + weight t ≤ b → C (P t) b t
     main t b s plain enough =
-        on a wrap gives i h weight P counts b t g read.Main s (omega (arith, enough))
+        on a wrap gives i h weight P (On.counts a weight x f wt wrap gives i h c g two three seven) b t g read.Main s (omega (arith, enough))
         (λ more next.
         let found = read_acts a wrap gives i h t g read.Main s more in
-        let less = quiet t read.Main s more tt in
+        let less = light a wrap gives i h weight wt.quiet t g read.Main s more tt in
         let m : Ref = main_word a.states t i in
         prev_by (suc t) (b - 1) m (subst (λ y. Stands a (suc t) g (wrap (read.Prev y))) found.0.main next) (stays a wrap gives i h t g read.Main s more r plain) (omega (arith, enough, less))
         (prev_word a.states t m) (still_sees a t i m (prev_word a.states t m) found.1 (record { made = link_made _ found.0.link; main = refl; prev = refl })))
@@ -121,20 +112,21 @@ module _ (a : Lone) (weight : ℕ → ℕ) (x f : ℕ) (wt : Weighing a weight x
     -- a node that another decided
     pub after_another : (t b : ℕ) (m : Ref) → S t (read.Prev m) → IsPlain a t r → 6 + weight t ≤ b → (v : Prev) → prev_word a.states t m ≡ v → C (P t) b t
     after_another t b m s plain enough prev.None e =
-        on a wrap gives i h weight P counts b t g (read.Prev m) s (omega (arith, enough))
+        on a wrap gives i h weight P (On.counts a weight x f wt wrap gives i h c g two three seven) b t g (read.Prev m) s (omega (arith, enough))
         (λ more next.
         let found = read_acts a wrap gives i h t g (read.Prev m) s more in
-        let less = quiet t (read.Prev m) s more tt in
-        given (suc t) (b - 1) m (omega (arith, enough, less)) (subst (λ v. Stands a (suc t) g (lead wrap gives (after_prev a.own.access m v))) (found.0.prev ∙ e) next))
+        let less = light a wrap gives i h weight wt.quiet t g (read.Prev m) s more tt in
+        On.given a weight x f wt wrap gives i h c g two three seven (suc t) (b - 1) m (omega (arith, enough, less))
+        (subst (λ v. Stands a (suc t) g (lead wrap gives (after_prev a.own.access m v))) (found.0.prev ∙ e) next))
     after_another t b m s plain enough (prev.Failed q) e =
-        on a wrap gives i h weight P counts b t g (read.Prev m) s (omega (arith, enough))
+        on a wrap gives i h weight P (On.counts a weight x f wt wrap gives i h c g two three seven) b t g (read.Prev m) s (omega (arith, enough))
         (λ more next.
         let found = read_acts a wrap gives i h t g (read.Prev m) s more in
-        let less = quiet t (read.Prev m) s more tt in
+        let less = light a wrap gives i h weight wt.quiet t g (read.Prev m) s more tt in
         let restoring = subst (λ v. Stands a (suc t) g (lead wrap gives (after_prev a.own.access m v))) (found.0.prev ∙ e) next in
         On.restore_or a weight x f wt wrap gives i h c g two three seven (suc t) (b - 1) 4 m q restoring (omega (arith, enough, less))
         (λ soon again room. main (suc (suc t)) (b - 1 - 1) again
         (stays a wrap gives i h (suc t) g (read.Restore m q) restoring soon r (stays a wrap gives i h t g (read.Prev m) s more r plain)) room))
     after_another t b m s plain enough (prev.Pending q) e =
-        let sees = On.sees_pending a weight x f wt wrap gives i h c g two three seven t s.until m q (on_line a t g (wrap (read.Prev m)) s _ (h.reads (read.Prev m))) e in
+        let sees = On.sees_pending a weight x f wt wrap gives i h c g two three seven t s.until m q (on_line a t g (wrap (read.Prev m)) s _ (h.embedded.reads (read.Prev m))) e in
         prev_pending t b m q s sees plain (omega (arith, enough))

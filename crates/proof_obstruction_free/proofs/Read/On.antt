@@ -11,13 +11,13 @@ use Rattle.proof_obstruction_free.specs.Beneath.machine_model.specs.declared.rea
 use Rattle.proof_obstruction_free.specs.Beneath.machine_model.specs.declared.roots.Descriptor.{Descriptor}
 use Rattle.proof_obstruction_free.specs.Beneath.machine_model.specs.declared.roots.RootWord.{RootWord}
 use Rattle.proof_obstruction_free.specs.Beneath.machine_model.specs.declared.roots.RootWord.TheVariants.{Plain, Offer}
-use Rattle.proof_obstruction_free.specs.Beneath.machine_model.specs.Reading.{verdict_by, is_licensed, is_pending, read_action, after_prev, after_ask, after_decide, after_restore}
+use Rattle.proof_obstruction_free.specs.Beneath.machine_model.specs.Reading.{verdict_by, is_licensed, is_pending, after_prev, after_ask, after_decide, after_restore}
 use Rattle.proof_obstruction_free.specs.Beneath.machine_model.specs.Grown.{prev_word}
 use Rattle.proof_obstruction_free.specs.Beneath.proof_commits.proofs.Known.Given.{GrownStays, GrownChanges, Either}
 use Rattle.proof_obstruction_free.specs.Beneath.proof_commits.proofs.Words.Stood.{Stood}
 use Rattle.proof_obstruction_free.specs.Beneath.proof_commits.proofs.Words.OfRuns.{link_made}
 use Rattle.proof_obstruction_free.specs.Beneath.proof_commits.proofs.Lines.Read.{pending_so, not_pending_so}
-use Rattle.proof_obstruction_free.specs.Alone.{Lone, Stands, IsPlain, IsStill, word}
+use Rattle.proof_obstruction_free.specs.Alone.{Lone, Stands, IsPlain, word}
 use Rattle.proof_obstruction_free.specs.Machines.{HoldsRead, IsRead, WasRead, ReadsOn, lead}
 use Rattle.proof_obstruction_free.specs.Weighing.{Weighing, Sees}
 use Rattle.proof_obstruction_free.proofs.Step.Within.{Comes, at_once, comes_map, within, keeps_now, keeps_on, stays, stays_on}
@@ -55,9 +55,6 @@ module _ (a : Lone) (weight : ℕ → ℕ) (x f : ℕ) (wt : Weighing a weight x
   pub was_read : (t b : ℕ) → C (λ u. IsRead a weight c t g gives i u) b t → C (P t) b t
   was_read t b found = comes_map a weight _ (P t) b t (λ u from to is. record { main = is.main; stands = is.stands; keeps = is.keeps; word = is.word }) found
 
-  pub quiet : (t : ℕ) (l : ReadLine) → S t l → t < a.last → IsStill (read_action i l) → weight (suc t) ≤ weight t
-  quiet t l s more is = light a wrap gives i h weight wt.quiet t g l s more is
-
   pub from_main : (t b : ℕ) → S t read.Main → c + weight t ≤ b → C (P t) b t
   from_main t b s enough =
       was_read t b (main a weight x f wt wrap gives i h c g t b s (omega (arith, enough, two)) (omega (arith, enough, three)) (omega (arith, enough, seven)))
@@ -69,7 +66,7 @@ module _ (a : Lone) (weight : ℕ → ℕ) (x f : ℕ) (wt : Weighing a weight x
       Stands a (suc t) g (lead wrap gives (after_restore q same)) → C (P (suc t)) (b - 1) (suc t)
   restored t b n m q s enough other more true e changed next =
       let found = read_acts a wrap gives i h t g (read.Restore m q) s more in
-      let known = on_line a t g (wrap (read.Restore m q)) s _ (h.reads (read.Restore m q)) in
+      let known = on_line a t g (wrap (read.Restore m q)) s _ (h.embedded.reads (read.Restore m q)) in
       let sees : Sees a t i m (prev.Failed q) = record { made = link_made _ found.0.link; main = sym found.0.main ∙ eqb-true _ m e; prev = known.1 } in
       let less = wt.restore t i m q (acting a wrap gives i h t g (read.Restore m q) s more) sees (put_back a t (omega arith) i m q found.0.link changed sees) in
       given (suc t) (b - 1) q (omega (arith, enough, less)) next
@@ -100,16 +97,16 @@ module _ (a : Lone) (weight : ℕ → ℕ) (x f : ℕ) (wt : Weighing a weight x
       on a wrap gives i h weight P counts b t g (read.Prev m) s (omega (arith, enough))
       (λ more next.
       let found = read_acts a wrap gives i h t g (read.Prev m) s more in
-      let less = quiet t (read.Prev m) s more tt in
+      let less = light a wrap gives i h weight wt.quiet t g (read.Prev m) s more tt in
       given (suc t) (b - 1) m (omega (arith, enough, less)) (subst (λ v. Stands a (suc t) g (lead wrap gives (after_prev a.own.access m v))) (found.0.prev ∙ e) next))
   prev_by t b m s enough (prev.Failed q) e =
       on a wrap gives i h weight P counts b t g (read.Prev m) s (omega (arith, enough))
       (λ more next.
       let found = read_acts a wrap gives i h t g (read.Prev m) s more in
-      let less = quiet t (read.Prev m) s more tt in
+      let less = light a wrap gives i h weight wt.quiet t g (read.Prev m) s more tt in
       restore (suc t) (b - 1) m q (subst (λ v. Stands a (suc t) g (lead wrap gives (after_prev a.own.access m v))) (found.0.prev ∙ e) next) (omega (arith, enough, less)))
   prev_by t b m s enough (prev.Pending q) e =
-      let sees = sees_pending t s.until m q (on_line a t g (wrap (read.Prev m)) s _ (h.reads (read.Prev m))) e in
+      let sees = sees_pending t s.until m q (on_line a t g (wrap (read.Prev m)) s _ (h.embedded.reads (read.Prev m))) e in
       was_read t b (prev_pending a weight x f wt wrap gives i h c g t b m q s sees (omega (arith, enough, seven)))
 
   pub prev_any : (t b : ℕ) (m : Ref) → S t (read.Prev m) → c + 2 + weight t ≤ b → C (P t) b t
@@ -125,7 +122,7 @@ module _ (a : Lone) (weight : ℕ → ℕ) (x f : ℕ) (wt : Weighing a weight x
       C (P t) b t
   decide_by t b m q told s enough more true e =
       let found = read_acts a wrap gives i h t g (read.Decide m q told) s more in
-      let stood = on_line a t g (wrap (read.Decide m q told)) s _ (h.reads (read.Decide m q told)) in
+      let stood = on_line a t g (wrap (read.Decide m q told)) s _ (h.embedded.reads (read.Decide m q told)) in
       let sees = sees_pending t s.until m q stood (sym found.1.prev ∙ pending_so _ q e) in
       was_read t b (decide a weight x f wt wrap gives i h c g t b m q told s sees (omega (arith, enough, seven)))
   decide_by t b m q told s enough more false e =
@@ -157,7 +154,7 @@ module _ (a : Lone) (weight : ℕ → ℕ) (x f : ℕ) (wt : Weighing a weight x
     ask_by t b m q s enough (Offer offer) e =
         on a wrap gives i h weight P counts b t g (read.AskRoot m q) s (omega (arith, enough))
         (λ more next.
-        let less = quiet t (read.AskRoot m q) s more tt in
+        let less = light a wrap gives i h weight wt.quiet t g (read.AskRoot m q) s more tt in
         abort_standing (suc t) (b - 1) m q offer
         (subst (λ y. Stands a (suc t) g (lead wrap gives (after_ask (a.states t).heap m q y))) e next)
         (same_word_at a wrap gives i h t g m q s more ∙ e) (omega (arith, enough, less)))
@@ -169,14 +166,14 @@ module _ (a : Lone) (weight : ℕ → ℕ) (x f : ℕ) (wt : Weighing a weight x
     abort t b m q offer s enough =
         on a wrap gives i h weight P counts b t g (read.Abort m q offer) s (omega (arith, enough))
         (λ more next.
-        let less = quiet t (read.Abort m q offer) s more tt in
+        let less = light a wrap gives i h weight wt.quiet t g (read.Abort m q offer) s more tt in
         ask (suc t) (b - 1) m q next (omega (arith, enough, less)))
 
   ask_plain : (t b : ℕ) (m q r : Ref) → S t (read.AskRoot m q) → IsPlain a t r → c + 4 + weight t ≤ b → C (P t) b t
   ask_plain t b m q r s plain enough =
       on a wrap gives i h weight P counts b t g (read.AskRoot m q) s (omega (arith, enough))
       (λ more next.
-      let less = quiet t (read.AskRoot m q) s more tt in
+      let less = light a wrap gives i h weight wt.quiet t g (read.AskRoot m q) s more tt in
       decide_any (suc t) (b - 1) m q (Some (generation_at (a.states t).heap r))
       (subst (λ y. Stands a (suc t) g (lead wrap gives (after_ask (a.states t).heap m q y))) plain next) (omega (arith, enough, less)))
 

@@ -49,7 +49,7 @@ module _ (a : Lone) (wrap : ReadLine → Line) (gives : Ref → Line) (i : Ref) 
   -- ---- what it leaves
 
   action : (t : ℕ) (g : Option ℕ) (l : ReadLine) (s : Stands a t g (wrap l)) → line_action (a.states t) s.operation (wrap l) ≡ read_action i l
-  action t g l s = h.acts (a.states t) s.operation l
+  action t g l s = h.embedded.acts (a.states t) s.operation l
 
   pub keeps : (t : ℕ) (g : Option ℕ) (l : ReadLine) → Stands a t g (wrap l) → t < a.last → Keeps a t (suc t)
   keeps t g l s more = keeps_unless a t more (none_pending a t (read_action i l) (no_publish i l) (read_acts a wrap gives i h t g l s more))

@@ -15,7 +15,7 @@ use Rattle.proof_obstruction_free.specs.Machines.{HoldsRead, lead}
 use Rattle.proof_obstruction_free.specs.Weighing.{Weighing}
 use Rattle.proof_obstruction_free.proofs.Step.Within.{Comes}
 use Rattle.proof_obstruction_free.proofs.Read.Lines.{on_line, asks_writable}
-use Rattle.proof_obstruction_free.proofs.Read.Step.{acting, stays, on}
+use Rattle.proof_obstruction_free.proofs.Read.Step.{acting, stays, on, light}
 use Rattle.proof_obstruction_free.proofs.Read.First as First
 use Rattle.proof_obstruction_free.proofs.Read.On as On
 use Rattle.proof_obstruction_free.proofs.Read.Licensed as Licensed
@@ -49,7 +49,7 @@ module _ (a : Lone) (weight : ℕ → ℕ) (x f : ℕ) (wt : Weighing a weight x
       is_pending (prev_at (a.states t).heap m) q ≡ pending → Comes a weight (P t) b t
   decide_by t b m q r s plain writable enough more true e =
       let found = read_acts a wrap gives i h t g (read.Decide m q (Some (generation a r))) s more in
-      let stood = on_line a t g (wrap (read.Decide m q (Some (generation a r)))) s _ (h.reads (read.Decide m q (Some (generation a r)))) in
+      let stood = on_line a t g (wrap (read.Decide m q (Some (generation a r)))) s _ (h.embedded.reads (read.Decide m q (Some (generation a r)))) in
       let sees = On.sees_pending a weight x f wt wrap gives i h c g two three seven t s.until m q stood (sym found.1.prev ∙ pending_so _ q e) in
       On.was_read a weight x f wt wrap gives i h c g two three seven t b (First.decide a weight x f wt wrap gives i h c g t b m q (Some (generation a r)) s sees (omega (arith, enough, seven)))
   decide_by t b m q r s plain writable enough more false e =
@@ -73,11 +73,11 @@ module _ (a : Lone) (weight : ℕ → ℕ) (x f : ℕ) (wt : Weighing a weight x
   ask_plain t b m q r s plain enough =
       on a wrap gives i h weight P (On.counts a weight x f wt wrap gives i h c g two three seven) b t g (read.AskRoot m q) s (omega (arith, enough))
       (λ more next.
-      let less = On.quiet a weight x f wt wrap gives i h c g two three seven t (read.AskRoot m q) s more tt in
+      let less = light a wrap gives i h weight wt.quiet t g (read.AskRoot m q) s more tt in
       let told = Licensed.told_so a weight x f wt wrap gives i h c g two three seven t (read.AskRoot m q) s r plain in
       decide_told (suc t) (b - 1) m q r
       (subst (λ n. S (suc t) (read.Decide m q (Some n))) told (subst (λ y. Stands a (suc t) g (lead wrap gives (after_ask (a.states t).heap m q y))) plain next))
-      (stays a wrap gives i h t g (read.AskRoot m q) s more r plain) (asks_writable a t g (wrap (read.AskRoot m q)) s i m q (h.reads (read.AskRoot m q))) (omega (arith, enough, less)))
+      (stays a wrap gives i h t g (read.AskRoot m q) s more r plain) (asks_writable a t g (wrap (read.AskRoot m q)) s i m q (h.embedded.reads (read.AskRoot m q))) (omega (arith, enough, less)))
 
   -- ---- from any line
 

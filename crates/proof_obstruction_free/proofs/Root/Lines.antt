@@ -50,8 +50,10 @@ module _ (own : Operation) (wrap : RootLine → Line) (gives : State → Operati
   -- its COMPLETE reads the offer's root
   pub root_reads : HoldsRead own reading_line swapping_line offer.root
   root_reads = record {
-    reads = λ l. holds.reads (root.Completing (record { offer = offer; line = complete.Reading l }));
-    acts = λ state operation l. holds.acts state operation (root.Completing (record { offer = offer; line = complete.Reading l }));
+    embedded = record {
+      reads = λ l. holds.reads (root.Completing (record { offer = offer; line = complete.Reading l }));
+      acts = λ state operation l. holds.acts state operation (root.Completing (record { offer = offer; line = complete.Reading l }));
+    };
     goes = λ state operation l call access.
         holds.goes state operation (root.Completing (record { offer = offer; line = complete.Reading l })) call access
         ∙ led_so state operation (read_after state.heap own.access (word_at state (handle_of own.call)) offer.root l);

@@ -15,13 +15,15 @@ use Rattle.proof_obstruction_free.specs.Beneath.machine_model.proofs.Refusals.{I
 use Rattle.proof_obstruction_free.proofs.Ends.Alone.{stays}
 use Rattle.proof_obstruction_free.proofs.Ends.Bounds.{copies_end_first}
 use Rattle.proof_obstruction_free.proofs.Inherited.EndsAll.{alone_it_ends}
-use Rattle.proof_obstruction_free.proofs.Slots.Free.{bit, made, one_at_most, not_for_want, one_made, none_made, refused_there}
+use Rattle.proof_obstruction_free.proofs.Slots.Free.{made, not_for_want, one_made, none_made, refused_there}
+use Rattle.proof_obstruction_free.specs.Beneath.slot_arena.proofs.Times.{bit}
+use Rattle.proof_obstruction_free.specs.Beneath.epochs.proofs.InUse.{bit_small}
 
 -- one in each step at most
 pub made_steps : (limits : Limits) (steps : List Step) (actor n : ℕ) → made limits steps actor n ≤ n
 made_steps limits steps actor zero = omega (arith, none_made limits steps actor)
 made_steps limits steps actor (suc n) =
-    omega (arith, one_made limits steps actor n, one_at_most (makes_next (alone_after limits steps actor n) actor), made_steps limits steps actor n)
+    omega (arith, one_made limits steps actor n, bit_small (makes_next (alone_after limits steps actor n) actor), made_steps limits steps actor n)
 
 -- who runs nothing makes nothing
 idle_makes_none : (state : State) (actor : ℕ) → operation_of state actor ≡ None → makes_next state actor ≡ false

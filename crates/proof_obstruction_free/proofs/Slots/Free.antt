@@ -1,5 +1,5 @@
 -- Where more slots are free than an operation makes nodes it isn't refused for want of slots.
-use Rattle.std.proofs.Common.{◌≡◌, ℕ, zero, suc, ◌+◌, ◌<◌, ◌≤◌, ◌⊎◌, Bool, true, false, cond, List, [], length, Some, option_map, Ok, Err, inl, inr, refl, sym, ap, subst, ◌∙◌, arith}
+use Rattle.std.proofs.Common.{◌≡◌, ℕ, zero, suc, ◌+◌, ◌<◌, ◌≤◌, ◌⊎◌, Bool, true, false, List, [], length, Some, option_map, Ok, Err, inl, inr, refl, sym, ap, subst, ◌∙◌, arith}
 use Rattle.std.specs.Prelude.{◌≢◌}
 use Rattle.std.proofs.lemmas.Bool.{cases_lt, false≢true}
 use Rattle.std.proofs.lemmas.Option.{none-some}
@@ -26,6 +26,7 @@ use Rattle.proof_obstruction_free.specs.Beneath.machine_model.proofs.Taking.{one
 use Rattle.proof_obstruction_free.specs.Laws.{alone_after}
 use Rattle.proof_obstruction_free.specs.Slots.{is_make, makes_alone, makes_next}
 use Rattle.proof_obstruction_free.proofs.Ends.Lists.{none_more, one_more}
+use Rattle.proof_obstruction_free.specs.Beneath.slot_arena.proofs.Times.{bit}
 
 -- ---- one step
 
@@ -57,14 +58,6 @@ not_refused_next state zero h free = λ operation found refused. none-some opera
 not_refused_next state (suc k) h free = not_refused_after state k h free (next state (step.Go (suc k))) (moves state (step.Go (suc k)))
 
 -- ---- many steps
-
--- a test as a count
-abbrev pub bit : Bool → ℕ
-bit b = cond b 1 0
-
-pub one_at_most : (b : Bool) → bit b ≤ 1
-one_at_most true = omega arith
-one_at_most false = omega arith
 
 module _ (limits : Limits) (steps : List Step) (actor : ℕ) where
   abbrev after : ℕ → State

@@ -26,8 +26,10 @@ use Rattle.proof_obstruction_free.proofs.Making.Few.{all_made, made_next}
 use Rattle.proof_obstruction_free.proofs.Making.Few.{made as made_in}
 use Rattle.proof_obstruction_free.proofs.Root.Machines.{flat_machines}
 use Rattle.proof_obstruction_free.proofs.Slots.Few.{copies_make_few, few_at_end, made_no_more, made_steps, no_refusal}
-use Rattle.proof_obstruction_free.proofs.Slots.Free.{bit, made, none_made, not_for_want, one_at_most, one_made}
+use Rattle.proof_obstruction_free.proofs.Slots.Free.{made, none_made, not_for_want, one_made}
 use Rattle.proof_obstruction_free.proofs.Step.Step.{stepping}
+use Rattle.proof_obstruction_free.specs.Beneath.slot_arena.proofs.Times.{bit}
+use Rattle.proof_obstruction_free.specs.Beneath.epochs.proofs.InUse.{bit_small}
 
 module _ (limits : Limits) (steps : List Step) (actor : ℕ) (operation : Operation) (r : RunsAlone limits steps actor operation) where
   -- ---- while it runs
@@ -66,7 +68,7 @@ module _ (limits : Limits) (steps : List Step) (actor : ℕ) (operation : Operat
     on_ended : (n : ℕ) → Made n → EndedBefore limits steps actor operation r (suc n) → Made (suc n)
     on_ended n (inl low) ended =
         let one = one_made limits steps actor n in
-        let most = one_at_most (makes_next (alone_after limits steps actor n) actor) in
+        let most = bit_small (makes_next (alone_after limits steps actor n) actor) in
         inr (omega (arith, low, one, most), (has_ended limits steps actor operation r (suc n) ended).idle)
     on_ended n (inr (low, idle)) ended =
         let next : n + 1 ≡ suc n = omega arith in

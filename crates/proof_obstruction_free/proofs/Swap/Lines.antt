@@ -88,8 +88,7 @@ module _ (a : Lone) (why : Purpose) (i replaced fresh : Ref) where
   -- its deciding part is a READ
   pub swap_reads : HoldsRead a.own deciding checking i
   swap_reads = record {
-    reads = λ l. refl;
-    acts = λ state operation l. refl;
+    embedded = record { reads = λ l. refl; acts = λ state operation l. refl };
     goes = λ state operation l call access.
         by state operation l (read_after state.heap operation.access (word_at state (handle_of operation.call)) i l)
         (ap (λ x. read_after state.heap x (word_at state (handle_of operation.call)) i l) access ∙ ap (λ c. read_after state.heap a.own.access (word_at state (handle_of c)) i l) call);

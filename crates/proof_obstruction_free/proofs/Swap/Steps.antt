@@ -63,10 +63,10 @@ module _ (a : Lone) where
   module _ (wrap : ReadLine → Line) (gives : Ref → Line) (i : Ref) (holds : HoldsRead a.own wrap gives i) (t : ℕ) (g : Option ℕ) (l : ReadLine) (s : Stands a t g (wrap l))
       (h : t < a.last) where
     acts_so : line_action (a.states t) s.operation (wrap l) ≡ read_action i l
-    acts_so = holds.acts (a.states t) s.operation l
+    acts_so = holds.embedded.acts (a.states t) s.operation l
 
     pub read_no_end : IsNoEnd (wrap l)
-    read_no_end = reads_no_end (wrap l) _ (holds.reads l)
+    read_no_end = reads_no_end (wrap l) _ (holds.embedded.reads l)
 
     pub read_acts : ActsOn a.states t (read_action i l)
     read_acts = subst (ActsOn a.states t) acts_so (facts t g (wrap l) s h read_no_end).acts
@@ -76,7 +76,7 @@ module _ (a : Lone) where
     reads =
         let f = facts t g (wrap l) s h read_no_end in
         read_turn a.limits a.states a.last known t h i l a.own.access (word a t) read_acts
-        (f.commits ∙ ap (λ x. commits_after (a.states t) (committed_in (a.states t) x)) (holds.reads l))
+        (f.commits ∙ ap (λ x. commits_after (a.states t) (committed_in (a.states t) x)) (holds.embedded.reads l))
         (λ m p is r plain c closed. absurd (none-some c closed))
 
     -- where the operation stands afterwards

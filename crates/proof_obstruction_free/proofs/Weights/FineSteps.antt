@@ -9,7 +9,6 @@ use Rattle.proof_obstruction_free.specs.Beneath.machine_model.specs.States.{Stat
 use Rattle.proof_obstruction_free.specs.Beneath.machine_model.specs.Operations.{action_of, line_action, line_after}
 use Rattle.proof_obstruction_free.specs.Beneath.machine_model.proofs.Actors.{marks_by}
 use Rattle.proof_obstruction_free.specs.Beneath.machine_model.proofs.Found.{found_within}
-use Rattle.proof_obstruction_free.specs.Beneath.machine_model.specs.Moves.{Moves}
 use Rattle.proof_obstruction_free.specs.Beneath.machine_model.proofs.Times.{at_each_time}
 use Rattle.proof_obstruction_free.specs.Beneath.proof_commits.specs.Protocol.{Rests, Decides}
 use Rattle.proof_obstruction_free.specs.Beneath.proof_commits.specs.Protocol as Word

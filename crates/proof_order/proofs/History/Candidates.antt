@@ -24,7 +24,8 @@ use Rattle.proof_order.specs.Beneath.machine_model.specs.Moves.{Begins, Goes, En
 use Rattle.proof_order.specs.Beneath.machine_model.specs.Moves.{Moves, begun_operation}
 use Rattle.proof_order.specs.Beneath.machine_model.specs.Times.{IsRun}
 use Rattle.proof_order.specs.Facts.{Runs, Facts}
-use Rattle.proof_order.proofs.Places.Elements.{Among, Along, of_each, among_get, get_among, among_map, among_either, contains_among}
+use Rattle.proof_order.specs.Beneath.history.proofs.Among.{Among, among_either}
+use Rattle.proof_order.proofs.Places.Elements.{Along, of_each, among_get, get_among, among_map, contains_among}
 use Rattle.proof_order.proofs.Places.Sorting.{AreApart, among_rising, rising_among}
 use Rattle.proof_order.proofs.Views.Replay.{ids_of}
 use Rattle.proof_order.proofs.History.Books.{ended_below}

@@ -10,7 +10,7 @@ use Rattle.proof_order.specs.Beneath.history.specs.declared.replies.Reply.TheVar
 use Rattle.proof_order.specs.Beneath.history.specs.declared.events.Event.{Event}
 use Rattle.proof_order.specs.Beneath.history.specs.declared.events.Event.TheVariants.{End}
 use Rattle.proof_order.specs.Beneath.history.specs.Histories.{HasEnded}
-use Rattle.proof_order.specs.Beneath.history.proofs.Places.{at_cases}
+use Rattle.proof_order.specs.Beneath.history.proofs.Places.{at_cases, at_front}
 use Rattle.proof_order.specs.Beneath.slot_arena.specs.declared.refs.Ref.{Ref}
 use Rattle.proof_order.specs.Beneath.slot_arena.specs.Heaps.{generation_at}
 use Rattle.proof_order.specs.Beneath.places.specs.declared.place.Place.{Place}
@@ -33,7 +33,7 @@ use Rattle.proof_order.specs.Beneath.machine_model.specs.Moves.{Moves, begun_ope
 use Rattle.proof_order.specs.Beneath.machine_model.proofs.Times.{at_each_time}
 use Rattle.proof_order.specs.Beneath.machine_model.specs.Times.{turns}
 use Rattle.proof_order.specs.Beneath.machine_model.specs.Times.{IsRun, Turn}
-use Rattle.proof_order.proofs.Places.Elements.{Among, among_left, among_right}
+use Rattle.proof_order.specs.Beneath.history.proofs.Among.{Among, among_left, among_right}
 use Rattle.proof_order.proofs.Views.Changes.{carries, acted_places, completed_is, carried_roots}
 use Rattle.proof_order.proofs.History.AllBooks.{gone_events}
 use Rattle.proof_order.specs.Beneath.machine_model.proofs.Frames.{begin_events}
@@ -72,13 +72,8 @@ grows_trans xs ys zs (a, d) (b, e) = (a ++ b, e ∙ ap (λ l. l ++ b) d ∙ appe
 pub among_grown : {X : Type 0} (xs ys : List X) (x : X) → Grows xs ys → Among x xs → Among x ys
 among_grown xs ys x (more, e) a = subst (Among x) (sym e) (among_left xs more x a)
 
-pub get_left : {X : Type 0} (xs ys : List X) (i : ℕ) (x : X) → slice_get xs i ≡ Some x → slice_get (xs ++ ys) i ≡ Some x
-get_left [] ys i x e = cc
-get_left (y ∷ xs) ys zero x e = e
-get_left (y ∷ xs) ys (suc i) x e = get_left xs ys i x e
-
 pub get_grown : {X : Type 0} (xs ys : List X) (i : ℕ) (x : X) → Grows xs ys → slice_get xs i ≡ Some x → slice_get ys i ≡ Some x
-get_grown xs ys i x (more, e) at = ap (λ l. slice_get l i) e ∙ get_left xs more i x at
+get_grown xs ys i x (more, e) at = ap (λ l. slice_get l i) e ∙ at_front xs more i x at
 
 -- ---- what one step adds
 

@@ -37,7 +37,8 @@ use Rattle.proof_generations.specs.Laws.Roots.{settles}
 use Rattle.proof_generations.proofs.Offers.Same.{same_offer}
 use Rattle.proof_generations.proofs.Handles.Running.{place_of_actor}
 use Rattle.proof_order.specs.Facts.{Runs}
-use Rattle.proof_order.proofs.Places.Elements.{Among, among_get, among_mapped, among_either, among_flat_map}
+use Rattle.proof_order.specs.Beneath.history.proofs.Among.{Among, among_either}
+use Rattle.proof_order.proofs.Places.Elements.{among_get, among_mapped, among_flat_map}
 use Rattle.proof_order.proofs.Places.Sorting.{among_rising}
 use Rattle.proof_order.proofs.History.Books.{Books, id_below}
 use Rattle.proof_order.proofs.Views.Changes.{carries, acted_places, completed_is, carried_roots}

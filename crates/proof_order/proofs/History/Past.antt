@@ -30,7 +30,7 @@ use Rattle.proof_order.specs.Beneath.machine_model.specs.Times.{IsRun}
 use Rattle.proof_order.specs.Beneath.machine_model.proofs.Actors.{IsOf, is_of, mark_one, mark_only, of_others, of_itself, of_begin, of_end}
 use Rattle.proof_generations.proofs.Handles.Running.{at_place}
 use Rattle.proof_order.specs.Facts.{Runs}
-use Rattle.proof_order.proofs.Places.Elements.{Among, among_either}
+use Rattle.proof_order.specs.Beneath.history.proofs.Among.{Among, among_either}
 use Rattle.proof_order.proofs.History.Running.{IsBegun, own_step}
 use Rattle.proof_order.proofs.Views.Changes.{carries, acted_places, completed_is, carried_roots}
 use Rattle.proof_order.proofs.History.Growing.{IsKept, begin_grows}

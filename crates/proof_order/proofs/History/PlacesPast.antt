@@ -28,7 +28,7 @@ use Rattle.proof_order.specs.Beneath.machine_model.proofs.Along.{along}
 use Rattle.proof_order.specs.Beneath.machine_model.proofs.Frames.{steps_counted}
 use Rattle.proof_order.specs.Laws.Past.{PlacesPast}
 use Rattle.proof_order.proofs.History.Past.{Past, first_past, past_kept}
-use Rattle.proof_order.proofs.Places.Elements.{Among}
+use Rattle.proof_order.specs.Beneath.history.proofs.Among.{Among}
 use Rattle.proof_order.proofs.Views.Changes.{acted_places, carried_roots}
 use Rattle.proof_generations.proofs.Handles.Running.{place_of_actor}
 

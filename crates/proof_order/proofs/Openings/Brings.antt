@@ -32,6 +32,7 @@ use Rattle.proof_order.proofs.Openings.RootOf.{roots_are_one}
 use Rattle.proof_order.proofs.Openings.SwapState.{offerer, offers, successor_stands, second_stands}
 use Rattle.proof_order.proofs.Openings.Copy.{copied}
 use Rattle.proof_order.proofs.Openings.FreshMains.{Shows, ShowsMain, show_at, fresh_stays}
+use Rattle.proof_order.specs.Beneath.history.proofs.Places.{option_tested, option_untested}
 
 -- ---- the number that is opened
 
@@ -62,14 +63,6 @@ numbers_at_first limits k operation at_k = absurd (none_found limits.actors k op
 numbers_at : (limits : Limits) (states : ℕ → State) (last : ℕ) → IsRun limits states last → (t : ℕ) → t ≤ last → HaveNumbers (states t)
 numbers_at limits states last run =
     at_each_time limits states last run HaveNumbers (numbers_at_first limits) (λ before s o after m all k found now. numbers_by before s all k found (comes before s o after m k found now))
-
-has_number : (o : Option ℕ) → is_some o ≡ true → (n : ℕ) × (o ≡ Some n)
-has_number None e = absurd (false≢true e)
-has_number (Some n) e = (n, refl)
-
-has_none : (o : Option ℕ) → is_some o ≡ false → o ≡ None
-has_none None e = refl
-has_none (Some n) e = absurd (false≢true (sym e))
 
 -- ---- the new roots
 
@@ -118,7 +111,7 @@ module _ (limits : Limits) (states : ℕ → State) (last : ℕ) (run : IsRun li
     number : opens_handle call ≡ true → (n : ℕ) × (offer.opens ≡ Some n)
     number opening =
         let numbers = numbers_at limits states last run t (omega (arith, swap.taken)) by.k by.owner by.runs in
-        has_number offer.opens (ap is_some (offers limits states last run t handle offer swap).number ∙ numbers ∙ ap opens_handle is ∙ opening)
+        option_tested offer.opens (ap is_some (offers limits states last run t handle offer swap).number ∙ numbers ∙ ap opens_handle is ∙ opening)
 
     second_new : opens_handle call ≡ true → (second : Ref) → offer.second ≡ Some second → IsNewRoot states last t offer second
     second_new opening second e =
@@ -132,7 +125,7 @@ module _ (limits : Limits) (states : ℕ → State) (last : ℕ) (run : IsRun li
     no_number : opens_handle call ≡ false → offer.opens ≡ None
     no_number closing =
         let numbers = numbers_at limits states last run t (omega (arith, swap.taken)) by.k by.owner by.runs in
-        has_none offer.opens (ap is_some (offers limits states last run t handle offer swap).number ∙ numbers ∙ ap opens_handle is ∙ closing)
+        option_untested offer.opens (ap is_some (offers limits states last run t handle offer swap).number ∙ numbers ∙ ap opens_handle is ∙ closing)
 
   -- by the call, and the second root
   brings_by : (call : Call) → by.owner.call ≡ call → (second : Option Ref) → offer.second ≡ second → second_fits call second ≡ true → Brings states last t handle offer call

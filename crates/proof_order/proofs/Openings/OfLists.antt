@@ -1,7 +1,7 @@
 -- The laws for every list of steps, from those over runs.
 use Rattle.proof_order.specs.Beneath.machine_model.proofs.Times.{run_is}
 use Rattle.proof_order.specs.Beneath.machine_model.specs.Times.{states_of, last_of}
-use Rattle.proof_order.specs.Laws.Openings.{NewRootsFollow, OneRoot, HandlesRise, ClosedRootsStay, ClosingsDiffer}
+use Rattle.proof_order.specs.Laws.Openings.{NewRootsFollow, OneRoot, HandlesRise, ClosedRootsStay, ClosingsDiffer, RootsSwappedAsExpected}
 use Rattle.proof_order.proofs.Openings.ClosedRoots as over
 use Rattle.proof_order.proofs.Openings.Closings as closings
 use Rattle.proof_order.proofs.Openings.HandlesRise as rising
@@ -21,3 +21,6 @@ closings_differ limits steps ok = closings.closings_differ limits ok steps
 
 pub new_roots_follow : NewRootsFollow
 new_roots_follow limits steps ok = following.new_roots_follow limits (states_of limits steps) (last_of limits steps) (run_is limits steps ok)
+
+pub roots_swapped_as_expected : RootsSwappedAsExpected
+roots_swapped_as_expected limits steps ok = following.roots_swapped_as_expected limits (states_of limits steps) (last_of limits steps) (run_is limits steps ok)

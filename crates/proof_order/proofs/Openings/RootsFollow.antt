@@ -1,4 +1,4 @@
--- Behind a root swap the new roots have the old root's main node, or, of a clear, an empty branch.
+-- At a root swap the old root's main node is the expected one; behind it the new roots have that node, or, of a clear, an empty branch.
 use Rattle.std.proofs.Common.{◌≡◌, ℕ, suc, ◌≤◌, true, refl, sym, ap, ◌∙◌, subst, arith}
 use Rattle.std.proofs.lemmas.Bool.{true≢false}
 use Rattle.proof_order.specs.Beneath.history.specs.declared.calls.Call.{Call}
@@ -21,7 +21,7 @@ use Rattle.proof_order.specs.Beneath.proof_memory.proofs.Safety.States.{IsSafe}
 use Rattle.proof_order.specs.Beneath.proof_contents.specs.Runs as trie
 use Rattle.proof_order.specs.Openings.{IsRootOf, IsSwap, Brings}
 use Rattle.proof_order.specs.Openings as opening
-use Rattle.proof_order.specs.Laws.Openings.{RootsFollow, clears, snapshots, freezes, NewRootsFollowIn}
+use Rattle.proof_order.specs.Laws.Openings.{RootsFollow, clears, snapshots, freezes, NewRootsFollowIn, RootsSwappedAsExpectedIn}
 use Rattle.proof_order.proofs.Openings.Brings.{swaps_bring}
 use Rattle.proof_order.proofs.Openings.ClosedRoots.{root_link, main_there}
 use Rattle.proof_order.proofs.Openings.NoLateCommit.{no_late_commit}
@@ -94,12 +94,16 @@ module _ (limits : Limits) (states : ℕ → State) (last : ℕ) (run : IsRun li
         ∙ was_empty now.2.0 there.0.node (sym now.2.1 ∙ sym (ap node_of now.1) ∙ ap (node_under states last) root_main ∙ e)
 
   module _ (t handle : ℕ) (offer : Descriptor) (swap : IsSwap states last t handle offer) where
+    -- the old root's main node is the expected one
+    expected : logical_main (states t).heap offer.root ≡ offer.expected
+    expected =
+        root_main t handle offer.root _ (omega (arith, swap.taken)) (old_stands limits states last run t handle offer swap)
+        ∙ no_late_commit limits states last run t handle offer swap t (omega arith) (omega (arith, swap.taken))
+
     -- a new root over the expected node is over the old root's
     follows : (h : ℕ) (r : Ref) → IsRootOf states (suc t) h r (generation_at (states t).heap r) → trie.counting_main states last (suc t) r ≡ offer.expected →
         logical_main (states (suc t)).heap r ≡ logical_main (states t).heap offer.root
-    follows h r stands is =
-        let was = root_main t handle offer.root _ (omega (arith, swap.taken)) (old_stands limits states last run t handle offer swap) in
-        root_main (suc t) h r _ swap.taken stands ∙ is ∙ sym (no_late_commit limits states last run t handle offer swap t (omega arith) (omega (arith, swap.taken))) ∙ sym was
+    follows h r stands is = root_main (suc t) h r _ swap.taken stands ∙ is ∙ sym expected
 
     follow_by : (call : Call) → Brings states last t handle offer call → RootsFollow (states t) (states (suc t)) offer call
     follow_by call (opening.clears opens new empty) =
@@ -111,3 +115,7 @@ module _ (limits : Limits) (states : ℕ → State) (last : ℕ) (run : IsRun li
 
   pub new_roots_follow : NewRootsFollowIn states last
   new_roots_follow t handle offer swap actor offerer is id = follow_by t handle offer swap offerer.call (swaps_bring limits states last run t handle offer swap actor offerer is id)
+
+  pub roots_swapped_as_expected : RootsSwappedAsExpectedIn states last
+  roots_swapped_as_expected t handle offer swap =
+      let old = old_stands limits states last run t handle offer swap in (old.root, old.is_open, old.is, expected t handle offer swap)

@@ -26,9 +26,9 @@ use Rattle.proof_order.specs.Beneath.machine_model.specs.Times.{IsRun}
 use Rattle.proof_generations.proofs.Lines.Copy.{IsOwn}
 use Rattle.proof_generations.proofs.Offers.Standing.{StandsBy, own_numbers}
 use Rattle.proof_generations.proofs.Offers.Swaps.{closing_of, closed_in, closed_last, noted}
+use Rattle.proof_generations.proofs.Falling.Opened.{closed_until}
 use Rattle.proof_order.proofs.Views.Changes.{completed_is, roots_swapped, carried_roots, same_swapped}
 use Rattle.proof_order.proofs.Views.Handles.{opens_in_range}
-use Rattle.proof_order.proofs.Views.Closed.{closed_later}
 use Rattle.proof_order.specs.Openings.{IsSwap, IsRootOf}
 use Rattle.proof_order.proofs.Openings.Carried.{Carried, mover, root, word, IsOffered, ordered}
 
@@ -88,7 +88,7 @@ module _ (limits : Limits) (states : ℕ → State) (last : ℕ) (r : IsRun limi
         ∙ ap Some (steps_at limits states last r t (omega (arith, swap.taken)))
 
     pub closed_for_ever : (u : ℕ) → t < u → u ≤ last → closed_at (states u) (generation_at (states t).heap offer.root) ≡ Some t
-    closed_for_ever u after within = closed_later limits states last r (suc t) u (generation_at (states t).heap offer.root) t after within closes
+    closed_for_ever u after within = closed_until limits states last r (suc t) u after within (generation_at (states t).heap offer.root) t closes
 
     -- ---- the new roots
 

@@ -28,7 +28,7 @@ use Rattle.proof_generations.proofs.Roots.Open.{closed_from}
 use Rattle.proof_generations.proofs.Roots.Along.{ordered_at}
 use Rattle.proof_generations.proofs.Handles.Running.{Follows, rests, steps, ends, follows, place_of_actor}
 use Rattle.proof_order.specs.Facts.{Runs}
-use Rattle.proof_order.proofs.Places.Elements.{Among}
+use Rattle.proof_order.specs.Beneath.history.proofs.Among.{Among}
 use Rattle.proof_order.proofs.Views.EachStep.{changes}
 use Rattle.proof_order.proofs.Offers.Honest.{honest, offerer_of}
 use Rattle.proof_order.proofs.Offers.Standing.{offers_at}

@@ -24,7 +24,7 @@ use Rattle.proof_order.specs.Beneath.machine_model.specs.Times.{turns}
 use Rattle.proof_order.specs.Beneath.machine_model.specs.Times.{IsRun, Turn}
 use Rattle.proof_generations.proofs.Handles.Running.{Comes, began, rested, went, comes}
 use Rattle.proof_order.specs.Facts.{Runs}
-use Rattle.proof_order.proofs.Places.Elements.{Among, among_right}
+use Rattle.proof_order.specs.Beneath.history.proofs.Among.{Among, among_right}
 use Rattle.proof_order.proofs.History.Books.{Books, within_actors}
 use Rattle.proof_order.proofs.History.Growing.{places_grow, among_grown, placed}
 use Rattle.proof_order.proofs.Offers.Standing.{nobody}

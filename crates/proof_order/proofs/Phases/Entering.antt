@@ -22,7 +22,8 @@ use Rattle.proof_order.specs.Beneath.machine_model.specs.Operations.{action_of}
 use Rattle.proof_order.specs.Beneath.machine_model.specs.Orders.{place_of, is_placed}
 use Rattle.proof_order.specs.Beneath.machine_model.specs.Acting.{entered, entered_by, entered_at_end, swaps_in}
 use Rattle.proof_order.specs.Facts.{Runs, committed_by_step, entered_by_step, CarriesOut}
-use Rattle.proof_order.proofs.Places.Elements.{Among, among_either, among_flat_map}
+use Rattle.proof_order.specs.Beneath.history.proofs.Among.{Among, among_either}
+use Rattle.proof_order.proofs.Places.Elements.{among_flat_map}
 use Rattle.proof_order.proofs.Views.EachStep.{Changes, quiet, ends, closes, swaps}
 use Rattle.proof_order.proofs.History.HaveBegun.{among_runs}
 

@@ -3,8 +3,6 @@ use Rattle.std.proofs.Common.{◌≡◌, ◌≢◌, ℕ, zero, suc, ◌<◌, ◌
 use Rattle.std.proofs.Common.{ap, ◌∙◌, subst, arith}
 use Rattle.std.proofs.lemmas.Bool.{cases_Bool}
 use Rattle.proof_order.specs.Beneath.places.specs.declared.place.Place.{Place}
-use Rattle.proof_order.specs.Beneath.slot_arena.specs.declared.nodes.Prev.TheVariants as prev
-use Rattle.proof_order.specs.Beneath.slot_arena.specs.declared.refs.Ref.{Ref}
 use Rattle.proof_order.specs.Beneath.machine_model.specs.declared.copying.CopyLine.TheVariants as copy
 use Rattle.proof_order.specs.Beneath.machine_model.specs.declared.lines.Line.TheVariants as line
 use Rattle.proof_order.specs.Beneath.machine_model.specs.declared.lines.Purpose.TheVariants as purpose
@@ -24,7 +22,7 @@ use Rattle.proof_order.specs.Beneath.machine_model.specs.Times.{IsRun}
 use Rattle.proof_order.specs.Beneath.proof_commits.proofs.Known.Owners.{HasFresh}
 use Rattle.proof_generations.proofs.Handles.Running.{Follows, rests, steps, ends, follows}
 use Rattle.proof_order.specs.Facts.{Runs, IsReply, entered_by_step}
-use Rattle.proof_order.proofs.Places.Elements.{Among}
+use Rattle.proof_order.specs.Beneath.history.proofs.Among.{Among}
 use Rattle.proof_order.proofs.History.OneStep.{from}
 use Rattle.proof_order.specs.Phases.{Phase, past, completes, answers, IsPastAt, OwnUpdate, OwnUpdatesEnter}
 use Rattle.proof_order.proofs.Phases.Entering.{SwapsIn, Owns, owns, swaps_so}
@@ -35,6 +33,7 @@ use Rattle.proof_order.proofs.Phases.Published.{run_words, fresh_so, one_fresh}
 use Rattle.proof_order.proofs.Phases.Standing.{rooted_at}
 use Rattle.proof_order.proofs.Phases.Writers.{swaps_writable, swaps_rooted}
 use Rattle.proof_order.specs.Beneath.proof_commits.proofs.Lines.Reads.{only_end}
+use Rattle.proof_order.specs.Beneath.proof_commits.proofs.Words.Stood.{none≢pending}
 
 -- ---- what one alone adds
 
@@ -96,14 +95,11 @@ module _ (limits : Limits) (states : ℕ → State) (last : ℕ) (r : IsRun limi
     | inl has ↦ absurd (by (placed_phase limits states last r t it.k it.owner within it.runs has))
   ]
     where
-      clash : (q : Ref) → prev.None ≡ prev.Pending q → ⊥
-      clash q e = cc e
-
       by : Phase states t it.owner → ⊥
       by (past former h) =
           let c = commit_so limits states last r t lt s o m own it in
           let now = subst (IsPastAt states t it.owner.call former) mine.at h in
-          clash c.previous (sym now.2 ∙ ap (prev_word states t) mine.fresh ∙ c.was)
+          none≢pending now.2 (ap (prev_word states t) mine.fresh ∙ c.was)
       by (completes c marked on) =
           let wrong : line.Swap (purpose.Update mine.path mine.former) mine.its ≡ line.Copy (copy.Complete c) = sym mine.at ∙ on in
           cc wrong

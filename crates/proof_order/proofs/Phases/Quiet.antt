@@ -21,7 +21,7 @@ use Rattle.proof_order.specs.Beneath.machine_model.specs.Times.{IsRun}
 use Rattle.proof_generations.proofs.Offers.Same.{HasOffers, has_offers_at}
 use Rattle.proof_generations.proofs.Offers.Swaps.{StepKind, quiet, swaps, step_kind}
 use Rattle.proof_order.specs.Beneath.proof_commits.proofs.Known.StepsAt.{StepAt, IsBegin, IsGo, IsEnd, IsSweep, step_at, gone_commits, begun_commits}
-use Rattle.proof_order.proofs.Places.Elements.{Among, among_either}
+use Rattle.proof_order.specs.Beneath.history.proofs.Among.{Among, among_either}
 use Rattle.proof_order.proofs.Views.Changes.{complete_commits}
 use Rattle.proof_order.specs.Times.{ClosesNone, IsWithin}
 use Rattle.proof_order.proofs.Phases.LineTimes.{CountsNow}

@@ -18,7 +18,7 @@ use Rattle.proof_order.specs.Beneath.machine_model.specs.Moves.{GoesOn}
 use Rattle.proof_order.specs.Beneath.machine_model.proofs.Actors.{mark_one, mark_only, marks_in, marks_by}
 use Rattle.proof_order.specs.Beneath.machine_model.specs.Times.{IsRun}
 use Rattle.proof_order.specs.Facts.{Runs}
-use Rattle.proof_order.proofs.Places.Elements.{Among}
+use Rattle.proof_order.specs.Beneath.history.proofs.Among.{Among}
 use Rattle.proof_order.proofs.History.Growing.{placed, unplaced}
 use Rattle.proof_order.proofs.History.HaveBegun.{places_below}
 use Rattle.proof_order.proofs.History.OneStep.{From, began, kept, stepped}

@@ -1,6 +1,5 @@
 -- An operation that is in a SWAP runs on a writable handle, and has the root of its generation.
-use Rattle.std.proofs.Common.{◌≡◌, ℕ, suc, ◌≤◌, true, Option, Some, None, is_some, refl, sym, ap, ◌∙◌, subst, arith}
-use Rattle.std.proofs.lemmas.Bool.{false≢true}
+use Rattle.std.proofs.Common.{◌≡◌, ℕ, suc, ◌≤◌, Some, refl, sym, ap, ◌∙◌, subst, arith}
 use Rattle.proof_order.specs.Beneath.history.specs.declared.calls.Access.{Access}
 use Rattle.proof_order.specs.Beneath.history.specs.declared.calls.Access.TheVariants.{Writable, ReadOnly}
 use Rattle.proof_order.specs.Beneath.machine_model.specs.declared.lines.Line.TheVariants as line
@@ -22,6 +21,7 @@ use Rattle.proof_order.specs.Beneath.proof_memory.proofs.Safety.States.{IsSafe}
 use Rattle.proof_generations.proofs.Handles.Running.{Comes, began, rested, went, comes}
 use Rattle.proof_order.specs.Facts.{Runs}
 use Rattle.proof_order.proofs.Offers.Standing.{nobody}
+use Rattle.proof_order.specs.Beneath.history.proofs.Places.{option_tested}
 
 -- an operation on a read-only handle stands on a reader's line
 abbrev AllReaders : State → Type 0
@@ -57,8 +57,4 @@ swaps_writable limits states last r t k operation why s le runs at = by operatio
 pub swaps_rooted : (limits : Limits) (states : ℕ → State) (last : ℕ) → IsRun limits states last → (t k : ℕ) (operation : Operation) (why : Purpose) (s : Swap) →
     t ≤ last → Runs (states t) k operation →
     operation.line ≡ line.Swap why s → (generation : ℕ) × (operation.generation ≡ Some generation)
-swaps_rooted limits states last r t k operation why s le runs at = by operation.generation ((safe_at limits states last r t le).known k operation runs (ap is_past_root at))
-  where
-    by : (g : Option ℕ) → is_some g ≡ true → (generation : ℕ) × (g ≡ Some generation)
-    by None e = absurd (false≢true e)
-    by (Some generation) e = (generation, refl)
+swaps_rooted limits states last r t k operation why s le runs at = option_tested operation.generation ((safe_at limits states last r t le).known k operation runs (ap is_past_root at))

@@ -13,7 +13,8 @@ use Rattle.proof_order.specs.Beneath.machine_model.specs.States.{State, closed_a
 use Rattle.proof_order.specs.Beneath.machine_model.specs.Orders.{place_of, closing_for}
 use Rattle.proof_order.specs.Beneath.machine_model.specs.Times.{IsRun}
 use Rattle.proof_order.specs.Facts.{Facts, Replied, on_writable, on_read_only}
-use Rattle.proof_order.proofs.Places.Elements.{no_members, Among, equals}
+use Rattle.proof_order.specs.Beneath.history.proofs.Among.{Among}
+use Rattle.proof_order.proofs.Places.Elements.{no_members, equals}
 use Rattle.proof_order.proofs.Places.Sorting.{timing, role, number_below, among_rising}
 use Rattle.proof_order.proofs.Views.Replay.{View, Leads, leads_none, leads_all, leads_parts}
 use Rattle.proof_order.proofs.Views.Steps.{ClosesNone, Kind, plain, updates, answers, closes, swaps, kind_at}

@@ -20,14 +20,16 @@ use Rattle.proof_order.specs.Beneath.machine_model.specs.Times.{IsRun}
 use Rattle.proof_order.specs.Beneath.proof_contents.specs.Effects.{act_in}
 use Rattle.proof_order.specs.Facts.{On, IsRooted, HasStood, Facts, Update, Replied, on_writable, on_read_only}
 use Rattle.proof_order.proofs.Offers.Carried.{Carried}
-use Rattle.proof_order.proofs.Places.Elements.{no_members, Among, each_of, equals, among_right, filter_among}
+use Rattle.proof_order.specs.Beneath.history.proofs.Among.{Among, among_right, filter_among}
+use Rattle.proof_order.proofs.Places.Elements.{no_members, each_of, equals}
 use Rattle.proof_order.proofs.Places.Sorting.{role, number_below, only_one}
 use Rattle.proof_order.proofs.Views.Replay.{View, but, Leads, leads_none, leads_same, leads_from, leads_each, leads_all, leads_parts}
 use Rattle.proof_order.proofs.Views.Acts.{named, but_same}
 use Rattle.proof_order.proofs.History.Growing.{IsKept, holds_later, among_grown, places_grow}
 use Rattle.proof_order.proofs.Views.Steps.{Enters, IsStill, Kind, plain, updates, answers, closes, swaps, kind_at}
 use Rattle.proof_generations.proofs.Offers.Swaps.{closed_in, closed_new, closed_last}
-use Rattle.proof_order.proofs.Views.Closed.{closed_from, closed_later}
+use Rattle.proof_generations.proofs.Falling.Opened.{closed_until}
+use Rattle.proof_order.proofs.Views.Closed.{closed_from}
 use Rattle.proof_order.proofs.Views.Sound.{sound_at}
 use Rattle.proof_order.proofs.Places.Origins.{place_says, late_says}
 use Rattle.proof_order.proofs.Views.Timeline.{view, view_writable, but_here, but_there, update_leads, reader_leads}
@@ -132,7 +134,7 @@ module _ (limits : Limits) (states : ℕ → State) (last : ℕ) (r : IsRun limi
       -- the generation is closed by now
       closed_now : old ≡ update.generation → closed_at (states n) update.generation ≡ Some t
       closed_now same =
-          subst (λ g. closed_at (states n) g ≡ Some t) same (closed_later limits states last r (suc t) n old t behind (omega arith)
+          subst (λ g. closed_at (states n) g ≡ Some t) same (closed_until limits states last r (suc t) n behind (omega arith) old t
           (ap (λ l. closed_in l old) closings
           ∙ closed_last (states t).closings _ old ((sound_at limits states last r V facts t (omega arith)).unclosed handle old swap.stands) refl))
 
@@ -212,7 +214,7 @@ module _ (limits : Limits) (states : ℕ → State) (last : ℕ) (r : IsRun limi
           let closed_u : closed_at (states u) generation ≡ Some t = sym (closing_is (states u) reads.operation generation writable of) ∙ reading_closing in
           let same = closing_is_old u generation (omega arith) closed_u in
           let from = closed_from limits states last r V facts u generation t (omega arith) closed_u in
-          let closed_n : closed_at (states (suc n)) generation ≡ Some t = closed_later limits states last r (suc t) (suc n) generation t (omega arith) (omega arith) from.2 in
+          let closed_n : closed_at (states (suc n)) generation ≡ Some t = closed_until limits states last r (suc t) (suc n) (omega arith) (omega arith) generation t from.2 in
           let rooted_n = subst (λ x. IsRooted states (suc x) (handle_of reads.operation.call) generation) m rooted in
           let here = rooted_here (suc n) (handle_of reads.operation.call) generation (omega arith) closed_n same rooted_n in
           let before = view limits states last V t in

@@ -12,7 +12,8 @@ use Rattle.proof_order.specs.Beneath.machine_model.specs.Orders.{place_of, closi
 use Rattle.proof_order.specs.Beneath.machine_model.proofs.Times.{steps_at}
 use Rattle.proof_order.specs.Beneath.machine_model.specs.Times.{IsRun}
 use Rattle.proof_order.specs.Facts.{Runs, IsReply, Facts, Replied}
-use Rattle.proof_order.proofs.Places.Elements.{no_last, Among, Along, each_of, equals, among_filter, filter_among}
+use Rattle.proof_order.specs.Beneath.history.proofs.Among.{Among, among_filter, filter_among}
+use Rattle.proof_order.proofs.Places.Elements.{no_last, Along, each_of, equals}
 use Rattle.proof_order.proofs.Places.Sorting.{Rises, AreApart, rising_rises, among_rising, rising_among, rising_apart, apart_filter, rises_filter, steps_along, along_where, timing}
 use Rattle.proof_order.proofs.Places.Sorting.{role, number_false, number_true, false_number, true_number, timing_up, moments_up, role_up}
 use Rattle.proof_order.proofs.History.Past.{past_at}

@@ -14,13 +14,15 @@ use Rattle.proof_order.specs.Beneath.machine_model.specs.Orders.{place_of, closi
 use Rattle.proof_order.specs.Beneath.machine_model.specs.Times.{IsRun}
 use Rattle.proof_order.specs.Beneath.proof_contents.specs.Effects.{act_in}
 use Rattle.proof_order.specs.Facts.{standing, On, IsRooted, Facts, Update, Replied, on_writable, on_read_only}
-use Rattle.proof_order.proofs.Places.Elements.{no_members, Among, each_of, equals, filter_among}
+use Rattle.proof_order.specs.Beneath.history.proofs.Among.{Among, filter_among}
+use Rattle.proof_order.proofs.Places.Elements.{no_members, each_of, equals}
 use Rattle.proof_order.proofs.Places.Sorting.{role, only_one}
 use Rattle.proof_order.proofs.Views.Replay.{View, but, Leads, leads_none, leads_same, leads_each}
 use Rattle.proof_order.proofs.Views.Acts.{named}
 use Rattle.proof_order.proofs.Views.Steps.{Enters, KeepsAll, IsStill}
 use Rattle.proof_generations.proofs.Offers.Swaps.{closed_in}
-use Rattle.proof_order.proofs.Views.Closed.{closed_from, closed_later}
+use Rattle.proof_generations.proofs.Falling.Opened.{closed_until}
+use Rattle.proof_order.proofs.Views.Closed.{closed_from}
 use Rattle.proof_order.proofs.Views.Sound.{sound_at}
 use Rattle.proof_order.proofs.Places.Origins.{place_says, on_time_says, late_says}
 use Rattle.proof_order.proofs.Views.Timeline.{view, view_writable, view_read_only, view_stays, but_here, but_there, update_leads, reader_leads}
@@ -55,7 +57,7 @@ module _ (limits : Limits) (states : ℕ → State) (last : ℕ) (r : IsRun limi
           | inl stands ↦ stands
           | inr was ↦
               let (c, before, closed, stood) = was in
-              let closed_u = closed_later limits states last r (suc t) u generation c (omega arith) (omega arith) closed in
+              let closed_u = closed_until limits states last r (suc t) u (omega arith) (omega arith) generation c closed in
               let late_enough = not_early c (is_closing ∙ closed_u) in
               let now : c ≡ t = omega arith in
               let from = closed_from limits states last r V facts (suc t) generation c lt closed in

@@ -13,7 +13,7 @@ use Rattle.proof_order.specs.Beneath.machine_model.specs.States.{State, first_st
 use Rattle.proof_order.specs.Beneath.machine_model.specs.Orders.{place_of, closing_for}
 use Rattle.proof_order.specs.Beneath.machine_model.specs.Times.{IsRun}
 use Rattle.proof_order.specs.Facts.{Runs, IsReply, Facts, Update, Replied}
-use Rattle.proof_order.proofs.Places.Elements.{Among, among_either}
+use Rattle.proof_order.specs.Beneath.history.proofs.Among.{Among, among_either}
 use Rattle.proof_order.proofs.Places.Sorting.{AreApart, apart_push}
 use Rattle.proof_order.proofs.History.Books.{id_below}
 use Rattle.proof_order.proofs.History.AllBooks.{books_at}

@@ -4,7 +4,8 @@ use Rattle.std.proofs.lemmas.Bool.{true≢false, false≢true}
 use Rattle.proof_order.specs.Beneath.places.specs.declared.place.Place.{Place}
 use Rattle.proof_order.specs.Beneath.places.specs.Places.{number_before, bool_before, is_before, placed, rising}
 use Rattle.proof_order.specs.Beneath.places.proofs.Comparing.{not_through}
-use Rattle.proof_order.proofs.Places.Elements.{Among, Each, Along, each_of, of_each, each_filter, filter_none, among_either, tested}
+use Rattle.proof_order.specs.Beneath.history.proofs.Among.{Among, among_either}
+use Rattle.proof_order.proofs.Places.Elements.{Each, Along, each_of, of_each, each_filter, filter_none, tested}
 use Rattle.proof_order.specs.Beneath.places.proofs.Cuts.{steps_rise}
 use Rattle.proof_order.specs.Beneath.places.proofs.Rising as sorted
 

@@ -5,29 +5,20 @@ use Rattle.proof_order.specs.Beneath.history.specs.Worlds.{KeyMap}
 use Rattle.proof_order.specs.Beneath.machine_model.specs.declared.steps.Limits.{Limits}
 use Rattle.proof_order.specs.Beneath.machine_model.specs.States.{State, first_state, closed_at}
 use Rattle.proof_order.specs.Beneath.machine_model.specs.Times.{IsRun}
-use Rattle.proof_generations.proofs.Offers.Swaps.{closed_in, closed_kept, closed_new}
+use Rattle.proof_generations.proofs.Offers.Swaps.{closed_in, closed_new}
+use Rattle.proof_generations.proofs.Falling.Opened.{closed_until}
 use Rattle.proof_order.specs.Facts.{Facts}
-use Rattle.proof_order.proofs.History.Growing.{IsKept, holds_later, closings_grow}
 use Rattle.proof_order.proofs.Views.Steps.{Kind, plain, updates, answers, closes, swaps, ClosesNone, kind_at}
-
-kept_closed : (generation c : ℕ) → IsKept (λ state. closed_at state generation ≡ Some c)
-kept_closed generation c state s o after m e =
-    let (more, grown) = closings_grow state s o after m in
-    ap (λ l. closed_in l generation) grown ∙ closed_kept state.closings more generation c e
 
 none_at_first : (limits : Limits) (generation c : ℕ) → closed_at (first_state limits) generation ≡ Some c → ⊥
 unfolding first_state
 none_at_first limits generation c e = none-some c e
 
 module _ (limits : Limits) (states : ℕ → State) (last : ℕ) (r : IsRun limits states last) where
-  -- what is closed stays closed, by the same step
-  pub closed_later : (t u generation c : ℕ) → t ≤ u → u ≤ last → closed_at (states t) generation ≡ Some c → closed_at (states u) generation ≡ Some c
-  closed_later t u generation c le within e = holds_later limits states last r (λ state. closed_at state generation ≡ Some c) (kept_closed generation c) t u le within e
-
   -- the same generation is closed once
   closed_once : (t u generation c d : ℕ) → t ≤ last → u ≤ last → closed_at (states t) generation ≡ Some c → closed_at (states u) generation ≡ Some d → c ≡ d
   closed_once t u generation c d le within e f =
-      same_Some c d (sym (closed_later t last generation c le (omega arith) e) ∙ closed_later u last generation d within (omega arith) f)
+      same_Some c d (sym (closed_until limits states last r t last le (omega arith) generation c e) ∙ closed_until limits states last r u last within (omega arith) generation d f)
 
 module _ (limits : Limits) (states : ℕ → State) (last : ℕ) (r : IsRun limits states last) (V : ℕ → ℕ → KeyMap) (facts : Facts limits states last V) where
   -- the step that closed it lies before, and it wasn't closed then

@@ -14,7 +14,7 @@ use Rattle.proof_order.specs.Beneath.machine_model.proofs.Times.{run_is, run_end
 use Rattle.proof_order.specs.Beneath.machine_model.specs.Times.{IsRun, states_of, last_of}
 use Rattle.proof_order.specs.Facts.{Facts}
 use Rattle.proof_order.specs.Laws.Orders.{IsExplained}
-use Rattle.proof_order.proofs.Places.Elements.{Among}
+use Rattle.proof_order.specs.Beneath.history.proofs.Among.{Among}
 use Rattle.proof_order.proofs.Views.Replay.{ids_of}
 use Rattle.proof_order.proofs.History.AllBooks.{books_at}
 use Rattle.proof_order.proofs.Places.Members.{sorted, step_within}

@@ -6,7 +6,8 @@ use Rattle.proof_order.specs.Beneath.history.specs.Worlds.{HandleState, HandleMa
 use Rattle.proof_order.specs.Beneath.history.specs.Effects.{Effect}
 use Rattle.proof_order.specs.Beneath.history.specs.Orders.{Answered, Replays, Recalls, RecallsEach}
 use Rattle.proof_order.specs.Beneath.places.specs.declared.place.Place.{Place}
-use Rattle.proof_order.proofs.Places.Elements.{Among, Each, Along, below, equals, next_below, all_below, none_below_zero}
+use Rattle.proof_order.specs.Beneath.history.proofs.Among.{Among}
+use Rattle.proof_order.proofs.Places.Elements.{Each, Along, below, equals, next_below, all_below, none_below_zero}
 
 -- what each handle names, if it is open
 abbrev pub View : Type 0

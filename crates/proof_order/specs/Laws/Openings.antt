@@ -55,6 +55,12 @@ NewRootsFollowIn states last =
     (t handle : ℕ) (offer : Descriptor) → IsSwap states last t handle offer → (actor : ℕ) (offerer : Operation) → operation_of (states t) actor ≡ Some offerer →
     offerer.id ≡ offer.operation → RootsFollow (states t) (states (suc t)) offer offerer.call
 
+-- a root is swapped only where the handle is open over it, and its logical main node is the expected one
+abbrev pub RootsSwappedAsExpectedIn : (ℕ → State) → ℕ → Type 0
+RootsSwappedAsExpectedIn states last =
+    (t handle : ℕ) (offer : Descriptor) → IsSwap states last t handle offer →
+    (root : Root) × (root_at (states t) handle ≡ Some root) × (root_of root.word ≡ offer.root) × (logical_main (states t).heap offer.root ≡ offer.expected)
+
 -- ---- for every list of steps
 
 abbrev pub OneRoot : Type 0
@@ -71,3 +77,6 @@ ClosingsDiffer = (limits : Limits) (steps : List Step) → AreLimits limits → 
 
 abbrev pub NewRootsFollow : Type 0
 NewRootsFollow = (limits : Limits) (steps : List Step) → AreLimits limits → NewRootsFollowIn (states_of limits steps) (last_of limits steps)
+
+abbrev pub RootsSwappedAsExpected : Type 0
+RootsSwappedAsExpected = (limits : Limits) (steps : List Step) → AreLimits limits → RootsSwappedAsExpectedIn (states_of limits steps) (last_of limits steps)

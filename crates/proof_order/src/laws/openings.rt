@@ -1,6 +1,6 @@
 //! Laws of root swaps, for every list of steps.
 
-ghost use Rattle.proof_order.specs.Laws.Openings.{ClosedRootsStay, ClosingsDiffer, HandlesRise, NewRootsFollow, OneRoot};
+ghost use Rattle.proof_order.specs.Laws.Openings.{ClosedRootsStay, ClosingsDiffer, HandlesRise, NewRootsFollow, OneRoot, RootsSwappedAsExpected};
 
 /// A law: of each generation there is one root, whatever handles have it, and when.
 pub fn one_root()
@@ -26,4 +26,10 @@ pub fn closed_roots_stay()
 /// over the logical main node of the old root.
 pub fn new_roots_follow()
     ensures { NewRootsFollow }
+{}
+
+/// A law: a root is swapped only where its logical main node is the expected one: the node that COMPLETE's READ
+/// gave is still the root's when COMPLETE swaps it.
+pub fn roots_swapped_as_expected()
+    ensures { RootsSwappedAsExpected }
 {}

@@ -14,7 +14,6 @@ use Rattle.proof_shape.specs.Beneath.machine_model.specs.declared.lines.Line.The
 use Rattle.proof_shape.specs.Beneath.machine_model.specs.declared.lines.Purpose.{Purpose}
 use Rattle.proof_shape.specs.Beneath.machine_model.specs.declared.lines.Purpose.TheVariants as purpose
 use Rattle.proof_shape.specs.Beneath.machine_model.specs.declared.operations.Operation.{Operation}
-use Rattle.proof_shape.specs.Beneath.machine_model.specs.declared.reading.Read.{Read}
 use Rattle.proof_shape.specs.Beneath.machine_model.specs.declared.repairs.CleanLine.TheVariants as clean
 use Rattle.proof_shape.specs.Beneath.machine_model.specs.declared.steps.Limits.{Limits}
 use Rattle.proof_shape.specs.Beneath.machine_model.specs.Calls.{key_of}

@@ -37,7 +37,7 @@ use Rattle.proof_shape.specs.Beneath.proof_commits.proofs.Known.Sounds.{sound_at
 use Rattle.proof_shape.specs.Beneath.proof_commits.specs.Stages.{stage_of, stage_of_actor}
 use Rattle.proof_shape.specs.Beneath.proof_commits.proofs.Words.Along.{protocol}
 use Rattle.proof_shape.specs.Beneath.proof_contents.specs.Lines.Changes.{Known, KnowsBuild, KnowsLine, main_of_build, build_path}
-use Rattle.proof_shape.specs.Beneath.proof_contents.proofs.Lines.Key.{known, Sees}
+use Rattle.proof_shape.specs.Beneath.proof_contents.proofs.Lines.Key.Knows.{known, Sees}
 use Rattle.proof_shape.specs.Beneath.proof_contents.proofs.Lines.Build.{IsMade, a_link, another, made_by, build_knows}
 use Rattle.proof_shape.specs.Beneath.proof_memory.proofs.Lines.Next.{pair_no_link, changed_main}
 use Rattle.proof_shape.specs.Beneath.proof_memory.proofs.Heap.NoRef.{nothing_stands}

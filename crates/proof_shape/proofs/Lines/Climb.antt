@@ -38,7 +38,7 @@ use Rattle.proof_shape.specs.Beneath.proof_commits.proofs.Lines.Stages.{Remember
 use Rattle.proof_shape.specs.Beneath.proof_commits.specs.Protocol.{Given}
 use Rattle.proof_shape.specs.Beneath.proof_commits.specs.Words.{words_of}
 use Rattle.proof_shape.specs.Beneath.proof_contents.specs.Lines.Changes.{Known}
-use Rattle.proof_shape.specs.Beneath.proof_contents.proofs.Lines.Key.{known}
+use Rattle.proof_shape.specs.Beneath.proof_contents.proofs.Lines.Key.Knows.{known}
 use Rattle.proof_shape.specs.Beneath.proof_memory.proofs.Lines.Next.{contracted_no_link}
 use Rattle.proof_shape.specs.Beneath.proof_memory.proofs.Claims.Nodes.{branch_main}
 use Rattle.proof_shape.specs.Beneath.proof_memory.proofs.Heap.NoRef.{nothing_stands}

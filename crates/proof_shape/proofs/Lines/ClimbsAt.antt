@@ -39,7 +39,7 @@ use Rattle.proof_shape.specs.Beneath.proof_commits.proofs.Known.Sounds.{sound_at
 use Rattle.proof_shape.specs.Beneath.proof_commits.specs.Stages.{stage_of, stage_of_actor}
 use Rattle.proof_shape.specs.Beneath.proof_commits.proofs.Words.Along.{protocol}
 use Rattle.proof_shape.specs.Beneath.proof_contents.specs.Lines.Changes.{Known}
-use Rattle.proof_shape.specs.Beneath.proof_contents.proofs.Lines.Key.{known}
+use Rattle.proof_shape.specs.Beneath.proof_contents.proofs.Lines.Key.Knows.{known}
 use Rattle.proof_shape.specs.Lines.Given.{Was}
 use Rattle.proof_shape.specs.Lines.Climbing.{WasTombed, KnowsClimbing}
 use Rattle.proof_shape.specs.Lines.Knowing.{known_with, first_main, SwapsAt, IsPlaced, ClimbsAt}

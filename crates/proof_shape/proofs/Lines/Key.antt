@@ -20,7 +20,7 @@ use Rattle.proof_shape.specs.Beneath.proof_memory.specs.Laws.{IsInUse}
 use Rattle.proof_shape.specs.Beneath.proof_memory.specs.Wants.{AMain, ABranch, listed, AllHold, line_wants}
 use Rattle.proof_shape.specs.Beneath.proof_memory.proofs.Safety.AtTimes.{line_at, limits_at}
 use Rattle.proof_shape.specs.Beneath.proof_contents.specs.Lines.Changes.{Known, KnowsKey, KnowsLine, main_of_key}
-use Rattle.proof_shape.specs.Beneath.proof_contents.proofs.Lines.Key.{known, Sees, SeesSingle, OnlyGets, position_in, key_knows}
+use Rattle.proof_shape.specs.Beneath.proof_contents.proofs.Lines.Key.Knows.{known, Sees, SeesSingle, OnlyGets, position_in, key_knows}
 use Rattle.proof_shape.specs.Beneath.proof_memory.proofs.Claims.Nodes.{branch_main}
 use Rattle.proof_shape.specs.Lines.Knowing.{known_with, first_main}
 use Rattle.proof_shape.proofs.Runs.EachAt.{GoesAt}

@@ -4,7 +4,6 @@ use Rattle.proof_shape.specs.Beneath.history.specs.declared.calls.Call.{Call}
 use Rattle.proof_shape.specs.Beneath.history.specs.declared.calls.Call.TheVariants.{Clear, Snapshot, Freeze, Close, Entries, Count}
 use Rattle.proof_shape.specs.Beneath.machine_model.specs.declared.lines.Line.{Line}
 use Rattle.proof_shape.specs.Beneath.machine_model.specs.declared.lines.Line.TheVariants as line
-use Rattle.proof_shape.specs.Beneath.machine_model.specs.declared.reading.Swap.{Swap}
 
 -- ---- calls
 

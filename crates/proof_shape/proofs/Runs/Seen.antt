@@ -25,7 +25,7 @@ use Rattle.proof_shape.specs.Beneath.proof_memory.proofs.Safety.Base.{Fits}
 use Rattle.proof_shape.specs.Beneath.proof_memory.proofs.Safety.AtEachTime.{safe_at}
 use Rattle.proof_shape.specs.Beneath.proof_memory.proofs.Safety.AtTimes.{action_at}
 use Rattle.proof_shape.specs.Beneath.proof_contents.specs.Lines.Changes.{IsGet}
-use Rattle.proof_shape.specs.Beneath.proof_contents.proofs.Lines.Key.{Sees}
+use Rattle.proof_shape.specs.Beneath.proof_contents.proofs.Lines.Key.Knows.{Sees}
 use Rattle.proof_shape.specs.Beneath.proof_memory.proofs.Claims.Nodes.{main_no_link}
 use Rattle.proof_shape.specs.Lines.Knowing.{first_main}
 use Rattle.proof_shape.proofs.Runs.Nodes.{node_known, known_node}

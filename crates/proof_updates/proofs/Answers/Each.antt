@@ -39,7 +39,7 @@ use Rattle.proof_updates.specs.Beneath.proof_contents.specs.Tries.{Trie}
 use Rattle.proof_updates.specs.Beneath.proof_contents.specs.Steps.{IsTrie}
 use Rattle.proof_updates.specs.Beneath.proof_contents.specs.Runs.{trie_of}
 use Rattle.proof_updates.specs.Beneath.proof_contents.specs.Lines.Changes.{KnowsLine, IsGet}
-use Rattle.proof_updates.specs.Beneath.proof_contents.proofs.Lines.KeyEnds.{EndsRight}
+use Rattle.proof_updates.specs.Beneath.proof_contents.proofs.Lines.Key.Ends.{EndsRight}
 use Rattle.proof_updates.specs.Beneath.proof_generations.proofs.Roots.Open.{no_close_at}
 use Rattle.proof_updates.specs.Beneath.proof_generations.proofs.Roots.Rooted.{root_given}
 use Rattle.proof_order.specs.Facts.{Runs, standing}

@@ -39,8 +39,8 @@ use Rattle.proof_updates.specs.Beneath.proof_contents.specs.Lines.Changes.{Known
 use Rattle.proof_updates.specs.Beneath.proof_contents.specs.Runs.{trie_of}
 use Rattle.proof_updates.specs.Beneath.proof_contents.proofs.Values.Paths.{on-depth}
 use Rattle.proof_updates.specs.Beneath.proof_contents.proofs.Shapes.Nodes.{leads_below}
-use Rattle.proof_updates.specs.Beneath.proof_contents.proofs.Lines.Key.{Sees, SeesSingle}
-use Rattle.proof_updates.specs.Beneath.proof_contents.proofs.Lines.KeyEnds.{EndsRight, Answering, main_ends, entry_ends, listed_ends, tomb_ends}
+use Rattle.proof_updates.specs.Beneath.proof_contents.proofs.Lines.Key.Knows.{Sees, SeesSingle}
+use Rattle.proof_updates.specs.Beneath.proof_contents.proofs.Lines.Key.Ends.{EndsRight, Answering, main_ends, entry_ends, listed_ends, tomb_ends}
 use Rattle.proof_updates.specs.Beneath.proof_contents.proofs.Lines.Answers.{writable_answers, read_only_answers}
 use Rattle.proof_updates.specs.Beneath.proof_memory.proofs.Claims.Nodes.{branch_main}
 use Rattle.proof_shape.specs.Lines.Knowing.{known_with, first_main}

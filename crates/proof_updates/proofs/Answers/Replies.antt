@@ -32,7 +32,7 @@ use Rattle.proof_updates.specs.Beneath.proof_contents.specs.Tries.{Trie, content
 use Rattle.proof_updates.specs.Beneath.proof_contents.specs.Steps.{IsTrie}
 use Rattle.proof_updates.specs.Beneath.proof_contents.specs.Runs.{trie_of}
 use Rattle.proof_order.specs.Facts.{Runs, Replied, on_writable, on_read_only}
-use Rattle.proof_order.proofs.Places.Elements.{among_right}
+use Rattle.proof_updates.specs.Beneath.history.proofs.Among.{among_right}
 use Rattle.proof_updates.specs.Beneath.proof_generations.proofs.Handles.Running.{place_of_actor}
 use Rattle.proof_order.specs.Times.{Since, IsWithin, has_read}
 use Rattle.proof_order.proofs.Phases.Steps.{is_placed_so}

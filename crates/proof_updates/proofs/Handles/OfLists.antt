@@ -17,7 +17,7 @@ use Rattle.proof_shape.specs.Sites.At.{TakesSteps, StepsFit}
 use Rattle.proof_shape.proofs.Sites.Fixed.{keys_fit, states_from-append, taken-append}
 use Rattle.proof_shape.proofs.Sites.Stepped.{takes_steps}
 use Rattle.proof_updates.specs.Laws.Handles.{OfEachStep, UntouchedStay, UpdatesChange, RepairsStay, ClearsEmpty, ClosesTake, OpenedCopy}
-use Rattle.proof_updates.proofs.Handles.OfRuns.{OfLastSteps}
+use Rattle.proof_updates.proofs.Handles.OfRuns.{OfLastSteps, OneUpdate}
 use Rattle.proof_updates.proofs.Handles.OfRuns as of_runs
 
 module _ (limits : Limits) (steps : List Step) (s : Step) (o : Outcome) (after : State) (taken : next (run limits steps) s ≡ Ok (o, after)) where
@@ -59,6 +59,9 @@ untouched_stay = of_each_step UntouchedStay of_runs.untouched_stay
 
 pub updates_change : OfEachStep UpdatesChange
 updates_change = of_each_step UpdatesChange of_runs.updates_change
+
+pub one_update : OfEachStep OneUpdate
+one_update = of_each_step OneUpdate of_runs.one_update
 
 pub repairs_stay : OfEachStep RepairsStay
 repairs_stay = of_each_step RepairsStay of_runs.repairs_stay

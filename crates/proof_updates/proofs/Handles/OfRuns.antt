@@ -1,9 +1,10 @@
 -- The laws, of the last step of each run.
-use Rattle.std.proofs.Common.{ℕ, suc, ◌⊎◌, inl, inr, List, Option, Some, refl, sym, ap, subst, ◌∙◌, arith}
+use Rattle.std.proofs.Common.{◌≡◌, ℕ, suc, ◌⊎◌, inl, inr, List, Option, Some, refl, sym, ap, subst, ◌∙◌, arith}
 use Rattle.proof_updates.specs.Beneath.history.specs.declared.calls.Access.{Access}
 use Rattle.proof_updates.specs.Beneath.history.specs.declared.calls.Access.TheVariants.{Writable, ReadOnly}
 use Rattle.proof_updates.specs.Beneath.history.specs.declared.calls.Call.{Call}
 use Rattle.proof_updates.specs.Beneath.history.specs.declared.calls.Call.TheVariants.{Clear, Snapshot, Freeze, Close}
+use Rattle.proof_updates.specs.Beneath.slot_arena.specs.declared.refs.Ref.{Ref}
 use Rattle.proof_updates.specs.Beneath.machine_model.specs.declared.steps.Limits.{Limits}
 use Rattle.proof_updates.specs.Beneath.machine_model.specs.declared.steps.Outcome.{Outcome}
 use Rattle.proof_updates.specs.Beneath.machine_model.specs.declared.steps.Step.{Step}
@@ -18,8 +19,8 @@ use Rattle.proof_order.proofs.Openings.Brings.{swaps_bring}
 use Rattle.proof_shape.specs.Shaped.{trie_of_run}
 use Rattle.proof_shape.specs.Sites.At.{TakesSteps, StepsFit}
 use Rattle.proof_updates.specs.Laws.Handles.{HandleHolds, UntouchedStay, UpdatesChange, RepairsStay, ClearsEmpty, ClosesTake, OpenedCopy}
-use Rattle.proof_updates.specs.Touching.{CarriesOutCall, Touches, updates, clears, closes}
-use Rattle.proof_updates.proofs.Handles.Committing.{commits_own, owned, no_owner, no_repair, begins_none, carries_nothing}
+use Rattle.proof_updates.specs.Touching.{CarriesOutCall, CommitsUpdate, Touches, updates, clears, closes}
+use Rattle.proof_updates.proofs.Handles.Committing.{commits_own, no_update, owned, no_owner, no_repair, begins_none, carries_nothing}
 use Rattle.proof_updates.proofs.Handles.Kept.{main_step, values_stay, content_later}
 use Rattle.proof_updates.proofs.Handles.Roots.{HandleStep, keeps, changes_root, is_closed, handle_step, swap_of, IsOpened, opened_step, closed_handle}
 use Rattle.proof_updates.proofs.Handles.Showing.{content_shown}
@@ -32,6 +33,11 @@ abbrev pub OfLastSteps : (Limits → State → Step → State → Type 0) → Ty
 OfLastSteps Law =
     (limits : Limits) (states : ℕ → State) (steps : ℕ → Step) (t : ℕ) → IsRun limits states (suc t) → TakesSteps states steps (suc t) → StepsFit steps (suc t) → (s : Step) (o : Outcome) →
     Moves (states t) s o (states (suc t)) → Law limits (states t) s (states (suc t))
+
+-- the updates that a step commits are of one indirection
+abbrev pub OneUpdate : Limits → State → Step → State → Type 0
+OneUpdate limits before s after =
+    (i j : Ref) (call other : Call) (former known : Option ℕ) → CommitsUpdate before s i call former → CommitsUpdate before s j other known → i ≡ j
 
 module _ (limits : Limits) (states : ℕ → State) (steps : ℕ → Step) (t : ℕ) (run : IsRun limits states (suc t)) (takes : TakesSteps states steps (suc t)) (keys : StepsFit steps (suc t))
     (s : Step) (o : Outcome) (m : Moves (states t) s o (states (suc t))) where
@@ -104,6 +110,14 @@ module _ (limits : Limits) (states : ℕ → State) (steps : ℕ → Step) (t : 
         },
       )
 
+  one : OneUpdate limits (states t) s (states (suc t))
+  one i j call other former known u v = by_own (main_step limits states steps t run takes keys s o m)
+    where
+      by_own : MainStep limits states (suc t) (assigned_at states (suc t)) t s → i ≡ j
+      by_own (stays_all none same) = absurd (no_update limits states (suc t) t s none i call former u)
+      by_own (changes_one own) =
+          sym (owned limits states (suc t) t s own i call former u).indirection_is ∙ (owned limits states (suc t) t s own j other known v).indirection_is
+
   -- ---- root swaps
 
   -- the offer's call is the one that its operation says
@@ -137,6 +151,9 @@ untouched_stay limits states steps t run takes keys s o m = stays limits states 
 
 pub updates_change : OfLastSteps UpdatesChange
 updates_change limits states steps t run takes keys s o m = changes limits states steps t run takes keys s o m
+
+pub one_update : OfLastSteps OneUpdate
+one_update limits states steps t run takes keys s o m = one limits states steps t run takes keys s o m
 
 pub repairs_stay : OfLastSteps RepairsStay
 repairs_stay limits states steps t run takes keys s o m = repaired limits states steps t run takes keys s o m

@@ -25,7 +25,7 @@ use Rattle.proof_updates.specs.Beneath.proof_commits.specs.Stages.{stage_of, sta
 use Rattle.proof_updates.specs.Beneath.proof_commits.proofs.Words.Along.{protocol}
 use Rattle.proof_updates.specs.Beneath.proof_contents.specs.Runs.{counting_main}
 use Rattle.proof_order.specs.Facts.{Runs, entered_by_step}
-use Rattle.proof_order.proofs.Places.Elements.{Among, among_right}
+use Rattle.proof_updates.specs.Beneath.history.proofs.Among.{Among, among_right}
 use Rattle.proof_order.proofs.Places.Origins.{place_says}
 use Rattle.proof_order.proofs.Views.EachStep.{Changes, quiet, ends, closes, swaps, changes}
 use Rattle.proof_order.proofs.Offers.Honest.{honest}

@@ -22,7 +22,7 @@ use Rattle.proof_updates.specs.Beneath.machine_model.proofs.Times.{along_run}
 use Rattle.proof_updates.specs.Beneath.machine_model.specs.Times.{turns}
 use Rattle.proof_updates.specs.Beneath.machine_model.specs.Times.{IsRun, Turn}
 use Rattle.proof_order.specs.Facts.{Runs}
-use Rattle.proof_order.proofs.Places.Elements.{Among, among_right}
+use Rattle.proof_updates.specs.Beneath.history.proofs.Among.{Among, among_right}
 use Rattle.proof_order.proofs.Views.Changes.{completed_is}
 use Rattle.proof_order.proofs.Offers.Standing.{marks_says, nobody}
 use Rattle.proof_order.proofs.History.OneStep.{From, began, kept, stepped, from}

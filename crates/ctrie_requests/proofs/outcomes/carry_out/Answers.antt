@@ -1,7 +1,7 @@
 -- The request is the one of the branch, and the call that was made says what tells of it.
 use Rattle.std.proofs.Common.{◌≡◌, rules}
 use Rattle.std.specs.Prelude.{Err}
-use Rattle.ctrie_commands.specs.declared.faults.Fault.TheVariants.{Line, Write}
+use Rattle.ctrie_requests.specs.Beneath.history_commands.specs.declared.faults.Fault.TheVariants.{Line, Write}
 use Rattle.ctrie_requests.proofs.Telling.{verdict_part, report_told, thread_report_told, explanation_told, explanation_part, picture_told, picture_part}
 use Rattle.ctrie_requests.proofs.outcomes.carry_out.Goals as goal
 

@@ -1,5 +1,5 @@
 -- One bar more.
-use Rattle.std.proofs.Common.{◌≡◌, ◌<◌, ◌∙◌, ◌++◌, ◌∷◌, [], Option, Some, None, List, length, get_or, slice_get, refl, sym, ap, arith, subst, length-append}
+use Rattle.std.proofs.Common.{◌≡◌, ◌<◌, ◌∷◌, [], Option, Some, None, length, get_or, slice_get, refl, sym, ap, arith, subst, length-append}
 use Rattle.std.specs.Option.{option_copied}
 use Rattle.std.proofs.lemmas.Option.{slice_get-get_or, slice_get_read}
 use Rattle.history.specs.declared.calls.Call.TheVariants.{Get}
@@ -8,7 +8,6 @@ use Rattle.history.specs.Histories.{HasBegun}
 use Rattle.history.specs.Tables.{operation_of}
 use Rattle.history_scene.specs.declared.scenes.Stand.{Stand}
 use Rattle.history_scene.specs.Stands.{IsStand}
-use Rattle.history_scene.specs.Placing.{AreLate, stand_of}
 use Rattle.history_scene.proofs.Drawn.{stand_is, bars_more}
 use Rattle.history_scene.proofs.bars.bars_of.Goals as goal
 

@@ -1,4 +1,4 @@
-use Rattle.std.proofs.Common.{◌∙◌, sym, arith}
+use Rattle.std.proofs.Common.{arith}
 use Rattle.std.proofs.lemmas.Option.{get_or_from_slice_get}
 use Rattle.history_scene.specs.Lanes.{lane_of}
 use Rattle.history_scene.proofs.bars.lane_in.Goals as goal

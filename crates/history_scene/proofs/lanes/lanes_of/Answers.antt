@@ -1,5 +1,5 @@
 -- An actor that has begun something gets the next lane.
-use Rattle.std.proofs.Common.{◌≡◌, ◌<◌, ◌∙◌, ◌++◌, ◌∷◌, [], ℕ, List, Bool, Some, false, true, get_or, length, set, slice_get, if◌then◌else◌, refl, sym, ap, arith, subst, length-set}
+use Rattle.std.proofs.Common.{◌≡◌, ◌∙◌, ◌++◌, ◌∷◌, [], ℕ, List, Bool, false, get_or, length, if◌then◌else◌, sym, ap, arith, subst, length-set}
 use Rattle.std.proofs.lemmas.List.{append-nil}
 use Rattle.std.proofs.lemmas.Option.{get_or_from_slice_get}
 use Rattle.history_scene.specs.Lanes.{works, workers_below}

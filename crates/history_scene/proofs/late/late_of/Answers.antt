@@ -1,7 +1,7 @@
 -- One place more of the order, from its end.
 use Rattle.std.proofs.Common.{◌-◌, ◌∙◌, ℕ, Bool, get_or, set, sym, ap, arith, subst, length-set}
 use Rattle.history_scene.specs.Placing.{AreLate, IsEarliest, earlier}
-use Rattle.history_scene.proofs.Placed.{no_row}
+use Rattle.history.proofs.Standing.{not_begun}
 use Rattle.history_scene.proofs.Lateness.{one_begun, one_unbegun}
 use Rattle.history_scene.proofs.late.late_of.Goals as goal
 
@@ -25,6 +25,6 @@ loop-place-preserved c =
     let so_far = c.loop-place.invariant in
     let above = c.loop-place-test.true in
     let n : ℕ = c.loop-place.place - 1 in
-    let never = no_row c.args.events.now c.args.table.now.rows.items c.args.table.now.running (get_or c.args.order.now n 0) c.requires (sym c.row.ensures ∙ c.in_default.is) in
+    let never = not_begun c.args.events.now (get_or c.args.order.now n 0) c.args.table.now.rows.items c.args.table.now.running c.requires (sym c.row.ensures ∙ c.in_default.is) in
     let next = one_unbegun c.args.events.now c.args.order.now c.loop-place.place n c.loop-place.earliest c.loop-place.late.items (omega arith) (omega arith) never so_far.2 so_far.3 in
     (omega arith, so_far.1, next.0, next.1)

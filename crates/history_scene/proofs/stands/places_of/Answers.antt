@@ -1,5 +1,5 @@
 -- One operation more of the order is noted, or passed over.
-use Rattle.std.proofs.Common.{◌≡◌, ◌<◌, ◌∙◌, ◌+◌, ℕ, max, Option, Some, None, List, get_or, length, slice_get, refl, sym, ap, arith, subst}
+use Rattle.std.proofs.Common.{◌≡◌, ◌∙◌, ◌+◌, max, Option, Some, None, List, get_or, length, slice_get, sym, ap, arith, subst}
 use Rattle.std.proofs.lemmas.Option.{slice_get-get_or}
 use Rattle.history_scene.specs.declared.stands.Place.{Place}
 use Rattle.history_scene.specs.Placing.{ArePlaced, IsLatestOf, noted}

@@ -9,5 +9,5 @@ returns-in-Some-clause-applies c = refused (seen c.args.parts.now) (steps.Begin 
 
 pub returns-in-None-clause-applies : goal.returns-in-None-clause-applies
 returns-in-None-clause-applies c =
-    applies_so (seen c.args.parts.now) (seen c.take_begin.new.parts) (steps.Begin c.args.actor c.args.call) c.take_begin.result (sym c.in-None.ensures) c.take_begin.ensures.taken c.take_begin.ensures.err
-    c.take_begin.ensures.only_memory
+    applies_so (seen c.args.parts.now) (seen c.take_begin.new.parts) (steps.Begin c.args.actor c.args.call) c.take_begin.result (sym c.in-None.ensures)
+    c.take_begin.ensures.taken c.take_begin.ensures.err c.take_begin.ensures.only_memory

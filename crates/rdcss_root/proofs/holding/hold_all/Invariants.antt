@@ -1,6 +1,6 @@
 use Rattle.std.proofs.Common.{◌≡◌, ◌+◌, ℕ, take}
 use Rattle.slot_arena.specs.Times.{times}
-use Rattle.rdcss_root.specs.Holds.{KeepsMemory}
+use Rattle.rdcss_root.specs.Holding.{KeepsMemory}
 use Rattle.rdcss_root.proofs.holding.hold_all.Given as goal
 
 abbrev pub invariant-loop-at : goal.invariant-loop-at

@@ -25,4 +25,5 @@ pub returns-clause-nearer : goal.returns-clause-nearer
 returns-clause-nearer c = if_nearer c.take_step-result.result c.args.self.now c.args.step c.take_step-result.new.self c.take_step-result.ensures
 
 pub returns-clause-ticks : goal.returns-clause-ticks
-returns-clause-ticks c = one_place_more c.one_place_a_step.ensures c.take_step-result.result c.args.self.now c.args.step c.take_step-result.new.self c.limits.ensures.in_range c.take_step-result.ensures
+returns-clause-ticks c =
+    one_place_more c.one_place_a_step.ensures c.take_step-result.result c.args.self.now c.args.step c.take_step-result.new.self c.limits.ensures.in_range c.take_step-result.ensures

@@ -1,0 +1,28 @@
+use Rattle.std.proofs.Common.{◌≡◌, refl, sym, subst}
+use Rattle.std.specs.Prelude.{Bool, is_none}
+use Rattle.history_commands.specs.Pictures.{IsPicture}
+use Rattle.history_commands.specs.Verdicts.{IsVerdict}
+use Rattle.history_commands.specs.Written.{AppendsSuch, AppendsPartOf}
+use Rattle.history_commands.proofs.Known.{known_holds}
+use Rattle.history_commands.proofs.Explained.{none_told, verdict_by_scene}
+use Rattle.history_commands.proofs.drawing.draw_history.Goals as goal
+
+pub returns-clause-verdict : goal.returns-clause-verdict
+returns-clause-verdict g c =
+    let is = rw c.as_slice.ensures.value at c.in_ok-scene.ensures.scene in
+    let legal : c.is_none.result ≡ is_none c.in_ok-scene.scene.reason = none_told _ _ c.is_none.ensures in
+    known_holds _ (λ text. IsVerdict text _) _ c.in_ok-text.ensures.bytes (subst (IsVerdict _) (sym legal) (verdict_by_scene _ _ is))
+
+pub returns-clause-written : goal.returns-clause-written
+returns-clause-written g c =
+    let is = rw c.as_slice.ensures.value at c.in_ok-scene.ensures.scene in
+    let legal : c.is_none.result ≡ is_none c.in_ok-scene.scene.reason = none_told _ _ c.is_none.ensures in
+    let grown = rw c.as_bytes.ensures.value at c.in_ok-write_all.ensures.ok in
+    known_holds _ (λ text. AppendsSuch (IsPicture text _) _ _) _ c.in_ok-text.ensures.bytes (_, (c.in_ok-scene.scene, is, legal, c.in_ok-picture.ensures.ok), grown)
+
+pub returns-in_err-write_all-clause-part : goal.returns-in_err-write_all-clause-part
+returns-in_err-write_all-clause-part g c = λ _.
+    let is = rw c.as_slice.ensures.value at c.in_ok-scene.ensures.scene in
+    let part = rw c.as_bytes.ensures.value at c.in_err-write_all.ensures.part in
+    known_holds _ (λ text. AppendsPartOf (λ bytes. (legal : Bool) × IsPicture text legal bytes) _ _) _ c.in_ok-text.ensures.bytes
+    (_, (is_none c.in_ok-scene.scene.reason, (c.in_ok-scene.scene, is, refl, c.in_ok-picture.ensures.ok)), part)

@@ -1,0 +1,5 @@
+pub mod Faults
+pub mod Written
+pub mod Verdicts
+pub mod Explanations
+pub mod Pictures
