@@ -2,15 +2,18 @@
  * A map from 64-bit numbers to 64-bit numbers with snapshots.
  *
  * A map holds up to 256 maps, each named by a handle. Handle 0 is open at first, writable and empty. A snapshot opens
- * a writable copy of a handle's map, a freeze a read-only one; both cost the same whatever the map has, since copies
- * share what they have in common.
+ * a writable copy of a handle's map, a freeze a read-only one: by at most 144 steps of work whatever the map has, and
+ * five for each slot that becomes free.
  *
  *     struct ctrie map = CTRIE_NONE;
  *     uint64_t value = 0;
  *     if (ctrie_new(&map, 1024, CTRIE_FOLD) != CTRIE_DONE) return 1;
- *     ctrie_put(&map, 0, 7, 250, &value);
+ *     if (CTRIE_REFUSED(ctrie_put(&map, 0, 7, 250, &value))) return 1;
  *     if (ctrie_get(&map, 0, 7, &value) == CTRIE_YES) printf("%llu\n", (unsigned long long)value);
  *     ctrie_free(&map);
+ *
+ * Handles are numbers that are used again: once one is closed, a later copy may get the same number, and one that was
+ * kept names that copy then. A map keeps a record of its steps: each change takes about 1.1 kB more, until ctrie_free.
  *
  * Each call answers a code: CTRIE_DONE, CTRIE_NO or CTRIE_YES where it was done, else why it was refused. A call that
  * is refused changes no map, but after CTRIE_UNFINISHED. What a call has to tell beside its code it writes where the
@@ -18,9 +21,9 @@
  *
  * What the caller owes: no pointer is null, each points to what its type says, and no two of a call overlap. A struct
  * ctrie is CTRIE_NONE before its first call, and is changed by these calls alone; it isn't copied, but may be moved.
- * One map is used by one call at a time, on the thread that made it, and not from a signal handler or the child of a
- * fork. malloc, realloc and free are of one allocator, and align a block to each power of two up to 16 that divides its
- * size.
+ * One map is used by one call at a time, on the thread that made it (that another may go on with it isn't proved), and
+ * not from a signal handler or the child of a fork. malloc, realloc and free are of one allocator, and align a block to
+ * each power of two up to 16 that divides its size.
  */
 #ifndef CTRIE_H
 #define CTRIE_H
@@ -32,6 +35,9 @@
 #ifdef __cplusplus
 extern "C" {
 #endif
+
+/* The version of these calls, as in CHANGELOG.md. */
+#define CTRIE_VERSION "0.1.0"
 
 /* Holds a map, or none. */
 struct ctrie {
@@ -48,12 +54,12 @@ enum ctrie_code {
     CTRIE_READ_ONLY = 3,    /* a change, a snapshot or a freeze of a read-only map */
     CTRIE_HANDLES_FULL = 4, /* a snapshot or a freeze while 256 handles are open */
     CTRIE_CROWDED = 5,      /* the key has no value, and 32 other keys have its hash */
-    CTRIE_FULL = 6,         /* fewer than CTRIE_SLOTS_FOR_A_CALL slots were free, and the call wanted one more */
+    CTRIE_FULL = 6,         /* no slot was free; it comes only where fewer than CTRIE_SLOTS_FOR_A_CALL were before */
     CTRIE_BAD_SIZES = 7,    /* the number of slots isn't from 2 to 65,536 */
     CTRIE_WORN_OUT = 8,     /* less work is left than a call may take, of 2^40 steps in all; the map can be read */
     CTRIE_MEMORY = 9,       /* malloc refused, and no map has changed */
     CTRIE_UNFINISHED = 10,  /* malloc refused in the midst of a change, which is done but for its answer, or would have
-                               been refused as crowded or full; a map can't be read until the next change, or
+                               been refused as crowded or full; the map can't be read until a later change, or
                                ctrie_free_slots, has brought the rest to its end */
     CTRIE_NO_MAP = 11,      /* no map is held */
     CTRIE_HAS_MAP = 12,     /* ctrie_new where a map is held already, which stays */
@@ -88,28 +94,28 @@ struct ctrie_cursor {
 
 /* ---- a map */
 
-/* Makes a map with so many slots for nodes, from 2 to 65,536, whose keys are hashed so. DONE, BAD_SIZES, MEMORY,
+/* Makes a map with the given number of slots for nodes, from 2 to 65,536, and hash of keys. DONE, BAD_SIZES, MEMORY,
    HAS_MAP, BAD_HASH. */
 uint32_t ctrie_new(struct ctrie *map, uint32_t slots, uint32_t hash);
 
 /* Frees the map, if there is one. None is held then. */
 void ctrie_free(struct ctrie *map);
 
-/* ---- reading: these change nothing. NO_HANDLE, UNFINISHED, NO_MAP; MEMORY only where it is said */
+/* ---- reading: these change nothing. Each may answer NO_MAP, and else only what is said */
 
-/* YES with the key's value, or NO. It takes no memory. */
+/* YES with the key's value, or NO. It takes no memory. NO_HANDLE, UNFINISHED. */
 uint32_t ctrie_get(struct ctrie *map, uint16_t handle, uint64_t key, uint64_t *value);
 
-/* YES where the key has a value, else NO. It takes no memory. */
+/* YES where the key has a value, else NO. It takes no memory. NO_HANDLE, UNFINISHED. */
 uint32_t ctrie_contains(struct ctrie *map, uint16_t handle, uint64_t key);
 
-/* DONE with how many keys have a value. MEMORY. */
+/* DONE with how many keys have a value. It collects and sorts them all. NO_HANDLE, UNFINISHED, MEMORY. */
 uint32_t ctrie_count(struct ctrie *map, uint16_t handle, uint64_t *count);
 
-/* Writes the next pairs by rising key, those behind the cursor, of which there is room for so many. DONE with how many;
-   fewer than there is room for where none are left. The cursor is behind them then. A listing of a handle whose map
-   is changed in between goes on behind the same key; a frozen copy is of one moment. MEMORY: nothing is allocated for
-   the caller, but the map needs room for all pairs while it lists them.
+/* Writes the next pairs in ascending order of keys, those after the cursor, at most as many as there is room for. DONE
+   with how many; fewer than there is room for where none are left. The cursor is after them then. A listing of a handle
+   whose map is changed in between goes on after the same key; a frozen copy is of one moment. Each call collects and
+   sorts all pairs of the map, in memory of its own: so give it room for many. NO_HANDLE, UNFINISHED, MEMORY.
 
        struct ctrie_cursor cursor = CTRIE_START;
        struct ctrie_pair pairs[64];
@@ -121,13 +127,13 @@ uint32_t ctrie_count(struct ctrie *map, uint16_t handle, uint64_t *count);
 uint32_t ctrie_entries(struct ctrie *map, uint16_t handle, struct ctrie_cursor *cursor, struct ctrie_pair *pairs,
                        size_t room, uint64_t *count);
 
-/* DONE with how many handles are open. */
+/* DONE with how many handles are open. UNFINISHED. */
 uint32_t ctrie_handles(struct ctrie *map, uint32_t *handles);
 
 /* DONE with how many slots there are in all. */
 uint32_t ctrie_slots(struct ctrie *map, uint32_t *slots);
 
-/* DONE with how many slots no open handle reaches. It brings to an end what was left over. MEMORY. */
+/* DONE with how many slots no open handle reaches. It brings to an end what was left over. MEMORY, WORN_OUT. */
 uint32_t ctrie_free_slots(struct ctrie *map, uint32_t *free);
 
 /* ---- changing: NO_HANDLE, READ_ONLY, FULL, WORN_OUT, MEMORY, UNFINISHED, NO_MAP; CROWDED only where it is said */

@@ -2,7 +2,7 @@
 #include <ctrie.h>
 #include <stdio.h>
 
-enum { INDEX = 0, TILL = 0, ACCOUNTS = 20, ROOM = 8 };
+enum { TILL = 0, ACCOUNTS = 20, ROOM = 8 };
 
 /* The first refusal, if there was one. */
 static uint32_t refusal = CTRIE_DONE;
@@ -20,15 +20,22 @@ static uint64_t amount(struct ctrie *map, uint16_t handle, uint64_t account) {
     return amount;
 }
 
-static void set(struct ctrie *map, uint64_t account, uint64_t amount) {
+static bool set(struct ctrie *map, uint16_t handle, uint64_t account, uint64_t amount) {
     uint64_t before;
-    done(ctrie_put(map, INDEX, account, amount, &before));
+    return done(ctrie_put(map, handle, account, amount, &before));
 }
 
-/* Moves one from an account to the till. */
-static void pay(struct ctrie *map, uint64_t account) {
-    set(map, account, amount(map, INDEX, account) - 1);
-    set(map, TILL, amount(map, INDEX, TILL) + 1);
+/* Moves one from an account to the till, if it has one. It is moved on a copy, which becomes the index when all is done:
+   so a payment that is refused changes no amount. */
+static void pay(struct ctrie *map, uint16_t *index, uint64_t account) {
+    uint16_t next, last = *index;
+    uint64_t left = amount(map, last, account), paid = amount(map, last, TILL);
+    if (refusal != CTRIE_DONE || left == 0 || !done(ctrie_snapshot(map, last, &next))) return;
+    if (set(map, next, account, left - 1) && set(map, next, TILL, paid + 1)) {
+        *index = next;
+        next = last;
+    }
+    done(ctrie_close(map, next));
 }
 
 /* The sum of all amounts, listed in parts. */
@@ -52,17 +59,17 @@ static uint32_t free_slots(struct ctrie *map) {
 
 /* Freezes the index, and reads the copy while amounts are moved. */
 static void run(struct ctrie *map) {
-    uint16_t copy = 0;
+    uint16_t index = 0, copy = 0;
     uint64_t exported = 0;
     uint32_t slots = 0, with_copy;
-    for (uint64_t account = 1; account <= ACCOUNTS; account++) set(map, account, 50);
-    done(ctrie_freeze(map, INDEX, &copy));
+    for (uint64_t account = 1; account <= ACCOUNTS; account++) set(map, index, account, 50);
+    if (!done(ctrie_freeze(map, index, &copy))) return;
     for (uint64_t account = 1; account <= ACCOUNTS; account++) {
-        pay(map, account);
+        pay(map, &index, account);
         exported += amount(map, copy, account);
     }
-    printf("exported %llu while %llu were paid\n", (unsigned long long)exported, (unsigned long long)amount(map, INDEX, TILL));
-    printf("the copy has %llu, the index %llu\n", (unsigned long long)sum(map, copy), (unsigned long long)sum(map, INDEX));
+    printf("exported %llu while %llu were paid\n", (unsigned long long)exported, (unsigned long long)amount(map, index, TILL));
+    printf("the copy has %llu, the index %llu\n", (unsigned long long)sum(map, copy), (unsigned long long)sum(map, index));
     with_copy = free_slots(map);
     done(ctrie_close(map, copy));
     done(ctrie_slots(map, &slots));

@@ -84,9 +84,13 @@ def main():
     with Map(ctypes.CDLL(sys.argv[1]), 256) as index:
         now, undo = 0, []
         for word in TEXT.split():
-            undo.append(index.copy("snapshot", now))
-            key = words.index(word)
-            index.put(now, key, (index.get(now, key) or 0) + 1)
+            before, key = index.copy("snapshot", now), words.index(word)
+            try:
+                index.put(now, key, (index.get(now, key) or 0) + 1)
+            except Refused:
+                index.call("close", before)
+                raise
+            undo.append(before)
         frozen = index.copy("freeze", now)
         index.put(now, words.index("the"), 100)
         print("frozen:", ", ".join(f"{words[key]} {value}" for key, value in index.entries(frozen)))

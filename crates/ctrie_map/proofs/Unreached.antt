@@ -14,7 +14,7 @@ use Rattle.map_worlds.specs.Beneath.proof_memory.proofs.Limbo.Measure.{all_reach
 use Rattle.map_worlds.specs.Beneath.proof_memory.proofs.Limbo.Ranks.{reached_in_use}
 use Rattle.map_worlds.specs.Beneath.proof_memory.proofs.Limbo.Zeros.{has_zeros}
 use Rattle.map_worlds.specs.Beneath.proof_memory.proofs.Safety.AtEachTime.{safe_along}
-use Rattle.step_machine.specs.Callers.{going_on, swept}
+use Rattle.step_machine.specs.Callers.{swept}
 use Rattle.step_machine.specs.Machines.{Taken, state_of, with_step}
 use Rattle.step_machine.proofs.Going.{HasMore, has_more}
 use Rattle.step_machine.proofs.Reclaiming.{steps_on}

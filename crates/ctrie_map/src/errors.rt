@@ -21,7 +21,8 @@ pub enum MapError {
     /// The key has no value, and 32 other keys have its hash.
     #[error("too many keys have this hash")]
     Crowded,
-    /// Fewer than `SLOTS_FOR_A_CALL` slots were free, and the call wanted one more.
+    /// No slot was free. It comes only where fewer than `SLOTS_FOR_A_CALL` slots were free before the call, or 23 where
+    /// it is a clear or a copy.
     #[error("no slot is free")]
     Full,
     /// The number of slots isn't from 2 to 65,536.

@@ -4,7 +4,8 @@ ghost use Rattle.std.specs.Prelude.{◌≡◌};
 
 use std::marker::Model;
 
-/// Names a map of a `Map`.
+/// Names a map of a `Map`. It is a number: once it is closed, a later copy may get the same one, and then a handle that
+/// was kept names that copy. Nothing tells a handle of one `Map` from one of another.
 #[derive(Clone, Copy, Debug, PartialEq, Eq)]
 pub struct Handle {
     number: u16,

@@ -14,7 +14,8 @@ use std::marker::Model;
 use step_machine::{Limits, Machine};
 
 /// Maps from 64-bit numbers to 64-bit numbers, named by handles. At first handle 0 is open, writable and empty. A
-/// snapshot or a freeze of a handle's map takes the same time whatever it has.
+/// snapshot or a freeze takes at most 144 steps whatever the map has, and five for each slot that becomes free. Each
+/// step is recorded, so a `Map` takes more memory with each change.
 pub struct Map {
     pub(crate) machine: Machine,
 }
@@ -43,8 +44,8 @@ impl Model for Map {
 }
 
 impl Map {
-    /// A map with so many slots for nodes, from 2 to 65,536, whose keys are hashed so. Handle 0 is open, writable and
-    /// empty.
+    /// A map with the given number of slots for nodes, from 2 to 65,536, and hash of keys. Handle 0 is open, writable
+    /// and empty.
     #[tactic(auto, using(crate::proofs::Firsts::is_new, crate::proofs::Firsts::for_one, crate::proofs::Firsts::refuses))]
     pub fn new(alloc: Global, slots: u32, hash: HashKind) -> Result<Map, MapError>
         ensures made { IfOk result (IsNew slots hash) }

@@ -33,7 +33,8 @@ impl Map {
         Ok(self.get(handle, key)?.is_some())
     }
 
-    /// All keys with their values, by rising key. Else than for `NoHandle` and `Unfinished`, only memory is refused.
+    /// All keys with their values, in ascending order of keys. Else than for `NoHandle` and `Unfinished`, only memory is
+    /// refused.
     pub fn entries(&self, handle: Handle) -> Result<Vec<(u64, u64)>, MapError>
         ensures entries { IfOk result (λ entries. reading self.now handle (λ m. map.entries m) ≡ Ok entries.items) }
         ensures refused { IfErr result (RefusesReading (reading self.now handle (λ m. map.entries m))) }
@@ -41,7 +42,7 @@ impl Map {
         entries_in(&self.machine, handle.number())
     }
 
-    /// How many keys have a value.
+    /// How many keys have a value. It collects and sorts them all, as `entries` does.
     #[tactic(auto, using(crate::proofs::Lookups::len_read, crate::proofs::Lookups::len_refused))]
     pub fn count(&self, handle: Handle) -> Result<u64, MapError>
         ensures count { IfOk result (λ count. reading self.now handle (λ m. map.len m) ≡ Ok count) }

@@ -7,6 +7,7 @@ fn main(rt: HostRuntime) -> Result<(), MapError> {
     let stock = Handle::first();
     let mut map = Map::new(rt.alloc(), 1_024, HashKind::Fold)?;
     map.put(stock, 7, 250)?;
+    map.put(stock, 8, 40)?;
     let morning = map.freeze(stock)?;
     map.put(stock, 7, 300)?;
     map.remove(stock, 8)?;

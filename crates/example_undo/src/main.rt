@@ -22,23 +22,33 @@ impl Sheet {
         })
     }
 
-    /// Sets a cell, so that it can be undone.
+    /// Sets a cell, so that it can be undone. Where that is refused there is nothing to undo, but after `Unfinished`, when the
+    /// cell may be set.
     fn set(&mut self, cell: u64, value: u64) -> Result<(), MapError> {
         let copy = self.map.snapshot(self.now)?;
         if self.before.push(copy).is_err() {
+            let _ = self.map.close(copy);
             return Err(MapError::Memory);
         }
-        self.map.put(self.now, cell, value)?;
-        Ok(())
+        match self.map.put(self.now, cell, value) {
+            Ok(_) => Ok(()),
+            Err(MapError::Unfinished) => Err(MapError::Unfinished),
+            Err(error) => {
+                let _ = self.before.pop();
+                let _ = self.map.close(copy);
+                Err(error)
+            }
+        }
     }
 
-    /// Goes back by one change, if there is one.
+    /// Goes back by one change, if there is one. Where the close is refused, it has gone back all the same.
     fn undo(&mut self) -> Result<bool, MapError> {
         let Some(copy) = self.before.pop() else {
             return Ok(false);
         };
-        self.map.close(self.now)?;
+        let last = self.now;
         self.now = copy;
+        self.map.close(last)?;
         Ok(true)
     }
 
