@@ -341,6 +341,17 @@ impl Heap {
         Swept::Freed
     }
 
+    /// How many references there are to a slot, from slots in use and from outside.
+    pub fn count(&mut self, at: Ref) -> u64
+        requires { IsLive self.old.heap at }
+        ensures count { result ≡ count_of self.old.heap self.old.outside at }
+        ensures same { self.new ≡ record self.old { ticks = self.old.ticks + 1 } }
+    {
+        let count = self.arena.count(at);
+        self.ticks = ticks_of(&self.arena, &self.bags, &self.fresh);
+        count
+    }
+
     /// How many slots are free.
     pub fn free_slots(&self) -> u32
         ensures { result ≡ length self.now.heap.free }
@@ -348,9 +359,10 @@ impl Heap {
         self.arena.free_slots()
     }
 
-    /// How many slots are in use, those in limbo too.
+    /// How many slots are in use, those in limbo too. These and the free ones are all slots.
     pub fn used(&self) -> u32
-        ensures { result ≡ length (in_use self.now.heap) }
+        ensures used { result ≡ length (in_use self.now.heap) }
+        ensures sum { result + length self.now.heap.free ≡ length self.now.heap.slots }
     {
         self.arena.used()
     }

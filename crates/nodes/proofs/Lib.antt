@@ -1,3 +1,4 @@
+pub mod Contents
 pub mod Depths
 pub mod Indices
 pub mod Partings

@@ -4,6 +4,7 @@ ghost use Rattle.std.specs.Prelude.{◌≡◌, ◌<◌, ◌≤◌, length, inser
 ghost use Rattle.ctrie_base.specs.Paths.{position_of};
 ghost use Rattle.slot_arena.specs.Heaps.{entries_of};
 ghost use Rattle.nodes.specs.Builders.{inserted, updated, removed, renewed, contracted};
+ghost use Rattle.nodes.specs.Contents.{InsertsPair, UpdatesPair, RemovesPair, KeepsContent};
 
 use crate::entries::{all_of, joined, with_replaced, without};
 use crate::levels::position_of;
@@ -16,6 +17,7 @@ pub fn inserted(flag: u32, bitmap: u32, entries: &[Ref], entry: Ref) -> Node
     requires place { position_of flag bitmap ≤ length entries.now }
     ensures node { result ≡ inserted flag bitmap entries.now entry }
     ensures all { entries_of result ≡ insert entries.now (position_of flag bitmap) entry }
+    ensures content { InsertsPair entries.now entry result }
 {
     let position = position_of(flag, bitmap);
     Node::Branch {
@@ -30,6 +32,7 @@ pub fn updated(bitmap: u32, entries: &[Ref], position: usize, entry: Ref) -> Nod
     requires within { position < length entries.now }
     ensures node { result ≡ updated bitmap entries.now position entry }
     ensures all { entries_of result ≡ slice_set entries.now position entry }
+    ensures content { UpdatesPair entries.now position entry result }
 {
     Node::Branch {
         bitmap,
@@ -43,6 +46,7 @@ pub fn removed(flag: u32, bitmap: u32, entries: &[Ref], position: usize) -> Node
     requires within { position < length entries.now }
     ensures node { result ≡ removed flag bitmap entries.now position }
     ensures all { entries_of result ≡ remove entries.now position }
+    ensures content { RemovesPair entries.now position result }
 {
     Node::Branch {
         bitmap: bitmap ^ flag,
@@ -55,6 +59,7 @@ pub fn renewed(bitmap: u32, entries: &[Ref]) -> Node
     requires { length entries.now ≤ 32 }
     ensures node { result ≡ renewed bitmap entries.now }
     ensures all { entries_of result ≡ entries.now }
+    ensures content { KeepsContent entries.now result }
 {
     Node::Branch {
         bitmap,
@@ -67,6 +72,7 @@ pub fn compressed(bitmap: u32, entries: &[Ref]) -> Node
     requires { length entries.now ≤ 32 }
     ensures node { result ≡ renewed bitmap entries.now }
     ensures all { entries_of result ≡ entries.now }
+    ensures content { KeepsContent entries.now result }
 {
     renewed(bitmap, entries)
 }
@@ -76,6 +82,7 @@ pub fn contracted(may_entomb: bool, bitmap: u32, entries: &[Ref]) -> Node
     requires { length entries.now ≤ 32 }
     ensures node { result ≡ contracted may_entomb bitmap entries.now }
     ensures all { entries_of result ≡ entries.now }
+    ensures content { KeepsContent entries.now result }
 {
     match entries {
         [single] if may_entomb => Node::Tomb { single: *single },

@@ -1,7 +1,7 @@
 //! The nodes that changes of a map make, built from the nodes before. None of the calls takes memory.
 //!
-//! Each gives exactly the node of the definition. What it does to the finite map that is a node's content
-//! is said by the laws of `proof_contents`, which speak of the same nodes.
+//! Each gives exactly the node of the definition, and says what that does to a node's content, whatever finite
+//! maps are held at its entries (clauses `content`).
 #![tactic(auto)]
 
 mod branches;

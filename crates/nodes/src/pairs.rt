@@ -2,6 +2,7 @@
 
 ghost use Rattle.std.specs.Prelude.{◌≡◌};
 ghost use Rattle.nodes.specs.Builders.{by_index, pair, rung};
+ghost use Rattle.nodes.specs.Contents.{HasPairs, HasContent};
 
 use crate::entries::all_of;
 use crate::levels::{flag_of, index_in, list_depth};
@@ -11,7 +12,8 @@ use slot_arena::{Node, Ref};
 /// The main node of both, at the depth where they part: a branch, and below all levels a list, the older one
 /// first.
 pub fn dual(kind: HashKind, depth: usize, old_hash: u64, hash: u64, old: Ref, single: Ref) -> Node
-    ensures { result ≡ pair kind depth old_hash hash old single }
+    ensures node { result ≡ pair kind depth old_hash hash old single }
+    ensures content { HasPairs old single result }
 {
     if depth == list_depth(kind) {
         return Node::List {
@@ -32,7 +34,8 @@ pub fn dual(kind: HashKind, depth: usize, old_hash: u64, hash: u64, old: Ref, si
 
 /// The branch of one entry on the way down to it, at a depth above that.
 pub fn rung(hash: u64, depth: usize, below: Ref) -> Node
-    ensures { result ≡ rung hash depth below }
+    ensures node { result ≡ rung hash depth below }
+    ensures content { HasContent below result }
 {
     Node::Branch {
         bitmap: flag_of(hash, depth),

@@ -44,7 +44,7 @@ impl Drop for Places {
 }
 
 impl Model for Places {
-    ghost use Rattle.std.specs.Prelude.{◌-◌, min, vec_len, vec_capacity};
+    ghost use Rattle.std.specs.Prelude.{◌≡◌, ◌+◌, ◌-◌, min, vec_len, vec_capacity};
     ghost use Rattle.places.specs.Segments.{Listing, IsKept};
 
     ghost Value = { Listing };
@@ -57,7 +57,9 @@ impl Model for Places {
       room_to_close = vec_capacity p.closings - vec_len p.closings;
     } };
 
-    ghost invariant = { λ p. IsKept p.arrivals.items p.listed.places.items p.stray.places.items p.closings.items p.closed };
+    ghost invariant = { λ p.
+        IsKept p.arrivals.items p.listed.places.items p.stray.places.items p.closings.items p.closed
+        × (p.ticks.count ≡ p.listed.writes.count + p.stray.writes.count) };
 }
 
 impl Places {

@@ -16,25 +16,31 @@ const NOWHERE: Place = Place {
     id: 0,
 };
 
-/// Places in the order in which they were written. The call that writes one counts one tick.
+/// Places in the order in which they were written. The call that writes one counts one tick, and the segment keeps
+/// how often it was written: so one that is made anew doesn't pass for the one that was kept.
 #[derive(Drop)]
 pub(crate) struct Segment {
     places: Vec<Place>,
+    /// How often a place was written here, for clauses alone.
+    writes: Ticks,
 }
 
 impl Segment {
     /// No places. It takes no memory.
     pub(crate) fn new(alloc: Global) -> Segment
-        ensures { result.places.items ≡ [] }
+        ensures places { result.places.items ≡ [] }
+        ensures writes { result.writes.count ≡ 0 }
     {
         Segment {
             places: Vec::new(alloc),
+            writes: Ticks::new(),
         }
     }
 
     /// Makes room for one place more.
     pub(crate) fn room(&mut self) -> Result<(), AllocError>
         ensures same { self.new.places.items ≡ self.old.places.items }
+        ensures writes { self.new.writes.count ≡ self.old.writes.count }
         ensures room { OnOk result (vec_len self.new.places < vec_capacity self.new.places) }
         ensures capacity { vec_capacity self.old.places ≤ vec_capacity self.new.places }
     {
@@ -44,6 +50,7 @@ impl Segment {
     /// Makes room for so many places more, in memory that is written here.
     pub(crate) fn reserve(&mut self, count: usize) -> Result<(), AllocError>
         ensures same { self.new.places.items ≡ self.old.places.items }
+        ensures writes { self.new.writes.count ≡ self.old.writes.count }
         ensures room { OnOk result (vec_len self.new.places + count ≤ vec_capacity self.new.places) }
         ensures capacity { vec_capacity self.old.places ≤ vec_capacity self.new.places }
     {
@@ -55,9 +62,11 @@ impl Segment {
         requires { vec_len self.old.places < vec_capacity self.old.places }
         ensures places { self.new.places.items ≡ self.old.places.items ++ place ∷ [] }
         ensures capacity { vec_capacity self.new.places ≡ vec_capacity self.old.places }
+        ensures writes { self.new.writes.count ≡ self.old.writes.count + 1 }
         ensures ticks { ticks.new.count ≡ ticks.old.count + 1 }
     {
         ticks.add();
+        self.writes.add();
         self.places.push_reserved(place);
     }
 

@@ -343,9 +343,10 @@ impl Arena {
         self.cells.len() as u32 - self.used
     }
 
-    /// How many slots are in use.
+    /// How many slots are in use. These and the free ones are all slots.
     pub fn used(&self) -> u32
-        ensures { result ≡ length (in_use self.now.heap) }
+        ensures used { result ≡ length (in_use self.now.heap) }
+        ensures sum { result + length self.now.heap.free ≡ length self.now.heap.slots }
     {
         self.used
     }

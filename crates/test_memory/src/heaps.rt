@@ -126,6 +126,16 @@ fn holds_back_by_references(rt: HostRuntime) -> Result<(), Fail> {
 }
 
 #[test]
+fn counts_references(rt: HostRuntime) -> Result<(), Fail> {
+    let mut heap = Heap::new(rt.alloc(), 4, 1)?;
+    let (tomb, above) = tomb_and_above(&rt, &mut heap);
+    assert_eq!(rt; heap.count(tomb), 2);
+    assert_eq!(rt; heap.count(above), 1);
+    assert_eq!(rt; heap.used(), 3);
+    Ok(())
+}
+
+#[test]
 fn swaps_words(rt: HostRuntime) -> Result<(), Fail> {
     let mut heap = Heap::new(rt.alloc(), 4, 1)?;
     let (tomb, above) = tomb_and_above(&rt, &mut heap);

@@ -9,4 +9,4 @@ invariant_of-self c =
     let step = c.args.step in
     let later = subst (λ (v : Listing). All (λ x. x < step) v.closings) (sym c.self.view_is) c.requires.later in
     let behind = subst (λ (v : Listing). All (λ p. p.step ≤ step) v.places) (sym c.self.view_is) c.requires.behind in
-    rw c.push_reserved.ensures.items (kept_closed _ _ _ _ _ step c.self.invariant later behind)
+    rw c.push_reserved.ensures.items (kept_closed _ _ _ _ _ step c.self.invariant.0 later behind, c.self.invariant.1)

@@ -8,7 +8,7 @@ use Rattle.places.proofs.Cuts.{rising_cut, ids_alike, counts_joined}
 use Rattle.places.proofs.places.Places.order.Goals as goal
 
 pub joined-requires-clause-listed : goal.joined-requires-clause-listed
-joined-requires-clause-listed c = rw (c.as_slice-2.ensures.value, c.as_slice-3.ensures) c.self.invariant.cut
+joined-requires-clause-listed c = rw (c.as_slice-2.ensures.value, c.as_slice-3.ensures) c.self.invariant.0.cut
 
 pub joined-requires-clause-late : goal.joined-requires-clause-late
 joined-requires-clause-late c = λ k d within. rw c.as_slice-4.ensures.value (rising_cut _ c.sort.new.self.items (sorted_list_rises c.sort.new.self.items c.in_ok-sort.ensures.sorted))
@@ -22,5 +22,5 @@ returns-clause-order c =
     c.in_ok-joined.ensures
     ∙ rw (c.as_slice-3.ensures, c.as_slice-4.ensures.value)
     (ids_alike (listed ++ sorted) c.self.inside.arrivals.items
-    (λ t. omega (arith, counts_joined t listed sorted, permuted_alike c.in_ok-late.late.items sorted c.sort.ensures.permutation t, ap (count_by t) late, c.self.invariant.all t)))
+    (λ t. omega (arith, counts_joined t listed sorted, permuted_alike c.in_ok-late.late.items sorted c.sort.ensures.permutation t, ap (count_by t) late, c.self.invariant.0.all t)))
     ∙ ap (λ (v : Listing). ids_by_place v.places) c.self.view_is
