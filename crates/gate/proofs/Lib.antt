@@ -1,0 +1,10 @@
+mod Counting
+mod Following
+mod Keeping
+mod Crews
+mod Closing
+mod Holds
+mod Making
+mod Ends
+mod Placing
+mod Summing

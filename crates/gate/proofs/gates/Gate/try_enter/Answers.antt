@@ -1,0 +1,14 @@
+use Rattle.std.proofs.Common.{rules, ap, sym, ◌∙◌}
+use Rattle.gate.proofs.Holds.{exchange_allowed}
+use Rattle.gate.proofs.gates.Gate.try_enter.Goals as goal
+
+pub compare_exchange-found-requires : goal.compare_exchange-found-requires
+compare_exchange-found-requires g c = (
+  c.requires.seat ∙ ap (λ r. r.id) (sym c.self.view_is),
+  search rules,
+  exchange_allowed g.O.Object.answers c.self.inside.table.shared.key c.self.inside.table.shared.table_id.slots c.args.pass.now.id c.args.number c.args.pass.now.me c.self.invariant.1
+      c.requires.outside,
+)
+
+pub returns-clause-inside : goal.returns-clause-inside
+returns-clause-inside g c was_open = c.compare_exchange-found.ensures.2.0 (search (rules, was_open))

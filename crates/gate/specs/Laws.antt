@@ -1,0 +1,33 @@
+-- Laws of logs, whatever the object answers.
+use Rattle.std.specs.Prelude.{◌≡◌, ℕ, ◌-◌, ◌<◌, ◌≤◌, [], ◌∷◌, ◌++◌, List, length, slice_get, Some, sum_by}
+use Rattle.gate.specs.Logs.{Logged, entry, calls_of, IsLegal, HasFollowed, HasCalled}
+use Rattle.gate.specs.Seats.{Room, Seated}
+use Rattle.gate.specs.Calls.{IsCalled}
+use Rattle.gate.specs.Finishing.{AreHere, IsGathered}
+use Rattle.gate.specs.declared.objects.Entry.{Entry}
+
+module _ {O C A : Type 0} (answers : ℕ → O → C → A → O → Type 0) where
+  abbrev pub CallsKeepALogLegal : Type 0
+  CallsKeepALogLegal = (seat : ℕ) (call : C) (answer : A) (board now : Logged O C A) → IsLegal answers board → HasCalled answers seat call answer board now → IsLegal answers now
+
+  abbrev pub ACallIsOneEntry : Type 0
+  ACallIsOneEntry = (before after : Seated O C A) (call : C) (answer : A) → IsCalled answers before call answer after →
+      calls_of before.number after.seen.log ≡ calls_of before.number before.seen.log ++ entry before.number call answer ∷ []
+
+  abbrev pub OthersLeaveOwnCalls : Type 0
+  OthersLeaveOwnCalls = (seat : ℕ) (seen board : Logged O C A) → HasFollowed answers seat seen board → calls_of seat board.log ≡ calls_of seat seen.log
+
+  -- The number of a call is its place, for good. And where one seat calls, and another one that knows of so many calls calls then,
+  -- in each log that goes on from both the first call stands before the second.
+  abbrev pub ToldCallsStandBefore : Type 0
+  ToldCallsStandBefore = (one told : Seated O C A) (call : C) (answer : A) (other later : Seated O C A) (next : C) (reply : A) (last : Logged O C A) →
+      IsCalled answers one call answer told → length told.seen.log ≤ length other.seen.log → IsCalled answers other next reply later →
+      HasFollowed answers told.number told.seen last → HasFollowed answers later.number later.seen last →
+      (length told.seen.log < length later.seen.log)
+      × (slice_get last.log (length told.seen.log - 1) ≡ Some (entry one.number call answer))
+      × (slice_get last.log (length later.seen.log - 1) ≡ Some (entry other.number next reply))
+
+-- Whatever is counted of calls, the log's calls count what the calls count that each seat has made.
+abbrev pub SeatsMakeTheLog : {S O C A : Type 0} → (ℕ → O → C → A → O → Type 0) → (S → Seated O C A) → Type 0
+SeatsMakeTheLog {S} {O} {C} {A} answers of = (gate : Room O) (seats : List S) (object : O) → AreHere of gate.seats seats → (all : IsGathered answers of gate seats object) →
+    (weight : Entry C A → ℕ) → sum_by weight all.last.log ≡ sum_by (λ s. sum_by weight (calls_of (of s).number (of s).seen.log)) seats

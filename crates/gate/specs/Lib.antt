@@ -1,0 +1,10 @@
+pub mod Marks
+pub mod Logs
+pub mod Views
+pub mod Rules
+pub mod Seats
+pub mod Naming
+pub mod Calls
+pub mod Laws
+pub mod Opening
+pub mod Finishing

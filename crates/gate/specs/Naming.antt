@@ -1,0 +1,7 @@
+-- Names of gates.
+use Rattle.std.specs.Prelude.{[]}
+use Rattle.atomic_table.specs.Seated.{TableId}
+
+-- for what a name stands where nobody picked a gate: no table is this one
+abbrev pub no_gate : TableId
+no_gate = record { words = 0; slots = 0; views_name = 0; atom = 0; block = 0; offset = 0; slot_names = [] }

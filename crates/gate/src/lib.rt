@@ -1,0 +1,25 @@
+//! An object that threads share: a gate lets in one of its seats at a time, for one call, and a log that
+//! clauses alone see tells of all calls in their order.
+#![tactic(auto)]
+
+mod boards;
+mod calling;
+mod finishing;
+mod gates;
+mod holding;
+mod laws;
+mod marks;
+mod naming;
+mod objects;
+mod opening;
+mod rules;
+mod seats;
+
+pub use gates::Gate;
+pub use laws::{
+    a_call_is_one_entry, calls_keep_a_log_legal, others_leave_own_calls, seats_make_the_log,
+    told_calls_stand_before,
+};
+pub use naming::{Name, NamedGate, NamedSeat};
+pub use objects::{Entry, Object};
+pub use seats::{HoldsSeat, Seat};

@@ -1,0 +1,15 @@
+//! Tests of the gate: what no clause of it says.
+#![tactic(auto)]
+
+#[cfg(test)]
+mod counters;
+#[cfg(test)]
+mod endings;
+#[cfg(test)]
+mod numbers;
+#[cfg(test)]
+mod pools;
+#[cfg(test)]
+mod threads;
+#[cfg(test)]
+mod wanting;
