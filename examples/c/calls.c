@@ -21,11 +21,22 @@ static void lists(uint16_t handle, size_t room) {
     } while (room != 0 && count == room);
 }
 
+/* Nothing that is pointed to changes where no map is held. */
+static void lists_no_map(void) {
+    struct ctrie_cursor cursor = {5, true};
+    struct ctrie_pair pair = {6, 7};
+    uint64_t count = 99;
+    TELL("entries of no map", ctrie_entries(&map, 0, &cursor, &pair, 1, &count), count);
+    printf("  %llu %d\n", (unsigned long long)cursor.last, cursor.begun);
+    printf("  %llu: %llu\n", (unsigned long long)pair.key, (unsigned long long)pair.value);
+}
+
 int main(void) {
     uint64_t value = 99;
     uint32_t number = 99;
     uint16_t copy = 99, frozen = 99;
     TELL("get of no map", ctrie_get(&map, 0, 1, &value), value);
+    lists_no_map();
     TELL("new of 1 slot", ctrie_new(&map, 1, CTRIE_LOW), 0);
     TELL("new of no hash", ctrie_new(&map, 64, 4), 0);
     TELL("new", ctrie_new(&map, 64, CTRIE_WIDE), 0);

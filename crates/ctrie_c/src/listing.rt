@@ -51,6 +51,7 @@ pub extern "C" fn ctrie_entries(
 ) -> u32
     ensures does { Does held.old.state held.new.state result (Lists cursor.old pairs.old cursor.new pairs.new handle (number_told result count.new)) }
     ensures kept { nat_eq result 0 ≡ false → count.new ≡ count.old }
+    ensures stays { nat_eq result 0 ≡ false → (cursor.new ≡ cursor.old) × (pairs.new ≡ pairs.old) }
     ensures not_yes { nat_eq result 1 ≡ false }
 {
     match take(alloc, held) {
