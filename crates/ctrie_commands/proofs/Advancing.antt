@@ -8,15 +8,17 @@ use Rattle.history.specs.declared.calls.Call.{Call}
 use Rattle.history.specs.declared.calls.Call.TheVariants.{Get}
 use Rattle.ctrie_base.specs.declared.refusals.Refusal.{Refusal}
 use Rattle.ctrie_base.specs.declared.refusals.Refusal.TheVariants.{Spent}
-use Rattle.ctrie_commands.specs.Beneath.step_machine.specs.Machines.{Taken}
+use Rattle.ctrie_commands.specs.Beneath.step_machine.specs.Machines.{Taken, state_of}
 use Rattle.lock_runner.specs.declared.accounts.Answer.{Answer}
+use Rattle.lock_runner.specs.ActorHistory.Answers.{AreAnswersOf}
 use Rattle.lock_runner.specs.Boards.{GoesOn}
 use Rattle.lock_runner.specs.Stepping.{HasGoneOn}
 use Rattle.lock_runner.proofs.Boards.{goes_on_same}
 use Rattle.script_text.specs.declared.thread_lines.ThreadLine.{ThreadLine}
 use Rattle.script_text.specs.declared.thread_lines.ThreadLine.TheVariants.{Do, Sweep}
 use Rattle.ctrie_commands.specs.declared.working.Worker.{Worker}
-use Rattle.ctrie_commands.specs.Working.{calls_in, calls_of, OnTheWay, Denies, Performed, None, Answered, Denied, answered_calls, HasPerformed, HasPerformedLine, HasPerformedAll, HasEnded}
+use Rattle.ctrie_commands.specs.Working.{calls_in, calls_of, OnTheWay, Denies, DeniesBehind, HasAnswered, Performed, None, Answered, Denied, answered_calls}
+use Rattle.ctrie_commands.specs.Working.{HasPerformed, HasPerformedLine, HasPerformedAll, HasEnded}
 use Rattle.ctrie_commands.proofs.Later.{on_the_way_later}
 
 calls_more : (actor : ℕ) (lines : List ThreadLine) (i : ℕ) (d : ThreadLine) → i < length lines →
@@ -32,7 +34,8 @@ performed_later actor seen board calls told denied limits on None = None
 performed_later actor seen board calls told denied limits on (Answered before earlier refused call so) =
     Answered before earlier refused call (performed_later actor seen board before earlier refused limits on so)
 performed_later actor seen board calls told denied limits on (Denied before earlier refused call refusal so was) =
-    Denied before earlier refused call refusal (performed_later actor seen board before earlier refused limits on so) (on_the_way_later (Denies actor call refusal) seen board limits on was)
+    Denied before earlier refused call refusal (performed_later actor seen board before earlier refused limits on so)
+    (on_the_way_later (DeniesBehind actor earlier call refusal) seen board limits on was)
 
 module _ (actor : ℕ) (before after : Worker) (gone : HasGoneOn before.seat after.seat) (owns : after.seat.actor ≡ actor) where
   abbrev So : List Call → Worker → Type 0
@@ -46,9 +49,11 @@ module _ (actor : ℕ) (before after : Worker) (gone : HasGoneOn before.seat aft
       let answers : answered_calls after.seat.answers ≡ answered_calls before.seat.answers ++ call ∷ [] =
       ap answered_calls last ∙ map-append (λ (a : Answer). a.call) before.seat.answers (answer ∷ []) ∙ ap (λ c. answered_calls before.seat.answers ++ c ∷ []) is in
       rw (answers, same) (Answered calls (answered_calls before.seat.answers) before.denied.items call (later calls so_far))
-  one_more calls call so_far (inr (same, refusal, last, denies, left)) =
-      let why : OnTheWay (Denies actor call refusal) after.seat.seen =
-      (after.seat.seen, refl, goes_on_same after.seat.seen.steps, subst (λ a. Denies a call refusal after.seat.seen) owns denies) in
+  one_more calls call so_far (inr (same, refusal, last, denies, all, left)) =
+      let answered : HasAnswered actor (answered_calls before.seat.answers) after.seat.seen =
+      (after.seat.answers, subst (λ a. AreAnswersOf a (state_of after.seat.seen).events after.seat.answers) owns all, ap answered_calls same) in
+      let why : OnTheWay (DeniesBehind actor (answered_calls before.seat.answers) call refusal) after.seat.seen =
+      (after.seat.seen, refl, goes_on_same after.seat.seen.steps, (subst (λ a. Denies a call refusal after.seat.seen) owns denies, answered)) in
       rw (last, same) (Denied calls (answered_calls before.seat.answers) before.denied.items call refusal (later calls so_far) why)
 
   none_more : (calls : List Call) → So calls before → HasPerformedLine [] before after → So (calls ++ []) after
@@ -78,10 +83,10 @@ pub ended_more : (before after : Worker) (named : List Call) → HasPerformedLin
 ended_more before after [] same (inl idle) = inl (same.2 ∙ idle)
 ended_more before after [] same (inr told) = inr (subst (λ xs. Contains xs Spent) (sym same.1) told)
 ended_more before after (call ∷ more) (inl done) so_far = inl done.4
-ended_more before after (call ∷ more) (inr (same, refusal, last, denies, inr spent)) so_far =
+ended_more before after (call ∷ more) (inr (same, refusal, last, denies, all, inr spent)) so_far =
     inr (subst (λ xs. Contains xs Spent) (sym last) (subst (λ r. Contains (before.denied.items ++ r ∷ []) Spent) (sym spent) (Contains-push before.denied.items Spent)))
-ended_more before after (call ∷ more) (inr (same, refusal, last, denies, inl left)) (inl idle) = inl (left ∙ idle)
-ended_more before after (call ∷ more) (inr (same, refusal, last, denies, inl left)) (inr told) =
+ended_more before after (call ∷ more) (inr (same, refusal, last, denies, all, inl left)) (inl idle) = inl (left ∙ idle)
+ended_more before after (call ∷ more) (inr (same, refusal, last, denies, all, inl left)) (inr told) =
     inr (subst (λ xs. Contains xs Spent) (sym last) (Contains-append_left before.denied.items (refusal ∷ []) Spent told))
 
 pub performed_none : (actor : ℕ) (worker : Worker) → worker.seat.answers ≡ [] → worker.denied.items ≡ [] → HasPerformedAll actor [] worker

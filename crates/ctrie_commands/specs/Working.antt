@@ -10,6 +10,7 @@ use Rattle.machine_model.specs.declared.steps.Step.TheVariants as step
 use Rattle.machine_model.specs.Machine.{next}
 use Rattle.ctrie_commands.specs.Beneath.step_machine.specs.Machines.{Taken, state_of}
 use Rattle.lock_runner.specs.declared.accounts.Answer.{Answer}
+use Rattle.lock_runner.specs.ActorHistory.Answers.{AreAnswersOf}
 use Rattle.lock_runner.specs.Boards.{GoesOn}
 use Rattle.lock_runner.specs.Seats.{Seated, IsIdle}
 use Rattle.script_text.specs.declared.thread_lines.ThreadLine.{ThreadLine}
@@ -46,6 +47,10 @@ sweep_lines lines = count_by names_sweep lines
 
 -- ---- what came of them
 
+-- the calls that were answered
+abbrev pub answered_calls : List Answer → List Call
+answered_calls answers = map (λ answer. answer.call) answers
+
 -- on the way to this board one was so
 abbrev pub OnTheWay : (Taken → Type 0) → Taken → Type 0
 OnTheWay IsSo board = (seen : Taken) × (board.limits ≡ seen.limits) × GoesOn seen.steps board.steps × IsSo seen
@@ -55,22 +60,26 @@ abbrev pub Denies : ℕ → Call → Refusal → Taken → Type 0
 Denies actor call refusal board =
     (next (state_of board) (step.Begin actor call) ≡ Err refusal) ⊎ ((next (state_of board) (step.Go actor) ≡ Err Spent) × (refusal ≡ Spent))
 
+-- just these calls of the actor have been answered
+abbrev pub HasAnswered : ℕ → List Call → Taken → Type 0
+HasAnswered actor calls board = (answers : List Answer) × AreAnswersOf actor (state_of board).events answers × (answered_calls answers ≡ calls)
+
+-- it denies the call where just these calls of the actor have been answered
+abbrev pub DeniesBehind : ℕ → List Call → Call → Refusal → Taken → Type 0
+DeniesBehind actor answered call refusal board = Denies actor call refusal board × HasAnswered actor answered board
+
 -- the definition denies a step of the sweep
 abbrev pub DeniesSweep : Refusal → Taken → Type 0
 DeniesSweep refusal board = next (state_of board) step.Sweep ≡ Err refusal
 
 -- The actor's calls were performed on the way to this board, one after the other: these of them were answered, and the others were denied, for these
--- reasons.
+-- reasons, each where just the calls before it that were answered had been.
 pub data Performed (actor : ℕ) (board : Taken) : List Call → List Call → List Refusal → Type 0 where
   None : Performed actor board [] [] []
   Answered : (calls answered : List Call) (denied : List Refusal) (call : Call) → Performed actor board calls answered denied →
       Performed actor board (calls ++ call ∷ []) (answered ++ call ∷ []) denied
   Denied : (calls answered : List Call) (denied : List Refusal) (call : Call) (refusal : Refusal) → Performed actor board calls answered denied →
-      OnTheWay (Denies actor call refusal) board → Performed actor board (calls ++ call ∷ []) answered (denied ++ refusal ∷ [])
-
--- the calls that were answered
-abbrev pub answered_calls : List Answer → List Call
-answered_calls answers = map (λ answer. answer.call) answers
+      OnTheWay (DeniesBehind actor answered call refusal) board → Performed actor board (calls ++ call ∷ []) answered (denied ++ refusal ∷ [])
 
 -- ---- one thread
 
@@ -91,7 +100,8 @@ HasPerformed call before after =
     ((answer : Answer) × (after.seat.answers ≡ before.seat.answers ++ answer ∷ []) × (answer.call ≡ call) × (after.denied.items ≡ before.denied.items)
     × IsIdle after.seat)
     ⊎ ((after.seat.answers ≡ before.seat.answers) × (refusal : Refusal) × (after.denied.items ≡ before.denied.items ++ refusal ∷ [])
-    × Denies after.seat.actor call refusal after.seat.seen × LeavesNothing refusal before after)
+    × Denies after.seat.actor call refusal after.seat.seen × AreAnswersOf after.seat.actor (state_of after.seat.seen).events after.seat.answers
+    × LeavesNothing refusal before after)
 
 -- the call that a line names, if it names one, was performed
 abbrev pub HasPerformedLine : List Call → Worker → Worker → Type 0

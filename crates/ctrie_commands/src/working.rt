@@ -83,7 +83,10 @@ impl Worker {
     {
         match self.seat.perform(rt, runner, call, between).err() {
             None => Ok(()),
-            Some(Stop::Denied(refusal)) => Ok(self.denied.push(refusal)?),
+            Some(Stop::Denied(refusal)) => {
+                self.seat.answers_are_all();
+                Ok(self.denied.push(refusal)?)
+            }
             Some(Stop::Memory) => Err(AllocError),
             // It has heard of no events.
             Some(Stop::Ahead) => unreachable!(),

@@ -10,8 +10,10 @@ use Rattle.step_machine.specs.Machines.{Taken, state_of, with_step}
 use Rattle.step_machine.proofs.Sweeping.{nearer}
 use Rattle.lock_runner.specs.declared.accounts.Answer.{Answer}
 use Rattle.lock_runner.specs.declared.accounts.Running.{Running}
+use Rattle.lock_runner.specs.ActorHistory.Answers.{AreAnswersOf}
 use Rattle.lock_runner.specs.ActorHistory.Laws.{IsStepOf, IsMadeBy}
 use Rattle.lock_runner.proofs.ActorHistory.Steps.{others_leave_the_account, own_steps_make_the_account}
+use Rattle.lock_runner.proofs.ActorHistory.Told.{answers_are_those_of_the_history}
 use Rattle.lock_runner.specs.declared.gate.View.{View}
 use Rattle.lock_runner.specs.declared.seats.Stop.{Stop}
 use Rattle.lock_runner.specs.Boards.{account_in, sweeps_in, is_sweep}
@@ -20,6 +22,13 @@ use Rattle.lock_runner.specs.Seats.{seen_in, count_in, IsSeated}
 use Rattle.lock_runner.specs.Holds.{Held}
 use Rattle.lock_runner.proofs.Boards.{same_account, sweeps_push}
 use Rattle.lock_runner.proofs.Growing.{steps_grow, one_step}
+
+-- its answers are those of the history that it saw last
+pub seated_answers : (me : Me Taken View) (actor : ℕ) (answers : List Answer) (running : Option Running) (sweeps : ℕ) → IsSeated me actor answers running sweeps →
+    AreAnswersOf actor (state_of (seen_in me)).events answers
+seated_answers me actor answers running sweeps seated =
+    subst (AreAnswersOf actor (state_of (seen_in me)).events) (ap (λ a. a.answers) seated.told)
+    (answers_are_those_of_the_history (seen_in me).limits (seen_in me).steps actor)
 
 -- what the seat keeps, where the board tells this of its actor and so many steps of the sweep were counted
 module _ (me after : Me Taken View) (actor : ℕ) (answers : List Answer) (running : Option Running) (sweeps : ℕ) (seated : IsSeated me actor answers running sweeps)

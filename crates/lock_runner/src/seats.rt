@@ -1,5 +1,7 @@
 //! Seats: what each thread keeps of its own calls.
 ghost use Rattle.std.specs.Prelude.{◌≡◌, max};
+ghost use Rattle.step_machine.specs.Machines.{state_of};
+ghost use Rattle.lock_runner.specs.ActorHistory.Answers.{AreAnswersOf};
 ghost use Rattle.lock_runner.specs.declared.seats.Stop.TheVariants.{Memory};
 
 use crate::accounts::{Answer, Running};
@@ -58,6 +60,13 @@ impl Seat {
         ensures { result.now ≡ self.now.answers }
     {
         self.answers.as_slice()
+    }
+
+    /// A law: these are all that the machine's history told of the seat's actor when the seat saw it last.
+    pub fn answers_are_all(&self)
+        ensures { AreAnswersOf self.now.actor (state_of self.now.seen).events self.now.answers }
+    {
+        let _ = &self.pass;
     }
 
     /// How many steps of the sweep were taken with this seat.
