@@ -1,3 +1,1 @@
-mod Building
-pub mod Asked
 pub mod Telling

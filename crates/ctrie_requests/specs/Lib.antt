@@ -1,3 +1,2 @@
 pub mod Beneath
-pub mod Requests
 pub mod Outcomes

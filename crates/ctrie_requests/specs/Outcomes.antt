@@ -8,8 +8,8 @@ use Rattle.ctrie_requests.specs.Beneath.history_commands.specs.Explanations.{IsE
 use Rattle.ctrie_requests.specs.Beneath.history_commands.specs.Pictures.{IsPicture}
 use Rattle.ctrie_commands.specs.Scripts.{IsReport, HasScriptFault}
 use Rattle.ctrie_commands.specs.Threads.{IsThreadReport, HasThreadFault}
-use Rattle.ctrie_requests.specs.declared.arguments.Request.{Request}
-use Rattle.ctrie_requests.specs.declared.arguments.Request.TheVariants.{Check, Run, Threads, Explain, Draw}
+use Rattle.ctrie_words.specs.declared.arguments.Request.{Request}
+use Rattle.ctrie_words.specs.declared.arguments.Request.TheVariants.{Check, Run, Threads, Explain, Draw}
 use Rattle.ctrie_requests.specs.declared.outcomes.Outcome.{Outcome}
 use Rattle.ctrie_requests.specs.declared.outcomes.Outcome.TheVariants.{Done, Legal, NotLegal}
 
@@ -20,10 +20,15 @@ exit_status_of (Ok Legal) = 0
 exit_status_of (Ok NotLegal) = 3
 exit_status_of (Err fault) = status_of fault
 
--- how the judgement of a history comes out
-abbrev pub judged : Bool → Outcome
-judged true = Legal
-judged false = NotLegal
+-- how the judgement of a history comes out, and the carrying out of a script
+abbrev pub judged : Result Bool Fault → Result Outcome Fault
+judged (Ok true) = Ok Legal
+judged (Ok false) = Ok NotLegal
+judged (Err fault) = Err fault
+
+abbrev pub done : Result (Unit {0}) Fault → Result Outcome Fault
+done (Ok nothing) = Ok Done
+done (Err fault) = Err fault
 
 -- What is asked for comes out so with this text, and these bytes tell of it: its verdict, its report, what explains its verdict, or its picture.
 abbrev pub Tells : Request → List ℕ → Outcome → List ℕ → Type 0

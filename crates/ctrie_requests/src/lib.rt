@@ -1,7 +1,6 @@
-//! What the program `ctrie` is asked to do: its words, its files, and what comes of them.
+//! What the program `ctrie` is asked to do: what comes of it, and the exit status.
 #![tactic(auto)]
 
-mod arguments;
 mod outcomes;
 mod program;
 

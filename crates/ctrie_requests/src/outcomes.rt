@@ -1,16 +1,16 @@
-//! What comes of a request, and the exit status that tells of it.
+//! What comes of a request.
 
 ghost use Rattle.std.specs.Prelude.{◌≡◌, ◌≢◌, ◌<◌, ◌^◌, ℕ, Ok, Err, IfOk, OnOk, IfErr, IfSome};
 ghost use Rattle.std.specs.Io.KnownBytes.{Keeps, IsAtEnd};
 ghost use Rattle.counted_io.specs.Counts.{inner_of, failures};
 ghost use Rattle.ctrie_commands.specs.Legality.{AppendsJudged};
 ghost use Rattle.ctrie_requests.specs.Beneath.history_commands.specs.Written.{AppendsSuch, AppendsPartOf};
-ghost use Rattle.ctrie_requests.specs.Outcomes.{Tells, HasFault, judged, exit_status_of};
+ghost use Rattle.ctrie_requests.specs.Outcomes.{Tells, HasFault, judged, done};
 
-use crate::arguments::Request;
 use ctrie_commands::{
     Counted, Fault, Nothing, check_history, draw_history, explain_history, run_script, run_threads,
 };
+use ctrie_words::Request;
 use std::alloc::Global;
 use std::io::{Read, Write};
 use std::sync::Wait;
@@ -27,31 +27,28 @@ pub enum Outcome {
     NotLegal,
 }
 
-/// 0 for a script that was carried out and for a legal order, 3 for another order, else what the fault
-/// tells.
-pub fn exit_status(outcome: &Result<Outcome, Fault>) -> u8
-    ensures { result ≡ exit_status_of outcome.now }
+/// How the judgement of a history comes out.
+fn judged(legal: Result<bool, Fault>) -> Result<Outcome, Fault>
+    ensures { result ≡ judged legal }
 {
-    match outcome {
-        Ok(Outcome::Done | Outcome::Legal) => 0,
-        Ok(Outcome::NotLegal) => 3,
-        Err(fault) => fault.status(),
+    match legal {
+        Ok(true) => Ok(Outcome::Legal),
+        Ok(false) => Ok(Outcome::NotLegal),
+        Err(fault) => Err(fault),
     }
 }
 
-/// How the judgement of a history comes out.
-fn judged(legal: bool) -> Outcome
-    ensures { result ≡ judged legal }
+/// How the carrying out of a script comes out.
+fn done(carried_out: Result<(), Fault>) -> Result<Outcome, Fault>
+    ensures { result ≡ done carried_out }
 {
-    if legal {
-        Outcome::Legal
-    } else {
-        Outcome::NotLegal
+    match carried_out {
+        Ok(()) => Ok(Outcome::Done),
+        Err(fault) => Err(fault),
     }
 }
 
 /// Reads a text to its end, does with it what is asked for, and writes what tells of it.
-#[tactic(auto, using(crate::proofs::Telling::tellings))]
 pub fn carry_out<R: Threads + Wait + Sync, I: Read, W: Write>(
     rt: &R,
     alloc: Global,
@@ -85,16 +82,10 @@ pub fn carry_out<R: Threads + Wait + Sync, I: Read, W: Write>(
         (W.contents (inner_of output.old)) (W.contents (inner_of output.new))) }
 {
     match request {
-        Request::Check(_) => Ok(judged(check_history(alloc, input, output)?)),
-        Request::Run(_) => {
-            run_script(alloc, input, output)?;
-            Ok(Outcome::Done)
-        }
-        Request::Threads(_) => {
-            run_threads(rt, alloc, input, output, &Nothing)?;
-            Ok(Outcome::Done)
-        }
-        Request::Explain(_) => Ok(judged(explain_history(alloc, input, output)?)),
-        Request::Draw(_) => Ok(judged(draw_history(alloc, input, output)?)),
+        Request::Check(_) => judged(check_history(alloc, input, output)),
+        Request::Run(_) => done(run_script(alloc, input, output)),
+        Request::Threads(_) => done(run_threads(rt, alloc, input, output, &Nothing)),
+        Request::Explain(_) => judged(explain_history(alloc, input, output)),
+        Request::Draw(_) => judged(draw_history(alloc, input, output)),
     }
 }

@@ -3,10 +3,11 @@
 ghost use Rattle.std.specs.Prelude.{◌≡◌, ◌≢◌, ◌⊎◌, IfOk, IfErr};
 ghost use Rattle.std.specs.IoError.{error_kind};
 ghost use Rattle.counted_io.specs.Counts.{failures};
+ghost use Rattle.ctrie_requests.specs.Outcomes.{exit_status_of};
 
-use crate::arguments::request_of;
-use crate::outcomes::{Outcome, carry_out, exit_status};
+use crate::outcomes::{Outcome, carry_out};
 use ctrie_commands::{Counted, Fault};
+use ctrie_words::request_of;
 use std::fs::File;
 use std::io::ErrorKind;
 use std::rt::{Env, Files};
@@ -16,12 +17,25 @@ use std::{env, io};
 
 /// Carries out what the program's words ask for, on the file that they name and on standard output, and tells on
 /// standard error what stands in the way. Returns the exit status of what came out.
-pub fn answer<R: AllocGlobal + Env + Eprint + Files + Print + Threads + Wait + Sync>(rt: &R) -> u8 {
-    let outcome = run(rt);
-    if let Err(fault) = &outcome {
-        let _ = eprintln!(rt; "{fault}");
+pub fn answer<R: AllocGlobal + Env + Eprint + Files + Print + Threads + Wait + Sync>(rt: &R) -> u8
+    ensures { (outcome : _) × (result ≡ exit_status_of outcome) }
+{
+    told(rt, run(rt))
+}
+
+/// Tells a fault on standard error, and returns the exit status: 0 for a script that was carried out and for a legal order,
+/// 3 for another order, else what the fault tells.
+fn told<R: Eprint>(rt: &R, outcome: Result<Outcome, Fault>) -> u8
+    ensures { result ≡ exit_status_of outcome }
+{
+    match outcome {
+        Ok(Outcome::Done | Outcome::Legal) => 0,
+        Ok(Outcome::NotLegal) => 3,
+        Err(fault) => {
+            let _ = eprintln!(rt; "{fault}");
+            fault.status()
+        }
     }
-    exit_status(&outcome)
 }
 
 /// Carries out what the program's words ask for, on the file that they name and on standard output.
@@ -29,7 +43,9 @@ fn run<R: AllocGlobal + Env + Files + Print + Threads + Wait + Sync>(
     rt: &R,
 ) -> Result<Outcome, Fault> {
     let words = words_of(rt)?;
-    let request = request_of(rt.alloc(), words.as_slice())?;
+    let Some(request) = request_of(rt.alloc(), words.as_slice())? else {
+        return Err(Fault::Usage);
+    };
     let mut input = opened(rt, request.path())?;
     let mut output = Counted::new(io::writer(rt));
     carry_out(rt, rt.alloc(), request, &mut input, &mut output)

@@ -5,7 +5,7 @@ use Rattle.clap.specs.Simple.{app_of_fields, on_top}
 use Rattle.clap.specs.Words.{AddsSubcommand, App, Text, app_of, new_app, with_subcommand}
 use Rattle.clap.specs.declared.builder.command.Command.TheViews.{out-Command as fields_of}
 use Rattle.clap.specs.declared.builder.command.Command.{Command}
-use Rattle.ctrie_requests.specs.Requests.{has_globals, program, wants_file}
+use Rattle.ctrie_words.specs.Requests.{has_globals, program, wants_file}
 
 -- a subcommand that wants a file is added to the command
 pub added : {E : Type 0} (name : Text) (before sub : Command) (made : Result Command E) → app_of sub ≡ wants_file name → has_globals sub ≡ false

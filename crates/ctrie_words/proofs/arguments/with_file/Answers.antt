@@ -1,5 +1,5 @@
-use Rattle.ctrie_requests.proofs.Building.{added}
-use Rattle.ctrie_requests.proofs.arguments.with_file.Goals as goal
+use Rattle.ctrie_words.proofs.Building.{added}
+use Rattle.ctrie_words.proofs.arguments.with_file.Goals as goal
 
 pub returns : goal.returns
 returns c = added _ _ _ _ c.in_ok-wanted.ensures.app c.in_ok-wanted.ensures.local c.subcommand.ensures

@@ -2,11 +2,10 @@
 
 ghost use Rattle.std.specs.Prelude.{◌≡◌, map, false, IfOk};
 ghost use Rattle.clap.specs.Words.{app_of, kind_of, subcommand_rows_of, with_subcommand};
-ghost use Rattle.ctrie_requests.specs.Requests.{Answers, IsMatched, program, wants_file, has_globals, fault_for, path_of};
+ghost use Rattle.ctrie_words.specs.Requests.{Asks, IsMatched, program, wants_file, has_globals, nothing_for, path_of};
 
 use clap::error::ErrorKind;
 use clap::{Arg, ArgAction, ArgMatches};
-use ctrie_commands::Fault;
 use std::alloc::{AllocError, Global};
 use std::convert::AsStr;
 
@@ -41,12 +40,12 @@ impl<'a> Request<'a> {
 }
 
 /// Want of memory, or words that are no command or ask for help.
-fn fault_of(error: &clap::Error) -> Fault
-    ensures { result ≡ fault_for (kind_of error.now) }
+fn nothing_by<'a>(error: &clap::Error) -> Result<Option<Request<'a>>, AllocError>
+    ensures { result ≡ nothing_for (kind_of error.now) }
 {
     match error.kind() {
-        ErrorKind::OutOfMemory => Fault::Memory,
-        _ => Fault::Usage,
+        ErrorKind::OutOfMemory => Err(AllocError),
+        _ => Ok(None),
     }
 }
 
@@ -106,13 +105,16 @@ fn program<'a>(alloc: Global) -> Result<clap::Command<'a>, AllocError>
     with_file(alloc, command, "draw")
 }
 
-/// The request that the words make, of which the first is the program's name. It is refused by `Usage`
-/// where they make none, and by `Memory`.
-pub fn request_of<'a, S: AsStr>(alloc: Global, words: &'a [S]) -> Result<Request<'a>, Fault>
-    ensures { Answers (map S.text words.entry.now) result }
+/// The request that the words make, of which the first is the program's name; none where they make none, or ask for
+/// help.
+pub fn request_of<'a, S: AsStr>(
+    alloc: Global,
+    words: &'a [S],
+) -> Result<Option<Request<'a>>, AllocError>
+    ensures { IfOk result (Asks (map S.text words.entry.now)) }
 {
     match program(alloc)?.try_get_matches_from(words) {
-        Ok(matches) => matched(&matches).ok_or(Fault::Usage),
-        Err(error) => Err(fault_of(&error)),
+        Ok(matches) => Ok(matched(&matches)),
+        Err(error) => nothing_by(&error),
     }
 }

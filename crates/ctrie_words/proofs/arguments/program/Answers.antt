@@ -1,5 +1,5 @@
-use Rattle.ctrie_requests.proofs.Building.{program_built}
-use Rattle.ctrie_requests.proofs.arguments.program.Goals as goal
+use Rattle.ctrie_words.proofs.Building.{program_built}
+use Rattle.ctrie_words.proofs.arguments.program.Goals as goal
 
 pub returns : goal.returns
 returns c =

@@ -3,8 +3,8 @@ use Rattle.std.proofs.Common.{◌≡◌, ◌∙◌, None, true, codes, sym, rule
 use Rattle.std.specs.Str.{bytes_eq}
 use Rattle.clap.specs.Words.{found_of}
 use Rattle.clap.proofs.WalkLemmas.{first_value-rows}
-use Rattle.ctrie_requests.proofs.Asked.{rows-name, file_met, chosen_same}
-use Rattle.ctrie_requests.proofs.arguments.matched.Goals as goal
+use Rattle.ctrie_words.proofs.Asked.{rows-name, file_met, chosen_same}
+use Rattle.ctrie_words.proofs.arguments.matched.Goals as goal
 
 pub returns-in_err-path : goal.returns-in_err-path
 returns-in_err-path c =

@@ -1,9 +1,8 @@
 -- What the parser's answer says of what the words ask for.
 use Rattle.std.proofs.Common.{◌≡◌, ◌⊎◌, Bool, true, false, ◌&&◌, List, [], ◌∷◌, Option, Some, None, option_map, codes, length, if◌then◌else◌, refl, sym, ap, ◌∙◌, subst, inl, inr}
 use Rattle.std.proofs.Math.Dec.{eqb-suc-zero}
-use Rattle.std.specs.Prelude.{Box, Err}
+use Rattle.std.specs.Prelude.{Box, IfOk}
 use Rattle.std.specs.Box.{box_value}
-use Rattle.std.specs.Option.{ok_or}
 use Rattle.std.specs.Str.{bytes_eq}
 use Rattle.clap.specs.Kinds.{IsAmong, Kinds}
 use Rattle.clap.specs.Simple.{subcommand_rows}
@@ -14,10 +13,9 @@ use Rattle.clap.specs.declared.error.kind.ErrorKind.{ErrorKind}
 use Rattle.clap.specs.declared.error.kind.ErrorKind.TheVariants.{OutOfMemory}
 use Rattle.clap.specs.declared.parser.matches.SubCommand.{SubCommand}
 use Rattle.clap.specs.declared.parser.matches.ArgMatches.TheViews.{out-SubCommand}
-use Rattle.ctrie_requests.specs.declared.arguments.Request.{Request}
-use Rattle.ctrie_requests.specs.declared.arguments.Request.TheVariants.{Check, Run, Threads, Explain, Draw}
-use Rattle.ctrie_requests.specs.Beneath.history_commands.specs.declared.faults.Fault.TheVariants.{Usage}
-use Rattle.ctrie_requests.specs.Requests.{Answers, IsMatched, asked_file, fault_for, file_of, met, program, takes}
+use Rattle.ctrie_words.specs.declared.arguments.Request.{Request}
+use Rattle.ctrie_words.specs.declared.arguments.Request.TheVariants.{Check, Run, Threads, Explain, Draw}
+use Rattle.ctrie_words.specs.Requests.{Asks, IsMatched, asked_file, nothing_for, file_of, met, program, takes}
 
 -- the program's command is one whose parse is known
 pub program-is_simple_and_free : is_simple_and_free program ≡ true
@@ -63,7 +61,7 @@ met_by_rows app words rows same is = sym (subst (λ (a : App). rows ≡ subcomma
 
 -- a request that was found in the matches is what the words ask for
 pub answers_found : (words : List Text) (rows : Option (Text × List Row)) (found : Option Request) → takes words ≡ true → met words ≡ rows
-    → IsMatched rows found → Answers words (ok_or found Usage)
+    → IsMatched rows found → Asks words found
 answers_found words rows None taken is (check, run, threads, explain, draw) =
     (rw (taken, is) check, rw (taken, is) run, rw (taken, is) threads, rw (taken, is) explain, rw (taken, is) draw)
 answers_found words rows (Some (Check path)) taken is file = rw (taken, is) file
@@ -76,7 +74,7 @@ answers_found words rows (Some (Draw path)) taken is file = rw (taken, is) file
 asks_nothing : (name : Text) (words : List Text) → takes words ≡ false → asked_file name words ≡ None
 asks_nothing name words refused = rw refused refl
 
-answers_refused : (words : List Text) (k : ErrorKind) → takes words ≡ false → Answers words (Err (fault_for k))
+answers_refused : (words : List Text) (k : ErrorKind) → takes words ≡ false → IfOk (nothing_for k) (Asks words)
 answers_refused words OutOfMemory refused = tt
 answers_refused words other refused = (
   asks_nothing (codes "check") words refused,
@@ -92,7 +90,7 @@ refused_words words k (x ∷ xs) among taken = taken ∙ eqb-suc-zero (length xs
 
 -- a command that fails by a kind other than memory doesn't take the words
 pub answers_error : (app : App) (words : List Text) (k : ErrorKind) → app ≡ program → (k ≡ OutOfMemory) ⊎ IsAmong k (fault_of app words)
-    → Answers words (Err (fault_for k))
+    → IfOk (nothing_for k) (Asks words)
 unfolding takes
-answers_error app words k same (inl memory) = subst (λ (j : ErrorKind). Answers words (Err (fault_for j))) (sym memory) tt
+answers_error app words k same (inl memory) = subst (λ (j : ErrorKind). IfOk (nothing_for j) (Asks words)) (sym memory) tt
 answers_error app words k same (inr among) = answers_refused words k (refused_words words k (fault_of app words) among (ap (λ (a : App). is_empty (fault_of a words)) (sym same)))

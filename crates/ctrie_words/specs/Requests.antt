@@ -1,6 +1,7 @@
 -- What the program's words ask for.
-use Rattle.std.specs.Prelude.{◌≡◌, Bool, true, List, Option, Some, None, Result, Ok, Err, codes, if◌then◌else◌, option_and_then}
+use Rattle.std.specs.Prelude.{◌≡◌, Bool, true, List, Option, Some, None, Result, Ok, Err, codes, if◌then◌else◌, option_and_then, alloc_error}
 use Rattle.std.specs.Str.{bytes_eq}
+use Rattle.std.specs.declared.alloc.AllocError.{AllocError}
 use denote.Ref.{Bor}
 use Rattle.clap.specs.Simple.{on_top}
 use Rattle.clap.specs.Walk.{is_empty}
@@ -10,15 +11,13 @@ use Rattle.clap.specs.declared.builder.command.Command.{Command}
 use Rattle.clap.specs.declared.builder.command.Command.TheViews.{out-Command as fields_of}
 use Rattle.clap.specs.declared.error.kind.ErrorKind.{ErrorKind}
 use Rattle.clap.specs.declared.error.kind.ErrorKind.TheVariants as kind
-use Rattle.ctrie_requests.specs.declared.arguments.Request.{Request}
-use Rattle.ctrie_requests.specs.declared.arguments.Request.TheVariants.{Check, Run, Threads, Explain, Draw}
-use Rattle.ctrie_requests.specs.Beneath.history_commands.specs.declared.faults.Fault.{Fault}
-use Rattle.ctrie_requests.specs.Beneath.history_commands.specs.declared.faults.Fault.TheVariants.{Memory, Usage}
+use Rattle.ctrie_words.specs.declared.arguments.Request.{Request}
+use Rattle.ctrie_words.specs.declared.arguments.Request.TheVariants.{Check, Run, Threads, Explain, Draw}
 
--- the fault that tells of such an error
-abbrev pub fault_for : ErrorKind → Fault
-fault_for kind.OutOfMemory = Memory
-fault_for other = Usage
+-- what is told of words by such an error: that they ask for nothing, unless memory was wanting
+abbrev pub nothing_for : ErrorKind → Result (Option Request) AllocError
+nothing_for kind.OutOfMemory = Err alloc_error
+nothing_for other = Ok None
 
 -- the file that is asked for
 abbrev pub path_of : Request → Bor Text
@@ -74,16 +73,14 @@ abbrev pub HasNone : (Text → Option Text) → Type 0
 HasNone file =
     (file (codes "check") ≡ None) × (file (codes "run") ≡ None) × (file (codes "threads") ≡ None) × (file (codes "explain") ≡ None) × (file (codes "draw") ≡ None)
 
--- The request is what the words ask for, and a fault of usage comes only where they ask for nothing.
-abbrev pub Answers : List Text → Result Request Fault → Type 0
-Answers words (Ok (Check path)) = asked_file (codes "check") words ≡ Some path.now
-Answers words (Ok (Run path)) = asked_file (codes "run") words ≡ Some path.now
-Answers words (Ok (Threads path)) = asked_file (codes "threads") words ≡ Some path.now
-Answers words (Ok (Explain path)) = asked_file (codes "explain") words ≡ Some path.now
-Answers words (Ok (Draw path)) = asked_file (codes "draw") words ≡ Some path.now
-Answers words (Err Usage) = HasNone (λ name. asked_file name words)
-Answers words (Err Memory) = Unit {0}
-Answers words (Err fault) = ⊥
+-- the request is what the words ask for, or they ask for nothing
+abbrev pub Asks : List Text → Option Request → Type 0
+Asks words (Some (Check path)) = asked_file (codes "check") words ≡ Some path.now
+Asks words (Some (Run path)) = asked_file (codes "run") words ≡ Some path.now
+Asks words (Some (Threads path)) = asked_file (codes "threads") words ≡ Some path.now
+Asks words (Some (Explain path)) = asked_file (codes "explain") words ≡ Some path.now
+Asks words (Some (Draw path)) = asked_file (codes "draw") words ≡ Some path.now
+Asks words None = HasNone (λ name. asked_file name words)
 
 -- the request is what the subcommand that was met asks for
 abbrev pub IsMatched : Option (Text × List Row) → Option Request → Type 0

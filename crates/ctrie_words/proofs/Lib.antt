@@ -1,0 +1,2 @@
+mod Building
+pub mod Asked
