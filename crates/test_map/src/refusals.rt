@@ -83,3 +83,26 @@ fn refuses_handles_without_end(rt: HostRuntime) -> Result<(), Fail> {
     assert_eq!(rt; map.handles()?, 256);
     Ok(())
 }
+
+/// Each message has the words for its refusal alone.
+#[test]
+fn tells_refusals(rt: HostRuntime) -> Result<(), Fail> {
+    let rows = [
+        (MapError::NoHandle, "isn't open"),
+        (MapError::ReadOnly, "read-only"),
+        (MapError::HandlesFull, "256 handles"),
+        (MapError::Crowded, "this hash"),
+        (MapError::Full, "free"),
+        (MapError::BadSizes, "out of range"),
+        (MapError::WornOut, "worn out"),
+        (MapError::Memory, "no memory"),
+        (MapError::Unfinished, "unfinished"),
+    ];
+    for (told, _) in &rows {
+        let message = told.to_string(rt.alloc())?;
+        for (refusal, words) in &rows {
+            assert_eq!(rt; message.contains(*words), told == refusal, "{message}");
+        }
+    }
+    Ok(())
+}

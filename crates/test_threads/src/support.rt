@@ -5,9 +5,10 @@ ghost use Rattle.lock_runner.specs.Seats.{IsSeatOf};
 
 use ctrie_base::{HashKind, Refusal};
 use history::{Call, Reply};
-use lock_runner::{Nothing, Runner, Seat};
+use lock_runner::{Between, Nothing, Runner, Seat};
 use machine_model::Limits;
 use std::alloc::Global;
+use std::cell::Cell;
 use std::process::Abort;
 use std::sync::Wait;
 
@@ -59,4 +60,40 @@ pub(crate) fn two_seats(alloc: Global) -> Result<(Runner, Seat, Seat), Refusal>
         return Err(Refusal::BadLimits);
     };
     Ok((runner, one, two))
+}
+
+/// Counts how often it is called, and notes whether it is told so, by this seat.
+#[derive(Drop)]
+pub(crate) struct Counting {
+    seat: u8,
+    calls: Cell<u64>,
+    is_told: Cell<bool>,
+}
+
+impl Counting {
+    pub(crate) fn new(seat: u8) -> Counting {
+        Counting {
+            seat,
+            calls: Cell::new(0),
+            is_told: Cell::new(true),
+        }
+    }
+
+    pub(crate) fn calls(&self) -> u64 {
+        self.calls.get()
+    }
+
+    pub(crate) fn is_told(&self) -> bool {
+        self.is_told.get()
+    }
+}
+
+impl Between for Counting {
+    fn between(&self, seat: u8, taken: u64) {
+        let calls = self.calls.get().saturating_add(1);
+        self.calls.set(calls);
+        if (seat, taken) != (self.seat, calls) {
+            self.is_told.set(false);
+        }
+    }
 }

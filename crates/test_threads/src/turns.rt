@@ -2,9 +2,8 @@
 
 ghost use Rattle.lock_runner.specs.Seats.{IsSeatOf};
 
-use crate::support::{get, is_found, perform, put, two_seats};
-use lock_runner::{Answer, Between, Nothing, Runner, Seat, Stop};
-use std::cell::Cell;
+use crate::support::{Counting, get, is_found, perform, put, two_seats};
+use lock_runner::{Answer, Nothing, Runner, Seat, Stop};
 use std::process::Abort;
 use std::sync::Wait;
 use std::test::Fail;
@@ -52,31 +51,11 @@ fn other_seat_reads_back(rt: HostRuntime) -> Result<(), Fail> {
     Ok(())
 }
 
-/// Counts how often it is called, and notes whether it is told so.
-#[derive(Drop)]
-struct Counting {
-    calls: Cell<u64>,
-    is_told: Cell<bool>,
-}
-
-impl Between for Counting {
-    fn between(&self, seat: u8, taken: u64) {
-        let calls = self.calls.get().saturating_add(1);
-        self.calls.set(calls);
-        if (seat, taken) != (2, calls) {
-            self.is_told.set(false);
-        }
-    }
-}
-
 /// After each step of a call but its last it is told how many were taken.
 #[test]
 fn between_counts_the_steps(rt: HostRuntime) -> Result<(), Fail> {
     let (runner, one, mut two) = two_seats(rt.alloc())?;
-    let counting = Counting {
-        calls: Cell::new(0),
-        is_told: Cell::new(true),
-    };
+    let counting = Counting::new(2);
     assert!(rt; two.perform(&rt, &runner, put(5, 50), &counting).is_ok());
     let mut seats = Vec::with_capacity(rt.alloc(), 2)?;
     seats.push(one)?;
@@ -84,9 +63,9 @@ fn between_counts_the_steps(rt: HostRuntime) -> Result<(), Fail> {
     let Ok(record) = runner.finish(seats) else {
         panic!(rt; "all seats are there")
     };
-    assert!(rt; counting.is_told.get());
+    assert!(rt; counting.is_told());
     assert_eq!(rt;
-        counting.calls.get().saturating_add(1),
+        counting.calls().saturating_add(1),
         record.steps.len() as u64
     );
     Ok(())

@@ -5,10 +5,10 @@ ghost use Rattle.std.specs.Prelude.{IfOk};
 ghost use Rattle.lock_runner.specs.Seats.{IsSeatOf};
 
 use crate::records::is_right;
-use crate::support::{is_found, perform, put, two_seats};
-use lock_runner::{Between, Nothing, Runner, Seat, Stop, Unfinished};
+use crate::support::{Counting, is_found, perform, put, two_seats};
+use lock_runner::{Between, Runner, Seat, Step, Stop, Unfinished};
 use std::alloc::{AllocError, Global};
-use std::cell::RefCell;
+use std::cell::{Cell, RefCell};
 use std::test::Fail;
 
 /// How many pieces are taken at most.
@@ -46,10 +46,13 @@ fn take_pieces(alloc: Global, pieces: &mut Vec<Vec<u8>>, size: usize) {
 struct Starving {
     alloc: Global,
     pieces: RefCell<Vec<Vec<u8>>>,
+    /// How many steps it was told of last.
+    taken: Cell<u64>,
 }
 
 impl Between for Starving {
     fn between(&self, _seat: u8, taken: u64) {
+        self.taken.set(taken);
         if taken == 1 {
             if let Ok(mut pieces) = self.pieces.try_borrow_mut() {
                 take_all(self.alloc, &mut pieces);
@@ -58,7 +61,21 @@ impl Between for Starving {
     }
 }
 
-/// A call that found no memory in its middle runs on, and is answered once there is some.
+/// How many steps the operation took that the actor began last.
+fn steps_of_last(steps: &[Step], actor: u8) -> u64 {
+    let mut taken = 0u64;
+    for step in steps {
+        match step {
+            Step::Begin { actor: owner, .. } if *owner == actor => taken = 1,
+            Step::Go { actor: owner } if *owner == actor => taken = taken.saturating_add(1),
+            _ => {}
+        }
+    }
+    taken
+}
+
+/// A call that found no memory in its middle runs on, and is answered once there is some. After each of its further steps
+/// but its last it is told how many of them were taken.
 #[test]
 fn goes_on_once_there_is_memory(rt: HostRuntime) -> Result<(), Fail> {
     let (runner, mut one, mut two) = two_seats(rt.alloc())?;
@@ -66,17 +83,28 @@ fn goes_on_once_there_is_memory(rt: HostRuntime) -> Result<(), Fail> {
     let starving = Starving {
         alloc: rt.alloc(),
         pieces: RefCell::new(no_pieces(rt.alloc())?),
+        taken: Cell::new(0),
     };
     let stop = one.perform(&rt, &runner, put(1, 20), &starving).err();
+    let before = starving.taken.get();
     drop(starving);
     assert!(rt; stop == Some(Stop::Memory));
     assert_eq!(rt; one.answers().len(), 1);
     perform(&rt, &runner, &mut two, put(2, 30));
-    let is_right_reply = match one.resume(&rt, &runner, &Nothing) {
+    let counting = Counting::new(1);
+    let is_right_reply = match one.resume(&rt, &runner, &counting) {
         Ok(reply) => is_found(reply, Some(10)),
         Err(_) => false,
     };
-    assert!(rt; is_right_reply);
+    assert!(rt; is_right_reply && counting.is_told());
+    let mut seats = Vec::with_capacity(rt.alloc(), 2)?;
+    seats.push(one)?;
+    seats.push(two)?;
+    let Ok(record) = runner.finish(seats) else {
+        panic!(rt; "all seats are there")
+    };
+    let all = before.saturating_add(counting.calls()).saturating_add(1);
+    assert_eq!(rt; steps_of_last(record.steps.as_slice(), 1), all);
     Ok(())
 }
 

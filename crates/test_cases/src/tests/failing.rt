@@ -8,20 +8,22 @@ use std::io::{ErrorKind, Read, Write};
 use std::sync::Wait;
 use std::thread::Threads;
 
-/// A reader that gives one byte a call, and fails at one call; at none for 0.
+/// A reader that gives one byte a call, and fails so at one call; at none for 0.
 #[derive(Drop)]
 struct Source<'a> {
     rest: &'a [u8],
     calls: u64,
     fails_at: u64,
+    kind: ErrorKind,
 }
 
 impl<'a> Source<'a> {
-    fn new(text: &'a str, fails_at: u64) -> Source<'a> {
+    fn new(text: &'a str, fails_at: u64, kind: ErrorKind) -> Source<'a> {
         Source {
             rest: text.as_bytes(),
             calls: 0,
             fails_at,
+            kind,
         }
     }
 }
@@ -30,7 +32,7 @@ impl Read for Source<'_> {
     fn read(&mut self, buf: &mut [u8]) -> io::Result<usize> {
         self.calls = self.calls.saturating_add(1);
         if self.calls == self.fails_at {
-            return Err(io::Error::from(ErrorKind::Other));
+            return Err(io::Error::from(self.kind));
         }
         let room = buf.len().min(1);
         let rest = &mut self.rest;
@@ -148,25 +150,28 @@ fn carried_out<R: AllocGlobal + Threads + Wait + Sync>(
 fn moves_one_byte_a_call(rt: HostRuntime) {
     for case in CASES {
         let mut sink = Sink::new(Vec::new(rt.alloc()), 0);
-        let found = carried_out(&rt, case, Source::new(case.text, 0), &mut sink);
+        let source = Source::new(case.text, 0, ErrorKind::Other);
+        let found = carried_out(&rt, case, source, &mut sink);
         assert!(rt; found == (Ok(()), 0, 0), "{:?}", case.command);
         assert!(rt; sink.taken.as_slice() == case.written.as_bytes());
     }
 }
 
-/// Each read fails in turn, the last at the end: nothing is written.
+/// Each read fails in turn, the last at the end: nothing is written. One that was interrupted is made again, and all is.
 #[test]
 fn tells_each_failed_read(rt: HostRuntime) {
     for case in CASES {
-        for call in 1..=case.text.len() as u64 + 1 {
-            let mut sink = Sink::new(Vec::new(rt.alloc()), 0);
-            let found = carried_out(&rt, case, Source::new(case.text, call), &mut sink);
-            assert!(rt;
-                found == (Err(Fault::Read), 1, 0),
-                "{:?} {call}",
-                case.command
-            );
-            assert!(rt; sink.taken.is_empty());
+        for (kind, result, written) in [
+            (ErrorKind::Other, Err(Fault::Read), ""),
+            (ErrorKind::Interrupted, Ok(()), case.written),
+        ] {
+            for call in 1..=case.text.len() as u64 + 1 {
+                let mut sink = Sink::new(Vec::new(rt.alloc()), 0);
+                let source = Source::new(case.text, call, kind);
+                let found = carried_out(&rt, case, source, &mut sink);
+                assert!(rt; found == (result, 1, 0), "{:?} {call}", case.command);
+                assert!(rt; sink.taken.as_slice() == written.as_bytes());
+            }
         }
     }
 }
@@ -177,7 +182,8 @@ fn tells_each_failed_write(rt: HostRuntime) {
     for case in CASES {
         for call in 1..=case.written.len() as u64 + 1 {
             let mut sink = Sink::new(Vec::new(rt.alloc()), call);
-            let found = carried_out(&rt, case, Source::new(case.text, 0), &mut sink);
+            let source = Source::new(case.text, 0, ErrorKind::Other);
+            let found = carried_out(&rt, case, source, &mut sink);
             assert!(rt;
                 found == (Err(Fault::Write), 0, 1),
                 "{:?} {call}",
