@@ -1,6 +1,6 @@
 -- Facts that hold along every run.
 use Rattle.std.proofs.Common.{◌≡◌, List, [], ◌∷◌, ◌++◌, Ok, Err, refl, sym, subst, append_assoc, append-nil, ◌∙◌}
-use Rattle.machine_model.specs.declared.steps.Limits.{Limits}
+use Rattle.machine_model.specs.declared.steps.Bounds.{Bounds}
 use Rattle.machine_model.specs.declared.steps.Outcome.{Outcome}
 use Rattle.machine_model.specs.declared.steps.Step.{Step}
 use Rattle.machine_model.specs.States.{State, first_state}
@@ -42,7 +42,7 @@ kept_by_moves P state s h each = if_taken P state s h each (next state s) (moves
 
 -- What holds at first, and is kept by each move from a state that a run leads to, holds after every run. The steps of that run are given, so that what
 -- was shown of all runs before can be used.
-pub along : (limits : Limits) (P : State → Type 0) → P (first_state limits) →
+pub along : (limits : Bounds) (P : State → Type 0) → P (first_state limits) →
     ((steps : List Step) (s : Step) (o : Outcome) (after : State) → Moves (run limits steps) s o after → P (run limits steps) → P after) →
     (steps : List Step) → P (run limits steps)
 unfolding run_from
@@ -51,6 +51,6 @@ along limits P first keeps steps =
     (λ xs s h. subst P (sym (run_push (first_state limits) xs s)) (kept_by_moves P (run limits xs) s h (λ o after m. keeps xs s o after m h))) steps
 
 -- a machine keeps its limits
-pub limits_along : (limits : Limits) (steps : List Step) → (run limits steps).limits ≡ limits
+pub limits_along : (limits : Bounds) (steps : List Step) → (run limits steps).limits ≡ limits
 unfolding first_state
 limits_along limits = along limits (λ state. state.limits ≡ limits) refl (λ steps s o after m e. limits_kept (run limits steps) s o after m ∙ e)

@@ -3,7 +3,7 @@ use Rattle.std.proofs.Common.{◌≡◌, ℕ, zero, suc, Some, None, List, get_o
 use Rattle.std.proofs.lemmas.Option.{none-some}
 use Rattle.history.specs.declared.calls.Call.{Call}
 use Rattle.machine_model.specs.declared.operations.Operation.{Operation}
-use Rattle.machine_model.specs.declared.steps.Limits.{Limits}
+use Rattle.machine_model.specs.declared.steps.Bounds.{Bounds}
 use Rattle.machine_model.specs.declared.steps.Outcome.{Outcome}
 use Rattle.machine_model.specs.declared.steps.Step.{Step}
 use Rattle.machine_model.specs.States.{State, first_state, operation_of}
@@ -29,7 +29,7 @@ of_running P state all (suc k) operation e = all k operation e
 
 -- P holds of an operation that begins, of one that goes on after its step, and of any other still after a step. The steps so far are given, so that what
 -- was shown of all runs before can be used.
-module _ (limits : Limits) (P : State → Operation → Type 0)
+module _ (limits : Bounds) (P : State → Operation → Type 0)
     (begins : (steps : List Step) (actor : ℕ) (call : Call) → begin_denial (run limits steps) actor call ≡ None →
     let operation = begun_operation (run limits steps) call in
     P (settled (run limits steps) (with_begin (run limits steps) actor call operation)) operation)

@@ -1,8 +1,8 @@
 -- What no action touches.
-use Rattle.std.proofs.Common.{◌≡◌, ℕ, ◌+◌, refl, arith, []}
+use Rattle.std.proofs.Common.{◌≡◌, ℕ, ◌+◌, refl, arith}
 use Rattle.slot_arena.specs.declared.refs.Ref.{Ref}
 use Rattle.history.specs.declared.calls.Call.{Call}
-use Rattle.std.specs.Prelude.{Option, ◌++◌, ◌∷◌}
+use Rattle.std.specs.Prelude.{Option}
 use Rattle.machine_model.specs.declared.actions.Action.{Action}
 use Rattle.machine_model.specs.declared.actions.Action.TheVariants as act
 use Rattle.machine_model.specs.declared.operations.Operation.{Operation}
@@ -15,7 +15,6 @@ use Rattle.machine_model.specs.Acting.{acted, aborted, offered, completed, new_r
 use Rattle.machine_model.specs.Machine.{with_begin, swept}
 use Rattle.machine_model.specs.Moves.{Begins, Goes, Ends, Sweeps}
 use Rattle.machine_model.specs.Moves.{Moves, begun_operation}
-use Rattle.history.specs.declared.events.Event.TheVariants.{Begin}
 
 -- what stays the same, whatever the action does
 pub record IsFramed (before after : State) : Type 0 where
@@ -23,13 +22,12 @@ pub record IsFramed (before after : State) : Type 0 where
   pub limbo : after.limbo ≡ before.limbo
   pub epoch : after.epoch ≡ before.epoch
   pub cursor : after.cursor ≡ before.cursor
-  pub commits : after.commits ≡ before.commits
-  pub events : after.events ≡ before.events
+  pub begun : after.begun ≡ before.begun
   pub steps : after.steps ≡ before.steps
 
 -- a state has its own frame
 framed : (state : State) → IsFramed state state
-framed state = record { limits = refl; limbo = refl; epoch = refl; cursor = refl; commits = refl; events = refl; steps = refl }
+framed state = record { limits = refl; limbo = refl; epoch = refl; cursor = refl; begun = refl; steps = refl }
 
 -- taking an offer back leaves the frame
 aborted_framed : (state : State) (handle : ℕ) (offer : Descriptor) → IsFramed state (aborted state handle offer)
@@ -53,7 +51,7 @@ acted_framed state handle (act.Abort offer) = aborted_framed state handle offer
 acted_framed state handle (act.Offer offer) = offered_framed state handle offer
 acted_framed state handle (act.Complete offer main) = completed_framed state handle offer main
 acted_framed state handle (act.MakeRoot main) = root_taken_framed state main _
-acted_framed state handle action = record { limits = refl; limbo = refl; epoch = refl; cursor = refl; commits = refl; events = refl; steps = refl }
+acted_framed state handle action = record { limits = refl; limbo = refl; epoch = refl; cursor = refl; begun = refl; steps = refl }
 
 -- a begin keeps the limits
 begin_limits : (state : State) (actor : ℕ) (call : Call) (operation : Operation) → (with_begin state actor call operation).limits ≡ state.limits
@@ -77,7 +75,6 @@ steps_counted state s o after (Goes d found a g) = refl
 steps_counted state s o after (Ends d found a) = refl
 steps_counted state s o after (Sweeps spent) = refl
 
--- a begin is told
-pub begin_events : (state : State) (actor : ℕ) (call : Call) (operation : Operation) →
-    (with_begin state actor call operation).events ≡ state.events ++ Begin operation.id actor call operation.opens ∷ []
-begin_events state actor call operation = grind arith
+-- a begin is counted
+pub begin_counted : (state : State) (actor : ℕ) (call : Call) (operation : Operation) → (with_begin state actor call operation).begun ≡ state.begun + 1
+begin_counted state actor call operation = refl

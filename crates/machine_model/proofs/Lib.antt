@@ -25,7 +25,11 @@ pub mod HeapMoves
 pub mod Rest
 pub mod InUse
 pub mod Slots
+pub mod Noted
 pub mod Times
+pub mod Recorded
+pub mod Notes
+pub mod Alike
 pub mod Grown
 pub mod Numbered
 pub mod Basics

@@ -14,7 +14,7 @@ use Rattle.machine_model.specs.declared.roots.RootLine.TheVariants as root
 use Rattle.machine_model.specs.declared.finding.KeyLine.{KeyLine}
 use Rattle.machine_model.specs.declared.finding.KeyLine.TheVariants as key
 use Rattle.machine_model.specs.declared.walking.WalkLine.{WalkLine}
-use Rattle.machine_model.specs.declared.steps.Limits.{Limits}
+use Rattle.machine_model.specs.declared.steps.Bounds.{Bounds}
 use Rattle.machine_model.specs.declared.steps.Step.{Step}
 use Rattle.machine_model.specs.States.{State, operation_of}
 use Rattle.machine_model.specs.Calls.{needs_writable, inserts, when_found}
@@ -166,14 +166,14 @@ abbrev Reads : State → Operation → Type 0
 Reads state operation = ReadsIfReadOnly operation
 
 -- on a read-only handle each running operation is a reader
-pub each_reads : (limits : Limits) (steps : List Step) → OfEach Reads (run limits steps)
+pub each_reads : (limits : Bounds) (steps : List Step) → OfEach Reads (run limits steps)
 each_reads limits =
     of_each_along limits Reads (λ steps. begun_reads (run limits steps))
     (λ steps actor operation found g h. marked_reads _ (operation_after (run limits steps) operation) (gone_reads (run limits steps) operation h))
     (λ steps s o after m k other operation found h. marked_reads _ operation h)
 
 -- so no step of it makes a node
-pub makes_nothing : (limits : Limits) (steps : List Step) (actor : ℕ) (operation : Operation) → operation_of (run limits steps) actor ≡ Some operation →
+pub makes_nothing : (limits : Bounds) (steps : List Step) (actor : ℕ) (operation : Operation) → operation_of (run limits steps) actor ≡ Some operation →
     operation.access ≡ ReadOnly → kind_of (action_of (run limits steps) operation) ≡ kind.Make → ⊥
 makes_nothing limits steps actor operation found a =
     readers_make_nothing (run limits steps) operation operation.line (of_running Reads (run limits steps) (each_reads limits steps) actor operation found a).1

@@ -5,7 +5,7 @@ use Rattle.std.proofs.lemmas.Option.{none-some}
 use Rattle.history.specs.declared.replies.Reply.TheVariants as reply
 use Rattle.ctrie_base.specs.declared.refusals.Refusal.{Refusal}
 use Rattle.machine_model.specs.declared.operations.Operation.{Operation}
-use Rattle.machine_model.specs.declared.steps.Limits.{Limits}
+use Rattle.machine_model.specs.declared.steps.Bounds.{Bounds}
 use Rattle.machine_model.specs.declared.steps.Outcome.{Outcome}
 use Rattle.machine_model.specs.declared.steps.Outcome.TheVariants as outcome
 use Rattle.machine_model.specs.declared.steps.Step.{Step}
@@ -30,18 +30,18 @@ allowed_before : (state after : State) (actor : ℕ) (operation : Operation) →
 allowed_before state after actor operation l n e d = grind arith
 
 -- the step of the actor before the end of these steps found no free slot
-abbrev pub RefusedIn : Limits → List Step → ℕ → ℕ → Type 0
+abbrev pub RefusedIn : Bounds → List Step → ℕ → ℕ → Type 0
 RefusedIn limits steps actor id =
     (before between : List Step) × (steps ≡ before ++ step.Go actor ∷ between) × ¬ Contains between (step.Go actor) × FindsNoSlot (run limits before) actor id
 
 -- each operation that is about to end for want of slots was so refused, if nothing denies its end
-abbrev pub AllRefusedIn : Limits → List Step → State → Type 0
+abbrev pub AllRefusedIn : Bounds → List Step → State → Type 0
 AllRefusedIn limits steps state =
     (k : ℕ) (operation : Operation) → get_or state.actors k None ≡ Some operation → IsRefusal operation.line → go_denial state (suc k) ≡ None →
     RefusedIn limits steps (suc k) operation.id
 
 -- a step that isn't the actor's may follow
-refused_longer : (limits : Limits) (steps : List Step) (actor id : ℕ) (s : Step) → (s ≡ step.Go actor → ⊥) → RefusedIn limits steps actor id →
+refused_longer : (limits : Bounds) (steps : List Step) (actor id : ℕ) (s : Step) → (s ≡ step.Go actor → ⊥) → RefusedIn limits steps actor id →
     RefusedIn limits (steps ++ s ∷ []) actor id
 refused_longer limits steps actor id s other (before, between, e, without, finds) = (
   before,
@@ -56,7 +56,7 @@ none_contained : (s : Step) → ¬ Contains [] s
 none_contained s (k, inside, at_k) = omega arith
 
 -- what follows from the steps so far, for one more
-module _ (limits : Limits) (steps : List Step) (h : AllRefusedIn limits steps (run limits steps)) where
+module _ (limits : Bounds) (steps : List Step) (h : AllRefusedIn limits steps (run limits steps)) where
   -- another actor's step leaves the operation as it was
   after_other : (s : Step) (o : Outcome) (after : State) → Moves (run limits steps) s o after → (k : ℕ) → (IsOf (suc k) s → ⊥) →
       (operation : Operation) → get_or after.actors k None ≡ Some operation → IsRefusal operation.line → go_denial after (suc k) ≡ None →
@@ -86,7 +86,7 @@ own_step state k m before operation found g same r =
     (before, found, sym (ap (λ o. o.id) is), wants.0, wants.1)
 
 -- one more step that is taken
-after_move : (limits : Limits) (steps : List Step) → AllRefusedIn limits steps (run limits steps) → (s : Step) (o : Outcome) (after : State) →
+after_move : (limits : Bounds) (steps : List Step) → AllRefusedIn limits steps (run limits steps) → (s : Step) (o : Outcome) (after : State) →
     Moves (run limits steps) s o after → (k : ℕ) → Dec (IsOf (suc k) s) →
     (operation : Operation) → get_or after.actors k None ≡ Some operation → IsRefusal operation.line → go_denial after (suc k) ≡ None →
     RefusedIn limits (steps ++ s ∷ []) (suc k) operation.id
@@ -102,35 +102,35 @@ after_move limits steps h s o after (Ends {actor} d is a) k (yes own) operation 
 after_move limits steps h s o after (Sweeps spent) k (yes own) operation found r allowed = absurd own
 
 -- one more step, taken or denied
-after_answer : (limits : Limits) (steps : List Step) → AllRefusedIn limits steps (run limits steps) → (s : Step) (answer : Answer) →
+after_answer : (limits : Bounds) (steps : List Step) → AllRefusedIn limits steps (run limits steps) → (s : Step) (answer : Answer) →
     next (run limits steps) s ≡ answer → MovesIfTaken (run limits steps) s answer → AllRefusedIn limits (steps ++ s ∷ []) (state_after (run limits steps) answer)
 after_answer limits steps h s (Ok done) e m = λ k. after_move limits steps h s done.0 done.1 m k (is_of (suc k) s)
 after_answer limits steps h s (Err why) e m = after_denied limits steps h s why e
 
 -- one more step
-one_more : (limits : Limits) (steps : List Step) (s : Step) → AllRefusedIn limits steps (run limits steps) →
+one_more : (limits : Bounds) (steps : List Step) (s : Step) → AllRefusedIn limits steps (run limits steps) →
     AllRefusedIn limits (steps ++ s ∷ []) (run limits (steps ++ s ∷ []))
 one_more limits steps s h =
     subst (λ state. AllRefusedIn limits (steps ++ s ∷ []) state) (sym (run_push (first_state limits) steps s))
     (after_answer limits steps h s (next (run limits steps) s) refl (moves (run limits steps) s))
 
 -- at first no operation is about to end
-none_at_first : (limits : Limits) → AllRefusedIn limits [] (run limits [])
+none_at_first : (limits : Bounds) → AllRefusedIn limits [] (run limits [])
 unfolding first_state run_from
 none_at_first limits k operation found r allowed = absurd (none_found limits.actors k operation found)
 
 -- after every run
-pub all_refused_in : (limits : Limits) (steps : List Step) → AllRefusedIn limits steps (run limits steps)
+pub all_refused_in : (limits : Bounds) (steps : List Step) → AllRefusedIn limits steps (run limits steps)
 all_refused_in limits steps = by_last (λ l. AllRefusedIn limits l (run limits l)) (none_at_first limits) (one_more limits) steps
 
 -- for the actor whose operation ends
-pub refused_in : (limits : Limits) (steps : List Step) (actor : ℕ) (operation : Operation) → operation_of (run limits steps) actor ≡ Some operation →
+pub refused_in : (limits : Bounds) (steps : List Step) (actor : ℕ) (operation : Operation) → operation_of (run limits steps) actor ≡ Some operation →
     IsRefusal operation.line → go_denial (run limits steps) actor ≡ None → RefusedIn limits steps actor operation.id
 refused_in limits steps zero operation found r allowed = absurd (none-some operation found)
 refused_in limits steps (suc k) operation found r allowed = all_refused_in limits steps k operation found r allowed
 
 -- for an end for want of slots
-pub refused_alone : (limits : Limits) (steps : List Step) (actor id : ℕ) (after : State) →
+pub refused_alone : (limits : Bounds) (steps : List Step) (actor id : ℕ) (after : State) →
     next (run limits steps) (step.Go actor) ≡ Ok (outcome.Ended id reply.NoSlots, after) → RefusedIn limits steps actor id
 refused_alone limits steps actor id after e =
     let (operation, found, is, ends, allowed) = ending (run limits steps) actor id reply.NoSlots after (moved (run limits steps) (step.Go actor) _ after e) in

@@ -11,13 +11,13 @@ use Rattle.slot_arena.specs.declared.nodes.Node.{Node}
 use Rattle.slot_arena.specs.declared.nodes.Prev.{Prev}
 use Rattle.slot_arena.specs.declared.nodes.Slot.{Slot}
 use Rattle.epochs.specs.declared.limbo.Zeroed.{Zeroed}
-use Rattle.machine_model.specs.declared.steps.Limits.{Limits}
+use Rattle.machine_model.specs.declared.steps.Bounds.{Bounds}
 use Rattle.machine_model.specs.declared.steps.Outcome.{Outcome}
 use Rattle.machine_model.specs.declared.steps.Step.{Step}
 use Rattle.slot_arena.specs.Heaps.{Heap, stored, written, with_main, with_prev, with_main_word, taken, take_from, freed, in_use}
 use Rattle.machine_model.specs.States.{State, first_state, empty_heap}
 use Rattle.epochs.specs.Sweeping.{ripe}
-use Rattle.machine_model.specs.Machine.{run, AreLimits}
+use Rattle.machine_model.specs.Machine.{run, AreBounds}
 use Rattle.machine_model.proofs.Along.{along}
 use Rattle.machine_model.specs.Moves.{Begins, Goes, Ends, Sweeps}
 use Rattle.machine_model.specs.Moves.{Moves}
@@ -137,7 +137,7 @@ empty_adds_up slots = record {
 }
 
 -- the first state is sound
-pub sound_at_first : (limits : Limits) → IsSound limits.slots (first_state limits)
+pub sound_at_first : (limits : Bounds) → IsSound limits.slots (first_state limits)
 unfolding first_state
 sound_at_first limits = record {
   heap = taken_kept limits.slots _ _ (taken_kept limits.slots (empty_heap limits.slots) _ (empty_adds_up limits.slots));
@@ -145,7 +145,7 @@ sound_at_first limits = record {
 }
 
 -- after every run
-pub sound_along : (limits : Limits) → AreLimits limits → (steps : List Step) → IsSound limits.slots (run limits steps)
+pub sound_along : (limits : Bounds) → AreBounds limits → (steps : List Step) → IsSound limits.slots (run limits steps)
 sound_along limits ok =
     along limits (IsSound limits.slots) (sound_at_first limits) (λ steps s o after m h. sound_after limits.slots (omega (arith, ok.1)) (run limits steps) s h o after m)
 

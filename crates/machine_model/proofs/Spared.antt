@@ -4,7 +4,7 @@ use Rattle.std.proofs.lemmas.Option.{same_Some}
 use Rattle.history.specs.declared.calls.Access.TheVariants.{ReadOnly}
 use Rattle.history.specs.declared.replies.Reply.TheVariants as reply
 use Rattle.machine_model.specs.declared.operations.Operation.{Operation}
-use Rattle.machine_model.specs.declared.steps.Limits.{Limits}
+use Rattle.machine_model.specs.declared.steps.Bounds.{Bounds}
 use Rattle.machine_model.specs.declared.steps.Outcome.TheVariants.{Ended}
 use Rattle.machine_model.specs.declared.steps.Step.{Step}
 use Rattle.machine_model.specs.declared.steps.Step.TheVariants.{Go}
@@ -33,7 +33,7 @@ gone_spared state operation g h = (
   λ a refused. readers_make_nothing state operation operation.line (h.0 a).1 (refusal state operation operation.line g refused).0,
 )
 
-each_spared : (limits : Limits) (steps : List Step) → OfEach (λ state operation. IsSpared operation) (run limits steps)
+each_spared : (limits : Bounds) (steps : List Step) → OfEach (λ state operation. IsSpared operation) (run limits steps)
 each_spared limits =
     of_each_along limits (λ state operation. IsSpared operation)
     (λ steps actor call d. (begun_reads (run limits steps) actor call d, λ a refused. first_refusal call refused))

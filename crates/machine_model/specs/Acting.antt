@@ -1,31 +1,21 @@
--- What a step of an operation changes: its action, its own record, and the order.
-use Rattle.std.specs.Prelude.{ℕ, ◌+◌, ◌==◌, Bool, true, false, List, [], ◌∷◌, ◌++◌, map, flat_map, Option, Some, None, if◌then◌else◌}
+-- What a step of an operation changes: its action, and what it remembers.
+use Rattle.std.specs.Prelude.{ℕ, ◌+◌, ◌==◌, Bool, true, false, List, [], ◌∷◌, ◌++◌, map, Option, Some, None, if◌then◌else◌}
 use Rattle.history.specs.declared.calls.Access.TheVariants.{Writable, ReadOnly}
-use Rattle.history.specs.declared.replies.Reply.{Reply}
-use Rattle.history.specs.declared.replies.Reply.TheVariants as reply
-use Rattle.history.specs.declared.events.Event.TheVariants.{End}
 use Rattle.slot_arena.specs.declared.refs.Ref.{Ref}
 use Rattle.slot_arena.specs.declared.nodes.Node.TheVariants.{Indirection}
 use Rattle.slot_arena.specs.declared.nodes.Prev.TheVariants as prev
 use Rattle.machine_model.specs.declared.operations.Operation.{Operation}
-use Rattle.places.specs.declared.place.Place.{Place}
 use Rattle.machine_model.specs.declared.roots.Root.{Root}
 use Rattle.machine_model.specs.declared.roots.RootWord.TheVariants.{Plain, Offer}
 use Rattle.machine_model.specs.declared.roots.Descriptor.{Descriptor}
-use Rattle.machine_model.specs.declared.lines.Purpose.TheVariants as purpose
-use Rattle.machine_model.specs.declared.lines.Line.{Line}
-use Rattle.machine_model.specs.declared.lines.Line.TheVariants as line
 use Rattle.machine_model.specs.declared.actions.Action.{Action}
 use Rattle.machine_model.specs.declared.actions.Action.TheVariants as act
-use Rattle.slot_arena.specs.Heaps.{Heap, main_at, generation_at, with_main, with_prev, taken, next_ref}
+use Rattle.slot_arena.specs.Heaps.{Heap, main_at, with_main, with_prev, taken, next_ref}
 use Rattle.machine_model.specs.Calls.{handle_of}
 use Rattle.machine_model.specs.States.{State, word_at, with_word, with_root, with_operation}
-use Rattle.places.specs.Places.{on_time}
-use Rattle.machine_model.specs.declared.heaps.Commit.{Commit}
 use Rattle.machine_model.specs.Reading.{Verdict, Commits, Fails, Overtaken, verdict}
 use Rattle.machine_model.specs.Swapping.{stands_in, is_plain}
 use Rattle.machine_model.specs.Operations.{action_of, line_after, generation_after}
-use Rattle.machine_model.specs.Orders.{place_of, is_placed, committed_now, read_at_after, moment_after}
 
 -- ---- root words
 
@@ -54,16 +44,11 @@ abbrev pub marked : ℕ → Option Operation → Option Operation
 marked id None = None
 marked id (Some operation) = Some (if operation.id == id then record operation { is_marked = true } else operation)
 
--- The offer is carried out: the new root stands, the handle is open, the old root's generation is closed, the operation
--- that offered is marked and enters the order.
+-- the offer is carried out: the new root stands, the handle is open, and the operation that offered is marked
 abbrev pub carried_out : State → ℕ → Descriptor → State
 carried_out state handle offer =
     let swapped = opened (with_word state handle (Plain offer.successor)) offer offer.opens in
-    record swapped {
-      actors = map (marked offer.operation) swapped.actors;
-      closings = swapped.closings ++ record { generation = generation_at state.heap offer.root; step = state.steps } ∷ [];
-      places = swapped.places ++ on_time state.steps false offer.operation ∷ [];
-    }
+    record swapped { actors = map (marked offer.operation) swapped.actors }
 
 abbrev pub completed : State → ℕ → Descriptor → Ref → State
 completed state handle offer main =
@@ -143,46 +128,16 @@ operation_after state operation =
       attempt = attempt_after operation.attempt action;
       is_marked = mark_after operation.is_marked action;
       generation = generation_after state operation;
-      read_at = read_at_after state operation;
-      moment = moment_after state operation;
       line = line_after state operation operation.line;
     }
 
--- ---- what it does to the order
-
--- the operation swaps this main node in, for a change of its key
-abbrev pub swaps_in : Ref → Line → Bool
-swaps_in main (line.Swap (purpose.Update path former) s) = s.fresh == main
-swaps_in main line' = false
-
-abbrev pub entered_by : State → Ref → Option Operation → List Place
-entered_by state main None = []
-entered_by state main (Some operation) =
-    if swaps_in main operation.line then place_of state operation state.steps false ∷ [] else []
-
--- at a commit the operation whose change it is enters the order, whoever takes the step
-abbrev pub entered : State → Option Ref → List Place
-entered state None = []
-entered state (Some main) = flat_map (entered_by state main) state.actors
-
-abbrev pub commits_after : State → Option Ref → List Commit
-commits_after state None = state.commits
-commits_after state (Some main) = state.commits ++ record { main = main; step = state.steps } ∷ []
+-- ---- a step of an operation
 
 -- the state after a step of the actor's operation that isn't its end, but for what every step does
 abbrev pub gone : State → ℕ → Operation → State
 gone state actor operation =
-    let committed = committed_now state operation in
-    let noted = record state { commits = commits_after state committed; places = state.places ++ entered state committed } in
-    acted (with_operation noted actor (Some (operation_after state operation))) (handle_of operation.call) (action_of state operation)
-
--- an operation that was answered and changed nothing enters the order at its end
-abbrev pub entered_at_end : State → Operation → Reply → List Place
-entered_at_end state operation reply.NoSlots = []
-entered_at_end state operation answer = if is_placed state operation.id then [] else place_of state operation operation.moment true ∷ []
+    acted (with_operation state actor (Some (operation_after state operation))) (handle_of operation.call) (action_of state operation)
 
 -- the state after the end of the actor's operation, but for what every step does
-abbrev pub ended : State → ℕ → Operation → Reply → State
-ended state actor operation answer =
-    let gone = with_operation state actor None in
-    record gone { events = gone.events ++ End operation.id answer ∷ []; places = gone.places ++ entered_at_end state operation answer }
+abbrev pub ended : State → ℕ → State
+ended state actor = with_operation state actor None

@@ -6,7 +6,7 @@ use Rattle.slot_arena.specs.declared.nodes.Node.TheVariants.{Indirection, Single
 use Rattle.machine_model.specs.declared.operations.Operation.{Operation}
 use Rattle.machine_model.specs.declared.actions.Action.{Action}
 use Rattle.machine_model.specs.declared.actions.Action.TheVariants as act
-use Rattle.machine_model.specs.declared.steps.Limits.{Limits}
+use Rattle.machine_model.specs.declared.steps.Bounds.{Bounds}
 use Rattle.machine_model.specs.declared.steps.Step.{Step}
 use Rattle.machine_model.specs.declared.steps.Step.TheVariants as step
 use Rattle.slot_arena.specs.Heaps.{Heap, stored, node_at, main_at, prev_at, entries_of, logical_main, refs_of_node, refs_of_prev, refs_of_slot, next_ref, refs_of_option}
@@ -70,7 +70,7 @@ held_from state actor held [] = held
 held_from state actor held (s ∷ steps) =
     held_from (next_state state s) actor (while_running (operation_of (next_state state s) actor) (held ++ got_of state actor s)) steps
 
-abbrev pub held : Limits → List Step → ℕ → List Ref
+abbrev pub held : Bounds → List Step → ℕ → List Ref
 held limits steps actor = held_from (first_state limits) actor [] steps
 
 -- ---- what the handles reach

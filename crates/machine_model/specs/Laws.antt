@@ -4,19 +4,19 @@ use Rattle.ctrie_base.specs.declared.kinds.Kind.TheVariants as kind
 use Rattle.history.specs.declared.calls.Access.TheVariants.{ReadOnly}
 use Rattle.history.specs.declared.replies.Reply.TheVariants as reply
 use Rattle.machine_model.specs.declared.operations.Operation.{Operation}
-use Rattle.machine_model.specs.declared.steps.Limits.{Limits}
+use Rattle.machine_model.specs.declared.steps.Bounds.{Bounds}
 use Rattle.machine_model.specs.declared.steps.Step.{Step}
 use Rattle.machine_model.specs.declared.steps.Step.TheVariants.{Go}
 use Rattle.machine_model.specs.declared.steps.Outcome.TheVariants.{Ended}
 use Rattle.slot_arena.specs.Heaps.{in_use}
 use Rattle.machine_model.specs.States.{State, operation_of}
 use Rattle.machine_model.specs.Operations.{action_of, kind_of}
-use Rattle.machine_model.specs.Machine.{AreLimits, next, run, taken_steps}
+use Rattle.machine_model.specs.Machine.{AreBounds, next, run, taken_steps}
 
 -- the slots in use and the free ones are all slots
 abbrev pub SlotsAddUp : Type 0
 SlotsAddUp =
-    (limits : Limits) (steps : List Step) → AreLimits limits →
+    (limits : Bounds) (steps : List Step) → AreBounds limits →
     length (in_use (run limits steps).heap) + length (run limits steps).heap.free ≡ limits.slots
 
 -- the next step of the actor's operation of this id is to make a node, and no slot is free
@@ -28,17 +28,17 @@ FindsNoSlot state actor id =
 -- an operation is refused for want of slots only where its step before was to make a node, and no slot was free before it
 abbrev pub RefusedForWantAlone : Type 0
 RefusedForWantAlone =
-    (limits : Limits) (steps : List Step) (actor id : ℕ) (after : State) → next (run limits steps) (Go actor) ≡ Ok (Ended id reply.NoSlots, after) →
+    (limits : Bounds) (steps : List Step) (actor id : ℕ) (after : State) → next (run limits steps) (Go actor) ≡ Ok (Ended id reply.NoSlots, after) →
     (before between : List Step) × (steps ≡ before ++ Go actor ∷ between) × ¬ Contains between (Go actor) × FindsNoSlot (run limits before) actor id
 
 -- an operation on a read-only handle makes no node
 abbrev pub ReadersMakeNothing : Type 0
 ReadersMakeNothing =
-    (limits : Limits) (steps : List Step) (actor : ℕ) (operation : Operation) → operation_of (run limits steps) actor ≡ Some operation →
+    (limits : Bounds) (steps : List Step) (actor : ℕ) (operation : Operation) → operation_of (run limits steps) actor ≡ Some operation →
     operation.access ≡ ReadOnly → ¬ (kind_of (action_of (run limits steps) operation) ≡ kind.Make)
 
 -- the steps that were taken lead to the same state, and all of them are taken
 abbrev pub TakenStepsSuffice : Type 0
 TakenStepsSuffice =
-    (limits : Limits) (steps : List Step) →
+    (limits : Bounds) (steps : List Step) →
     (run limits (taken_steps limits steps) ≡ run limits steps) × (taken_steps limits (taken_steps limits steps) ≡ taken_steps limits steps)

@@ -14,10 +14,12 @@ pub mod Climbing
 pub mod Copying
 pub mod Walking
 pub mod Operations
-pub mod Orders
 pub mod Acting
 pub mod Counting
 pub mod Machine
+pub mod Limits
+pub mod Tellings
+pub mod Records
 pub mod Contents
 pub mod Going
 pub mod Keys

@@ -1,5 +1,5 @@
 -- The machine: one atomic step, and runs of steps.
-use Rattle.std.specs.Prelude.{ℕ, zero, suc, ◌+◌, ◌==◌, ◌≤◌, ◌||◌, ◌&&◌, Bool, true, false, not, nat_lt, nat_le, is_some, List, [], ◌∷◌, ◌++◌, map, Option, Some, None, option_map}
+use Rattle.std.specs.Prelude.{ℕ, zero, suc, ◌+◌, ◌==◌, ◌≤◌, ◌^◌, ◌||◌, ◌&&◌, Bool, true, false, not, nat_lt, nat_le, is_some, List, [], ◌∷◌, map, Option, Some, None, option_map}
 use Rattle.std.specs.Prelude.{unwrap_or, Result, Ok, Err, if◌then◌else◌}
 use Rattle.std.specs.List.{list_any}
 use Rattle.ctrie_base.specs.declared.kinds.Kind.{Kind}
@@ -8,13 +8,11 @@ use Rattle.ctrie_base.specs.declared.refusals.Refusal.TheVariants as refuse
 use Rattle.history.specs.declared.calls.Access.{Access}
 use Rattle.history.specs.declared.calls.Access.TheVariants.{Writable, ReadOnly}
 use Rattle.history.specs.declared.calls.Call.{Call}
-use Rattle.history.specs.declared.events.Event.TheVariants.{Begin}
-use Rattle.history.specs.Histories.{begun}
 use Rattle.machine_model.specs.declared.operations.Operation.{Operation}
 use Rattle.machine_model.specs.declared.actions.Action.{Action}
 use Rattle.machine_model.specs.declared.actions.Action.TheVariants as act
 use Rattle.machine_model.specs.declared.roots.Root.{Root}
-use Rattle.machine_model.specs.declared.steps.Limits.{Limits}
+use Rattle.machine_model.specs.declared.steps.Bounds.{Bounds}
 use Rattle.machine_model.specs.declared.steps.Step.{Step}
 use Rattle.machine_model.specs.declared.steps.Step.TheVariants as step
 use Rattle.epochs.specs.declared.limbo.Swept.{Swept}
@@ -22,9 +20,8 @@ use Rattle.epochs.specs.Sweeping.{Reclaimer, swept_once}
 use Rattle.machine_model.specs.declared.steps.Outcome.{Outcome}
 use Rattle.machine_model.specs.declared.steps.Outcome.TheVariants as outcome
 use Rattle.machine_model.specs.Calls.{handle_of, needs_writable, needs_read_only, opens_handle, is_close}
-use Rattle.machine_model.specs.States.{State, first_state, handle_limit, step_limit, root_at, operation_of, with_root, with_operation}
+use Rattle.machine_model.specs.States.{State, first_state, handle_limit, root_at, operation_of, with_root, with_operation}
 use Rattle.machine_model.specs.Operations.{first_line, action_of, kind_of}
-use Rattle.places.specs.Places.{on_time}
 use Rattle.machine_model.specs.Acting.{gone, ended}
 use Rattle.machine_model.specs.Counting.{settled}
 
@@ -109,7 +106,7 @@ is_access ReadOnly (Some Writable) = false
 
 -- the machine has taken all its steps
 abbrev pub is_spent : State → Bool
-is_spent state = nat_le step_limit state.steps
+is_spent state = nat_le state.limits.steps state.steps
 
 -- why a begin is denied
 abbrev pub begin_denial : State → ℕ → Call → Option Refusal
@@ -125,7 +122,7 @@ begin_denial state actor call =
 -- the operation of a new begin
 abbrev pub new_operation : State → Call → Access → Operation
 new_operation state call access = record {
-  id = begun state.events;
+  id = state.begun;
   call = call;
   access = access;
   epoch = state.epoch;
@@ -134,25 +131,24 @@ new_operation state call access = record {
   attempt = 0;
   is_marked = false;
   generation = None;
-  read_at = 0;
-  moment = 0;
   line = first_line call;
 }
 
--- a close takes the handle away as it begins, and enters the order there
-abbrev pub handle_closed : State → Call → ℕ → State
-handle_closed state call id =
-    if is_close call then record (with_root state (handle_of call) None) { places = state.places ++ on_time state.steps false id ∷ [] } else state
+-- the operation that a begin brings in
+abbrev pub begun_operation : State → Call → Operation
+begun_operation state call = new_operation state call (unwrap_or (access_of (root_at state (handle_of call))) Writable)
+
+-- a close takes the handle away as it begins
+abbrev pub handle_closed : State → Call → State
+handle_closed state call = if is_close call then with_root state (handle_of call) None else state
 
 abbrev pub with_begin : State → ℕ → Call → Operation → State
-with_begin state actor call operation =
-    let closed = handle_closed state call operation.id in
-    record (with_operation closed actor (Some operation)) { events = closed.events ++ Begin operation.id actor call operation.opens ∷ [] }
+with_begin state actor call operation = record (with_operation (handle_closed state call) actor (Some operation)) { begun = state.begun + 1 }
 
 abbrev pub begin_unless : State → ℕ → Call → Option Refusal → Answer
 begin_unless state actor call (Some refusal) = Err refusal
 begin_unless state actor call None =
-    let operation = new_operation state call (unwrap_or (access_of (root_at state (handle_of call))) Writable) in
+    let operation = begun_operation state call in
     Ok (outcome.Began operation.id, settled state (with_begin state actor call operation))
 
 -- a step that begins an operation
@@ -167,7 +163,7 @@ go_denial state actor = first_reason ((not (is_actor state actor), refuse.NoActo
 
 -- what the step of the actor's operation does, but for what every step does at its end
 abbrev pub went : State → ℕ → Operation → Action → Outcome × State
-went state actor operation (act.End answer) = (outcome.Ended operation.id answer, ended state actor operation answer)
+went state actor operation (act.End answer) = (outcome.Ended operation.id answer, ended state actor)
 went state actor operation action = (outcome.Went (kind_of action), gone state actor operation)
 
 abbrev pub step_by : State → ℕ → Operation → Action → Answer
@@ -236,7 +232,7 @@ run_from state [] = state
 run_from state (s ∷ steps) = run_from (next_state state s) steps
 
 -- the state of a machine after these steps
-abbrev pub run : Limits → List Step → State
+abbrev pub run : Bounds → List Step → State
 run limits steps = run_from (first_state limits) steps
 
 abbrev pub is_taken_step : Answer → Bool
@@ -248,9 +244,13 @@ unfoldable pub taken_from : State → List Step → List Step
 taken_from state [] = []
 taken_from state (s ∷ steps) = if is_taken_step (next state s) then s ∷ taken_from (next_state state s) steps else taken_from (next_state state s) steps
 
-abbrev pub taken_steps : Limits → List Step → List Step
+abbrev pub taken_steps : Bounds → List Step → List Step
 taken_steps limits steps = taken_from (first_state limits) steps
 
--- the limits are in range
-abbrev pub AreLimits : Limits → Type 0
-AreLimits limits = (2 ≤ limits.slots) × (limits.slots ≤ 65536) × (1 ≤ limits.actors) × (limits.actors ≤ 64)
+-- how many steps a machine takes at most that lives long
+abbrev pub longest_life : ℕ
+longest_life = 2 ^ 47
+
+-- the bounds are in range
+abbrev pub AreBounds : Bounds → Type 0
+AreBounds limits = (2 ≤ limits.slots) × (limits.slots ≤ 65536) × (1 ≤ limits.actors) × (limits.actors ≤ 64) × (limits.steps ≤ longest_life)

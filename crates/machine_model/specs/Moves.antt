@@ -1,7 +1,5 @@
 -- What a step that is taken does: one constructor for each kind of step.
 use Rattle.std.specs.Prelude.{◌≡◌, ℕ, false, Some, None, Ok, Err}
-use Rattle.std.specs.Prelude.{unwrap_or}
-use Rattle.history.specs.declared.calls.Access.TheVariants.{Writable}
 use Rattle.history.specs.declared.calls.Call.{Call}
 use Rattle.history.specs.declared.replies.Reply.{Reply}
 use Rattle.machine_model.specs.declared.operations.Operation.{Operation}
@@ -11,21 +9,17 @@ use Rattle.machine_model.specs.declared.steps.Step.{Step}
 use Rattle.machine_model.specs.declared.steps.Step.TheVariants as step
 use Rattle.machine_model.specs.declared.steps.Outcome.{Outcome}
 use Rattle.machine_model.specs.declared.steps.Outcome.TheVariants as outcome
-use Rattle.machine_model.specs.Calls.{handle_of}
-use Rattle.machine_model.specs.States.{State, root_at, operation_of}
+use Rattle.machine_model.specs.States.{State, operation_of}
 use Rattle.machine_model.specs.Operations.{action_of, kind_of}
 use Rattle.machine_model.specs.Acting.{gone, ended}
 use Rattle.machine_model.specs.Counting.{settled}
-use Rattle.machine_model.specs.Machine.{Answer, begin_denial, new_operation, with_begin, access_of, go_denial, is_spent, swept}
+use Rattle.machine_model.specs.Machine.{Answer, begin_denial, with_begin, go_denial, is_spent, swept}
+pub use Rattle.machine_model.specs.Machine.{begun_operation}
 
 -- the action isn't the end of an operation
 abbrev pub GoesOn : Action → Type 0
 GoesOn (act.End answer) = ⊥
 GoesOn action = Unit {0}
-
--- the operation that a begin brings in
-abbrev pub begun_operation : State → Call → Operation
-begun_operation state call = new_operation state call (unwrap_or (access_of (root_at state (handle_of call))) Writable)
 
 pub data Moves (state : State) : Step → Outcome → State → Type 0 where
   Begins : {actor : ℕ} {call : Call} → begin_denial state actor call ≡ None →
@@ -35,7 +29,7 @@ pub data Moves (state : State) : Step → Outcome → State → Type 0 where
       Moves state (step.Go actor) (outcome.Went (kind_of action)) (settled state (gone state actor operation))
   Ends : {actor : ℕ} {operation : Operation} {answer : Reply} → go_denial state actor ≡ None → operation_of state actor ≡ Some operation →
       action_of state operation ≡ act.End answer →
-      Moves state (step.Go actor) (outcome.Ended operation.id answer) (settled state (ended state actor operation answer))
+      Moves state (step.Go actor) (outcome.Ended operation.id answer) (settled state (ended state actor))
   Sweeps : is_spent state ≡ false → Moves state step.Sweep (swept state).0 (settled state (swept state).1)
 
 -- the step is a move where it is taken

@@ -4,7 +4,7 @@ use Rattle.ctrie_base.specs.declared.refusals.Refusal.{Refusal}
 use Rattle.ctrie_base.specs.declared.refusals.Refusal.TheVariants.{Memory, BadLimits, NoHandle}
 use Rattle.machine_model.specs.declared.steps.Limits.{Limits}
 use Rattle.machine_model.specs.States.{State, root_at}
-use Rattle.machine_model.specs.Machine.{AreLimits}
+use Rattle.machine_model.specs.Limits.{AreLimits}
 
 -- the limits are out of range, or memory was lacking for limits in range
 abbrev pub RefusesLimits : Limits → Refusal → Type 0

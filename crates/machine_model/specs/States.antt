@@ -1,25 +1,21 @@
--- The state of a machine.
-use Rattle.std.specs.Prelude.{ℕ, zero, suc, ◌-◌, ◌^◌, ◌==◌, List, [], Option, Some, None, option_map, slice_index_or, slice_set, replicate, find}
+-- The state of a machine: all that a step reads. What is recorded of a run stands beside it (Records).
+use Rattle.std.specs.Prelude.{ℕ, zero, suc, ◌-◌, List, [], Option, Some, None, slice_index_or, slice_set, replicate}
 use Rattle.std.specs.List.{range_with_len}
 use Rattle.ctrie_base.specs.Hashes.{hash_of}
 use Rattle.history.specs.declared.calls.Access.TheVariants.{Writable}
-use Rattle.history.specs.declared.events.Event.{Event}
 use Rattle.slot_arena.specs.declared.refs.Ref.{Ref}
 use Rattle.slot_arena.specs.declared.nodes.Node.TheVariants.{Indirection}
 use Rattle.epochs.specs.declared.limbo.Zeroed.{Zeroed}
-use Rattle.machine_model.specs.declared.heaps.Commit.{Commit}
-use Rattle.machine_model.specs.declared.heaps.Closing.{Closing}
-use Rattle.machine_model.specs.declared.steps.Limits.{Limits}
+use Rattle.machine_model.specs.declared.steps.Bounds.{Bounds}
 use Rattle.machine_model.specs.declared.roots.Root.{Root}
 use Rattle.machine_model.specs.declared.roots.RootWord.{RootWord}
 use Rattle.machine_model.specs.declared.roots.RootWord.TheVariants.{Plain, Offer}
 use Rattle.machine_model.specs.declared.operations.Operation.{Operation}
-use Rattle.places.specs.declared.place.Place.{Place}
 use Rattle.slot_arena.specs.Refs.{ref_to}
 use Rattle.slot_arena.specs.Heaps.{Heap, taken, no_ref, empty_branch}
 
 pub record State : Type 0 where
-  pub limits : Limits
+  pub limits : Bounds
   pub heap : Heap
   -- the next generation to be drawn
   pub generations : ℕ
@@ -32,24 +28,14 @@ pub record State : Type 0 where
   pub roots : List (Option Root)
   -- each actor's operation, if one runs
   pub actors : List (Option Operation)
-  -- the commits of main nodes, as they came
-  pub commits : List Commit
-  -- the generations that were closed
-  pub closings : List Closing
-  -- the places of the operations in the order, as they came in
-  pub places : List Place
-  -- the history
-  pub events : List Event
+  -- how many operations have begun: the id of the next one
+  pub begun : ℕ
   -- how many steps were taken: the number of the next one
   pub steps : ℕ
 
 -- how many handles can be open or reserved
 abbrev pub handle_limit : ℕ
 handle_limit = 256
-
--- how many steps a machine takes
-abbrev pub step_limit : ℕ
-step_limit = 2 ^ 40
 
 -- The first state: the first two slots have an empty branch and over it the root of handle 0.
 abbrev pub empty_heap : ℕ → Heap
@@ -58,7 +44,7 @@ empty_heap slots = record { slots = replicate slots None; free = range_with_len 
 abbrev pub first_heap : ℕ → Heap
 first_heap slots = taken (taken (empty_heap slots) empty_branch) (Indirection 0 (ref_to 1 0))
 
-unfoldable pub first_state : Limits → State
+unfoldable pub first_state : Bounds → State
 first_state limits = record {
   limits = limits;
   heap = first_heap limits.slots;
@@ -68,10 +54,7 @@ first_state limits = record {
   cursor = 1;
   roots = slice_set (replicate handle_limit None) 0 (Some (record { access = Writable; word = Plain (ref_to 2 1) }));
   actors = replicate limits.actors None;
-  commits = [];
-  closings = [];
-  places = [];
-  events = [];
+  begun = 0;
   steps = 0;
 }
 
@@ -117,18 +100,3 @@ root_of (Offer offer) = offer.root
 -- the hash of a key in this machine
 abbrev pub key_hash : State → ℕ → ℕ
 key_hash state key = hash_of state.limits.hash key
-
-abbrev pub step_of : Option Closing → Option ℕ
-step_of closing = option_map (λ c. c.step) closing
-
--- the step that closed a generation, if one did
-abbrev pub closed_at : State → ℕ → Option ℕ
-closed_at state generation = step_of (find (λ c. c.generation == generation) state.closings)
-
-abbrev pub step_of_commit : Option Commit → ℕ
-step_of_commit None = 0
-step_of_commit (Some commit) = commit.step
-
--- the step in which the main node was committed; 0 where it never was, since it is its indirection's first
-abbrev pub committed_at : State → Ref → ℕ
-committed_at state main = step_of_commit (find (λ commit. commit.main == main) state.commits)

@@ -5,7 +5,7 @@ use Rattle.history.specs.declared.calls.Access.TheVariants.{ReadOnly}
 use Rattle.history.specs.declared.replies.Reply.{Reply}
 use Rattle.history.specs.declared.replies.Reply.TheVariants.{NoSlots}
 use Rattle.machine_model.specs.declared.operations.Operation.{Operation}
-use Rattle.machine_model.specs.declared.steps.Limits.{Limits}
+use Rattle.machine_model.specs.declared.steps.Bounds.{Bounds}
 use Rattle.machine_model.specs.declared.steps.Outcome.TheVariants.{Ended}
 use Rattle.machine_model.specs.declared.steps.Step.{Step}
 use Rattle.machine_model.specs.declared.steps.Step.TheVariants.{Go}
@@ -28,5 +28,5 @@ OneSlotAStep =
 -- an operation on a read-only handle is never refused for want of slots
 abbrev pub ReadersNeverRefused : Type 0
 ReadersNeverRefused =
-    (limits : Limits) (steps : List Step) (actor id : ℕ) (operation : Operation) (answer : Reply) (after : State) →
+    (limits : Bounds) (steps : List Step) (actor id : ℕ) (operation : Operation) (answer : Reply) (after : State) →
     operation_of (run limits steps) actor ≡ Some operation → operation.access ≡ ReadOnly → next (run limits steps) (Go actor) ≡ Ok (Ended id answer, after) → answer ≢ NoSlots

@@ -23,9 +23,5 @@ pub struct Operation {
     pub is_marked: bool,
     /// The generation of the root that ROOT gave last in its first line, if it has got one.
     pub generation: Option<u64>,
-    /// The step of the last read or swap of a main word by a READ.
-    pub read_at: u64,
-    /// The first step from there on at which what its last READ gave was the logical main node.
-    pub moment: u64,
     pub line: Line,
 }

@@ -4,7 +4,7 @@ use ctrie_base::{HashKind, Kind};
 use epochs::Swept;
 use history::{Call, Reply};
 
-/// The sizes of a machine.
+/// The sizes of a machine that keeps its record.
 #[derive(Clone, Copy, Debug, PartialEq, Eq)]
 pub struct Limits {
     /// The number of slots, 2 to 65,536.
@@ -13,6 +13,19 @@ pub struct Limits {
     pub actors: u8,
     /// The hash of keys.
     pub hash: HashKind,
+}
+
+/// What bounds a machine: its sizes, and how long it lives.
+#[derive(Clone, Copy)]
+pub struct Bounds {
+    /// The number of slots.
+    pub slots: u32,
+    /// The number of actors.
+    pub actors: u8,
+    /// The hash of keys.
+    pub hash: HashKind,
+    /// How many steps it takes, at most 2^47.
+    pub steps: u64,
 }
 
 /// One atomic step.

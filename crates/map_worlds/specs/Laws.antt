@@ -2,10 +2,10 @@
 use Rattle.std.specs.Prelude.{◌≡◌, ℕ, false, List, [], option_map}
 use Rattle.std.specs.FinMap as map
 use Rattle.map_worlds.specs.Beneath.history.specs.Worlds.{HandleMap, first_world}
-use Rattle.map_worlds.specs.Beneath.machine_model.specs.declared.steps.Limits.{Limits}
+use Rattle.map_worlds.specs.Beneath.machine_model.specs.declared.steps.Bounds.{Bounds}
 use Rattle.map_worlds.specs.Beneath.machine_model.specs.declared.steps.Step.{Step}
 use Rattle.map_worlds.specs.Beneath.machine_model.specs.Keys.{KeysFit}
-use Rattle.map_worlds.specs.Beneath.machine_model.specs.Machine.{AreLimits, handles_taken, is_busy, run}
+use Rattle.map_worlds.specs.Beneath.machine_model.specs.Machine.{AreBounds, handles_taken, is_busy, run}
 use Rattle.map_worlds.specs.Beneath.machine_model.specs.States.{State, root_at}
 use Rattle.map_worlds.specs.Beneath.proof_order.specs.Laws.Orders.{ShowsContents}
 use Rattle.map_worlds.specs.Worlds.{named_at, world_of}
@@ -16,11 +16,11 @@ ShownIsOne = (world : HandleMap) (state : State) → ShowsContents world state �
 
 -- the world of each state that is reached shows the state's contents
 abbrev pub StatesShow : Type 0
-StatesShow = (limits : Limits) (steps : List Step) → AreLimits limits → KeysFit steps → ShowsContents (world_of (run limits steps)) (run limits steps)
+StatesShow = (limits : Bounds) (steps : List Step) → AreBounds limits → KeysFit steps → ShowsContents (world_of (run limits steps)) (run limits steps)
 
 -- the first state shows the first world
 abbrev pub FirstIsShown : Type 0
-FirstIsShown = (limits : Limits) → AreLimits limits → world_of (run limits []) ≡ first_world
+FirstIsShown = (limits : Bounds) → AreBounds limits → world_of (run limits []) ≡ first_world
 
 -- the world has just the open handles
 abbrev pub ShowsRoots : Type 0
@@ -28,4 +28,4 @@ ShowsRoots = (state : State) (handle : ℕ) → map.get (world_of state) handle 
 
 -- where no operation runs as many handles are taken as the world has
 abbrev pub HandlesAtRest : Type 0
-HandlesAtRest = (limits : Limits) (steps : List Step) → is_busy (run limits steps) ≡ false → handles_taken (run limits steps) ≡ map.len (world_of (run limits steps))
+HandlesAtRest = (limits : Bounds) (steps : List Step) → is_busy (run limits steps) ≡ false → handles_taken (run limits steps) ≡ map.len (world_of (run limits steps))

@@ -5,4 +5,6 @@ pub mod Closings
 pub mod Readings
 pub mod Swaps
 pub mod Moments
+pub mod Changers
 pub mod OfLists
+pub mod AlongLists

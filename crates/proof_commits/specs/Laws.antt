@@ -1,11 +1,12 @@
 -- Laws of main words and prev words, for every list of steps: who decides what, and what a READ gives.
-use Rattle.std.specs.Prelude.{◌≡◌, ℕ, ◌+◌, ◌<◌, ◌≤◌, ◌⊎◌, List, Some, slice_get}
+use Rattle.std.specs.Prelude.{◌≡◌, ℕ, suc, ◌+◌, ◌<◌, ◌≤◌, ◌⊎◌, List, Some, slice_get}
 use Rattle.proof_commits.specs.Beneath.slot_arena.specs.declared.refs.Ref.{Ref}
 use Rattle.proof_commits.specs.Beneath.slot_arena.specs.declared.nodes.Node.{Node}
 use Rattle.proof_commits.specs.Beneath.slot_arena.specs.declared.nodes.Node.TheVariants.{Tomb}
 use Rattle.proof_commits.specs.Beneath.slot_arena.specs.declared.nodes.Prev.TheVariants as prev
 use Rattle.proof_commits.specs.Beneath.slot_arena.specs.Heaps.{node_at, main_at, prev_at, generation_at, logical_main}
 use Rattle.proof_commits.specs.Beneath.machine_model.specs.declared.operations.Operation.{Operation}
+use Rattle.proof_commits.specs.Beneath.machine_model.specs.declared.records.Moment.{Moment}
 use Rattle.proof_commits.specs.Beneath.machine_model.specs.declared.reading.After.TheVariants.{Gives}
 use Rattle.proof_commits.specs.Beneath.machine_model.specs.declared.reading.Read.{Read}
 use Rattle.proof_commits.specs.Beneath.machine_model.specs.declared.reading.ReadLine.{ReadLine}
@@ -14,17 +15,17 @@ use Rattle.proof_commits.specs.Beneath.machine_model.specs.declared.reading.Swap
 use Rattle.proof_commits.specs.Beneath.machine_model.specs.declared.lines.Purpose.{Purpose}
 use Rattle.proof_commits.specs.Beneath.machine_model.specs.declared.lines.Line.{Line}
 use Rattle.proof_commits.specs.Beneath.machine_model.specs.declared.lines.Line.TheVariants as line
-use Rattle.proof_commits.specs.Beneath.machine_model.specs.declared.steps.Limits.{Limits}
+use Rattle.proof_commits.specs.Beneath.machine_model.specs.declared.steps.Bounds.{Bounds}
 use Rattle.proof_commits.specs.Beneath.machine_model.specs.declared.steps.Step.{Step}
 use Rattle.proof_commits.specs.Beneath.machine_model.specs.declared.steps.Step.TheVariants.{Go}
-use Rattle.proof_commits.specs.Beneath.machine_model.specs.States.{State, operation_of, closed_at}
+use Rattle.proof_commits.specs.Beneath.machine_model.specs.States.{State, operation_of}
+use Rattle.proof_commits.specs.Beneath.machine_model.specs.Records.{closed_at, moment_at, record_of}
 use Rattle.proof_commits.specs.Beneath.machine_model.specs.Reading.{read_step}
 use Rattle.proof_commits.specs.Beneath.machine_model.specs.Operations.{read_of}
-use Rattle.proof_commits.specs.Beneath.machine_model.specs.Acting.{operation_after}
-use Rattle.proof_commits.specs.Beneath.machine_model.specs.Machine.{AreLimits, run, taken_steps}
+use Rattle.proof_commits.specs.Beneath.machine_model.specs.Machine.{AreBounds, run, taken_steps}
 use Rattle.proof_commits.specs.Runs.{HasIndirection}
 use Rattle.proof_memory.specs.Laws.{IsInUse}
-use Rattle.proof_commits.specs.Beneath.machine_model.specs.Times.{states_of, last_of}
+use Rattle.proof_commits.specs.Beneath.machine_model.specs.Times.{states_of, records_of, last_of}
 
 -- ---- owners
 
@@ -44,7 +45,7 @@ pub record Owner (state : State) (indirection replaced fresh : Ref) : Type 0 whe
 -- a pending node has one running operation that swapped it in, still in that SWAP; nobody else is in a SWAP of it
 abbrev pub PendingHasOwner : Type 0
 PendingHasOwner =
-    (limits : Limits) (steps : List Step) → AreLimits limits → (fresh replaced : Ref) → IsInUse (run limits steps).heap fresh →
+    (limits : Bounds) (steps : List Step) → AreBounds limits → (fresh replaced : Ref) → IsInUse (run limits steps).heap fresh →
     prev_at (run limits steps).heap fresh ≡ prev.Pending replaced →
     (indirection : Ref) × (owner : Owner (run limits steps) indirection replaced fresh)
     × ((actor : ℕ) (operation : Operation) (at before : Ref) (l : SwapLine) → operation_of (run limits steps) actor ≡ Some operation → IsInSwap operation at before fresh l →
@@ -53,7 +54,7 @@ PendingHasOwner =
 -- who is about to see how its fresh node was decided finds it decided
 abbrev pub CheckedIsDecided : Type 0
 CheckedIsDecided =
-    (limits : Limits) (steps : List Step) → AreLimits limits → (actor : ℕ) (operation : Operation) (indirection replaced fresh other : Ref) →
+    (limits : Bounds) (steps : List Step) → AreBounds limits → (actor : ℕ) (operation : Operation) (indirection replaced fresh other : Ref) →
     operation_of (run limits steps) actor ≡ Some operation → IsInSwap operation indirection replaced fresh Check → IsInUse (run limits steps).heap fresh →
     ¬ (prev_at (run limits steps).heap fresh ≡ prev.Pending other)
 
@@ -72,14 +73,14 @@ pub data PrevChange (before after : State) (main : Ref) : Type 0 where
 -- a prev word goes from none to pending in the step that swaps the node in, and from pending to none or failed
 abbrev pub PrevWordsChange : Type 0
 PrevWordsChange =
-    (limits : Limits) (steps : List Step) → AreLimits limits → (n : ℕ) → n < last_of limits steps → (main : Ref) →
+    (limits : Bounds) (steps : List Step) → AreBounds limits → (n : ℕ) → n < last_of limits steps → (main : Ref) →
     IsInUse (states_of limits steps n).heap main → IsInUse (states_of limits steps (n + 1)).heap main →
     PrevChange (states_of limits steps n) (states_of limits steps (n + 1)) main
 
 -- once it was pending and isn't any more, it stays as it is
 abbrev pub DecidedForGood : Type 0
 DecidedForGood =
-    (limits : Limits) (steps : List Step) → AreLimits limits → (n k l : ℕ) → n ≤ k → k ≤ l → l ≤ last_of limits steps → (main replaced : Ref) →
+    (limits : Bounds) (steps : List Step) → AreBounds limits → (n k l : ℕ) → n ≤ k → k ≤ l → l ≤ last_of limits steps → (main replaced : Ref) →
     IsInUse (states_of limits steps n).heap main → IsInUse (states_of limits steps k).heap main → IsInUse (states_of limits steps l).heap main →
     prev_at (states_of limits steps n).heap main ≡ prev.Pending replaced → ¬ (prev_at (states_of limits steps k).heap main ≡ prev.Pending replaced) →
     prev_at (states_of limits steps l).heap main ≡ prev_at (states_of limits steps k).heap main
@@ -98,7 +99,7 @@ pub record CommitsMain (before after : State) (indirection : Ref) : Type 0 where
 -- a logical main node changes only in a commit, from the node that the new one was built from
 abbrev pub MainsChangeByCommits : Type 0
 MainsChangeByCommits =
-    (limits : Limits) (steps : List Step) → AreLimits limits → (n : ℕ) → n < last_of limits steps → (indirection : Ref) →
+    (limits : Bounds) (steps : List Step) → AreBounds limits → (n : ℕ) → n < last_of limits steps → (indirection : Ref) →
     HasIndirection (states_of limits steps n) indirection → HasIndirection (states_of limits steps (n + 1)) indirection →
     (logical_main (states_of limits steps (n + 1)).heap indirection ≡ logical_main (states_of limits steps n).heap indirection)
     ⊎ CommitsMain (states_of limits steps n) (states_of limits steps (n + 1)) indirection
@@ -106,7 +107,7 @@ MainsChangeByCommits =
 -- a node that was replaced never comes back
 abbrev pub ReplacedForGood : Type 0
 ReplacedForGood =
-    (limits : Limits) (steps : List Step) → AreLimits limits → (n k l : ℕ) → n ≤ k → k ≤ l → l ≤ last_of limits steps → (indirection : Ref) →
+    (limits : Bounds) (steps : List Step) → AreBounds limits → (n k l : ℕ) → n ≤ k → k ≤ l → l ≤ last_of limits steps → (indirection : Ref) →
     HasIndirection (states_of limits steps n) indirection → HasIndirection (states_of limits steps k) indirection → HasIndirection (states_of limits steps l) indirection →
     ¬ (logical_main (states_of limits steps k).heap indirection ≡ logical_main (states_of limits steps n).heap indirection) →
     ¬ (logical_main (states_of limits steps l).heap indirection ≡ logical_main (states_of limits steps n).heap indirection)
@@ -118,7 +119,7 @@ IsTomb node = ⊥
 
 abbrev pub TombsStay : Type 0
 TombsStay =
-    (limits : Limits) (steps : List Step) → AreLimits limits → (n k : ℕ) → n ≤ k → k ≤ last_of limits steps → (indirection tomb : Ref) →
+    (limits : Bounds) (steps : List Step) → AreBounds limits → (n k : ℕ) → n ≤ k → k ≤ last_of limits steps → (indirection tomb : Ref) →
     HasIndirection (states_of limits steps n) indirection → HasIndirection (states_of limits steps k) indirection →
     logical_main (states_of limits steps n).heap indirection ≡ tomb → IsInUse (states_of limits steps n).heap tomb → IsTomb (node_at (states_of limits steps n).heap tomb) →
     logical_main (states_of limits steps k).heap indirection ≡ tomb
@@ -131,7 +132,7 @@ IsNoSwap (line.Swap why s) = ⊥
 IsNoSwap l = Unit {0}
 
 -- step n is the last of a READ of the actor's operation, and gives this main node of the indirection
-pub record IsGiven (limits : Limits) (steps : List Step) (n : ℕ) (indirection main : Ref) : Type 0 where
+pub record IsGiven (limits : Bounds) (steps : List Step) (n : ℕ) (indirection main : Ref) : Type 0 where
   pub actor : ℕ
   pub operation : Operation
   pub step : slice_get (taken_steps limits steps) n ≡ Some (Go actor)
@@ -142,43 +143,43 @@ pub record IsGiven (limits : Limits) (steps : List Step) (n : ℕ) (indirection 
   pub of : read.indirection ≡ indirection
   pub gives : read_step (states_of limits steps n) operation read ≡ Gives main
 
--- the operation after that step
-abbrev pub after_given : {limits : Limits} {steps : List Step} {n : ℕ} {indirection main : Ref} → IsGiven limits steps n indirection main → Operation
-after_given {limits} {steps} {n} given = operation_after (states_of limits steps n) given.operation
+-- what is known of the operation's READs after that step
+abbrev pub known_after : {limits : Bounds} {steps : List Step} {n : ℕ} {indirection main : Ref} → IsGiven limits steps n indirection main → Moment
+known_after {limits} {steps} {n} given = moment_at (records_of limits steps (suc n)) given.actor
 
 -- what it gives was the logical main node after its moment, and the moment is the first such step from its last read or swap of the main word on
 abbrev pub MomentIsFirst : Type 0
 MomentIsFirst =
-    (limits : Limits) (steps : List Step) → AreLimits limits → (n : ℕ) → n < last_of limits steps → (indirection main : Ref) (given : IsGiven limits steps n indirection main) →
-    ((after_given given).read_at ≤ (after_given given).moment) × ((after_given given).moment ≤ n)
-    × (HasIndirection (states_of limits steps ((after_given given).moment + 1)) indirection → logical_main (states_of limits steps ((after_given given).moment + 1)).heap indirection ≡ main)
-    × ((k : ℕ) → (after_given given).read_at < k → k ≤ (after_given given).moment → HasIndirection (states_of limits steps k) indirection →
+    (limits : Bounds) (steps : List Step) → AreBounds limits → (n : ℕ) → n < last_of limits steps → (indirection main : Ref) (given : IsGiven limits steps n indirection main) →
+    ((known_after given).read_at ≤ (known_after given).moment) × ((known_after given).moment ≤ n)
+    × (HasIndirection (states_of limits steps ((known_after given).moment + 1)) indirection → logical_main (states_of limits steps ((known_after given).moment + 1)).heap indirection ≡ main)
+    × ((k : ℕ) → (known_after given).read_at < k → k ≤ (known_after given).moment → HasIndirection (states_of limits steps k) indirection →
     ¬ (logical_main (states_of limits steps k).heap indirection ≡ main))
 
 -- what it gives of an indirection whose generation was closed before that read or swap stays its logical main node for ever
 abbrev pub GivenForGood : Type 0
 GivenForGood =
-    (limits : Limits) (steps : List Step) → AreLimits limits → (n : ℕ) → n < last_of limits steps → (indirection main : Ref) (given : IsGiven limits steps n indirection main) →
-    (closed : ℕ) → closed_at (run limits steps) (generation_at (states_of limits steps n).heap indirection) ≡ Some closed → closed < (after_given given).read_at →
+    (limits : Bounds) (steps : List Step) → AreBounds limits → (n : ℕ) → n < last_of limits steps → (indirection main : Ref) (given : IsGiven limits steps n indirection main) →
+    (closed : ℕ) → closed_at (record_of limits steps) (generation_at (states_of limits steps n).heap indirection) ≡ Some closed → closed < (known_after given).read_at →
     HasIndirection (states_of limits steps n) indirection →
-    (k : ℕ) → (after_given given).moment < k → k ≤ last_of limits steps → HasIndirection (states_of limits steps k) indirection →
+    (k : ℕ) → (known_after given).moment < k → k ≤ last_of limits steps → HasIndirection (states_of limits steps k) indirection →
     logical_main (states_of limits steps k).heap indirection ≡ main
 
 -- ---- after a closing
 
 -- step n changes the logical main node of an indirection whose generation was closed before, at this step
-pub record ChangesLate (limits : Limits) (steps : List Step) (closed n : ℕ) (indirection : Ref) : Type 0 where
+pub record ChangesLate (limits : Bounds) (steps : List Step) (closed n : ℕ) (indirection : Ref) : Type 0 where
   pub late : closed ≤ n
   pub taken : n < last_of limits steps
   pub before : HasIndirection (states_of limits steps n) indirection
   pub after : HasIndirection (states_of limits steps (n + 1)) indirection
-  pub closing : closed_at (run limits steps) (generation_at (states_of limits steps n).heap indirection) ≡ Some closed
+  pub closing : closed_at (record_of limits steps) (generation_at (states_of limits steps n).heap indirection) ≡ Some closed
   pub changes : ¬ (logical_main (states_of limits steps (n + 1)).heap indirection ≡ logical_main (states_of limits steps n).heap indirection)
 
 -- what commits late stood in the main word before the closing
 abbrev pub LateStoodBefore : Type 0
 LateStoodBefore =
-    (limits : Limits) (steps : List Step) → AreLimits limits → (closed n : ℕ) (indirection : Ref) → ChangesLate limits steps closed n indirection →
+    (limits : Bounds) (steps : List Step) → AreBounds limits → (closed n : ℕ) (indirection : Ref) → ChangesLate limits steps closed n indirection →
     (k : ℕ) × (k ≤ closed)
     × (HasIndirection (states_of limits steps k) indirection →
     main_at (states_of limits steps k).heap indirection ≡ main_at (states_of limits steps n).heap indirection)
@@ -186,5 +187,5 @@ LateStoodBefore =
 -- at most one node commits late
 abbrev pub LateOnce : Type 0
 LateOnce =
-    (limits : Limits) (steps : List Step) → AreLimits limits → (closed n k : ℕ) (indirection : Ref) → ChangesLate limits steps closed n indirection →
+    (limits : Bounds) (steps : List Step) → AreBounds limits → (closed n k : ℕ) (indirection : Ref) → ChangesLate limits steps closed n indirection →
     ChangesLate limits steps closed k indirection → n ≡ k

@@ -1,5 +1,5 @@
 -- What an operation on a line is about with main words, and what the line remembers.
-use Rattle.std.specs.Prelude.{ℕ, Option, Some, None}
+use Rattle.std.specs.Prelude.{Option, Some, None}
 use Rattle.proof_commits.specs.Beneath.slot_arena.specs.declared.refs.Ref.{Ref}
 use Rattle.proof_commits.specs.Beneath.machine_model.specs.declared.operations.Operation.{Operation}
 use Rattle.proof_commits.specs.Beneath.machine_model.specs.declared.reading.SwapLine.{SwapLine}
@@ -91,8 +91,3 @@ stage_of line.Impossible = Rests
 abbrev pub stage_of_actor : Option Operation → Stage
 stage_of_actor None = Rests
 stage_of_actor (Some operation) = stage_of operation.line
-
--- whence its READ counts
-abbrev pub from_of_actor : Option Operation → ℕ
-from_of_actor None = 0
-from_of_actor (Some operation) = operation.read_at

@@ -6,7 +6,7 @@ use Rattle.proof_contents.specs.Beneath.slot_arena.specs.declared.nodes.Node.The
 use Rattle.proof_contents.specs.Beneath.slot_arena.specs.declared.nodes.Slot.{Slot}
 use Rattle.proof_contents.specs.Beneath.slot_arena.specs.Heaps.{Heap, no_ref, generation_at}
 use Rattle.machine_model.specs.declared.roots.Root.{Root}
-use Rattle.machine_model.specs.declared.steps.Limits.{Limits}
+use Rattle.machine_model.specs.declared.steps.Bounds.{Bounds}
 use Rattle.machine_model.specs.States.{State, root_of}
 use Rattle.machine_model.specs.Grown.{grown, node_under, main_before}
 use Rattle.proof_contents.specs.Tries.{Trie}
@@ -65,7 +65,7 @@ keys_until states (suc t) = keys_until states t ++ flat_map keys_of_slot (states
 -- ---- the trie
 
 -- the trie of a run of so many steps, where indirections have these depths and paths
-abbrev pub trie_of : Limits → (ℕ → State) → ℕ → (Ref → ℕ) → (Ref → ℕ) → Trie
+abbrev pub trie_of : Bounds → (ℕ → State) → ℕ → (Ref → ℕ) → (Ref → ℕ) → Trie
 trie_of limits states last depth path = record {
   kind = limits.hash;
   last = last;

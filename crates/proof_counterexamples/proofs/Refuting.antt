@@ -13,7 +13,8 @@ use Rattle.proof_counterexamples.specs.Beneath.history.specs.Worlds.{HandleMap, 
 use Rattle.proof_counterexamples.specs.Beneath.history.specs.Histories.{Operation, BeginsAt, EndsAt, HasEnded, IsWellFormed}
 use Rattle.proof_counterexamples.specs.Beneath.history.specs.Orders.{OrderedAt, Answered, Recalls, RecallsEach, Replays, Explains}
 use Rattle.proof_counterexamples.specs.Beneath.history.proofs.OneWorld.{same_call}
-use Rattle.machine_model.specs.States.{State}
+use Rattle.machine_model.specs.declared.steps.Bounds.{Bounds}
+use Rattle.machine_model.specs.Records.{Record}
 use Rattle.proof_counterexamples.specs.Laws.{IsIllegal}
 use Rattle.proof_counterexamples.proofs.Views.{View, shown, first_view, shown_first}
 use Rattle.proof_counterexamples.proofs.Told.{Told, told, Fits, fits}
@@ -132,18 +133,18 @@ not_refuted hash history (id ∷ ids) (one ∷ more) world last well recalls lea
     ∙ not_refuted_by (told (shown world) one.call one.opens recorded) leads.0 rest told_rightly (not_refuted hash history ids more leads.0 last well recalls.1 leads.2)
 
 -- an order that is refuted isn't legal
-abbrev pub IsRefuted : (State → List ℕ) → State → Type 0
-IsRefuted rule last = is_refuted last.events (rule last) first_view ≡ true
+abbrev pub IsRefuted : (Record → List ℕ) → Record → Type 0
+IsRefuted rule past = is_refuted past.events (rule past) first_view ≡ true
 
-pub refused : (rule : State → List ℕ) (last : State) → IsRefuted rule last → IsIllegal rule last
-refused rule last is legal =
-    let explains : Explains (hash_of last.limits.hash) last.events (rule last) legal.0 = legal.1 in
+pub refused : (rule : Record → List ℕ) (limits : Bounds) (past : Record) → IsRefuted rule past → IsIllegal rule limits past
+refused rule limits past is legal =
+    let explains : Explains (hash_of limits.hash) past.events (rule past) legal.0 = legal.1 in
     let replayed = explains.replayed in
-    let not = not_refuted (hash_of last.limits.hash) last.events (rule last) replayed.0 first_world legal.0 explains.well_formed replayed.1 replayed.2 in
-    true≢false (sym is ∙ ap (λ v. is_refuted last.events (rule last) v) (sym shown_first) ∙ not)
+    let not = not_refuted (hash_of limits.hash) past.events (rule past) replayed.0 first_world legal.0 explains.well_formed replayed.1 replayed.2 in
+    true≢false (sym is ∙ ap (λ v. is_refuted past.events (rule past) v) (sym shown_first) ∙ not)
 
 -- nor is one in which a refused operation stands
-pub refused_by : (rule : State → List ℕ) (last : State) (i id place : ℕ) → OrderedAt (rule last) i id → EndsAt last.events place id NoSlots → IsIllegal rule last
-refused_by rule last i id place stands ended legal =
-    let explains : Explains (hash_of last.limits.hash) last.events (rule last) legal.0 = legal.1 in
+pub refused_by : (rule : Record → List ℕ) (limits : Bounds) (past : Record) (i id place : ℕ) → OrderedAt (rule past) i id → EndsAt past.events place id NoSlots → IsIllegal rule limits past
+refused_by rule limits past i id place stands ended legal =
+    let explains : Explains (hash_of limits.hash) past.events (rule past) legal.0 = legal.1 in
     explains.candidate.not_refused i id stands (place, ended)

@@ -20,7 +20,7 @@ use Rattle.machine_model.specs.declared.repairs.ClimbLine.TheVariants as climb
 use Rattle.machine_model.specs.declared.copying.CopyLine.TheVariants as copy
 use Rattle.machine_model.specs.declared.lines.Line.{Line}
 use Rattle.machine_model.specs.declared.lines.Line.TheVariants as line
-use Rattle.machine_model.specs.declared.steps.Limits.{Limits}
+use Rattle.machine_model.specs.declared.steps.Bounds.{Bounds}
 use Rattle.machine_model.specs.declared.steps.Step.{Step}
 use Rattle.machine_model.specs.declared.steps.Step.TheVariants as step
 use Rattle.proof_counterexamples.specs.Beneath.slot_arena.specs.Heaps.{Heap, node_at, generation_at, bitmap_of, written, next_ref}
@@ -31,20 +31,27 @@ use Rattle.machine_model.specs.Paths.{flag_in}
 use Rattle.machine_model.specs.Building.{changed}
 use Rattle.machine_model.specs.Swapping.{root_after}
 use Rattle.machine_model.specs.Operations.{given_root}
-use Rattle.machine_model.specs.Orders.{place_of}
+use Rattle.machine_model.specs.Records.{Record, first_record, next_record, place_of}
+use Rattle.machine_model.specs.Tellings.{entrant_of}
 use Rattle.machine_model.specs.Machine.{next_state}
 
--- a machine: what a step makes of a state
-abbrev pub Machine : Type 0
-Machine = State → Step → State
+-- a machine: what a step makes of a state, and what is recorded of it
+pub record Machine : Type 0 where
+  pub step : State → Step → State
+  pub note : State → Record → Step → Record
 
--- the state after these steps of the machine
-unfoldable pub machine_from : Machine → State → List Step → State
-machine_from machine state [] = state
-machine_from machine state (s ∷ steps) = machine_from machine (machine state s) steps
+-- one that takes these steps, and records as the true one does
+abbrev pub stepping : (State → Step → State) → Machine
+stepping step = record { step = step; note = next_record }
 
-abbrev pub run_of : Machine → Limits → List Step → State
-run_of machine limits steps = machine_from machine (first_state limits) steps
+-- what is recorded after these steps of the machine
+unfoldable pub machine_from : Machine → State → Record → List Step → Record
+machine_from machine state past [] = past
+machine_from machine state past (s ∷ steps) = machine_from machine (machine.step state s) (machine.note state past s) steps
+
+-- the record of the machine's run on these steps
+abbrev pub record_by : Machine → Bounds → List Step → Record
+record_by machine limits steps = machine_from machine (first_state limits) (first_record limits) steps
 
 abbrev pub with_line : (Line → Line) → Option Operation → Option Operation
 with_line change None = None
@@ -59,30 +66,38 @@ abbrev pub with_node : Node → Heap → Option Ref → Heap
 with_node node heap None = heap
 with_node node heap (Some r) = written (λ slot. record slot { node = node }) heap r
 
--- after a step of this operation, if it is one: what is made of the state before it and the state after it
-abbrev pub after_step_of : (State → Operation → State → State) → Option Operation → Machine
-after_step_of change None state s = next_state state s
-after_step_of change (Some operation) state s = change state operation (next_state state s)
+-- the operation whose step it is
+abbrev pub operation_in : State → Step → Option Operation
+operation_in state (step.Go actor) = operation_of state actor
+operation_in state s = None
 
+-- what is made of something after a step of this operation, if it is one
+abbrev pub after_step_of : {X : Type 0} → (Operation → X → X) → Option Operation → X → X
+after_step_of change None after = after
+after_step_of change (Some operation) after = change operation after
+
+-- of the state before it and the state after it
 abbrev pub after_steps : (State → Operation → State → State) → Machine
-after_steps change state (step.Go actor) = after_step_of change (operation_of state actor) state (step.Go actor)
-after_steps change state s = next_state state s
+after_steps change = stepping (λ state s. after_step_of (change state) (operation_in state s) (next_state state s))
 
 -- ---- a late removal is placed by the root that its climb read
 
 -- the operation's place by this generation; other places stay
-abbrev pub placed_by : State → Operation → Option ℕ → Place → Place
-placed_by state operation generation place =
-    if place.id == operation.id then place_of state (record operation { generation = generation }) place.moment place.changed_nothing else place
+abbrev pub placed_by : Record → Operation → Option ℕ → Place → Place
+placed_by past operation generation place =
+    if place.id == operation.id then place_of past (record (entrant_of operation) { generation = generation }) place.moment place.changed_nothing else place
 
-abbrev pub placed_again : State → Operation → Line → State → State
-placed_again state operation (line.Climb (climb.Root c l)) after =
+abbrev pub placed_again : State → Record → Operation → Line → Record → Record
+placed_again state past operation (line.Climb (climb.Root c l)) now =
     let given = root_after state.heap operation.access (word_at state (handle_of operation.call)) l in
-    record after { places = map (placed_by state operation (given_root state given operation.generation)) after.places }
-placed_again state operation other after = after
+    record now { places = map (placed_by past operation (given_root state given operation.generation)) now.places }
+placed_again state past operation other now = now
 
 abbrev pub by_the_new_root : Machine
-by_the_new_root = after_steps (λ state operation after. placed_again state operation operation.line after)
+by_the_new_root = record {
+  step = next_state;
+  note = λ state past s. after_step_of (λ operation now. placed_again state past operation operation.line now) (operation_in state s) (next_record state past s);
+}
 
 -- ---- a node is committed without asking the root
 
@@ -96,7 +111,7 @@ unasked_line heap (line.Swap why s) = line.Swap why (record s { line = unasked h
 unasked_line heap other = other
 
 abbrev pub without_the_root : Machine
-without_the_root state s = let after = next_state state s in with_lines (unasked_line after.heap) after
+without_the_root = stepping (λ state s. let after = next_state state s in with_lines (unasked_line after.heap) after)
 
 -- ---- the root is swapped whatever main node it has
 
@@ -112,7 +127,7 @@ uncompared_line (line.Copy (copy.Complete c)) = line.Copy (copy.Complete (taken_
 uncompared_line other = other
 
 abbrev pub without_comparing : Machine
-without_comparing state s = with_lines uncompared_line (next_state state s)
+without_comparing = stepping (λ state s. with_lines uncompared_line (next_state state s))
 
 -- ---- cleaning drops the tomb's single
 

@@ -5,20 +5,19 @@ use Rattle.proof_counterexamples.specs.Beneath.history.specs.declared.events.Eve
 use Rattle.proof_counterexamples.specs.Beneath.history.specs.declared.events.Event.TheVariants.{Begin, End}
 use Rattle.proof_counterexamples.specs.Beneath.places.specs.declared.place.Place.{Place}
 use Rattle.proof_counterexamples.specs.Beneath.places.specs.Places.{ids_by_place}
-use Rattle.machine_model.specs.States.{State}
-use Rattle.machine_model.specs.Orders.{order_of}
+use Rattle.machine_model.specs.Records.{Record, order_of}
 
 -- the place as of what is never late: by its moment
 abbrev pub by_moment : Place → Place
 by_moment place = record place { step = place.moment; on_time = true }
 
 -- a change that is committed late stands where it was committed
-abbrev pub with_late_commits_at_the_end : State → List ℕ
-with_late_commits_at_the_end state = ids_by_place (map (λ place. if place.changed_nothing then place else by_moment place) state.places)
+abbrev pub with_late_commits_at_the_end : Record → List ℕ
+with_late_commits_at_the_end past = ids_by_place (map (λ place. if place.changed_nothing then place else by_moment place) past.places)
 
 -- a call that read late in a closed generation, and changed nothing, stands where it read
-abbrev pub with_late_reads_at_the_end : State → List ℕ
-with_late_reads_at_the_end state = ids_by_place (map (λ place. if place.changed_nothing then by_moment place else place) state.places)
+abbrev pub with_late_reads_at_the_end : Record → List ℕ
+with_late_reads_at_the_end past = ids_by_place (map (λ place. if place.changed_nothing then by_moment place else place) past.places)
 
 abbrev pub answered : Event → List ℕ
 answered (Begin id actor call opens) = []
@@ -26,13 +25,13 @@ answered (End id NoSlots) = []
 answered (End id answer) = id ∷ []
 
 -- the operations that were answered, in the order of their ends
-abbrev pub by_ends : State → List ℕ
-by_ends state = flat_map answered state.events
+abbrev pub by_ends : Record → List ℕ
+by_ends past = flat_map answered past.events
 
 abbrev pub refused : Event → List ℕ
 refused (End id NoSlots) = id ∷ []
 refused event = []
 
 -- those that were refused stand in the order too, behind the others
-abbrev pub with_refused : State → List ℕ
-with_refused state = order_of state ++ flat_map refused state.events
+abbrev pub with_refused : Record → List ℕ
+with_refused past = order_of past ++ flat_map refused past.events

@@ -8,6 +8,7 @@ use Rattle.proof_generations.specs.Beneath.machine_model.specs.declared.lines.Li
 use Rattle.proof_generations.specs.Beneath.machine_model.specs.declared.lines.Purpose.{Purpose}
 use Rattle.proof_generations.specs.Beneath.machine_model.specs.declared.lines.Purpose.TheVariants as purpose
 use Rattle.proof_generations.specs.Beneath.machine_model.specs.declared.operations.Operation.{Operation}
+use Rattle.proof_generations.specs.Beneath.machine_model.specs.declared.records.Moment.{Moment}
 use Rattle.proof_generations.specs.Beneath.machine_model.specs.declared.reading.After.TheVariants.{Gives}
 use Rattle.proof_generations.specs.Beneath.machine_model.specs.declared.reading.Read.{Read}
 use Rattle.proof_generations.specs.Beneath.machine_model.specs.declared.reading.ReadLine.TheVariants as read
@@ -15,12 +16,11 @@ use Rattle.proof_generations.specs.Beneath.machine_model.specs.declared.reading.
 use Rattle.proof_generations.specs.Beneath.machine_model.specs.declared.repairs.RenewLine.{RenewLine}
 use Rattle.proof_generations.specs.Beneath.machine_model.specs.declared.repairs.RenewLine.TheVariants as renew
 use Rattle.proof_generations.specs.Beneath.machine_model.specs.declared.roots.Root.{Root}
-use Rattle.proof_generations.specs.Beneath.machine_model.specs.declared.steps.Limits.{Limits}
+use Rattle.proof_generations.specs.Beneath.machine_model.specs.declared.steps.Bounds.{Bounds}
 use Rattle.proof_generations.specs.Beneath.machine_model.specs.declared.steps.Outcome.{Outcome}
 use Rattle.proof_generations.specs.Beneath.machine_model.specs.declared.steps.Step.TheVariants.{Go}
-use Rattle.proof_generations.specs.Beneath.machine_model.specs.States.{State, root_at, operation_of, closed_at}
+use Rattle.proof_generations.specs.Beneath.machine_model.specs.States.{State, root_at, operation_of}
 use Rattle.proof_generations.specs.Beneath.machine_model.specs.Operations.{read_of}
-use Rattle.proof_generations.specs.Beneath.machine_model.specs.Orders.{moment_after}
 use Rattle.proof_generations.specs.Beneath.machine_model.specs.Reading.{read_step}
 use Rattle.proof_generations.specs.Beneath.machine_model.specs.Moves.{Moves}
 use Rattle.proof_generations.specs.Beneath.machine_model.specs.Grown.{node_under}
@@ -29,6 +29,8 @@ use Rattle.proof_generations.specs.Laws.Roots.{root_generation}
 use Rattle.proof_contents.specs.Tries.{generation, node_in}
 use Rattle.proof_contents.specs.Runs.{counting_main, trie_of}
 use Rattle.proof_contents.specs.Lines.Repairs.{ReadsBelow}
+use Rattle.proof_generations.specs.Beneath.machine_model.specs.Records.{Record, closed_at, moment_at, noted}
+use Rattle.proof_generations.specs.Beneath.machine_model.specs.Tellings.{told_in}
 
 -- ---- what falls
 
@@ -38,19 +40,19 @@ WasOpened states t g =
     (u : ℕ) × (u ≤ t) × ((handle : ℕ) × (root : Root) × (root_at (states u) handle ≡ Some root) × (root_generation (states u) root ≡ g))
 
 -- the generation was closed before step t
-abbrev pub WasClosed : (ℕ → State) → ℕ → ℕ → Type 0
-WasClosed states t g = (c : ℕ) × (c < t) × (closed_at (states t) g ≡ Some c)
+abbrev pub WasClosed : (ℕ → Record) → ℕ → ℕ → Type 0
+WasClosed records t g = (c : ℕ) × (c < t) × (closed_at (records t) g ≡ Some c)
 
 -- an indirection of generation h may stand below one of generation g: it has the same, or an older one that was closed before step t
-abbrev pub MayStandBelow : (ℕ → State) → ℕ → ℕ → ℕ → Type 0
-MayStandBelow states t g h = (h ≡ g) ⊎ ((h < g) × WasClosed states t h)
+abbrev pub MayStandBelow : (ℕ → Record) → ℕ → ℕ → ℕ → Type 0
+MayStandBelow records t g h = (h ≡ g) ⊎ ((h < g) × WasClosed records t h)
 
 -- an indirection of generation h stands under the reference; its main word doesn't count
 abbrev pub IsIndirectionOf : (ℕ → State) → ℕ → ℕ → Ref → Type 0
 IsIndirectionOf states last h r = (word : Ref) × (node_under states last r ≡ Indirection h word)
 
 -- the same with no new root left out, and of all main nodes of the trie: none has a greater generation
-abbrev pub NoneIsNewer : Limits → (ℕ → State) → ℕ → Type 0
+abbrev pub NoneIsNewer : Bounds → (ℕ → State) → ℕ → Type 0
 NoneIsNewer limits states last =
     (depth path : Ref → ℕ) (t : ℕ) → t ≤ last → (i child : Ref) (h : ℕ) (word : Ref) → let trie = trie_of limits states last depth path in Contains (entries_of (node_in trie t i)) child →
     trie.node child ≡ Indirection h word → generation trie child ≤ generation trie i
@@ -82,19 +84,20 @@ abbrev pub ReadsClosed : Operation → ℕ → Type 0
 ReadsClosed operation h = (operation.access ≡ ReadOnly) ⊎ (ReadsBelow operation.line × (operation.generation ≡ Some h → ⊥))
 
 -- the generation was closed before step t, and before the READ's last read or swap of the main word, if there was one
-abbrev pub IsLate : (ℕ → State) → ℕ → Operation → Read → ℕ → Type 0
-IsLate states t operation r h = (c : ℕ) × (c < t) × (closed_at (states t) h ≡ Some c) × ((r.line ≡ read.Main) ⊎ (c < operation.read_at))
+abbrev pub IsLate : (ℕ → Record) → ℕ → Moment → Read → ℕ → Type 0
+IsLate records t x r h = (c : ℕ) × (c < t) × (closed_at (records t) h ≡ Some c) × ((r.line ≡ read.Main) ⊎ (c < x.read_at))
 
 -- what is read so has a generation that was closed before the READ began
-abbrev pub ClosedBeforeRead : (ℕ → State) → ℕ → Type 0
-ClosedBeforeRead states last =
+abbrev pub ClosedBeforeRead : (ℕ → State) → (ℕ → Record) → ℕ → Type 0
+ClosedBeforeRead states records last =
     (t : ℕ) → t ≤ last → (actor : ℕ) (operation : Operation) (r : Read) → operation_of (states t) actor ≡ Some operation → read_of operation.line ≡ Some r →
-    ReadsClosed operation (generation_of (node_under states last r.indirection)) → IsLate states t operation r (generation_of (node_under states last r.indirection))
+    ReadsClosed operation (generation_of (node_under states last r.indirection)) → IsLate records t (moment_at (records t) actor) r (generation_of (node_under states last r.indirection))
 
 -- step t is the last of a READ of the actor's operation, which gives this main node of the indirection
-pub record GivesAt (states : ℕ → State) (t actor : ℕ) (operation : Operation) (i m : Ref) : Type 0 where
+pub record GivesAt (states : ℕ → State) (records : ℕ → Record) (t actor : ℕ) (operation : Operation) (i m : Ref) : Type 0 where
   pub outcome : Outcome
   pub moves : Moves (states t) (Go actor) outcome (states (suc t))
+  pub notes : records (suc t) ≡ noted (records t) (states t).steps (told_in (states t) (Go actor))
   pub runs : operation_of (states t) actor ≡ Some operation
   pub no_swap : IsNoSwap operation.line
   pub read : Read
@@ -103,10 +106,10 @@ pub record GivesAt (states : ℕ → State) (t actor : ℕ) (operation : Operati
   pub gives : read_step (states t) operation read ≡ Gives m
 
 -- and for ever, where it was read so
-abbrev pub GivenForEver : (ℕ → State) → ℕ → Type 0
-GivenForEver states last =
-    (t : ℕ) → t < last → (actor : ℕ) (operation : Operation) (i m : Ref) → GivesAt states t actor operation i m → ReadsClosed operation (generation_of (node_under states last i)) →
-    (u : ℕ) → moment_after (states t) operation < u → u ≤ last → counting_main states last u i ≡ m
+abbrev pub GivenForEver : (ℕ → State) → (ℕ → Record) → ℕ → Type 0
+GivenForEver states records last =
+    (t : ℕ) → t < last → (actor : ℕ) (operation : Operation) (i m : Ref) → GivesAt states records t actor operation i m → ReadsClosed operation (generation_of (node_under states last i)) →
+    (u : ℕ) → (moment_at (records (suc t)) actor).moment < u → u ≤ last → counting_main states last u i ≡ m
 
 -- What an operation of generation g knows at step t of a main node that it was given for an indirection: that it counted at some time, and, where the
 -- indirection has another generation, that it counts for ever.
@@ -115,7 +118,7 @@ WasGiven states last g t i m =
     ((u : ℕ) × (u ≤ t) × (counting_main states last u i ≡ m)) × ((generation_of (node_under states last i) ≡ g → ⊥) → counting_main states last last i ≡ m)
 
 -- where a repair's READ gives it
-abbrev pub RepairsAreGiven : (ℕ → State) → ℕ → Type 0
-RepairsAreGiven states last =
-    (t : ℕ) → t < last → (actor : ℕ) (operation : Operation) (g : ℕ) (i m : Ref) → GivesAt states t actor operation i m → operation.generation ≡ Some g → ReadsBelow operation.line →
+abbrev pub RepairsAreGiven : (ℕ → State) → (ℕ → Record) → ℕ → Type 0
+RepairsAreGiven states records last =
+    (t : ℕ) → t < last → (actor : ℕ) (operation : Operation) (g : ℕ) (i m : Ref) → GivesAt states records t actor operation i m → operation.generation ≡ Some g → ReadsBelow operation.line →
     WasGiven states last g (suc t) i m

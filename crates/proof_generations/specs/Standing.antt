@@ -4,7 +4,8 @@ use Rattle.proof_generations.specs.Beneath.history.specs.declared.calls.Access.{
 use Rattle.proof_generations.specs.Beneath.history.specs.declared.calls.Access.TheVariants.{Writable}
 use Rattle.proof_generations.specs.Beneath.slot_arena.specs.Heaps.{Heap, generation_at}
 use Rattle.proof_generations.specs.Beneath.machine_model.specs.declared.roots.Root.{Root}
-use Rattle.proof_generations.specs.Beneath.machine_model.specs.States.{State, root_at, root_of, closed_at}
+use Rattle.proof_generations.specs.Beneath.machine_model.specs.States.{State, root_at, root_of}
+use Rattle.proof_generations.specs.Beneath.machine_model.specs.Records.{Record, closed_at}
 
 -- the kind of an open handle, and the generation of its root
 abbrev pub standing_of : Heap → Option Root → Option (Access × ℕ)
@@ -19,6 +20,6 @@ abbrev pub On : (ℕ → State) → ℕ → ℕ → ℕ → Type 0
 On states t handle generation = standing (states t) handle ≡ Some (Writable, generation)
 
 -- the root of the writable handle has this generation, or had it until it was closed
-abbrev pub IsRooted : (ℕ → State) → ℕ → ℕ → ℕ → Type 0
-IsRooted states t handle generation =
-    On states t handle generation ⊎ ((c : ℕ) × (c < t) × (closed_at (states t) generation ≡ Some c) × On states c handle generation)
+abbrev pub IsRooted : (ℕ → State) → (ℕ → Record) → ℕ → ℕ → ℕ → Type 0
+IsRooted states records t handle generation =
+    On states t handle generation ⊎ ((c : ℕ) × (c < t) × (closed_at (records t) generation ≡ Some c) × On states c handle generation)

@@ -1,6 +1,6 @@
 -- An operation that runs alone from rest enters the order last, or not at all where it is refused for want of slots.
 use Rattle.std.specs.Prelude.{◌≡◌, ◌≢◌, ◌<◌, ◌≤◌, ◌⊎◌, ℕ, suc, List, ◌∷◌, ◌++◌, Option, Some, Contains, [], length}
-use Rattle.std.proofs.Common.{refl, sym, ap, subst, arith, ◌∙◌, inl, inr, append-nil}
+use Rattle.std.proofs.Common.{zero, refl, sym, ap, subst, arith, ◌∙◌, inl, inr, append-nil}
 use Rattle.std.proofs.lemmas.Bool.{cases_lt}
 use Rattle.std.proofs.lemmas.List.{length-append}
 use Rattle.proof_linearizable.specs.Beneath.ctrie_base.specs.Hashes.{hash_of}
@@ -13,34 +13,48 @@ use Rattle.proof_linearizable.specs.Beneath.history.specs.Histories.{HasBegun, H
 use Rattle.proof_linearizable.specs.Beneath.history.specs.Orders.{OrderedAt, Explains}
 use Rattle.proof_linearizable.specs.Beneath.places.specs.declared.place.Place.{Place}
 use Rattle.proof_linearizable.specs.Beneath.places.specs.Places.{rising, ids_by_place}
-use Rattle.proof_linearizable.specs.Beneath.machine_model.specs.declared.steps.Limits.{Limits}
+use Rattle.proof_linearizable.specs.Beneath.machine_model.specs.declared.steps.Bounds.{Bounds}
 use Rattle.proof_linearizable.specs.Beneath.machine_model.specs.declared.steps.Step.{Step}
 use Rattle.proof_linearizable.specs.Beneath.machine_model.specs.States.{State, first_state}
-use Rattle.proof_linearizable.specs.Beneath.machine_model.specs.Orders.{order_of}
-use Rattle.proof_linearizable.specs.Beneath.machine_model.specs.Machine.{AreLimits, run, taken_steps, taken_from}
-use Rattle.proof_linearizable.specs.Beneath.machine_model.proofs.Times.{run_is, run_ends}
-use Rattle.proof_linearizable.specs.Beneath.machine_model.specs.Times.{states_of, last_of}
+use Rattle.proof_linearizable.specs.Beneath.machine_model.specs.Machine.{AreBounds, run, taken_steps, taken_from, next_state}
+use Rattle.proof_linearizable.specs.Beneath.machine_model.proofs.Times.{run_is, records_from-zero}
+use Rattle.proof_linearizable.specs.Beneath.machine_model.specs.Times.{states_of, last_of, records_of, records_from}
 use Rattle.proof_linearizable.specs.Beneath.proof_order.specs.Facts.{Facts}
 use Rattle.proof_linearizable.specs.Beneath.proof_order.specs.Laws.Orders.{IsExplained, ShowsContents}
 use Rattle.proof_linearizable.specs.Beneath.history.proofs.Among.{Among, among_right}
 use Rattle.proof_linearizable.specs.Beneath.proof_order.proofs.Places.Elements.{of_each, get_among, among_get, among_map, among_mapped, contains_among}
 use Rattle.proof_linearizable.specs.Beneath.proof_order.proofs.Places.Sorting.{AreApart, among_rising, rising_among}
-use Rattle.proof_linearizable.specs.Beneath.proof_order.proofs.History.Growing.{Grows, IsKept, holds_later, events_grow, get_grown}
+use Rattle.proof_linearizable.specs.Beneath.proof_order.proofs.History.Growing.{Grows, holds_later, events_grow, get_grown}
 use Rattle.proof_linearizable.specs.Beneath.proof_order.proofs.Views.Unconditional.{books_of, stay}
 use Rattle.proof_linearizable.specs.Beneath.proof_order.proofs.History.HaveBegun.{placed_begun}
 use Rattle.proof_linearizable.specs.Beneath.proof_order.proofs.History.AllBooks.{books_at}
 use Rattle.proof_linearizable.specs.Beneath.proof_order.proofs.Places.Origins.{apart_at}
 use Rattle.proof_linearizable.specs.Beneath.proof_order.proofs.Places.Members.{step_within}
-use Rattle.proof_linearizable.specs.Beneath.proof_shape.proofs.Sites.Fixed.{taken-append, states_of-append}
+use Rattle.proof_linearizable.specs.Beneath.proof_shape.proofs.Sites.Fixed.{taken-append}
 use Rattle.proof_linearizable.specs.Laws.{RanAlone, Does, refused as does_nothing, acts as does_act}
 use Rattle.proof_linearizable.proofs.AtRest.{all_ended}
 use Rattle.proof_linearizable.proofs.SortedLast.{ids_last}
 use Rattle.proof_linearizable.proofs.Telling.{another, begun_back, ends_here, acts_last, same_world}
+use Rattle.proof_linearizable.specs.Beneath.machine_model.specs.Records.{order_of, record_of, Record, first_record, next_record}
+use Rattle.proof_linearizable.specs.Beneath.machine_model.proofs.Recorded.{KeptByNotes, record_ends}
 
 -- more steps go on from those before
-longer : (limits : Limits) (xs ys : List Step) → last_of limits xs ≤ last_of limits (xs ++ ys)
+longer : (limits : Bounds) (xs ys : List Step) → last_of limits xs ≤ last_of limits (xs ++ ys)
 longer limits xs ys =
     let e = ap length (taken-append (first_state limits) xs ys) ∙ length-append (taken_steps limits xs) (taken_from (run limits xs) ys) in omega (arith, e)
+
+-- what is recorded before step t of some steps isn't changed by more steps
+records_from-append : (state : State) (past : Record) (xs ys : List Step) (t : ℕ) → t ≤ length xs → records_from state past (xs ++ ys) t ≡ records_from state past xs t
+unfolding records_from
+records_from-append state past [] ys zero h = records_from-zero state past ys
+records_from-append state past [] ys (suc t) h = absurd (omega (arith, h))
+records_from-append state past (x ∷ xs) ys zero h = refl
+records_from-append state past (x ∷ xs) ys (suc t) h = records_from-append (next_state state x) (next_record state past x) xs ys t (omega (arith, h))
+
+records_in_front : (limits : Bounds) (xs ys : List Step) → records_of limits (xs ++ ys) (last_of limits xs) ≡ records_of limits xs (last_of limits xs)
+records_in_front limits xs ys =
+    ap (λ l. records_from (first_state limits) (first_record limits) l (last_of limits xs)) (taken-append (first_state limits) xs ys)
+    ∙ records_from-append (first_state limits) (first_record limits) (taken_steps limits xs) (taken_from (run limits xs) ys) (last_of limits xs) (omega arith)
 
 -- a reply tells want of slots, or it doesn't
 no_slots : (r : Reply) → (r ≡ reply.NoSlots) ⊎ (r ≢ reply.NoSlots)
@@ -81,19 +95,19 @@ one_at_most id [] apart all = inl refl
 one_at_most id (p ∷ []) apart all = inr (p, refl, all p (inl refl))
 one_at_most id (p ∷ q ∷ more) apart all = absurd (apart.0.0 (all p (inl refl) ∙ sym (all q (inr (inl refl)))))
 
-begun_kept : (id : ℕ) → IsKept (λ state. HasBegun state.events id)
-begun_kept id state s o after m (place, told, at) = (place, told, get_grown state.events after.events place (Begin id told.actor told.call told.opens) (events_grow state s o after m) at)
+begun_kept : (id : ℕ) → KeptByNotes (λ state past. HasBegun past.events id)
+begun_kept id state past s o after m (place, told, at) = (place, told, get_grown past.events _ place (Begin id told.actor told.call told.opens) (events_grow state past s o after m) at)
 
-module _ (limits : Limits) (steps more : List Step) (ok : AreLimits limits) (id actor : ℕ) (call : Call) (opens : Option ℕ) (answer : Reply)
-    (alone : RanAlone (run limits steps) (run limits (steps ++ more)) id actor call opens answer)
-    (V0 : ℕ → ℕ → KeyMap) (facts0 : Facts limits (states_of limits steps) (last_of limits steps) V0)
-    (V1 : ℕ → ℕ → KeyMap) (facts1 : Facts limits (states_of limits (steps ++ more)) (last_of limits (steps ++ more)) V1)
-    (old : IsExplained limits (run limits steps)) (new : IsExplained limits (run limits (steps ++ more))) where
-  abbrev before : State
-  before = run limits steps
+module _ (limits : Bounds) (steps more : List Step) (ok : AreBounds limits) (id actor : ℕ) (call : Call) (opens : Option ℕ) (answer : Reply)
+    (alone : RanAlone (run limits steps) (record_of limits steps) (record_of limits (steps ++ more)) id actor call opens answer)
+    (V0 : ℕ → ℕ → KeyMap) (facts0 : Facts limits (states_of limits steps) (records_of limits steps) (last_of limits steps) V0)
+    (V1 : ℕ → ℕ → KeyMap) (facts1 : Facts limits (states_of limits (steps ++ more)) (records_of limits (steps ++ more)) (last_of limits (steps ++ more)) V1)
+    (old : IsExplained limits (run limits steps) (record_of limits steps)) (new : IsExplained limits (run limits (steps ++ more)) (record_of limits (steps ++ more))) where
+  abbrev before : Record
+  before = record_of limits steps
 
-  abbrev after : State
-  after = run limits (steps ++ more)
+  abbrev after : Record
+  after = record_of limits (steps ++ more)
 
   well : IsWellFormed (before.events ++ Begin id actor call opens ∷ End id answer ∷ [])
   well = subst IsWellFormed alone.told new.1.well_formed
@@ -102,13 +116,13 @@ module _ (limits : Limits) (steps more : List Step) (ok : AreLimits limits) (id 
   grown = stay limits steps more
 
   apart : AreApart (before.places ++ grown.0)
-  apart = subst AreApart (ap (λ (s : State). s.places) (run_ends limits (steps ++ more)) ∙ grown.1)
+  apart = subst AreApart (ap (λ (s : Record). s.places) (record_ends limits (steps ++ more)) ∙ grown.1)
       (apart_at limits (states_of limits (steps ++ more)) (last_of limits (steps ++ more)) (run_is limits (steps ++ more) ok) V1 facts1 (last_of limits (steps ++ more)) (omega arith))
 
   -- a new place is of this operation
   new_begun : (p : Place) → Among p grown.0 → HasBegun before.events p.id → ⊥
   new_begun p a begun =
-      let (told, ended) = all_ended before (books_of limits steps) alone.rest p.id begun in
+      let (told, ended) = all_ended (run limits steps) before (books_of limits steps) alone.rest p.id begun in
       let later : HasEnded after.events p.id told = (ended.0, get_grown before.events after.events ended.0 (End p.id told) (_, alone.told) ended.1) in
       let (i, at) = ordered_of after.places p (subst (Among p) (sym grown.1) (among_right before.places grown.0 p a)) in
       let answered : told ≢ reply.NoSlots = λ e. new.1.candidate.not_refused i p.id at (subst (HasEnded after.events p.id) e later) in
@@ -131,20 +145,21 @@ module _ (limits : Limits) (steps more : List Step) (ok : AreLimits limits) (id 
       too_early : p.step < last_of limits steps → ⊥
       too_early low =
           let all = states_of limits (steps ++ more) in
+          let told_all = records_of limits (steps ++ more) in
           let within = longer limits steps more in
-          let contained : Contains (all (last_of limits (steps ++ more))).places p =
-          contains_among _ p (subst (λ (s : State). Among p s.places) (sym (run_ends limits (steps ++ more))) (subst (Among p) (sym grown.1) (among_right before.places grown.0 p a))) in
+          let contained : Contains (told_all (last_of limits (steps ++ more))).places p =
+          contains_among _ p (subst (λ (s : Record). Among p s.places) (sym (record_ends limits (steps ++ more))) (subst (Among p) (sym grown.1) (among_right before.places grown.0 p a))) in
           let (k, operation, runs, same) = facts1.runs_behind p contained in
           let told = (books_at limits all (last_of limits (steps ++ more)) (run_is limits (steps ++ more) ok) (suc p.step) (omega (arith, low, within))).told k operation runs in
-          let begun : HasBegun (all (suc p.step)).events p.id =
-          subst (HasBegun (all (suc p.step)).events) same (told.place, record { actor = suc k; call = operation.call; opens = operation.opens }, told.begins) in
-          let at_rest = holds_later limits all (last_of limits (steps ++ more)) (run_is limits (steps ++ more) ok) (λ s. HasBegun s.events p.id) (begun_kept p.id)
+          let begun : HasBegun (told_all (suc p.step)).events p.id =
+          subst (HasBegun (told_all (suc p.step)).events) same (told.place, record { actor = suc k; call = operation.call; opens = operation.opens }, told.begins) in
+          let at_rest = holds_later limits all (last_of limits (steps ++ more)) (run_is limits (steps ++ more) ok) (λ s past. HasBegun past.events p.id) (begun_kept p.id)
           (suc p.step) (last_of limits steps) (omega (arith, low)) (omega (arith, within)) begun in
-          new_begun p a (subst (λ (s : State). HasBegun s.events p.id) (states_of-append limits steps more (last_of limits steps) (omega arith) ∙ run_ends limits steps) at_rest)
+          new_begun p a (subst (λ (s : Record). HasBegun s.events p.id) (records_in_front limits steps more ∙ record_ends limits steps) at_rest)
 
   old_early : (p : Place) → Among p before.places → p.step < last_of limits steps
   old_early p a =
-      step_within limits (states_of limits steps) (last_of limits steps) (run_is limits steps ok) V0 facts0 p (subst (λ (s : State). Among p s.places) (sym (run_ends limits steps)) a)
+      step_within limits (states_of limits steps) (last_of limits steps) (run_is limits steps ok) V0 facts0 p (subst (λ (s : Record). Among p s.places) (sym (record_ends limits steps)) a)
 
   -- its own place, if it has one, is the last
   abbrev Enters : Type 0
@@ -200,5 +215,6 @@ module _ (limits : Limits) (steps more : List Step) (ok : AreLimits limits) (id 
         does_act other e (acts_last before.events id actor call opens answer well (hash_of limits.hash) (order_of before) old.0 new.0 old.1 (explained_longer (order_of before ++ id ∷ []) e))
   ]
 
-  pub acts_alone : (world next : HandleMap) × ShowsContents world before × ShowsContents next after × Does (hash_of limits.hash) before after id call opens answer world next
+  pub acts_alone : (world next : HandleMap) × ShowsContents world (run limits steps) × ShowsContents next (run limits (steps ++ more))
+      × Does (hash_of limits.hash) before after id call opens answer world next
   acts_alone = (old.0, new.0, old.2, new.2, does)

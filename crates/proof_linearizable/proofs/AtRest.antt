@@ -15,6 +15,7 @@ use Rattle.proof_linearizable.specs.Beneath.proof_order.specs.Facts.{Runs}
 use Rattle.proof_linearizable.specs.Beneath.proof_order.proofs.History.Books.{Books}
 use Rattle.proof_linearizable.specs.Beneath.history.proofs.Among.{Among}
 use Rattle.proof_linearizable.specs.Beneath.proof_order.proofs.Places.Elements.{among_get_or}
+use Rattle.proof_linearizable.specs.Beneath.machine_model.specs.Records.{Record}
 
 -- an end of the operation stands in the history, or none
 abbrev Decided : List Event → ℕ → Type 0
@@ -48,8 +49,8 @@ none_runs state rest k operation runs = by state.actors (among_get_or state.acto
     by (None ∷ more) (inr a) e = by more a e
     by (Some other ∷ more) a e = cc e
 
-pub all_ended : (state : State) → Books state → is_busy state ≡ false → (id : ℕ) → HasBegun state.events id → (answer : Reply) × HasEnded state.events id answer
-all_ended state books rest id (place, told, at) = elim (decided state.events id) [
+pub all_ended : (state : State) (past : Record) → Books state past → is_busy state ≡ false → (id : ℕ) → HasBegun past.events id → (answer : Reply) × HasEnded past.events id answer
+all_ended state past books rest id (place, told, at) = elim (decided past.events id) [
   | inl ended ↦ ended
   | inr none ↦
       let (k, operation, own, runs, same) = books.running id told.actor ((place, told, at, refl), none) in

@@ -2,12 +2,12 @@
 use Rattle.std.specs.Prelude.{ℕ, List, [], ◌∷◌, ◌++◌}
 use Rattle.std.proofs.lemmas.List.Elements.{All-nil, All-cons, All-head, All-tail}
 use Rattle.proof_linearizable.specs.Beneath.history.specs.Worlds.{KeyMap}
-use Rattle.proof_linearizable.specs.Beneath.machine_model.specs.declared.steps.Limits.{Limits}
+use Rattle.proof_linearizable.specs.Beneath.machine_model.specs.declared.steps.Bounds.{Bounds}
 use Rattle.proof_linearizable.specs.Beneath.machine_model.specs.declared.steps.Step.{Step}
 use Rattle.proof_linearizable.specs.Beneath.machine_model.specs.Keys.{FitsKey, KeysFit}
-use Rattle.proof_linearizable.specs.Beneath.machine_model.specs.Machine.{AreLimits}
+use Rattle.proof_linearizable.specs.Beneath.machine_model.specs.Machine.{AreBounds}
 use Rattle.proof_linearizable.specs.Beneath.machine_model.proofs.Times.{run_is}
-use Rattle.proof_linearizable.specs.Beneath.machine_model.specs.Times.{states_of, last_of}
+use Rattle.proof_linearizable.specs.Beneath.machine_model.specs.Times.{states_of, last_of, records_of}
 use Rattle.proof_linearizable.specs.Beneath.proof_contents.specs.Tries.{content}
 use Rattle.proof_linearizable.specs.Beneath.proof_order.specs.Facts.{Facts}
 use Rattle.proof_linearizable.specs.Beneath.proof_order.proofs.Views.Explained.{legal_by_facts}
@@ -20,7 +20,7 @@ use Rattle.proof_linearizable.proofs.FactsOfRuns.{facts}
 use Rattle.proof_linearizable.proofs.Alone.{acts_alone}
 
 -- the content of each generation before each step
-abbrev shown : Limits → List Step → ℕ → ℕ → KeyMap
+abbrev shown : Bounds → List Step → ℕ → ℕ → KeyMap
 shown limits steps = content (trie_of_run limits (states_of limits steps) (steps_of limits steps) (last_of limits steps))
 
 -- the keys of a beginning fit
@@ -28,7 +28,7 @@ pub fit_in_front : (xs ys : List Step) → KeysFit (xs ++ ys) → KeysFit xs
 fit_in_front [] ys fit = All-nil FitsKey
 fit_in_front (s ∷ xs) ys fit = All-cons FitsKey s xs (All-head FitsKey s (xs ++ ys) fit) (fit_in_front xs ys (All-tail FitsKey s (xs ++ ys) fit))
 
-facts_of : (limits : Limits) (steps : List Step) → AreLimits limits → KeysFit steps → Facts limits (states_of limits steps) (last_of limits steps) (shown limits steps)
+facts_of : (limits : Bounds) (steps : List Step) → AreBounds limits → KeysFit steps → Facts limits (states_of limits steps) (records_of limits steps) (last_of limits steps) (shown limits steps)
 facts_of limits steps ok fit =
     let r = run_is limits steps ok in
     facts limits (states_of limits steps) (last_of limits steps) r (steps_of limits steps) (takes_steps limits steps) (keys_fit limits steps fit)

@@ -4,25 +4,25 @@ use Rattle.proof_memory.specs.Beneath.slot_arena.specs.declared.refs.Ref.{Ref}
 use Rattle.proof_memory.specs.Beneath.slot_arena.specs.Arenas.{IsLive}
 use Rattle.proof_memory.specs.Beneath.slot_arena.specs.Times.{times}
 use Rattle.machine_model.specs.declared.operations.Operation.{Operation}
-use Rattle.machine_model.specs.declared.steps.Limits.{Limits}
+use Rattle.machine_model.specs.declared.steps.Bounds.{Bounds}
 use Rattle.machine_model.specs.declared.steps.Step.{Step}
 use Rattle.machine_model.specs.States.{handle_limit, operation_of}
 use Rattle.machine_model.specs.Operations.{action_of}
-use Rattle.machine_model.specs.Machine.{AreLimits, run}
+use Rattle.machine_model.specs.Machine.{AreBounds, run}
 use Rattle.proof_memory.specs.Wants.{AllHold, action_wants}
 
 -- no reference stands twice in a private list
 abbrev pub PrivatesOnce : Type 0
 PrivatesOnce =
-    (limits : Limits) (steps : List Step) (actor : ℕ) (operation : Operation) (r : Ref) → AreLimits limits → operation_of (run limits steps) actor ≡ Some operation →
+    (limits : Bounds) (steps : List Step) (actor : ℕ) (operation : Operation) (r : Ref) → AreBounds limits → operation_of (run limits steps) actor ≡ Some operation →
     times r operation.private ≤ 1
 
 -- there are as many handle numbers and actors as at first
 abbrev pub SizesStay : Type 0
-SizesStay = (limits : Limits) (steps : List Step) → (length (run limits steps).roots ≡ handle_limit) × (length (run limits steps).actors ≡ limits.actors)
+SizesStay = (limits : Bounds) (steps : List Step) → (length (run limits steps).roots ≡ handle_limit) × (length (run limits steps).actors ≡ limits.actors)
 
 -- each reference of a running operation's next action names a slot in use, of the kind that the action takes it for
 abbrev pub LinesLive : Type 0
 LinesLive =
-    (limits : Limits) (steps : List Step) (actor : ℕ) (operation : Operation) → AreLimits limits → operation_of (run limits steps) actor ≡ Some operation →
+    (limits : Bounds) (steps : List Step) (actor : ℕ) (operation : Operation) → AreBounds limits → operation_of (run limits steps) actor ≡ Some operation →
     AllHold (IsLive (run limits steps).heap) (run limits steps).heap (action_wants (action_of (run limits steps) operation))

@@ -10,7 +10,7 @@ use Rattle.machine_model.specs.declared.lines.Line.{Line}
 use Rattle.machine_model.specs.declared.lines.Line.TheVariants as line
 use Rattle.machine_model.specs.declared.operations.Operation.{Operation}
 use Rattle.machine_model.specs.declared.roots.Root.{Root}
-use Rattle.machine_model.specs.declared.steps.Limits.{Limits}
+use Rattle.machine_model.specs.declared.steps.Bounds.{Bounds}
 use Rattle.machine_model.specs.declared.steps.Step.{Step}
 use Rattle.machine_model.specs.declared.steps.Step.TheVariants.{Sweep}
 use Rattle.machine_model.specs.Calls.{handle_of}
@@ -18,9 +18,9 @@ use Rattle.machine_model.specs.States.{State, root_at, operation_of}
 use Rattle.machine_model.specs.Counting.{outside, refs_of_root}
 use Rattle.machine_model.specs.Contents.{IsReached, content_at, held}
 use Rattle.machine_model.specs.Operations.{action_of}
-use Rattle.machine_model.specs.Orders.{order_of}
-use Rattle.machine_model.specs.Machine.{AreLimits, is_busy, run, next_state}
+use Rattle.machine_model.specs.Machine.{AreBounds, is_busy, run, next_state}
 use Rattle.machine_model.specs.Grown.{standing}
+use Rattle.machine_model.specs.Records.{next_record, record_of}
 use Rattle.proof_memory.specs.Wants.{AllHold, is_formed, node_wants, prev_wants, word_wants, action_wants, line_wants}
 
 -- the reference names a slot in use, under that very birth
@@ -32,12 +32,12 @@ IsInUse heap r = (slot : Slot) × (standing heap r ≡ Some slot)
 -- each reference that a running operation has got since its begin names a slot in use
 abbrev pub HeldInUse : Type 0
 HeldInUse =
-    (limits : Limits) (steps : List Step) → AreLimits limits → (actor : ℕ) (r : Ref) → Contains (held limits steps actor) r → IsInUse (run limits steps).heap r
+    (limits : Bounds) (steps : List Step) → AreBounds limits → (actor : ℕ) (r : Ref) → Contains (held limits steps actor) r → IsInUse (run limits steps).heap r
 
 -- each reference that stands in a root word, in a private list or in a slot in use does
 abbrev pub StandingInUse : Type 0
 StandingInUse =
-    (limits : Limits) (steps : List Step) → AreLimits limits →
+    (limits : Bounds) (steps : List Step) → AreBounds limits →
     ((handle : ℕ) (r : Ref) → Contains (refs_of_root (root_at (run limits steps) handle)) r → IsInUse (run limits steps).heap r)
     × ((actor : ℕ) (operation : Operation) (r : Ref) → operation_of (run limits steps) actor ≡ Some operation → Contains operation.private r → IsInUse (run limits steps).heap r)
     × ((q r : Ref) → Contains (refs_of_slot (stored (run limits steps).heap q)) r → IsInUse (run limits steps).heap r)
@@ -47,7 +47,7 @@ StandingInUse =
 -- a reference that is drawn for a new slot was never in use before
 abbrev pub DrawnOnce : Type 0
 DrawnOnce =
-    (limits : Limits) (before since : List Step) (r : Ref) → AreLimits limits → next_ref (run limits (before ++ since)).heap ≡ Some r →
+    (limits : Bounds) (before since : List Step) (r : Ref) → AreBounds limits → next_ref (run limits (before ++ since)).heap ≡ Some r →
     ¬ IsInUse (run limits before).heap r
 
 -- the node is the same, but for the main word of an indirection
@@ -57,7 +57,7 @@ SameNode before after = (m : Ref) × (after ≡ with_main_word m before)
 -- whenever something stands under a reference it is the same node
 abbrev pub OneNodeForEver : Type 0
 OneNodeForEver =
-    (limits : Limits) (steps more : List Step) (r : Ref) (was now : Slot) → AreLimits limits → standing (run limits steps).heap r ≡ Some was →
+    (limits : Bounds) (steps more : List Step) (r : Ref) (was now : Slot) → AreBounds limits → standing (run limits steps).heap r ≡ Some was →
     standing (run limits (steps ++ more)).heap r ≡ Some now → SameNode was.node now.node
 
 -- ---- look-ups
@@ -65,14 +65,14 @@ OneNodeForEver =
 -- what a running operation's line takes its references for they are, and so is what its step touches
 abbrev pub LinesFind : Type 0
 LinesFind =
-    (limits : Limits) (steps : List Step) (actor : ℕ) (operation : Operation) → AreLimits limits → operation_of (run limits steps) actor ≡ Some operation →
+    (limits : Bounds) (steps : List Step) (actor : ℕ) (operation : Operation) → AreBounds limits → operation_of (run limits steps) actor ≡ Some operation →
     AllHold (IsInUse (run limits steps).heap) (run limits steps).heap (line_wants limits.hash operation.call operation.access operation.line)
     × AllHold (IsInUse (run limits steps).heap) (run limits steps).heap (action_wants (action_of (run limits steps) operation))
 
 -- what stands in a slot in use or a root word is what it is taken for there
 abbrev pub NodesFind : Type 0
 NodesFind =
-    (limits : Limits) (steps : List Step) → AreLimits limits →
+    (limits : Bounds) (steps : List Step) → AreBounds limits →
     ((r : Ref) (slot : Slot) → standing (run limits steps).heap r ≡ Some slot →
     AllHold (IsInUse (run limits steps).heap) (run limits steps).heap (node_wants slot.node ++ prev_wants slot.prev) × (is_formed slot.node ≡ true))
     × ((handle : ℕ) (root : Root) → root_at (run limits steps) handle ≡ Some root → AllHold (IsInUse (run limits steps).heap) (run limits steps).heap (word_wants root.word))
@@ -93,14 +93,14 @@ is_past_root l = true
 -- the handle of an operation is open until its end, and past the first line it knows the generation of its root
 abbrev pub RootsFind : Type 0
 RootsFind =
-    (limits : Limits) (steps : List Step) (actor : ℕ) (operation : Operation) → AreLimits limits → operation_of (run limits steps) actor ≡ Some operation →
+    (limits : Bounds) (steps : List Step) (actor : ℕ) (operation : Operation) → AreBounds limits → operation_of (run limits steps) actor ≡ Some operation →
     ((is_end operation.line || is_some (root_at (run limits steps) (handle_of operation.call))) ≡ true)
     × (is_past_root operation.line ≡ true → is_some operation.generation ≡ true)
 
 -- no operation comes to the impossible line
 abbrev pub NeverImpossible : Type 0
 NeverImpossible =
-    (limits : Limits) (steps : List Step) (actor : ℕ) (operation : Operation) → AreLimits limits → operation_of (run limits steps) actor ≡ Some operation →
+    (limits : Bounds) (steps : List Step) (actor : ℕ) (operation : Operation) → AreBounds limits → operation_of (run limits steps) actor ≡ Some operation →
     ¬ (operation.line ≡ line.Impossible)
 
 -- ---- counts
@@ -112,7 +112,7 @@ IsZero state r = IsInUse state.heap r × (count_of state.heap (outside state) r 
 -- limbo has the slots in use to which nothing refers
 abbrev pub LimboIsExact : Type 0
 LimboIsExact =
-    (limits : Limits) (steps : List Step) (r : Ref) → AreLimits limits →
+    (limits : Bounds) (steps : List Step) (r : Ref) → AreBounds limits →
     (IsZero (run limits steps) r → Contains (map (λ z. z.at) (run limits steps).limbo) r) × (Contains (map (λ z. z.at) (run limits steps).limbo) r → IsZero (run limits steps) r)
 
 -- each became zero in the epoch of the one before it or later
@@ -123,31 +123,30 @@ IsRising (z ∷ limbo) = All (λ y. z.epoch ≤ y.epoch) limbo × IsRising limbo
 -- limbo's epochs rise and lie in the last three
 abbrev pub LimboIsRecent : Type 0
 LimboIsRecent =
-    (limits : Limits) (steps : List Step) → AreLimits limits →
+    (limits : Bounds) (steps : List Step) → AreBounds limits →
     IsRising (run limits steps).limbo × All (λ z. (z.epoch ≤ (run limits steps).epoch) × ((run limits steps).epoch ≤ z.epoch + 2)) (run limits steps).limbo
 
 -- A slot that is in use no more after a step was freed by the sweep; nothing referred to it since a state whose epoch is two less than the present one, or
 -- still less.
 abbrev pub FreedLate : Type 0
 FreedLate =
-    (limits : Limits) (steps : List Step) (s : Step) (r : Ref) → AreLimits limits → IsInUse (run limits steps).heap r → ¬ IsInUse (next_state (run limits steps) s).heap r →
+    (limits : Bounds) (steps : List Step) (s : Step) (r : Ref) → AreBounds limits → IsInUse (run limits steps).heap r → ¬ IsInUse (next_state (run limits steps) s).heap r →
     (s ≡ Sweep)
     × ((before since : List Step) × (steps ≡ before ++ since) × ((run limits before).epoch + 2 ≤ (run limits steps).epoch)
     × ((a b : List Step) → since ≡ a ++ b → IsZero (run limits (before ++ a)) r))
 
 -- ---- the sweep
 
--- a step of the sweep leaves the contents of all open handles, the history and the order alone
+-- a step of the sweep leaves the contents of all open handles alone, and nothing is recorded of it
 abbrev pub SweepLeaves : Type 0
 SweepLeaves =
-    (limits : Limits) (steps : List Step) → AreLimits limits →
+    (limits : Bounds) (steps : List Step) → AreBounds limits →
     ((handle : ℕ) (root : Root) → root_at (run limits steps) handle ≡ Some root →
     (root_at (next_state (run limits steps) Sweep) handle ≡ Some root) × (content_at (next_state (run limits steps) Sweep) handle ≡ content_at (run limits steps) handle))
-    × ((next_state (run limits steps) Sweep).events ≡ (run limits steps).events)
-    × (order_of (next_state (run limits steps) Sweep) ≡ order_of (run limits steps))
+    × (next_record (run limits steps) (record_of limits steps) Sweep ≡ record_of limits steps)
 
 -- at rest, with limbo empty, the slots in use are exactly the reachable ones
 abbrev pub Reclaimed : Type 0
 Reclaimed =
-    (limits : Limits) (steps : List Step) (r : Ref) → AreLimits limits → is_busy (run limits steps) ≡ false → (run limits steps).limbo ≡ [] →
+    (limits : Bounds) (steps : List Step) (r : Ref) → AreBounds limits → is_busy (run limits steps) ≡ false → (run limits steps).limbo ≡ [] →
     (IsInUse (run limits steps).heap r → IsReached (run limits steps) r) × (IsReached (run limits steps) r → IsInUse (run limits steps).heap r)

@@ -10,7 +10,7 @@ use Rattle.proof_obstruction_free.specs.Beneath.machine_model.specs.declared.lin
 use Rattle.proof_obstruction_free.specs.Beneath.machine_model.specs.declared.operations.Operation.{Operation}
 use Rattle.proof_obstruction_free.specs.Beneath.machine_model.specs.declared.roots.RootWord.{RootWord}
 use Rattle.proof_obstruction_free.specs.Beneath.machine_model.specs.declared.roots.RootWord.TheVariants.{Plain, Offer}
-use Rattle.proof_obstruction_free.specs.Beneath.machine_model.specs.declared.steps.Limits.{Limits}
+use Rattle.proof_obstruction_free.specs.Beneath.machine_model.specs.declared.steps.Bounds.{Bounds}
 use Rattle.proof_obstruction_free.specs.Beneath.machine_model.specs.declared.steps.Step.{Step}
 use Rattle.proof_obstruction_free.specs.Beneath.machine_model.specs.declared.steps.Step.TheVariants as step
 use Rattle.proof_obstruction_free.specs.Beneath.machine_model.specs.Calls.{handle_of}
@@ -26,7 +26,7 @@ use Rattle.proof_obstruction_free.specs.Beneath.proof_shape.specs.Sites.At.{Take
 -- A run in which from step start on one actor alone takes steps, and its operation, which is `own` before that step, never ends. What follows from that
 -- of a run that is long enough is absurd: so the operation ends.
 pub record Lone : Type 0 where
-  pub limits : Limits
+  pub limits : Bounds
   pub states : ℕ → State
   pub steps : ℕ → Step
   pub last : ℕ

@@ -3,10 +3,10 @@ use Rattle.std.specs.Prelude.{◌≡◌, ℕ, List}
 use Rattle.proof_obstruction_free.specs.Beneath.history.specs.declared.calls.Call.{Call}
 use Rattle.proof_obstruction_free.specs.Beneath.history.specs.declared.calls.Call.TheVariants.{Clear, Snapshot, Freeze}
 use Rattle.proof_obstruction_free.specs.Beneath.machine_model.specs.declared.operations.Operation.{Operation}
-use Rattle.proof_obstruction_free.specs.Beneath.machine_model.specs.declared.steps.Limits.{Limits}
+use Rattle.proof_obstruction_free.specs.Beneath.machine_model.specs.declared.steps.Bounds.{Bounds}
 use Rattle.proof_obstruction_free.specs.Beneath.machine_model.specs.declared.steps.Step.{Step}
 use Rattle.proof_obstruction_free.specs.Beneath.machine_model.specs.Lines.{new_try}
-use Rattle.proof_obstruction_free.specs.Laws.{HasEnded, RunsAlone, alone_after}
+use Rattle.proof_obstruction_free.specs.Laws.{HasEnded, RunsAlone, alone_after, history_after}
 
 -- a call that offers to swap the root
 abbrev pub IsCopying : Call → Type 0
@@ -18,11 +18,11 @@ IsCopying call = ⊥
 -- it has ended after so many steps from where a try begins, so from its begin too
 abbrev pub CopiesEndFirst : Type 0
 CopiesEndFirst =
-    (limits : Limits) (steps : List Step) (actor : ℕ) (operation : Operation) → RunsAlone limits steps actor operation → IsCopying operation.call → operation.line ≡ new_try →
-    HasEnded (alone_after limits steps actor 23) actor operation.id
+    (limits : Bounds) (steps : List Step) (actor : ℕ) (operation : Operation) → RunsAlone limits steps actor operation → IsCopying operation.call → operation.line ≡ new_try →
+    HasEnded (alone_after limits steps actor 23) (history_after limits steps actor 23) actor operation.id
 
 -- and after so many from wherever it stands
 abbrev pub CopiesEnd : Type 0
 CopiesEnd =
-    (limits : Limits) (steps : List Step) (actor : ℕ) (operation : Operation) → RunsAlone limits steps actor operation → IsCopying operation.call →
-    HasEnded (alone_after limits steps actor 49) actor operation.id
+    (limits : Bounds) (steps : List Step) (actor : ℕ) (operation : Operation) → RunsAlone limits steps actor operation → IsCopying operation.call →
+    HasEnded (alone_after limits steps actor 49) (history_after limits steps actor 49) actor operation.id

@@ -3,16 +3,18 @@ use Rattle.std.specs.Prelude.{◌≡◌, ℕ, suc, ◌+◌, ◌<◌, ◌≤◌, 
 use Rattle.proof_obstruction_free.specs.Beneath.ctrie_base.specs.declared.kinds.Kind.{Kind}
 use Rattle.proof_obstruction_free.specs.Beneath.history.specs.declared.calls.Call.{Call}
 use Rattle.proof_obstruction_free.specs.Beneath.history.specs.declared.calls.Call.TheVariants.{Close, Entries, Count}
+use Rattle.proof_obstruction_free.specs.Beneath.history.specs.declared.events.Event.{Event}
 use Rattle.proof_obstruction_free.specs.Beneath.history.specs.declared.events.Event.TheVariants.{End}
 use Rattle.proof_obstruction_free.specs.Beneath.history.specs.declared.replies.Reply.{Reply}
 use Rattle.proof_obstruction_free.specs.Beneath.machine_model.specs.declared.operations.Operation.{Operation}
-use Rattle.proof_obstruction_free.specs.Beneath.machine_model.specs.declared.steps.Limits.{Limits}
+use Rattle.proof_obstruction_free.specs.Beneath.machine_model.specs.declared.steps.Bounds.{Bounds}
 use Rattle.proof_obstruction_free.specs.Beneath.machine_model.specs.declared.steps.Outcome.TheVariants.{Went, Ended}
 use Rattle.proof_obstruction_free.specs.Beneath.machine_model.specs.declared.steps.Step.{Step}
 use Rattle.proof_obstruction_free.specs.Beneath.machine_model.specs.declared.steps.Step.TheVariants.{Go}
 use Rattle.proof_obstruction_free.specs.Beneath.machine_model.specs.Keys.{KeysFit}
-use Rattle.proof_obstruction_free.specs.Beneath.machine_model.specs.Machine.{AreLimits, next, run}
-use Rattle.proof_obstruction_free.specs.Beneath.machine_model.specs.States.{State, step_limit, operation_of}
+use Rattle.proof_obstruction_free.specs.Beneath.machine_model.specs.Machine.{AreBounds, next, run}
+use Rattle.proof_obstruction_free.specs.Beneath.machine_model.specs.Records.{record_of}
+use Rattle.proof_obstruction_free.specs.Beneath.machine_model.specs.States.{State, operation_of}
 
 -- a call on one key, a snapshot, a freeze or a clear
 abbrev pub IsOnKeyOrRoot : Call → Type 0
@@ -26,43 +28,47 @@ abbrev pub most_steps_alone : ℕ
 most_steps_alone = 3962
 
 -- the state after these steps and so many of this actor alone
-abbrev pub alone_after : Limits → List Step → ℕ → ℕ → State
+abbrev pub alone_after : Bounds → List Step → ℕ → ℕ → State
 alone_after limits steps actor n = run limits (steps ++ replicate n (Go actor))
 
+-- and the history then
+abbrev pub history_after : Bounds → List Step → ℕ → ℕ → List Event
+history_after limits steps actor n = (record_of limits (steps ++ replicate n (Go actor))).events
+
 -- the actor's operation after these steps has such a call, and so many steps are left that it may still take the most
-pub record RunsAlone (limits : Limits) (steps : List Step) (actor : ℕ) (operation : Operation) : Type 0 where
-  pub limits_ok : AreLimits limits
+pub record RunsAlone (limits : Bounds) (steps : List Step) (actor : ℕ) (operation : Operation) : Type 0 where
+  pub limits_ok : AreBounds limits
   pub keys_fit : KeysFit steps
   pub runs : operation_of (run limits steps) actor ≡ Some operation
   pub call : IsOnKeyOrRoot operation.call
-  pub left : (run limits steps).steps + most_steps_alone ≤ step_limit
+  pub left : (run limits steps).steps + most_steps_alone ≤ limits.steps
 
 -- ---- it ends
 
 -- the operation of this id has ended: the actor runs none, and the history tells its end
-pub record HasEnded (state : State) (actor id : ℕ) : Type 0 where
+pub record HasEnded (state : State) (history : List Event) (actor id : ℕ) : Type 0 where
   pub idle : operation_of state actor ≡ None
   pub answer : Reply
-  pub told : Contains state.events (End id answer)
+  pub told : Contains history (End id answer)
 
 -- after so many steps of its actor alone it has ended
 abbrev pub AloneItEnds : Type 0
 AloneItEnds =
-    (limits : Limits) (steps : List Step) (actor : ℕ) (operation : Operation) → RunsAlone limits steps actor operation →
-    HasEnded (alone_after limits steps actor most_steps_alone) actor operation.id
+    (limits : Bounds) (steps : List Step) (actor : ℕ) (operation : Operation) → RunsAlone limits steps actor operation →
+    HasEnded (alone_after limits steps actor most_steps_alone) (history_after limits steps actor most_steps_alone) actor operation.id
 
 -- ---- and none of its steps is denied
 
 -- this step of the actor alone is its operation's, and goes on
-abbrev pub GoesOnAt : Limits → List Step → ℕ → ℕ → Type 0
+abbrev pub GoesOnAt : Bounds → List Step → ℕ → ℕ → Type 0
 GoesOnAt limits steps actor k = (kind : Kind) × (next (alone_after limits steps actor k) (Go actor) ≡ Ok (Went kind, alone_after limits steps actor (suc k)))
 
 -- this one ends the operation of this id
-abbrev pub EndsAt : Limits → List Step → ℕ → ℕ → ℕ → Type 0
+abbrev pub EndsAt : Bounds → List Step → ℕ → ℕ → ℕ → Type 0
 EndsAt limits steps actor id n = (answer : Reply) × (next (alone_after limits steps actor n) (Go actor) ≡ Ok (Ended id answer, alone_after limits steps actor (suc n)))
 
 -- each step of its actor alone goes on, until one of the first so many ends it
 abbrev pub EachStepLeadsToItsEnd : Type 0
 EachStepLeadsToItsEnd =
-    (limits : Limits) (steps : List Step) (actor : ℕ) (operation : Operation) → RunsAlone limits steps actor operation →
+    (limits : Bounds) (steps : List Step) (actor : ℕ) (operation : Operation) → RunsAlone limits steps actor operation →
     (n : ℕ) × (n < most_steps_alone) × ((k : ℕ) → k < n → GoesOnAt limits steps actor k) × EndsAt limits steps actor operation.id n

@@ -4,7 +4,7 @@ use Rattle.proof_obstruction_free.specs.Beneath.slot_arena.specs.declared.refs.R
 use Rattle.proof_obstruction_free.specs.Beneath.machine_model.specs.declared.operations.Operation.{Operation}
 use Rattle.proof_obstruction_free.specs.Beneath.machine_model.specs.declared.reading.Read.{Read}
 use Rattle.proof_obstruction_free.specs.Beneath.machine_model.specs.declared.reading.ReadLine.TheVariants as read
-use Rattle.proof_obstruction_free.specs.Beneath.machine_model.specs.declared.steps.Limits.{Limits}
+use Rattle.proof_obstruction_free.specs.Beneath.machine_model.specs.declared.steps.Bounds.{Bounds}
 use Rattle.proof_obstruction_free.specs.Beneath.machine_model.specs.declared.steps.Step.{Step}
 use Rattle.proof_obstruction_free.specs.Beneath.machine_model.specs.Operations.{read_of}
 use Rattle.proof_obstruction_free.specs.Beneath.machine_model.specs.States.{State, operation_of}
@@ -18,11 +18,11 @@ IsOutOfRead state actor = (operation : Operation) (r : Read) → operation_of st
 -- a READ at its first line is over within nine steps of its actor alone
 abbrev pub AloneReadEnds : Type 0
 AloneReadEnds =
-    (limits : Limits) (steps : List Step) (actor : ℕ) (operation : Operation) → RunsAlone limits steps actor operation → (i : Ref) →
+    (limits : Bounds) (steps : List Step) (actor : ℕ) (operation : Operation) → RunsAlone limits steps actor operation → (i : Ref) →
     read_of operation.line ≡ Some (record { indirection = i; line = read.Main }) → (n : ℕ) × (n ≤ read_steps) × IsOutOfRead (alone_after limits steps actor n) actor
 
 -- at any line within twelve
 abbrev pub AloneReadGoesToItsEnd : Type 0
 AloneReadGoesToItsEnd =
-    (limits : Limits) (steps : List Step) (actor : ℕ) (operation : Operation) → RunsAlone limits steps actor operation → (r : Read) → read_of operation.line ≡ Some r →
+    (limits : Bounds) (steps : List Step) (actor : ℕ) (operation : Operation) → RunsAlone limits steps actor operation → (r : Read) → read_of operation.line ≡ Some r →
     (n : ℕ) × (n ≤ read_steps_left) × IsOutOfRead (alone_after limits steps actor n) actor

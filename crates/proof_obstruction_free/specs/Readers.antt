@@ -2,13 +2,13 @@
 use Rattle.std.specs.Prelude.{◌≡◌, ℕ, List}
 use Rattle.proof_obstruction_free.specs.Beneath.history.specs.declared.calls.Access.TheVariants.{ReadOnly}
 use Rattle.proof_obstruction_free.specs.Beneath.machine_model.specs.declared.operations.Operation.{Operation}
-use Rattle.proof_obstruction_free.specs.Beneath.machine_model.specs.declared.steps.Limits.{Limits}
+use Rattle.proof_obstruction_free.specs.Beneath.machine_model.specs.declared.steps.Bounds.{Bounds}
 use Rattle.proof_obstruction_free.specs.Beneath.machine_model.specs.declared.steps.Step.{Step}
 use Rattle.proof_obstruction_free.specs.Keys.{IsOnKey}
-use Rattle.proof_obstruction_free.specs.Laws.{HasEnded, RunsAlone, alone_after}
+use Rattle.proof_obstruction_free.specs.Laws.{HasEnded, RunsAlone, alone_after, history_after}
 
 -- it has ended after so many steps from wherever it stands: nine a level, 14 levels, and at most 32 singles of one hash
 abbrev pub ReadersEnd : Type 0
 ReadersEnd =
-    (limits : Limits) (steps : List Step) (actor : ℕ) (operation : Operation) → RunsAlone limits steps actor operation → IsOnKey operation.call → operation.access ≡ ReadOnly →
-    HasEnded (alone_after limits steps actor 166) actor operation.id
+    (limits : Bounds) (steps : List Step) (actor : ℕ) (operation : Operation) → RunsAlone limits steps actor operation → IsOnKey operation.call → operation.access ≡ ReadOnly →
+    HasEnded (alone_after limits steps actor 166) (history_after limits steps actor 166) actor operation.id

@@ -7,7 +7,7 @@ use Rattle.proof_obstruction_free.specs.Beneath.history.specs.declared.replies.R
 use Rattle.proof_obstruction_free.specs.Beneath.history.specs.declared.replies.Reply.TheVariants.{NoSlots}
 use Rattle.proof_obstruction_free.specs.Beneath.machine_model.specs.declared.lines.Line.TheVariants.{End}
 use Rattle.proof_obstruction_free.specs.Beneath.machine_model.specs.declared.operations.Operation.{Operation}
-use Rattle.proof_obstruction_free.specs.Beneath.machine_model.specs.declared.steps.Limits.{Limits}
+use Rattle.proof_obstruction_free.specs.Beneath.machine_model.specs.declared.steps.Bounds.{Bounds}
 use Rattle.proof_obstruction_free.specs.Beneath.machine_model.specs.declared.steps.Outcome.TheVariants.{Ended}
 use Rattle.proof_obstruction_free.specs.Beneath.machine_model.specs.declared.steps.Step.{Step}
 use Rattle.proof_obstruction_free.specs.Beneath.machine_model.specs.declared.steps.Step.TheVariants.{Begin, Go}
@@ -28,7 +28,7 @@ abbrev pub makes_next : State → ℕ → Bool
 makes_next state actor = is_make (next_kind state actor)
 
 -- how many of so many steps of this actor alone are to make a node
-unfoldable pub makes_alone : Limits → List Step → ℕ → ℕ → ℕ
+unfoldable pub makes_alone : Bounds → List Step → ℕ → ℕ → ℕ
 makes_alone limits steps actor zero = 0
 makes_alone limits steps actor (suc n) = makes_alone limits steps actor n + (if makes_next (alone_after limits steps actor n) actor then 1 else 0)
 
@@ -37,20 +37,20 @@ makes_alone limits steps actor (suc n) = makes_alone limits steps actor n + (if 
 -- an operation whose actor alone takes steps makes no more nodes than it takes steps, until it has ended
 abbrev pub MakesAtMost : Type 0
 MakesAtMost =
-    (limits : Limits) (steps : List Step) (actor : ℕ) (operation : Operation) → RunsAlone limits steps actor operation → (n : ℕ) →
+    (limits : Bounds) (steps : List Step) (actor : ℕ) (operation : Operation) → RunsAlone limits steps actor operation → (n : ℕ) →
     makes_alone limits steps actor n ≤ most_steps_alone
 
 -- so where as many slots are free, and it isn't refused already, it isn't refused for want of slots
 abbrev pub EnoughSlots : Type 0
 EnoughSlots =
-    (limits : Limits) (steps : List Step) (actor : ℕ) (operation : Operation) → RunsAlone limits steps actor operation → operation.line ≢ End NoSlots →
+    (limits : Bounds) (steps : List Step) (actor : ℕ) (operation : Operation) → RunsAlone limits steps actor operation → operation.line ≢ End NoSlots →
     most_steps_alone ≤ length (run limits steps).heap.free →
     (n id : ℕ) (answer : Reply) (after : State) → next (alone_after limits steps actor n) (Go actor) ≡ Ok (Ended id answer, after) → answer ≢ NoSlots
 
 -- the same of a call that begins where as many slots are free
 abbrev pub EnoughAtBegin : Type 0
 EnoughAtBegin =
-    (limits : Limits) (steps : List Step) (actor : ℕ) (call : Call) (operation : Operation) → operation_of (run limits steps) actor ≡ None →
+    (limits : Bounds) (steps : List Step) (actor : ℕ) (call : Call) (operation : Operation) → operation_of (run limits steps) actor ≡ None →
     RunsAlone limits (steps ++ Begin actor call ∷ []) actor operation → most_steps_alone ≤ length (run limits steps).heap.free →
     (n id : ℕ) (answer : Reply) (after : State) → next (alone_after limits (steps ++ Begin actor call ∷ []) actor n) (Go actor) ≡ Ok (Ended id answer, after) → answer ≢ NoSlots
 
@@ -62,20 +62,20 @@ most_makes_alone = 570
 
 abbrev pub TriesMakeFew : Type 0
 TriesMakeFew =
-    (limits : Limits) (steps : List Step) (actor : ℕ) (operation : Operation) → RunsAlone limits steps actor operation → operation.line ≡ new_try → (n : ℕ) →
+    (limits : Bounds) (steps : List Step) (actor : ℕ) (operation : Operation) → RunsAlone limits steps actor operation → operation.line ≡ new_try → (n : ℕ) →
     makes_alone limits steps actor n ≤ most_makes_alone
 
 -- so where as many slots are free it isn't refused for want of slots
 abbrev pub EnoughForTries : Type 0
 EnoughForTries =
-    (limits : Limits) (steps : List Step) (actor : ℕ) (operation : Operation) → RunsAlone limits steps actor operation → operation.line ≡ new_try →
+    (limits : Bounds) (steps : List Step) (actor : ℕ) (operation : Operation) → RunsAlone limits steps actor operation → operation.line ≡ new_try →
     most_makes_alone ≤ length (run limits steps).heap.free →
     (n id : ℕ) (answer : Reply) (after : State) → next (alone_after limits steps actor n) (Go actor) ≡ Ok (Ended id answer, after) → answer ≢ NoSlots
 
 -- nor is a call that begins where as many are free
 abbrev pub TriesEnoughAtBegin : Type 0
 TriesEnoughAtBegin =
-    (limits : Limits) (steps : List Step) (actor : ℕ) (call : Call) (operation : Operation) → operation_of (run limits steps) actor ≡ None →
+    (limits : Bounds) (steps : List Step) (actor : ℕ) (call : Call) (operation : Operation) → operation_of (run limits steps) actor ≡ None →
     RunsAlone limits (steps ++ Begin actor call ∷ []) actor operation → most_makes_alone ≤ length (run limits steps).heap.free →
     (n id : ℕ) (answer : Reply) (after : State) → next (alone_after limits (steps ++ Begin actor call ∷ []) actor n) (Go actor) ≡ Ok (Ended id answer, after) → answer ≢ NoSlots
 
@@ -87,17 +87,17 @@ most_steps_of_copies = 23
 
 abbrev pub CopiesMakeFew : Type 0
 CopiesMakeFew =
-    (limits : Limits) (steps : List Step) (actor : ℕ) (operation : Operation) → RunsAlone limits steps actor operation → IsCopying operation.call → operation.line ≡ new_try →
+    (limits : Bounds) (steps : List Step) (actor : ℕ) (operation : Operation) → RunsAlone limits steps actor operation → IsCopying operation.call → operation.line ≡ new_try →
     (n : ℕ) → makes_alone limits steps actor n ≤ most_steps_of_copies
 
 abbrev pub EnoughForCopies : Type 0
 EnoughForCopies =
-    (limits : Limits) (steps : List Step) (actor : ℕ) (operation : Operation) → RunsAlone limits steps actor operation → IsCopying operation.call → operation.line ≡ new_try →
+    (limits : Bounds) (steps : List Step) (actor : ℕ) (operation : Operation) → RunsAlone limits steps actor operation → IsCopying operation.call → operation.line ≡ new_try →
     most_steps_of_copies ≤ length (run limits steps).heap.free →
     (n id : ℕ) (answer : Reply) (after : State) → next (alone_after limits steps actor n) (Go actor) ≡ Ok (Ended id answer, after) → answer ≢ NoSlots
 
 abbrev pub CopiesEnoughAtBegin : Type 0
 CopiesEnoughAtBegin =
-    (limits : Limits) (steps : List Step) (actor : ℕ) (call : Call) (operation : Operation) → operation_of (run limits steps) actor ≡ None →
+    (limits : Bounds) (steps : List Step) (actor : ℕ) (call : Call) (operation : Operation) → operation_of (run limits steps) actor ≡ None →
     RunsAlone limits (steps ++ Begin actor call ∷ []) actor operation → IsCopying call → most_steps_of_copies ≤ length (run limits steps).heap.free →
     (n id : ℕ) (answer : Reply) (after : State) → next (alone_after limits (steps ++ Begin actor call ∷ []) actor n) (Go actor) ≡ Ok (Ended id answer, after) → answer ≢ NoSlots

@@ -22,16 +22,16 @@ use Rattle.proof_order.specs.Beneath.machine_model.specs.declared.actions.Action
 use Rattle.proof_order.specs.Beneath.machine_model.specs.declared.operations.Operation.{Operation}
 use Rattle.proof_order.specs.Beneath.machine_model.specs.declared.roots.Root.{Root}
 use Rattle.proof_order.specs.Beneath.machine_model.specs.declared.roots.Descriptor.{Descriptor}
-use Rattle.proof_order.specs.Beneath.machine_model.specs.declared.steps.Limits.{Limits}
+use Rattle.proof_order.specs.Beneath.machine_model.specs.declared.steps.Bounds.{Bounds}
 use Rattle.proof_order.specs.Beneath.machine_model.specs.declared.steps.Step.{Step}
 use Rattle.proof_order.specs.Beneath.machine_model.specs.declared.steps.Step.TheVariants as step
 use Rattle.proof_order.specs.Beneath.machine_model.specs.declared.steps.Outcome.{Outcome}
 use Rattle.proof_order.specs.Beneath.machine_model.specs.Calls.{handle_of}
-use Rattle.proof_order.specs.Beneath.machine_model.specs.States.{State, root_at, word_at, root_of, operation_of, closed_at}
+use Rattle.proof_order.specs.Beneath.machine_model.specs.States.{State, root_at, word_at, root_of, operation_of}
 use Rattle.proof_order.specs.Beneath.machine_model.specs.Operations.{action_of}
 use Rattle.proof_order.specs.Beneath.machine_model.specs.Swapping.{is_carried_out}
-use Rattle.proof_order.specs.Beneath.machine_model.specs.Orders.{place_of, is_placed, committed_now}
-use Rattle.proof_order.specs.Beneath.machine_model.specs.Acting.{entered}
+use Rattle.proof_order.specs.Beneath.machine_model.specs.Records.{Record, closed_at, entered, is_placed, moment_at, noted, place_of}
+use Rattle.proof_order.specs.Beneath.machine_model.specs.Tellings.{committed_now, entrant_of, told_in}
 use Rattle.proof_order.specs.Beneath.machine_model.specs.Contents.{content_at}
 use Rattle.proof_order.specs.Beneath.machine_model.specs.Moves.{Moves}
 
@@ -42,8 +42,8 @@ abbrev pub HasStood : (ℕ → State) → ℕ → ℕ → Type 0
 HasStood states t generation = (u handle : ℕ) × (u ≤ t) × On states u handle generation
 
 -- no handle's root has the generation, and it isn't closed
-abbrev pub IsFresh : State → ℕ → Type 0
-IsFresh state generation = (closed_at state generation ≡ None) × ((handle : ℕ) (access : Access) → standing state handle ≢ Some (access, generation))
+abbrev pub IsFresh : State → Record → ℕ → Type 0
+IsFresh state past generation = (closed_at past generation ≡ None) × ((handle : ℕ) (access : Access) → standing state handle ≢ Some (access, generation))
 
 -- ---- what calls do
 
@@ -52,6 +52,10 @@ abbrev pub IsReply : List Event → ℕ → Reply → Type 0
 IsReply history id answer = (other : Reply) → HasEnded history id other → answer ≡ other
 
 -- ---- what steps do
+
+-- what is recorded after step t is what the step tells
+abbrev pub Notes : (ℕ → State) → (ℕ → Record) → ℕ → Step → Type 0
+Notes states records t s = records (suc t) ≡ noted (records t) (states t).steps (told_in (states t) s)
 
 abbrev pub committed_of : State → Option Operation → Option Ref
 committed_of state None = None
@@ -64,8 +68,8 @@ committed_by_step state (step.Go actor) = committed_of state (operation_of state
 committed_by_step state step.Sweep = None
 
 -- the places of the operations whose own change the step commits
-abbrev pub entered_by_step : State → Step → List Place
-entered_by_step state s = entered state (committed_by_step state s)
+abbrev pub entered_by_step : Record → State → Step → List Place
+entered_by_step past state s = entered past state.steps (committed_by_step state s)
 
 -- the step carries this offer out, on this handle
 abbrev pub CarriesOut : State → Step → ℕ → Descriptor → Type 0
@@ -77,80 +81,80 @@ CarriesOut state s handle offer =
 
 -- An own update of a key is committed: the operation whose it is enters the order alone, and its call leads the content of
 -- its generation on, late or not.
-pub record Update (limits : Limits) (states : ℕ → State) (last : ℕ) (V : ℕ → ℕ → KeyMap) (t : ℕ) (places : List Place) : Type 0 where
+pub record Update (limits : Bounds) (states : ℕ → State) (records : ℕ → Record) (last : ℕ) (V : ℕ → ℕ → KeyMap) (t : ℕ) (places : List Place) : Type 0 where
   pub k : ℕ
   pub owner : Operation
   pub runs : Runs (states t) k owner
   pub writable : owner.access ≡ Writable
   pub generation : ℕ
   pub of_generation : owner.generation ≡ Some generation
-  pub rooted : IsRooted states t (handle_of owner.call) generation
+  pub rooted : IsRooted states records t (handle_of owner.call) generation
   -- it enters the order, alone, and hadn't entered before
-  pub enters : places ≡ place_of (states t) owner t false ∷ []
-  pub unplaced : is_placed (states t) owner.id ≡ false
+  pub enters : places ≡ place_of (records t) (entrant_of owner) t false ∷ []
+  pub unplaced : is_placed (records t) owner.id ≡ false
   pub answer : Reply
   pub acts : act_in (hash_of limits.hash) Writable owner.call (V generation t) ≡ Some (answer, V generation (suc t))
-  pub agrees : IsReply (states last).events owner.id answer
+  pub agrees : IsReply (records last).events owner.id answer
   -- every other generation's content stays
   pub still : (other : ℕ) → HasStood states t other → other ≢ generation → V other (suc t) ≡ V other t
 
 -- What a call opens by the offer that is carried out over a root of this generation: a clear an empty map, a snapshot and a
 -- freeze the old root's content, as it is in the end.
-pub data Opens (states : ℕ → State) (last : ℕ) (V : ℕ → ℕ → KeyMap) (t handle generation : ℕ) (offer : Descriptor) : Call → Type 0 where
+pub data Opens (states : ℕ → State) (records : ℕ → Record) (last : ℕ) (V : ℕ → ℕ → KeyMap) (t handle generation : ℕ) (offer : Descriptor) : Call → Type 0 where
   clears : offer.opens ≡ None → V (generation_at (states t).heap offer.successor) (suc t) ≡ map.empty →
-      Opens states last V t handle generation offer (Clear handle)
+      Opens states records last V t handle generation offer (Clear handle)
   snapshots : (n : ℕ) (second : Ref) → offer.opens ≡ Some n → offer.second ≡ Some second →
-      IsFresh (states t) (generation_at (states t).heap second) →
+      IsFresh (states t) (records t) (generation_at (states t).heap second) →
       generation_at (states t).heap second ≢ generation_at (states t).heap offer.successor →
       V (generation_at (states t).heap offer.successor) (suc t) ≡ V generation last → V (generation_at (states t).heap second) (suc t) ≡ V generation last →
-      Opens states last V t handle generation offer (Snapshot handle)
+      Opens states records last V t handle generation offer (Snapshot handle)
   freezes : (n : ℕ) → offer.opens ≡ Some n → offer.second ≡ None →
       V (generation_at (states t).heap offer.successor) (suc t) ≡ V generation last →
-      Opens states last V t handle generation offer (Freeze handle)
+      Opens states records last V t handle generation offer (Freeze handle)
 
 -- An offer of an operation with this call is carried out: the operation has no place yet, the new root's generation is new, and
 -- what the call says is opened.
-pub record Swap (states : ℕ → State) (last : ℕ) (V : ℕ → ℕ → KeyMap) (t handle : ℕ) (offer : Descriptor) (call : Call) : Type 0 where
-  pub unplaced : is_placed (states t) offer.operation ≡ false
+pub record Swap (states : ℕ → State) (records : ℕ → Record) (last : ℕ) (V : ℕ → ℕ → KeyMap) (t handle : ℕ) (offer : Descriptor) (call : Call) : Type 0 where
+  pub unplaced : is_placed (records t) offer.operation ≡ false
   -- the handle is writable, and the generation of the old root is the one that is closed
   pub stands : On states t handle (generation_at (states t).heap offer.root)
-  pub is_fresh : IsFresh (states t) (generation_at (states t).heap offer.successor)
-  pub opens : Opens states last V t handle (generation_at (states t).heap offer.root) offer call
+  pub is_fresh : IsFresh (states t) (records t) (generation_at (states t).heap offer.successor)
+  pub opens : Opens states records last V t handle (generation_at (states t).heap offer.root) offer call
 
 -- An operation that changed nothing is answered: its reply is right just behind its moment, on a read-only handle at any
 -- time.
-pub data Replied (limits : Limits) (states : ℕ → State) (last : ℕ) (V : ℕ → ℕ → KeyMap) (operation : Operation) (answer : Reply) : Type 0 where
+pub data Replied (limits : Bounds) (states : ℕ → State) (records : ℕ → Record) (last : ℕ) (V : ℕ → ℕ → KeyMap) (operation : Operation) (moment : ℕ) (answer : Reply) : Type 0 where
   on_writable : (generation : ℕ) → operation.access ≡ Writable → operation.generation ≡ Some generation →
-      IsRooted states (suc operation.moment) (handle_of operation.call) generation → (states (suc operation.moment)).closings ≡ (states operation.moment).closings →
-      act_in (hash_of limits.hash) Writable operation.call (V generation (suc operation.moment)) ≡ Some (answer, V generation (suc operation.moment)) →
-      Replied limits states last V operation answer
+      IsRooted states records (suc moment) (handle_of operation.call) generation → (records (suc moment)).closings ≡ (records moment).closings →
+      act_in (hash_of limits.hash) Writable operation.call (V generation (suc moment)) ≡ Some (answer, V generation (suc moment)) →
+      Replied limits states records last V operation moment answer
   on_read_only : (generation : ℕ) → operation.access ≡ ReadOnly →
-      standing (states (suc operation.moment)) (handle_of operation.call) ≡ Some (ReadOnly, generation) →
+      standing (states (suc moment)) (handle_of operation.call) ≡ Some (ReadOnly, generation) →
       act_in (hash_of limits.hash) ReadOnly operation.call (V generation last) ≡ Some (answer, V generation last) →
-      Replied limits states last V operation answer
+      Replied limits states records last V operation moment answer
 
-pub record Facts (limits : Limits) (states : ℕ → State) (last : ℕ) (V : ℕ → ℕ → KeyMap) : Type 0 where
+pub record Facts (limits : Bounds) (states : ℕ → State) (records : ℕ → Record) (last : ℕ) (V : ℕ → ℕ → KeyMap) : Type 0 where
   -- the first generation is empty at first
   pub starts : V 0 0 ≡ map.empty
   -- a step that commits no own update leaves the content of each generation that has stood
-  pub still : (t : ℕ) (s : Step) (o : Outcome) → t < last → Moves (states t) s o (states (suc t)) → entered_by_step (states t) s ≡ [] →
+  pub still : (t : ℕ) (s : Step) (o : Outcome) → t < last → Moves (states t) s o (states (suc t)) → Notes states records t s → entered_by_step (records t) (states t) s ≡ [] →
       (generation : ℕ) → HasStood states t generation → V generation (suc t) ≡ V generation t
   -- a step that commits one
-  pub updates : (t : ℕ) (s : Step) (o : Outcome) → t < last → Moves (states t) s o (states (suc t)) → entered_by_step (states t) s ≢ [] →
-      Update limits states last V t (entered_by_step (states t) s)
+  pub updates : (t : ℕ) (s : Step) (o : Outcome) → t < last → Moves (states t) s o (states (suc t)) → Notes states records t s → entered_by_step (records t) (states t) s ≢ [] →
+      Update limits states records last V t (entered_by_step (records t) (states t) s)
   -- a step that carries an offer out, whose operation runs
-  pub swaps : (t : ℕ) (s : Step) (o : Outcome) → t < last → Moves (states t) s o (states (suc t)) →
+  pub swaps : (t : ℕ) (s : Step) (o : Outcome) → t < last → Moves (states t) s o (states (suc t)) → Notes states records t s →
       (handle : ℕ) (offer : Descriptor) → CarriesOut (states t) s handle offer →
-      (k : ℕ) (offerer : Operation) → Runs (states t) k offerer → offerer.id ≡ offer.operation → Swap states last V t handle offer offerer.call
+      (k : ℕ) (offerer : Operation) → Runs (states t) k offerer → offerer.id ≡ offer.operation → Swap states records last V t handle offer offerer.call
   -- an operation that ends without a place, but for want of slots
-  pub replies : (t actor : ℕ) (operation : Operation) (answer : Reply) (o : Outcome) → t < last → Moves (states t) (step.Go actor) o (states (suc t)) →
+  pub replies : (t actor : ℕ) (operation : Operation) (answer : Reply) (o : Outcome) → t < last → Moves (states t) (step.Go actor) o (states (suc t)) → Notes states records t (step.Go actor) →
       operation_of (states t) actor ≡ Some operation → action_of (states t) operation ≡ act.End answer → answer ≢ reply.NoSlots →
-      is_placed (states t) operation.id ≡ false → Replied limits states last V operation answer
+      is_placed (records t) operation.id ≡ false → Replied limits states records last V operation (moment_at (records t) actor).moment answer
   -- an operation that is refused for want of slots has no place
   pub refused : (t actor : ℕ) (operation : Operation) → t < last → operation_of (states t) actor ≡ Some operation →
-      action_of (states t) operation ≡ act.End reply.NoSlots → is_placed (states t) operation.id ≡ false
+      action_of (states t) operation ≡ act.End reply.NoSlots → is_placed (records t) operation.id ≡ false
   -- just behind the step of each place, the operation with its id runs
-  pub runs_behind : (place : Place) → Contains (states last).places place →
+  pub runs_behind : (place : Place) → Contains (records last).places place →
       (k : ℕ) × (operation : Operation) × Runs (states (suc place.step)) k operation × (operation.id ≡ place.id)
   -- a step leaves the generation of a handle's root as it is
   pub keeps_generation : (t handle : ℕ) (root : Root) → t < last → root_at (states t) handle ≡ Some root →

@@ -6,7 +6,7 @@ use Rattle.proof_order.specs.Beneath.slot_arena.specs.Heaps.{generation_of, gene
 use Rattle.proof_order.specs.Beneath.machine_model.specs.declared.operations.Operation.{Operation}
 use Rattle.proof_order.specs.Beneath.machine_model.specs.declared.roots.Descriptor.{Descriptor}
 use Rattle.proof_order.specs.Beneath.machine_model.specs.declared.roots.Root.{Root}
-use Rattle.proof_order.specs.Beneath.machine_model.specs.declared.steps.Limits.{Limits}
+use Rattle.proof_order.specs.Beneath.machine_model.specs.declared.steps.Bounds.{Bounds}
 use Rattle.proof_order.specs.Beneath.machine_model.specs.declared.steps.Outcome.{Outcome}
 use Rattle.proof_order.specs.Beneath.machine_model.specs.declared.steps.Step.{Step}
 use Rattle.proof_order.specs.Beneath.history.specs.declared.calls.Call.{Call}
@@ -20,7 +20,8 @@ use Rattle.proof_order.specs.Beneath.proof_contents.specs.Runs as trie
 use Rattle.proof_order.specs.Beneath.proof_contents.specs.Runs.{counting_main, trie_of}
 use Rattle.proof_order.specs.Beneath.proof_contents.specs.Tries.{content}
 use Rattle.proof_order.specs.Beneath.proof_contents.specs.Steps.{IsTrie}
-use Rattle.proof_order.specs.Facts.{CarriesOut, Opens}
+use Rattle.proof_order.specs.Facts.{CarriesOut, Opens, Notes}
+use Rattle.proof_order.specs.Beneath.machine_model.specs.Records.{Record}
 
 -- ---- roots of generations
 
@@ -40,17 +41,18 @@ RootsAreOne states last =
 -- ---- root swaps
 
 -- step t carries this offer out, on this handle
-pub record IsSwap (states : ℕ → State) (last t handle : ℕ) (offer : Descriptor) : Type 0 where
+pub record IsSwap (states : ℕ → State) (records : ℕ → Record) (last t handle : ℕ) (offer : Descriptor) : Type 0 where
   pub taken : t < last
   pub step : Step
   pub outcome : Outcome
   pub moves : Moves (states t) step outcome (states (suc t))
+  pub notes : Notes states records t step
   pub carries : CarriesOut (states t) step handle offer
 
 -- at a root swap the expected node is the old root's main node, and it stays so for ever
-abbrev pub NoLateCommit : (ℕ → State) → ℕ → Type 0
-NoLateCommit states last =
-    (t handle : ℕ) (offer : Descriptor) → IsSwap states last t handle offer → (u : ℕ) → t ≤ u → u ≤ last → counting_main states last u offer.root ≡ offer.expected
+abbrev pub NoLateCommit : (ℕ → State) → (ℕ → Record) → ℕ → Type 0
+NoLateCommit states records last =
+    (t handle : ℕ) (offer : Descriptor) → IsSwap states records last t handle offer → (u : ℕ) → t ≤ u → u ≤ last → counting_main states last u offer.root ≡ offer.expected
 
 -- a root that the swap brings: it is that of its generation, which is newer than the old root's
 pub record IsNewRoot (states : ℕ → State) (last t : ℕ) (offer : Descriptor) (r : Ref) : Type 0 where
@@ -69,22 +71,22 @@ pub data Brings (states : ℕ → State) (last t handle : ℕ) (offer : Descript
       Brings states last t handle offer (Freeze handle)
 
 -- what the offer of a running operation brings where it is carried out
-abbrev pub SwapsBring : (ℕ → State) → ℕ → Type 0
-SwapsBring states last =
-    (t handle : ℕ) (offer : Descriptor) → IsSwap states last t handle offer → (actor : ℕ) (offerer : Operation) → operation_of (states t) actor ≡ Some offerer →
+abbrev pub SwapsBring : (ℕ → State) → (ℕ → Record) → ℕ → Type 0
+SwapsBring states records last =
+    (t handle : ℕ) (offer : Descriptor) → IsSwap states records last t handle offer → (actor : ℕ) (offerer : Operation) → operation_of (states t) actor ≡ Some offerer →
     offerer.id ≡ offer.operation → Brings states last t handle offer offerer.call
 
 -- what the call of the operation that offered opens, by the content of the run's trie
-abbrev pub SwapsOpen : Limits → (ℕ → State) → ℕ → Type 0
-SwapsOpen limits states last =
-    (depth path : Ref → ℕ) → IsTrie (trie_of limits states last depth path) → (t handle : ℕ) (offer : Descriptor) → IsSwap states last t handle offer →
+abbrev pub SwapsOpen : Bounds → (ℕ → State) → (ℕ → Record) → ℕ → Type 0
+SwapsOpen limits states records last =
+    (depth path : Ref → ℕ) → IsTrie (trie_of limits states last depth path) → (t handle : ℕ) (offer : Descriptor) → IsSwap states records last t handle offer →
     (actor : ℕ) (offerer : Operation) → operation_of (states t) actor ≡ Some offerer → offerer.id ≡ offer.operation →
-    Opens states last (content (trie_of limits states last depth path)) t handle (generation_at (states t).heap offer.root) offer offerer.call
+    Opens states records last (content (trie_of limits states last depth path)) t handle (generation_at (states t).heap offer.root) offer offerer.call
 
 -- ---- contents
 
 -- at the end the content of each open handle is the map of its root's generation
-abbrev pub HandlesShow : Limits → (ℕ → State) → ℕ → Type 0
+abbrev pub HandlesShow : Bounds → (ℕ → State) → ℕ → Type 0
 HandlesShow limits states last =
     (depth path : Ref → ℕ) → IsTrie (trie_of limits states last depth path) → (handle : ℕ) (root : Root) → state.root_at (states last) handle ≡ Some root →
     content_at (states last) handle ≡ map.entries (content (trie_of limits states last depth path) (generation_at (states last).heap (root_of root.word)) last)

@@ -26,10 +26,11 @@ use Rattle.proof_order.specs.Beneath.machine_model.specs.declared.steps.Step.{St
 use Rattle.proof_order.specs.Beneath.machine_model.specs.Calls.{handle_of, changed_reply}
 use Rattle.proof_order.specs.Beneath.machine_model.specs.States.{State, operation_of}
 use Rattle.proof_order.specs.Beneath.machine_model.specs.Operations.{action_of}
-use Rattle.proof_order.specs.Beneath.machine_model.specs.Orders.{place_of, is_placed}
 use Rattle.proof_order.specs.Beneath.machine_model.specs.Moves.{Moves}
 use Rattle.proof_order.specs.Beneath.machine_model.specs.Grown.{prev_word}
-use Rattle.proof_order.specs.Facts.{IsRooted, IsReply, Runs, committed_by_step, entered_by_step, CarriesOut}
+use Rattle.proof_order.specs.Facts.{IsRooted, IsReply, Runs, committed_by_step, entered_by_step, CarriesOut, Notes}
+use Rattle.proof_order.specs.Beneath.machine_model.specs.Records.{place_of, is_placed, Record}
+use Rattle.proof_order.specs.Beneath.machine_model.specs.Tellings.{entrant_of}
 
 -- ---- phases
 
@@ -71,20 +72,20 @@ pub data Phase (states : ℕ → State) (t : ℕ) (operation : Operation) : Type
   answers : (answer : Reply) → operation.line ≡ line.End answer → answer ≢ reply.NoSlots → Phase states t operation
 
 -- a running operation that has a place is in such a phase
-abbrev pub PlacedPhase : (ℕ → State) → ℕ → Type 0
-PlacedPhase states last =
-    (t k : ℕ) (operation : Operation) → t ≤ last → Runs (states t) k operation → is_placed (states t) operation.id ≡ true → Phase states t operation
+abbrev pub PlacedPhase : (ℕ → State) → (ℕ → Record) → ℕ → Type 0
+PlacedPhase states records last =
+    (t k : ℕ) (operation : Operation) → t ≤ last → Runs (states t) k operation → is_placed (records t) operation.id ≡ true → Phase states t operation
 
-abbrev pub PastAnswers : (ℕ → State) → ℕ → Type 0
-PastAnswers states last =
+abbrev pub PastAnswers : (ℕ → State) → (ℕ → Record) → ℕ → Type 0
+PastAnswers states records last =
     (t k : ℕ) (operation : Operation) (former : Option ℕ) → t ≤ last → Runs (states t) k operation → IsPast states t operation former →
-    IsReply (states last).events operation.id (changed_reply operation.call former)
+    IsReply (records last).events operation.id (changed_reply operation.call former)
 
 -- ---- own updates
 
 -- The step commits the node of an own update: the operation whose it is runs in its SWAP, on a writable handle. It enters the order alone, hadn't entered before,
 -- and answers that it made the change.
-pub record OwnUpdate (states : ℕ → State) (last t : ℕ) (s : Step) : Type 0 where
+pub record OwnUpdate (states : ℕ → State) (records : ℕ → Record) (last t : ℕ) (s : Step) : Type 0 where
   pub k : ℕ
   pub owner : Operation
   pub runs : Runs (states t) k owner
@@ -94,33 +95,33 @@ pub record OwnUpdate (states : ℕ → State) (last t : ℕ) (s : Step) : Type 0
   pub at : owner.line ≡ line.Swap (purpose.Update path former) its
   pub published : IsPublished its.line
   pub commits : committed_by_step (states t) s ≡ Some its.fresh
-  pub enters : entered_by_step (states t) s ≡ place_of (states t) owner t false ∷ []
-  pub unplaced : is_placed (states t) owner.id ≡ false
+  pub enters : entered_by_step (records t) (states t) s ≡ place_of (records t) (entrant_of owner) t false ∷ []
+  pub unplaced : is_placed (records t) owner.id ≡ false
   pub writable : owner.access ≡ Writable
   pub generation : ℕ
   pub of_generation : owner.generation ≡ Some generation
-  pub rooted : IsRooted states t (handle_of owner.call) generation
-  pub agrees : IsReply (states last).events owner.id (changed_reply owner.call former)
+  pub rooted : IsRooted states records t (handle_of owner.call) generation
+  pub agrees : IsReply (records last).events owner.id (changed_reply owner.call former)
 
-abbrev pub OwnUpdatesEnter : (ℕ → State) → ℕ → Type 0
-OwnUpdatesEnter states last =
-    (t : ℕ) (s : Step) (o : Outcome) → t < last → Moves (states t) s o (states (suc t)) → entered_by_step (states t) s ≢ [] → OwnUpdate states last t s
+abbrev pub OwnUpdatesEnter : (ℕ → State) → (ℕ → Record) → ℕ → Type 0
+OwnUpdatesEnter states records last =
+    (t : ℕ) (s : Step) (o : Outcome) → t < last → Moves (states t) s o (states (suc t)) → Notes states records t s → entered_by_step (records t) (states t) s ≢ [] → OwnUpdate states records last t s
 
 -- ---- facts of the order
 
 -- the operation whose offer is carried out has no place yet
-abbrev pub OffersAreUnplaced : (ℕ → State) → ℕ → Type 0
-OffersAreUnplaced states last =
-    (t : ℕ) (s : Step) (o : Outcome) → t < last → Moves (states t) s o (states (suc t)) → (handle : ℕ) (offer : Descriptor) → CarriesOut (states t) s handle offer →
-    is_placed (states t) offer.operation ≡ false
+abbrev pub OffersAreUnplaced : (ℕ → State) → (ℕ → Record) → ℕ → Type 0
+OffersAreUnplaced states records last =
+    (t : ℕ) (s : Step) (o : Outcome) → t < last → Moves (states t) s o (states (suc t)) → Notes states records t s → (handle : ℕ) (offer : Descriptor) → CarriesOut (states t) s handle offer →
+    is_placed (records t) offer.operation ≡ false
 
 -- an operation that is refused for want of slots has no place
-abbrev pub RefusedAreUnplaced : (ℕ → State) → ℕ → Type 0
-RefusedAreUnplaced states last =
+abbrev pub RefusedAreUnplaced : (ℕ → State) → (ℕ → Record) → ℕ → Type 0
+RefusedAreUnplaced states records last =
     (t actor : ℕ) (operation : Operation) → t < last → operation_of (states t) actor ≡ Some operation → action_of (states t) operation ≡ act.End reply.NoSlots →
-    is_placed (states t) operation.id ≡ false
+    is_placed (records t) operation.id ≡ false
 
 -- just behind the step of each place, the operation with its id runs
-abbrev pub PlacesRunBehind : (ℕ → State) → ℕ → Type 0
-PlacesRunBehind states last =
-    (place : Place) → Contains (states last).places place → (k : ℕ) × (operation : Operation) × Runs (states (suc place.step)) k operation × (operation.id ≡ place.id)
+abbrev pub PlacesRunBehind : (ℕ → State) → (ℕ → Record) → ℕ → Type 0
+PlacesRunBehind states records last =
+    (place : Place) → Contains (records last).places place → (k : ℕ) × (operation : Operation) × Runs (states (suc place.step)) k operation × (operation.id ≡ place.id)

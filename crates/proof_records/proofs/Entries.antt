@@ -43,7 +43,7 @@ use Rattle.proof_records.specs.Beneath.machine_model.specs.declared.roots.Comple
 use Rattle.proof_records.specs.Beneath.machine_model.specs.declared.roots.Descriptor.{Descriptor}
 use Rattle.proof_records.specs.Beneath.machine_model.specs.declared.roots.RootLine.{RootLine}
 use Rattle.proof_records.specs.Beneath.machine_model.specs.declared.roots.RootLine.TheVariants as root
-use Rattle.proof_records.specs.Beneath.machine_model.specs.declared.steps.Limits.{Limits}
+use Rattle.proof_records.specs.Beneath.machine_model.specs.declared.steps.Bounds.{Bounds}
 use Rattle.proof_records.specs.Beneath.machine_model.specs.declared.steps.Outcome.{Outcome}
 use Rattle.proof_records.specs.Beneath.machine_model.specs.declared.steps.Step.{Step}
 use Rattle.proof_records.specs.Beneath.machine_model.specs.declared.walking.WalkLine.{WalkLine}
@@ -280,11 +280,11 @@ empty_few slots k = by slots k
     by (suc n) zero = omega arith
     by (suc n) (suc k) = by n k
 
-first_few : (limits : Limits) → AreFew (first_state limits).heap
+first_few : (limits : Bounds) → AreFew (first_state limits).heap
 unfolding first_state
 first_few limits = taken_few _ _ (omega arith) (taken_few _ _ (omega arith) (empty_few limits.slots))
 
-pub few_entries : (limits : Limits) (steps : List Step) (r : Ref) → length (entries_of (node_at (run limits steps).heap r)) ≤ 32
+pub few_entries : (limits : Bounds) (steps : List Step) (r : Ref) → length (entries_of (node_at (run limits steps).heap r)) ≤ 32
 unfolding node_at stored
 few_entries limits steps r =
     along limits (λ state. AreFew state.heap) (first_few limits) (λ steps s o after m h. moved_few (run limits steps) s o after m h) steps (slot_of r)

@@ -1,5 +1,5 @@
 -- The most references that a private list has, by the line on which its operation stands.
-use Rattle.std.proofs.Common.{◌≡◌, ℕ, zero, suc, ◌+◌, ◌-◌, ◌*◌, ◌≤◌, ◌==◌, length, subst, arith}
+use Rattle.std.proofs.Common.{◌≡◌, ℕ, zero, suc, ◌+◌, ◌-◌, ◌*◌, ◌<◌, ◌≤◌, ◌==◌, length, subst, arith}
 use Rattle.std.proofs.lemmas.Bool.{cond_both}
 use Rattle.proof_records.specs.Beneath.nodes.specs.Levels.{index_in, list_depth, parting}
 use Rattle.proof_records.specs.Beneath.machine_model.specs.declared.building.BuildLine.{BuildLine}
@@ -13,7 +13,12 @@ use Rattle.proof_records.specs.Beneath.machine_model.specs.declared.reading.Swap
 use Rattle.proof_records.specs.Beneath.machine_model.specs.declared.repairs.RenewLine.{RenewLine}
 use Rattle.proof_records.specs.Beneath.machine_model.specs.declared.repairs.RenewLine.TheVariants as renew
 use Rattle.proof_records.specs.Beneath.machine_model.specs.Building.{pair_depth}
+use Rattle.proof_records.specs.Beneath.machine_model.specs.declared.operations.Operation.{Operation}
+use Rattle.proof_records.specs.Beneath.machine_model.specs.Operations.{line_action}
 use Rattle.proof_records.specs.Beneath.machine_model.specs.Paths.{depth_of}
+use Rattle.proof_records.specs.Beneath.machine_model.specs.Swapping.{action_at}
+use Rattle.proof_records.specs.Beneath.slot_arena.specs.declared.refs.Ref.{Ref}
+use Rattle.proof_records.specs.Laws.{MakesNode}
 use Rattle.proof_records.specs.Beneath.machine_model.specs.States.{State}
 use Rattle.proof_records.specs.Beneath.proof_contents.proofs.Shapes.Nodes.{list_depth-le}
 
@@ -91,6 +96,49 @@ most n (line.Clean l) h = omega (arith, h)
 most n (line.Climb l) h = omega (arith, h)
 most n (line.Walk l) h = omega (arith, h)
 most n (line.End answer) h = omega (arith, h)
+
+-- ---- where a node is made one more can be held
+
+module _ (state : State) (operation : Operation) where
+  build_room : (n : ℕ) (l : BuildLine) → BuildHolds n l → n < 33
+  build_room n (build.Single path main site former) h = omega (arith, h)
+  build_room n (build.Pair path main position single depth) h = omega (arith, h.0)
+  build_room n (build.Link path main position below depth) h = omega (arith, h.0, h.1)
+  build_room n (build.Rung path main position below depth) h = omega (arith, h.0, h.1)
+  build_room n (build.Main path main c former) h = omega (arith, h)
+
+  swap_room : (n : ℕ) (i replaced fresh : Ref) (l : SwapLine) → SwapHolds n l → MakesNode (action_at i replaced fresh l) → n < 33
+  swap_room n i replaced fresh swap.Publish h makes = absurd makes
+  swap_room n i replaced fresh (swap.Deciding l) h makes = omega (arith, h)
+  swap_room n i replaced fresh swap.Check h makes = omega (arith, h)
+
+  renew_room : (n : ℕ) (l : RenewLine) → RenewHolds n l → n < 33
+  renew_room n (renew.Branch path main done) h = omega (arith, h)
+  renew_room n (renew.Entry path main done) h = omega (arith, h.0, h.1)
+  renew_room n (renew.Read path main done r) h = omega (arith, h.0, h.1)
+  renew_room n (renew.Link path main done child) h = omega (arith, h.0, h.1)
+
+  copy_room : (n : ℕ) (l : CopyLine) → CopyHolds n l → n < 33
+  copy_room n (copy.Second r main successor) h = omega (arith, h)
+  copy_room n (copy.Cleared r main branch) h = omega (arith, h)
+  copy_room n (copy.Offer offer) h = omega (arith, h)
+  copy_room n (copy.Read r l) h = omega (arith, h)
+  copy_room n (copy.Successor r main) h = omega (arith, h)
+  copy_room n (copy.Empty r main) h = omega (arith, h)
+  copy_room n (copy.Complete c) h = omega (arith, h)
+
+  pub room : (n : ℕ) (l : Line) → LineHolds n l → MakesNode (line_action state operation l) → n < 33
+  room n (line.Build l) h makes = build_room n l h
+  room n (line.Swap why s) h makes = swap_room n s.indirection s.replaced s.fresh s.line h makes
+  room n (line.Renew l) h makes = renew_room n l h
+  room n (line.Copy l) h makes = copy_room n l h
+  room n line.Impossible h makes = absurd makes
+  room n (line.Root l) h makes = omega (arith, h)
+  room n (line.Key l) h makes = omega (arith, h)
+  room n (line.Clean l) h makes = omega (arith, h)
+  room n (line.Climb l) h makes = omega (arith, h)
+  room n (line.Walk l) h makes = omega (arith, h)
+  room n (line.End answer) h makes = omega (arith, h)
 
 -- where none is held
 pub none_held : (n : ℕ) (l : Line) → n ≤ 0 → LineHolds 0 l → LineHolds n l

@@ -1,4 +1,5 @@
 -- What lies below this crate, named through the nearest crates alone: crates.txt lists only these, since the toolchain goes along each of its paths.
+pub use Rattle.chronicle as chronicle
 pub use Rattle.proof_order as proof_order
 pub use Rattle.proof_shape as proof_shape
 pub use Rattle.proof_order.specs.Beneath.ctrie_base as ctrie_base

@@ -4,6 +4,6 @@
 mod laws;
 
 pub use laws::{
-    committed_are_newest, ids_apart, numbers_stay, one_place_a_step, owner_enters, owners_stay,
-    privates_are_short,
+    committed_are_newest, ids_apart, lists_have_room, numbers_stay, one_place_a_step,
+    privates_are_short, published_are_newest, tellings_fit,
 };

@@ -8,11 +8,11 @@ use Rattle.proof_shape.specs.Beneath.slot_arena.specs.declared.refs.Ref.{Ref}
 use Rattle.proof_shape.specs.Beneath.slot_arena.specs.declared.nodes.Node.TheVariants.{Indirection}
 use Rattle.proof_shape.specs.Beneath.slot_arena.specs.Heaps.{logical_main, node_at}
 use Rattle.proof_shape.specs.Beneath.machine_model.specs.declared.roots.Root.{Root}
-use Rattle.proof_shape.specs.Beneath.machine_model.specs.declared.steps.Limits.{Limits}
+use Rattle.proof_shape.specs.Beneath.machine_model.specs.declared.steps.Bounds.{Bounds}
 use Rattle.proof_shape.specs.Beneath.machine_model.specs.declared.steps.Step.{Step}
 use Rattle.proof_shape.specs.Beneath.machine_model.specs.Contents.{content_at, most_levels}
 use Rattle.proof_shape.specs.Beneath.machine_model.specs.Keys.{KeysFit}
-use Rattle.proof_shape.specs.Beneath.machine_model.specs.Machine.{AreLimits, run}
+use Rattle.proof_shape.specs.Beneath.machine_model.specs.Machine.{AreBounds, run}
 use Rattle.proof_shape.specs.Beneath.machine_model.specs.Pairs.{by_key}
 use Rattle.proof_shape.specs.Beneath.machine_model.specs.States.{root_at, root_of}
 use Rattle.proof_shape.specs.Beneath.proof_contents.specs.Laws.{HoldsAt}
@@ -35,6 +35,6 @@ ContentsAgree =
 -- nodes.
 abbrev pub LookingFinds : Type 0
 LookingFinds =
-    (limits : Limits) (steps : List Step) (handle : ℕ) (root : Root) (key : ℕ) → AreLimits limits → KeysFit steps → root_at (run limits steps) handle ≡ Some root →
+    (limits : Bounds) (steps : List Step) (handle : ℕ) (root : Root) (key : ℕ) → AreBounds limits → KeysFit steps → root_at (run limits steps) handle ≡ Some root →
     let heap = (run limits steps).heap in
     map.find nat_cmp key (content_at (run limits steps) handle) ≡ find_at (node_at heap) (logical_main heap) (hash_of limits.hash) key most_levels 0 (root_of root.word)

@@ -2,7 +2,7 @@
 use Rattle.std.specs.Prelude.{◌≡◌, ℕ, ◌*◌, ◌^◌, ◌<◌, ◌≤◌, Contains}
 use Rattle.proof_shape.specs.Beneath.slot_arena.specs.declared.refs.Ref.{Ref}
 use Rattle.proof_shape.specs.Beneath.slot_arena.specs.declared.nodes.Node.TheVariants.{Single}
-use Rattle.proof_shape.specs.Beneath.machine_model.specs.declared.steps.Limits.{Limits}
+use Rattle.proof_shape.specs.Beneath.machine_model.specs.declared.steps.Bounds.{Bounds}
 use Rattle.proof_shape.specs.Beneath.machine_model.specs.declared.steps.Step.{Step}
 use Rattle.proof_shape.specs.Beneath.machine_model.specs.States.{State}
 use Rattle.proof_shape.specs.Beneath.machine_model.specs.Times.{IsRun}
@@ -22,20 +22,20 @@ pub record HasShape (trie : Trie) : Type 0 where
   pub shaped : (t : ℕ) (i : Ref) → t ≤ trie.last → IsShaped trie i (node_in trie t i)
 
 -- the trie of a run, where depths and paths are fixed as nodes are made
-abbrev pub trie_of_run : Limits → (ℕ → State) → (ℕ → Step) → ℕ → Trie
+abbrev pub trie_of_run : Bounds → (ℕ → State) → (ℕ → Step) → ℕ → Trie
 trie_of_run limits states steps last = trie_of limits states last (depth_of_run states steps last) (path_of_run states steps last)
 
 -- the same with no generations
-abbrev pub bare_trie_of_run : Limits → (ℕ → State) → (ℕ → Step) → ℕ → Trie
+abbrev pub bare_trie_of_run : Bounds → (ℕ → State) → (ℕ → Step) → ℕ → Trie
 bare_trie_of_run limits states steps last = record (trie_of_run limits states steps last) { node = λ r. bare (node_under states last r) }
 
 abbrev pub BareRunsHaveShape : Type 0
 BareRunsHaveShape =
-    (limits : Limits) (states : ℕ → State) (steps : ℕ → Step) (last : ℕ) → IsRun limits states last → TakesSteps states steps last → StepsFit steps last →
+    (limits : Bounds) (states : ℕ → State) (steps : ℕ → Step) (last : ℕ) → IsRun limits states last → TakesSteps states steps last → StepsFit steps last →
     HasShape (bare_trie_of_run limits states steps last)
 
 -- and with them
 abbrev pub RunsHaveShape : Type 0
 RunsHaveShape =
-    (limits : Limits) (states : ℕ → State) (steps : ℕ → Step) (last : ℕ) → IsRun limits states last → TakesSteps states steps last → StepsFit steps last →
+    (limits : Bounds) (states : ℕ → State) (steps : ℕ → Step) (last : ℕ) → IsRun limits states last → TakesSteps states steps last → StepsFit steps last →
     HasShape (trie_of_run limits states steps last)

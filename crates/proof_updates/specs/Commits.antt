@@ -3,7 +3,7 @@ use Rattle.std.specs.Prelude.{◌≡◌, ℕ, ◌<◌, ◌≤◌, List, Option}
 use Rattle.proof_updates.specs.Beneath.slot_arena.specs.declared.refs.Ref.{Ref}
 use Rattle.proof_updates.specs.Beneath.machine_model.specs.declared.lines.Purpose.{Purpose}
 use Rattle.proof_updates.specs.Beneath.machine_model.specs.declared.lines.Purpose.TheVariants as purpose
-use Rattle.proof_updates.specs.Beneath.machine_model.specs.declared.steps.Limits.{Limits}
+use Rattle.proof_updates.specs.Beneath.machine_model.specs.declared.steps.Bounds.{Bounds}
 use Rattle.proof_updates.specs.Beneath.machine_model.specs.declared.steps.Step.{Step}
 use Rattle.proof_updates.specs.Beneath.machine_model.specs.Paths.{depth_of}
 use Rattle.proof_updates.specs.Beneath.machine_model.specs.States.{State}
@@ -11,6 +11,7 @@ use Rattle.proof_updates.specs.Beneath.machine_model.specs.Grown.{node_under}
 use Rattle.proof_updates.specs.Beneath.proof_contents.specs.Lines.Repairs.{IsRepaired}
 use Rattle.proof_shape.specs.Lines.Commits.{OwnCommit, assigned_at}
 use Rattle.proof_updates.specs.Beneath.proof_generations.specs.Falling.{WasGiven}
+use Rattle.proof_updates.specs.Beneath.machine_model.specs.Records.{Record}
 
 -- it swaps in what RENEW or CLEAN made
 abbrev pub IsRepairing : Purpose → Type 0
@@ -19,13 +20,13 @@ IsRepairing purpose.Clean = Unit {0}
 IsRepairing why = ⊥
 
 -- the entries of a repair that is committed are those that it replaces, done by what READs of the repair gave
-abbrev pub RepairsAreKnown : Limits → (ℕ → State) → ℕ → Type 0
-RepairsAreKnown limits states last =
-    (t : ℕ) (s : Step) → t < last → (own : OwnCommit limits states last (assigned_at states last) t s) → IsRepairing own.why →
+abbrev pub RepairsAreKnown : Bounds → (ℕ → State) → (ℕ → Record) → ℕ → Type 0
+RepairsAreKnown limits states records last =
+    (t : ℕ) (s : Step) → t < last → (own : OwnCommit limits states records last (assigned_at states last) t s) → IsRepairing own.why →
     IsRepaired (node_under states last) (assigned_at states last own.start t) (WasGiven states last own.start t) own.start own.replaced own.fresh
 
 -- a change of a key is swapped in at the depth of its path's end
-abbrev pub SitesOfUpdates : Limits → (ℕ → State) → ℕ → (Ref → ℕ) → Type 0
-SitesOfUpdates limits states last depth =
-    (t : ℕ) (s : Step) → t < last → (own : OwnCommit limits states last (assigned_at states last) t s) → (path : List Ref) (former : Option ℕ) → own.why ≡ purpose.Update path former →
+abbrev pub SitesOfUpdates : Bounds → (ℕ → State) → (ℕ → Record) → ℕ → (Ref → ℕ) → Type 0
+SitesOfUpdates limits states records last depth =
+    (t : ℕ) (s : Step) → t < last → (own : OwnCommit limits states records last (assigned_at states last) t s) → (path : List Ref) (former : Option ℕ) → own.why ≡ purpose.Update path former →
     (depth own.indirection ≡ depth_of path) × (depth own.indirection ≤ 13)

@@ -4,22 +4,22 @@ use Rattle.proof_commits.specs.Beneath.history.specs.declared.calls.Access.{Acce
 use Rattle.proof_commits.specs.Beneath.history.specs.declared.calls.Access.TheVariants.{Writable}
 use Rattle.proof_commits.specs.Beneath.slot_arena.specs.declared.refs.Ref.{Ref}
 use Rattle.proof_commits.specs.Beneath.slot_arena.specs.Heaps.{Heap}
-use Rattle.proof_commits.specs.Beneath.machine_model.specs.declared.heaps.Commit.{Commit}
+use Rattle.proof_commits.specs.Beneath.machine_model.specs.declared.records.Commit.{Commit}
 use Rattle.proof_commits.specs.Beneath.machine_model.specs.declared.operations.Operation.{Operation}
 use Rattle.proof_commits.specs.Beneath.machine_model.specs.declared.reading.After.{After}
 use Rattle.proof_commits.specs.Beneath.machine_model.specs.declared.reading.After.TheVariants.{Gives}
 use Rattle.proof_commits.specs.Beneath.machine_model.specs.declared.reading.ReadLine.{ReadLine}
 use Rattle.proof_commits.specs.Beneath.machine_model.specs.declared.reading.ReadLine.TheVariants as read
 use Rattle.proof_commits.specs.Beneath.machine_model.specs.declared.roots.RootWord.{RootWord}
-use Rattle.proof_commits.specs.Beneath.machine_model.specs.declared.steps.Limits.{Limits}
+use Rattle.proof_commits.specs.Beneath.machine_model.specs.declared.steps.Bounds.{Bounds}
 use Rattle.proof_commits.specs.Beneath.machine_model.specs.declared.steps.Outcome.{Outcome}
 use Rattle.proof_commits.specs.Beneath.machine_model.specs.declared.steps.Step.TheVariants as step
 use Rattle.proof_commits.specs.Beneath.machine_model.specs.Calls.{handle_of}
-use Rattle.proof_commits.specs.Beneath.machine_model.specs.States.{State, word_at, operation_of, step_of_commit}
+use Rattle.proof_commits.specs.Beneath.machine_model.specs.States.{State, word_at, operation_of}
 use Rattle.proof_commits.specs.Beneath.machine_model.specs.Reading.{Verdict, Commits, Fails, Overtaken, verdict, read_action, read_after, after_decide, committed_by, committed_so, at_indirection}
-use Rattle.proof_commits.specs.Beneath.machine_model.specs.Orders.{counted_from, read_at_after, committed_in, commit_step, moment_given, moment_from, moment_after}
-use Rattle.proof_commits.specs.Beneath.machine_model.specs.Acting.{gone, commits_after}
-use Rattle.proof_commits.specs.Beneath.machine_model.specs.Counting.{settled}
+use Rattle.proof_commits.specs.Beneath.machine_model.specs.declared.records.Moment.{Moment}
+use Rattle.proof_commits.specs.Beneath.machine_model.specs.Records.{Record, commit_step, commits_after, moment_after, moment_at, moment_given, noted_progress, read_at_after, step_of_commit}
+use Rattle.proof_commits.specs.Beneath.machine_model.specs.Tellings.{committed_in, counts_from, given_by, given_in, progress_of}
 use Rattle.proof_commits.specs.Beneath.machine_model.specs.Moves as Machine
 use Rattle.proof_commits.specs.Beneath.machine_model.proofs.Times.{steps_at}
 use Rattle.proof_commits.specs.Protocol.{Words, Reads, Given, CommitsNode, ReadTurn, ReadsMain, FindsDecided, FindsFailed, FindsPending, DecidesAtOnce, Asks, FindsOffer, Aborts}
@@ -27,10 +27,10 @@ use Rattle.proof_commits.specs.Protocol.{Commits as CommitsTurn, Fails as FailsT
 use Rattle.proof_commits.proofs.Course.Finals.{first_commit, commits_at}
 use Rattle.proof_commits.proofs.Course.Readings.{gives_moment}
 use Rattle.proof_commits.specs.Moments.{later_of, IsMoment}
-use Rattle.proof_commits.specs.Stages.{stage_of, stage_of_actor, from_of_actor}
+use Rattle.proof_commits.specs.Stages.{stage_of, stage_of_actor}
 use Rattle.proof_commits.proofs.Known.Given.{Known}
 use Rattle.proof_commits.specs.Words.{words_of, commit_of}
-use Rattle.proof_commits.proofs.Known.StepsAt.{gone_commits, commit_here, commit_kept}
+use Rattle.proof_commits.proofs.Known.StepsAt.{commit_here, commit_kept}
 use Rattle.proof_commits.proofs.Lines.Reads.{ReadsSo, on_stage, read_counts}
 use Rattle.proof_commits.proofs.Words.Along.{reading_turn, protocol}
 
@@ -57,13 +57,13 @@ commits_given heap access word i (read.Abort main p offer) m e x c = let wrong :
 commits_given heap access word i (read.Restore main p) m e x c = let wrong : ⊥ = cc in absurd wrong
 
 -- the step of the commit of what is given, now or before, is what is kept after the step
-kept_step : (before after : State) (m : Ref) (r : ℕ) (now : Option Ref) → ((x : Ref) → now ≡ Some x → x ≡ m) → after.commits ≡ commits_after before now →
-    (now ≡ Some m → commit_of before m ≡ None) → max r (commit_step before m now) ≡ later_of r (commit_of after m)
-kept_step before after m r None own e first = step_or_zero r (find (λ (c : Commit). c.main == m) before.commits) ∙ ap (later_of r) (sym (commit_kept before after m e))
-kept_step before after m r (Some x) own e first =
+kept_step : (past now : Record) (step : ℕ) (m : Ref) (r : ℕ) (committed : Option Ref) → ((x : Ref) → committed ≡ Some x → x ≡ m) →
+    now.commits ≡ commits_after past step committed → (committed ≡ Some m → commit_of past m ≡ None) → max r (commit_step past step m committed) ≡ later_of r (commit_of now m)
+kept_step past now step m r None own e first = step_or_zero r (find (λ (c : Commit). c.main == m) past.commits) ∙ ap (later_of r) (sym (commit_kept past now m e))
+kept_step past now step m r (Some x) own e first =
     let same : x ≡ m = own x refl in
-    let committed : after.commits ≡ commits_after before (Some m) = e ∙ ap (λ y. commits_after before (Some y)) same in
-    sym (ap (later_of r) (commit_here before after m committed (first (ap (λ (y : Ref). Some y) same))))
+    let committed : now.commits ≡ commits_after past step (Some m) = e ∙ ap (λ y. commits_after past step (Some y)) same in
+    sym (ap (later_of r) (commit_here past now step m committed (first (ap (λ (y : Ref). Some y) same))))
 
 -- where a READ commits what it gives
 read_commits : (heap : Heap) (w : Words) (t : ℕ) (i : Ref) (l : ReadLine) (out : After ReadLine Ref) → ReadTurn w t i l out → (m : Ref) → out ≡ Gives m →
@@ -86,11 +86,12 @@ read_commits heap w t i l out (FindsAnother e) m is c = let wrong : ⊥ = cc in 
 
 -- ---- a step of an operation's own READ
 
-module _ (limits : Limits) (states : ℕ → State) (last : ℕ) (known : Known limits states last) (t : ℕ) (h : t < last) (actor : ℕ) (operation : Operation) (o : Outcome)
+module _ (limits : Bounds) (states : ℕ → State) (last : ℕ) (known : Known limits states last) (t : ℕ) (h : t < last) (actor : ℕ) (operation : Operation) (o : Outcome)
     (moves : Machine.Moves (states t) (step.Go actor) o (states (suc t))) (is : operation_of (states t) actor ≡ Some operation)
-    (e : states (suc t) ≡ settled (states t) (gone (states t) actor operation)) (i : Ref) (x : ReadLine) (stage : stage_of operation.line ≡ Reads i x) where
+    (noted : known.run.records (suc t) ≡ noted_progress (known.run.records t) (states t).steps actor (progress_of (states t) operation)) (i : Ref) (x : ReadLine)
+    (stage : stage_of operation.line ≡ Reads i x) where
   abbrev w : Words
-  w = words_of states last known.closing
+  w = words_of states known.run.records last known.closing
 
   abbrev out : After ReadLine Ref
   out = read_after (states t).heap operation.access (word_at (states t) (handle_of operation.call)) i x
@@ -98,44 +99,51 @@ module _ (limits : Limits) (states : ℕ → State) (last : ℕ) (known : Known 
   so : ReadsSo (states t) operation (λ j m. Given w t actor j m) (operation.access ≡ Writable) operation.line (Reads i x)
   so = on_stage (states t) operation (λ j m. Given w t actor j m) (operation.access ≡ Writable) operation.line i x stage
 
-  read_commits_after : (states (suc t)).commits ≡ commits_after (states t) (committed_by (states t).heap i x)
-  read_commits_after = ap (λ (s : State). s.commits) e ∙ gone_commits (states t) actor operation ∙ ap (λ r. commits_after (states t) (committed_in (states t) r)) so.1
+  -- what was known of the operation's READs, and what is
+  abbrev was : Moment
+  was = moment_at (known.run.records t) actor
+
+  abbrev pub found : Moment
+  found = moment_after (known.run.records t) (states t).steps (progress_of (states t) operation) was
+
+  read_commits_after : (known.run.records (suc t)).commits ≡ commits_after (known.run.records t) (states t).steps (committed_by (states t).heap i x)
+  read_commits_after =
+      ap (λ (r : Record). r.commits) noted ∙ ap (λ r. commits_after (known.run.records t) (states t).steps (committed_in (states t) r)) so.1
 
   -- it is a turn of the protocol
   turn : ReadTurn w t i x out
-  turn = reading_turn limits states last known t h actor operation o moves is e i x stage
+  turn = reading_turn limits states last known t h actor operation o moves is noted i x stage
 
   gives_turn : (m : Ref) → out ≡ Gives m → ReadTurn w t i x (Gives m)
   gives_turn m gives = subst (λ y. ReadTurn w t i x y) gives turn
 
-  -- whence it counts is what the operation's field is afterwards
-  counts_from : read_at_after (states t) operation ≡ counts_at x t (w.from t actor)
-  counts_from =
-      ap (λ a. counted_from a (states t).steps operation.read_at) so.0
-      ∙ ap (λ n. counted_from (read_action i x) n operation.read_at) (steps_at limits states last known.run t (omega arith)) ∙ read_counts i x t operation.read_at
-      ∙ ap (counts_at x t) (sym (ap from_of_actor is))
+  -- whence it counts is what is known afterwards
+  pub counted : found.read_at ≡ counts_at x t (w.from t actor)
+  counted =
+      ap (λ a. read_at_after (states t).steps (counts_from a) was.read_at) so.0
+      ∙ ap (λ n. read_at_after n (counts_from (read_action i x)) was.read_at) (steps_at limits states last known.run t (omega arith)) ∙ read_counts i x t was.read_at
 
-  moment_is : (m : Ref) → out ≡ Gives m → moment_after (states t) operation ≡ max (read_at_after (states t) operation) (commit_step (states t) m (committed_by (states t).heap i x))
+  moment_is : (m : Ref) → out ≡ Gives m → found.moment ≡ max found.read_at (commit_step (known.run.records t) (states t).steps m (committed_by (states t).heap i x))
   moment_is m gives =
-      ap (moment_from (states t) operation) so.1
-      ∙ ap (λ y. moment_given (states t) operation (at_indirection i y)) gives
-      ∙ ap (λ r. max (read_at_after (states t) operation) (commit_step (states t) m (committed_in (states t) r))) so.1
+      let given : Option Ref → Option Ref → ℕ = λ r c. moment_given (known.run.records t) (states t).steps found.read_at was.moment r c in
+      ap (λ r. given (given_in (states t) operation r) (committed_in (states t) r)) so.1
+      ∙ ap (λ y. given (given_by (at_indirection i y)) (committed_by (states t).heap i x)) gives
 
-  uncommitted : (m : Ref) → out ≡ Gives m → committed_by (states t).heap i x ≡ Some m → commit_of (states t) m ≡ None
+  uncommitted : (m : Ref) → out ≡ Gives m → committed_by (states t).heap i x ≡ Some m → commit_of (known.run.records t) m ≡ None
   uncommitted m gives c =
       let p : Protocol = protocol limits states last known in
       let committed = read_commits (states t).heap w t i x out turn m gives c in
       first_commit p t (omega arith) (commits_at p t (omega arith)) m committed.0 committed.1
 
-  -- the fields tell the moment
-  pub moment_at : (m : Ref) → out ≡ Gives m → IsMoment w i m (read_at_after (states t) operation) (moment_after (states t) operation) t
-  moment_at m gives =
+  -- so the moment is told
+  pub moment_noted : (m : Ref) → out ≡ Gives m → IsMoment w i m found.read_at found.moment t
+  moment_noted m gives =
       let p : Protocol = protocol limits states last known in
       let r = counts_at x t (w.from t actor) in
-      let mu : moment_after (states t) operation ≡ later_of r (w.commit (suc t) m) =
+      let mu : found.moment ≡ later_of r (w.commit (suc t) m) =
       moment_is m gives
-      ∙ kept_step (states t) (states (suc t)) m (read_at_after (states t) operation) (committed_by (states t).heap i x)
+      ∙ kept_step (known.run.records t) (known.run.records (suc t)) (states t).steps m found.read_at (committed_by (states t).heap i x)
       (λ y c. commits_given (states t).heap operation.access (word_at (states t) (handle_of operation.call)) i x m gives y c) read_commits_after (uncommitted m gives)
-      ∙ ap (λ n. later_of n (w.commit (suc t) m)) counts_from in
-      subst (λ n. IsMoment w i m n (moment_after (states t) operation) t) (sym counts_from)
+      ∙ ap (λ n. later_of n (w.commit (suc t) m)) counted in
+      subst (λ n. IsMoment w i m n found.moment t) (sym counted)
       (subst (λ n. IsMoment w i m r n t) (sym mu) (gives_moment p t h actor i m x (ap stage_of_actor is ∙ stage) (gives_turn m gives)))

@@ -1,5 +1,5 @@
--- The laws, from what other layers give of each run.
-use Rattle.std.proofs.Common.{◌≡◌, ℕ, suc, ◌+◌, ◌<◌, ◌≤◌, ◌⊎◌, true, false, List, Some, inl, inr, refl, sym, ◌∙◌, ap, subst, add-one, arith}
+-- What is known of each run, in the words of the machine: whose a pending node is, how words change, what READs give.
+use Rattle.std.proofs.Common.{◌≡◌, ℕ, suc, ◌+◌, ◌<◌, ◌≤◌, ◌⊎◌, true, false, List, Some, inl, inr, refl, sym, ◌∙◌, ap, subst, add-one, arith, None}
 use Rattle.std.proofs.lemmas.Bool.{cases_eq}
 use Rattle.std.proofs.lemmas.Option.{same_Some}
 use Rattle.proof_commits.specs.Beneath.history.specs.declared.replies.Reply.{Reply}
@@ -16,21 +16,21 @@ use Rattle.proof_commits.specs.Beneath.machine_model.specs.declared.reading.Afte
 use Rattle.proof_commits.specs.Beneath.machine_model.specs.declared.reading.ReadLine.{ReadLine}
 use Rattle.proof_commits.specs.Beneath.machine_model.specs.declared.reading.SwapLine.{SwapLine}
 use Rattle.proof_commits.specs.Beneath.machine_model.specs.declared.reading.SwapLine.TheVariants as swap
-use Rattle.proof_commits.specs.Beneath.machine_model.specs.declared.steps.Limits.{Limits}
+use Rattle.proof_commits.specs.Beneath.machine_model.specs.declared.steps.Bounds.{Bounds}
 use Rattle.proof_commits.specs.Beneath.machine_model.specs.declared.steps.Outcome.{Outcome}
 use Rattle.proof_commits.specs.Beneath.machine_model.specs.declared.steps.Step.{Step}
 use Rattle.proof_commits.specs.Beneath.machine_model.specs.declared.steps.Step.TheVariants as step
 use Rattle.proof_commits.specs.Beneath.machine_model.specs.Calls.{handle_of}
-use Rattle.proof_commits.specs.Beneath.machine_model.specs.States.{State, operation_of, word_at, closed_at}
+use Rattle.proof_commits.specs.Beneath.machine_model.specs.States.{State, operation_of, word_at}
+use Rattle.proof_commits.specs.Beneath.machine_model.specs.declared.records.Moment.{Moment}
+use Rattle.proof_commits.specs.Beneath.machine_model.specs.Records.{Record, closed_at, moment_after, moment_at, noted_progress}
+use Rattle.proof_commits.specs.Beneath.machine_model.specs.Tellings.{progress_of}
 use Rattle.proof_commits.specs.Beneath.machine_model.specs.Reading.{read_after, at_indirection}
 use Rattle.proof_commits.specs.Beneath.machine_model.specs.Operations.{action_of}
-use Rattle.proof_commits.specs.Beneath.machine_model.specs.Orders.{read_at_after, moment_after}
-use Rattle.proof_commits.specs.Beneath.machine_model.specs.Acting.{gone}
-use Rattle.proof_commits.specs.Beneath.machine_model.specs.Counting.{settled}
-use Rattle.proof_commits.specs.Beneath.machine_model.specs.Machine.{AreLimits, run}
+use Rattle.proof_commits.specs.Beneath.machine_model.specs.Machine.{AreBounds, go_denial}
 use Rattle.proof_commits.specs.Beneath.machine_model.specs.Moves as Machine
-use Rattle.proof_commits.specs.Beneath.machine_model.proofs.Times.{run_ends, run_is}
-use Rattle.proof_commits.specs.Beneath.machine_model.specs.Times.{states_of, last_of}
+use Rattle.proof_commits.specs.Beneath.machine_model.proofs.Times.{run_is}
+use Rattle.proof_commits.specs.Beneath.machine_model.specs.Times.{states_of, records_of, last_of}
 use Rattle.proof_commits.specs.Beneath.machine_model.specs.Grown.{node_under}
 use Rattle.proof_commits.specs.Protocol.{Words, Rests, Reads, Protocol}
 use Rattle.proof_commits.specs.Protocol as Protocol'
@@ -52,36 +52,38 @@ use Rattle.proof_commits.specs.Words.{words_of}
 use Rattle.proof_commits.proofs.Lines.Read.{generation_stays, solid_stays}
 use Rattle.proof_commits.proofs.Lines.Reads.{ends_at_end}
 use Rattle.proof_commits.proofs.Words.Along.{protocol}
-use Rattle.proof_commits.proofs.Course.Moments.{moment_at}
+use Rattle.proof_commits.proofs.Course.Moments.{moment_noted}
 use Rattle.proof_commits.proofs.Lines.Swap.{runs_deciding, runs_publishing, in_swap_fresh, reads_stage}
 use Rattle.proof_commits.specs.Runs.{HasIndirection}
-use Rattle.proof_commits.specs.Laws.{IsInSwap, Owner, PendingHasOwner, PrevChange, Stays, IsSwappedIn, IsCommitted as ChangeCommitted, HasFailed, PrevWordsChange, DecidedForGood}
-use Rattle.proof_commits.specs.Laws.{CommitsMain, MainsChangeByCommits, ReplacedForGood, IsGiven, MomentIsFirst, GivenForGood, CheckedIsDecided, ChangesLate, LateStoodBefore}
-use Rattle.proof_commits.specs.Laws.{LateOnce, IsTomb, TombsStay}
+use Rattle.proof_commits.specs.Laws.{IsInSwap, Owner, PrevChange, Stays, IsSwappedIn, IsCommitted as ChangeCommitted, HasFailed, known_after}
+use Rattle.proof_commits.specs.Laws.{CommitsMain, IsGiven}
+use Rattle.proof_commits.specs.Laws.{IsTomb}
 use Rattle.proof_memory.specs.Wants.{is_indirection, is_branch_or_list}
 use Rattle.proof_memory.specs.Laws.{IsInUse}
 use Rattle.proof_commits.specs.Beneath.machine_model.proofs.Grown.{grown_in_use, node_grown, prev_grown}
-use Rattle.proof_commits.specs.Beneath.machine_model.proofs.Numbered.{step_leads}
+use Rattle.proof_commits.specs.Beneath.machine_model.proofs.Numbered.{step_leads, step_noted}
+use Rattle.proof_commits.specs.Beneath.machine_model.proofs.Notes.{noted_going}
+use Rattle.proof_commits.specs.Beneath.machine_model.proofs.Alike.{alike, go_actor, moment_own}
 use Rattle.proof_commits.proofs.Known.MainsInUse.{logical_standing}
 
 -- what is known of the words of every run
-abbrev known_from : (limits : Limits) (steps : List Step) → AreLimits limits → Known limits (states_of limits steps) (last_of limits steps)
+abbrev pub known_from : (limits : Bounds) (steps : List Step) → AreBounds limits → Known limits (states_of limits steps) (last_of limits steps)
 known_from limits steps ok = known_run limits (states_of limits steps) (last_of limits steps) (run_is limits steps ok)
 
 -- roots are open where they are asked for: the layer of roots shows it
 abbrev pub RootsOfRuns : Type 0
 RootsOfRuns =
-    (limits : Limits) (steps : List Step) → AreLimits limits →
-    RootsAreOpen (states_of limits steps) (last_of limits steps) (λ g. closed_at (states_of limits steps (last_of limits steps)) g)
+    (limits : Bounds) (steps : List Step) → AreBounds limits →
+    RootsAreOpen (states_of limits steps) (last_of limits steps) (λ g. closed_at (records_of limits steps (last_of limits steps)) g)
 
-abbrev known_of : RootsOfRuns → (limits : Limits) (steps : List Step) → AreLimits limits → Known limits (states_of limits steps) (last_of limits steps)
+abbrev pub known_of : RootsOfRuns → (limits : Bounds) (steps : List Step) → AreBounds limits → Known limits (states_of limits steps) (last_of limits steps)
 known_of roots limits steps ok =
-    known_by limits (states_of limits steps) (last_of limits steps) (run_is limits steps ok) (λ g. closed_at (states_of limits steps (last_of limits steps)) g) (roots limits steps ok)
+    known_by limits (states_of limits steps) (last_of limits steps) (run_is limits steps ok) (λ g. closed_at (records_of limits steps (last_of limits steps)) g) (roots limits steps ok)
 
 -- ---- owners
 
 -- of one state
-abbrev OwnedIn : State → Type 0
+abbrev pub OwnedIn : State → Type 0
 OwnedIn state =
     (fresh replaced : Ref) → IsInUse state.heap fresh → prev_at state.heap fresh ≡ over.Pending replaced →
     (indirection : Ref) × (owner : Owner state indirection replaced fresh)
@@ -91,8 +93,8 @@ pub given_read : (i : Ref) (out : After ReadLine Ref) (m : Ref) → at_indirecti
 given_read i (Gives x) m e = cc
 given_read i (Goes l) m e = let wrong : ⊥ = cc in absurd wrong
 
-module _ (limits : Limits) (ok : AreLimits limits) (steps : List Step) (known : Known limits (states_of limits steps) (last_of limits steps)) where
-  abbrev states : ℕ → State
+module _ (limits : Bounds) (ok : AreBounds limits) (steps : List Step) (known : Known limits (states_of limits steps) (last_of limits steps)) where
+  abbrev pub states : ℕ → State
   states = states_of limits steps
 
   abbrev last : ℕ
@@ -102,7 +104,7 @@ module _ (limits : Limits) (ok : AreLimits limits) (steps : List Step) (known : 
   p = protocol limits states last known
 
   abbrev w : Words
-  w = words_of states last known.closing
+  w = words_of states known.run.records last known.closing
 
   prev_in_use : (t : ℕ) (m : Ref) → IsInUse (states t).heap m → prev_at (states t).heap m ≡ w.prev t m
   prev_in_use t m h = prev_grown states t m h.0 h.1
@@ -120,7 +122,7 @@ module _ (limits : Limits) (ok : AreLimits limits) (steps : List Step) (known : 
       absurd ((sound_at p t h).apart actor o.actor m other (subst (λ x. HasFresh (stage_of_actor x) m) (sym runs) (in_swap_fresh operation i r m l swaps))
       (subst (λ s. HasFresh s m) (sym o.stage) refl))
 
-  owned_at : (t : ℕ) → t ≤ last → OwnedIn (states t)
+  pub owned_at : (t : ℕ) → t ≤ last → OwnedIn (states t)
   unfolding machine_owner
   owned_at t h fresh replaced used pend =
       let o = (sound_at p t h).owned fresh replaced (sym (prev_in_use t fresh used) ∙ pend) in (
@@ -140,7 +142,7 @@ module _ (limits : Limits) (ok : AreLimits limits) (steps : List Step) (known : 
   prev_change_by n h m used still (IsCommitted q x) = ChangeCommitted (prev_in_use n m used ∙ x.was) (prev_in_use (suc n) m still ∙ x.prev.here)
   prev_change_by n h m used still (IsFailed q x) = HasFailed (prev_in_use n m used ∙ x.was) (prev_in_use (suc n) m still ∙ x.prev.here)
 
-  prev_changes : (n : ℕ) → n < last → (m : Ref) → IsInUse (states n).heap m → IsInUse (states (suc n)).heap m → PrevChange (states n) (states (suc n)) m
+  pub prev_changes : (n : ℕ) → n < last → (m : Ref) → IsInUse (states n).heap m → IsInUse (states (suc n)).heap m → PrevChange (states n) (states (suc n)) m
   prev_changes n h m used still = prev_change_by n h m used still (becomes w n (effect p n h) m)
 
   decided_by : (n k l : ℕ) → n ≤ k → k ≤ l → l ≤ last → (m q i : Ref) → Stood w n i m → (w.prev k m ≡ over.Pending q → ⊥) → Fate w n k m q → w.prev l m ≡ w.prev k m
@@ -148,7 +150,7 @@ module _ (limits : Limits) (ok : AreLimits limits) (steps : List Step) (known : 
   decided_by n k l nk kl h m q i s other (FateFailed e) = failed_final p m q k l kl h e ∙ sym e
   decided_by n k l nk kl h m q i s other (HasCommitted c e) = none_final p i m k l kl h (stood_still nk s) e ∙ sym e
 
-  decided_for_good_at : (n k l : ℕ) → n ≤ k → k ≤ l → l ≤ last → (m q : Ref) → IsInUse (states n).heap m → IsInUse (states k).heap m → IsInUse (states l).heap m →
+  pub decided_for_good_at : (n k l : ℕ) → n ≤ k → k ≤ l → l ≤ last → (m q : Ref) → IsInUse (states n).heap m → IsInUse (states k).heap m → IsInUse (states l).heap m →
       prev_at (states n).heap m ≡ over.Pending q → (prev_at (states k).heap m ≡ over.Pending q → ⊥) → prev_at (states l).heap m ≡ prev_at (states k).heap m
   decided_for_good_at n k l nk kl h m q at_n at_k at_l pend other =
       let was = sym (prev_in_use n m at_n) ∙ pend in
@@ -185,11 +187,11 @@ module _ (limits : Limits) (ok : AreLimits limits) (steps : List Step) (known : 
         owner = subst (λ j. Owner (states n) j c.replaced c.fresh) same (machine_owner n c.fresh c.replaced o);
       })
 
-  main_changes : (n : ℕ) → n < last → (i : Ref) → HasIndirection (states n) i → HasIndirection (states (suc n)) i →
+  pub main_changes : (n : ℕ) → n < last → (i : Ref) → HasIndirection (states n) i → HasIndirection (states (suc n)) i →
       (logical_main (states (suc n)).heap i ≡ logical_main (states n).heap i) ⊎ CommitsMain (states n) (states (suc n)) i
   main_changes n h i has still = main_change_by n h i has still (main_step p n h i (link_in_use n i has))
 
-  replaced_at : (n k l : ℕ) → n ≤ k → k ≤ l → l ≤ last → (i : Ref) → HasIndirection (states n) i → HasIndirection (states k) i → HasIndirection (states l) i →
+  pub replaced_at : (n k l : ℕ) → n ≤ k → k ≤ l → l ≤ last → (i : Ref) → HasIndirection (states n) i → HasIndirection (states k) i → HasIndirection (states l) i →
       (logical_main (states k).heap i ≡ logical_main (states n).heap i → ⊥) → logical_main (states l).heap i ≡ logical_main (states n).heap i → ⊥
   replaced_at n k l nk kl h i at_n at_k at_l other back =
       let main = main_in_use n (omega arith) i at_n in
@@ -200,7 +202,7 @@ module _ (limits : Limits) (ok : AreLimits limits) (steps : List Step) (known : 
   not_solid (Tomb single) h = refl
   not_solid node h = absurd h
 
-  tomb_at : (n k : ℕ) → n ≤ k → k ≤ last → (i a : Ref) → HasIndirection (states n) i → HasIndirection (states k) i → logical_main (states n).heap i ≡ a →
+  pub tomb_at : (n k : ℕ) → n ≤ k → k ≤ last → (i a : Ref) → HasIndirection (states n) i → HasIndirection (states k) i → logical_main (states n).heap i ≡ a →
       IsInUse (states n).heap a → IsTomb (node_at (states n).heap a) → logical_main (states k).heap i ≡ a
   tomb_at n k nk h i a at_n at_k is used tomb =
       let solid : w.solid a ≡ false =
@@ -219,7 +221,7 @@ module _ (limits : Limits) (ok : AreLimits limits) (steps : List Step) (known : 
   main_after : (n : ℕ) → n < last → (i m : Ref) (r mu : ℕ) → IsMoment w i m r mu n → HasIndirection (states (suc mu)) i → logical_main (states (suc mu)).heap i ≡ m
   main_after n h i m r mu moment has = main_in_use (suc mu) (omega (arith, moment.past)) i has ∙ moment.is
 
-  moment_over : (n : ℕ) → n < last → (i m : Ref) (r mu : ℕ) → IsMoment w i m r mu n → MomentOver states n i m r mu
+  pub moment_over : (n : ℕ) → n < last → (i m : Ref) (r mu : ℕ) → IsMoment w i m r mu n → MomentOver states n i m r mu
   moment_over n h i m r mu moment = (
     moment.from,
     moment.past,
@@ -227,52 +229,64 @@ module _ (limits : Limits) (ok : AreLimits limits) (steps : List Step) (known : 
     λ k after before has same. moment.first k after before (sym (main_in_use k (omega (arith, moment.past)) i has) ∙ same),
   )
 
-  -- the step of an operation that goes on
-  go_after : (before : State) (actor : ℕ) (o : Outcome) (after : State) → Machine.Moves before (step.Go actor) o after → (operation : Operation) →
-      operation_of before actor ≡ Some operation → ((answer : Reply) → action_of before operation ≡ act.End answer → ⊥) → after ≡ settled before (gone before actor operation)
-  go_after before actor o after (Machine.Goes {operation = x} d is a g) operation runs goes =
-      ap (λ y. settled before (gone before actor y)) (same_Some _ _ (sym is ∙ runs))
-  go_after before actor o after (Machine.Ends {operation = x} {answer} d is a) operation runs goes =
+  -- a step of an operation that isn't its end
+  goes_on : (before : State) (actor : ℕ) (o : Outcome) (after : State) → Machine.Moves before (step.Go actor) o after → (operation : Operation) →
+      operation_of before actor ≡ Some operation → ((answer : Reply) → action_of before operation ≡ act.End answer → ⊥) → Machine.GoesOn (action_of before operation)
+  goes_on before actor o after (Machine.Goes {operation = x} d is a g) operation runs goes =
+      subst Machine.GoesOn (sym a ∙ ap (action_of before) (same_Some _ _ (sym is ∙ runs))) g
+  goes_on before actor o after (Machine.Ends {operation = x} {answer} d is a) operation runs goes =
       absurd (goes answer (ap (action_of before) (sym (same_Some _ _ (sym is ∙ runs))) ∙ a))
+
+  allowed : {before : State} {actor : ℕ} {o : Outcome} {after : State} → Machine.Moves before (step.Go actor) o after → go_denial before actor ≡ None
+  allowed (Machine.Goes d is a g) = d
+  allowed (Machine.Ends d is a) = d
 
   not_rests : (i : Ref) (x : ReadLine) → Reads i x ≡ Rests → ⊥
   not_rests i x e = cc
 
-  moment_of_given : (n : ℕ) → n < last → (i m : Ref) (g : IsGiven limits steps n i m) →
-      IsMoment w i m (read_at_after (states n) g.operation) (moment_after (states n) g.operation) n
-  moment_of_given n h i m g =
+  pub moment_of_given : known.run.records ≡ records_of limits steps → (n : ℕ) → n < last → (i m : Ref) (g : IsGiven limits steps n i m) →
+      IsMoment w i m (known_after g).read_at (known_after g).moment n
+  moment_of_given same n h i m g =
       let leads = step_leads limits steps n (step.Go g.actor) g.step in
       let stage = reads_stage g.operation.line g.read g.no_swap g.reads in
       let goes = λ (answer : Reply) (a : action_of (states n) g.operation ≡ act.End answer).
       not_rests g.read.indirection g.read.line (sym stage ∙ ends_at_end (states n) g.operation g.operation.line answer a) in
-      let e = go_after (states n) g.actor leads.0 (states (suc n)) leads.1 g.operation g.runs goes in
-      subst (λ j. IsMoment w j m (read_at_after (states n) g.operation) (moment_after (states n) g.operation) n) g.of
-      (moment_at limits states last known n h g.actor g.operation leads.0 leads.1 g.runs e g.read.indirection g.read.line stage m
-      (given_read g.read.indirection (read_after (states n).heap g.operation.access (word_at (states n) (handle_of g.operation.call)) g.read.indirection g.read.line) m g.gives))
+      let on = goes_on (states n) g.actor leads.0 (states (suc n)) leads.1 g.operation g.runs goes in
+      let recorded = step_noted limits steps n (step.Go g.actor) g.step ∙ noted_going (states n) (records_of limits steps n) g.actor g.operation _ g.runs refl on in
+      let noted : known.run.records (suc n) ≡ noted_progress (known.run.records n) (states n).steps g.actor (progress_of (states n) g.operation) =
+      subst (λ (r : ℕ → Record). r (suc n) ≡ noted_progress (r n) (states n).steps g.actor (progress_of (states n) g.operation)) (sym same) recorded in
+      let told : moment_after (known.run.records n) (states n).steps (progress_of (states n) g.operation) (moment_at (known.run.records n) g.actor) ≡ known_after g =
+      sym (ap (λ r. moment_at r g.actor) noted
+      ∙ moment_own (states n) (known.run.records n) g.actor _ (alike limits states last known.run n (omega arith)) (go_actor (states n) g.actor (allowed leads.1)))
+      ∙ ap (λ (r : ℕ → Record). moment_at (r (suc n)) g.actor) same in
+      subst (λ j. IsMoment w j m (known_after g).read_at (known_after g).moment n) g.of
+      (subst (λ (x : Moment). IsMoment w g.read.indirection m x.read_at x.moment n) told
+      (moment_noted limits states last known n h g.actor g.operation leads.0 leads.1 g.runs noted g.read.indirection g.read.line stage m
+      (given_read g.read.indirection (read_after (states n).heap g.operation.access (word_at (states n) (handle_of g.operation.call)) g.read.indirection g.read.line) m g.gives)))
 
   -- ---- what is final
 
   -- the closings are told
-  abbrev Told : Type 0
-  Told = (g : ℕ) → known.closing g ≡ closed_at (states last) g
+  abbrev pub Told : Type 0
+  Told = (g : ℕ) → known.closing g ≡ closed_at (known.run.records last) g
 
-  for_good_at : Told → (n : ℕ) → n < last → (i m : Ref) (r mu : ℕ) → IsMoment w i m r mu n → (closed : ℕ) → HasIndirection (states n) i →
-      closed_at (states last) (generation_at (states n).heap i) ≡ Some closed → closed < r →
+  pub for_good_at : Told → (n : ℕ) → n < last → (i m : Ref) (r mu : ℕ) → IsMoment w i m r mu n → (closed : ℕ) → HasIndirection (states n) i →
+      closed_at (known.run.records last) (generation_at (states n).heap i) ≡ Some closed → closed < r →
       (k : ℕ) → mu < k → k ≤ last → HasIndirection (states k) i → logical_main (states k).heap i ≡ m
   for_good_at told n h i m r mu moment closed has is before k after within still =
       let generation : generation_at (states n).heap i ≡ generation_of (node_under states last i) =
       ap generation_of (node_in_use n i has.0) ∙ sym (generation_stays limits states last known n i (omega arith) (link_in_use n i has)) in
       main_in_use k within i still
-      ∙ protocol_for_good p i m r mu n closed h moment (told (generation_of (node_under states last i)) ∙ ap (closed_at (states last)) (sym generation) ∙ is) before k after within
+      ∙ protocol_for_good p i m r mu n closed h moment (told (generation_of (node_under states last i)) ∙ ap (closed_at (known.run.records last)) (sym generation) ∙ is) before k after within
 
   -- ---- after a closing
 
-  closing_at : Told → (n : ℕ) → n ≤ last → (i : Ref) (c : ℕ) → HasIndirection (states n) i → closed_at (states last) (generation_at (states n).heap i) ≡ Some c →
+  closing_at : Told → (n : ℕ) → n ≤ last → (i : Ref) (c : ℕ) → HasIndirection (states n) i → closed_at (known.run.records last) (generation_at (states n).heap i) ≡ Some c →
       known.closing (generation_of (node_under states last i)) ≡ Some c
   closing_at told n h i c has is =
       let generation : generation_at (states n).heap i ≡ generation_of (node_under states last i) =
       ap generation_of (node_in_use n i has.0) ∙ sym (generation_stays limits states last known n i h (link_in_use n i has)) in
-      told (generation_of (node_under states last i)) ∙ ap (closed_at (states last)) (sym generation) ∙ is
+      told (generation_of (node_under states last i)) ∙ ap (closed_at (known.run.records last)) (sym generation) ∙ is
 
   -- a step that changes a logical main node commits
   changes_commit : (n : ℕ) → n < last → (i : Ref) → HasIndirection (states n) i → HasIndirection (states (suc n)) i →
@@ -284,8 +298,8 @@ module _ (limits : Limits) (ok : AreLimits limits) (steps : List Step) (known : 
       (logical_main (states (suc n)).heap i ≡ logical_main (states n).heap i → ⊥) → Changed w n i
   changed_at n h i has still other = changes_commit n h i has still other (main_step p n h i (link_in_use n i has))
 
-  late_stood_at : Told → (c n : ℕ) → c ≤ n → n < last → (i : Ref) → HasIndirection (states n) i → HasIndirection (states (suc n)) i →
-      closed_at (states last) (generation_at (states n).heap i) ≡ Some c → (logical_main (states (suc n)).heap i ≡ logical_main (states n).heap i → ⊥) →
+  pub late_stood_at : Told → (c n : ℕ) → c ≤ n → n < last → (i : Ref) → HasIndirection (states n) i → HasIndirection (states (suc n)) i →
+      closed_at (known.run.records last) (generation_at (states n).heap i) ≡ Some c → (logical_main (states (suc n)).heap i ≡ logical_main (states n).heap i → ⊥) →
       (k : ℕ) × (k ≤ c) × (HasIndirection (states k) i → main_at (states k).heap i ≡ main_at (states n).heap i)
   late_stood_at told c n late h i has still closing other =
       let x = changed_at n h i has still other in
@@ -295,8 +309,8 @@ module _ (limits : Limits) (ok : AreLimits limits) (steps : List Step) (known : 
         λ there. ap main_of (node_in_use early.at i there.0) ∙ early.is ∙ sym x.stands ∙ sym (ap main_of (node_in_use n i has.0)),
       )
 
-  late_once_at : Told → (c n k : ℕ) → c ≤ n → n < k → k < last → (i : Ref) → HasIndirection (states n) i → HasIndirection (states (suc n)) i →
-      closed_at (states last) (generation_at (states n).heap i) ≡ Some c → (logical_main (states (suc n)).heap i ≡ logical_main (states n).heap i → ⊥) →
+  pub late_once_at : Told → (c n k : ℕ) → c ≤ n → n < k → k < last → (i : Ref) → HasIndirection (states n) i → HasIndirection (states (suc n)) i →
+      closed_at (known.run.records last) (generation_at (states n).heap i) ≡ Some c → (logical_main (states (suc n)).heap i ≡ logical_main (states n).heap i → ⊥) →
       HasIndirection (states k) i → HasIndirection (states (suc k)) i → (logical_main (states (suc k)).heap i ≡ logical_main (states k).heap i → ⊥) → ⊥
   late_once_at told c n k late before h i has still closing other has_k still_k other_k =
       let x = changed_at n (omega arith) i has still other in
@@ -304,88 +318,7 @@ module _ (limits : Limits) (ok : AreLimits limits) (steps : List Step) (known : 
       closed_once p i x.fresh x.replaced y.fresh y.replaced c n k (closing_at told n (omega arith) i c has closing) late before h (link_in_use n i has) x.stands x.commits
       (link_in_use k i has_k) y.stands y.commits
 
-  checked_at : (t : ℕ) → t ≤ last → (actor : ℕ) (operation : Operation) (i a f q : Ref) → operation_of (states t) actor ≡ Some operation → IsInSwap operation i a f swap.Check →
+  pub checked_at : (t : ℕ) → t ≤ last → (actor : ℕ) (operation : Operation) (i a f q : Ref) → operation_of (states t) actor ≡ Some operation → IsInSwap operation i a f swap.Check →
       IsInUse (states t).heap f → prev_at (states t).heap f ≡ over.Pending q → ⊥
   checked_at t h actor operation i a f q runs swaps used pend =
       checked w t actor (sound_at p t h) i a f (ap stage_of_actor runs ∙ ap stage_of swaps.1) q (sym (prev_in_use t f used) ∙ pend)
-
--- ---- the laws
-
-pub pending_has_owner : PendingHasOwner
-pending_has_owner limits steps ok =
-    subst (λ s. OwnedIn s) (run_ends limits steps) (owned_at limits ok steps (known_from limits steps ok) (last_of limits steps) (omega arith))
-
--- a step leads from its number to the next one
-abbrev Next : (State → State → Type 0) → (ℕ → State) → ℕ → Type 0
-Next P states n = P (states n) (states (n + 1))
-
-next_state : (P : State → State → Type 0) (states : ℕ → State) (n : ℕ) → P (states n) (states (suc n)) → Next P states n
-next_state P states n h = subst (λ k. P (states n) (states k)) (sym (add-one n)) h
-
-pub prev_words_change : PrevWordsChange
-prev_words_change limits steps ok n h main =
-    next_state (λ (a b : State). IsInUse a.heap main → IsInUse b.heap main → PrevChange a b main) (states_of limits steps) n
-    (prev_changes limits ok steps (known_from limits steps ok) n h main)
-
-pub decided_for_good : DecidedForGood
-decided_for_good limits steps ok = decided_for_good_at limits ok steps (known_from limits steps ok)
-
-pub mains_change_by_commits : MainsChangeByCommits
-mains_change_by_commits limits steps ok n h i =
-    next_state (λ a b. HasIndirection a i → HasIndirection b i → (logical_main b.heap i ≡ logical_main a.heap i) ⊎ CommitsMain a b i) (states_of limits steps) n
-    (main_changes limits ok steps (known_from limits steps ok) n h i)
-
-pub law_replaced_for_good : ReplacedForGood
-law_replaced_for_good limits steps ok = replaced_at limits ok steps (known_from limits steps ok)
-
-pub moment_is_first : MomentIsFirst
-moment_is_first limits steps ok n h i m g =
-    let k = known_from limits steps ok in
-    moment_over limits ok steps k n h i m _ _ (moment_of_given limits ok steps k n h i m g)
-
--- what is closed at the end of the steps
-closed_last : (limits : Limits) (steps : List Step) (n c : ℕ) (i : Ref) → closed_at (run limits steps) (generation_at (states_of limits steps n).heap i) ≡ Some c →
-    closed_at (states_of limits steps (last_of limits steps)) (generation_at (states_of limits steps n).heap i) ≡ Some c
-closed_last limits steps n c i is = ap (λ (s : State). closed_at s (generation_at (states_of limits steps n).heap i)) (run_ends limits steps) ∙ is
-
-pub law_given_for_good : RootsOfRuns → GivenForGood
-law_given_for_good roots limits steps ok n h i m g closed is before has k after within still =
-    let kn = known_of roots limits steps ok in
-    for_good_at limits ok steps kn (λ g. refl) n h i m _ _ (moment_of_given limits ok steps kn n h i m g) closed has (closed_last limits steps n closed i is) before k after within still
-
--- the state after a late change
-late_after : (limits : Limits) (steps : List Step) (closed n : ℕ) (i : Ref) → ChangesLate limits steps closed n i →
-    HasIndirection (states_of limits steps (suc n)) i × (logical_main (states_of limits steps (suc n)).heap i ≡ logical_main (states_of limits steps n).heap i → ⊥)
-late_after limits steps closed n i x =
-    subst (λ k. HasIndirection (states_of limits steps k) i × (logical_main (states_of limits steps k).heap i ≡ logical_main (states_of limits steps n).heap i → ⊥)) (add-one n)
-    (x.after, x.changes)
-
-pub late_stood_before : RootsOfRuns → LateStoodBefore
-late_stood_before roots limits steps ok closed n i x =
-    let after = late_after limits steps closed n i x in
-    late_stood_at limits ok steps (known_of roots limits steps ok) (λ g. refl) closed n x.late x.taken i x.before after.0 (closed_last limits steps n closed i x.closing) after.1
-
--- by which is first
-once_by : (limits : Limits) (steps : List Step) (ok : AreLimits limits) (kn : Known limits (states_of limits steps) (last_of limits steps)) → Told limits ok steps kn →
-    (closed n k : ℕ) (i : Ref) → ChangesLate limits steps closed n i → ChangesLate limits steps closed k i → n < k → ⊥
-once_by limits steps ok kn told closed n k i x y before =
-    let s = late_after limits steps closed n i x in
-    let r = late_after limits steps closed k i y in
-    late_once_at limits ok steps kn told closed n k x.late before y.taken i x.before s.0 (closed_last limits steps n closed i x.closing) s.1 y.before r.0 r.1
-
-in_order : (n k : ℕ) → (n < k → ⊥) → (k < n → ⊥) → n ≡ k
-in_order n k a b = omega arith
-
-pub late_once : RootsOfRuns → LateOnce
-late_once roots limits steps ok closed n k i x y =
-    let kn = known_of roots limits steps ok in
-    in_order n k (once_by limits steps ok kn (λ g. refl) closed n k i x y) (once_by limits steps ok kn (λ g. refl) closed k n i y x)
-
-pub checked_is_decided : CheckedIsDecided
-checked_is_decided limits steps ok =
-    subst (λ (s : State). (actor : ℕ) (operation : Operation) (i a f q : Ref) → operation_of s actor ≡ Some operation → IsInSwap operation i a f swap.Check → IsInUse s.heap f →
-    prev_at s.heap f ≡ over.Pending q → ⊥) (run_ends limits steps)
-    (checked_at limits ok steps (known_from limits steps ok) (last_of limits steps) (omega arith))
-
-pub tombs_stay : TombsStay
-tombs_stay limits steps ok = tomb_at limits ok steps (known_from limits steps ok)

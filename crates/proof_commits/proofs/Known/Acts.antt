@@ -14,7 +14,7 @@ use Rattle.proof_commits.specs.Beneath.epochs.specs.Sweeping.{Reclaimer, ripe, s
 use Rattle.proof_commits.specs.Beneath.machine_model.specs.declared.actions.Action.{Action}
 use Rattle.proof_commits.specs.Beneath.machine_model.specs.declared.actions.Action.TheVariants as act
 use Rattle.proof_commits.specs.Beneath.machine_model.specs.declared.operations.Operation.{Operation}
-use Rattle.proof_commits.specs.Beneath.machine_model.specs.declared.steps.Limits.{Limits}
+use Rattle.proof_commits.specs.Beneath.machine_model.specs.declared.steps.Bounds.{Bounds}
 use Rattle.proof_commits.specs.Beneath.machine_model.specs.declared.steps.Outcome.{Outcome}
 use Rattle.proof_commits.specs.Beneath.machine_model.specs.declared.steps.Step.{Step}
 use Rattle.proof_commits.specs.Beneath.machine_model.specs.declared.steps.Step.TheVariants as step
@@ -201,7 +201,7 @@ heap_after before actor o after (Ends {operation = x} {answer} d is a) operation
     (record { state = before; heap = refl; generations = refl; is = ap (λ y. (acted before (handle_of x.call) y).heap) (sym a) })
 
 -- at a time of a run
-module _ (limits : Limits) (states : ℕ → State) (last : ℕ) (run : IsRun limits states last) where
+module _ (limits : Bounds) (states : ℕ → State) (last : ℕ) (run : IsRun limits states last) where
   pub acts_at : (t : ℕ) → t < last → (actor : ℕ) (o : Outcome) → Moves (states t) (step.Go actor) o (states (suc t)) → (operation : Operation) →
       operation_of (states t) actor ≡ Some operation → ActsOn states t (action_of (states t) operation)
   acts_at t h actor o m operation runs =
@@ -225,6 +225,6 @@ module _ (limits : Limits) (states : ℕ → State) (last : ℕ) (run : IsRun li
   }
 
 -- where nothing is told of closings
-abbrev pub known_run : (limits : Limits) (states : ℕ → State) (last : ℕ) → IsRun limits states last → Known limits states last
+abbrev pub known_run : (limits : Bounds) (states : ℕ → State) (last : ℕ) → IsRun limits states last → Known limits states last
 known_run limits states last run =
     known_by limits states last run (λ g. None) (λ t h actor operation runs i main previous asks writable r plain c closed. absurd (none-some c closed))

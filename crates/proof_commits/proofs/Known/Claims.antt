@@ -15,7 +15,7 @@ use Rattle.proof_commits.specs.Beneath.machine_model.specs.declared.repairs.Rene
 use Rattle.proof_commits.specs.Beneath.machine_model.specs.declared.repairs.CleanLine.TheVariants as clean
 use Rattle.proof_commits.specs.Beneath.machine_model.specs.declared.repairs.ClimbLine.TheVariants as climb
 use Rattle.proof_commits.specs.Beneath.machine_model.specs.declared.operations.Operation.{Operation}
-use Rattle.proof_commits.specs.Beneath.machine_model.specs.declared.steps.Limits.{Limits}
+use Rattle.proof_commits.specs.Beneath.machine_model.specs.declared.steps.Bounds.{Bounds}
 use Rattle.proof_commits.specs.Beneath.machine_model.specs.States.{State, operation_of}
 use Rattle.proof_commits.specs.Beneath.machine_model.specs.Operations.{action_of}
 use Rattle.proof_commits.specs.Beneath.machine_model.specs.Times.{IsRun}
@@ -92,7 +92,7 @@ finds_so state (act.Restore i m p) h = has_link state i h.0
 finds_so state (act.Decide i m p told) h = (has_link state i h.0, has_main state m h.1.0)
 finds_so state a h = tt
 
-module _ (limits : Limits) (states : ℕ → State) (last : ℕ) (run : IsRun limits states last) where
+module _ (limits : Bounds) (states : ℕ → State) (last : ℕ) (run : IsRun limits states last) where
   pub finds : (t : ℕ) → t < last → (actor : ℕ) (operation : Operation) → operation_of (states t) actor ≡ Some operation → Finds (states t) (action_of (states t) operation)
   finds t h actor operation is = finds_so (states t) (action_of (states t) operation) (action_at limits states last run t (omega arith) actor operation is)
 

@@ -18,7 +18,7 @@ use Rattle.proof_commits.specs.Beneath.machine_model.specs.declared.lines.Line.{
 use Rattle.proof_commits.specs.Beneath.machine_model.specs.declared.lines.Line.TheVariants as line
 use Rattle.proof_commits.specs.Beneath.machine_model.specs.declared.operations.Operation.{Operation}
 use Rattle.proof_commits.specs.Beneath.machine_model.specs.declared.roots.RootWord.TheVariants.{Plain}
-use Rattle.proof_commits.specs.Beneath.machine_model.specs.declared.steps.Limits.{Limits}
+use Rattle.proof_commits.specs.Beneath.machine_model.specs.declared.steps.Bounds.{Bounds}
 use Rattle.proof_commits.specs.Beneath.machine_model.specs.declared.steps.Outcome.{Outcome}
 use Rattle.proof_commits.specs.Beneath.machine_model.specs.declared.steps.Step.{Step}
 use Rattle.proof_commits.specs.Beneath.machine_model.specs.declared.steps.Step.TheVariants as step
@@ -127,7 +127,7 @@ RootsAreOpen states last closing =
     read_of operation.line ≡ Some (record { indirection = i; line = read.AskRoot main previous }) → operation.access ≡ Writable → (r : Ref) →
     word_at (states t) (handle_of operation.call) ≡ Plain r → (c : ℕ) → closing (generation_at (states t).heap r) ≡ Some c → t ≤ c
 
-pub record Known (limits : Limits) (states : ℕ → State) (last : ℕ) : Type 0 where
+pub record Known (limits : Bounds) (states : ℕ → State) (last : ℕ) : Type 0 where
   -- each list of steps is such a run
   pub run : IsRun limits states last
   -- the step that closes a generation, as far as the layer of roots tells it

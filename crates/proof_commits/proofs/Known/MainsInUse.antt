@@ -3,7 +3,7 @@ use Rattle.std.proofs.Common.{◌≡◌, ℕ, ◌≤◌, true, Some, sym, ◌∙
 use Rattle.proof_commits.specs.Beneath.slot_arena.specs.declared.refs.Ref.{Ref}
 use Rattle.proof_commits.specs.Beneath.slot_arena.specs.declared.nodes.Slot.{Slot}
 use Rattle.proof_commits.specs.Beneath.slot_arena.specs.Heaps.{node_of, prev_at, main_of, logical, logical_main}
-use Rattle.proof_commits.specs.Beneath.machine_model.specs.declared.steps.Limits.{Limits}
+use Rattle.proof_commits.specs.Beneath.machine_model.specs.declared.steps.Bounds.{Bounds}
 use Rattle.proof_commits.specs.Beneath.machine_model.specs.States.{State}
 use Rattle.proof_commits.specs.Beneath.machine_model.specs.Grown.{standing, node_under}
 use Rattle.proof_commits.specs.Beneath.machine_model.proofs.Grown.{grown_in_use, node_grown, prev_grown}
@@ -13,8 +13,8 @@ use Rattle.proof_commits.specs.Words.{words_of}
 use Rattle.proof_memory.specs.Wants.{is_indirection}
 
 -- the logical main node of an indirection in use
-pub logical_standing : (limits : Limits) (states : ℕ → State) (last : ℕ) (known : Known limits states last) (t : ℕ) → t ≤ last → (i : Ref) (slot : Slot) →
-    standing (states t).heap i ≡ Some slot → is_indirection (node_under states t i) ≡ true → logical_main (states t).heap i ≡ logical_at (words_of states last known.closing) t i
+pub logical_standing : (limits : Bounds) (states : ℕ → State) (last : ℕ) (known : Known limits states last) (t : ℕ) → t ≤ last → (i : Ref) (slot : Slot) →
+    standing (states t).heap i ≡ Some slot → is_indirection (node_under states t i) ≡ true → logical_main (states t).heap i ≡ logical_at (words_of states known.run.records last known.closing) t i
 logical_standing limits states last known t h i slot e l =
     let node : node_under states t i ≡ slot.node = ap node_of (grown_in_use states t i slot e) in
     let main = known.mains_stand t h i slot e (subst (λ x. is_indirection x ≡ true) node l) in

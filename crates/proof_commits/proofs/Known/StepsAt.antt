@@ -11,26 +11,26 @@ use Rattle.proof_commits.specs.Beneath.history.specs.declared.calls.Call.{Call}
 use Rattle.proof_commits.specs.Beneath.history.specs.declared.replies.Reply.{Reply}
 use Rattle.proof_commits.specs.Beneath.slot_arena.specs.declared.refs.Ref.{Ref}
 use Rattle.proof_commits.specs.Beneath.machine_model.specs.declared.actions.Action.TheVariants as act
-use Rattle.proof_commits.specs.Beneath.machine_model.specs.declared.heaps.Commit.{Commit}
+use Rattle.proof_commits.specs.Beneath.machine_model.specs.declared.records.Commit.{Commit}
 use Rattle.proof_commits.specs.Beneath.machine_model.specs.declared.operations.Operation.{Operation}
 use Rattle.proof_commits.specs.Beneath.machine_model.specs.declared.steps.Outcome.{Outcome}
 use Rattle.proof_commits.specs.Beneath.machine_model.specs.declared.steps.Step.{Step}
 use Rattle.proof_commits.specs.Beneath.machine_model.specs.declared.steps.Step.TheVariants as step
-use Rattle.proof_commits.specs.Beneath.machine_model.specs.Calls.{handle_of}
 use Rattle.proof_commits.specs.Beneath.machine_model.specs.States.{State, operation_of}
 use Rattle.proof_commits.specs.Beneath.machine_model.specs.Operations.{action_of}
-use Rattle.proof_commits.specs.Beneath.machine_model.specs.Orders.{committed_now}
-use Rattle.proof_commits.specs.Beneath.machine_model.specs.Acting.{gone, ended, operation_after, commits_after, marked}
+use Rattle.proof_commits.specs.Beneath.machine_model.specs.Acting.{gone, ended, operation_after, marked}
 use Rattle.proof_commits.specs.Beneath.machine_model.specs.Counting.{settled}
-use Rattle.proof_commits.specs.Beneath.machine_model.specs.Machine.{begin_denial, with_begin, swept}
+use Rattle.proof_commits.specs.Beneath.machine_model.specs.Machine.{begin_denial, go_denial, with_begin, swept}
+use Rattle.proof_commits.specs.Beneath.machine_model.specs.Records.{Record, commits_after, noted, noted_end, noted_progress}
+use Rattle.proof_commits.specs.Beneath.machine_model.specs.Tellings.{begin_told, entrant_of, progress_of, told_in}
 use Rattle.proof_commits.specs.Beneath.machine_model.specs.Moves.{Begins, Goes, Ends, Sweeps}
 use Rattle.proof_commits.specs.Beneath.machine_model.specs.Moves.{Moves, GoesOn, begun_operation}
 use Rattle.proof_commits.specs.Beneath.machine_model.specs.Times.{turns}
-use Rattle.proof_commits.specs.Beneath.machine_model.specs.Times.{Turn}
+use Rattle.proof_commits.specs.Beneath.machine_model.specs.Times.{Turn, noted_turn}
+use Rattle.proof_commits.specs.Beneath.machine_model.proofs.Notes.{noted_ending, noted_going}
 use Rattle.proof_commits.specs.Beneath.machine_model.proofs.Found.{found_elsewhere, found_here, found_within}
-use Rattle.proof_commits.specs.Beneath.machine_model.proofs.Frames.{acted_framed}
 use Rattle.proof_commits.specs.Beneath.machine_model.proofs.Actors.{after_marks, marks_by, gone_actors, begin_actors}
-use Rattle.proof_commits.specs.Stages.{stage_of_actor, from_of_actor}
+use Rattle.proof_commits.specs.Stages.{stage_of_actor}
 use Rattle.proof_commits.specs.Words.{commit_of}
 
 -- ---- which step it is
@@ -41,7 +41,7 @@ pub data StepAt (before after : State) : Type 0 where
   IsGo : (actor : ℕ) (operation : Operation) (o : Outcome) → Moves before (step.Go actor) o after → operation_of before actor ≡ Some operation →
       GoesOn (action_of before operation) → after ≡ settled before (gone before actor operation) → StepAt before after
   IsEnd : (actor : ℕ) (operation : Operation) (answer : Reply) (o : Outcome) → Moves before (step.Go actor) o after → operation_of before actor ≡ Some operation →
-      action_of before operation ≡ act.End answer → after ≡ settled before (ended before actor operation answer) → StepAt before after
+      action_of before operation ≡ act.End answer → after ≡ settled before (ended before actor) → StepAt before after
   IsSweep : (o : Outcome) → Moves before step.Sweep o after → after ≡ settled before (swept before).1 → StepAt before after
 
 pub of_move : (before : State) (s : Step) (o : Outcome) (after : State) → Moves before s o after → StepAt before after
@@ -52,6 +52,31 @@ of_move before s o after (Sweeps spent) = IsSweep _ (Sweeps spent) refl
 
 pub step_at : (before after : State) → Turn before after → StepAt before after
 step_at before after (turns s o m) = of_move before s o after m
+
+-- the same, with what is recorded
+pub data NotedAt (before : State) (past : Record) (after : State) (now : Record) : Type 0 where
+  NotesBegin : (actor : ℕ) (call : Call) (o : Outcome) → Moves before (step.Begin actor call) o after → begin_denial before actor call ≡ None →
+      after ≡ settled before (with_begin before actor call (begun_operation before call)) →
+      now ≡ noted past before.steps (begin_told actor call (begun_operation before call)) → NotedAt before past after now
+  NotesGo : (actor : ℕ) (operation : Operation) (o : Outcome) → Moves before (step.Go actor) o after → go_denial before actor ≡ None → operation_of before actor ≡ Some operation →
+      GoesOn (action_of before operation) → after ≡ settled before (gone before actor operation) →
+      now ≡ noted_progress past before.steps actor (progress_of before operation) → NotedAt before past after now
+  NotesEnd : (actor : ℕ) (operation : Operation) (answer : Reply) (o : Outcome) → Moves before (step.Go actor) o after → operation_of before actor ≡ Some operation →
+      action_of before operation ≡ act.End answer → after ≡ settled before (ended before actor) → now ≡ noted_end past actor (entrant_of operation) answer →
+      NotedAt before past after now
+  NotesSweep : (o : Outcome) → Moves before step.Sweep o after → after ≡ settled before (swept before).1 → now ≡ past → NotedAt before past after now
+
+notes_by : (before : State) (past : Record) (s : Step) (o : Outcome) (after : State) (now : Record) → Moves before s o after → now ≡ noted past before.steps (told_in before s) →
+    NotedAt before past after now
+notes_by before past s o after now (Begins {actor} {call} d) e = NotesBegin actor call _ (Begins d) d refl e
+notes_by before past s o after now (Goes {actor} {operation} {action} d is a g) e =
+    NotesGo actor operation _ (Goes d is a g) d is (subst GoesOn (sym a) g) refl (e ∙ noted_going before past actor operation action is a g)
+notes_by before past s o after now (Ends {actor} {operation} {answer} d is a) e =
+    NotesEnd actor operation answer _ (Ends d is a) is a refl (e ∙ noted_ending before past actor operation answer is a)
+notes_by before past s o after now (Sweeps spent) e = NotesSweep _ (Sweeps spent) refl e
+
+pub noted_at : {before after : State} {past now : Record} (turn : Turn before after) → now ≡ noted_turn turn past → NotedAt before past after now
+noted_at {before} {after} {past} {now} (turns s o m) e = notes_by before past s o after now m e
 
 -- ---- the steps of commits
 
@@ -81,40 +106,23 @@ pushed_elsewhere : (xs : List Commit) (m q : Ref) (t : ℕ) → (q ≡ m → ⊥
 pushed_elsewhere xs m q t apart = rw find-append (elsewhere_by m t (find (is_of q) xs) (m == q) (ne_eqb m q (λ e. apart (sym e))))
 
 -- what a step that commits this node leaves
-pub commit_here : (before after : State) (m : Ref) → after.commits ≡ commits_after before (Some m) → commit_of before m ≡ None → commit_of after m ≡ Some before.steps
-commit_here before after m e n = ap (λ xs. option_map (λ (c : Commit). c.step) (find (is_of m) xs)) e ∙ pushed_here before.commits m before.steps n
+pub commit_here : (past now : Record) (step : ℕ) (m : Ref) → now.commits ≡ commits_after past step (Some m) → commit_of past m ≡ None → commit_of now m ≡ Some step
+commit_here past now step m e n = ap (λ xs. option_map (λ (c : Commit). c.step) (find (is_of m) xs)) e ∙ pushed_here past.commits m step n
 
-pub commit_elsewhere : (before after : State) (m q : Ref) → after.commits ≡ commits_after before (Some m) → (q ≡ m → ⊥) → commit_of after q ≡ commit_of before q
-commit_elsewhere before after m q e apart = ap (λ xs. option_map (λ (c : Commit). c.step) (find (is_of q) xs)) e ∙ pushed_elsewhere before.commits m q before.steps apart
+pub commit_elsewhere : (past now : Record) (step : ℕ) (m q : Ref) → now.commits ≡ commits_after past step (Some m) → (q ≡ m → ⊥) → commit_of now q ≡ commit_of past q
+commit_elsewhere past now step m q e apart = ap (λ xs. option_map (λ (c : Commit). c.step) (find (is_of q) xs)) e ∙ pushed_elsewhere past.commits m q step apart
 
-pub commit_kept : (before after : State) (q : Ref) → after.commits ≡ before.commits → commit_of after q ≡ commit_of before q
-commit_kept before after q e = ap (λ xs. option_map (λ (c : Commit). c.step) (find (is_of q) xs)) e
-
--- a step of an operation that goes on keeps what it commits
-pub gone_commits : (before : State) (actor : ℕ) (operation : Operation) →
-    (settled before (gone before actor operation)).commits ≡ commits_after before (committed_now before operation)
-gone_commits before actor operation = (acted_framed _ (handle_of operation.call) (action_of before operation)).commits
-
--- any other keeps them as they are
-pub begun_commits : (before : State) (actor : ℕ) (call : Call) (operation : Operation) → (with_begin before actor call operation).commits ≡ before.commits
-begun_commits before actor call operation = grind arith
+pub commit_kept : (past now : Record) (q : Ref) → now.commits ≡ past.commits → commit_of now q ≡ commit_of past q
+commit_kept past now q e = ap (λ xs. option_map (λ (c : Commit). c.step) (find (is_of q) xs)) e
 
 -- ---- actors
 
--- a mark changes neither what an actor is about nor whence its READ counts
+-- a mark doesn't change what an actor is about
 marked_stage : (id : ℕ) (x : Option Operation) → stage_of_actor (marked id x) ≡ stage_of_actor x
 marked_stage id None = refl
 marked_stage id (Some operation) = by_mark (operation.id == id)
   where
     by_mark : (b : Bool) → stage_of_actor (Some (cond b (record operation { is_marked = true }) operation)) ≡ stage_of_actor (Some operation)
-    by_mark true = refl
-    by_mark false = refl
-
-marked_from : (id : ℕ) (x : Option Operation) → from_of_actor (marked id x) ≡ from_of_actor x
-marked_from id None = refl
-marked_from id (Some operation) = by_mark (operation.id == id)
-  where
-    by_mark : (b : Bool) → from_of_actor (Some (cond b (record operation { is_marked = true }) operation)) ≡ from_of_actor (Some operation)
     by_mark true = refl
     by_mark false = refl
 
@@ -130,10 +138,6 @@ marks_one (Some id) xs k = get_or-map (marked id) xs k None
 pub mark_stage : (m : Option ℕ) (x : Option Operation) → stage_of_actor (after_mark m x) ≡ stage_of_actor x
 mark_stage None x = refl
 mark_stage (Some id) x = marked_stage id x
-
-pub mark_from : (m : Option ℕ) (x : Option Operation) → from_of_actor (after_mark m x) ≡ from_of_actor x
-mark_from None x = refl
-mark_from (Some id) x = marked_from id x
 
 -- where an actor's place in the list is left it runs the same, but for a mark
 same_place : (before after : State) (m : Option ℕ) (actor j : ℕ) (put : Option Operation) → 0 < actor → after.actors ≡ after_marks m (set before.actors (actor - 1) put) →
@@ -152,8 +156,8 @@ go_others before actor operation pos j apart =
     (gone_actors before actor operation) apart
 
 pub end_others : (before : State) (actor : ℕ) (operation : Operation) (answer : Reply) → 0 < actor → (j : ℕ) → (j ≡ actor → ⊥) →
-    operation_of (settled before (ended before actor operation answer)) j ≡ operation_of before j
-end_others before actor operation answer pos j apart = same_place before (settled before (ended before actor operation answer)) None actor j None pos refl apart
+    operation_of (settled before (ended before actor)) j ≡ operation_of before j
+end_others before actor operation answer pos j apart = same_place before (settled before (ended before actor)) None actor j None pos refl apart
 
 pub begin_others : (before : State) (actor : ℕ) (call : Call) (operation : Operation) → 0 < actor → (j : ℕ) → (j ≡ actor → ⊥) →
     operation_of (settled before (with_begin before actor call operation)) j ≡ operation_of before j
@@ -180,7 +184,7 @@ nothing_by : (xs : List (Option Operation)) (k : ℕ) (x : Option Operation) →
 nothing_by xs k None e = refl
 nothing_by xs k (Some found) e = absurd (none-some found (found_here xs k None found e))
 
-pub end_own : (before : State) (actor : ℕ) (operation : Operation) (answer : Reply) → operation_of (settled before (ended before actor operation answer)) actor ≡ None
+pub end_own : (before : State) (actor : ℕ) (operation : Operation) (answer : Reply) → operation_of (settled before (ended before actor)) actor ≡ None
 end_own before zero operation answer = refl
 end_own before (suc k) operation answer =
     let at : suc k - 1 ≡ k = omega arith in

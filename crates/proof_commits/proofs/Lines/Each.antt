@@ -8,15 +8,16 @@ use Rattle.proof_commits.specs.Beneath.slot_arena.specs.declared.refs.Ref.{Ref}
 use Rattle.proof_commits.specs.Beneath.machine_model.specs.declared.operations.Operation.{Operation}
 use Rattle.proof_commits.specs.Beneath.machine_model.specs.declared.reading.After.TheVariants.{Gives}
 use Rattle.proof_commits.specs.Beneath.machine_model.specs.declared.reading.ReadLine.{ReadLine}
-use Rattle.proof_commits.specs.Beneath.machine_model.specs.declared.steps.Limits.{Limits}
+use Rattle.proof_commits.specs.Beneath.machine_model.specs.declared.steps.Bounds.{Bounds}
 use Rattle.proof_commits.specs.Beneath.machine_model.specs.declared.steps.Outcome.{Outcome}
 use Rattle.proof_commits.specs.Beneath.machine_model.specs.declared.steps.Step.TheVariants as step
 use Rattle.proof_commits.specs.Beneath.machine_model.specs.Calls.{handle_of}
 use Rattle.proof_commits.specs.Beneath.machine_model.specs.States.{State, operation_of, word_at}
 use Rattle.proof_commits.specs.Beneath.machine_model.specs.Reading.{read_after}
 use Rattle.proof_commits.specs.Beneath.machine_model.specs.Operations.{first_line}
-use Rattle.proof_commits.specs.Beneath.machine_model.specs.Acting.{gone, marked, operation_after}
-use Rattle.proof_commits.specs.Beneath.machine_model.specs.Counting.{settled}
+use Rattle.proof_commits.specs.Beneath.machine_model.specs.Acting.{marked, operation_after}
+use Rattle.proof_commits.specs.Beneath.machine_model.specs.Records.{noted_progress}
+use Rattle.proof_commits.specs.Beneath.machine_model.specs.Tellings.{progress_of}
 use Rattle.proof_commits.specs.Beneath.machine_model.proofs.Actors.{marks_by, begin_counts}
 use Rattle.proof_commits.specs.Beneath.machine_model.specs.Moves as Machine
 use Rattle.proof_commits.specs.Beneath.machine_model.specs.Moves.{begun_operation}
@@ -25,7 +26,7 @@ use Rattle.proof_commits.specs.Protocol.{Reads}
 use Rattle.proof_commits.proofs.Course.Finals.{from_time}
 use Rattle.proof_commits.proofs.Lines.Stages.{Remembers, remembers_still}
 use Rattle.proof_commits.specs.Stages.{stage_of}
-use Rattle.proof_commits.proofs.Known.StepsAt.{StepAt, IsBegin, IsGo, IsEnd, IsSweep, step_at, after_mark, go_others, go_own, end_others, end_own, begin_others, begin_own, actor_counts}
+use Rattle.proof_commits.proofs.Known.StepsAt.{NotedAt, NotesBegin, NotesGo, NotesEnd, NotesSweep, noted_at, after_mark, go_others, go_own, end_others, end_own, begin_others, begin_own, actor_counts}
 use Rattle.proof_commits.proofs.Lines.Keeps.{line_keeps}
 use Rattle.proof_commits.proofs.Words.First.{idle_at_first}
 
@@ -59,10 +60,11 @@ of_begun G state call x (inr e) = subst (λ y. OfActor G y) (sym e) (at_first _ 
     at_first P W call = grind arith
 
 -- G of a time and an actor stays so, and is so of what a READ of the actor's operation gives then
-module _ (limits : Limits) (states : ℕ → State) (last : ℕ) (run : IsRun limits states last) (G : ℕ → ℕ → ℕ → Ref → Ref → Type 0)
+module _ (limits : Bounds) (states : ℕ → State) (last : ℕ) (run : IsRun limits states last) (G : ℕ → ℕ → ℕ → Ref → Ref → Type 0)
     (more : (t k id : ℕ) (i m : Ref) → G t k id i m → G (suc t) k id i m)
     (now : (t : ℕ) → t < last → (k : ℕ) (operation : Operation) (o : Outcome) → Machine.Moves (states t) (step.Go k) o (states (suc t)) →
-    operation_of (states t) k ≡ Some operation → states (suc t) ≡ settled (states t) (gone (states t) k operation) → (i : Ref) (x : ReadLine) (m : Ref) →
+    operation_of (states t) k ≡ Some operation →
+    run.records (suc t) ≡ noted_progress (run.records t) (states t).steps k (progress_of (states t) operation) → (i : Ref) (x : ReadLine) (m : Ref) →
     stage_of operation.line ≡ Reads i x →
     read_after (states t).heap operation.access (word_at (states t) (handle_of operation.call)) i x ≡ Gives m → G (suc t) k operation.id i m) where
   abbrev At : ℕ → ℕ → Type 0
@@ -77,31 +79,31 @@ module _ (limits : Limits) (states : ℕ → State) (last : ℕ) (run : IsRun li
   each_by t m actor so_far others own k (inl is) = subst (λ q. At (suc t) q) (sym is) own
   each_by t m actor so_far others own k (inr apart) = same_actor t k m (others k apart) (so_far k)
 
-  each_next : (t : ℕ) → t < last → ((k : ℕ) → At t k) → StepAt (states t) (states (suc t)) → (k : ℕ) → At (suc t) k
-  each_next t h so_far (IsBegin actor call o m d e) k =
+  each_next : (t : ℕ) → t < last → ((k : ℕ) → At t k) → NotedAt (states t) (run.records t) (states (suc t)) (run.records (suc t)) → (k : ℕ) → At (suc t) k
+  each_next t h so_far (NotesBegin actor call o m d e noted) k =
       each_by t None actor so_far
       (λ j apart. ap (λ (s : State). operation_of s j) e ∙ begin_others (states t) actor call (begun_operation (states t) call) (begin_counts (states t) actor call d) j apart)
       (of_begun (G (suc t) actor) (states t) call _ (subst (λ (s : State). (operation_of s actor ≡ None) ⊎ (operation_of s actor ≡ Some (begun_operation (states t) call))) (sym e)
       (begin_own (states t) actor call (begun_operation (states t) call)))) k (cases_eq k actor)
-  each_next t h so_far (IsGo actor operation o m is g e) k =
+  each_next t h so_far (NotesGo actor operation o m d is g e noted) k =
       let own : operation_of (states (suc t)) actor ≡ after_mark (marks_by (states t) (Some operation)) (Some (operation_after (states t) operation)) =
       ap (λ (s : State). operation_of s actor) e ∙ go_own (states t) actor operation is in
       let before : OfActor (G t actor) (Some operation) = subst (λ x. OfActor (G t actor) x) is (so_far actor) in
       let after : OfActor (G (suc t) actor) (Some (operation_after (states t) operation)) =
       line_keeps (states t) operation (λ i x. G t actor operation.id i x) (λ i x. G (suc t) actor operation.id i x) (λ i x given. more t actor operation.id i x given)
-      operation.line (λ i x main on gives. now t h actor operation o m is e i x main on gives) before in
+      operation.line (λ i x main on gives. now t h actor operation o m is noted i x main on gives) before in
       each_by t (marks_by (states t) (Some operation)) actor so_far
       (λ j apart. ap (λ (s : State). operation_of s j) e ∙ go_others (states t) actor operation (actor_counts (states t) actor operation is) j apart)
       (subst (λ x. OfActor (G (suc t) actor) x) (sym own) (of_mark (G (suc t) actor) (marks_by (states t) (Some operation)) (Some (operation_after (states t) operation)) after))
       k (cases_eq k actor)
-  each_next t h so_far (IsEnd actor operation answer o m is a e) k =
+  each_next t h so_far (NotesEnd actor operation answer o m is a e noted) k =
       each_by t None actor so_far
       (λ j apart. ap (λ (s : State). operation_of s j) e ∙ end_others (states t) actor operation answer (actor_counts (states t) actor operation is) j apart)
       (subst (λ x. OfActor (G (suc t) actor) x) (sym (ap (λ (s : State). operation_of s actor) e ∙ end_own (states t) actor operation answer)) tt) k (cases_eq k actor)
-  each_next t h so_far (IsSweep o m e) k = same_actor t k None (ap (λ (s : State). operation_of s k) e) (so_far k)
+  each_next t h so_far (NotesSweep o m e noted) k = same_actor t k None (ap (λ (s : State). operation_of s k) e) (so_far k)
 
   -- then it is so of all that the lines of running operations remember
   pub each_remembers : (t : ℕ) → t ≤ last → (k : ℕ) → At t k
   each_remembers t h =
       from_time (λ v. (k : ℕ) → At v k) zero last (λ k. subst (λ x. OfActor (G zero k) x) (sym (idle_at_first limits run.limits_ok states run.first k)) tt)
-      (λ v b within so_far k. each_next v within so_far (step_at (states v) (states (suc v)) (run.turn v within)) k) t (omega arith) h
+      (λ v b within so_far k. each_next v within so_far (noted_at (run.turn v within) (run.recorded v within)) k) t (omega arith) h

@@ -18,13 +18,13 @@ use Rattle.proof_commits.specs.Beneath.machine_model.specs.declared.reading.Read
 use Rattle.proof_commits.specs.Beneath.machine_model.specs.declared.reading.ReadLine.TheVariants as read
 use Rattle.proof_commits.specs.Beneath.machine_model.specs.declared.roots.RootWord.{RootWord}
 use Rattle.proof_commits.specs.Beneath.machine_model.specs.declared.roots.RootWord.TheVariants.{Plain, Offer}
-use Rattle.proof_commits.specs.Beneath.machine_model.specs.declared.steps.Limits.{Limits}
+use Rattle.proof_commits.specs.Beneath.machine_model.specs.declared.steps.Bounds.{Bounds}
 use Rattle.proof_commits.specs.Beneath.machine_model.specs.declared.steps.Step.TheVariants as step
 use Rattle.proof_commits.specs.Beneath.machine_model.specs.States.{State}
 use Rattle.proof_commits.specs.Beneath.machine_model.specs.Reading.{Verdict, Commits, Fails, Overtaken, verdict, verdict_by, is_licensed, is_pending, read_action, read_after}
 use Rattle.proof_commits.specs.Beneath.machine_model.specs.Reading.{after_prev, after_ask, after_decide, after_restore, committed_by, committed_so}
 use Rattle.proof_commits.specs.Beneath.machine_model.specs.Operations.{action_of}
-use Rattle.proof_commits.specs.Beneath.machine_model.specs.Acting.{commits_after}
+use Rattle.proof_commits.specs.Beneath.machine_model.specs.Records.{commits_after}
 use Rattle.proof_commits.specs.Beneath.machine_model.proofs.Times.{steps_at}
 use Rattle.proof_commits.specs.Beneath.machine_model.specs.Grown.{grown, node_under, prev_word}
 use Rattle.proof_commits.specs.Protocol.{Words, Kept, Leaves, ReadTurn, ReadsMain, FindsDecided, FindsFailed, FindsPending, DecidesAtOnce, Asks, FindsOffer, Aborts}
@@ -78,7 +78,7 @@ step_of_action states t (act.Complete offer main) e = Stays e
 step_of_action states t (act.Look r) e = Stays e
 step_of_action states t (act.End answer) e = Stays e
 
-grown_step_of : (limits : Limits) (states : ℕ → State) (last : ℕ) → Known limits states last → (t : ℕ) → t < last → StepAt (states t) (states (suc t)) → GrownStep states t
+grown_step_of : (limits : Bounds) (states : ℕ → State) (last : ℕ) → Known limits states last → (t : ℕ) → t < last → StepAt (states t) (states (suc t)) → GrownStep states t
 grown_step_of limits states last k t h (IsBegin actor call o m d e) = Stays (k.stays t h (step.Begin actor call) o m tt)
 grown_step_of limits states last k t h (IsGo actor operation o m is g e) = step_of_action states t (action_of (states t) operation) (k.acts t h actor o m operation is)
 grown_step_of limits states last k t h (IsEnd actor operation answer o m is a e) = step_of_action states t (action_of (states t) operation) (k.acts t h actor o m operation is)
@@ -131,7 +131,7 @@ keeps_link states t i l (Swaps r a f e) = swap_link_by states t r a f i l e (cas
 keeps_link states t i l (Takes n node e) = take_link_by states t n node i l e (cases_eq i n)
 
 -- an indirection's generation is that at the end
-pub generation_stays : (limits : Limits) (states : ℕ → State) (last : ℕ) → Known limits states last → (t : ℕ) (i : Ref) → t ≤ last → is_indirection (node_under states t i) ≡ true →
+pub generation_stays : (limits : Bounds) (states : ℕ → State) (last : ℕ) → Known limits states last → (t : ℕ) (i : Ref) → t ≤ last → is_indirection (node_under states t i) ≡ true →
     generation_of (node_under states last i) ≡ generation_of (node_under states t i)
 generation_stays limits states last k t i within l =
     (from_time (λ v. (is_indirection (node_under states v i) ≡ true) × (generation_of (node_under states v i) ≡ generation_of (node_under states t i))) t last (l, refl)
@@ -181,7 +181,7 @@ keeps_solid states t m made (Swaps i a f e) = solid_swapped states t i a f m mad
 keeps_solid states t m made (Takes n node e) = solid_taken states t n node m made e (cases_eq m n)
 
 -- what was made is solid at the end if it is now
-pub solid_stays : (limits : Limits) (states : ℕ → State) (last : ℕ) → Known limits states last → (t : ℕ) (m : Ref) → t ≤ last → is_some (grown states t m) ≡ true →
+pub solid_stays : (limits : Bounds) (states : ℕ → State) (last : ℕ) → Known limits states last → (t : ℕ) (m : Ref) → t ≤ last → is_some (grown states t m) ≡ true →
     is_branch_or_list (node_under states last m) ≡ is_branch_or_list (node_under states t m)
 solid_stays limits states last k t m within made =
     (from_time (λ v. (is_some (grown states v m) ≡ true) × (is_branch_or_list (node_under states v m) ≡ is_branch_or_list (node_under states t m))) t last (made, refl)
@@ -212,13 +212,13 @@ was_pending heap i x q told e = pending_so (prev_at heap x) q (commits_pending (
 
 -- ---- READ
 
-module _ (limits : Limits) (states : ℕ → State) (last : ℕ) (known : Known limits states last) (t : ℕ) (h : t < last) where
+module _ (limits : Bounds) (states : ℕ → State) (last : ℕ) (known : Known limits states last) (t : ℕ) (h : t < last) where
   abbrev w : Words
-  w = words_of states last known.closing
+  w = words_of states known.run.records last known.closing
 
   -- where nothing is committed
-  pub no_commit : (states (suc t)).commits ≡ (states t).commits → Kept (w.commit t) (w.commit (suc t))
-  no_commit e q = commit_kept (states t) (states (suc t)) q e
+  pub no_commit : (known.run.records (suc t)).commits ≡ (known.run.records t).commits → Kept (w.commit t) (w.commit (suc t))
+  no_commit e q = commit_kept (known.run.records t) (known.run.records (suc t)) q e
 
   prev_turn : (i m : Ref) (access : Access) (v : Prev) → w.prev t m ≡ v → Leaves w t → ReadTurn w t i (read.Prev m) (after_prev access m v)
   prev_turn i m access over.None e s = FindsDecided s e
@@ -234,37 +234,37 @@ module _ (limits : Limits) (states : ℕ → State) (last : ℕ) (known : Known 
 
   decide_turn : (i m p : Ref) (told : Option ℕ) → FindsMain states t i → FindsPrev states t m → generation_at (states t).heap i ≡ generation_of (node_under states t i) →
       (licensed pending : Bool) → is_licensed (states t).heap i told ≡ licensed → is_pending (prev_at (states t).heap m) p ≡ pending →
-      Decided states t m p (verdict_by licensed pending) → (states (suc t)).commits ≡ commits_after (states t) (committed_so m (verdict_by licensed pending)) →
+      Decided states t m p (verdict_by licensed pending) → (known.run.records (suc t)).commits ≡ commits_after (known.run.records t) t (committed_so m (verdict_by licensed pending)) →
       ReadTurn w t i (read.Decide m p told) (after_decide m (verdict_by licensed pending))
   decide_turn i m p told finds found g true true l e d c =
       let steps = steps_at limits states last known.run t (omega arith) in
       CommitsTurn (licensed_so told _ l ∙ ap (λ (y : ℕ). Some y) (g ∙ sym (generation_stays limits states last known t i (omega arith) finds.link)))
-      (commits_words states last known.closing t m p found.made (sym found.prev ∙ pending_so (prev_at (states t).heap m) p e) d
-      (λ none. commit_here (states t) (states (suc t)) m c none ∙ ap (λ (y : ℕ). Some y) steps) (λ q apart. commit_elsewhere (states t) (states (suc t)) m q c apart))
+      (commits_words states known.run.records last known.closing t m p found.made (sym found.prev ∙ pending_so (prev_at (states t).heap m) p e) d
+      (λ none. commit_here (known.run.records t) (known.run.records (suc t)) t m c none) (λ q apart. commit_elsewhere (known.run.records t) (known.run.records (suc t)) t m q c apart))
   decide_turn i m p told finds found g false true l e d c =
-      FailsTurn (fails_words states last known.closing t m p found.made (sym found.prev ∙ pending_so (prev_at (states t).heap m) p e) d (no_commit c))
+      FailsTurn (fails_words states known.run.records last known.closing t m p found.made (sym found.prev ∙ pending_so (prev_at (states t).heap m) p e) d (no_commit c))
   decide_turn i m p told finds found g true false l e d c =
-      OvertakenTurn (read.Prev m) (leaves_words states last known.closing t d (no_commit c)) (λ is. not_pending_so (prev_at (states t).heap m) p e (found.prev ∙ is)) (inl refl)
+      OvertakenTurn (read.Prev m) (leaves_words states known.run.records last known.closing t d (no_commit c)) (λ is. not_pending_so (prev_at (states t).heap m) p e (found.prev ∙ is)) (inl refl)
   decide_turn i m p told finds found g false false l e d c =
-      OvertakenTurn read.Main (leaves_words states last known.closing t d (no_commit c)) (λ is. not_pending_so (prev_at (states t).heap m) p e (found.prev ∙ is)) (inr refl)
+      OvertakenTurn read.Main (leaves_words states known.run.records last known.closing t d (no_commit c)) (λ is. not_pending_so (prev_at (states t).heap m) p e (found.prev ∙ is)) (inr refl)
 
   restore_turn : (i m p : Ref) → FindsMain states t i → (b : Bool) → (main_at (states t).heap i == m) ≡ b →
-      Either b (GrownChanges states t (main_changed p) i) (GrownStays states t) → (states (suc t)).commits ≡ (states t).commits →
+      Either b (GrownChanges states t (main_changed p) i) (GrownStays states t) → (known.run.records (suc t)).commits ≡ (known.run.records t).commits →
       ReadTurn w t i (read.Restore m p) (after_restore p b)
-  restore_turn i m p finds true e d c = Restores (puts_back_words states last known.closing t i m p finds.link (sym finds.main ∙ eqb-true _ m e) d (no_commit c))
-  restore_turn i m p finds false e d c = FindsAnother (leaves_words states last known.closing t d (no_commit c))
+  restore_turn i m p finds true e d c = Restores (puts_back_words states known.run.records last known.closing t i m p finds.link (sym finds.main ∙ eqb-true _ m e) d (no_commit c))
+  restore_turn i m p finds false e d c = FindsAnother (leaves_words states known.run.records last known.closing t d (no_commit c))
 
   -- a step of a READ; who asks for the root is told a generation that wasn't closed before
   pub read_turn : (i : Ref) (l : ReadLine) (access : Access) (word : RootWord) → ActsOn states t (read_action i l) →
-      (states (suc t)).commits ≡ commits_after (states t) (committed_by (states t).heap i l) →
+      (known.run.records (suc t)).commits ≡ commits_after (known.run.records t) t (committed_by (states t).heap i l) →
       ((m p : Ref) → l ≡ read.AskRoot m p → (r : Ref) → word ≡ Plain r → (c : ℕ) → known.closing (generation_at (states t).heap r) ≡ Some c → t ≤ c) →
       ReadTurn w t i l (read_after (states t).heap access word i l)
   read_turn i read.Main access word a c open_root =
-      subst (λ x. ReadTurn w t i read.Main (Goes (read.Prev x))) (sym a.0.main) (ReadsMain (leaves_words states last known.closing t a.1 (no_commit c)) a.0.link)
+      subst (λ x. ReadTurn w t i read.Main (Goes (read.Prev x))) (sym a.0.main) (ReadsMain (leaves_words states known.run.records last known.closing t a.1 (no_commit c)) a.0.link)
   read_turn i (read.Prev m) access word a c open_root =
       subst (λ v. ReadTurn w t i (read.Prev m) (after_prev access m v)) (sym a.0.prev)
-      (prev_turn i m access (prev_word states t m) refl (leaves_words states last known.closing t a.1 (no_commit c)))
-  read_turn i (read.AskRoot m p) access word a c open_root = ask_turn i m p word (leaves_words states last known.closing t a (no_commit c)) (open_root m p refl)
-  read_turn i (read.Abort m p offer) access word a c open_root = Aborts (leaves_words states last known.closing t a (no_commit c))
+      (prev_turn i m access (prev_word states t m) refl (leaves_words states known.run.records last known.closing t a.1 (no_commit c)))
+  read_turn i (read.AskRoot m p) access word a c open_root = ask_turn i m p word (leaves_words states known.run.records last known.closing t a (no_commit c)) (open_root m p refl)
+  read_turn i (read.Abort m p offer) access word a c open_root = Aborts (leaves_words states known.run.records last known.closing t a (no_commit c))
   read_turn i (read.Decide m p told) access word a c open_root = decide_turn i m p told a.0 a.1 a.2 _ _ refl refl a.3 c
   read_turn i (read.Restore m p) access word a c open_root = restore_turn i m p a.0 _ refl a.1 c

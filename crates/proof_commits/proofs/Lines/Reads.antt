@@ -34,7 +34,8 @@ use Rattle.proof_commits.specs.Beneath.machine_model.specs.declared.lines.Line.T
 use Rattle.proof_commits.specs.Beneath.machine_model.specs.States.{State}
 use Rattle.proof_commits.specs.Beneath.machine_model.specs.Reading.{read_action}
 use Rattle.proof_commits.specs.Beneath.machine_model.specs.Operations.{line_action, read_of}
-use Rattle.proof_commits.specs.Beneath.machine_model.specs.Orders.{counted_from}
+use Rattle.proof_commits.specs.Beneath.machine_model.specs.Records.{read_at_after}
+use Rattle.proof_commits.specs.Beneath.machine_model.specs.Tellings.{counts_from}
 use Rattle.proof_commits.specs.Protocol.{Stage, Rests, Reads, counts_at}
 use Rattle.proof_commits.proofs.Lines.Stages.{ReadRemembers, Remembers}
 use Rattle.proof_commits.specs.Stages.{stage_of}
@@ -117,7 +118,7 @@ module _ (state : State) (operation : Operation) (G : Ref → Ref → Type 0) (W
 
 -- ---- whence a READ counts
 
-pub read_counts : (i : Ref) (l : ReadLine) (t before : ℕ) → counted_from (read_action i l) t before ≡ counts_at l t before
+pub read_counts : (i : Ref) (l : ReadLine) (t before : ℕ) → read_at_after t (counts_from (read_action i l)) before ≡ counts_at l t before
 read_counts i read.Main t before = refl
 read_counts i (read.Prev m) t before = refl
 read_counts i (read.AskRoot m p) t before = refl
@@ -130,12 +131,12 @@ CountsTo (Reads i l) t before after = after ≡ counts_at l t before
 CountsTo s t before after = Unit {0}
 
 counts_by : (state : State) (operation : Operation) (l : Line) (t before : ℕ) (s : Stage) → ReadsSo state operation (λ i m. ⊥) ⊥ l s →
-    CountsTo s t before (counted_from (line_action state operation l) t before)
-counts_by state operation l t before (Reads i x) r = ap (λ a. counted_from a t before) r.0 ∙ read_counts i x t before
+    CountsTo s t before (read_at_after t (counts_from (line_action state operation l)) before)
+counts_by state operation l t before (Reads i x) r = ap (λ a. read_at_after t (counts_from a) before) r.0 ∙ read_counts i x t before
 counts_by state operation l t before Rests r = tt
 counts_by state operation l t before s r = tt
 
-pub line_counts : (state : State) (operation : Operation) (l : Line) (t before : ℕ) → CountsTo (stage_of l) t before (counted_from (line_action state operation l) t before)
+pub line_counts : (state : State) (operation : Operation) (l : Line) (t before : ℕ) → CountsTo (stage_of l) t before (read_at_after t (counts_from (line_action state operation l)) before)
 line_counts state operation l t before = counts_by state operation l t before (stage_of l) (line_reads state operation (λ i m. ⊥) ⊥ l)
 
 -- ---- which line ends

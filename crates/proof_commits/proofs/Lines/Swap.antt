@@ -68,13 +68,13 @@ swap_or_outside (line.Walk l) = inr (grind arith)
 swap_or_outside (line.End answer) = inr tt
 swap_or_outside line.Impossible = inr tt
 
-line_decides : (l : Line) (i a f : Ref) (x : ReadLine) → stage_of l ≡ Decides i a f x → LineOf l i a f (swap.Deciding x)
+pub line_decides : (l : Line) (i a f : Ref) (x : ReadLine) → stage_of l ≡ Decides i a f x → LineOf l i a f (swap.Deciding x)
 line_decides l i a f x e = elim (swap_or_outside l) [
   | inl (why, s, is) ↦ (why, is ∙ ap (line.Swap why) (decides_swap s.indirection s.replaced s.fresh s.line i a f x (ap stage_of (sym is) ∙ e)))
   | inr other ↦ absurd (subst IsOutside e other)
 ]
 
-line_publishes : (l : Line) (i a f : Ref) → stage_of l ≡ Publishes i a f → LineOf l i a f swap.Publish
+pub line_publishes : (l : Line) (i a f : Ref) → stage_of l ≡ Publishes i a f → LineOf l i a f swap.Publish
 line_publishes l i a f e = elim (swap_or_outside l) [
   | inl (why, s, is) ↦ (why, is ∙ ap (line.Swap why) (publishes_swap s.indirection s.replaced s.fresh s.line i a f (ap stage_of (sym is) ∙ e)))
   | inr other ↦ absurd (subst IsOutside e other)

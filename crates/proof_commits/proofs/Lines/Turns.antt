@@ -50,11 +50,11 @@ use Rattle.proof_commits.specs.Beneath.machine_model.specs.declared.reading.Swap
 use Rattle.proof_commits.specs.Beneath.machine_model.specs.declared.reading.SwapLine.TheVariants as swap
 use Rattle.proof_commits.specs.Beneath.machine_model.specs.declared.roots.CompleteLine.{CompleteLine}
 use Rattle.proof_commits.specs.Beneath.machine_model.specs.declared.roots.CompleteLine.TheVariants as complete
-use Rattle.proof_commits.specs.Beneath.machine_model.specs.declared.steps.Limits.{Limits}
+use Rattle.proof_commits.specs.Beneath.machine_model.specs.declared.steps.Bounds.{Bounds}
 use Rattle.proof_commits.specs.Beneath.machine_model.specs.Calls.{handle_of}
 use Rattle.proof_commits.specs.Beneath.machine_model.specs.States.{word_at, root_of}
 use Rattle.proof_commits.specs.Beneath.machine_model.specs.Reading.{read_action, read_after, at_indirection, committed_by, reading}
-use Rattle.proof_commits.specs.Beneath.machine_model.specs.Orders.{committed_in}
+use Rattle.proof_commits.specs.Beneath.machine_model.specs.Tellings.{committed_in}
 use Rattle.proof_commits.specs.Beneath.machine_model.specs.Swapping.{after_deciding as swap_deciding, on_line, after_check, after_publish, after_reading, of_offer}
 use Rattle.proof_commits.specs.Beneath.machine_model.specs.Swapping.{after_completing, is_carried_out, is_plain}
 use Rattle.proof_commits.specs.Beneath.machine_model.specs.Renewing.{renew_after_read}
@@ -64,7 +64,7 @@ use Rattle.proof_commits.specs.Beneath.machine_model.specs.Climbing.{climb_after
 use Rattle.proof_commits.specs.Beneath.machine_model.specs.Copying.{copy_after_read, copy_after_complete}
 use Rattle.proof_commits.specs.Beneath.machine_model.specs.Walking.{walk_after_read}
 use Rattle.proof_commits.specs.Beneath.machine_model.specs.Operations.{line_action, line_after, read_of, after_swap}
-use Rattle.proof_commits.specs.Beneath.machine_model.specs.Acting.{commits_after}
+use Rattle.proof_commits.specs.Beneath.machine_model.specs.Records.{commits_after}
 use Rattle.proof_commits.specs.Beneath.machine_model.specs.Grown.{node_under}
 use Rattle.proof_commits.specs.Beneath.machine_model.specs.Moves.{GoesOn}
 use Rattle.proof_commits.specs.Protocol.{Words, HasMade, Stage, Rests, Reads, Builds, Publishes, Decides, Checks, IsFree, MayName, Given, ReadTurn, Moves, Idles, MakesNode}
@@ -87,9 +87,9 @@ use Rattle.proof_memory.proofs.Lines.Next.{pair_main, contracted_main, changed_m
 use Rattle.proof_memory.proofs.Claims.Nodes.{main_plain}
 use Rattle.proof_commits.specs.Beneath.machine_model.proofs.Grown.{grown_in_use, node_grown}
 
-module _ (limits : Limits) (states : ℕ → State) (last : ℕ) (known : Known limits states last) (t : ℕ) (h : t < last) (k : ℕ) (operation : Operation) where
+module _ (limits : Bounds) (states : ℕ → State) (last : ℕ) (known : Known limits states last) (t : ℕ) (h : t < last) (k : ℕ) (operation : Operation) where
   abbrev w : Words
-  w = words_of states last known.closing
+  w = words_of states known.run.records last known.closing
 
   abbrev heap : Heap
   heap = (states t).heap
@@ -111,7 +111,7 @@ module _ (limits : Limits) (states : ℕ → State) (last : ℕ) (known : Known 
   -- what is known of a step from this line
   pub record LineFacts (l : Line) : Type 0 where
     pub acts : ActsOn states t (line_action (states t) operation l)
-    pub commits : (states (suc t)).commits ≡ commits_after (states t) (committed_in (states t) (read_of l))
+    pub commits : (known.run.records (suc t)).commits ≡ commits_after (known.run.records t) t (committed_in (states t) (read_of l))
     pub asks : (i m p : Ref) → read_of l ≡ Some (record { indirection = i; line = read.AskRoot m p }) → W → ToldOpen
     pub stage : w.stage t k ≡ stage_of l
     pub built : (main : Ref) → BuildsFrom l main → HasSolid (states t) main
@@ -141,29 +141,29 @@ module _ (limits : Limits) (states : ℕ → State) (last : ℕ) (known : Known 
 
   -- ---- kinds of turns
 
-  rest_turn : (s : Stage) (l : Line) → IsFree s → GrownStays states t → (states (suc t)).commits ≡ (states t).commits → AtRest G W l → NextLine s l
-  rest_turn s l free e c r = Idles (leaves_words states last known.closing t e (no_commit limits states last known t h c)) free r.0
+  rest_turn : (s : Stage) (l : Line) → IsFree s → GrownStays states t → (known.run.records (suc t)).commits ≡ (known.run.records t).commits → AtRest G W l → NextLine s l
+  rest_turn s l free e c r = Idles (leaves_words states known.run.records last known.closing t e (no_commit limits states last known t h c)) free r.0
 
-  make_turn : (s : Stage) → IsFree s → (node : Node) (after : Option Ref → Line) → (states (suc t)).commits ≡ (states t).commits → AtRest G W (after None) →
+  make_turn : (s : Stage) → IsFree s → (node : Node) (after : Option Ref → Line) → (known.run.records (suc t)).commits ≡ (known.run.records t).commits → AtRest G W (after None) →
       ((n : Ref) → HasMade GS n (stage_of (after (Some n)))) → (is_indirection node ≡ true → MayName w t k s (main_of node)) → (made : Option Ref) → Taken states t node made →
       NextLine s (after made)
   make_turn s free node after c none some name None e = rest_turn s (after None) free e c none
   make_turn s free node after c none some name (Some n) e =
-      let is : node_under states (suc t) n ≡ node = takes_node states last known.closing t n node e in
-      MakesNode n (makes_words states last known.closing t n node e (no_commit limits states last known t h c)) free
+      let is : node_under states (suc t) n ≡ node = takes_node states known.run.records last known.closing t n node e in
+      MakesNode n (makes_words states known.run.records last known.closing t n node e (no_commit limits states last known t h c)) free
       (λ l. subst (λ x. MayName w t k s (main_of x)) (sym is) (name (subst (λ x. is_indirection x ≡ true) is l))) (some n)
 
   names_none : (s : Stage) (node : Node) → is_indirection node ≡ false → is_indirection node ≡ true → MayName w t k s (main_of node)
   names_none s node none is = absurd (true≢false (sym is ∙ none))
 
   -- a step of a READ
-  own_read : (i : Ref) (l : ReadLine) → ActsOn states t (read_action i l) → (states (suc t)).commits ≡ commits_after (states t) (committed_by heap i l) →
+  own_read : (i : Ref) (l : ReadLine) → ActsOn states t (read_action i l) → (known.run.records (suc t)).commits ≡ commits_after (known.run.records t) t (committed_by heap i l) →
       ReadRemembers W l → ((m p : Ref) → l ≡ read.AskRoot m p → W → ToldOpen) → ReadTurn w t i l (read_after heap operation.access word i l)
   own_read i l a c r asks =
       read_turn limits states last known t h i l operation.access word a c (λ m p e. asks m p e (subst (λ x. ReadRemembers W x) e r))
 
   reads_on : (i : Ref) (l : ReadLine) (after : After ReadLine Ref → Line) → ActsOn states t (read_action i l) →
-      (states (suc t)).commits ≡ commits_after (states t) (committed_by heap i l) → ReadRemembers W l → ((m p : Ref) → l ≡ read.AskRoot m p → W → ToldOpen) →
+      (known.run.records (suc t)).commits ≡ commits_after (known.run.records t) t (committed_by heap i l) → ReadRemembers W l → ((m p : Ref) → l ≡ read.AskRoot m p → W → ToldOpen) →
       ((o : After ReadLine Ref) → stage_of (after o) ≡ after_read i o) → NextLine (Reads i l) (after (read_after heap operation.access word i l))
   reads_on i l after a c r asks same = subst (λ s. Moves w t k (Reads i l) s) (sym (same _)) (ReadsOn (own_read i l a c r asks))
 
@@ -217,12 +217,12 @@ module _ (limits : Limits) (states : ℕ → State) (last : ℕ) (known : Known 
 
   -- ---- SWAP
 
-  swap_publish : (why : Purpose) (x : Swap) → FindsMain states t x.indirection → FindsPrev states t x.fresh → (states (suc t)).commits ≡ (states t).commits →
+  swap_publish : (why : Purpose) (x : Swap) → FindsMain states t x.indirection → FindsPrev states t x.fresh → (known.run.records (suc t)).commits ≡ (known.run.records t).commits →
       G x.indirection x.replaced → (b : Bool) → (main_at heap x.indirection == x.replaced) ≡ b →
       Either b (GrownSwaps states t x.indirection x.replaced x.fresh) (GrownStays states t) →
       NextLine (Publishes x.indirection x.replaced x.fresh) (after_swap (states t) operation why x (on_line x (after_publish x.fresh b)))
   swap_publish why x finds found c g true is e =
-      SwapsNode finds.link (swaps_words states last known.closing t x.indirection x.replaced x.fresh finds.link found.made (sym finds.main ∙ eqb-true _ x.replaced is) e
+      SwapsNode finds.link (swaps_words states known.run.records last known.closing t x.indirection x.replaced x.fresh finds.link found.made (sym finds.main ∙ eqb-true _ x.replaced is) e
       (no_commit limits states last known t h c))
   swap_publish why x finds found c g false is e =
       rest_turn (Publishes x.indirection x.replaced x.fresh) _ tt e c (Resting.swapped_rest G W operation (node_at heap x.fresh) why false)
@@ -232,7 +232,7 @@ module _ (limits : Limits) (states : ℕ → State) (last : ℕ) (known : Known 
   swap_decides why x l (Goes next) turn = DecidesOn turn
   swap_decides why x l (Gives m) turn = DecidesOn turn
 
-  swap_checks : (why : Purpose) (x : Swap) → GrownStays states t → (states (suc t)).commits ≡ (states t).commits → (v : Prev) →
+  swap_checks : (why : Purpose) (x : Swap) → GrownStays states t → (known.run.records (suc t)).commits ≡ (known.run.records t).commits → (v : Prev) →
       NextLine (Checks x.indirection x.replaced x.fresh) (after_swap (states t) operation why x (on_line x (after_check v)))
   swap_checks why x e c over.None = rest_turn _ _ tt e c (Resting.swapped_rest G W operation (node_at heap x.fresh) why true)
   swap_checks why x e c (over.Pending p) = rest_turn _ _ tt e c (Resting.swapped_rest G W operation (node_at heap x.fresh) why false)
@@ -369,7 +369,7 @@ module _ (limits : Limits) (states : ℕ → State) (last : ℕ) (known : Known 
       ReadTurn w t i x (read_after heap operation.access word i x)
   own_turn l s i x on H r =
       let so : ReadsSo (states t) operation H W l (Reads i x) = on_stage (states t) operation H W l i x on in
-      own_read i x (subst (λ a. ActsOn states t a) so.0 s.acts) (s.commits ∙ ap (λ c. commits_after (states t) (committed_in (states t) c)) so.1) (so.2 r)
+      own_read i x (subst (λ a. ActsOn states t a) so.0 s.acts) (s.commits ∙ ap (λ c. commits_after (known.run.records t) t (committed_in (states t) c)) so.1) (so.2 r)
       (asks_of l i x so.1 s.asks)
 
   -- ---- all lines

@@ -1,5 +1,5 @@
 -- The words before the first step.
-use Rattle.std.proofs.Common.{◌≡◌, ℕ, zero, suc, ◌-◌, ◌≤◌, Bool, true, false, cond, ◌==◌, List, [], ◌∷◌, get_or, replicate, Option, Some, None, refl, sym, ◌∙◌, ap, arith}
+use Rattle.std.proofs.Common.{◌≡◌, ℕ, zero, suc, ◌-◌, ◌≤◌, Bool, true, false, cond, ◌==◌, List, ◌∷◌, get_or, replicate, Option, Some, None, refl, sym, ◌∙◌, ap, arith}
 use Rattle.std.specs.Prelude.{is_some}
 use Rattle.std.proofs.lemmas.Bool.{true≢false}
 use Rattle.proof_commits.specs.Beneath.slot_arena.specs.Refs.{ref_to, slot_of, birth_of}
@@ -8,9 +8,9 @@ use Rattle.proof_commits.specs.Beneath.slot_arena.specs.declared.nodes.Node.TheV
 use Rattle.proof_commits.specs.Beneath.slot_arena.specs.declared.nodes.Prev.TheVariants as over
 use Rattle.proof_commits.specs.Beneath.slot_arena.specs.declared.nodes.Slot.{Slot}
 use Rattle.proof_commits.specs.Beneath.slot_arena.specs.Heaps.{stored, node_of, prev_of, main_of, taken, empty_branch}
-use Rattle.proof_commits.specs.Beneath.machine_model.specs.declared.steps.Limits.{Limits}
+use Rattle.proof_commits.specs.Beneath.machine_model.specs.declared.steps.Bounds.{Bounds}
 use Rattle.proof_commits.specs.Beneath.machine_model.specs.States.{State, first_state, first_heap, operation_of}
-use Rattle.proof_commits.specs.Beneath.machine_model.specs.Machine.{AreLimits}
+use Rattle.proof_commits.specs.Beneath.machine_model.specs.Machine.{AreBounds}
 use Rattle.proof_commits.specs.Beneath.machine_model.proofs.Found.{none_found}
 use Rattle.proof_commits.specs.Beneath.machine_model.specs.Grown.{grown, standing, of_birth}
 use Rattle.proof_memory.specs.Wants.{is_indirection}
@@ -72,7 +72,7 @@ first_main n (suc (suc j)) e = absurd (true≢false (sym e ∙ ap (λ o. is_indi
 two_or_more : (slots : ℕ) → 2 ≤ slots → slots ≡ suc (suc (slots - 2))
 two_or_more slots h = omega arith
 
-module _ (limits : Limits) (ok : AreLimits limits) (states : ℕ → State) (first : states zero ≡ first_state limits) where
+module _ (limits : Bounds) (ok : AreBounds limits) (states : ℕ → State) (first : states zero ≡ first_state limits) where
   grown_at_first : (r : Ref) → grown states zero r ≡ standing_in (first_slots (limits.slots - 2)) r
   unfolding grown first_state
   grown_at_first r =
@@ -92,7 +92,3 @@ module _ (limits : Limits) (ok : AreLimits limits) (states : ℕ → State) (fir
   unfolding first_state
   idle_at_first zero = refl
   idle_at_first (suc k) = ap (λ (s : State). get_or s.actors k None) first ∙ none_of limits.actors k _ refl
-
-  pub uncommitted_at_first : (states zero).commits ≡ []
-  unfolding first_state
-  uncommitted_at_first = ap (λ (s : State). s.commits) first

@@ -16,6 +16,7 @@ use Rattle.proof_commits.proofs.Known.Given.{GrownStays, GrownChanges, GrownSwap
 use Rattle.proof_memory.specs.Wants.{is_indirection, is_branch_or_list}
 use Rattle.proof_commits.specs.Words.{words_of}
 use Rattle.proof_commits.specs.Beneath.machine_model.proofs.Slots.{change_kept}
+use Rattle.proof_commits.specs.Beneath.machine_model.specs.Records.{Record}
 
 -- ---- a slot with another main word, or another prev word
 
@@ -73,9 +74,9 @@ slot_solid x (Some slot) = solid_kept x slot.node
 
 -- ---- what the steps do to words
 
-module _ (states : ℕ → State) (last : ℕ) (closing : ℕ → Option ℕ) (t : ℕ) where
+module _ (states : ℕ → State) (records : ℕ → Record) (last : ℕ) (closing : ℕ → Option ℕ) (t : ℕ) where
   abbrev w : Words
-  w = words_of states last closing
+  w = words_of states records last closing
 
   pub leaves_words : GrownStays states t → Kept (w.commit t) (w.commit (suc t)) → Leaves w t
   leaves_words e c = record {

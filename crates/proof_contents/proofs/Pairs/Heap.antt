@@ -12,7 +12,7 @@ use Rattle.proof_contents.specs.Beneath.slot_arena.specs.Heaps.{refs_of_prev, re
 use Rattle.machine_model.specs.declared.roots.Root.{Root}
 use Rattle.machine_model.specs.declared.roots.RootWord.{RootWord}
 use Rattle.machine_model.specs.declared.roots.RootWord.TheVariants.{Plain, Offer}
-use Rattle.machine_model.specs.declared.steps.Limits.{Limits}
+use Rattle.machine_model.specs.declared.steps.Bounds.{Bounds}
 use Rattle.machine_model.specs.States as state
 use Rattle.machine_model.specs.States.{State, root_of}
 use Rattle.machine_model.specs.Counting.{refs_of_word, refs_of_root}
@@ -132,7 +132,7 @@ module _ (states : ℕ → State) (last : ℕ) (reaches : ReachesInUse (states l
   root_reached handle root e =
       from_root handle (root_of root.word) (subst (λ o. Contains (refs_of_root o) (root_of root.word)) (sym e) (word_root root.word))
 
-  module _ (limits : Limits) (depth path : Ref → ℕ) (ok : IsTrie (trie_of limits states last depth path)) where
+  module _ (limits : Bounds) (depth path : Ref → ℕ) (ok : IsTrie (trie_of limits states last depth path)) where
     -- the content of an open handle is that of its root's generation
     pub content_is : (handle : ℕ) (root : Root) (g h : ℕ) (word : Ref) → state.root_at (states last) handle ≡ Some root → run.root_of_generation states last g ≡ root_of root.word →
         node_under states last (root_of root.word) ≡ Indirection h word →

@@ -8,7 +8,7 @@ use Rattle.proof_contents.specs.Beneath.slot_arena.specs.declared.nodes.Node.The
 use Rattle.proof_contents.specs.Beneath.slot_arena.specs.declared.nodes.Prev.TheVariants as prev
 use Rattle.proof_contents.specs.Beneath.slot_arena.specs.declared.nodes.Slot.{Slot}
 use Rattle.proof_contents.specs.Beneath.slot_arena.specs.Heaps.{stored, node_at, node_of, generation_of, generation_at, empty_branch, with_main_word, taken, logical, main_of, prev_of}
-use Rattle.machine_model.specs.declared.steps.Limits.{Limits}
+use Rattle.machine_model.specs.declared.steps.Bounds.{Bounds}
 use Rattle.machine_model.specs.States.{State, first_state, first_heap}
 use Rattle.machine_model.specs.Grown.{standing, grown, node_under, prev_word}
 use Rattle.machine_model.specs.Times.{IsRun}
@@ -68,16 +68,16 @@ pub first_generation : (n : ℕ) → generation_at (first_heap (suc (suc n))) (r
 unfolding node_at stored taken
 first_generation n = refl
 
-first_among : (limits : Limits) (n : ℕ) → limits.slots ≡ suc (suc n) → root_among (first_state limits).heap 0 (first_state limits).roots ≡ Some (ref_to 2 1)
+first_among : (limits : Bounds) (n : ℕ) → limits.slots ≡ suc (suc n) → root_among (first_state limits).heap 0 (first_state limits).roots ≡ Some (ref_to 2 1)
 unfolding first_state
 first_among limits n e =
     ap (λ g. or_other (cond (g == 0) (Some (ref_to 2 1)) None) None) (ap (λ k. generation_at (first_heap k) (ref_to 2 1)) e ∙ first_generation n)
 
-pub first_heap_is : (limits : Limits) → (first_state limits).heap ≡ first_heap limits.slots
+pub first_heap_is : (limits : Bounds) → (first_state limits).heap ≡ first_heap limits.slots
 unfolding first_state
 first_heap_is limits = refl
 
-module _ (limits : Limits) (states : ℕ → State) (last : ℕ) (r : IsRun limits states last) (stay : NodesStay states last) where
+module _ (limits : Bounds) (states : ℕ → State) (last : ℕ) (r : IsRun limits states last) (stay : NodesStay states last) where
   slots_are : (n : ℕ) × (limits.slots ≡ suc (suc n))
   slots_are = two_or_more limits.slots r.limits_ok.0
 

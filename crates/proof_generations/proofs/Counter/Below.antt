@@ -1,5 +1,5 @@
 -- Along a run: all generations are below the counter.
-use Rattle.std.proofs.Common.{◌≡◌, ℕ, suc, ◌+◌, ◌<◌, ◌≤◌, ◌==◌, Bool, true, false, cond, inl, inr, List, ◌∷◌, ◌++◌, map, find, length, nat_le, set, get_or, Option, Some, None}
+use Rattle.std.proofs.Common.{◌≡◌, ℕ, suc, ◌+◌, ◌<◌, ◌≤◌, ◌==◌, Bool, true, false, cond, inl, inr, List, ◌∷◌, ◌++◌, map, find, length, nat_le, set, get_or, Option, Some, None, append-nil}
 use Rattle.std.proofs.Common.{option_map, unwrap_or, refl, sym, ap, ◌∙◌, subst, eqb-true, arith, []}
 use Rattle.std.proofs.lemmas.Bool.{cases_eq, cond_both}
 use Rattle.std.proofs.lemmas.Option.{none-some, same_Some}
@@ -18,20 +18,18 @@ use Rattle.proof_generations.specs.Beneath.slot_arena.specs.Heaps.{prev_changed,
 use Rattle.proof_generations.specs.Beneath.machine_model.specs.declared.actions.Action.{Action}
 use Rattle.proof_generations.specs.Beneath.machine_model.specs.declared.actions.Action.TheVariants as act
 use Rattle.proof_generations.specs.Beneath.machine_model.specs.declared.operations.Operation.{Operation}
-use Rattle.proof_generations.specs.Beneath.machine_model.specs.declared.roots.Descriptor.{Descriptor}
-use Rattle.proof_generations.specs.Beneath.machine_model.specs.declared.steps.Limits.{Limits}
+use Rattle.proof_generations.specs.Beneath.machine_model.specs.declared.steps.Bounds.{Bounds}
 use Rattle.proof_generations.specs.Beneath.machine_model.specs.declared.steps.Outcome.{Outcome}
 use Rattle.proof_generations.specs.Beneath.machine_model.specs.declared.steps.Step.{Step}
 use Rattle.proof_generations.specs.Beneath.machine_model.specs.Calls.{handle_of}
-use Rattle.proof_generations.specs.Beneath.machine_model.specs.declared.heaps.Closing.{Closing}
+use Rattle.proof_generations.specs.Beneath.machine_model.specs.declared.records.Closing.{Closing}
 use Rattle.proof_generations.specs.Beneath.machine_model.specs.declared.lines.Line.{Line}
 use Rattle.proof_generations.specs.Beneath.machine_model.specs.declared.lines.Line.TheVariants as line
 use Rattle.proof_generations.specs.Beneath.machine_model.specs.declared.reading.After.{After}
 use Rattle.proof_generations.specs.Beneath.machine_model.specs.declared.reading.After.TheVariants.{Goes as Continues, Gives}
 use Rattle.proof_generations.specs.Beneath.machine_model.specs.declared.roots.RootLine.{RootLine}
-use Rattle.proof_generations.specs.Beneath.machine_model.specs.declared.roots.RootWord.TheVariants.{Plain, Offer}
-use Rattle.proof_generations.specs.Beneath.machine_model.specs.Swapping.{root_after}
-use Rattle.proof_generations.specs.Beneath.machine_model.specs.States.{State, first_state, operation_of, word_at, step_of, with_word}
+use Rattle.proof_generations.specs.Beneath.machine_model.specs.Swapping.{root_after, is_carried_out}
+use Rattle.proof_generations.specs.Beneath.machine_model.specs.States.{State, first_state, operation_of, word_at}
 use Rattle.proof_generations.specs.Beneath.machine_model.proofs.Actors.{mark_only, marks_in}
 use Rattle.proof_generations.specs.Beneath.machine_model.proofs.EachOperation.{of_running}
 use Rattle.proof_generations.specs.Beneath.machine_model.proofs.Times.{along_run}
@@ -43,7 +41,7 @@ use Rattle.proof_generations.specs.Running.{Runs}
 use Rattle.proof_generations.specs.Beneath.machine_model.specs.Paths.{start_of}
 use Rattle.proof_generations.specs.Beneath.machine_model.specs.Reading.{Verdict, Commits, Fails, Overtaken, verdict}
 use Rattle.proof_generations.specs.Beneath.machine_model.specs.Operations.{action_of, generation_from, given_root}
-use Rattle.proof_generations.specs.Beneath.machine_model.specs.Acting.{acted, aborted, offered, completed, decided, new_root_taken, if_changed, opened, carried_out, operation_after}
+use Rattle.proof_generations.specs.Beneath.machine_model.specs.Acting.{acted, aborted, offered, completed, decided, new_root_taken, if_changed, operation_after}
 use Rattle.proof_generations.specs.Beneath.machine_model.specs.Machine.{with_begin, pin_of, reclaimer_of}
 use Rattle.proof_generations.specs.Beneath.machine_model.specs.Moves.{Begins, Goes, Ends, Sweeps}
 use Rattle.proof_generations.specs.Beneath.machine_model.specs.Moves.{Moves, begun_operation}
@@ -55,6 +53,10 @@ use Rattle.proof_generations.specs.Beneath.proof_memory.proofs.Safety.AtTimes.{l
 use Rattle.proof_generations.specs.Beneath.proof_memory.specs.Laws.{IsInUse}
 use Rattle.proof_generations.proofs.Counter.Made.{MadeOf, plain, started, drawn, made_of}
 use Rattle.proof_generations.proofs.Counter.Drawn.{counter_rises, taken_list, generation_kept, first_list}
+use Rattle.proof_generations.specs.Beneath.machine_model.specs.Records.{step_of, Record, closed_by, noted}
+use Rattle.proof_generations.specs.Beneath.machine_model.specs.declared.records.Carried.{Carried}
+use Rattle.proof_generations.specs.Beneath.machine_model.specs.Tellings.{carried_by, told_in}
+use Rattle.proof_generations.specs.Beneath.machine_model.proofs.Notes.{noted_going, noted_ending}
 
 -- all nodes in the slots are of generations below this one
 abbrev pub NodesBelow : ℕ → Heap → Type 0
@@ -188,7 +190,7 @@ starts_by : (state : State) (s : Step) (n : ℕ) → 0 < state.generations → s
     (k : ℕ) (found : Operation) → Comes state s k found →
     start_of found < n
 starts_by state s n pos more h all k found (began call is d it) = omega (arith, ap start_of it)
-starts_by state s n pos more h all k found (rested was at_k it) = omega (arith, ap start_of (it ∙ mark_only (marks_in state s) was), all k was at_k)
+starts_by state s n pos more h all k found (rested was at_k it other_step) = omega (arith, ap start_of (it ∙ mark_only (marks_in state s) was), all k was at_k)
 starts_by state s n pos more h all k found (went was is at_k g it) =
     omega (arith, ap start_of (it ∙ mark_only (marks_in state s) (operation_after state was)), start_after state was was.line pos h (all k was at_k))
 
@@ -215,47 +217,42 @@ closed_below n (x ∷ closings) generation c h e = by (x.generation == generatio
     by true is rest e = omega (arith, eqb-true x.generation generation is, h.0)
     by false is rest e = rest e
 
-pub opened_closings : (st : State) (offer : Descriptor) (n : Option ℕ) → (opened st offer n).closings ≡ st.closings
-opened_closings st offer None = refl
-opened_closings st offer (Some n) = refl
+-- by what is carried out
+carried_below : (n step : ℕ) (closings : List Closing) (carried : Option Carried) → ((c : Carried) → carried ≡ Some c → c.generation < n) → ClosingsBelow n closings →
+    ClosingsBelow n (closings ++ closed_by step carried)
+carried_below n step closings None below h = subst (λ l. ClosingsBelow n l) (sym (append-nil closings)) h
+carried_below n step closings (Some c) below h = closings_push n closings (record { generation = c.generation; step = step }) h (below c refl)
 
-carried_closings : (st : State) (at : ℕ) (offer : Descriptor) → ClosingsBelow st.generations st.closings → generation_at st.heap offer.root < st.generations →
-    ClosingsBelow st.generations (carried_out st at offer).closings
-carried_closings st at offer h root =
-    closings_push st.generations _ (record { generation = generation_at st.heap offer.root; step = st.steps })
-    (subst (λ l. ClosingsBelow st.generations l) (sym (opened_closings (with_word st at (Plain offer.successor)) offer offer.opens)) h) root
+-- what is carried out closes the generation of a root
+carried_root : (state : State) (handle : ℕ) (action : Action) → ((r : Ref) → generation_at state.heap r < state.generations) → (c : Carried) →
+    carried_by state handle action ≡ Some c → c.generation < state.generations
+carried_root state handle (act.Complete offer main) root c e = by (is_carried_out (word_at state handle) offer main) e
+  where
+    by : (b : Bool) → cond b (Some (record { generation = generation_at state.heap offer.root; operation = offer.operation })) None ≡ Some c → c.generation < state.generations
+    by true e = subst (λ (x : Carried). x.generation < state.generations) (same_Some _ _ e) (root offer.root)
+    by false e = absurd (none-some c e)
+carried_root state handle act.ReadRoot root c e = absurd (none-some c e)
+carried_root state handle (act.Abort offer) root c e = absurd (none-some c e)
+carried_root state handle (act.Offer offer) root c e = absurd (none-some c e)
+carried_root state handle (act.ReadMain i) root c e = absurd (none-some c e)
+carried_root state handle (act.Publish i a f) root c e = absurd (none-some c e)
+carried_root state handle (act.Restore i m p) root c e = absurd (none-some c e)
+carried_root state handle (act.ReadPrev m) root c e = absurd (none-some c e)
+carried_root state handle (act.Decide i m p told) root c e = absurd (none-some c e)
+carried_root state handle (act.Look at) root c e = absurd (none-some c e)
+carried_root state handle (act.Make node) root c e = absurd (none-some c e)
+carried_root state handle (act.MakeRoot main) root c e = absurd (none-some c e)
+carried_root state handle (act.End answer) root c e = absurd (none-some c e)
 
-test_closings : (n : ℕ) (b : Bool) (changed same : State) → ClosingsBelow n changed.closings → ClosingsBelow n same.closings → ClosingsBelow n (if_changed b changed same).closings
-test_closings n true changed same h g = h
-test_closings n false changed same h g = g
-
-completed_closings : (st : State) (at : ℕ) (offer : Descriptor) (e : Bool) → ClosingsBelow st.generations st.closings → generation_at st.heap offer.root < st.generations →
-    ClosingsBelow st.generations (cond e (carried_out st at offer) (with_word st at (Plain offer.root))).closings
-completed_closings st at offer true h root = carried_closings st at offer h root
-completed_closings st at offer false h root = h
-
-pub root_closings : (st : State) (main : Ref) (made : Option Ref) → (new_root_taken st main made).closings ≡ st.closings
-root_closings st main None = refl
-root_closings st main (Some made) = refl
-
-acted_closings : (st : State) (at : ℕ) (action : Action) → ((r : Ref) → generation_at st.heap r < st.generations) → ClosingsBelow st.generations st.closings →
-    ClosingsBelow st.generations (acted st at action).closings
-acted_closings st at (act.Abort offer) root h = test_closings st.generations _ (with_word st at (Plain offer.root)) st h h
-acted_closings st at (act.Offer offer) root h = test_closings st.generations _ (with_word st at (Offer offer)) st h h
-acted_closings st at (act.Complete offer main) root h = test_closings st.generations _ _ st (completed_closings st at offer (main == offer.expected) h (root offer.root)) h
-acted_closings st at (act.MakeRoot main) root h = subst (λ l. ClosingsBelow st.generations l) (sym (root_closings st main (next_ref st.heap))) h
-acted_closings st at action root h = h
-
-pub begin_closings : (state : State) (actor : ℕ) (call : Call) (operation : Operation) → (with_begin state actor call operation).closings ≡ state.closings
-begin_closings state actor call operation = grind arith
-
-closings_after : (state : State) (s : Step) (o : Outcome) (after : State) → Moves state s o after → ((r : Ref) → generation_at state.heap r < state.generations) →
-    ClosingsBelow state.generations state.closings →
-    ClosingsBelow state.generations after.closings
-closings_after state s o after (Begins {actor} {call} d) root h = subst (λ l. ClosingsBelow state.generations l) (sym (begin_closings state actor call (begun_operation state call))) h
-closings_after state s o after (Goes {actor} {operation} d is a g) root h = acted_closings _ (handle_of operation.call) (action_of state operation) root h
-closings_after state s o after (Ends d is a) root h = h
-closings_after state s o after (Sweeps spent) root h = h
+closings_after : (state : State) (past : Record) (s : Step) (o : Outcome) (after : State) → Moves state s o after → ((r : Ref) → generation_at state.heap r < state.generations) →
+    ClosingsBelow state.generations past.closings → ClosingsBelow state.generations (noted past state.steps (told_in state s)).closings
+closings_after state past s o after (Begins d) root h = h
+closings_after state past s o after (Goes {actor} {operation} {action} d is a g) root h =
+    subst (λ (r : Record). ClosingsBelow state.generations r.closings) (sym (noted_going state past actor operation action is a g))
+    (carried_below state.generations state.steps past.closings _ (carried_root state (handle_of operation.call) (action_of state operation) root) h)
+closings_after state past s o after (Ends {actor} {operation} {answer} d is a) root h =
+    subst (λ (r : Record). ClosingsBelow state.generations r.closings) (sym (noted_ending state past actor operation answer is a)) h
+closings_after state past s o after (Sweeps spent) root h = h
 
 -- ---- all of it
 
@@ -263,33 +260,36 @@ pub record IsBelow (state : State) : Type 0 where
   pub positive : 0 < state.generations
   pub nodes : NodesBelow state.generations state.heap
   pub starts : StartsBelow state
-  pub closings : ClosingsBelow state.generations state.closings
 
 pub below_after : (state : State) → IsSafe state → IsBelow state → (s : Step) (o : Outcome) (after : State) → Moves state s o after → IsBelow after
 below_after state I h s o after m = record {
   positive = omega (arith, h.positive, counter_rises state s o after m);
   nodes = nodes_below_after state I h.positive h.nodes (λ actor operation is. of_running (λ st x. start_of x < state.generations) state h.starts actor operation is) s o after m;
   starts = λ k found at_k. starts_by state s after.generations h.positive (counter_rises state s o after m) h.nodes h.starts k found (comes state s o after m k found at_k);
-  closings = closings_more state.generations after.generations after.closings (counter_rises state s o after m) (closings_after state s o after m (root_start state h.positive h.nodes) h.closings);
 }
 
 -- a generation at a look-up is below the counter
 pub looked_up_below : (state : State) → IsBelow state → (r : Ref) → generation_at state.heap r < state.generations
 looked_up_below state h r = root_start state h.positive h.nodes r
 
-pub below_at_first : (limits : Limits) → IsBelow (first_state limits)
+pub below_at_first : (limits : Bounds) → IsBelow (first_state limits)
 unfolding first_state taken
 below_at_first limits = record {
   positive = omega arith;
   nodes = λ k slot e. omega (arith, first_list limits.slots k slot e);
   starts = λ k operation at_k. absurd (none_found limits.actors k operation at_k);
-  closings = tt;
 }
 
-pub below_at : (limits : Limits) (states : ℕ → State) (last : ℕ) → IsRun limits states last → (t : ℕ) → t ≤ last → IsBelow (states t)
+pub below_at : (limits : Bounds) (states : ℕ → State) (last : ℕ) → IsRun limits states last → (t : ℕ) → t ≤ last → IsBelow (states t)
 below_at limits states last r =
     along_run limits states last r (λ t. IsBelow (states t)) (subst IsBelow (sym r.first) (below_at_first limits))
     (λ t lt turn h. by_turn (states t) (states (suc t)) (safe_at limits states last r t (omega arith)) h turn)
   where
     by_turn : (before after : State) → IsSafe before → IsBelow before → Turn before after → IsBelow after
     by_turn before after I h (turns s o m) = below_after before I h s o after m
+
+-- so are the generations that were closed
+pub closings_next : (state : State) (past : Record) → IsSafe state → IsBelow state → ClosingsBelow state.generations past.closings → (s : Step) (o : Outcome) (after : State) →
+    Moves state s o after → ClosingsBelow after.generations (noted past state.steps (told_in state s)).closings
+closings_next state past S I h s o after m =
+    closings_more state.generations after.generations _ (counter_rises state s o after m) (closings_after state past s o after m (root_start state I.positive I.nodes) h)

@@ -13,7 +13,7 @@ use Rattle.proof_generations.specs.Beneath.machine_model.specs.declared.actions.
 use Rattle.proof_generations.specs.Beneath.machine_model.specs.declared.actions.Action.TheVariants as act
 use Rattle.proof_generations.specs.Beneath.machine_model.specs.declared.operations.Operation.{Operation}
 use Rattle.proof_generations.specs.Beneath.machine_model.specs.declared.roots.Descriptor.{Descriptor}
-use Rattle.proof_generations.specs.Beneath.machine_model.specs.declared.steps.Limits.{Limits}
+use Rattle.proof_generations.specs.Beneath.machine_model.specs.declared.steps.Bounds.{Bounds}
 use Rattle.proof_generations.specs.Beneath.machine_model.specs.declared.steps.Outcome.{Outcome}
 use Rattle.proof_generations.specs.Beneath.machine_model.specs.declared.steps.Step.{Step}
 use Rattle.proof_generations.specs.Beneath.machine_model.specs.Calls.{handle_of}
@@ -76,7 +76,7 @@ generation_kept was now (m, e) = ap generation_of e ∙ same was
 abbrev pub generation_under : (ℕ → State) → ℕ → Ref → ℕ
 generation_under states t r = generation_of (node_under states t r)
 
-pub generation_stays : (limits : Limits) (states : ℕ → State) (last : ℕ) → IsRun limits states last → (t u : ℕ) → t ≤ u → u ≤ last → (r : Ref) (slot : Slot) → grown states t r ≡ Some slot →
+pub generation_stays : (limits : Bounds) (states : ℕ → State) (last : ℕ) → IsRun limits states last → (t u : ℕ) → t ≤ u → u ≤ last → (r : Ref) (slot : Slot) → grown states t r ≡ Some slot →
     generation_under states u r ≡ generation_under states t r
 generation_stays limits states last run t u le within r slot e =
     let (now, found, same) = grown_stays limits states last run t u le within r slot e in

@@ -23,7 +23,7 @@ use Rattle.proof_generations.specs.Beneath.slot_arena.specs.Heaps.{taken, stored
 use Rattle.proof_generations.specs.Beneath.machine_model.specs.declared.lines.Line.{Line}
 use Rattle.proof_generations.specs.Beneath.machine_model.specs.declared.lines.Line.TheVariants as line
 use Rattle.proof_generations.specs.Beneath.machine_model.specs.declared.operations.Operation.{Operation}
-use Rattle.proof_generations.specs.Beneath.machine_model.specs.declared.steps.Limits.{Limits}
+use Rattle.proof_generations.specs.Beneath.machine_model.specs.declared.steps.Bounds.{Bounds}
 use Rattle.proof_generations.specs.Beneath.machine_model.specs.declared.steps.Outcome.{Outcome}
 use Rattle.proof_generations.specs.Beneath.machine_model.specs.declared.steps.Step.{Step}
 use Rattle.proof_generations.specs.Beneath.machine_model.specs.States.{State, first_state, first_heap, empty_heap}
@@ -32,7 +32,7 @@ use Rattle.proof_generations.specs.Beneath.machine_model.proofs.Actors.{mark_onl
 use Rattle.proof_generations.specs.Beneath.machine_model.proofs.Found.{none_found}
 use Rattle.proof_generations.specs.Beneath.machine_model.specs.Moves.{Moves}
 use Rattle.proof_generations.specs.Beneath.machine_model.proofs.Times.{along_run}
-use Rattle.proof_generations.specs.Beneath.machine_model.specs.Times.{turns}
+use Rattle.proof_generations.specs.Beneath.machine_model.specs.Times.{turns, noted_turn}
 use Rattle.proof_generations.specs.Beneath.machine_model.specs.Times.{IsRun, Turn}
 use Rattle.proof_generations.specs.Beneath.machine_model.specs.Grown.{standing, grown, node_under}
 use Rattle.proof_generations.specs.Beneath.proof_memory.proofs.Claims.Uses.{entries_same}
@@ -54,12 +54,15 @@ use Rattle.proof_generations.proofs.Falling.MainsNext.{mains_next}
 use Rattle.proof_generations.proofs.Falling.LinesNext.{lines_next}
 use Rattle.proof_generations.proofs.Falling.FreshRoots.{fresh_still, fresh_new}
 use Rattle.proof_generations.specs.Beneath.machine_model.proofs.Grown.{standing_parts}
+use Rattle.proof_generations.specs.Beneath.machine_model.specs.Records.{Record, noted, moment_at, noted_progress}
+use Rattle.proof_generations.specs.Beneath.machine_model.specs.Tellings.{told_in, progress_of}
+use Rattle.proof_generations.specs.Beneath.machine_model.proofs.Notes.{noted_going}
 
 -- all that is known at a time
-pub record AllFalls (states : ℕ → State) (last t : ℕ) : Type 0 where
-  pub mains : MainsFall states last t
-  pub lines : AllKnow states last t
-  pub fresh : FreshFall states last t
+pub record AllFalls (states : ℕ → State) (records : ℕ → Record) (last t : ℕ) : Type 0 where
+  pub mains : MainsFall states records last t
+  pub lines : AllKnow states records last t
+  pub fresh : FreshFall states records last t
 
 -- ---- at first
 
@@ -78,7 +81,7 @@ standing_entries : (slots : ℕ) (r : Ref) (slot : Slot) → standing (first_hea
 unfolding stored
 standing_entries slots r slot e = first_entries slots (slot_of r) slot ((standing_parts (first_heap slots) r slot e).0)
 
-module _ (limits : Limits) (states : ℕ → State) (last : ℕ) (run : IsRun limits states last) where
+module _ (limits : Bounds) (states : ℕ → State) (last : ℕ) (run : IsRun limits states last) where
   made_entries : (m : Ref) (o : Option Slot) → grown states zero m ≡ o → is_some o ≡ true → entries_of (node_under states last m) ≡ []
   unfolding grown first_state
   made_entries m None e made = absurd (true≢false (sym made))
@@ -86,21 +89,21 @@ module _ (limits : Limits) (states : ℕ → State) (last : ℕ) (run : IsRun li
       entries_same slot.node (node_under states last m) (made_same limits states last run zero (omega arith) m slot e)
       ∙ standing_entries limits.slots m slot (ap (λ (s : State). standing s.heap m) (sym run.first) ∙ e)
 
-  no_entries : (i m : Ref) → Stood (words states last) zero i m → entries_of (node_under states last m) ≡ []
+  no_entries : (i m : Ref) → Stood (words states run.records last) zero i m → entries_of (node_under states last m) ≡ []
   no_entries i m stood = made_entries m (grown states zero m) refl ((sound_at (protocol_of limits states last run) zero (omega arith)).words.made i m stood)
 
   none_runs : (k : ℕ) (operation : Operation) → Runs (states zero) k operation → ⊥
   unfolding first_state
   none_runs k operation runs = none_found limits.actors k operation (ap (λ (s : State). get_or s.actors k None) (sym run.first) ∙ runs)
 
-  nothing_below : (P : Ref → Type 0) (i m : Ref) → Stood (words states last) zero i m → All P (entries_of (node_under states last m))
+  nothing_below : (P : Ref → Type 0) (i m : Ref) → Stood (words states run.records last) zero i m → All P (entries_of (node_under states last m))
   nothing_below P i m stood = subst (All P) (sym (no_entries i m stood)) (All-nil P)
 
-  all_at_first : AllFalls states last zero
+  all_at_first : AllFalls states run.records last zero
   all_at_first = record {
     mains = record {
       older = λ i m stood. nothing_below (NotNewer states last (gen_of states last i)) i m stood;
-      falls = λ i m stood was. nothing_below (FitsBelow states last zero (gen_of states last i)) i m stood;
+      falls = λ i m stood was. nothing_below (FitsBelow states run.records last zero (gen_of states last i)) i m stood;
     };
     lines = λ k operation runs. absurd (none_runs k operation runs);
     fresh = λ k operation x r runs. absurd (none_runs k operation runs);
@@ -112,7 +115,8 @@ module _ (limits : Limits) (states : ℕ → State) (last : ℕ) (run : IsRun li
   fresh_inner (line.Copy l) x r e = tt
   fresh_inner l x r e = absurd (none-some r e)
 
-  module _ (t : ℕ) (lt : t < last) (all : AllFalls states last t) (mains : MainsFall states last (suc t)) (s : Step) (o : Outcome) (m : Moves (states t) s o (states (suc t))) where
+  module _ (t : ℕ) (lt : t < last) (all : AllFalls states run.records last t) (mains : MainsFall states run.records last (suc t)) (s : Step) (o : Outcome) (m : Moves (states t) s o (states (suc t)))
+      (notes : run.records (suc t) ≡ noted (run.records t) (states t).steps (told_in (states t) s)) where
     -- an operation that isn't marked after its step wasn't before it
     unmarked_then : (k : ℕ) (found was : Operation) → Comes (states t) s k found → s ≡ step.Go (suc k) → Runs (states t) k was → found.is_marked ≡ false → was.is_marked ≡ false
     unmarked_then k found was c go at_was e =
@@ -125,28 +129,32 @@ module _ (limits : Limits) (states : ℕ → State) (last : ℕ) (run : IsRun li
     -- below the root that a line makes falls what stands below the operation's
     root_falls : (k : ℕ) (was : Operation) (x : Bool) (r main : Ref) (runs : Runs (states t) k was) → GoesOn (action_of (states t) was) →
         (go : s ≡ step.Go (suc k)) → action_of (states t) was ≡ act.MakeRoot main → next_ref (states t).heap ≡ Some r →
-        (access : Access) → was.access ≡ access → (found : Operation) → found.generation ≡ generation_from (states t) was was.line → FreshFalls states last (suc t) found r
+        (access : Access) → was.access ≡ access → (found : Operation) → found.generation ≡ generation_from (states t) was was.line → FreshFalls states run.records last (suc t) found r
     root_falls k was x r main runs g go makes_it takes Writable w found same =
         let made = ap (made_node (states t)) makes_it in
         let inner = makes_inner (states t) was was.line (Indirection (states t).generations main) made in
         let (start, begun, known) = (all.lines k was runs).0 w inner in
         let below = made_root limits states last run t lt k was runs start begun known main makes_it in
-        fresh_new limits states last run t lt all.lines k was r main runs o (subst (λ x. Moves (states t) x o (states (suc t))) go m) g mains makes_it takes start begun below found
+        let goes_noted : run.records (suc t) ≡ noted_progress (run.records t) (states t).steps (suc k) (progress_of (states t) was) =
+        notes ∙ ap (λ q. noted (run.records t) (states t).steps (told_in (states t) q)) go ∙ noted_going (states t) (run.records t) (suc k) was _ runs refl g in
+        fresh_new limits states last run t lt all.lines k was r main runs o (subst (λ x. Moves (states t) x o (states (suc t))) go m) g mains makes_it takes goes_noted start begun below found
         (same ∙ inner_generation (states t) was was.line inner)
     root_falls k was x r main runs g go makes_it takes ReadOnly w found same =
-        absurd (reader_makes (Ends states last t) (Shut states last t) (LateEnd states last t was) (states t) was was.line (Indirection (states t).generations main) ((all.lines k was runs).1 w)
+        absurd (reader_makes (Ends states run.records last t) (Shut states run.records last t) (LateEnd states run.records last t (moment_at (run.records t) (suc k)))
+        (states t) was was.line (Indirection (states t).generations main) ((all.lines k was runs).1 w)
         (ap (made_node (states t)) makes_it))
 
     went_falls : (k : ℕ) (was found : Operation) (x : Bool) (r : Ref) → (runs : Runs (states t) k was) → GoesOn (action_of (states t) was) → s ≡ step.Go (suc k) → was.is_marked ≡ false →
-        found.generation ≡ generation_from (states t) was was.line → FreshFrom (states t) was was.line x r → FreshFalls states last (suc t) found r
+        found.generation ≡ generation_from (states t) was was.line → FreshFrom (states t) was was.line x r → FreshFalls states run.records last (suc t) found r
     went_falls k was found x r runs g go unmarked same (had e) =
         fresh_still limits states last run t lt all.lines k was x r runs unmarked e (all.fresh k was x r runs unmarked e) found
         (same ∙ inner_generation (states t) was was.line (fresh_inner was.line x r e))
     went_falls k was found x r runs g go unmarked same (new main makes_it takes side) = root_falls k was x r main runs g go makes_it takes was.access refl found same
 
-    fresh_by : (k : ℕ) (found : Operation) (x : Bool) (r : Ref) → Comes (states t) s k found → found.is_marked ≡ false → fresh_in x found.line ≡ Some r → FreshFalls states last (suc t) found r
+    fresh_by : (k : ℕ) (found : Operation) (x : Bool) (r : Ref) → Comes (states t) s k found → found.is_marked ≡ false → fresh_in x found.line ≡ Some r →
+        FreshFalls states run.records last (suc t) found r
     fresh_by k found x r (began call is d it) unmarked e = absurd (first_none call x r (ap (λ (y : Operation). fresh_in x y.line) (sym it) ∙ e))
-    fresh_by k found x r (rested was runs it) unmarked e =
+    fresh_by k found x r (rested was runs it other_step) unmarked e =
         let same = it ∙ mark_only (marks_in (states t) s) was in
         let open_then = unmarked_before (marks_in (states t) s) was (ap (λ (y : Operation). y.is_marked) (sym it) ∙ unmarked) in
         let has = ap (λ (y : Operation). fresh_in x y.line) (sym same) ∙ e in
@@ -156,16 +164,17 @@ module _ (limits : Limits) (states : ℕ → State) (last : ℕ) (run : IsRun li
         went_falls k was found x r runs g is (unmarked_then k found was (went was is runs g it) is runs unmarked) (ap (λ (y : Operation). y.generation) same)
         (fresh_from (states t) was was.line x r (ap (λ (y : Operation). fresh_in x y.line) (sym same) ∙ e))
 
-    all_next : AllFalls states last (suc t)
+    all_next : AllFalls states run.records last (suc t)
     all_next = record {
       mains = mains;
-      lines = lines_next limits states last run t lt all.lines mains s o m;
+      lines = lines_next limits states last run t lt all.lines mains s o m notes;
       fresh = λ k found x r runs. fresh_by k found x r (comes (states t) s o (states (suc t)) m k found runs);
     }
 
-  all_turn : (t : ℕ) → t < last → Turn (states t) (states (suc t)) → AllFalls states last t → AllFalls states last (suc t)
-  all_turn t lt (turns s o m) all = all_next t lt all (mains_next limits states last run t lt all.lines all.mains all.fresh) s o m
+  all_turn : (t : ℕ) → t < last → (turn : Turn (states t) (states (suc t))) → run.records (suc t) ≡ noted_turn turn (run.records t) → AllFalls states run.records last t →
+      AllFalls states run.records last (suc t)
+  all_turn t lt (turns s o m) notes all = all_next t lt all (mains_next limits states last run t lt all.lines all.mains all.fresh) s o m notes
 
   -- at each time
-  pub all_falls : (t : ℕ) → t ≤ last → AllFalls states last t
-  all_falls = along_run limits states last run (λ t. AllFalls states last t) all_at_first all_turn
+  pub all_falls : (t : ℕ) → t ≤ last → AllFalls states run.records last t
+  all_falls = along_run limits states last run (λ t. AllFalls states run.records last t) all_at_first (λ t lt turn all. all_turn t lt (run.turn t lt) (run.recorded t lt) all)

@@ -3,7 +3,7 @@ use Rattle.std.proofs.Common.{◌≡◌, ℕ, zero, suc, ◌<◌, ◌≤◌, Boo
 use Rattle.proof_generations.specs.Beneath.slot_arena.specs.declared.refs.Ref.{Ref}
 use Rattle.proof_generations.specs.Beneath.slot_arena.specs.declared.nodes.Slot.{Slot}
 use Rattle.proof_generations.specs.Beneath.machine_model.specs.declared.operations.Operation.{Operation}
-use Rattle.proof_generations.specs.Beneath.machine_model.specs.declared.steps.Limits.{Limits}
+use Rattle.proof_generations.specs.Beneath.machine_model.specs.declared.steps.Bounds.{Bounds}
 use Rattle.proof_generations.specs.Beneath.machine_model.specs.States.{State, operation_of, root_of}
 use Rattle.proof_generations.specs.Beneath.machine_model.specs.Times.{turns}
 use Rattle.proof_generations.specs.Beneath.machine_model.specs.Times.{IsRun, Turn}
@@ -34,7 +34,7 @@ unfolding grown
 was_in_use states zero r slot e = (zero, omega arith, (slot, e))
 was_in_use states (suc t) r slot e = stood_by states t r slot (standing (states (suc t)).heap r) refl e (was_in_use states t r)
 
-module _ (limits : Limits) (states : ℕ → State) (last : ℕ) (run : IsRun limits states last) where
+module _ (limits : Bounds) (states : ℕ → State) (last : ℕ) (run : IsRun limits states last) where
   counted_by : (t : ℕ) → Turn (states t) (states (suc t)) → (states t).generations ≤ (states (suc t)).generations
   counted_by t (turns s o m) = counter_rises (states t) s o (states (suc t)) m
 

@@ -15,18 +15,16 @@ use Rattle.proof_generations.specs.Beneath.machine_model.specs.declared.repairs.
 use Rattle.proof_generations.specs.Beneath.machine_model.specs.declared.repairs.RenewLine.{RenewLine}
 use Rattle.proof_generations.specs.Beneath.machine_model.specs.declared.repairs.RenewLine.TheVariants as renew
 use Rattle.proof_generations.specs.Beneath.machine_model.specs.declared.roots.RootLine.TheVariants as root
-use Rattle.proof_generations.specs.Beneath.machine_model.specs.declared.steps.Limits.{Limits}
+use Rattle.proof_generations.specs.Beneath.machine_model.specs.declared.steps.Bounds.{Bounds}
 use Rattle.proof_generations.specs.Beneath.machine_model.specs.declared.walking.WalkLine.{WalkLine}
 use Rattle.proof_generations.specs.Beneath.machine_model.specs.declared.walking.WalkLine.TheVariants as walk
 use Rattle.proof_generations.specs.Beneath.machine_model.specs.Calls.{handle_of}
 use Rattle.proof_generations.specs.Beneath.machine_model.specs.States.{State, word_at}
-use Rattle.proof_generations.specs.Beneath.machine_model.specs.Operations.{read_of}
-use Rattle.proof_generations.specs.Beneath.machine_model.specs.Orders.{moment_after, read_at_after}
+use Rattle.proof_generations.specs.Beneath.machine_model.specs.Operations.{read_of, action_of}
 use Rattle.proof_generations.specs.Beneath.machine_model.specs.Reading.{read_after}
 use Rattle.proof_generations.specs.Beneath.machine_model.specs.Times.{IsRun}
 use Rattle.proof_generations.specs.Beneath.machine_model.specs.Grown.{grown, main_before}
 use Rattle.proof_commits.proofs.Course.Finals.{link_stays}
-use Rattle.proof_commits.proofs.Course.Moments.{moment_at}
 use Rattle.proof_commits.proofs.Course.Readings.{given_for_good}
 use Rattle.proof_commits.specs.Moments.{IsMoment}
 use Rattle.proof_commits.specs.Stages.{stage_of}
@@ -39,12 +37,20 @@ use Rattle.proof_generations.proofs.Falling.KnownRoots.{words, known, protocol_o
 use Rattle.proof_generations.proofs.Falling.Opened.{closed_until}
 use Rattle.proof_generations.proofs.Lines.Knows.{Knows, IsInner, KnowsRenew, KnowsClean}
 use Rattle.proof_generations.proofs.Lines.Reader.{KnowsReader, ReaderKey, ReaderWalk}
-use Rattle.proof_generations.proofs.Falling.ReadsGive.{gone_is, reads_on, late_after}
+use Rattle.proof_generations.proofs.Falling.ReadsGive.{late_after, reads_goes}
 use Rattle.proof_generations.proofs.Falling.Runs.{gen_of, IsOwn, FitsBelow, FallsBelow, LateBelow, Ends, Shut, LateEnd, KnowsGenerations}
 use Rattle.proof_generations.proofs.Falling.OwnSwaps.{knows_at}
 use Rattle.proof_contents.specs.Lines.Repairs.{ReadsBelow}
 use Rattle.proof_commits.proofs.Words.OfRuns.{link_made}
 use Rattle.proof_commits.proofs.Course.OfLists.{given_read}
+use Rattle.proof_generations.specs.Beneath.machine_model.specs.Records.{moment_after, moment_at, noted_progress}
+use Rattle.proof_generations.specs.Beneath.machine_model.specs.declared.records.Moment.{Moment}
+use Rattle.proof_generations.specs.Beneath.machine_model.specs.Moves.{GoesOn}
+use Rattle.proof_generations.specs.Beneath.machine_model.specs.Machine.{is_actor}
+use Rattle.proof_generations.specs.Beneath.machine_model.specs.Tellings.{progress_of}
+use Rattle.proof_generations.specs.Beneath.machine_model.proofs.Notes.{noted_going}
+use Rattle.proof_generations.specs.Beneath.machine_model.proofs.Alike.{go_actor, moment_goes, not_denied, alike}
+use Rattle.proof_commits.proofs.Course.Moments.{moment_noted}
 
 -- ---- what lines say of their READs
 
@@ -117,67 +123,85 @@ below_inner (line.Walk l) b = absurd b
 below_inner (line.End answer) b = absurd b
 below_inner line.Impossible b = absurd b
 
-module _ (limits : Limits) (states : ℕ → State) (last : ℕ) (run : IsRun limits states last) where
+module _ (limits : Bounds) (states : ℕ → State) (last : ℕ) (run : IsRun limits states last) where
   -- ---- closed before
 
-  closed_by : (t : ℕ) (operation : Operation) (r : Read) → read_of operation.line ≡ Some r → KnowsGenerations states last t operation → (access : Access) → operation.access ≡ access →
-      ReadsClosed operation (gen_of states last r.indirection) → IsLate states t operation r (gen_of states last r.indirection)
-  closed_by t operation r e knows ReadOnly w closed = (reader_late (Ends states last t) (Shut states last t) (LateEnd states last t operation) operation.line r (knows.1 w) e).1
-  closed_by t operation r e knows Writable w (inl read_only) = let wrong : ⊥ = (let both : Writable ≡ ReadOnly = sym w ∙ read_only in cc both) in absurd wrong
-  closed_by t operation r e knows Writable w (inr (below, other)) =
+  closed_by : (t : ℕ) (x : Moment) (operation : Operation) (r : Read) → read_of operation.line ≡ Some r → KnowsGenerations states run.records last t x operation →
+      (access : Access) → operation.access ≡ access →
+      ReadsClosed operation (gen_of states last r.indirection) → IsLate run.records t x r (gen_of states last r.indirection)
+  closed_by t x operation r e knows ReadOnly w closed = (reader_late (Ends states run.records last t) (Shut states run.records last t)
+      (LateEnd states run.records last t x) operation.line r (knows.1 w) e).1
+  closed_by t x operation r e knows Writable w (inl read_only) = let wrong : ⊥ = (let both : Writable ≡ ReadOnly = sym w ∙ read_only in cc both) in absurd wrong
+  closed_by t x operation r e knows Writable w (inr (below, other)) =
       let (g, begun, known) = knows.0 w (below_inner operation.line below) in
-      (below_late (IsOwn states last g) (FitsBelow states last t g) (FallsBelow states last t g) (LateBelow states last t operation g) operation.line r below known e).2
+      (below_late (IsOwn states last g) (FitsBelow states run.records last t g) (FallsBelow states run.records last t g) (LateBelow states run.records last t x g) operation.line r below known e).2
       (λ same. other (begun ∙ ap (λ x. Some x) (sym same)))
 
-  pub closed_before_read : ClosedBeforeRead states last
-  closed_before_read t within actor operation r is e closed = closed_by t operation r e (knows_at limits states last run t within actor operation is) operation.access refl closed
+  pub closed_before_read : ClosedBeforeRead states run.records last
+  closed_before_read t within actor operation r is e closed = closed_by t (moment_at (run.records t) actor) operation r e
+      (knows_at limits states last run t within actor operation is) operation.access refl closed
 
   -- ---- what is given
 
   -- the main node that counts in the words is that of the trie
-  counts_in_trie : (t : ℕ) → t ≤ last → (i m : Ref) → (words states last).link t i ≡ true → main_before states t i ≡ m → counting_main states last t i ≡ m
+  counts_in_trie : (t : ℕ) → t ≤ last → (i m : Ref) → (words states run.records last).link t i ≡ true → main_before states t i ≡ m → counting_main states last t i ≡ m
   counts_in_trie t within i m link is = counting_main-made states last t i (link_made (grown states t i) link) ∙ is
 
-  module _ (t : ℕ) (lt : t < last) (actor : ℕ) (operation : Operation) (i m : Ref) (g : GivesAt states t actor operation i m) where
+  module _ (t : ℕ) (lt : t < last) (actor : ℕ) (operation : Operation) (i m : Ref) (g : GivesAt states run.records t actor operation i m) where
+    goes : GoesOn (action_of (states t) operation)
+    goes = reads_goes limits states last run t lt actor operation g.runs g.read (reads_stage operation.line g.read g.no_swap g.reads)
+
+    noted : run.records (suc t) ≡ noted_progress (run.records t) (states t).steps actor (progress_of (states t) operation)
+    noted = g.notes ∙ noted_going (states t) (run.records t) actor operation _ g.runs refl goes
+
+    -- what is known of its READs behind the step
+    abbrev now_read : Moment
+    now_read = moment_at (run.records (suc t)) actor
+
+    own : is_actor (states t) actor ≡ true
+    own = go_actor (states t) actor (not_denied g.moves)
+
     own_stage : stage_of operation.line ≡ Reads g.read.indirection g.read.line
     own_stage = reads_stage operation.line g.read g.no_swap g.reads
 
-    moment : IsMoment (words states last) i m (read_at_after (states t) operation) (moment_after (states t) operation) t
+    moment : IsMoment (words states run.records last) i m now_read.read_at now_read.moment t
     moment =
-        subst (λ j. IsMoment (words states last) j m (read_at_after (states t) operation) (moment_after (states t) operation) t) g.of
-        (moment_at limits states last (known limits states last run) t lt actor operation g.outcome g.moves g.runs
-        (gone_is (states t) actor g.outcome (states (suc t)) g.moves operation g.runs
-        (reads_on limits states last run t lt actor operation g.runs g.read own_stage)) g.read.indirection g.read.line own_stage m
-        (given_read g.read.indirection (read_after (states t).heap operation.access (word_at (states t) (handle_of operation.call)) g.read.indirection g.read.line) m g.gives))
+        subst (λ j. IsMoment (words states run.records last) j m now_read.read_at now_read.moment t) g.of
+        (subst (λ (x : Moment). IsMoment (words states run.records last) g.read.indirection m x.read_at x.moment t) told
+        (moment_noted limits states last (known limits states last run) t lt actor operation g.outcome g.moves g.runs noted g.read.indirection g.read.line own_stage m
+        (given_read g.read.indirection (read_after (states t).heap operation.access (word_at (states t) (handle_of operation.call)) g.read.indirection g.read.line) m g.gives)))
+      where
+        told : moment_after (run.records t) (states t).steps (progress_of (states t) operation) (moment_at (run.records t) actor) ≡ now_read
+        told = sym (ap (λ past. moment_at past actor) noted ∙ moment_goes (states t) (run.records t) actor operation (alike limits states last run t (omega arith)) own)
 
     -- the indirection is one from what the READ counts from on
-    link_from : (u : ℕ) → moment_after (states t) operation < u → u ≤ last → (words states last).link u i ≡ true
+    link_from : (u : ℕ) → now_read.moment < u → u ≤ last → (words states run.records last).link u i ≡ true
     link_from u after within =
-        link_stays (protocol_of limits states last run) i (suc (read_at_after (states t) operation)) u (omega (arith, moment.from, after)) within moment.link
+        link_stays (protocol_of limits states last run) i (suc now_read.read_at) u (omega (arith, moment.from, after)) within moment.link
 
     -- what was closed before the READ is final
-    final : ReadsClosed operation (gen_of states last i) → (u : ℕ) → moment_after (states t) operation < u → u ≤ last → counting_main states last u i ≡ m
+    final : ReadsClosed operation (gen_of states last i) → (u : ℕ) → now_read.moment < u → u ≤ last → counting_main states last u i ≡ m
     final closed u after within =
         let late = closed_before_read t (omega arith) actor operation g.read g.runs g.reads (subst (λ j. ReadsClosed operation (gen_of states last j)) (sym g.of) closed) in
-        let (c, before, is, since) = subst (λ j. IsLate states t operation g.read (gen_of states last j)) g.of late in
+        let (c, before, is, since) = subst (λ j. IsLate run.records t (moment_at (run.records t) actor) g.read (gen_of states last j)) g.of late in
         counts_in_trie u within i m (link_from u after within)
-        (given_for_good (protocol_of limits states last run) i m (read_at_after (states t) operation) (moment_after (states t) operation) t c lt moment
+        (given_for_good (protocol_of limits states last run) i m now_read.read_at now_read.moment t c lt moment
         (closed_until limits states last run t last (omega arith) (omega arith) (gen_of states last i) c is)
-        (late_after limits states last run t lt actor operation g.runs g.read own_stage c before since) u after within)
+        (late_after limits states last run t lt actor operation g.runs g.read own_stage noted own c before since) u after within)
 
-    once : (moment_after (states t) operation ≤ t) × (counting_main states last (suc (moment_after (states t) operation)) i ≡ m)
+    once : (now_read.moment ≤ t) × (counting_main states last (suc now_read.moment) i ≡ m)
     once = (
       moment.past,
-      counts_in_trie (suc (moment_after (states t) operation)) (omega (arith, moment.past)) i m
-          (link_from (suc (moment_after (states t) operation)) (omega arith) (omega (arith, moment.past))) moment.is,
+      counts_in_trie (suc now_read.moment) (omega (arith, moment.past)) i m
+          (link_from (suc now_read.moment) (omega arith) (omega (arith, moment.past))) moment.is,
     )
 
-  pub given_for_ever : GivenForEver states last
+  pub given_for_ever : GivenForEver states run.records last
   given_for_ever t lt actor operation i m g closed u after within = final t lt actor operation i m g closed u after within
 
-  pub repairs_are_given : RepairsAreGiven states last
+  pub repairs_are_given : RepairsAreGiven states run.records last
   repairs_are_given t lt actor operation h i m g begun below =
       let (past, is) = once t lt actor operation i m g in (
-        (suc (moment_after (states t) operation), omega (arith, past), is),
+        (suc (now_read t lt actor operation i m g).moment, omega (arith, past), is),
         λ other. final t lt actor operation i m g (inr (below, λ same. other (same_Some _ _ (sym same ∙ begun)))) last (omega (arith, past)) (omega arith),
       )

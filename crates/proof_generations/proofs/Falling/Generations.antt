@@ -4,7 +4,7 @@ use Rattle.std.specs.List.{All}
 use Rattle.std.proofs.lemmas.List.Elements.{All-contains, All-nil}
 use Rattle.proof_generations.specs.Beneath.slot_arena.specs.declared.refs.Ref.{Ref}
 use Rattle.proof_generations.specs.Beneath.slot_arena.specs.Heaps.{entries_of}
-use Rattle.proof_generations.specs.Beneath.machine_model.specs.declared.steps.Limits.{Limits}
+use Rattle.proof_generations.specs.Beneath.machine_model.specs.declared.steps.Bounds.{Bounds}
 use Rattle.proof_generations.specs.Beneath.machine_model.specs.States.{State}
 use Rattle.proof_generations.specs.Beneath.machine_model.specs.Times.{IsRun}
 use Rattle.proof_generations.specs.Beneath.machine_model.specs.Grown.{node_under, main_before}
@@ -19,10 +19,10 @@ use Rattle.proof_generations.proofs.Falling.NoRef.{no_node, no_main_before, coun
 use Rattle.proof_generations.proofs.Falling.Along.{all_falls}
 use Rattle.proof_generations.specs.Beneath.proof_memory.specs.Wants.{is_indirection}
 
-module _ (limits : Limits) (states : ℕ → State) (last : ℕ) (run : IsRun limits states last) where
+module _ (limits : Bounds) (states : ℕ → State) (last : ℕ) (run : IsRun limits states last) where
   -- the main node that counts stood in the word
-  pub main_stood : (t : ℕ) → t ≤ last → (i : Ref) → (words states last).link t i ≡ true → Stood (words states last) t i (main_before states t i)
-  main_stood t within i link = (main_decided (words states last) t (sound_at (protocol_of limits states last run) t within).words i link).stood
+  pub main_stood : (t : ℕ) → t ≤ last → (i : Ref) → (words states run.records last).link t i ≡ true → Stood (words states run.records last) t i (main_before states t i)
+  main_stood t within i link = (main_decided (words states run.records last) t (sound_at (protocol_of limits states last run) t within).words i link).stood
 
   -- ---- in the trie
 

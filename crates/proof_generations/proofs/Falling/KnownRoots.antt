@@ -5,8 +5,8 @@ use Rattle.std.proofs.lemmas.Option.{none-some}
 use Rattle.proof_generations.specs.Beneath.machine_model.specs.declared.lines.Line.{Line}
 use Rattle.proof_generations.specs.Beneath.machine_model.specs.declared.lines.Line.TheVariants as line
 use Rattle.proof_generations.specs.Beneath.machine_model.specs.declared.reading.Read.{Read}
-use Rattle.proof_generations.specs.Beneath.machine_model.specs.declared.steps.Limits.{Limits}
-use Rattle.proof_generations.specs.Beneath.machine_model.specs.States.{State, closed_at}
+use Rattle.proof_generations.specs.Beneath.machine_model.specs.declared.steps.Bounds.{Bounds}
+use Rattle.proof_generations.specs.Beneath.machine_model.specs.States.{State}
 use Rattle.proof_generations.specs.Beneath.machine_model.specs.Operations.{read_of}
 use Rattle.proof_generations.specs.Beneath.machine_model.proofs.Times.{run_is}
 use Rattle.proof_generations.specs.Beneath.machine_model.specs.Times.{IsRun, states_of, last_of}
@@ -18,13 +18,14 @@ use Rattle.proof_commits.proofs.Known.Acts.{known_by}
 use Rattle.proof_commits.specs.Words.{words_of}
 use Rattle.proof_commits.proofs.Words.Along.{protocol}
 use Rattle.proof_commits.proofs.Course.OfLists.{RootsOfRuns}
+use Rattle.proof_generations.specs.Beneath.machine_model.specs.Records.{closed_at, Record}
 
 -- who is in a READ isn't at the end
 pub reads_on : (l : Line) (r : Read) → read_of l ≡ Some r → is_end l ≡ false
 reads_on (line.End answer) r e = absurd (none-some r e)
 reads_on l r e = refl
 
-pub roots_are_open : (limits : Limits) (states : ℕ → State) (last : ℕ) → IsRun limits states last → RootsAreOpen states last (λ g. closed_at (states last) g)
+pub roots_are_open : (limits : Bounds) (states : ℕ → State) (last : ℕ) (run : IsRun limits states last) → RootsAreOpen states last (λ g. closed_at (run.records last) g)
 roots_are_open limits states last run t h actor operation is i main previous reads writable q word c closed =
     open_root limits states last run t (omega arith) actor operation is (reads_on operation.line _ reads) writable q word c closed
 
@@ -32,11 +33,11 @@ pub roots_of_runs : RootsOfRuns
 roots_of_runs limits steps ok = roots_are_open limits (states_of limits steps) (last_of limits steps) (run_is limits steps ok)
 
 -- the words of a run with the closings, and their protocol
-abbrev pub known : (limits : Limits) (states : ℕ → State) (last : ℕ) → IsRun limits states last → Known limits states last
-known limits states last run = known_by limits states last run (λ g. closed_at (states last) g) (roots_are_open limits states last run)
+abbrev pub known : (limits : Bounds) (states : ℕ → State) (last : ℕ) → IsRun limits states last → Known limits states last
+known limits states last run = known_by limits states last run (λ g. closed_at (run.records last) g) (roots_are_open limits states last run)
 
-abbrev pub words : (ℕ → State) → ℕ → Words
-words states last = words_of states last (λ g. closed_at (states last) g)
+abbrev pub words : (ℕ → State) → (ℕ → Record) → ℕ → Words
+words states records last = words_of states records last (λ g. closed_at (records last) g)
 
-abbrev pub protocol_of : (limits : Limits) (states : ℕ → State) (last : ℕ) → IsRun limits states last → Protocol
+abbrev pub protocol_of : (limits : Bounds) (states : ℕ → State) (last : ℕ) → IsRun limits states last → Protocol
 protocol_of limits states last run = protocol limits states last (known limits states last run)

@@ -15,7 +15,7 @@ use Rattle.proof_generations.specs.Beneath.machine_model.specs.declared.reading.
 use Rattle.proof_generations.specs.Beneath.machine_model.specs.declared.reading.Read.{Read}
 use Rattle.proof_generations.specs.Beneath.machine_model.specs.declared.roots.RootLine.{RootLine}
 use Rattle.proof_generations.specs.Beneath.machine_model.specs.declared.roots.RootWord.TheVariants.{Plain}
-use Rattle.proof_generations.specs.Beneath.machine_model.specs.declared.steps.Limits.{Limits}
+use Rattle.proof_generations.specs.Beneath.machine_model.specs.declared.steps.Bounds.{Bounds}
 use Rattle.proof_generations.specs.Beneath.machine_model.specs.declared.steps.Outcome.{Outcome}
 use Rattle.proof_generations.specs.Beneath.machine_model.specs.declared.steps.Step.{Step}
 use Rattle.proof_generations.specs.Beneath.machine_model.specs.declared.steps.Step.TheVariants as step
@@ -46,6 +46,11 @@ use Rattle.proof_generations.proofs.Lines.Reader.{KnowsReader}
 use Rattle.proof_generations.proofs.Falling.Runs.{IsOwn, FitsBelow, FallsBelow, LateBelow, Ends, Shut, LateEnd, MainsFall, AllKnow, KnowsGenerations, KnowsWritable, knows_next, marked_knows}
 use Rattle.proof_generations.proofs.Lines.OwnKnows.{inner_knows, inner_generation}
 use Rattle.proof_generations.proofs.Lines.ReaderKnows.{reader_knows, going_on, root_claim}
+use Rattle.proof_generations.specs.Beneath.machine_model.specs.Records.{noted_progress, noted, moment_at}
+use Rattle.proof_generations.specs.Beneath.machine_model.specs.declared.records.Moment.{Moment}
+use Rattle.proof_generations.specs.Beneath.machine_model.specs.Tellings.{progress_of, told_in}
+use Rattle.proof_generations.specs.Beneath.machine_model.proofs.Alike.{moment_rests}
+use Rattle.proof_generations.specs.Beneath.machine_model.proofs.Notes.{noted_going}
 
 -- ---- lines that know nothing
 
@@ -84,9 +89,18 @@ first_reader Ends Shut Late call = tt
 
 -- ---- ROOT
 
-module _ (limits : Limits) (states : ℕ → State) (last : ℕ) (run : IsRun limits states last) (t : ℕ) (lt : t < last) (know : AllKnow states last t) (mains : MainsFall states last (suc t)) where
+module _ (limits : Bounds) (states : ℕ → State) (last : ℕ) (run : IsRun limits states last) (t : ℕ) (lt : t < last) (know : AllKnow states run.records last t)
+    (mains : MainsFall states run.records last (suc t)) where
   module _ (k : ℕ) (operation : Operation) (runs : Runs (states t) k operation) (o : Outcome) (moves : Moves (states t) (step.Go (suc k)) o (states (suc t)))
-      (goes : GoesOn (action_of (states t) operation)) where
+      (goes : GoesOn (action_of (states t) operation))
+      (noted : run.records (suc t) ≡ noted_progress (run.records t) (states t).steps (suc k) (progress_of (states t) operation)) where
+    -- what is known of its READs, before the step and after it
+    abbrev was_read : Moment
+    was_read = moment_at (run.records t) (suc k)
+
+    abbrev now_read : Moment
+    now_read = moment_at (run.records (suc t)) (suc k)
+
     abbrev now : Operation
     now = operation_after (states t) operation
 
@@ -102,7 +116,8 @@ module _ (limits : Limits) (states : ℕ → State) (last : ℕ) (run : IsRun li
     abbrev KnowsAfter : After RootLine Ref → Type 0
     KnowsAfter a =
         IsInner (after_root operation a) → (g : ℕ) × (given_root (states t) a operation.generation ≡ Some g)
-        × Knows (IsOwn states last g) (FitsBelow states last (suc t) g) (FallsBelow states last (suc t) g) (LateBelow states last (suc t) now g) (after_root operation a)
+        × Knows (IsOwn states last g) (FitsBelow states run.records last (suc t) g) (FallsBelow states run.records last (suc t) g)
+        (LateBelow states run.records last (suc t) now_read g) (after_root operation a)
 
     root_knows : (l : RootLine) (a : After RootLine Ref) → root_after (states t).heap operation.access (word_at (states t) (handle_of operation.call)) l ≡ a → KnowsAfter a
     root_knows l (Continues next) e i = absurd i
@@ -111,19 +126,22 @@ module _ (limits : Limits) (states : ℕ → State) (last : ℕ) (run : IsRun li
         let own : IsOwn states last g r = used_generation limits states last run t (omega arith) r (root_found r (root_given (states t) operation l r e)) in (
           g,
           refl,
-          root_falls (states t) operation (IsOwn states last g) (FitsBelow states last (suc t) g) (FallsBelow states last (suc t) g) (LateBelow states last (suc t) now g) (Gives r)
+          root_falls (states t) operation (IsOwn states last g) (FitsBelow states run.records last (suc t) g) (FallsBelow states run.records last (suc t) g)
+              (LateBelow states run.records last (suc t) now_read g) (Gives r)
               (λ q same. let one : r ≡ q = cc same in subst (IsOwn states last g) one own),
         )
 
-    inner_by : (w : operation.access ≡ Writable) → IsInner operation.line → KnowsWritable states last t operation → KnowsWritable states last (suc t) now
+    inner_by : (w : operation.access ≡ Writable) → IsInner operation.line → KnowsWritable states run.records last t was_read operation → KnowsWritable states run.records last (suc t) now_read now
     inner_by w inner knows i =
         let (g, begun, known) = knows inner in
-        (g, inner_generation (states t) operation operation.line inner ∙ begun, inner_knows limits states last run t lt mains k operation runs o moves goes w inner g begun known)
+        (g, inner_generation (states t) operation operation.line inner ∙ begun, inner_knows limits states last run t lt mains k operation runs o moves goes noted w inner g begun known)
 
-    writable_by : (l : Line) → operation.line ≡ l → operation.access ≡ Writable → KnowsWritable states last t operation → KnowsWritable states last (suc t) now
+    writable_by : (l : Line) → operation.line ≡ l → operation.access ≡ Writable → KnowsWritable states run.records last t was_read operation →
+        KnowsWritable states run.records last (suc t) now_read now
     writable_by (line.Root l) is w knows i =
         subst (λ x. IsInner (line_after (states t) operation x) → (g : ℕ) × (generation_from (states t) operation x ≡ Some g)
-        × Knows (IsOwn states last g) (FitsBelow states last (suc t) g) (FallsBelow states last (suc t) g) (LateBelow states last (suc t) now g) (line_after (states t) operation x)) (sym is)
+        × Knows (IsOwn states last g) (FitsBelow states run.records last (suc t) g) (FallsBelow states run.records last (suc t) g)
+        (LateBelow states run.records last (suc t) now_read g) (line_after (states t) operation x)) (sym is)
         (root_knows l (root_after (states t).heap operation.access (word_at (states t) (handle_of operation.call)) l) refl) i
     writable_by (line.Walk l) is w knows i = absurd (walk_not_inner (states t) operation l (subst (λ x. IsInner (line_after (states t) operation x)) is i))
     writable_by (line.End answer) is w knows i = absurd (subst (λ x. IsInner (line_after (states t) operation x)) is i)
@@ -136,25 +154,33 @@ module _ (limits : Limits) (states : ℕ → State) (last : ℕ) (run : IsRun li
     writable_by (line.Climb l) is w knows i = inner_by w (subst IsInner (sym is) tt) knows i
     writable_by (line.Copy l) is w knows i = inner_by w (subst IsInner (sym is) tt) knows i
 
-    goes_knows : KnowsGenerations states last (suc t) now
+    goes_knows : KnowsGenerations states run.records last (suc t) now_read now
     goes_knows = (
       λ w. writable_by operation.line refl w ((know k operation runs).0 w),
-      λ r. reader_knows limits states last run t lt mains k operation runs o moves goes r ((know k operation runs).1 r),
+      λ r. reader_knows limits states last run t lt mains k operation runs o moves goes noted r ((know k operation runs).1 r),
     )
 
-  begins_knows : (call : Call) → KnowsGenerations states last (suc t) (begun_operation (states t) call)
-  begins_knows call =
-      (λ w i. absurd (first_not_inner call i), λ r. first_reader (Ends states last (suc t)) (Shut states last (suc t)) (LateEnd states last (suc t) (begun_operation (states t) call)) call)
+  begins_knows : (x : Moment) (call : Call) → KnowsGenerations states run.records last (suc t) x (begun_operation (states t) call)
+  begins_knows x call =
+      (λ w i. absurd (first_not_inner call i), λ r. first_reader (Ends states run.records last (suc t)) (Shut states run.records last (suc t)) (LateEnd states run.records last (suc t) x) call)
 
-  module _ (s : Step) (o : Outcome) (m : Moves (states t) s o (states (suc t))) where
-    comes_knows : (k : ℕ) (found : Operation) → Comes (states t) s k found → KnowsGenerations states last (suc t) found
-    comes_knows k found (began call is d it) = subst (KnowsGenerations states last (suc t)) (sym it) (begins_knows call)
-    comes_knows k found (rested was at_was it) =
-        subst (KnowsGenerations states last (suc t)) (sym it) (marked_knows states last (suc t) (marks_in (states t) s) was (knows_next limits states last run t lt was (know k was at_was)))
+  module _ (s : Step) (o : Outcome) (m : Moves (states t) s o (states (suc t))) (notes : run.records (suc t) ≡ noted (run.records t) (states t).steps (told_in (states t) s)) where
+    comes_knows : (k : ℕ) (found : Operation) → Comes (states t) s k found → KnowsGenerations states run.records last (suc t) (moment_at (run.records (suc t)) (suc k)) found
+    comes_knows k found (began call is d it) = subst (KnowsGenerations states run.records last (suc t) (moment_at (run.records (suc t)) (suc k))) (sym it)
+        (begins_knows (moment_at (run.records (suc t)) (suc k)) call)
+    comes_knows k found (rested was at_was it other_step) =
+        let same : moment_at (run.records (suc t)) (suc k) ≡ moment_at (run.records t) (suc k) =
+        ap (λ past. moment_at past (suc k)) notes ∙ moment_rests (states t) (run.records t) s o (states (suc t)) m k other_step in
+        subst (λ x. KnowsGenerations states run.records last (suc t) x found) (sym same)
+        (subst (KnowsGenerations states run.records last (suc t) (moment_at (run.records t) (suc k))) (sym it)
+        (marked_knows states run.records last (suc t) (moment_at (run.records t) (suc k)) (marks_in (states t) s) was
+        (knows_next limits states last run t lt (moment_at (run.records t) (suc k)) was (know k was at_was))))
     comes_knows k found (went was is at_was g it) =
-        subst (KnowsGenerations states last (suc t)) (sym it)
-        (marked_knows states last (suc t) (marks_in (states t) s) (operation_after (states t) was)
-        (goes_knows k was at_was o (subst (λ x. Moves (states t) x o (states (suc t))) is m) g))
+        let goes_noted : run.records (suc t) ≡ noted_progress (run.records t) (states t).steps (suc k) (progress_of (states t) was) =
+        notes ∙ ap (λ q. noted (run.records t) (states t).steps (told_in (states t) q)) is ∙ noted_going (states t) (run.records t) (suc k) was _ at_was refl g in
+        subst (KnowsGenerations states run.records last (suc t) (moment_at (run.records (suc t)) (suc k))) (sym it)
+        (marked_knows states run.records last (suc t) (moment_at (run.records (suc t)) (suc k)) (marks_in (states t) s) (operation_after (states t) was)
+        (goes_knows k was at_was o (subst (λ x. Moves (states t) x o (states (suc t))) is m) g goes_noted))
 
-    pub lines_next : AllKnow states last (suc t)
+    pub lines_next : AllKnow states run.records last (suc t)
     lines_next k found runs = comes_knows k found (comes (states t) s o (states (suc t)) m k found runs)

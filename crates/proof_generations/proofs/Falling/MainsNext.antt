@@ -14,7 +14,7 @@ use Rattle.proof_generations.specs.Beneath.machine_model.specs.declared.roots.Co
 use Rattle.proof_generations.specs.Beneath.machine_model.specs.declared.roots.CompleteLine.{CompleteLine}
 use Rattle.proof_generations.specs.Beneath.machine_model.specs.declared.roots.CompleteLine.TheVariants as complete
 use Rattle.proof_generations.specs.Beneath.machine_model.specs.declared.roots.Descriptor.{Descriptor}
-use Rattle.proof_generations.specs.Beneath.machine_model.specs.declared.steps.Limits.{Limits}
+use Rattle.proof_generations.specs.Beneath.machine_model.specs.declared.steps.Bounds.{Bounds}
 use Rattle.proof_generations.specs.Beneath.machine_model.specs.Calls.{handle_of}
 use Rattle.proof_generations.specs.Beneath.machine_model.specs.States.{State, operation_of}
 use Rattle.proof_generations.specs.Beneath.machine_model.specs.Times.{IsRun}
@@ -49,19 +49,21 @@ use Rattle.proof_generations.proofs.Falling.NewLinks.{NewLink, new_link}
 use Rattle.proof_generations.proofs.Falling.Counted.{drawn_unopened, start_below}
 use Rattle.proof_generations.proofs.Falling.Brought.{Brought, makes, swaps, comes_in}
 use Rattle.proof_generations.specs.Standing.{IsRooted}
+use Rattle.proof_generations.specs.Beneath.machine_model.specs.Records.{moment_at}
+use Rattle.proof_generations.specs.Beneath.machine_model.specs.declared.records.Moment.{Moment}
 
 inner_goes : (l : Line) → IsInner l → is_end l ≡ false
 inner_goes (line.End answer) i = absurd i
 inner_goes l i = refl
 
-module _ (limits : Limits) (states : ℕ → State) (last : ℕ) (run : IsRun limits states last) (t : ℕ) (lt : t < last) where
+module _ (limits : Bounds) (states : ℕ → State) (last : ℕ) (run : IsRun limits states last) (t : ℕ) (lt : t < last) where
   -- an operation that has a generation is rooted there
   pub inner_rooted : (k : ℕ) (operation : Operation) → Runs (states t) k operation → operation.access ≡ Writable → IsInner operation.line → (g : ℕ) → operation.generation ≡ Some g →
-      IsRooted states t (handle_of operation.call) g
+      IsRooted states run.records t (handle_of operation.call) g
   inner_rooted k operation runs w inner g e =
       rooted_at limits states last run t (omega arith) k operation g runs (no_close_at limits states last run t (omega arith) k operation runs (inner_goes operation.line inner)) w e
 
-  module _ (know : AllKnow states last t) where
+  module _ (know : AllKnow states run.records last t) where
     -- ---- what is swapped in
 
     -- an operation swaps a node in: into an indirection of its generation, below which its entries may stand
@@ -74,20 +76,21 @@ module _ (limits : Limits) (states : ℕ → State) (last : ℕ) (run : IsRun li
       pub g : ℕ
       pub begun : operation.generation ≡ Some g
       pub own : gen_of states last i ≡ g
-      pub falls : FallsBelow states last t g m
+      pub falls : FallsBelow states run.records last t g m
 
     swaps_by : (k : ℕ) (operation : Operation) → Runs (states t) k operation → (i a m : Ref) → IsInSwap operation i a m swap.Publish → (access : Access) →
-        operation.access ≡ access → KnowsGenerations states last t operation →
+        operation.access ≡ access → KnowsGenerations states run.records last t (moment_at (run.records t) (suc k)) operation →
         SwapsIn i m
     swaps_by k operation runs i a m (why, is) Writable w knows =
         let inner : IsInner operation.line = subst IsInner (sym is) tt in
         let (g, begun, known) = knows.0 w inner in
-        let here = subst (Knows (IsOwn states last g) (FitsBelow states last t g) (FallsBelow states last t g) (LateBelow states last t operation g)) is known in
+        let here = subst (Knows (IsOwn states last g) (FitsBelow states run.records last t g) (FallsBelow states run.records last t g)
+        (LateBelow states run.records last t (moment_at (run.records t) (suc k)) g)) is known in
         record { k = k; operation = operation; runs = runs; writable = w; inner = inner; g = g; begun = begun; own = here.0; falls = here.1 }
     swaps_by k operation runs i a m (why, is) ReadOnly w knows =
-        absurd (subst (KnowsReader (Ends states last t) (Shut states last t) (LateEnd states last t operation)) is (knows.1 w))
+        absurd (subst (KnowsReader (Ends states run.records last t) (Shut states run.records last t) (LateEnd states run.records last t (moment_at (run.records t) (suc k)))) is (knows.1 w))
 
-    pub swaps_in : (k : ℕ) (i a m : Ref) → (words states last).stage t k ≡ Publishes i a m → SwapsIn i m
+    pub swaps_in : (k : ℕ) (i a m : Ref) → (words states run.records last).stage t k ≡ Publishes i a m → SwapsIn i m
     swaps_in actor i a m stage =
         let by = runs_publishing (operation_of (states t) actor) i a m stage in
         let (k, place, runs) = place_of_actor (states t) actor by.operation by.is in
@@ -95,8 +98,9 @@ module _ (limits : Limits) (states : ℕ → State) (last : ℕ) (run : IsRun li
 
     -- ---- below what is brought in
 
-    module _ (mains : MainsFall states last t) (fresh : FreshFall states last t) where
-      new_older : (i m : Ref) → NewLink limits states last run t lt know i → main_word states (suc t) i ≡ m → All (NotNewer states last (gen_of states last i)) (entries_of (node_under states last m))
+    module _ (mains : MainsFall states run.records last t) (fresh : FreshFall states run.records last t) where
+      new_older : (i m : Ref) → NewLink limits states last run t lt know i → main_word states (suc t) i ≡ m →
+          All (NotNewer states last (gen_of states last i)) (entries_of (node_under states last m))
       new_older i m n is = elim n.kind [
         | inl own ↦ subst (λ g. All (NotNewer states last g) (entries_of (node_under states last m))) (sym own) older
         | inr drawn ↦
@@ -105,38 +109,41 @@ module _ (limits : Limits) (states : ℕ → State) (last : ℕ) (run : IsRun li
       ]
         where
           older : All (NotNewer states last n.g) (entries_of (node_under states last m))
-          older = falls_older states last t n.g m (subst (FallsBelow states last t n.g) is n.falls)
+          older = falls_older states run.records last t n.g m (subst (FallsBelow states run.records last t n.g) is n.falls)
 
-      older_by : (i m : Ref) → Stood (words states last) t i m ⊎ Brought (words states last) t i m → All (NotNewer states last (gen_of states last i)) (entries_of (node_under states last m))
+      older_by : (i m : Ref) → Stood (words states run.records last) t i m ⊎ Brought (words states run.records last) t i m →
+          All (NotNewer states last (gen_of states last i)) (entries_of (node_under states last m))
       older_by i m (inl stood) = mains.older i m stood
       older_by i m (inr (makes was is main)) = new_older i m (new_link limits states last run t lt know i was is) main
       older_by i m (inr (swaps k a stage)) =
           let s = swaps_in k i a m stage in
-          subst (λ g. All (NotNewer states last g) (entries_of (node_under states last m))) (sym s.own) (falls_older states last t s.g m s.falls)
+          subst (λ g. All (NotNewer states last g) (entries_of (node_under states last m))) (sym s.own) (falls_older states run.records last t s.g m s.falls)
 
       -- ---- what falls
 
       new_falls : (i m : Ref) → NewLink limits states last run t lt know i → main_word states (suc t) i ≡ m → WasOpened states (suc t) (gen_of states last i) →
-          FallsBelow states last (suc t) (gen_of states last i) m
+          FallsBelow states run.records last (suc t) (gen_of states last i) m
       new_falls i m n is was = elim n.kind [
-        | inl own ↦ subst (λ g. FallsBelow states last (suc t) g m) (sym own) (falls_next limits states last run t lt n.g m (subst (FallsBelow states last t n.g) is n.falls))
+        | inl own ↦ subst (λ g. FallsBelow states run.records last (suc t) g m) (sym own) (falls_next limits states last run t lt n.g m (subst (FallsBelow states run.records last t n.g) is n.falls))
         | inr drawn ↦ absurd (drawn_unopened limits states last run t lt (subst (λ g. WasOpened states (suc t) g) drawn was))
       ]
 
       -- the operation that offers has its generation, and that is the one of the root that it offers to replace
-      offerer_by : (operation : Operation) (offer : Descriptor) → own_offer operation.line ≡ Some offer → (access : Access) → operation.access ≡ access → KnowsGenerations states last t operation →
+      offerer_by : (x : Moment) (operation : Operation) (offer : Descriptor) → own_offer operation.line ≡ Some offer → (access : Access) → operation.access ≡ access →
+          KnowsGenerations states run.records last t x operation →
           (g : ℕ) × (operation.generation ≡ Some g) × (gen_of states last offer.root ≡ g)
-      offerer_by operation offer e Writable w knows =
+      offerer_by x operation offer e Writable w knows =
           let (c, is, same) = completes_it operation.line offer e in
           let (g, begun, known) = knows.0 w (subst IsInner (sym is) tt) in
-          let own : gen_of states last c.offer.root ≡ g = subst (Knows (IsOwn states last g) (FitsBelow states last t g) (FallsBelow states last t g) (LateBelow states last t operation g)) is known in
+          let own : gen_of states last c.offer.root ≡ g = subst (Knows (IsOwn states last g) (FitsBelow states run.records last t g) (FallsBelow states run.records last t g)
+          (LateBelow states run.records last t x g)) is known in
           (g, begun, ap (λ (d : Descriptor). gen_of states last d.root) (sym same) ∙ own)
-      offerer_by operation offer e ReadOnly w knows =
+      offerer_by x operation offer e ReadOnly w knows =
           let (c, is, same) = completes_it operation.line offer e in
-          absurd (subst (KnowsReader (Ends states last t) (Shut states last t) (LateEnd states last t operation)) is (knows.1 w))
+          absurd (subst (KnowsReader (Ends states run.records last t) (Shut states run.records last t) (LateEnd states run.records last t x)) is (knows.1 w))
 
       offerer : (handle : ℕ) (offer : Descriptor) (stands : StandsBy (states t) handle offer) → (g : ℕ) × (stands.owner.generation ≡ Some g) × (gen_of states last offer.root ≡ g)
-      offerer handle offer stands = offerer_by stands.owner offer stands.completes stands.owner.access refl (know stands.k stands.owner stands.runs)
+      offerer handle offer stands = offerer_by (moment_at (run.records t) (suc stands.k)) stands.owner offer stands.completes stands.owner.access refl (know stands.k stands.owner stands.runs)
 
       root_in_use : (c : Complete) → AllHold (IsInUse (states t).heap) (states t).heap (complete_wants c.offer c.line) → IsInUse (states t).heap c.offer.root
       root_in_use c h = by c.line h
@@ -154,7 +161,8 @@ module _ (limits : Limits) (states : ℕ → State) (last : ℕ) (run : IsRun li
           sym (used_generation limits states last run t (omega arith) offer.root used)
 
       -- below a fresh root that is carried out all is closed
-      opened_falls : (i m : Ref) → Stood (words states last) t i m → Opening limits states last run t (gen_of states last i) → FallsBelow states last (suc t) (gen_of states last i) m
+      opened_falls : (i m : Ref) → Stood (words states run.records last) t i m → Opening limits states last run t (gen_of states last i) →
+          FallsBelow states run.records last (suc t) (gen_of states last i) m
       opened_falls i m stood (before was) = falls_next limits states last run t lt (gen_of states last i) m (mains.falls i m stood was)
       opened_falls i m stood (opens handle offer stands x r f its closed) =
           let own : fresh_in x stands.owner.line ≡ Some r = its_fresh stands.owner.line offer x r stands.completes f in
@@ -162,19 +170,20 @@ module _ (limits : Limits) (states : ℕ → State) (last : ℕ) (run : IsRun li
           let sound = sound_at (protocol_of limits states last run) t (omega arith) in
           let same : i ≡ r = falls.only i (sound.words.link i m stood) (sym its) in
           let (g, begun, root) = offerer handle offer stands in
-          let below = falls.falls m g (subst (λ q. Stood (words states last) t q m) same stood) begun in
-          falls_below states last (suc t) (gen_of states last i) g m
-          (inr (omega (arith, falls.newer g begun, its), subst (λ h. WasClosed states (suc t) h) (offered_root handle offer stands ∙ root) closed)) (falls_next limits states last run t lt g m below)
+          let below = falls.falls m g (subst (λ q. Stood (words states run.records last) t q m) same stood) begun in
+          falls_below states run.records last (suc t) (gen_of states last i) g m
+          (inr (omega (arith, falls.newer g begun, its), subst (λ h. WasClosed run.records (suc t) h) (offered_root handle offer stands ∙ root) closed))
+          (falls_next limits states last run t lt g m below)
 
-      falls_by : (i m : Ref) → WasOpened states (suc t) (gen_of states last i) → Stood (words states last) t i m ⊎ Brought (words states last) t i m →
-          FallsBelow states last (suc t) (gen_of states last i) m
+      falls_by : (i m : Ref) → WasOpened states (suc t) (gen_of states last i) → Stood (words states run.records last) t i m ⊎ Brought (words states run.records last) t i m →
+          FallsBelow states run.records last (suc t) (gen_of states last i) m
       falls_by i m was (inl stood) = opened_falls i m stood (opening limits states last run t lt (gen_of states last i) was)
       falls_by i m was (inr (makes none is main)) = new_falls i m (new_link limits states last run t lt know i none is) main was
       falls_by i m was (inr (swaps k a stage)) =
           let s = swaps_in k i a m stage in
-          subst (λ g. FallsBelow states last (suc t) g m) (sym s.own) (falls_next limits states last run t lt s.g m s.falls)
+          subst (λ g. FallsBelow states run.records last (suc t) g m) (sym s.own) (falls_next limits states last run t lt s.g m s.falls)
 
-      pub mains_next : MainsFall states last (suc t)
+      pub mains_next : MainsFall states run.records last (suc t)
       mains_next = record {
         older = λ i m stood. older_by i m (comes_in (protocol_of limits states last run) t lt i m stood);
         falls = λ i m stood was. falls_by i m was (comes_in (protocol_of limits states last run) t lt i m stood);

@@ -14,7 +14,7 @@ use Rattle.proof_generations.specs.Beneath.machine_model.specs.declared.lines.Li
 use Rattle.proof_generations.specs.Beneath.machine_model.specs.declared.lines.Line.TheVariants as line
 use Rattle.proof_generations.specs.Beneath.machine_model.specs.declared.operations.Operation.{Operation}
 use Rattle.proof_generations.specs.Beneath.machine_model.specs.declared.reading.Read.{Read}
-use Rattle.proof_generations.specs.Beneath.machine_model.specs.declared.steps.Limits.{Limits}
+use Rattle.proof_generations.specs.Beneath.machine_model.specs.declared.steps.Bounds.{Bounds}
 use Rattle.proof_generations.specs.Beneath.machine_model.specs.States.{State}
 use Rattle.proof_generations.specs.Beneath.machine_model.specs.Operations.{action_of, line_action}
 use Rattle.proof_generations.specs.Beneath.machine_model.specs.Times.{IsRun}
@@ -37,6 +37,7 @@ use Rattle.proof_generations.specs.Beneath.proof_memory.specs.Wants.{is_indirect
 use Rattle.proof_commits.proofs.Words.OfRuns.{link_kept}
 use Rattle.proof_generations.proofs.Counter.Made.{root_makes, key_makes, walk_makes}
 use Rattle.proof_generations.proofs.Lines.ReaderKnows.{indirection_is}
+use Rattle.proof_generations.specs.Beneath.machine_model.specs.Records.{moment_at}
 
 -- ---- which lines make nodes
 
@@ -61,7 +62,7 @@ reader_makes Ends Shut Late state operation (line.Clean l) n k e = k
 reader_makes Ends Shut Late state operation (line.Climb l) n k e = k
 reader_makes Ends Shut Late state operation (line.Copy l) n k e = k
 
-module _ (limits : Limits) (states : ℕ → State) (last : ℕ) (run : IsRun limits states last) (t : ℕ) (lt : t < last) (know : AllKnow states last t) where
+module _ (limits : Bounds) (states : ℕ → State) (last : ℕ) (run : IsRun limits states last) (t : ℕ) (lt : t < last) (know : AllKnow states run.records last t) where
   -- an indirection that step t makes
   pub record NewLink (n : Ref) : Type 0 where
     pub k : ℕ
@@ -72,7 +73,7 @@ module _ (limits : Limits) (states : ℕ → State) (last : ℕ) (run : IsRun li
     pub g : ℕ
     pub begun : operation.generation ≡ Some g
     pub takes : next_ref (states t).heap ≡ Some n
-    pub falls : FallsBelow states last t g (main_word states (suc t) n)
+    pub falls : FallsBelow states run.records last t g (main_word states (suc t) n)
     pub kind : (gen_of states last n ≡ g) ⊎ (gen_of states last n ≡ (states t).generations)
 
   module _ (n : Ref) (slot : Slot) (here : grown states (suc t) n ≡ Some slot) (m : Made (states t) n slot) (h : ℕ) (word : Ref) (is : m.node ≡ Indirection h word) where
@@ -81,7 +82,7 @@ module _ (limits : Limits) (states : ℕ → State) (last : ℕ) (run : IsRun li
 
     -- over this main node
     link_over : (k : ℕ) → Runs (states t) k m.operation → m.operation.access ≡ Writable → (g : ℕ) → m.operation.generation ≡ Some g → (generation : ℕ) (below : Ref) →
-        m.node ≡ Indirection generation below → FallsBelow states last t g below → (gen_of states last n ≡ g) ⊎ (gen_of states last n ≡ (states t).generations) → NewLink n
+        m.node ≡ Indirection generation below → FallsBelow states run.records last t g below → (gen_of states last n ≡ g) ⊎ (gen_of states last n ≡ (states t).generations) → NewLink n
     link_over k runs w g begun generation below is falls kind = record {
       k = k;
       operation = m.operation;
@@ -91,29 +92,34 @@ module _ (limits : Limits) (states : ℕ → State) (last : ℕ) (run : IsRun li
       g = g;
       begun = begun;
       takes = m.takes;
-      falls = subst (FallsBelow states last t g) (sym (ap (λ o. main_of (node_of o)) here ∙ ap main_of (m.its_node ∙ is))) falls;
+      falls = subst (FallsBelow states run.records last t g) (sym (ap (λ o. main_of (node_of o)) here ∙ ap main_of (m.its_node ∙ is))) falls;
       kind = kind;
     }
 
     -- by what the line makes
     new_by : (k : ℕ) → Runs (states t) k m.operation → m.operation.access ≡ Writable → (g : ℕ) → (begun : m.operation.generation ≡ Some g) →
-        IsNewLink (states t) m.operation g begun (IsOwn states last g) (FitsBelow states last t g) (FallsBelow states last t g) (LateBelow states last t m.operation g) (IsInUse (states t).heap)
-        (own_fits states last t g) (single_fits limits states last run t lt t g) (entries_fit limits states last run t lt t g) m.operation.line m.node →
+        IsNewLink (states t) m.operation g begun (IsOwn states last g) (FitsBelow states run.records last t g) (FallsBelow states run.records last t g)
+        (LateBelow states run.records last t (moment_at (run.records t) (suc k)) g) (IsInUse (states t).heap)
+        (own_fits states run.records last t g) (single_fits limits states last run t lt t g) (entries_fit limits states last run t lt t g) m.operation.line m.node →
         NewLink n
     new_by k runs w g begun (inl (below, is_own, falls)) = link_over k runs w g begun _ below is_own falls (inl (generation_is g below is_own))
     new_by k runs w g begun (inr (action, (main, is_root, falls))) = link_over k runs w g begun _ main is_root falls (inr (generation_is (states t).generations main is_root))
 
-    new_from : (k : ℕ) → Runs (states t) k m.operation → (access : Access) → m.operation.access ≡ access → KnowsGenerations states last t m.operation → NewLink n
+    new_from : (k : ℕ) → Runs (states t) k m.operation → (access : Access) → m.operation.access ≡ access →
+        KnowsGenerations states run.records last t (moment_at (run.records t) (suc k)) m.operation → NewLink n
     new_from k runs Writable w knows =
         let (g, begun, known) = knows.0 w (makes_inner (states t) m.operation m.operation.line m.node m.makes_it) in
         new_by k runs w g begun
-        (link_made (states t) m.operation g begun (IsOwn states last g) (FitsBelow states last t g) (FallsBelow states last t g) (LateBelow states last t m.operation g) (IsInUse (states t).heap)
-        (own_fits states last t g) (single_fits limits states last run t lt t g) (entries_fit limits states last run t lt t g) m.operation.line m.node h word is m.makes_it
-        (node_made (states t) m.operation g begun (IsOwn states last g) (FitsBelow states last t g) (FallsBelow states last t g) (LateBelow states last t m.operation g) (IsInUse (states t).heap)
-        (own_fits states last t g) (single_fits limits states last run t lt t g) (entries_fit limits states last run t lt t g) m.operation.line known
+        (link_made (states t) m.operation g begun (IsOwn states last g) (FitsBelow states run.records last t g) (FallsBelow states run.records last t g)
+        (LateBelow states run.records last t (moment_at (run.records t) (suc k)) g) (IsInUse (states t).heap)
+        (own_fits states run.records last t g) (single_fits limits states last run t lt t g) (entries_fit limits states last run t lt t g) m.operation.line m.node h word is m.makes_it
+        (node_made (states t) m.operation g begun (IsOwn states last g) (FitsBelow states run.records last t g) (FallsBelow states run.records last t g)
+        (LateBelow states run.records last t (moment_at (run.records t) (suc k)) g) (IsInUse (states t).heap)
+        (own_fits states run.records last t g) (single_fits limits states last run t lt t g) (entries_fit limits states last run t lt t g) m.operation.line known
         (line_finds (states t) (safe_at limits states last run t (omega arith)) m.actor m.operation m.runs) m.node m.makes_it))
     new_from k runs ReadOnly w knows =
-        absurd (reader_makes (Ends states last t) (Shut states last t) (LateEnd states last t m.operation) (states t) m.operation m.operation.line m.node (knows.1 w) m.makes_it)
+        absurd (reader_makes (Ends states run.records last t) (Shut states run.records last t) (LateEnd states run.records last t (moment_at (run.records t) (suc k)))
+        (states t) m.operation m.operation.line m.node (knows.1 w) m.makes_it)
 
   made_by : (n : Ref) (slot : Slot) → grown states (suc t) n ≡ Some slot → is_indirection slot.node ≡ true → Made (states t) n slot → NewLink n
   made_by n slot here l m =
@@ -131,34 +137,39 @@ module _ (limits : Limits) (states : ℕ → State) (last : ℕ) (run : IsRun li
       let same : is_indirection (node_of (Some slot)) ≡ is_indirection old.node = ap (λ o. is_indirection (node_of o)) (sym at_next ∙ found) ∙ ap is_indirection e ∙ link_kept m old.node in
       absurd (true≢false (sym is ∙ same ∙ was))
 
-  pub new_link : (n : Ref) → (words states last).link t n ≡ false → (words states last).link (suc t) n ≡ true → NewLink n
+  pub new_link : (n : Ref) → (words states run.records last).link t n ≡ false → (words states run.records last).link (suc t) n ≡ true → NewLink n
   new_link n was is = link_by n (grown states t n) (grown states (suc t) n) refl refl was is
 
-module _ (limits : Limits) (states : ℕ → State) (last : ℕ) (run : IsRun limits states last) (t : ℕ) (lt : t < last) where
+module _ (limits : Bounds) (states : ℕ → State) (last : ℕ) (run : IsRun limits states last) (t : ℕ) (lt : t < last) where
   -- ---- a root that is made
 
   module _ (k : ℕ) (operation : Operation) (runs : Runs (states t) k operation) (g : ℕ) (begun : operation.generation ≡ Some g)
-      (known : Knows (IsOwn states last g) (FitsBelow states last t g) (FallsBelow states last t g) (LateBelow states last t operation g) operation.line)
+      (known : Knows (IsOwn states last g) (FitsBelow states run.records last t g) (FallsBelow states run.records last t g)
+      (LateBelow states run.records last t (moment_at (run.records t) (suc k)) g) operation.line)
       (main : Ref) (makes_it : action_of (states t) operation ≡ act.MakeRoot main) where
     abbrev root_node : Node
     root_node = Indirection (states t).generations main
 
-    root_below : IsNewLink (states t) operation g begun (IsOwn states last g) (FitsBelow states last t g) (FallsBelow states last t g) (LateBelow states last t operation g) (IsInUse (states t).heap)
-        (own_fits states last t g) (single_fits limits states last run t lt t g) (entries_fit limits states last run t lt t g) operation.line root_node → FallsBelow states last t g main
+    root_below : IsNewLink (states t) operation g begun (IsOwn states last g) (FitsBelow states run.records last t g) (FallsBelow states run.records last t g)
+        (LateBelow states run.records last t (moment_at (run.records t) (suc k)) g) (IsInUse (states t).heap)
+        (own_fits states run.records last t g) (single_fits limits states last run t lt t g) (entries_fit limits states last run t lt t g) operation.line root_node →
+        FallsBelow states run.records last t g main
     root_below (inl (word, is, falls)) =
         let same : main ≡ word = cc is in
-        subst (FallsBelow states last t g) (sym same) falls
+        subst (FallsBelow states run.records last t g) (sym same) falls
     root_below (inr (action, (word, is, falls))) =
         let same : main ≡ word = cc is in
-        subst (FallsBelow states last t g) (sym same) falls
+        subst (FallsBelow states run.records last t g) (sym same) falls
 
     -- what stands below it may stand below the operation's generation
-    pub made_root : FallsBelow states last t g main
+    pub made_root : FallsBelow states run.records last t g main
     made_root =
         root_below
-        (link_made (states t) operation g begun (IsOwn states last g) (FitsBelow states last t g) (FallsBelow states last t g) (LateBelow states last t operation g) (IsInUse (states t).heap)
-        (own_fits states last t g) (single_fits limits states last run t lt t g) (entries_fit limits states last run t lt t g) operation.line root_node
+        (link_made (states t) operation g begun (IsOwn states last g) (FitsBelow states run.records last t g) (FallsBelow states run.records last t g)
+        (LateBelow states run.records last t (moment_at (run.records t) (suc k)) g) (IsInUse (states t).heap)
+        (own_fits states run.records last t g) (single_fits limits states last run t lt t g) (entries_fit limits states last run t lt t g) operation.line root_node
         (states t).generations main refl (ap (made_node (states t)) makes_it)
-        (node_made (states t) operation g begun (IsOwn states last g) (FitsBelow states last t g) (FallsBelow states last t g) (LateBelow states last t operation g) (IsInUse (states t).heap)
-        (own_fits states last t g) (single_fits limits states last run t lt t g) (entries_fit limits states last run t lt t g) operation.line known
+        (node_made (states t) operation g begun (IsOwn states last g) (FitsBelow states run.records last t g) (FallsBelow states run.records last t g)
+        (LateBelow states run.records last t (moment_at (run.records t) (suc k)) g) (IsInUse (states t).heap)
+        (own_fits states run.records last t g) (single_fits limits states last run t lt t g) (entries_fit limits states last run t lt t g) operation.line known
         (line_finds (states t) (safe_at limits states last run t (omega arith)) (suc k) operation runs) root_node (ap (made_node (states t)) makes_it)))

@@ -2,7 +2,7 @@
 use Rattle.std.proofs.Common.{◌≡◌, ℕ, zero, suc, ◌+◌, ◌-◌, ◌≤◌, Bool, true, false, cond, refl, ap, ◌∙◌, arith}
 use Rattle.proof_generations.specs.Beneath.slot_arena.specs.declared.refs.Ref.{Ref}
 use Rattle.proof_generations.specs.Beneath.slot_arena.specs.Heaps.{node_of, prev_of, logical, no_ref, empty_branch}
-use Rattle.proof_generations.specs.Beneath.machine_model.specs.declared.steps.Limits.{Limits}
+use Rattle.proof_generations.specs.Beneath.machine_model.specs.declared.steps.Bounds.{Bounds}
 use Rattle.proof_generations.specs.Beneath.machine_model.specs.States.{State}
 use Rattle.proof_generations.specs.Beneath.machine_model.specs.Times.{IsRun}
 use Rattle.proof_generations.specs.Beneath.machine_model.specs.Grown.{node_under, main_word, prev_word, main_before}
@@ -11,7 +11,7 @@ use Rattle.proof_generations.specs.Beneath.proof_memory.specs.Wants.{is_indirect
 use Rattle.proof_generations.specs.Beneath.proof_memory.proofs.Claims.Nodes.{no_main}
 use Rattle.proof_generations.specs.Beneath.proof_memory.proofs.Heap.NoRef.{nothing_stands}
 
-module _ (limits : Limits) (states : ℕ → State) (last : ℕ) (run : IsRun limits states last) where
+module _ (limits : Bounds) (states : ℕ → State) (last : ℕ) (run : IsRun limits states last) where
   -- its node is an empty branch
   pub no_node : (t : ℕ) → t ≤ last → node_under states t no_ref ≡ empty_branch
   no_node t h = ap node_of (nothing_stands limits states last run t h)

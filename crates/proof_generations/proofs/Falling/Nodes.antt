@@ -6,7 +6,7 @@ use Rattle.proof_generations.specs.Beneath.slot_arena.specs.declared.nodes.Node.
 use Rattle.proof_generations.specs.Beneath.slot_arena.specs.declared.nodes.Node.TheVariants.{Indirection, Branch, Single, Tomb, List as Listed}
 use Rattle.proof_generations.specs.Beneath.slot_arena.specs.declared.nodes.Slot.{Slot}
 use Rattle.proof_generations.specs.Beneath.slot_arena.specs.Heaps.{node_at, node_of, generation_of, generation_at, entries_of, with_main_word}
-use Rattle.proof_generations.specs.Beneath.machine_model.specs.declared.steps.Limits.{Limits}
+use Rattle.proof_generations.specs.Beneath.machine_model.specs.declared.steps.Bounds.{Bounds}
 use Rattle.proof_generations.specs.Beneath.machine_model.specs.States.{State}
 use Rattle.proof_generations.specs.Beneath.machine_model.specs.Times.{IsRun}
 use Rattle.proof_generations.specs.Beneath.machine_model.specs.Grown.{grown, node_under}
@@ -37,10 +37,10 @@ no_single : (node : Node) (h : ℕ) (word : Ref) → meets ASingle node ≡ true
 no_single node h word e is = false≢true (sym (ap (meets ASingle) is) ∙ e)
 
 -- what stands under a reference stays, but for main words
-pub nodes_stay : (limits : Limits) (states : ℕ → State) (last : ℕ) → IsRun limits states last → NodesStay states last
+pub nodes_stay : (limits : Bounds) (states : ℕ → State) (last : ℕ) → IsRun limits states last → NodesStay states last
 nodes_stay limits states last run t u le within r was e = let (now, found, same) = grown_stays limits states last run t u le within r was e in (now, found, same.0)
 
-module _ (limits : Limits) (states : ℕ → State) (last : ℕ) (run : IsRun limits states last) (t : ℕ) (within : t ≤ last) where
+module _ (limits : Bounds) (states : ℕ → State) (last : ℕ) (run : IsRun limits states last) (t : ℕ) (within : t ≤ last) where
   -- what was made by then
   pub made_same : (r : Ref) (slot : Slot) → grown states t r ≡ Some slot → SameNode slot.node (node_under states last r)
   made_same r slot e =

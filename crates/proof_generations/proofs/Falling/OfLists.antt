@@ -7,7 +7,7 @@ use Rattle.proof_generations.specs.Beneath.history.specs.declared.calls.Access.T
 use Rattle.proof_generations.specs.Beneath.machine_model.specs.declared.lines.Purpose.{Purpose}
 use Rattle.proof_generations.specs.Beneath.machine_model.specs.declared.operations.Operation.{Operation}
 use Rattle.proof_generations.specs.Beneath.machine_model.specs.declared.reading.Swap.{Swap}
-use Rattle.proof_generations.specs.Beneath.machine_model.specs.States.{operation_of, closed_at}
+use Rattle.proof_generations.specs.Beneath.machine_model.specs.States.{operation_of}
 use Rattle.proof_generations.specs.Beneath.proof_memory.specs.Wants.{AnEntry, ASingle, line_wants, is_indirection}
 use Rattle.proof_generations.specs.Beneath.proof_memory.proofs.Safety.AtTimes.{line_finds, node_found, main_found}
 use Rattle.proof_generations.specs.Beneath.proof_memory.proofs.Claims.Uses.{Meets}
@@ -28,12 +28,12 @@ use Rattle.proof_generations.specs.Beneath.slot_arena.specs.declared.nodes.Prev.
 use Rattle.proof_generations.specs.Beneath.slot_arena.specs.declared.nodes.Prev.TheVariants as prev
 use Rattle.proof_generations.specs.Beneath.slot_arena.specs.Heaps.{node_at, main_at, main_of, prev_at, generation_at, entries_of, logical}
 use Rattle.proof_generations.specs.Beneath.machine_model.specs.declared.lines.Line.TheVariants as line
-use Rattle.proof_generations.specs.Beneath.machine_model.specs.declared.steps.Limits.{Limits}
+use Rattle.proof_generations.specs.Beneath.machine_model.specs.declared.steps.Bounds.{Bounds}
 use Rattle.proof_generations.specs.Beneath.machine_model.specs.declared.steps.Step.{Step}
 use Rattle.proof_generations.specs.Beneath.machine_model.specs.States.{State}
-use Rattle.proof_generations.specs.Beneath.machine_model.specs.Machine.{AreLimits}
+use Rattle.proof_generations.specs.Beneath.machine_model.specs.Machine.{AreBounds, run}
 use Rattle.proof_generations.specs.Beneath.machine_model.proofs.Times.{run_is, run_ends}
-use Rattle.proof_generations.specs.Beneath.machine_model.specs.Times.{IsRun, states_of, last_of}
+use Rattle.proof_generations.specs.Beneath.machine_model.specs.Times.{IsRun, states_of, last_of, records_of}
 use Rattle.proof_generations.specs.Beneath.machine_model.specs.Grown.{node_under}
 use Rattle.proof_generations.specs.Beneath.proof_memory.specs.Laws.{IsInUse}
 use Rattle.proof_generations.specs.Beneath.proof_memory.specs.Wants.{AllHold, node_wants, prev_wants}
@@ -45,6 +45,8 @@ use Rattle.proof_generations.proofs.Falling.KnownRoots.{words}
 use Rattle.proof_generations.proofs.Lines.ReaderKnows.{indirection_is}
 use Rattle.proof_generations.specs.Beneath.machine_model.proofs.Grown.{prev_standing, node_standing}
 use Rattle.proof_commits.proofs.Known.MainsInUse.{logical_standing}
+use Rattle.proof_generations.specs.Beneath.machine_model.specs.Records.{closed_at, Record}
+use Rattle.proof_generations.specs.Beneath.machine_model.proofs.Recorded.{record_ends}
 
 -- ---- what is in use
 
@@ -86,29 +88,29 @@ module _ (state : State) (I : IsSafe state) where
 
 -- ---- along a run
 
-module _ (limits : Limits) (states : ℕ → State) (last : ℕ) (run : IsRun limits states last) where
+module _ (limits : Bounds) (states : ℕ → State) (last : ℕ) (run : IsRun limits states last) where
   abbrev U : Ref → Type 0
   U = IsInUse (states last).heap
 
   within : last ≤ last
   within = omega arith
 
-  main_stands : (i m : Ref) → U i → is_indirection (node_at (states last).heap i) ≡ true → HasMain (states last) i m → Stood (words states last) last i m
+  main_stands : (i m : Ref) → U i → is_indirection (node_at (states last).heap i) ≡ true → HasMain (states last) i m → Stood (words states run.records last) last i m
   main_stands i m used l has = by has
     where
-      link : (words states last).link last i ≡ true
+      link : (words states run.records last).link last i ≡ true
       link = let (h, word, is) = indirection_is (node_at (states last).heap i) l in ap is_indirection (sym (node_found states last i used) ∙ is)
 
-      by : HasMain (states last) i m → Stood (words states last) last i m
+      by : HasMain (states last) i m → Stood (words states run.records last) last i m
       by (inl counts) =
-          subst (Stood (words states last) last i) (sym (logical_standing limits states last (known limits states last run) last within i used.0 used.1 link) ∙ counts)
+          subst (Stood (words states run.records last) last i) (sym (logical_standing limits states last (known limits states last run) last within i used.0 used.1 link) ∙ counts)
           (main_stood limits states last run last within i link)
       by (inr word) = stands_now link (sym (main_found states last i used) ∙ word)
 
   -- an indirection below another one
   record Below (i child : Ref) : Type 0 where
     main : Ref
-    stood : Stood (words states last) last i main
+    stood : Stood (words states run.records last) last i main
     among : Contains (entries_of (node_under states last main)) child
     link : IsIndirectionOf states last (generation_at (states last).heap child) child
     its : gen_of states last i ≡ generation_at (states last).heap i
@@ -127,25 +129,25 @@ module _ (limits : Limits) (states : ℕ → State) (last : ℕ) (run : IsRun li
   falls_so : (i child : Ref) → Below i child →
       (generation_at (states last).heap child ≤ generation_at (states last).heap i)
       × (WasOpened states last (generation_at (states last).heap i) →
-      (generation_at (states last).heap child ≡ generation_at (states last).heap i) ⊎ ((c : ℕ) × (closed_at (states last) (generation_at (states last).heap child) ≡ Some c)))
+      (generation_at (states last).heap child ≡ generation_at (states last).heap i) ⊎ ((c : ℕ) × (closed_at (run.records last) (generation_at (states last).heap child) ≡ Some c)))
   falls_so i child b = (
     omega (arith, All-contains (NotNewer states last (gen_of states last i)) (entries_of (node_under states last b.main)) child (mains.older i b.main b.stood) b.among _ b.link, b.its),
-    λ opened. by (subst (λ g. FitsBelow states last last g child) b.its
-        (All-contains (FitsBelow states last last (gen_of states last i)) (entries_of (node_under states last b.main)) child
+    λ opened. by (subst (λ g. FitsBelow states run.records last last g child) b.its
+        (All-contains (FitsBelow states run.records last last (gen_of states last i)) (entries_of (node_under states last b.main)) child
         (mains.falls i b.main b.stood (subst (λ g. WasOpened states last g) (sym b.its) opened)) b.among) _ b.link),
   )
     where
-      mains : MainsFall states last last
+      mains : MainsFall states run.records last last
       mains = (all_falls limits states last run last within).mains
 
-      by : MayStandBelow states last (generation_at (states last).heap i) (generation_at (states last).heap child) →
-          (generation_at (states last).heap child ≡ generation_at (states last).heap i) ⊎ ((c : ℕ) × (closed_at (states last) (generation_at (states last).heap child) ≡ Some c))
+      by : MayStandBelow run.records last (generation_at (states last).heap i) (generation_at (states last).heap child) →
+          (generation_at (states last).heap child ≡ generation_at (states last).heap i) ⊎ ((c : ℕ) × (closed_at (run.records last) (generation_at (states last).heap child) ≡ Some c))
       by (inl same) = inl same
       by (inr (less, (c, before, closed))) = inr (c, closed)
 
 -- ---- the laws
 
-module _ (limits : Limits) (steps : List Step) (ok : AreLimits limits) where
+module _ (limits : Bounds) (steps : List Step) (ok : AreBounds limits) where
   abbrev states : ℕ → State
   states = states_of limits steps
 
@@ -158,14 +160,14 @@ module _ (limits : Limits) (steps : List Step) (ok : AreLimits limits) where
   opened_so : (g : ℕ) → IsOpened limits steps g → WasOpened states last g
   opened_so g opened = opened
 
-  FallsIn : State → Type 0
-  FallsIn state =
+  FallsIn : State → Record → Type 0
+  FallsIn state past =
       (i child : Ref) → IsBelow state i child →
       (generation_at state.heap child ≤ generation_at state.heap i)
       × (IsOpened limits steps (generation_at state.heap i) →
-      (generation_at state.heap child ≡ generation_at state.heap i) ⊎ ((c : ℕ) × (closed_at state (generation_at state.heap child) ≡ Some c)))
+      (generation_at state.heap child ≡ generation_at state.heap i) ⊎ ((c : ℕ) × (closed_at past (generation_at state.heap child) ≡ Some c)))
 
-  falls_at_end : FallsIn (states last)
+  falls_at_end : FallsIn (states last) (is_run.records last)
   unfolding FallsIn
   falls_at_end i child b =
       let I = safe_at limits states last is_run last (omega arith) in
@@ -179,7 +181,9 @@ module _ (limits : Limits) (steps : List Step) (ok : AreLimits limits) where
 
 pub fall_below : FallBelow
 unfolding FallsIn
-fall_below limits steps ok = subst (FallsIn limits steps ok) (run_ends limits steps) (falls_at_end limits steps ok)
+fall_below limits steps ok =
+    subst (λ past. FallsIn limits steps ok (run limits steps) past) (record_ends limits steps)
+    (subst (λ state. FallsIn limits steps ok state (records_of limits steps (last_of limits steps))) (run_ends limits steps) (falls_at_end limits steps ok))
 
 pub swaps_are_own : SwapsAreOwn
 swaps_are_own limits steps ok =

@@ -10,16 +10,16 @@ use Rattle.proof_generations.specs.Beneath.machine_model.specs.declared.roots.De
 use Rattle.proof_generations.specs.Beneath.machine_model.specs.declared.roots.Root.{Root}
 use Rattle.proof_generations.specs.Beneath.machine_model.specs.declared.roots.RootWord.{RootWord}
 use Rattle.proof_generations.specs.Beneath.machine_model.specs.declared.roots.RootWord.TheVariants.{Plain, Offer}
-use Rattle.proof_generations.specs.Beneath.machine_model.specs.declared.steps.Limits.{Limits}
+use Rattle.proof_generations.specs.Beneath.machine_model.specs.declared.steps.Bounds.{Bounds}
 use Rattle.proof_generations.specs.Beneath.machine_model.specs.declared.steps.Outcome.{Outcome}
 use Rattle.proof_generations.specs.Beneath.machine_model.specs.declared.steps.Step.{Step}
 use Rattle.proof_generations.specs.Beneath.machine_model.specs.Calls.{handle_of}
-use Rattle.proof_generations.specs.Beneath.machine_model.specs.States.{State, first_state, root_at, root_of, word_of, operation_of, closed_at}
+use Rattle.proof_generations.specs.Beneath.machine_model.specs.States.{State, root_at, root_of, word_of, operation_of}
 use Rattle.proof_generations.specs.Beneath.machine_model.specs.Operations.{action_of}
 use Rattle.proof_generations.specs.Beneath.machine_model.specs.Acting.{opened_root}
 use Rattle.proof_generations.specs.Beneath.machine_model.specs.Moves.{Moves}
 use Rattle.proof_generations.specs.Beneath.machine_model.proofs.Times.{steps_at}
-use Rattle.proof_generations.specs.Beneath.machine_model.specs.Times.{turns}
+use Rattle.proof_generations.specs.Beneath.machine_model.specs.Times.{turns, noted_turn}
 use Rattle.proof_generations.specs.Beneath.machine_model.specs.Times.{IsRun, Turn}
 use Rattle.proof_generations.specs.Beneath.machine_model.specs.Grown.{node_under}
 use Rattle.proof_generations.specs.Beneath.proof_memory.specs.Wants.{AllHold, word_wants}
@@ -39,6 +39,7 @@ use Rattle.proof_generations.proofs.Falling.Nodes.{used_generation}
 use Rattle.proof_generations.specs.Standing.{IsRooted}
 use Rattle.proof_generations.proofs.Roots.Rooted.{standing_root}
 use Rattle.proof_generations.specs.Beneath.history.specs.declared.calls.Access.TheVariants.{Writable}
+use Rattle.proof_generations.specs.Beneath.machine_model.specs.Records.{closed_at, Record}
 
 -- ---- what stays
 
@@ -46,9 +47,10 @@ pub opened_next : (states : ℕ → State) (t g : ℕ) → WasOpened states t g 
 opened_next states t g (u, le, at) = (u, omega arith, at)
 
 -- the generation of an operation's root
-pub opened_rooted : (states : ℕ → State) (t handle g : ℕ) → IsRooted states t handle g → WasOpened states t g
-opened_rooted states t handle g (inl on) = let (root, is, writable, its) = standing_root (states t) handle Writable g on in (t, omega arith, (handle, root, is, its))
-opened_rooted states t handle g (inr (c, before, closed, on)) = let (root, is, writable, its) = standing_root (states c) handle Writable g on in (c, omega (arith, before), (handle, root, is, its))
+pub opened_rooted : (states : ℕ → State) (records : ℕ → Record) (t handle g : ℕ) → IsRooted states records t handle g → WasOpened states t g
+opened_rooted states records t handle g (inl on) = let (root, is, writable, its) = standing_root (states t) handle Writable g on in (t, omega arith, (handle, root, is, its))
+opened_rooted states records t handle g (inr (c, before, closed, on)) = let (root, is, writable, its) =
+    standing_root (states c) handle Writable g on in (c, omega (arith, before), (handle, root, is, its))
 
 -- the root in a word is in use
 root_used : (state : State) → IsSafe state → (handle : ℕ) (root : Root) → root_at state handle ≡ Some root → IsInUse state.heap (root_of root.word)
@@ -62,29 +64,30 @@ offered_root : (o : Option Root) (offer : Descriptor) → word_of o ≡ Offer of
 offered_root None offer e = let wrong : ⊥ = cc e in absurd wrong
 offered_root (Some root) offer e = (root, refl, ap root_of e)
 
-module _ (limits : Limits) (states : ℕ → State) (last : ℕ) (run : IsRun limits states last) where
+module _ (limits : Bounds) (states : ℕ → State) (last : ℕ) (run : IsRun limits states last) where
   -- ---- closings
 
-  closed_by : (t : ℕ) → IsOrdered (states t) → Turn (states t) (states (suc t)) → (g c : ℕ) → closed_at (states t) g ≡ Some c → closed_at (states (suc t)) g ≡ Some c
-  closed_by t I (turns s o m) g c e = closed_stays (states t) I.offers s o (states (suc t)) m g c e
+  closed_by : (t : ℕ) → IsOrdered (states t) (run.records t) → (turn : Turn (states t) (states (suc t))) → run.records (suc t) ≡ noted_turn turn (run.records t) → (g c : ℕ) →
+      closed_at (run.records t) g ≡ Some c → closed_at (run.records (suc t)) g ≡ Some c
+  closed_by t I (turns s o m) notes g c e = closed_stays (states t) I.offers (run.records t) (run.records (suc t)) s o (states (suc t)) m notes g c e
 
-  pub closed_next : (t : ℕ) → t < last → (g c : ℕ) → closed_at (states t) g ≡ Some c → closed_at (states (suc t)) g ≡ Some c
-  closed_next t h = closed_by t (ordered_at limits states last run t (omega arith)) (run.turn t h)
+  pub closed_next : (t : ℕ) → t < last → (g c : ℕ) → closed_at (run.records t) g ≡ Some c → closed_at (run.records (suc t)) g ≡ Some c
+  closed_next t h = closed_by t (ordered_at limits states last run t (omega arith)) (run.turn t h) (run.recorded t h)
 
-  pub was_closed_next : (t : ℕ) → t < last → (g : ℕ) → WasClosed states t g → WasClosed states (suc t) g
+  pub was_closed_next : (t : ℕ) → t < last → (g : ℕ) → WasClosed run.records t g → WasClosed run.records (suc t) g
   was_closed_next t h g (c, before, e) = (c, omega arith, closed_next t h g c e)
 
-  pub closed_until : (t u : ℕ) → t ≤ u → u ≤ last → (g c : ℕ) → closed_at (states t) g ≡ Some c → closed_at (states u) g ≡ Some c
-  closed_until t zero below within g c e = subst (λ v. closed_at (states v) g ≡ Some c) (nothing_below t below) e
+  pub closed_until : (t u : ℕ) → t ≤ u → u ≤ last → (g c : ℕ) → closed_at (run.records t) g ≡ Some c → closed_at (run.records u) g ≡ Some c
+  closed_until t zero below within g c e = subst (λ v. closed_at (run.records v) g ≡ Some c) (nothing_below t below) e
     where
       nothing_below : (t : ℕ) → t ≤ zero → t ≡ zero
       nothing_below t h = omega arith
   closed_until t (suc u) below within g c e = elim (cases_eq t (suc u)) [
-    | inl same ↦ subst (λ v. closed_at (states v) g ≡ Some c) same e
+    | inl same ↦ subst (λ v. closed_at (run.records v) g ≡ Some c) same e
     | inr other ↦ closed_next u within g c (closed_until t u (omega arith) (omega arith) g c e)
   ]
 
-  pub below_next : (t : ℕ) → t < last → (g h : ℕ) → MayStandBelow states t g h → MayStandBelow states (suc t) g h
+  pub below_next : (t : ℕ) → t < last → (g h : ℕ) → MayStandBelow run.records t g h → MayStandBelow run.records (suc t) g h
   below_next t lt g h (inl same) = inl same
   below_next t lt g h (inr (less, closed)) = inr (less, was_closed_next t lt h closed)
 
@@ -95,38 +98,39 @@ module _ (limits : Limits) (states : ℕ → State) (last : ℕ) (run : IsRun li
     is_open : root_at (states t) handle ≡ Some root
     its : gen (states t) root ≡ g
 
-  closes_by : (t : ℕ) → IsOrdered (states t) → (s : Step) → StepKind (states t) s (states (suc t)) → (g c : ℕ) → closed_at (states t) g ≡ None → closed_at (states (suc t)) g ≡ Some c →
+  closes_by : (t : ℕ) → IsOrdered (states t) (run.records t) → (s : Step) → StepKind (states t) (run.records t) s (states (suc t)) (run.records (suc t)) → (g c : ℕ) →
+      closed_at (run.records t) g ≡ None → closed_at (run.records (suc t)) g ≡ Some c →
       (c ≡ (states t).steps) × Closes t g
   closes_by t I s (quiet closings roots) g c none e = absurd (none-some c (sym none ∙ sym (ap (λ l. closed_in l g) closings) ∙ e))
   closes_by t I s (swaps actor mover offer go is carried closings roots) g c none e =
-      let new = closed_new (states t).closings (closing_of (states t) offer) g c none (sym (ap (λ l. closed_in l g) closings) ∙ e) in
+      let new = closed_new (run.records t).closings (closing_of (states t) offer) g c none (sym (ap (λ l. closed_in l g) closings) ∙ e) in
       let stands = carried_stands (states t) I.offers actor mover offer is carried in
       let (root, found, same) = offered_root (root_at (states t) (handle_of mover.call)) offer stands in
       (sym new.1, record { handle = handle_of mover.call; root = root; is_open = found; its = ap (generation_at (states t).heap) same ∙ new.0 })
 
-  closes_turn : (t : ℕ) → IsOrdered (states t) → Turn (states t) (states (suc t)) → (g c : ℕ) → closed_at (states t) g ≡ None → closed_at (states (suc t)) g ≡ Some c →
+  closes_turn : (t : ℕ) → IsOrdered (states t) (run.records t) → (turn : Turn (states t) (states (suc t))) → run.records (suc t) ≡ noted_turn turn (run.records t) → (g c : ℕ) →
+      closed_at (run.records t) g ≡ None → closed_at (run.records (suc t)) g ≡ Some c →
       (c ≡ (states t).steps) × Closes t g
-  closes_turn t I (turns s o m) = closes_by t I s (step_kind (states t) I.offers s o (states (suc t)) m)
+  closes_turn t I (turns s o m) notes = closes_by t I s (step_kind (states t) I.offers (run.records t) (run.records (suc t)) s o (states (suc t)) m notes)
 
-  first_unclosed : (g c : ℕ) → closed_at (states zero) g ≡ Some c → ⊥
-  unfolding first_state
-  first_unclosed g c e = none-some c (ap (λ s. closed_at s g) (sym run.first) ∙ e)
+  first_unclosed : (g c : ℕ) → closed_at (run.records zero) g ≡ Some c → ⊥
+  first_unclosed g c e = none-some c (ap (λ past. closed_at past g) (sym run.nothing_recorded) ∙ e)
 
   -- a generation that is closed was opened, and closed before
-  pub closed_so : (t : ℕ) → t ≤ last → (g c : ℕ) → closed_at (states t) g ≡ Some c → (c < t) × WasOpened states t g
+  pub closed_so : (t : ℕ) → t ≤ last → (g c : ℕ) → closed_at (run.records t) g ≡ Some c → (c < t) × WasOpened states t g
   closed_so zero h g c e = absurd (first_unclosed g c e)
-  closed_so (suc t) h g c e = by (closed_at (states t) g) refl (closed_so t (omega arith))
+  closed_so (suc t) h g c e = by (closed_at (run.records t) g) refl (closed_so t (omega arith))
     where
-      by : (was : Option ℕ) → closed_at (states t) g ≡ was → ((g c : ℕ) → closed_at (states t) g ≡ Some c → (c < t) × WasOpened states t g) → (c < suc t) × WasOpened states (suc t) g
+      by : (was : Option ℕ) → closed_at (run.records t) g ≡ was → ((g c : ℕ) → closed_at (run.records t) g ≡ Some c → (c < t) × WasOpened states t g) → (c < suc t) × WasOpened states (suc t) g
       by None is before =
-          let closes = closes_turn t (ordered_at limits states last run t (omega arith)) (run.turn t h) g c is e in
+          let closes = closes_turn t (ordered_at limits states last run t (omega arith)) (run.turn t h) (run.recorded t h) g c is e in
           (omega (arith, closes.0, steps_at limits states last run t (omega arith)), (t, omega arith, (closes.1.handle, closes.1.root, closes.1.is_open, closes.1.its)))
       by (Some d) is before =
           let same : d ≡ c = same_Some _ _ (sym (closed_next t h g d is) ∙ e) in
           let past = before g d is in
           (omega (arith, past.0, same), opened_next states t g past.1)
 
-  pub was_closed_so : (t : ℕ) → t ≤ last → (g : ℕ) → WasClosed states t g → WasOpened states t g
+  pub was_closed_so : (t : ℕ) → t ≤ last → (g : ℕ) → WasClosed run.records t g → WasOpened states t g
   was_closed_so t h g (c, before, e) = (closed_so t h g c e).1
 
   -- a root that stands is in use
@@ -140,10 +144,10 @@ module _ (limits : Limits) (states : ℕ → State) (last : ℕ) (run : IsRun li
   pub data Opening (t : ℕ) (g : ℕ) : Type 0 where
     before : WasOpened states t g → Opening t g
     opens : (handle : ℕ) (offer : Descriptor) → StandsBy (states t) handle offer → (x : Bool) (r : Ref) → fresh_of x offer ≡ Some r → generation_of (node_under states last r) ≡ g →
-        WasClosed states (suc t) (generation_at (states t).heap offer.root) → Opening t g
+        WasClosed run.records (suc t) (generation_at (states t).heap offer.root) → Opening t g
 
   module _ (t : ℕ) (h : t < last) (s : Step) (o : Outcome) (m : Moves (states t) s o (states (suc t))) (g : ℕ) where
-    abbrev I : IsOrdered (states t)
+    abbrev I : IsOrdered (states t) (run.records t)
     I = ordered_at limits states last run t (omega arith)
 
     kept_root : (handle : ℕ) (root now : Root) → root_at (states t) handle ≡ Some root → root_of now.word ≡ root_of root.word → gen (states (suc t)) now ≡ g → WasOpened states t g
@@ -162,19 +166,20 @@ module _ (limits : Limits) (states : ℕ → State) (last : ℕ) (run : IsRun li
     -- the old root is closed by the step
     old_closed : (actor : ℕ) (mover : Operation) (offer : Descriptor) → operation_of (states t) actor ≡ Some mover
         → ActionCarriesOut (states t) (handle_of mover.call) (action_of (states t) mover) offer →
-        (states (suc t)).closings ≡ (states t).closings ++ closing_of (states t) offer ∷ [] → WasClosed states (suc t) (generation_at (states t).heap offer.root)
-    old_closed actor mover offer is c closings = by (closed_at (states t) (generation_at (states t).heap offer.root)) refl
+        (run.records (suc t)).closings ≡ (run.records t).closings ++ closing_of (states t) offer ∷ [] → WasClosed run.records (suc t) (generation_at (states t).heap offer.root)
+    old_closed actor mover offer is c closings = by (closed_at (run.records t) (generation_at (states t).heap offer.root)) refl
       where
-        by : (was : Option ℕ) → closed_at (states t) (generation_at (states t).heap offer.root) ≡ was → WasClosed states (suc t) (generation_at (states t).heap offer.root)
+        by : (was : Option ℕ) → closed_at (run.records t) (generation_at (states t).heap offer.root) ≡ was → WasClosed run.records (suc t) (generation_at (states t).heap offer.root)
         by None none = (
           (states t).steps,
           omega (arith, steps_at limits states last run t (omega arith)),
-          ap (λ l. closed_in l (generation_at (states t).heap offer.root)) closings ∙ closed_last (states t).closings (closing_of (states t) offer)
+          ap (λ l. closed_in l (generation_at (states t).heap offer.root)) closings ∙ closed_last (run.records t).closings (closing_of (states t) offer)
               (generation_at (states t).heap offer.root) none refl,
         )
         by (Some d) e = (d, omega (arith, (closed_so t (omega arith) (generation_at (states t).heap offer.root) d e).0), closed_next t h (generation_at (states t).heap offer.root) d e)
 
-    opening_by : StepKind (states t) s (states (suc t)) → (handle : ℕ) (now : Root) → root_at (states (suc t)) handle ≡ Some now → gen (states (suc t)) now ≡ g → Opening t g
+    opening_by : StepKind (states t) (run.records t) s (states (suc t)) (run.records (suc t)) → (handle : ℕ) (now : Root) → root_at (states (suc t)) handle ≡ Some now →
+        gen (states (suc t)) now ≡ g → Opening t g
     opening_by (quiet closings roots) handle now e its = let (root, was, access, word) = roots handle now e in before (kept_root handle root now was word its)
     opening_by (swaps actor mover offer go is c closings roots) handle now e its = by (roots handle now e)
       where
@@ -202,12 +207,13 @@ module _ (limits : Limits) (states : ℕ → State) (last : ℕ) (run : IsRun li
             let same = one_carried (states t) (handle_of mover.call) (action_of (states t) mover) offer other c d in
             new_handle offer.second refl (it ∙ ap (λ (x : Descriptor). opened_root x x.second) same)
 
-  opening_turn : (t : ℕ) → t < last → (g : ℕ) → Turn (states t) (states (suc t)) → (handle : ℕ) (now : Root) → root_at (states (suc t)) handle ≡ Some now → gen (states (suc t)) now ≡ g → Opening t g
-  opening_turn t h g (turns s o m) =
-      opening_by t h s o m g (step_kind (states t) (ordered_at limits states last run t (omega arith)).offers s o (states (suc t)) m)
+  opening_turn : (t : ℕ) → t < last → (g : ℕ) (turn : Turn (states t) (states (suc t))) → run.records (suc t) ≡ noted_turn turn (run.records t) → (handle : ℕ) (now : Root) →
+      root_at (states (suc t)) handle ≡ Some now → gen (states (suc t)) now ≡ g → Opening t g
+  opening_turn t h g (turns s o m) notes =
+      opening_by t h s o m g (step_kind (states t) (ordered_at limits states last run t (omega arith)).offers (run.records t) (run.records (suc t)) s o (states (suc t)) m notes)
 
   pub opening : (t : ℕ) → t < last → (g : ℕ) → WasOpened states (suc t) g → Opening t g
   opening t h g (u, le, (handle, root, e, its)) = elim (cases_eq u (suc t)) [
-    | inl same ↦ opening_turn t h g (run.turn t h) handle root (subst (λ v. root_at (states v) handle ≡ Some root) same e) (subst (λ v. gen (states v) root ≡ g) same its)
+    | inl same ↦ opening_turn t h g (run.turn t h) (run.recorded t h) handle root (subst (λ v. root_at (states v) handle ≡ Some root) same e) (subst (λ v. gen (states v) root ≡ g) same its)
     | inr other ↦ before (u, omega arith, (handle, root, e, its))
   ]

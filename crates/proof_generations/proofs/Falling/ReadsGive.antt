@@ -1,5 +1,5 @@
 -- What a READ of an operation gives stood in the word of what it reads; and where a generation was closed before the READ, it was so before what it counts from.
-use Rattle.std.proofs.Common.{◌≡◌, ℕ, suc, ◌<◌, ◌⊎◌, inl, inr, Some, sym, ap, ◌∙◌, subst, arith}
+use Rattle.std.proofs.Common.{◌≡◌, ℕ, suc, ◌<◌, ◌⊎◌, inl, inr, Some, sym, ap, ◌∙◌, subst, arith, true}
 use Rattle.std.proofs.lemmas.Option.{same_Some}
 use Rattle.proof_generations.specs.Beneath.slot_arena.specs.declared.refs.Ref.{Ref}
 use Rattle.proof_generations.specs.Beneath.machine_model.specs.declared.operations.Operation.{Operation}
@@ -7,14 +7,13 @@ use Rattle.proof_generations.specs.Beneath.machine_model.specs.declared.reading.
 use Rattle.proof_generations.specs.Beneath.machine_model.specs.declared.reading.Read.{Read}
 use Rattle.proof_generations.specs.Beneath.machine_model.specs.declared.reading.ReadLine.{ReadLine}
 use Rattle.proof_generations.specs.Beneath.machine_model.specs.declared.reading.ReadLine.TheVariants as read
-use Rattle.proof_generations.specs.Beneath.machine_model.specs.declared.steps.Limits.{Limits}
+use Rattle.proof_generations.specs.Beneath.machine_model.specs.declared.steps.Bounds.{Bounds}
 use Rattle.proof_generations.specs.Beneath.machine_model.specs.declared.steps.Outcome.{Outcome}
 use Rattle.proof_generations.specs.Beneath.machine_model.specs.declared.steps.Step.TheVariants as step
 use Rattle.proof_generations.specs.Beneath.machine_model.specs.Calls.{handle_of}
 use Rattle.proof_generations.specs.Beneath.machine_model.specs.States.{State, word_at, operation_of}
 use Rattle.proof_generations.specs.Beneath.machine_model.specs.Reading.{read_after, read_step, read_action}
 use Rattle.proof_generations.specs.Beneath.machine_model.specs.Operations.{action_of}
-use Rattle.proof_generations.specs.Beneath.machine_model.specs.Orders.{counted_from, read_at_after}
 use Rattle.proof_generations.specs.Beneath.machine_model.specs.Acting.{gone}
 use Rattle.proof_generations.specs.Beneath.machine_model.specs.Counting.{settled}
 use Rattle.proof_generations.specs.Beneath.machine_model.specs.Moves.{Goes, Ends}
@@ -29,6 +28,11 @@ use Rattle.proof_commits.proofs.Lines.Reads.{on_stage, read_counts}
 use Rattle.proof_commits.proofs.Words.Along.{reading_turn}
 use Rattle.proof_commits.proofs.Course.OfLists.{given_read}
 use Rattle.proof_generations.proofs.Falling.KnownRoots.{words, known, protocol_of}
+use Rattle.proof_generations.specs.Beneath.machine_model.specs.Records.{read_at_after, noted_progress, moment_at}
+use Rattle.proof_generations.specs.Beneath.machine_model.specs.Tellings.{progress_of, counts_from}
+use Rattle.proof_generations.specs.Beneath.machine_model.specs.Machine.{is_actor}
+use Rattle.proof_generations.specs.Beneath.machine_model.specs.declared.records.Moment.{Moment}
+use Rattle.proof_generations.specs.Beneath.machine_model.proofs.Alike.{alike, moment_goes}
 
 -- the state after a step of an operation that goes on
 pub gone_is : (before : State) (actor : ℕ) (o : Outcome) (after : State) → Moves before (step.Go actor) o after → (operation : Operation) → operation_of before actor ≡ Some operation →
@@ -50,7 +54,7 @@ counts_late (read.Abort m p offer) c t before lt (inl e) = let wrong : ⊥ = cc 
 counts_late (read.Decide m p told) c t before lt (inr late) = late
 counts_late (read.Decide m p told) c t before lt (inl e) = let wrong : ⊥ = cc e in absurd wrong
 
-module _ (limits : Limits) (states : ℕ → State) (last : ℕ) (run : IsRun limits states last) (t : ℕ) (lt : t < last) (actor : ℕ) (operation : Operation)
+module _ (limits : Bounds) (states : ℕ → State) (last : ℕ) (run : IsRun limits states last) (t : ℕ) (lt : t < last) (actor : ℕ) (operation : Operation)
     (is : operation_of (states t) actor ≡ Some operation) (r : Read) (stage : stage_of operation.line ≡ Reads r.indirection r.line) where
   -- its action is the READ's
   pub reads_action : action_of (states t) operation ≡ read_action r.indirection r.line
@@ -64,25 +68,32 @@ module _ (limits : Limits) (states : ℕ → State) (last : ℕ) (run : IsRun li
   read_goes i (read.Decide m p told) = tt
   read_goes i (read.Restore m p) = tt
 
-  pub reads_on : GoesOn (action_of (states t) operation)
-  reads_on = subst GoesOn (sym reads_action) (read_goes r.indirection r.line)
+  pub reads_goes : GoesOn (action_of (states t) operation)
+  reads_goes = subst GoesOn (sym reads_action) (read_goes r.indirection r.line)
 
+-- and what is noted of it
+module _ (limits : Bounds) (states : ℕ → State) (last : ℕ) (run : IsRun limits states last) (t : ℕ) (lt : t < last) (actor : ℕ) (operation : Operation)
+    (is : operation_of (states t) actor ≡ Some operation) (r : Read) (stage : stage_of operation.line ≡ Reads r.indirection r.line)
+    (noted : run.records (suc t) ≡ noted_progress (run.records t) (states t).steps actor (progress_of (states t) operation)) where
   -- the time from which it counts
-  pub counted_at : read_at_after (states t) operation ≡ counts_at r.line t operation.read_at
-  counted_at =
-      ap (λ a. counted_from a (states t).steps operation.read_at) reads_action ∙ ap (λ n. counted_from (read_action r.indirection r.line) n operation.read_at)
-      (steps_at limits states last run t (omega arith))
-      ∙ read_counts r.indirection r.line t operation.read_at
+  pub counted_at : is_actor (states t) actor ≡ true → (moment_at (run.records (suc t)) actor).read_at ≡ counts_at r.line t (moment_at (run.records t) actor).read_at
+  counted_at own =
+      ap (λ past. (moment_at past actor).read_at) noted
+      ∙ ap (λ (x : Moment). x.read_at) (moment_goes (states t) (run.records t) actor operation (alike limits states last run t (omega arith)) own)
+      ∙ ap (λ a. read_at_after (states t).steps (counts_from a) (moment_at (run.records t) actor).read_at) (reads_action limits states last run t lt actor operation is r stage)
+      ∙ ap (λ n. read_at_after n (counts_from (read_action r.indirection r.line)) (moment_at (run.records t) actor).read_at) (steps_at limits states last run t (omega arith))
+      ∙ read_counts r.indirection r.line t (moment_at (run.records t) actor).read_at
 
-  pub late_after : (c : ℕ) → c < t → (r.line ≡ read.Main) ⊎ (c < operation.read_at) → c < read_at_after (states t) operation
-  late_after c before since = omega (arith, counted_at, counts_late r.line c t operation.read_at before since)
+  pub late_after : is_actor (states t) actor ≡ true → (c : ℕ) → c < t → (r.line ≡ read.Main) ⊎ (c < (moment_at (run.records t) actor).read_at) →
+      c < (moment_at (run.records (suc t)) actor).read_at
+  late_after own c before since = omega (arith, counted_at own, counts_late r.line c t (moment_at (run.records t) actor).read_at before since)
 
   -- what it gives stood in the word
-  pub given_stands : (o : Outcome) → Moves (states t) (step.Go actor) o (states (suc t)) → (m : Ref) → read_step (states t) operation r ≡ Gives m → Stood (words states last) (suc t) r.indirection m
+  pub given_stands : (o : Outcome) → Moves (states t) (step.Go actor) o (states (suc t)) → (m : Ref) → read_step (states t) operation r ≡ Gives m →
+      Stood (words states run.records last) (suc t) r.indirection m
   given_stands o moves m gives =
-      let turn = reading_turn limits states last (known limits states last run) t lt actor operation o moves is
-      (gone_is (states t) actor o (states (suc t)) moves operation is reads_on) r.indirection r.line stage in
+      let turn = reading_turn limits states last (known limits states last run) t lt actor operation o moves is noted r.indirection r.line stage in
       let out = given_read r.indirection (read_after (states t).heap operation.access (word_at (states t) (handle_of operation.call)) r.indirection r.line) m gives in
-      let given : Given (words states last) (suc t) actor r.indirection m =
-      record { at = t; past = omega arith; line = r.line; stage = ap stage_of_actor is ∙ stage; gives = subst (λ x. ReadTurn (words states last) t r.indirection r.line x) out turn } in
+      let given : Given (words states run.records last) (suc t) actor r.indirection m =
+      record { at = t; past = omega arith; line = r.line; stage = ap stage_of_actor is ∙ stage; gives = subst (λ x. ReadTurn (words states run.records last) t r.indirection r.line x) out turn } in
       ((sound_at (protocol_of limits states last run) (suc t) lt).given actor r.indirection m given).stood

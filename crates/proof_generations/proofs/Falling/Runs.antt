@@ -7,7 +7,7 @@ use Rattle.proof_generations.specs.Beneath.slot_arena.specs.declared.refs.Ref.{R
 use Rattle.proof_generations.specs.Beneath.slot_arena.specs.Heaps.{node_at, generation_of, entries_of}
 use Rattle.proof_generations.specs.Beneath.machine_model.specs.declared.operations.Operation.{Operation}
 use Rattle.proof_generations.specs.Beneath.machine_model.specs.declared.reading.Read.{Read}
-use Rattle.proof_generations.specs.Beneath.machine_model.specs.declared.steps.Limits.{Limits}
+use Rattle.proof_generations.specs.Beneath.machine_model.specs.declared.steps.Bounds.{Bounds}
 use Rattle.proof_generations.specs.Beneath.machine_model.specs.States.{State}
 use Rattle.proof_generations.specs.Beneath.machine_model.proofs.Actors.{mark_one, mark_only}
 use Rattle.proof_generations.specs.Beneath.machine_model.specs.Times.{IsRun}
@@ -23,6 +23,8 @@ use Rattle.proof_generations.proofs.Falling.Nodes.{used_entries, used_single, to
 use Rattle.proof_generations.proofs.Falling.Opened.{closed_next, was_closed_next, below_next}
 use Rattle.proof_generations.proofs.Lines.Knows.{Knows, IsInner, knows_still}
 use Rattle.proof_generations.proofs.Lines.Reader.{KnowsReader, reader_still}
+use Rattle.proof_generations.specs.Beneath.machine_model.specs.Records.{Record, moment_at}
+use Rattle.proof_generations.specs.Beneath.machine_model.specs.declared.records.Moment.{Moment}
 
 module _ (states : ℕ → State) (last : ℕ) where
   -- the generation of an indirection
@@ -35,140 +37,143 @@ module _ (states : ℕ → State) (last : ℕ) where
   abbrev pub IsLink : Ref → Type 0
   IsLink r = (h : ℕ) × IsIndirectionOf states last h r
 
+  -- it has no greater one
+  abbrev pub NotNewer : ℕ → Ref → Type 0
+  NotNewer g r = (h : ℕ) → IsIndirectionOf states last h r → h ≤ g
+
+module _ (states : ℕ → State) (records : ℕ → Record) (last : ℕ) where
   -- where the entry is an indirection it may stand below that generation
   abbrev pub FitsBelow : ℕ → ℕ → Ref → Type 0
-  FitsBelow t g r = (h : ℕ) → IsIndirectionOf states last h r → MayStandBelow states t g h
+  FitsBelow t g r = (h : ℕ) → IsIndirectionOf states last h r → MayStandBelow records t g h
 
   -- the same of all entries of a main node
   abbrev pub FallsBelow : ℕ → ℕ → Ref → Type 0
   FallsBelow t g m = All (FitsBelow t g) (entries_of (node_under states last m))
 
-  -- it has no greater one
-  abbrev pub NotNewer : ℕ → Ref → Type 0
-  NotNewer g r = (h : ℕ) → IsIndirectionOf states last h r → h ≤ g
-
   -- a READ of such an entry: where it is of another generation, that was closed before
-  abbrev pub LateBelow : ℕ → Operation → ℕ → Read → Type 0
-  LateBelow t operation g r =
-      IsLink r.indirection × FitsBelow t g r.indirection × ((gen_of r.indirection ≡ g → ⊥) → IsLate states t operation r (gen_of r.indirection))
+  abbrev pub LateBelow : ℕ → Moment → ℕ → Read → Type 0
+  LateBelow t x g r =
+      IsLink states last r.indirection × FitsBelow t g r.indirection × ((gen_of states last r.indirection ≡ g → ⊥) → IsLate records t x r (gen_of states last r.indirection))
 
   -- where the entry is an indirection it is closed
   abbrev pub Ends : ℕ → Ref → Type 0
-  Ends t r = (h : ℕ) → IsIndirectionOf states last h r → WasClosed states t h
+  Ends t r = (h : ℕ) → IsIndirectionOf states last h r → WasClosed records t h
 
   abbrev pub Shut : ℕ → Ref → Type 0
   Shut t m = All (Ends t) (entries_of (node_under states last m))
 
-  abbrev pub LateEnd : ℕ → Operation → Read → Type 0
-  LateEnd t operation r = IsLink r.indirection × IsLate states t operation r (gen_of r.indirection)
+  abbrev pub LateEnd : ℕ → Moment → Read → Type 0
+  LateEnd t x r = IsLink states last r.indirection × IsLate records t x r (gen_of states last r.indirection)
 
   -- ---- what is known
 
   -- below an indirection no generation is greater; and where its own was opened all fall
   pub record MainsFall (t : ℕ) : Type 0 where
-    pub older : (i m : Ref) → Stood (words states last) t i m → All (NotNewer (gen_of i)) (entries_of (node_under states last m))
-    pub falls : (i m : Ref) → Stood (words states last) t i m → WasOpened states t (gen_of i) → FallsBelow t (gen_of i) m
+    pub older : (i m : Ref) → Stood (words states records last) t i m → All (NotNewer states last (gen_of states last i)) (entries_of (node_under states last m))
+    pub falls : (i m : Ref) → Stood (words states records last) t i m → WasOpened states t (gen_of states last i) → FallsBelow t (gen_of states last i) m
 
-  abbrev pub KnowsWritable : ℕ → Operation → Type 0
-  KnowsWritable t operation =
-      IsInner operation.line → (g : ℕ) × (operation.generation ≡ Some g) × Knows (IsOwn g) (FitsBelow t g) (FallsBelow t g) (LateBelow t operation g) operation.line
+  abbrev pub KnowsWritable : ℕ → Moment → Operation → Type 0
+  KnowsWritable t x operation =
+      IsInner operation.line → (g : ℕ) × (operation.generation ≡ Some g) × Knows (IsOwn states last g) (FitsBelow t g) (FallsBelow t g) (LateBelow t x g) operation.line
 
-  abbrev pub KnowsReadOnly : ℕ → Operation → Type 0
-  KnowsReadOnly t operation = KnowsReader (Ends t) (Shut t) (LateEnd t operation) operation.line
+  abbrev pub KnowsReadOnly : ℕ → Moment → Operation → Type 0
+  KnowsReadOnly t x operation = KnowsReader (Ends t) (Shut t) (LateEnd t x) operation.line
 
-  abbrev pub KnowsGenerations : ℕ → Operation → Type 0
-  KnowsGenerations t operation = (operation.access ≡ Writable → KnowsWritable t operation) × (operation.access ≡ ReadOnly → KnowsReadOnly t operation)
+  abbrev pub KnowsGenerations : ℕ → Moment → Operation → Type 0
+  KnowsGenerations t x operation = (operation.access ≡ Writable → KnowsWritable t x operation) × (operation.access ≡ ReadOnly → KnowsReadOnly t x operation)
 
   abbrev pub AllKnow : ℕ → Type 0
-  AllKnow t = (k : ℕ) (operation : Operation) → Runs (states t) k operation → KnowsGenerations t operation
+  AllKnow t = (k : ℕ) (operation : Operation) → Runs (states t) k operation → KnowsGenerations t (moment_at (records t) (suc k)) operation
 
   -- a fresh root is the only indirection of its generation; below it stands what stands below the operation's root
   pub record FreshFalls (t : ℕ) (operation : Operation) (r : Ref) : Type 0 where
-    pub only : (i : Ref) → (words states last).link t i ≡ true → gen_of i ≡ gen_of r → i ≡ r
-    pub falls : (m : Ref) (g : ℕ) → Stood (words states last) t r m → operation.generation ≡ Some g → FallsBelow t g m
-    pub newer : (g : ℕ) → operation.generation ≡ Some g → g < gen_of r
+    pub only : (i : Ref) → (words states records last).link t i ≡ true → gen_of states last i ≡ gen_of states last r → i ≡ r
+    pub falls : (m : Ref) (g : ℕ) → Stood (words states records last) t r m → operation.generation ≡ Some g → FallsBelow t g m
+    pub newer : (g : ℕ) → operation.generation ≡ Some g → g < gen_of states last r
 
   abbrev pub FreshFall : ℕ → Type 0
   FreshFall t = (k : ℕ) (operation : Operation) (x : Bool) (r : Ref) → Runs (states t) k operation → operation.is_marked ≡ false → fresh_in x operation.line ≡ Some r → FreshFalls t operation r
 
   -- ---- of one time
 
-  pub own_fits : (t g : ℕ) (r : Ref) → IsOwn g r → FitsBelow t g r
+  pub own_fits : (t g : ℕ) (r : Ref) → IsOwn states last g r → FitsBelow t g r
   own_fits t g r own h is = inl (sym (told_generation states last h r is) ∙ own)
 
   -- what may stand below what may stand below
-  pub below_below : (t g h k : ℕ) → MayStandBelow states t g h → MayStandBelow states t h k → MayStandBelow states t g k
-  below_below t g h k (inl same) under = subst (λ x. MayStandBelow states t x k) same under
-  below_below t g h k (inr (less, closed)) (inl same) = inr (omega arith, subst (λ x. WasClosed states t x) (sym same) closed)
+  pub below_below : (t g h k : ℕ) → MayStandBelow records t g h → MayStandBelow records t h k → MayStandBelow records t g k
+  below_below t g h k (inl same) under = subst (λ x. MayStandBelow records t x k) same under
+  below_below t g h k (inr (less, closed)) (inl same) = inr (omega arith, subst (λ x. WasClosed records t x) (sym same) closed)
   below_below t g h k (inr (less, closed)) (inr (less', closed')) = inr (omega arith, closed')
 
-  pub falls_below : (t g h : ℕ) (m : Ref) → MayStandBelow states t g h → FallsBelow t h m → FallsBelow t g m
+  pub falls_below : (t g h : ℕ) (m : Ref) → MayStandBelow records t g h → FallsBelow t h m → FallsBelow t g m
   falls_below t g h m under = All-weaker (FitsBelow t h) (FitsBelow t g) (λ r fits k is. below_below t g h k under (fits k is)) (entries_of (node_under states last m))
 
   -- below a closed one all is closed
-  pub falls_shut : (t h : ℕ) (m : Ref) → WasClosed states t h → FallsBelow t h m → Shut t m
+  pub falls_shut : (t h : ℕ) (m : Ref) → WasClosed records t h → FallsBelow t h m → Shut t m
   falls_shut t h m closed = All-weaker (FitsBelow t h) (Ends t) (λ r fits k is. by k (fits k is)) (entries_of (node_under states last m))
     where
-      by : (k : ℕ) → MayStandBelow states t h k → WasClosed states t k
-      by k (inl same) = subst (λ x. WasClosed states t x) (sym same) closed
+      by : (k : ℕ) → MayStandBelow records t h k → WasClosed records t k
+      by k (inl same) = subst (λ x. WasClosed records t x) (sym same) closed
       by k (inr (less, other)) = other
 
-  pub falls_older : (t g : ℕ) (m : Ref) → FallsBelow t g m → All (NotNewer g) (entries_of (node_under states last m))
-  falls_older t g m = All-weaker (FitsBelow t g) (NotNewer g) (λ r fits k is. by k (fits k is)) (entries_of (node_under states last m))
+  pub falls_older : (t g : ℕ) (m : Ref) → FallsBelow t g m → All (NotNewer states last g) (entries_of (node_under states last m))
+  falls_older t g m = All-weaker (FitsBelow t g) (NotNewer states last g) (λ r fits k is. by k (fits k is)) (entries_of (node_under states last m))
     where
-      by : (k : ℕ) → MayStandBelow states t g k → k ≤ g
+      by : (k : ℕ) → MayStandBelow records t g k → k ≤ g
       by k (inl same) = omega arith
       by k (inr (less, other)) = omega (arith, less)
 
 -- ---- later
 
-module _ (limits : Limits) (states : ℕ → State) (last : ℕ) (run : IsRun limits states last) (t : ℕ) (lt : t < last) where
-  pub fits_next : (g : ℕ) (r : Ref) → FitsBelow states last t g r → FitsBelow states last (suc t) g r
+module _ (limits : Bounds) (states : ℕ → State) (last : ℕ) (run : IsRun limits states last) (t : ℕ) (lt : t < last) where
+  pub fits_next : (g : ℕ) (r : Ref) → FitsBelow states run.records last t g r → FitsBelow states run.records last (suc t) g r
   fits_next g r fits h is = below_next limits states last run t lt g h (fits h is)
 
-  pub falls_next : (g : ℕ) (m : Ref) → FallsBelow states last t g m → FallsBelow states last (suc t) g m
-  falls_next g m = All-weaker (FitsBelow states last t g) (FitsBelow states last (suc t) g) (fits_next g) (entries_of (node_under states last m))
+  pub falls_next : (g : ℕ) (m : Ref) → FallsBelow states run.records last t g m → FallsBelow states run.records last (suc t) g m
+  falls_next g m = All-weaker (FitsBelow states run.records last t g) (FitsBelow states run.records last (suc t) g) (fits_next g) (entries_of (node_under states last m))
 
-  pub ends_next : (r : Ref) → Ends states last t r → Ends states last (suc t) r
+  pub ends_next : (r : Ref) → Ends states run.records last t r → Ends states run.records last (suc t) r
   ends_next r ends h is = was_closed_next limits states last run t lt h (ends h is)
 
-  pub shut_next : (m : Ref) → Shut states last t m → Shut states last (suc t) m
-  shut_next m = All-weaker (Ends states last t) (Ends states last (suc t)) ends_next (entries_of (node_under states last m))
+  pub shut_next : (m : Ref) → Shut states run.records last t m → Shut states run.records last (suc t) m
+  shut_next m = All-weaker (Ends states run.records last t) (Ends states run.records last (suc t)) ends_next (entries_of (node_under states last m))
 
-  late_next : (operation : Operation) (r : Read) (h : ℕ) → IsLate states t operation r h → IsLate states (suc t) operation r h
-  late_next operation r h (c, before, closed, since) = (c, omega (arith, before), closed_next limits states last run t lt h c closed, since)
+  late_next : (x : Moment) (r : Read) (h : ℕ) → IsLate run.records t x r h → IsLate run.records (suc t) x r h
+  late_next x r h (c, before, closed, since) = (c, omega (arith, before), closed_next limits states last run t lt h c closed, since)
 
-  below_late_next : (operation : Operation) (g : ℕ) (r : Read) → LateBelow states last t operation g r → LateBelow states last (suc t) operation g r
-  below_late_next operation g r (link, fits, late) = (link, fits_next g r.indirection fits, λ other. late_next operation r _ (late other))
+  below_late_next : (x : Moment) (g : ℕ) (r : Read) → LateBelow states run.records last t x g r → LateBelow states run.records last (suc t) x g r
+  below_late_next x g r (link, fits, late) = (link, fits_next g r.indirection fits, λ other. late_next x r _ (late other))
 
-  end_late_next : (operation : Operation) (r : Read) → LateEnd states last t operation r → LateEnd states last (suc t) operation r
-  end_late_next operation r (link, late) = (link, late_next operation r _ late)
+  end_late_next : (x : Moment) (r : Read) → LateEnd states run.records last t x r → LateEnd states run.records last (suc t) x r
+  end_late_next x r (link, late) = (link, late_next x r _ late)
 
   -- an operation that rests knows the same
-  pub knows_next : (operation : Operation) → KnowsGenerations states last t operation → KnowsGenerations states last (suc t) operation
-  knows_next operation (writable, read_only) = (
+  pub knows_next : (x : Moment) (operation : Operation) → KnowsGenerations states run.records last t x operation → KnowsGenerations states run.records last (suc t) x operation
+  knows_next x operation (writable, read_only) = (
     λ w inner. let (g, is, k) = writable w inner in (
       g,
       is,
-      knows_still (IsOwn states last g) (FitsBelow states last t g) (FallsBelow states last t g) (LateBelow states last t operation g)
-          (FitsBelow states last (suc t) g) (FallsBelow states last (suc t) g)
-          (LateBelow states last (suc t) operation g) (fits_next g) (falls_next g) (below_late_next operation g) operation.line k,
+      knows_still (IsOwn states last g) (FitsBelow states run.records last t g) (FallsBelow states run.records last t g) (LateBelow states run.records last t x g)
+          (FitsBelow states run.records last (suc t) g) (FallsBelow states run.records last (suc t) g)
+          (LateBelow states run.records last (suc t) x g) (fits_next g) (falls_next g) (below_late_next x g) operation.line k,
     ),
-    λ r. reader_still (Ends states last t) (Shut states last t) (LateEnd states last t operation) (Ends states last (suc t)) (Shut states last (suc t))
-        (LateEnd states last (suc t) operation) ends_next shut_next
-        (end_late_next operation) operation.line (read_only r),
+    λ r. reader_still (Ends states run.records last t) (Shut states run.records last t) (LateEnd states run.records last t x) (Ends states run.records last (suc t))
+        (Shut states run.records last (suc t))
+        (LateEnd states run.records last (suc t) x) ends_next shut_next
+        (end_late_next x) operation.line (read_only r),
   )
 
   -- with what is in use now
-  pub entries_fit : (u g : ℕ) (m : Ref) → IsInUse (states t).heap m → FallsBelow states last u g m → All (FitsBelow states last u g) (entries_of (node_at (states t).heap m))
-  entries_fit u g m used falls = subst (All (FitsBelow states last u g)) (used_entries limits states last run t (omega arith) m used) falls
+  pub entries_fit : (u g : ℕ) (m : Ref) → IsInUse (states t).heap m → FallsBelow states run.records last u g m → All (FitsBelow states run.records last u g) (entries_of (node_at (states t).heap m))
+  entries_fit u g m used falls = subst (All (FitsBelow states run.records last u g)) (used_entries limits states last run t (omega arith) m used) falls
 
-  pub entries_end : (u : ℕ) (m : Ref) → IsInUse (states t).heap m → Shut states last u m → All (Ends states last u) (entries_of (node_at (states t).heap m))
-  entries_end u m used shut = subst (All (Ends states last u)) (used_entries limits states last run t (omega arith) m used) shut
+  pub entries_end : (u : ℕ) (m : Ref) → IsInUse (states t).heap m → Shut states run.records last u m → All (Ends states run.records last u) (entries_of (node_at (states t).heap m))
+  entries_end u m used shut = subst (All (Ends states run.records last u)) (used_entries limits states last run t (omega arith) m used) shut
 
-  pub single_fits : (u g : ℕ) (r : Ref) → IsInUse (states t).heap r → meets ASingle (node_at (states t).heap r) ≡ true → FitsBelow states last u g r
+  pub single_fits : (u g : ℕ) (r : Ref) → IsInUse (states t).heap r → meets ASingle (node_at (states t).heap r) ≡ true → FitsBelow states run.records last u g r
   single_fits u g r used e h is = absurd (used_single limits states last run t (omega arith) r used e h is)
 
 -- a mark changes nothing
-pub marked_knows : (states : ℕ → State) (last t : ℕ) (m : _) (operation : Operation) → KnowsGenerations states last t operation → KnowsGenerations states last t (mark_one m operation)
-marked_knows states last t m operation h = rw (mark_only m operation) h
+pub marked_knows : (states : ℕ → State) (records : ℕ → Record) (last t : ℕ) (x : Moment) (m : _) (operation : Operation) → KnowsGenerations states records last t x operation →
+    KnowsGenerations states records last t x (mark_one m operation)
+marked_knows states records last t x m operation h = rw (mark_only m operation) h

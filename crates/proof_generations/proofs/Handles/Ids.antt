@@ -1,23 +1,19 @@
 -- Ids: each is given once, in the order of begins, so no two running operations have one id.
-use Rattle.std.proofs.Common.{◌≡◌, ℕ, suc, ◌+◌, ◌<◌, ◌≤◌, refl, sym, ap, ◌∙◌, subst, arith}
+use Rattle.std.proofs.Common.{◌≡◌, ℕ, suc, ◌+◌, ◌<◌, ◌≤◌, sym, ap, ◌∙◌, subst, arith, Some}
 use Rattle.proof_generations.specs.Beneath.history.specs.declared.calls.Call.{Call}
-use Rattle.proof_generations.specs.Beneath.history.specs.declared.events.Event.TheVariants.{End}
-use Rattle.proof_generations.specs.Beneath.history.specs.Histories.{begun}
-use Rattle.proof_generations.specs.Beneath.history.proofs.Begins.{begun_push, begun_same}
 use Rattle.proof_generations.specs.Beneath.machine_model.specs.declared.operations.Operation.{Operation}
-use Rattle.proof_generations.specs.Beneath.machine_model.specs.declared.steps.Limits.{Limits}
+use Rattle.proof_generations.specs.Beneath.machine_model.specs.declared.steps.Bounds.{Bounds}
 use Rattle.proof_generations.specs.Beneath.machine_model.specs.declared.steps.Outcome.{Outcome}
 use Rattle.proof_generations.specs.Beneath.machine_model.specs.declared.steps.Step.{Step}
 use Rattle.proof_generations.specs.Beneath.machine_model.specs.declared.steps.Step.TheVariants as step
 use Rattle.proof_generations.specs.Beneath.machine_model.specs.Calls.{handle_of}
-use Rattle.proof_generations.specs.Beneath.machine_model.specs.States.{State, first_state}
+use Rattle.proof_generations.specs.Beneath.machine_model.specs.States.{State, first_state, with_operation}
 use Rattle.proof_generations.specs.Beneath.machine_model.specs.Operations.{action_of}
-use Rattle.proof_generations.specs.Beneath.machine_model.specs.Acting.{operation_after, gone}
-use Rattle.proof_generations.specs.Beneath.machine_model.specs.Machine.{with_begin}
+use Rattle.proof_generations.specs.Beneath.machine_model.specs.Acting.{operation_after}
 use Rattle.proof_generations.specs.Beneath.machine_model.specs.Moves.{Begins, Goes, Ends, Sweeps}
 use Rattle.proof_generations.specs.Beneath.machine_model.specs.Moves.{Moves, begun_operation}
 use Rattle.proof_generations.specs.Beneath.machine_model.proofs.Found.{none_found}
-use Rattle.proof_generations.specs.Beneath.machine_model.proofs.Frames.{acted_framed, begin_events}
+use Rattle.proof_generations.specs.Beneath.machine_model.proofs.Frames.{acted_framed, begin_counted}
 use Rattle.proof_generations.specs.Beneath.machine_model.proofs.Actors.{mark_one, mark_only}
 use Rattle.proof_generations.proofs.Handles.Running.{Comes, began, rested, went, comes, one_at}
 use Rattle.proof_generations.specs.Running.{Runs}
@@ -25,21 +21,16 @@ use Rattle.proof_generations.specs.Running.{Runs}
 -- ---- how many have begun
 
 -- never less
-pub begun_kept : (state : State) (s : Step) (o : Outcome) (after : State) → Moves state s o after → begun state.events ≤ begun after.events
-begun_kept state s o after (Begins {actor} {call} d) = omega (arith, begun_one_more state actor call)
-  where
-    begun_one_more : (state : State) (actor : ℕ) (call : Call) → begun (with_begin state actor call (begun_operation state call)).events ≡ begun state.events + 1
-    begun_one_more state actor call = ap begun (begin_events state actor call (begun_operation state call)) ∙ begun_push state.events _ refl
-begun_kept state s o after (Goes {actor} {operation} d is a g) = omega (arith, gone_begun state actor operation)
-  where
-    gone_begun : (state : State) (actor : ℕ) (operation : Operation) → begun (gone state actor operation).events ≡ begun state.events
-    gone_begun state actor operation = ap begun ((acted_framed _ (handle_of operation.call) (action_of state operation)).events)
-begun_kept state s o after (Ends {operation} {answer} d is a) = omega (arith, begun_same state.events (End operation.id answer) refl)
+pub begun_kept : (state : State) (s : Step) (o : Outcome) (after : State) → Moves state s o after → state.begun ≤ after.begun
+begun_kept state s o after (Begins {actor} {call} d) = omega (arith, begin_counted state actor call (begun_operation state call))
+begun_kept state s o after (Goes {actor} {operation} d is a g) =
+    omega (arith, (acted_framed (with_operation state actor (Some (operation_after state operation))) (handle_of operation.call) (action_of state operation)).begun)
+begun_kept state s o after (Ends d is a) = omega arith
 begun_kept state s o after (Sweeps spent) = omega arith
 
 -- one more with a begin
-pub begun_more : (state : State) (s : Step) (o : Outcome) (after : State) → Moves state s o after → (actor : ℕ) (call : Call) → s ≡ step.Begin actor call → begun after.events ≡ begun state.events + 1
-begun_more state s o after (Begins {actor} {call} d) other c e = ap begun (begin_events state actor call (begun_operation state call)) ∙ begun_push state.events _ refl
+pub begun_more : (state : State) (s : Step) (o : Outcome) (after : State) → Moves state s o after → (actor : ℕ) (call : Call) → s ≡ step.Begin actor call → after.begun ≡ state.begun + 1
+begun_more state s o after (Begins {actor} {call} d) other c e = begin_counted state actor call (begun_operation state call)
 begun_more state s o after (Goes d is a g) other c e = let wrong : ⊥ = cc e in absurd wrong
 begun_more state s o after (Ends d is a) other c e = let wrong : ⊥ = cc e in absurd wrong
 begun_more state s o after (Sweeps spent) other c e = let wrong : ⊥ = cc e in absurd wrong
@@ -47,7 +38,7 @@ begun_more state s o after (Sweeps spent) other c e = let wrong : ⊥ = cc e in 
 -- ---- ids
 
 pub record HasIds (state : State) : Type 0 where
-  pub below : (k : ℕ) (operation : Operation) → Runs state k operation → operation.id < begun state.events
+  pub below : (k : ℕ) (operation : Operation) → Runs state k operation → operation.id < state.begun
   pub distinct : (k j : ℕ) (a b : Operation) → Runs state k a → Runs state j b → a.id ≡ b.id → k ≡ j
 
 marked_id : (m : _) (operation : Operation) → (mark_one m operation).id ≡ operation.id
@@ -59,15 +50,15 @@ RanSo state k id = (was : Operation) × Runs state k was × (was.id ≡ id)
 
 -- a running operation's id is that of the step's begin, or one that ran there before
 data IdFrom (state : State) (s : Step) (k : ℕ) (id : ℕ) : Type 0 where
-  new : (call : Call) → s ≡ step.Begin (suc k) call → id ≡ begun state.events → IdFrom state s k id
+  new : (call : Call) → s ≡ step.Begin (suc k) call → id ≡ state.begun → IdFrom state s k id
   old : RanSo state k id → IdFrom state s k id
 
 id_from : (state : State) (s : Step) (k : ℕ) (found : Operation) → Comes state s k found → IdFrom state s k found.id
 id_from state s k found (began call is d it) = new call is (ap (λ (o : Operation). o.id) it)
-id_from state s k found (rested was at_k it) = old (was, at_k, sym (ap (λ (o : Operation). o.id) it ∙ marked_id _ was))
+id_from state s k found (rested was at_k it other_step) = old (was, at_k, sym (ap (λ (o : Operation). o.id) it ∙ marked_id _ was))
 id_from state s k found (went was is at_k g it) = old (was, at_k, sym (ap (λ (o : Operation). o.id) it ∙ marked_id _ (operation_after state was)))
 
-below_by : (state : State) (s : Step) (o : Outcome) (after : State) → Moves state s o after → HasIds state → (k id : ℕ) → IdFrom state s k id → id < begun after.events
+below_by : (state : State) (s : Step) (o : Outcome) (after : State) → Moves state s o after → HasIds state → (k id : ℕ) → IdFrom state s k id → id < after.begun
 below_by state s o after m h k id (new call is it) = omega (arith, begun_more state s o after m (suc k) call is)
 below_by state s o after m h k id (old (was, at_k, it)) = omega (arith, h.below k was at_k, begun_kept state s o after m)
 
@@ -87,7 +78,7 @@ ids_after state s o after m h = record {
       distinct_by state s h k j a.id (id_from state s k a (comes state s o after m k a at_k)) (subst (λ id. IdFrom state s j id) (sym same) (id_from state s j b (comes state s o after m j b at_j)));
 }
 
-pub ids_at_first : (limits : Limits) → HasIds (first_state limits)
+pub ids_at_first : (limits : Bounds) → HasIds (first_state limits)
 unfolding first_state
 ids_at_first limits = record {
   below = λ k operation at_k. absurd (none_found limits.actors k operation at_k);

@@ -10,7 +10,7 @@ use Rattle.proof_generations.specs.Beneath.history.specs.declared.calls.Call.{Ca
 use Rattle.proof_generations.specs.Beneath.machine_model.specs.declared.operations.Operation.{Operation}
 use Rattle.proof_generations.specs.Beneath.machine_model.specs.declared.roots.Descriptor.{Descriptor}
 use Rattle.proof_generations.specs.Beneath.machine_model.specs.declared.roots.Root.{Root}
-use Rattle.proof_generations.specs.Beneath.machine_model.specs.declared.steps.Limits.{Limits}
+use Rattle.proof_generations.specs.Beneath.machine_model.specs.declared.steps.Bounds.{Bounds}
 use Rattle.proof_generations.specs.Beneath.machine_model.specs.declared.steps.Outcome.{Outcome}
 use Rattle.proof_generations.specs.Beneath.machine_model.specs.declared.steps.Step.{Step}
 use Rattle.proof_generations.specs.Beneath.machine_model.specs.declared.steps.Step.TheVariants as step
@@ -101,8 +101,8 @@ none_reserves state n k operation e at_k unmarked its =
 -- ---- a close
 
 -- it opens none
-begun_none : (state : State) (call : Call) (id handle : ℕ) → root_at state handle ≡ None → root_at (handle_closed state call id) handle ≡ None
-begun_none state call id handle none =
+begun_none : (state : State) (call : Call) (handle : ℕ) → root_at state handle ≡ None → root_at (handle_closed state call) handle ≡ None
+begun_none state call handle none =
     cond_both (is_close call) _ _ (λ (s : State). root_at s handle ≡ None) (λ e. by (get_or (set state.roots (handle_of call) None) handle None) refl) (λ e. none)
   where
     elsewhere : (root : Root) → get_or (set state.roots (handle_of call) None) handle None ≡ Some root → (handle ≡ handle_of call → ⊥)
@@ -174,7 +174,7 @@ module _ (state : State) (I : HasOffers state) (H : HasHandles state) where
   pub ran_or_began : (s : Step) (k : ℕ) (found : Operation) → Comes state s k found →
       Ran state s k found ⊎ ((call : Call) × (s ≡ step.Begin (suc k) call) × (begin_denial state (suc k) call ≡ None) × (found ≡ begun_operation state call))
   ran_or_began s k found (began call is d it) = inr (call, is, d, it)
-  ran_or_began s k found (rested was at_k it) = inl (ran_so s k was was found at_k refl refl refl refl (inl refl) (λ e. e) it)
+  ran_or_began s k found (rested was at_k it other_step) = inl (ran_so s k was was found at_k refl refl refl refl (inl refl) (λ e. e) it)
   ran_or_began s k found (went was is at_k g it) = inl (ran_so s k was (operation_after state was) found at_k refl refl refl refl (inr (is, refl)) (kept_mark k was at_k g) it)
 
   -- ---- open handles
@@ -193,7 +193,7 @@ module _ (state : State) (I : HasOffers state) (H : HasHandles state) where
   pub stays : (s : Step) (o : Outcome) (after : State) → Moves state s o after → (handle : ℕ) (root : Root) → root_at state handle ≡ Some root →
       ((actor : ℕ) (call : Call) → s ≡ step.Begin actor call → begin_denial state actor call ≡ None → is_close call ≡ true → handle ≡ handle_of call → ⊥) → StaysOpen after handle root
   stays s o after (Begins {actor} {call} d) handle root e not_closed =
-      (root, closed_root state call (begun_operation state call).id handle (not_closed actor call refl d) ∙ e, refl)
+      (root, closed_root state call handle (not_closed actor call refl d) ∙ e, refl)
   stays s o after (Goes {actor} {operation} d is a g) handle root e not_closed =
       stays_open _ (handle_of operation.call) handle root e (action_of state operation) (λ offer c. opens_new actor operation handle root is e offer (here actor operation _ offer refl c))
   stays s o after (Ends d is a) handle root e not_closed = (root, e, refl)
@@ -202,7 +202,7 @@ module _ (state : State) (I : HasOffers state) (H : HasHandles state) where
   pub stays_none : (s : Step) (o : Outcome) (after : State) → Moves state s o after → (n : ℕ) → root_at state n ≡ None →
       ((actor : ℕ) (operation : Operation) (offer : Descriptor) → s ≡ step.Go actor → operation_of state actor ≡ Some operation →
       ActionCarriesOut state (handle_of operation.call) (action_of state operation) offer → offer.opens ≡ Some n → ⊥) → root_at after n ≡ None
-  stays_none s o after (Begins {actor} {call} d) n none not_opened = begun_none state call (begun_operation state call).id n none
+  stays_none s o after (Begins {actor} {call} d) n none not_opened = begun_none state call n none
   stays_none s o after (Goes {actor} {operation} d is a g) n none not_opened = by (root_at (gone state actor operation) n) refl
     where
       from : (st : State) → st.roots ≡ state.roots → (now : Root) → RootFrom st (handle_of operation.call) (action_of state operation) n now → ⊥
@@ -287,7 +287,7 @@ module _ (state : State) (I : HasOffers state) (H : HasHandles state) where
           reserved_by_two k j n a b (ran_or_began s k a (comes state s o after m k a at_k)) (ran_or_began s j b (comes state s o after m j b at_j));
     }
 
-pub handles_at_first : (limits : Limits) → HasHandles (first_state limits)
+pub handles_at_first : (limits : Bounds) → HasHandles (first_state limits)
 unfolding first_state
 handles_at_first limits = record {
   done = λ k operation at_k. absurd (none_found limits.actors k operation at_k);
@@ -296,7 +296,7 @@ handles_at_first limits = record {
   reserved = λ k j n a b at_k. absurd (none_found limits.actors k a at_k);
 }
 
-pub has_handles_at : (limits : Limits) (states : ℕ → State) (last : ℕ) → IsRun limits states last → (t : ℕ) → t ≤ last → HasOffers (states t) × HasHandles (states t)
+pub has_handles_at : (limits : Bounds) (states : ℕ → State) (last : ℕ) → IsRun limits states last → (t : ℕ) → t ≤ last → HasOffers (states t) × HasHandles (states t)
 has_handles_at limits states last r =
     at_each_time limits states last r (λ state. HasOffers state × HasHandles state) (no_offers_at_first limits, handles_at_first limits)
     (λ before s o after m I. (has_offers_after before I.0 s o after m, handles_after before I.0 I.1 s o after m))

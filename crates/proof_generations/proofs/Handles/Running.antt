@@ -103,11 +103,11 @@ follows state s o after (Sweeps spent) k operation at_k = rests (λ e. let wrong
 -- where what runs after a step comes from: the step begins it, or it rested, or went on
 pub data Comes (state : State) (s : Step) (k : ℕ) (found : Operation) : Type 0 where
   began : (call : Call) → s ≡ step.Begin (suc k) call → begin_denial state (suc k) call ≡ None → found ≡ begun_operation state call → Comes state s k found
-  rested : (was : Operation) → Runs state k was → found ≡ mark_one (marks_in state s) was → Comes state s k found
+  rested : (was : Operation) → Runs state k was → found ≡ mark_one (marks_in state s) was → (IsOf (suc k) s → ⊥) → Comes state s k found
   went : (was : Operation) → s ≡ step.Go (suc k) → Runs state k was → GoesOn (action_of state was) → found ≡ mark_one (marks_in state s) (operation_after state was) → Comes state s k found
 
 comes_by : (state : State) (s : Step) (o : Outcome) (after : State) → Moves state s o after → (k : ℕ) (found : Operation) → Runs after k found → Dec (IsOf (suc k) s) → Comes state s k found
-comes_by state s o after m k found at_k (no other) = let (was, at_was, same) = of_others state s o after m k other found at_k in rested was at_was same
+comes_by state s o after m k found at_k (no other) = let (was, at_was, same) = of_others state s o after m k other found at_k in rested was at_was same other
 comes_by state s o after (Begins {actor} {call} d) k found at_k (yes own) =
     began call (ap (λ a. step.Begin a call) own) (subst (λ a. begin_denial state a call ≡ None) own d) (of_begin state actor call (begun_operation state call) k own found at_k)
 comes_by state s o after (Goes {actor} {operation} d is a g) k found at_k (yes own) =

@@ -29,7 +29,7 @@ use Rattle.proof_generations.specs.Beneath.slot_arena.specs.Heaps.{node_at, next
 use Rattle.proof_generations.specs.Beneath.machine_model.specs.declared.lines.Line.{Line}
 use Rattle.proof_generations.specs.Beneath.machine_model.specs.declared.lines.Line.TheVariants as line
 use Rattle.proof_generations.specs.Beneath.machine_model.specs.declared.operations.Operation.{Operation}
-use Rattle.proof_generations.specs.Beneath.machine_model.specs.declared.steps.Limits.{Limits}
+use Rattle.proof_generations.specs.Beneath.machine_model.specs.declared.steps.Bounds.{Bounds}
 use Rattle.proof_generations.specs.Beneath.machine_model.specs.declared.steps.Outcome.{Outcome}
 use Rattle.proof_generations.specs.Beneath.machine_model.specs.declared.steps.Step.TheVariants as step
 use Rattle.proof_generations.specs.Beneath.machine_model.specs.States.{State}
@@ -54,14 +54,27 @@ use Rattle.proof_generations.proofs.Lines.Own.{OwnStep}
 use Rattle.proof_generations.proofs.Falling.Runs.{gen_of, IsOwn, IsLink, FitsBelow, FallsBelow, LateBelow, MainsFall, own_fits, falls_below, entries_fit, fits_next}
 use Rattle.proof_generations.proofs.Falling.MainsNext.{inner_rooted}
 use Rattle.proof_generations.proofs.Falling.ReadsGive.{gone_is, given_stands, late_after}
+use Rattle.proof_generations.specs.Beneath.machine_model.specs.Records.{noted_progress, moment_at}
+use Rattle.proof_generations.specs.Beneath.machine_model.specs.Tellings.{progress_of}
+use Rattle.proof_generations.specs.Beneath.machine_model.specs.declared.records.Moment.{Moment}
+use Rattle.proof_generations.specs.Beneath.machine_model.proofs.Alike.{go_actor, not_denied}
 
 -- an inner line keeps the operation's generation
 pub inner_generation : (state : State) (operation : Operation) (l : Line) → IsInner l → generation_from state operation l ≡ operation.generation
 inner_generation state operation (line.Root l) i = absurd i
 inner_generation state operation l i = refl
 
-module _ (limits : Limits) (states : ℕ → State) (last : ℕ) (run : IsRun limits states last) (t : ℕ) (lt : t < last) (mains : MainsFall states last (suc t)) (k : ℕ) (operation : Operation)
-    (runs : Runs (states t) k operation) (o : Outcome) (moves : Moves (states t) (step.Go (suc k)) o (states (suc t))) (goes : GoesOn (action_of (states t) operation)) where
+module _ (limits : Bounds) (states : ℕ → State) (last : ℕ) (run : IsRun limits states last) (t : ℕ) (lt : t < last) (mains : MainsFall states run.records last (suc t)) (k : ℕ)
+    (operation : Operation)
+    (runs : Runs (states t) k operation) (o : Outcome) (moves : Moves (states t) (step.Go (suc k)) o (states (suc t))) (goes : GoesOn (action_of (states t) operation))
+    (noted : run.records (suc t) ≡ noted_progress (run.records t) (states t).steps (suc k) (progress_of (states t) operation)) where
+  -- what is known of its READs, before the step and after it
+  abbrev was_read : Moment
+  was_read = moment_at (run.records t) (suc k)
+
+  abbrev now_read : Moment
+  now_read = moment_at (run.records (suc t)) (suc k)
+
   abbrev now : Operation
   now = operation_after (states t) operation
 
@@ -79,42 +92,49 @@ module _ (limits : Limits) (states : ℕ → State) (last : ℕ) (run : IsRun li
 
   module _ (w : operation.access ≡ Writable) (inner : IsInner operation.line) (g : ℕ) (begun : operation.generation ≡ Some g) where
     opened : WasOpened states (suc t) g
-    opened = opened_next states t g (opened_rooted states t _ g (inner_rooted limits states last run t lt k operation runs w inner g begun))
+    opened = opened_next states t g (opened_rooted states run.records t _ g (inner_rooted limits states last run t lt k operation runs w inner g begun))
 
     -- what stands below an entry of the path
-    opened_under : (h : ℕ) → MayStandBelow states t g h → WasOpened states (suc t) h
+    opened_under : (h : ℕ) → MayStandBelow run.records t g h → WasOpened states (suc t) h
     opened_under h (inl same) = subst (λ x. WasOpened states (suc t) x) (sym same) opened
     opened_under h (inr (less, closed)) = opened_next states t h (was_closed_so limits states last run t (omega arith) h closed)
 
-    late_so : (r : Ref) (h : ℕ) → gen_of states last r ≡ h → MayStandBelow states (suc t) g h → (gen_of states last r ≡ g → ⊥) → IsLate states (suc t) now (reading r) (gen_of states last r)
+    late_so : (r : Ref) (h : ℕ) → gen_of states last r ≡ h → MayStandBelow run.records (suc t) g h → (gen_of states last r ≡ g → ⊥) →
+        IsLate run.records (suc t) now_read (reading r) (gen_of states last r)
     late_so r h is (inl same) other = absurd (other (is ∙ same))
-    late_so r h is (inr (less, closed)) other = subst (λ x. IsLate states (suc t) now (reading r) x) (sym is) (closed.0, closed.1, closed.2, inl refl)
+    late_so r h is (inr (less, closed)) other = subst (λ x. IsLate run.records (suc t) now_read (reading r) x) (sym is) (closed.0, closed.1, closed.2, inl refl)
 
-    own_step : OwnStep (states t) operation (IsOwn states last g) (FitsBelow states last (suc t) g) (FallsBelow states last (suc t) g)
-        (LateBelow states last t operation g) (LateBelow states last (suc t) now g) S
+    own_step : OwnStep (states t) operation (IsOwn states last g) (FitsBelow states run.records last (suc t) g) (FallsBelow states run.records last (suc t) g)
+        (LateBelow states run.records last t was_read g) (LateBelow states run.records last (suc t) now_read g) S
     own_step = record {
       writable = w;
-      own_fits = own_fits states last (suc t) g;
+      own_fits = own_fits states run.records last (suc t) g;
       entries_fit = entries_fit limits states last run t lt (suc t) g;
       goes = λ r next e. read_stays (states t) operation r next e;
       own_gives = λ r m stage own e.
-          subst (λ x. FallsBelow states last (suc t) x m) own
-          (mains.falls r.indirection m (given_stands limits states last run t lt (suc k) operation runs r stage o moves m e) (subst (λ x. WasOpened states (suc t) x) (sym own) opened));
+          subst (λ x. FallsBelow states run.records last (suc t) x m) own
+          (mains.falls r.indirection m (given_stands limits states last run t lt (suc k) operation runs r stage noted o moves m e) (subst (λ x. WasOpened states (suc t) x) (sym own) opened));
       late_goes = λ r next stage was e.
           let (link, fits, late) = was in
-          subst (λ i. IsLink states last i × FitsBelow states last (suc t) g i × ((gen_of states last i ≡ g → ⊥) → IsLate states (suc t) now next (gen_of states last i)))
+          subst (λ i. IsLink states last i × FitsBelow states run.records last (suc t) g i × ((gen_of states last i ≡ g → ⊥) → IsLate run.records (suc t) now_read next (gen_of states last i)))
           (sym (read_stays (states t) operation r next e)) (
             link,
             fits_next limits states last run t lt g r.indirection fits,
-            λ other. let (c, before, closed, since) = late other in
-                (c, omega (arith, before), closed_next limits states last run t lt _ c closed, inr (late_after limits states last run t lt (suc k) operation runs r stage c before since)),
+            λ other. let (c, before, closed, since) = late other in (
+              c,
+              omega (arith, before),
+              closed_next limits states last run t lt _ c closed,
+              inr
+                  (late_after limits states last run t lt (suc k) operation runs r stage noted (go_actor (states t) (suc k) (not_denied moves)) c before since),
+            ),
           );
       late_gives = λ r m stage was e.
           let ((h, is), fits, late) = was in
           let under = fits h is in
           let told = told_generation states last h r.indirection is in
-          falls_below states last (suc t) g (gen_of states last r.indirection) m (subst (λ x. MayStandBelow states (suc t) g x) (sym told) (below_next limits states last run t lt g h under))
-          (mains.falls r.indirection m (given_stands limits states last run t lt (suc k) operation runs r stage o moves m e)
+          falls_below states run.records last (suc t) g (gen_of states last r.indirection) m
+          (subst (λ x. MayStandBelow run.records (suc t) g x) (sym told) (below_next limits states last run t lt g h under))
+          (mains.falls r.indirection m (given_stands limits states last run t lt (suc k) operation runs r stage noted o moves m e)
           (subst (λ x. WasOpened states (suc t) x) (sym told) (opened_under h under)));
       looked = λ r h word used is same.
           told_generation states last h r (link_used limits states last run t (omega arith) r used h word is) ∙ same_Some _ _ (sym (licensed_so operation.generation h same) ∙ begun);
@@ -126,23 +146,23 @@ module _ (limits : Limits) (states : ℕ → State) (last : ℕ) (run : IsRun li
     -- ---- the node that the line makes
 
     abbrev Fits : Ref → Type 0
-    Fits = FitsBelow states last (suc t) g
+    Fits = FitsBelow states run.records last (suc t) g
 
     abbrev Falls : Ref → Type 0
-    Falls = FallsBelow states last (suc t) g
+    Falls = FallsBelow states run.records last (suc t) g
 
     abbrev Kn : Line → Type 0
-    Kn = Knows (IsOwn states last g) Fits Falls (LateBelow states last t operation g)
+    Kn = Knows (IsOwn states last g) Fits Falls (LateBelow states run.records last t was_read g)
 
     abbrev MadeSo : Line → Node → Type 0
     MadeSo =
-        NodeMade (states t) operation g begun (IsOwn states last g) Fits Falls (LateBelow states last t operation g) S (own_fits states last (suc t) g)
+        NodeMade (states t) operation g begun (IsOwn states last g) Fits Falls (LateBelow states run.records last t was_read g) S (own_fits states run.records last (suc t) g)
         (single_fits limits states last run t lt (suc t) g)
         (entries_fit limits states last run t lt (suc t) g)
 
     node_of_line : (l : Line) → operation.line ≡ l → Kn l → (n : Node) → made_node (states t) (line_action (states t) operation l) ≡ Some n → MadeSo l n
     node_of_line l is known n e =
-        node_made (states t) operation g begun (IsOwn states last g) Fits Falls (LateBelow states last t operation g) S (own_fits states last (suc t) g)
+        node_made (states t) operation g begun (IsOwn states last g) Fits Falls (LateBelow states run.records last t was_read g) S (own_fits states run.records last (suc t) g)
         (single_fits limits states last run t lt (suc t) g)
         (entries_fit limits states last run t lt (suc t) g) l known
         (subst (λ x. AllHold S (states t).heap (line_wants (states t).limits.hash operation.call operation.access x)) is
@@ -163,7 +183,7 @@ module _ (limits : Limits) (states : ℕ → State) (last : ℕ) (run : IsRun li
       link_new (word, same, falls) = told_generation states last g made (link_used limits states last run (suc t) lt made used_new.0 g word (used_new.1 ∙ same))
 
     abbrev Makes : Line → Ref → Type 0
-    Makes = LineMakes (states t) operation (IsOwn states last g) Fits Falls (LateBelow states last t operation g) (LateBelow states last (suc t) now g) S own_step
+    Makes = LineMakes (states t) operation (IsOwn states last g) Fits Falls (LateBelow states run.records last t was_read g) (LateBelow states run.records last (suc t) now_read g) S own_step
 
     build_makes : (l : BuildLine) → operation.line ≡ line.Build l → Kn (line.Build l) → (made : Ref) → next_ref (states t).heap ≡ Some made → Makes (line.Build l) made
     build_makes (build.Single path main s former) is known made takes = single_new _ is known _ refl made takes (node_of_line _ is known _ refl)
@@ -174,7 +194,7 @@ module _ (limits : Limits) (states : ℕ → State) (last : ℕ) (run : IsRun li
 
     renew_makes : (l : RenewLine) → operation.line ≡ line.Renew l → Kn (line.Renew l) → (made : Ref) → next_ref (states t).heap ≡ Some made → Makes (line.Renew l) made
     renew_makes (renew.Link path main done child) is known made takes =
-        own_fits states last (suc t) g made (link_new _ is known _ refl made takes (node_of_line _ is known _ refl))
+        own_fits states run.records last (suc t) g made (link_new _ is known _ refl made takes (node_of_line _ is known _ refl))
     renew_makes (renew.Branch path main done) is known made takes = main_new _ is known _ refl made takes (node_of_line _ is known _ refl)
     renew_makes (renew.Entry path main done) is known made takes = tt
     renew_makes (renew.Read path main done r) is known made takes = tt
@@ -217,12 +237,15 @@ module _ (limits : Limits) (states : ℕ → State) (last : ℕ) (run : IsRun li
 
     -- ---- then the next line
 
-    pub inner_knows : Knows (IsOwn states last g) (FitsBelow states last t g) (FallsBelow states last t g) (LateBelow states last t operation g) operation.line →
-        Knows (IsOwn states last g) (FitsBelow states last (suc t) g) (FallsBelow states last (suc t) g) (LateBelow states last (suc t) now g) (line_after (states t) operation operation.line)
+    pub inner_knows : Knows (IsOwn states last g) (FitsBelow states run.records last t g) (FallsBelow states run.records last t g) (LateBelow states run.records last t was_read g) operation.line →
+        Knows (IsOwn states last g) (FitsBelow states run.records last (suc t) g) (FallsBelow states run.records last (suc t) g)
+        (LateBelow states run.records last (suc t) now_read g) (line_after (states t) operation operation.line)
     inner_knows knows =
-        let known = knows_still (IsOwn states last g) (FitsBelow states last t g) (FallsBelow states last t g) (LateBelow states last t operation g) Fits Falls (LateBelow states last t operation g)
+        let known = knows_still (IsOwn states last g) (FitsBelow states run.records last t g) (FallsBelow states run.records last t g)
+        (LateBelow states run.records last t was_read g) Fits Falls (LateBelow states run.records last t was_read g)
         (fits_next limits states last run t lt g) (falls_next limits states last run t lt g) (λ r late. late) operation.line knows in
-        own_falls (states t) operation (IsOwn states last g) Fits Falls (LateBelow states last t operation g) (LateBelow states last (suc t) now g) S own_step operation.line refl inner known
+        own_falls (states t) operation (IsOwn states last g) Fits Falls (LateBelow states run.records last t was_read g)
+        (LateBelow states run.records last (suc t) now_read g) S own_step operation.line refl inner known
         (line_finds (states t) (safe_at limits states last run t (omega arith)) (suc k) operation runs)
         (action_finds (states t) (safe_at limits states last run t (omega arith)) (suc k) operation runs)
         (λ made takes. line_makes operation.line refl known made takes)

@@ -12,7 +12,7 @@ use Rattle.proof_generations.specs.Beneath.machine_model.specs.declared.operatio
 use Rattle.proof_generations.specs.Beneath.machine_model.specs.declared.roots.Root.{Root}
 use Rattle.proof_generations.specs.Beneath.machine_model.specs.declared.roots.RootWord.{RootWord}
 use Rattle.proof_generations.specs.Beneath.machine_model.specs.declared.roots.RootWord.TheVariants.{Plain, Offer}
-use Rattle.proof_generations.specs.Beneath.machine_model.specs.declared.steps.Limits.{Limits}
+use Rattle.proof_generations.specs.Beneath.machine_model.specs.declared.steps.Bounds.{Bounds}
 use Rattle.proof_generations.specs.Beneath.machine_model.specs.declared.steps.Outcome.{Outcome}
 use Rattle.proof_generations.specs.Beneath.machine_model.specs.declared.steps.Step.TheVariants as step
 use Rattle.proof_generations.specs.Beneath.machine_model.specs.Calls.{handle_of}
@@ -38,6 +38,11 @@ use Rattle.proof_generations.proofs.Falling.Opened.{was_closed_next, was_closed_
 use Rattle.proof_generations.proofs.Lines.Reader.{KnowsReader, ReaderStep, reader_still, reader_falls}
 use Rattle.proof_generations.proofs.Falling.ReadsGive.{given_stands, late_after}
 use Rattle.proof_generations.proofs.Falling.Runs.{gen_of, IsLink, Ends, Shut, LateEnd, MainsFall, falls_shut, entries_end, ends_next, shut_next}
+use Rattle.proof_generations.specs.Beneath.machine_model.specs.Records.{noted_progress, moment_at}
+use Rattle.proof_generations.specs.Beneath.machine_model.specs.Tellings.{progress_of}
+use Rattle.proof_generations.specs.Beneath.machine_model.specs.declared.records.Moment.{Moment}
+use Rattle.proof_generations.specs.Beneath.machine_model.specs.Machine.{is_actor}
+use Rattle.proof_generations.specs.Beneath.machine_model.proofs.Alike.{go_actor, not_denied}
 
 pub going_on : (state : State) (operation : Operation) (l : Line) → GoesOn (line_action state operation l) → is_end l ≡ false
 going_on state operation (line.End answer) g = absurd g
@@ -55,9 +60,18 @@ pub root_claim : (state : State) (word : RootWord) → AllHold (IsInUse state.he
 root_claim state (Plain r) h = h.0
 root_claim state (Offer offer) h = h.0
 
-module _ (limits : Limits) (states : ℕ → State) (last : ℕ) (run : IsRun limits states last) (t : ℕ) (lt : t < last) (mains : MainsFall states last (suc t)) (k : ℕ) (operation : Operation)
+module _ (limits : Bounds) (states : ℕ → State) (last : ℕ) (run : IsRun limits states last) (t : ℕ) (lt : t < last) (mains : MainsFall states run.records last (suc t)) (k : ℕ)
+    (operation : Operation)
     (runs : Runs (states t) k operation) (o : Outcome) (moves : Moves (states t) (step.Go (suc k)) o (states (suc t)))
-    (goes : GoesOn (action_of (states t) operation)) (read_only : operation.access ≡ ReadOnly) where
+    (goes : GoesOn (action_of (states t) operation))
+    (noted : run.records (suc t) ≡ noted_progress (run.records t) (states t).steps (suc k) (progress_of (states t) operation)) (read_only : operation.access ≡ ReadOnly) where
+  -- what is known of its READs, before the step and after it
+  abbrev was_read : Moment
+  was_read = moment_at (run.records t) (suc k)
+
+  abbrev now_read : Moment
+  now_read = moment_at (run.records (suc t)) (suc k)
+
   abbrev now : Operation
   now = operation_after (states t) operation
 
@@ -75,12 +89,12 @@ module _ (limits : Limits) (states : ℕ → State) (last : ℕ) (run : IsRun li
     root : Root
     found : root_at (states t) handle ≡ Some root
     plain : root.word ≡ Plain (root_of root.word)
-    closed : WasClosed states t (gen_of states last (root_of root.word))
+    closed : WasClosed run.records t (gen_of states last (root_of root.word))
     link : IsLink states last (root_of root.word)
 
   handle_root : HandleRoot
   handle_root =
-      let O : IsOrdered (states t) = ordered_at limits states last run t (omega arith) in
+      let O : IsOrdered (states t) (run.records t) = ordered_at limits states last run t (omega arith) in
       let (root, found, access) = O.handles.on_open k operation runs (no_close_at limits states last run t (omega arith) k operation runs (going_on (states t) operation operation.line goes)) in
       let (c, closed) = O.roots.is_closed handle root found (access ∙ read_only) in
       let claim = root_claim (states t) root.word (I.words handle root found) in
@@ -88,43 +102,48 @@ module _ (limits : Limits) (states : ℕ → State) (last : ℕ) (run : IsRun li
       record {
         root = root;
         found = found;
-        plain = read_only_plain (states t) I O handle root found (access ∙ read_only);
-        closed = subst (λ x. WasClosed states t x) (sym (standing_generation limits states last run t (omega arith) handle root found))
+        plain = read_only_plain (states t) (run.records t) I O handle root found (access ∙ read_only);
+        closed = subst (λ x. WasClosed run.records t x) (sym (standing_generation limits states last run t (omega arith) handle root found))
             (c, (closed_so limits states last run t (omega arith) _ c closed).0, closed);
         link = (h, link_used limits states last run t (omega arith) (root_of root.word) (safe_of claim) h word is);
       }
 
-  late_now : (r : Ref) → IsLink states last r → WasClosed states (suc t) (gen_of states last r) → LateEnd states last (suc t) now (reading r)
+  own : is_actor (states t) (suc k) ≡ true
+  own = go_actor (states t) (suc k) (not_denied moves)
+
+  late_now : (r : Ref) → IsLink states last r → WasClosed run.records (suc t) (gen_of states last r) → LateEnd states run.records last (suc t) now_read (reading r)
   late_now r link (c, before, closed) = (link, (c, before, closed, inl refl))
 
-  reader_step : ReaderStep (states t) operation (Ends states last (suc t)) (Shut states last (suc t)) (LateEnd states last t operation) (LateEnd states last (suc t) now) S
+  reader_step : ReaderStep (states t) operation (Ends states run.records last (suc t)) (Shut states run.records last (suc t)) (LateEnd states run.records last t was_read)
+      (LateEnd states run.records last (suc t) now_read) S
   reader_step = record {
     read_only = read_only;
     reads = I.fits k operation runs read_only;
     entries_end = entries_end limits states last run t lt (suc t);
     late_goes = λ r next stage was e.
         let (link, (c, before, closed, since)) = was in
-        subst (λ i. IsLink states last i × IsLate states (suc t) now next (gen_of states last i)) (sym (read_stays (states t) operation r next e))
-        (link, (c, omega (arith, before), closed_next limits states last run t lt _ c closed, inr (late_after limits states last run t lt (suc k) operation runs r stage c before since)));
+        subst (λ i. IsLink states last i × IsLate run.records (suc t) now_read next (gen_of states last i)) (sym (read_stays (states t) operation r next e))
+        (link, (c, omega (arith, before), closed_next limits states last run t lt _ c closed, inr (late_after limits states last run t lt (suc k) operation runs r stage noted own c before since)));
     late_gives = λ r m stage was e.
         let (link, (c, before, closed, since)) = was in
         let still = was_closed_next limits states last run t lt (gen_of states last r.indirection) (c, before, closed) in
-        falls_shut states last (suc t) (gen_of states last r.indirection) m still
-        (mains.falls r.indirection m (given_stands limits states last run t lt (suc k) operation runs r stage o moves m e) (was_closed_so limits states last run (suc t) lt _ still));
+        falls_shut states run.records last (suc t) (gen_of states last r.indirection) m still
+        (mains.falls r.indirection m (given_stands limits states last run t lt (suc k) operation runs r stage noted o moves m e) (was_closed_so limits states last run (suc t) lt _ still));
     begins = λ r h word used is ends.
         let link = link_used limits states last run t (omega arith) r used h word is in
-        late_now r (h, link) (subst (λ x. WasClosed states (suc t) x) (sym (told_generation states last h r link)) (ends h link));
+        late_now r (h, link) (subst (λ x. WasClosed run.records (suc t) x) (sym (told_generation states last h r link)) (ends h link));
     plain = subst (λ w. w ≡ Plain (root_of w)) (sym (ap word_of handle_root.found)) handle_root.plain;
     root_late =
-        subst (λ w. LateEnd states last (suc t) now (reading (root_of w))) (sym (ap word_of handle_root.found))
+        subst (λ w. LateEnd states run.records last (suc t) now_read (reading (root_of w))) (sym (ap word_of handle_root.found))
         (late_now (root_of handle_root.root.word) handle_root.link (was_closed_next limits states last run t lt _ handle_root.closed));
   }
 
-  pub reader_knows : KnowsReader (Ends states last t) (Shut states last t) (LateEnd states last t operation) operation.line →
-      KnowsReader (Ends states last (suc t)) (Shut states last (suc t)) (LateEnd states last (suc t) now) (line_after (states t) operation operation.line)
+  pub reader_knows : KnowsReader (Ends states run.records last t) (Shut states run.records last t) (LateEnd states run.records last t was_read) operation.line →
+      KnowsReader (Ends states run.records last (suc t)) (Shut states run.records last (suc t)) (LateEnd states run.records last (suc t) now_read) (line_after (states t) operation operation.line)
   reader_knows knows =
-      let known = reader_still (Ends states last t) (Shut states last t) (LateEnd states last t operation) (Ends states last (suc t)) (Shut states last (suc t)) (LateEnd states last t operation)
+      let known = reader_still (Ends states run.records last t) (Shut states run.records last t) (LateEnd states run.records last t was_read)
+      (Ends states run.records last (suc t)) (Shut states run.records last (suc t)) (LateEnd states run.records last t was_read)
       (ends_next limits states last run t lt) (shut_next limits states last run t lt) (λ r late. late) operation.line knows in
-      reader_falls (states t) operation (Ends states last (suc t)) (Shut states last (suc t)) (LateEnd states last t operation)
-      (LateEnd states last (suc t) now) S reader_step operation.line refl known
+      reader_falls (states t) operation (Ends states run.records last (suc t)) (Shut states run.records last (suc t)) (LateEnd states run.records last t was_read)
+      (LateEnd states run.records last (suc t) now_read) S reader_step operation.line refl known
       (line_finds (states t) I (suc k) operation runs) (action_finds (states t) I (suc k) operation runs)

@@ -161,7 +161,7 @@ complete_mark mark c = grind arith
 module _ (state : State) (I : HasOffers state) (all : AllDone state) (s : Step) where
   done_by : (k : ℕ) (found : Operation) → Comes state s k found → found.is_marked ≡ true → is_done found.line ≡ true
   done_by k found (began call is d it) e = absurd (false≢true (ap (λ (x : Operation). x.is_marked) (sym it) ∙ e))
-  done_by k found (rested was at_k it) e =
+  done_by k found (rested was at_k it other_step) e =
       ap (λ (x : Operation). is_done x.line) (it ∙ mark_only (marks_in state s) was) ∙
       elim (cases_Bool was.is_marked) [
         | inl set ↦ all k was at_k set

@@ -4,7 +4,6 @@ use Rattle.std.proofs.lemmas.Bool.{false≢true}
 use Rattle.std.proofs.lemmas.Option.{none-some, same_Some}
 use Rattle.proof_generations.specs.Beneath.history.specs.declared.calls.Call.{Call}
 use Rattle.proof_generations.specs.Beneath.history.specs.declared.calls.Call.TheVariants.{Clear, Snapshot, Freeze, Close, Entries, Count}
-use Rattle.proof_generations.specs.Beneath.history.specs.Histories.{begun}
 use Rattle.proof_generations.specs.Beneath.slot_arena.specs.declared.refs.Ref.{Ref}
 use Rattle.proof_generations.specs.Beneath.slot_arena.specs.Heaps.{next_ref}
 use Rattle.proof_generations.specs.Beneath.machine_model.specs.declared.actions.Action.{Action}
@@ -21,7 +20,7 @@ use Rattle.proof_generations.specs.Beneath.machine_model.specs.declared.roots.Co
 use Rattle.proof_generations.specs.Beneath.machine_model.specs.declared.roots.Descriptor.{Descriptor}
 use Rattle.proof_generations.specs.Beneath.machine_model.specs.declared.roots.RootLine.{RootLine}
 use Rattle.proof_generations.specs.Beneath.machine_model.specs.declared.roots.RootWord.TheVariants.{Offer}
-use Rattle.proof_generations.specs.Beneath.machine_model.specs.declared.steps.Limits.{Limits}
+use Rattle.proof_generations.specs.Beneath.machine_model.specs.declared.steps.Bounds.{Bounds}
 use Rattle.proof_generations.specs.Beneath.machine_model.specs.declared.steps.Outcome.{Outcome}
 use Rattle.proof_generations.specs.Beneath.machine_model.specs.declared.steps.Step.{Step}
 use Rattle.proof_generations.specs.Beneath.machine_model.specs.Calls.{handle_of}
@@ -110,7 +109,7 @@ own_tries state operation l d e = absurd (none-some d e)
 
 -- The operation of an offer has begun; if it runs it is in this try or a later one, and if in this one, then the offer that it completes is this very one.
 pub record IsKnown (state : State) (offer : Descriptor) : Type 0 where
-  pub has_begun : offer.operation < begun state.events
+  pub has_begun : offer.operation < state.begun
   pub tried : (k : ℕ) (operation : Operation) → Runs state k operation → operation.id ≡ offer.operation → offer.attempt ≤ operation.attempt
   pub same : (k : ℕ) (operation : Operation) → Runs state k operation → operation.id ≡ offer.operation → offer.attempt ≡ operation.attempt →
       (d : Descriptor) → own_offer operation.line ≡ Some d → d ≡ offer
@@ -151,7 +150,7 @@ module _ (state : State) (ids : HasIds state) (own : AllOwn state) where
 module _ (state : State) (s : Step) (o : Outcome) (after : State) (m : Moves state s o after) (offer : Descriptor) (h : IsKnown state offer) where
   tried_by : (k : ℕ) (found : Operation) → Comes state s k found → found.id ≡ offer.operation → offer.attempt ≤ found.attempt
   tried_by k found (began call is d it) id = absurd (omega (arith, h.has_begun, id, ap (λ (x : Operation). x.id) it))
-  tried_by k found (rested was at_k it) id =
+  tried_by k found (rested was at_k it other_step) id =
       let same = it ∙ mark_only (marks_in state s) was in
       omega (arith, h.tried k was at_k (ap (λ (x : Operation). x.id) (sym same) ∙ id), ap (λ (x : Operation). x.attempt) same)
   tried_by k found (went was is at_k g it) id =
@@ -168,7 +167,7 @@ module _ (state : State) (s : Step) (o : Outcome) (after : State) (m : Moves sta
 
   same_by : (k : ℕ) (found : Operation) → Comes state s k found → found.id ≡ offer.operation → offer.attempt ≡ found.attempt → (d : Descriptor) → own_offer found.line ≡ Some d → d ≡ offer
   same_by k found (began call is d it) id try e own = absurd (omega (arith, h.has_begun, id, ap (λ (x : Operation). x.id) it))
-  same_by k found (rested was at_k it) id try d own =
+  same_by k found (rested was at_k it other_step) id try d own =
       let same = it ∙ mark_only (marks_in state s) was in
       h.same k was at_k (ap (λ (x : Operation). x.id) (sym same) ∙ id) (try ∙ ap (λ (x : Operation). x.attempt) same) d (ap (λ (x : Operation). own_offer x.line) (sym same) ∙ own)
   same_by k found (went was is at_k g it) id try d own =
@@ -227,7 +226,7 @@ module _ (state : State) (I : HasOffers state) (s : Step) (o : Outcome) (after :
 
   known_by : (k : ℕ) (found : Operation) → Runs after k found → Comes state s k found → (offer : Descriptor) → HoldsOffer found.line offer → IsKnown after offer
   known_by k found now (began call is d it) offer held = absurd (first_holds call offer (subst (λ (x : Operation). HoldsOffer x.line offer) it held))
-  known_by k found now (rested was at_k it) offer held =
+  known_by k found now (rested was at_k it other_step) offer held =
       let same = it ∙ mark_only (marks_in state s) was in
       known_kept state s o after m offer (I.known k was at_k offer (subst (λ (x : Operation). HoldsOffer x.line offer) same held))
   known_by k found now (went was is at_k g it) offer held =
@@ -242,7 +241,7 @@ module _ (state : State) (I : HasOffers state) (s : Step) (o : Outcome) (after :
     known = λ k found at_k. known_by k found at_k (comes state s o after m k found at_k);
   }
 
-pub no_offers_at_first : (limits : Limits) → HasOffers (first_state limits)
+pub no_offers_at_first : (limits : Bounds) → HasOffers (first_state limits)
 unfolding first_state
 no_offers_at_first limits = record {
   ids = ids_at_first limits;
@@ -251,7 +250,7 @@ no_offers_at_first limits = record {
   known = λ k operation at_k. absurd (none_found limits.actors k operation at_k);
 }
 
-pub has_offers_at : (limits : Limits) (states : ℕ → State) (last : ℕ) → IsRun limits states last → (t : ℕ) → t ≤ last → HasOffers (states t)
+pub has_offers_at : (limits : Bounds) (states : ℕ → State) (last : ℕ) → IsRun limits states last → (t : ℕ) → t ≤ last → HasOffers (states t)
 has_offers_at limits states last r = at_each_time limits states last r HasOffers (no_offers_at_first limits) (λ before s o after m I. has_offers_after before I s o after m)
 
 -- who takes an offer back or carries it out finds the very same offer

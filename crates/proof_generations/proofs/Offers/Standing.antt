@@ -24,7 +24,7 @@ use Rattle.proof_generations.specs.Beneath.machine_model.specs.declared.roots.De
 use Rattle.proof_generations.specs.Beneath.machine_model.specs.declared.roots.Root.{Root}
 use Rattle.proof_generations.specs.Beneath.machine_model.specs.declared.roots.RootWord.{RootWord}
 use Rattle.proof_generations.specs.Beneath.machine_model.specs.declared.roots.RootWord.TheVariants.{Plain, Offer}
-use Rattle.proof_generations.specs.Beneath.machine_model.specs.declared.steps.Limits.{Limits}
+use Rattle.proof_generations.specs.Beneath.machine_model.specs.declared.steps.Bounds.{Bounds}
 use Rattle.proof_generations.specs.Beneath.machine_model.specs.declared.steps.Outcome.{Outcome}
 use Rattle.proof_generations.specs.Beneath.machine_model.specs.declared.steps.Step.{Step}
 use Rattle.proof_generations.specs.Beneath.machine_model.specs.declared.steps.Step.TheVariants as step
@@ -37,7 +37,7 @@ use Rattle.proof_generations.specs.Beneath.machine_model.specs.Operations.{actio
 use Rattle.proof_generations.specs.Beneath.machine_model.specs.Acting.{acted, carried_out, opened, opened_root, new_root_taken, if_changed, operation_after, mark_after}
 use Rattle.proof_generations.specs.Beneath.machine_model.specs.Machine.{handle_closed}
 use Rattle.proof_generations.specs.Beneath.machine_model.specs.Moves.{Begins, Goes, Ends, Sweeps}
-use Rattle.proof_generations.specs.Beneath.machine_model.specs.Moves.{Moves, begun_operation}
+use Rattle.proof_generations.specs.Beneath.machine_model.specs.Moves.{Moves}
 use Rattle.proof_generations.specs.Beneath.machine_model.proofs.Found.{found_elsewhere}
 use Rattle.proof_generations.specs.Beneath.machine_model.proofs.Actors.{mark_one, mark_only, marks_in, marks_by, marks_of}
 use Rattle.proof_generations.proofs.Handles.Running.{place_of_actor, Follows, rests, steps, ends, follows}
@@ -323,8 +323,8 @@ module _ (state : State) (ids : HasIds state) (own : AllOwn state) (all : Offers
       let (k, place, at_k) = place_of_actor state actor operation is in
       put_by actor operation after handle k offer place is a here plain (follows state (step.Go actor) o after m k operation at_k)
 
-  closed_word : (call : Call) (id handle : ℕ) (offer : Descriptor) → word_in (handle_closed state call id).roots handle ≡ Offer offer → word_at state handle ≡ Offer offer
-  closed_word call id handle offer =
+  closed_word : (call : Call) (handle : ℕ) (offer : Descriptor) → word_in (handle_closed state call).roots handle ≡ Offer offer → word_at state handle ≡ Offer offer
+  closed_word call handle offer =
       cond_both (is_close call) _ _ (λ (s : State). word_in s.roots handle ≡ Offer offer → word_at state handle ≡ Offer offer) (λ c e. taken_away e) (λ c e. e)
     where
       taken_away : word_in (set state.roots (handle_of call) None) handle ≡ Offer offer → word_at state handle ≡ Offer offer
@@ -335,7 +335,7 @@ module _ (state : State) (ids : HasIds state) (own : AllOwn state) (all : Offers
 
   pub offers_after : (s : Step) (o : Outcome) (after : State) → Moves state s o after → OffersStand after
   offers_after s o after (Begins {actor} {call} d) handle offer word =
-      stays s o after (Begins d) handle offer (closed_word call (begun_operation state call).id handle offer word) (λ other operation d' e is settled here stands. let wrong : ⊥ = cc e in wrong)
+      stays s o after (Begins d) handle offer (closed_word call handle offer word) (λ other operation d' e is settled here stands. let wrong : ⊥ = cc e in wrong)
   offers_after s o after (Goes {actor} {operation} d is a g) handle offer word =
       gone_by actor operation o after (Goes d is a g) is handle offer (offer_from _ (handle_of operation.call) handle offer (action_of state operation) word)
   offers_after s o after (Ends {actor} {operation} d is a) handle offer word =
@@ -349,7 +349,7 @@ module _ (state : State) (ids : HasIds state) (own : AllOwn state) (all : Offers
   offers_after s o after (Sweeps spent) handle offer word = stays s o after (Sweeps spent) handle offer word (λ other operation d' e is settled here stands. let wrong : ⊥ = cc e in wrong)
 
 -- at first none stands
-pub none_offered : (limits : Limits) → OffersStand (first_state limits)
+pub none_offered : (limits : Bounds) → OffersStand (first_state limits)
 unfolding first_state
 none_offered limits handle offer e = elim (written (replicate handle_limit None) 0 handle (Some (record { access = Writable; word = Plain (ref_to 2 1) })) offer e) [
   | inl old ↦ absurd (none_word handle_limit handle offer old.1)

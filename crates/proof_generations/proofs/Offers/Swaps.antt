@@ -1,35 +1,36 @@
 -- What a step does to closings and roots: it leaves them, or carries an offer out, which closes the generation of the old root.
-use Rattle.std.proofs.Common.{◌≡◌, ℕ, ◌==◌, ◌&&◌, Bool, true, false, cond, find, inl, inr, ◌⊎◌, List, ◌∷◌, ◌++◌, Option, Some, None, get_or, set, refl, sym, ap, ◌∙◌, subst}
+use Rattle.std.proofs.Common.{◌≡◌, ℕ, ◌==◌, Bool, true, false, cond, find, inl, inr, ◌⊎◌, List, ◌∷◌, ◌++◌, Option, Some, None, get_or, set, refl, sym, ap, ◌∙◌, subst, append-nil}
 use Rattle.std.proofs.Common.{eqb-true, eq-eqb, ne_eqb, []}
-use Rattle.std.proofs.lemmas.Bool.{true≢false, false≢true, and_from, cond_both}
+use Rattle.std.proofs.lemmas.Bool.{true≢false, cond_both}
 use Rattle.std.proofs.lemmas.Option.{none-some, same_Some}
 use Rattle.proof_generations.specs.Beneath.history.specs.declared.calls.Call.{Call}
 use Rattle.proof_generations.specs.Beneath.slot_arena.specs.declared.refs.Ref.{Ref}
-use Rattle.proof_generations.specs.Beneath.slot_arena.specs.Heaps.{generation_at, next_ref}
+use Rattle.proof_generations.specs.Beneath.slot_arena.specs.Heaps.{generation_at}
 use Rattle.proof_generations.specs.Beneath.machine_model.specs.declared.actions.Action.{Action}
 use Rattle.proof_generations.specs.Beneath.machine_model.specs.declared.actions.Action.TheVariants as act
-use Rattle.proof_generations.specs.Beneath.machine_model.specs.declared.heaps.Closing.{Closing}
+use Rattle.proof_generations.specs.Beneath.machine_model.specs.declared.records.Closing.{Closing}
 use Rattle.proof_generations.specs.Beneath.machine_model.specs.declared.operations.Operation.{Operation}
 use Rattle.proof_generations.specs.Beneath.machine_model.specs.declared.roots.Descriptor.{Descriptor}
 use Rattle.proof_generations.specs.Beneath.machine_model.specs.declared.roots.Root.{Root}
-use Rattle.proof_generations.specs.Beneath.machine_model.specs.declared.roots.RootWord.TheVariants.{Plain, Offer}
 use Rattle.proof_generations.specs.Beneath.machine_model.specs.declared.steps.Outcome.{Outcome}
 use Rattle.proof_generations.specs.Beneath.machine_model.specs.declared.steps.Step.{Step}
 use Rattle.proof_generations.specs.Beneath.machine_model.specs.declared.steps.Step.TheVariants as step
 use Rattle.proof_generations.specs.Beneath.machine_model.specs.Calls.{handle_of, is_close}
-use Rattle.proof_generations.specs.Beneath.machine_model.specs.States.{State, root_at, root_of, word_at, word_of, operation_of, with_operation, with_word, step_of}
-use Rattle.proof_generations.specs.Beneath.machine_model.specs.Swapping.{stands_in, is_plain, is_carried_out}
+use Rattle.proof_generations.specs.Beneath.machine_model.specs.States.{State, root_at, root_of, word_at, word_of, operation_of, with_operation}
+use Rattle.proof_generations.specs.Beneath.machine_model.specs.Swapping.{is_carried_out}
 use Rattle.proof_generations.specs.Beneath.machine_model.specs.Operations.{action_of}
-use Rattle.proof_generations.specs.Beneath.machine_model.specs.Acting.{acted, carried_out, if_changed, gone, operation_after, commits_after, entered}
-use Rattle.proof_generations.specs.Beneath.machine_model.specs.Orders.{committed_now}
+use Rattle.proof_generations.specs.Beneath.machine_model.specs.Acting.{gone, operation_after}
 use Rattle.proof_generations.specs.Beneath.machine_model.specs.Counting.{settled}
 use Rattle.proof_generations.specs.Beneath.machine_model.specs.Machine.{handle_closed}
 use Rattle.proof_generations.specs.Beneath.machine_model.specs.Moves.{Begins, Goes, Ends, Sweeps}
-use Rattle.proof_generations.specs.Beneath.machine_model.specs.Moves.{Moves, begun_operation}
+use Rattle.proof_generations.specs.Beneath.machine_model.specs.Moves.{Moves}
 use Rattle.proof_generations.specs.Beneath.machine_model.proofs.Found.{found_elsewhere, found_here}
 use Rattle.proof_generations.proofs.Offers.Same.{HasOffers, same_offer}
 use Rattle.proof_generations.proofs.Handles.Footings.{ActionCarriesOut, RootFrom, stood, swapped, newly, root_from}
-use Rattle.proof_generations.proofs.Counter.Below.{opened_closings, root_closings, begin_closings}
+use Rattle.proof_generations.specs.Beneath.machine_model.specs.Records.{step_of, Record, noted_progress, noted, closed_by}
+use Rattle.proof_generations.specs.Beneath.machine_model.specs.Tellings.{carried_by, progress_of, told_in}
+use Rattle.proof_generations.specs.Beneath.machine_model.specs.declared.records.Carried.{Carried}
+use Rattle.proof_generations.specs.Beneath.machine_model.proofs.Notes.{noted_going, noted_ending}
 
 -- ---- closings
 
@@ -103,35 +104,33 @@ carries_or_not st at (act.Offer own) = inr (λ offer c. let wrong : ⊥ = cc c.i
 carries_or_not st at (act.MakeRoot main) = inr (λ offer c. let wrong : ⊥ = cc c.is_it in wrong)
 carries_or_not st at action = inr (λ offer c. let wrong : ⊥ = cc c.is_it in wrong)
 
-test_same : (b : Bool) (changed same : State) → changed.closings ≡ same.closings → (if_changed b changed same).closings ≡ same.closings
-test_same true changed same e = e
-test_same false changed same e = refl
-
 -- what closes the old root
 abbrev pub closing_of : State → Descriptor → Closing
 closing_of st offer = record { generation = generation_at st.heap offer.root; step = st.steps }
 
-closings_same : (st : State) (at : ℕ) (action : Action) → ((offer : Descriptor) → ActionCarriesOut st at action offer → ⊥) → (acted st at action).closings ≡ st.closings
-closings_same st at (act.Abort own) none = test_same (stands_in (word_at st at) own) (with_word st at (Plain own.root)) st refl
-closings_same st at (act.Offer own) none = test_same (is_plain (word_at st at) own.root) (with_word st at (Offer own)) st refl
-closings_same st at (act.Complete own main) none = by (stands_in (word_at st at) own) (main == own.expected) refl refl
+-- what is told of it
+abbrev carrying : State → Descriptor → Carried
+carrying st offer = record { generation = generation_at st.heap offer.root; operation = offer.operation }
+
+pub carried_none : (st : State) (at : ℕ) (action : Action) → ((offer : Descriptor) → ActionCarriesOut st at action offer → ⊥) → carried_by st at action ≡ None
+carried_none st at (act.Complete own main) none = by (is_carried_out (word_at st at) own main) refl
   where
-    by : (b e : Bool) → stands_in (word_at st at) own ≡ b → (main == own.expected) ≡ e → (if_changed b (cond e (carried_out st at own) (with_word st at (Plain own.root))) st).closings ≡ st.closings
-    by true true stands expected = absurd (none own (record { main = main; is_it = refl; carried = and_from _ _ stands expected }))
-    by true false stands expected = refl
-    by false e stands expected = refl
-closings_same st at (act.MakeRoot main) none = root_closings st main (next_ref st.heap)
-closings_same st at action none = refl
+    by : (b : Bool) → is_carried_out (word_at st at) own main ≡ b → cond b (Some (carrying st own)) None ≡ None
+    by true e = absurd (none own (record { main = main; is_it = refl; carried = e }))
+    by false e = refl
+carried_none st at (act.Abort own) none = refl
+carried_none st at (act.Offer own) none = refl
+carried_none st at (act.MakeRoot main) none = refl
+carried_none st at action none = refl
 
-completed_closes : (st : State) (at : ℕ) (own : Descriptor) (b e : Bool) → (b && e) ≡ true →
-    (if_changed b (cond e (carried_out st at own) (with_word st at (Plain own.root))) st).closings ≡ st.closings ++ closing_of st own ∷ []
-completed_closes st at own true true t = ap (λ l. l ++ closing_of st own ∷ []) (opened_closings (with_word st at (Plain own.successor)) own own.opens)
-completed_closes st at own true false t = absurd (false≢true t)
-completed_closes st at own false e t = absurd (false≢true t)
+pub carried_some : (st : State) (at : ℕ) (action : Action) (offer : Descriptor) → ActionCarriesOut st at action offer → carried_by st at action ≡ Some (carrying st offer)
+carried_some st at action offer c =
+    ap (λ a. carried_by st at a) c.is_it ∙ ap (λ b. cond b (Some (carrying st offer)) None) c.carried
 
-closings_carried : (st : State) (at : ℕ) (action : Action) (offer : Descriptor) → ActionCarriesOut st at action offer → (acted st at action).closings ≡ st.closings ++ closing_of st offer ∷ []
-closings_carried st at action offer c =
-    ap (λ a. (acted st at a).closings) c.is_it ∙ completed_closes st at offer (stands_in (word_at st at) offer) (c.main == offer.expected) c.carried
+-- what a step of an operation that goes on leaves of the closings
+gone_closings : (state : State) (past : Record) (actor : ℕ) (operation : Operation) (x : Option Carried) → carried_by state (handle_of operation.call) (action_of state operation) ≡ x →
+    (noted_progress past state.steps actor (progress_of state operation)).closings ≡ past.closings ++ closed_by state.steps x
+gone_closings state past actor operation x e = ap (λ c. past.closings ++ closed_by state.steps c) e
 
 -- ---- a step
 
@@ -139,12 +138,12 @@ closings_carried st at action offer c =
 abbrev pub Kept : State → ℕ → Root → Type 0
 Kept state handle now = (root : Root) × (root_at state handle ≡ Some root) × (now.access ≡ root.access) × (root_of now.word ≡ root_of root.word)
 
-pub data StepKind (state : State) (s : Step) (after : State) : Type 0 where
-  quiet : after.closings ≡ state.closings → ((handle : ℕ) (now : Root) → root_at after handle ≡ Some now → Kept state handle now) → StepKind state s after
+pub data StepKind (state : State) (past : Record) (s : Step) (after : State) (now : Record) : Type 0 where
+  quiet : now.closings ≡ past.closings → ((handle : ℕ) (root : Root) → root_at after handle ≡ Some root → Kept state handle root) → StepKind state past s after now
   swaps : (actor : ℕ) (mover : Operation) (offer : Descriptor) → s ≡ step.Go actor → operation_of state actor ≡ Some mover
       → ActionCarriesOut state (handle_of mover.call) (action_of state mover) offer →
-      after.closings ≡ state.closings ++ closing_of state offer ∷ [] →
-      ((handle : ℕ) (now : Root) → root_at after handle ≡ Some now → RootFrom state (handle_of mover.call) (action_of state mover) handle now) → StepKind state s after
+      now.closings ≡ past.closings ++ closing_of state offer ∷ [] →
+      ((handle : ℕ) (root : Root) → root_at after handle ≡ Some root → RootFrom state (handle_of mover.call) (action_of state mover) handle root) → StepKind state past s after now
 
 kept_from : (state : State) (at : ℕ) (action : Action) → ((offer : Descriptor) → ActionCarriesOut state at action offer → ⊥) → (handle : ℕ) (now : Root) →
     RootFrom state at action handle now → Kept state handle now
@@ -152,8 +151,8 @@ kept_from state at action none handle now (stood root e access word free) = (roo
 kept_from state at action none handle now (swapped root offer c at_it e is) = absurd (none offer c)
 kept_from state at action none handle now (newly offer n c its at_it is) = absurd (none offer c)
 
-begun_kept : (state : State) (call : Call) (id handle : ℕ) (now : Root) → root_at (handle_closed state call id) handle ≡ Some now → Kept state handle now
-begun_kept state call id handle now =
+begun_kept : (state : State) (call : Call) (handle : ℕ) (now : Root) → root_at (handle_closed state call) handle ≡ Some now → Kept state handle now
+begun_kept state call handle now =
     cond_both (is_close call) _ _ (λ (q : State). root_at q handle ≡ Some now → Kept state handle now) (λ c e. (now, taken_away e, refl, refl)) (λ c e. (now, e, refl, refl))
   where
     taken_away : get_or (set state.roots (handle_of call) None) handle None ≡ Some now → root_at state handle ≡ Some now
@@ -177,33 +176,33 @@ here_from st state same at action handle now from = by from
     by (newly offer n c its at_it is) = newly offer n (here offer c) its at_it is
 
 -- the state on which a step's action works
-abbrev pub noted : State → ℕ → Operation → State
-noted state actor operation =
-    with_operation (record state { commits = commits_after state (committed_now state operation); places = state.places ++ entered state (committed_now state operation) }) actor
-    (Some (operation_after state operation))
+abbrev pub stepped : State → ℕ → Operation → State
+stepped state actor operation = with_operation state actor (Some (operation_after state operation))
 
-module _ (state : State) (I : HasOffers state) (actor : ℕ) (operation : Operation) (is : operation_of state actor ≡ Some operation) where
+module _ (state : State) (I : HasOffers state) (past : Record) (actor : ℕ) (operation : Operation) (is : operation_of state actor ≡ Some operation) where
   abbrev at : ℕ
   at = handle_of operation.call
 
   roots_from : (handle : ℕ) (now : Root) → root_at (gone state actor operation) handle ≡ Some now → RootFrom state at (action_of state operation) handle now
   roots_from handle now e =
-      here_from (noted state actor operation) state refl at (action_of state operation) handle now
-      (root_from (noted state actor operation) at handle now (action_of state operation) (λ own settled stands. same_offer state I actor operation own is settled at stands) e)
+      here_from (stepped state actor operation) state refl at (action_of state operation) handle now
+      (root_from (stepped state actor operation) at handle now (action_of state operation) (λ own settled stands. same_offer state I actor operation own is settled at stands) e)
 
   gone_kind : ((offer : Descriptor) × ActionCarriesOut state at (action_of state operation) offer) ⊎ ((offer : Descriptor) → ActionCarriesOut state at (action_of state operation) offer → ⊥) →
-      StepKind state (step.Go actor) (settled state (gone state actor operation))
+      StepKind state past (step.Go actor) (settled state (gone state actor operation)) (noted_progress past state.steps actor (progress_of state operation))
   gone_kind (inl (offer, c)) =
-      swaps actor operation offer refl is c
-      (closings_carried (noted state actor operation) at (action_of state operation) offer (record { main = c.main; is_it = c.is_it; carried = c.carried })) roots_from
+      swaps actor operation offer refl is c (gone_closings state past actor operation _ (carried_some state at (action_of state operation) offer c)) roots_from
   gone_kind (inr none) =
-      quiet (closings_same (noted state actor operation) at (action_of state operation) (λ offer c. none offer (record { main = c.main; is_it = c.is_it; carried = c.carried })))
+      quiet (gone_closings state past actor operation _ (carried_none state at (action_of state operation) none) ∙ append-nil past.closings)
       (λ handle now e. kept_from state at (action_of state operation) none handle now (roots_from handle now e))
 
-pub step_kind : (state : State) → HasOffers state → (s : Step) (o : Outcome) (after : State) → Moves state s o after → StepKind state s after
-step_kind state I s o after (Begins {actor} {call} d) =
-    quiet (begin_closings state actor call (begun_operation state call)) (λ handle now e. begun_kept state call (begun_operation state call).id handle now e)
-step_kind state I s o after (Goes {actor} {operation} d is a g) =
-    gone_kind state I actor operation is (carries_or_not state (handle_of operation.call) (action_of state operation))
-step_kind state I s o after (Ends d is a) = quiet refl (λ handle now e. (now, e, refl, refl))
-step_kind state I s o after (Sweeps spent) = quiet refl (λ handle now e. (now, e, refl, refl))
+pub step_kind : (state : State) → HasOffers state → (past now : Record) (s : Step) (o : Outcome) (after : State) → Moves state s o after →
+    now ≡ noted past state.steps (told_in state s) → StepKind state past s after now
+step_kind state I past now s o after (Begins {actor} {call} d) e =
+    quiet (ap (λ (r : Record). r.closings) e) (λ handle root at_it. begun_kept state call handle root at_it)
+step_kind state I past now s o after (Goes {actor} {operation} {action} d is a g) e =
+    subst (λ r. StepKind state past s after r) (sym (e ∙ noted_going state past actor operation action is a g))
+    (gone_kind state I past actor operation is (carries_or_not state (handle_of operation.call) (action_of state operation)))
+step_kind state I past now s o after (Ends {actor} {operation} {answer} d is a) e =
+    quiet (ap (λ (r : Record). r.closings) (e ∙ noted_ending state past actor operation answer is a)) (λ handle root at_it. (root, at_it, refl, refl))
+step_kind state I past now s o after (Sweeps spent) e = quiet (ap (λ (r : Record). r.closings) e) (λ handle root at_it. (root, at_it, refl, refl))

@@ -5,26 +5,22 @@ use Rattle.proof_generations.specs.Beneath.slot_arena.specs.declared.refs.Ref.{R
 use Rattle.proof_generations.specs.Beneath.slot_arena.specs.declared.nodes.Slot.{Slot}
 use Rattle.proof_generations.specs.Beneath.slot_arena.specs.Heaps.{stored, generation_of}
 use Rattle.proof_generations.specs.Beneath.machine_model.specs.declared.operations.Operation.{Operation}
-use Rattle.proof_generations.specs.Beneath.machine_model.specs.declared.steps.Limits.{Limits}
+use Rattle.proof_generations.specs.Beneath.machine_model.specs.declared.steps.Bounds.{Bounds}
 use Rattle.proof_generations.specs.Beneath.machine_model.specs.declared.steps.Step.{Step}
 use Rattle.proof_generations.specs.Beneath.machine_model.specs.States.{State, operation_of}
-use Rattle.proof_generations.specs.Beneath.machine_model.specs.Machine.{AreLimits, run}
+use Rattle.proof_generations.specs.Beneath.machine_model.specs.Machine.{run}
 use Rattle.proof_generations.specs.Beneath.machine_model.proofs.Along.{along}
 use Rattle.proof_generations.specs.Beneath.machine_model.specs.Grown.{standing}
-use Rattle.proof_generations.specs.Beneath.proof_memory.proofs.Safety.AtEachTime.{safe_along}
 use Rattle.proof_generations.proofs.Offers.Same.{HasOffers, has_offers_after, no_offers_at_first}
 use Rattle.proof_generations.proofs.Handles.Operations.{HasHandles, handles_after, handles_at_first}
-use Rattle.proof_generations.proofs.Counter.Below.{IsBelow, below_after, below_at_first}
+use Rattle.proof_generations.proofs.Counter.Below.{IsBelow}
 use Rattle.proof_generations.proofs.Handles.Running.{place_of_actor}
 use Rattle.proof_generations.specs.Beneath.machine_model.proofs.Grown.{standing_parts}
 
-pub has_handles_along : (limits : Limits) (steps : List Step) → HasOffers (run limits steps) × HasHandles (run limits steps)
+pub has_handles_along : (limits : Bounds) (steps : List Step) → HasOffers (run limits steps) × HasHandles (run limits steps)
 has_handles_along limits =
     along limits (λ state. HasOffers state × HasHandles state) (no_offers_at_first limits, handles_at_first limits)
     (λ steps s o after m I. (has_offers_after (run limits steps) I.0 s o after m, handles_after (run limits steps) I.0 I.1 s o after m))
-
-pub below_along : (limits : Limits) → AreLimits limits → (steps : List Step) → IsBelow (run limits steps)
-below_along limits ok = along limits IsBelow (below_at_first limits) (λ steps s o after m h. below_after (run limits steps) (safe_along limits ok steps) h s o after m)
 
 -- what stands is in the slots
 pub standing_below : (state : State) → IsBelow state → (r : Ref) (slot : Slot) → standing state.heap r ≡ Some slot → generation_of slot.node < state.generations

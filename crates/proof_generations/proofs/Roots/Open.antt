@@ -7,15 +7,15 @@ use Rattle.proof_generations.specs.Beneath.slot_arena.specs.declared.refs.Ref.{R
 use Rattle.proof_generations.specs.Beneath.slot_arena.specs.Heaps.{generation_at}
 use Rattle.proof_generations.specs.Beneath.machine_model.specs.declared.operations.Operation.{Operation}
 use Rattle.proof_generations.specs.Beneath.machine_model.specs.declared.roots.RootWord.TheVariants.{Plain}
-use Rattle.proof_generations.specs.Beneath.machine_model.specs.declared.steps.Limits.{Limits}
+use Rattle.proof_generations.specs.Beneath.machine_model.specs.declared.steps.Bounds.{Bounds}
 use Rattle.proof_generations.specs.Beneath.machine_model.specs.declared.steps.Step.{Step}
 use Rattle.proof_generations.specs.Beneath.machine_model.specs.Calls.{handle_of, is_close}
-use Rattle.proof_generations.specs.Beneath.machine_model.specs.States.{State, first_state, root_of, word_of, word_at, operation_of, closed_at}
+use Rattle.proof_generations.specs.Beneath.machine_model.specs.States.{State, first_state, root_of, word_of, word_at, operation_of}
 use Rattle.proof_generations.specs.Beneath.machine_model.specs.Acting.{operation_after}
 use Rattle.proof_generations.specs.Beneath.machine_model.proofs.Actors.{mark_only, marks_in}
 use Rattle.proof_generations.specs.Beneath.machine_model.proofs.Found.{none_found}
 use Rattle.proof_generations.specs.Beneath.machine_model.proofs.Times.{at_each_time, steps_at}
-use Rattle.proof_generations.specs.Beneath.machine_model.specs.Times.{turns}
+use Rattle.proof_generations.specs.Beneath.machine_model.specs.Times.{turns, noted_turn}
 use Rattle.proof_generations.specs.Beneath.machine_model.specs.Times.{IsRun, Turn}
 use Rattle.proof_generations.specs.Beneath.proof_memory.specs.Laws.{is_end}
 use Rattle.proof_generations.specs.Beneath.proof_memory.proofs.Safety.Base.{close_ends, goes_no_end}
@@ -24,6 +24,7 @@ use Rattle.proof_generations.specs.Running.{Runs}
 use Rattle.proof_generations.proofs.Offers.Swaps.{StepKind, quiet, swaps, step_kind, closing_of, closed_in, closed_new}
 use Rattle.proof_generations.proofs.Roots.Own.{gen}
 use Rattle.proof_generations.proofs.Roots.Along.{IsOrdered, ordered_at, closed_stays}
+use Rattle.proof_generations.specs.Beneath.machine_model.specs.Records.{closed_at, Record}
 
 -- ---- a close is at its end
 
@@ -32,19 +33,19 @@ ClosesEnd state = (k : ℕ) (operation : Operation) → Runs state k operation �
 
 closes_by : (state : State) (s : Step) → ClosesEnd state → (k : ℕ) (found : Operation) → Comes state s k found → is_close found.call ≡ true → is_end found.line ≡ true
 closes_by state s all k found (began call is d it) e = ap (λ (x : Operation). is_end x.line) it ∙ close_ends call (ap (λ (x : Operation). is_close x.call) (sym it) ∙ e)
-closes_by state s all k found (rested was at_k it) e =
+closes_by state s all k found (rested was at_k it other_step) e =
     let same = it ∙ mark_only (marks_in state s) was in
     ap (λ (x : Operation). is_end x.line) same ∙ all k was at_k (ap (λ (x : Operation). is_close x.call) (sym same) ∙ e)
 closes_by state s all k found (went was is at_k g it) e =
     let same = it ∙ mark_only (marks_in state s) (operation_after state was) in
     absurd (goes_no_end state was was.line g (all k was at_k (ap (λ (x : Operation). is_close x.call) (sym same) ∙ e)))
 
-no_closes : (limits : Limits) → ClosesEnd (first_state limits)
+no_closes : (limits : Bounds) → ClosesEnd (first_state limits)
 unfolding first_state
 no_closes limits k operation at_k = absurd (none_found limits.actors k operation at_k)
 
 -- an operation that isn't at its end is no close
-pub no_close_at : (limits : Limits) (states : ℕ → State) (last : ℕ) → IsRun limits states last → (t : ℕ) → t ≤ last → (k : ℕ) (operation : Operation) →
+pub no_close_at : (limits : Bounds) (states : ℕ → State) (last : ℕ) → IsRun limits states last → (t : ℕ) → t ≤ last → (k : ℕ) (operation : Operation) →
     Runs (states t) k operation → is_end operation.line ≡ false →
     is_close operation.call ≡ false
 no_close_at limits states last r t within k operation at_k going = by (is_close operation.call) refl
@@ -59,39 +60,48 @@ no_close_at limits states last r t within k operation at_k going = by (is_close 
 -- ---- when a generation is closed
 
 -- by a step that is taken then
-closed_now : (state : State) (s : Step) (after : State) → StepKind state s after → (g c : ℕ) → closed_at state g ≡ None → closed_at after g ≡ Some c → c ≡ state.steps
-closed_now state s after (quiet closings roots) g c none e = absurd (none-some c (sym none ∙ ap (λ l. closed_in l g) (sym closings) ∙ e))
-closed_now state s after (swaps actor mover offer go is carried closings roots) g c none e =
-    sym (closed_new state.closings (closing_of state offer) g c none (ap (λ l. closed_in l g) (sym closings) ∙ e)).1
+closed_now : (state : State) (past : Record) (s : Step) (after : State) (now : Record) → StepKind state past s after now → (g c : ℕ) → closed_at past g ≡ None →
+    closed_at now g ≡ Some c → c ≡ state.steps
+closed_now state past s after now (quiet closings roots) g c none e = absurd (none-some c (sym none ∙ ap (λ l. closed_in l g) (sym closings) ∙ e))
+closed_now state past s after now (swaps actor mover offer go is carried closings roots) g c none e =
+    sym (closed_new past.closings (closing_of state offer) g c none (ap (λ l. closed_in l g) (sym closings) ∙ e)).1
 
-module _ (limits : Limits) (states : ℕ → State) (last : ℕ) (r : IsRun limits states last) (t g : ℕ) (open_then : closed_at (states t) g ≡ None) where
-  closed_by_turn : (u c : ℕ) → t ≤ u → u < last → Turn (states u) (states (suc u)) → IsOrdered (states u) → (states u).steps ≡ u →
-      ((d : ℕ) → closed_at (states u) g ≡ Some d → t ≤ d) → closed_at (states (suc u)) g ≡ Some c → t ≤ c
-  closed_by_turn u c le lt (turns s o m) I count before e = by (closed_at (states u) g) refl
+module _ (limits : Bounds) (states : ℕ → State) (last : ℕ) (r : IsRun limits states last) (t g : ℕ) (open_then : closed_at (r.records t) g ≡ None) where
+  closed_by_turn : (u c : ℕ) → t ≤ u → u < last → (turn : Turn (states u) (states (suc u))) → r.records (suc u) ≡ noted_turn turn (r.records u) →
+      IsOrdered (states u) (r.records u) → (states u).steps ≡ u → ((d : ℕ) → closed_at (r.records u) g ≡ Some d → t ≤ d) → closed_at (r.records (suc u)) g ≡ Some c → t ≤ c
+  closed_by_turn u c le lt (turns s o m) notes I count before e = by (closed_at (r.records u) g) refl
     where
-      by : (was : Option ℕ) → closed_at (states u) g ≡ was → t ≤ c
-      by None is = omega (arith, le, count, closed_now (states u) s (states (suc u)) (step_kind (states u) I.offers s o (states (suc u)) m) g c is e)
-      by (Some d) is = let same : d ≡ c = same_Some _ _ (sym (closed_stays (states u) I.offers s o (states (suc u)) m g d is) ∙ e) in omega (arith, before d is, same)
+      by : (was : Option ℕ) → closed_at (r.records u) g ≡ was → t ≤ c
+      by None is = omega (
+        arith,
+        le,
+        count,
+        closed_now (states u) (r.records u) s (states (suc u)) (r.records (suc u))
+            (step_kind (states u) I.offers (r.records u) (r.records (suc u)) s o (states (suc u)) m notes) g c is e,
+      )
+      by (Some d) is = let same : d ≡ c = same_Some _ _ (sym (closed_stays (states u) I.offers (r.records u) (r.records (suc u)) s o (states (suc u)) m notes g d is) ∙ e) in omega
+          (arith, before d is, same)
 
   -- a generation that is open now is closed now or later
-  pub closed_from : (u c : ℕ) → u ≤ last → t ≤ u → closed_at (states u) g ≡ Some c → t ≤ c
+  pub closed_from : (u c : ℕ) → u ≤ last → t ≤ u → closed_at (r.records u) g ≡ Some c → t ≤ c
   closed_from zero c within le e = omega arith
   closed_from (suc u) c within le e = elim (cases_eq t (suc u)) [
-    | inl same ↦ absurd (none-some c (sym open_then ∙ ap (λ v. closed_at (states v) g) same ∙ e))
+    | inl same ↦ absurd (none-some c (sym open_then ∙ ap (λ v. closed_at (r.records v) g) same ∙ e))
     | inr earlier ↦
-        closed_by_turn u c (omega arith) (omega arith) (r.turn u (omega arith)) (ordered_at limits states last r u (omega arith)) (steps_at limits states last r u (omega arith))
+        closed_by_turn u c (omega arith) (omega arith) (r.turn u (omega arith)) (r.recorded u (omega arith)) (ordered_at limits states last r u (omega arith))
+        (steps_at limits states last r u (omega arith))
         (λ d was. closed_from u d (omega arith) (omega arith) was) e
   ]
 
 -- what an operation on a writable handle finds in its root word with no offer wasn't closed before
-pub open_root : (limits : Limits) (states : ℕ → State) (last : ℕ) → IsRun limits states last → (t : ℕ) → t ≤ last → (actor : ℕ) (operation : Operation) →
+pub open_root : (limits : Bounds) (states : ℕ → State) (last : ℕ) (run : IsRun limits states last) (t : ℕ) → t ≤ last → (actor : ℕ) (operation : Operation) →
     operation_of (states t) actor ≡ Some operation →
     is_end operation.line ≡ false → operation.access ≡ Writable → (q : Ref) → word_at (states t) (handle_of operation.call) ≡ Plain q → (c : ℕ) →
-    closed_at (states last) (generation_at (states t).heap q) ≡ Some c → t ≤ c
-open_root limits states last r t within actor operation is going w q word c e =
-    let I = ordered_at limits states last r t within in
+    closed_at (run.records last) (generation_at (states t).heap q) ≡ Some c → t ≤ c
+open_root limits states last run t within actor operation is going w q word c e =
+    let I = ordered_at limits states last run t within in
     let (k, place, at_k) = place_of_actor (states t) actor operation is in
-    let (root, found, access) = I.handles.on_open k operation at_k (no_close_at limits states last r t within k operation at_k going) in
+    let (root, found, access) = I.handles.on_open k operation at_k (no_close_at limits states last run t within k operation at_k going) in
     let its : gen (states t) root ≡ generation_at (states t).heap q = ap (λ x. generation_at (states t).heap (root_of x)) (sym (ap word_of found) ∙ word) in
-    closed_from limits states last r t (generation_at (states t).heap q)
-    (ap (closed_at (states t)) (sym its) ∙ I.roots.unclosed (handle_of operation.call) root found (access ∙ w)) last c (omega arith) within e
+    closed_from limits states last run t (generation_at (states t).heap q)
+    (ap (closed_at (run.records t)) (sym its) ∙ I.roots.unclosed (handle_of operation.call) root found (access ∙ w)) last c (omega arith) within e

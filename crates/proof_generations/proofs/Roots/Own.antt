@@ -21,7 +21,7 @@ use Rattle.proof_generations.specs.Beneath.machine_model.specs.declared.steps.Ou
 use Rattle.proof_generations.specs.Beneath.machine_model.specs.declared.steps.Step.{Step}
 use Rattle.proof_generations.specs.Beneath.machine_model.specs.declared.steps.Step.TheVariants as step
 use Rattle.proof_generations.specs.Beneath.machine_model.specs.Calls.{handle_of, is_close, needs_writable}
-use Rattle.proof_generations.specs.Beneath.machine_model.specs.States.{State, root_at, root_of, word_of, operation_of, closed_at}
+use Rattle.proof_generations.specs.Beneath.machine_model.specs.States.{State, root_at, root_of, word_of, operation_of}
 use Rattle.proof_generations.specs.Beneath.machine_model.specs.Operations.{action_of, first_line}
 use Rattle.proof_generations.specs.Beneath.machine_model.specs.Acting.{opened_root}
 use Rattle.proof_generations.specs.Beneath.machine_model.specs.Moves.{Begins, Goes, Ends, Sweeps}
@@ -38,26 +38,28 @@ use Rattle.proof_generations.proofs.Offers.Same.{HasOffers}
 use Rattle.proof_generations.proofs.Handles.Footings.{ActionCarriesOut, RootFrom, stood, swapped, newly, one_carried}
 use Rattle.proof_generations.proofs.Offers.Marks.{carried_stands}
 use Rattle.proof_generations.proofs.Handles.Operations.{HasHandles, Ran, ran_or_began}
-use Rattle.proof_generations.proofs.Counter.Below.{IsBelow, looked_up_below, closed_below}
+use Rattle.proof_generations.proofs.Counter.Below.{ClosingsBelow, IsBelow, looked_up_below, closed_below}
 use Rattle.proof_generations.proofs.Roots.Kept.{root_kept, fresh_in, fresh_of, fresh_from, FreshFrom, had, new, makes_first, fresh_kept}
 use Rattle.proof_generations.proofs.Offers.Swaps.{StepKind, quiet, swaps, step_kind, Kept, closing_of, closed_in, closed_kept, closed_other, closed_last}
 use Rattle.proof_generations.specs.Beneath.machine_model.proofs.Basics.{both_kinds}
+use Rattle.proof_generations.specs.Beneath.machine_model.specs.Records.{Record, closed_at, noted}
+use Rattle.proof_generations.specs.Beneath.machine_model.specs.Tellings.{told_in}
 
 -- the generation of a root
 abbrev pub gen : State → Root → ℕ
 gen state root = generation_at state.heap (root_of root.word)
 
 -- the generation is open, and no handle's root has it
-pub record IsUnused (state : State) (g : ℕ) : Type 0 where
-  pub unclosed : closed_at state g ≡ None
+pub record IsUnused (state : State) (past : Record) (g : ℕ) : Type 0 where
+  pub unclosed : closed_at past g ≡ None
   pub alone : (handle : ℕ) (root : Root) → root_at state handle ≡ Some root → gen state root ≡ g → ⊥
 
-pub record HasRoots (state : State) : Type 0 where
-  pub unclosed : (handle : ℕ) (root : Root) → root_at state handle ≡ Some root → root.access ≡ Writable → closed_at state (gen state root) ≡ None
-  pub is_closed : (handle : ℕ) (root : Root) → root_at state handle ≡ Some root → root.access ≡ ReadOnly → (c : ℕ) × (closed_at state (gen state root) ≡ Some c)
+pub record HasRoots (state : State) (past : Record) : Type 0 where
+  pub unclosed : (handle : ℕ) (root : Root) → root_at state handle ≡ Some root → root.access ≡ Writable → closed_at past (gen state root) ≡ None
+  pub is_closed : (handle : ℕ) (root : Root) → root_at state handle ≡ Some root → root.access ≡ ReadOnly → (c : ℕ) × (closed_at past (gen state root) ≡ Some c)
   pub apart : (handle other : ℕ) (a b : Root) → root_at state handle ≡ Some a → root_at state other ≡ Some b → a.access ≡ Writable → b.access ≡ Writable → gen state a ≡ gen state b → handle ≡ other
   pub fresh : (k : ℕ) (operation : Operation) (x : Bool) (r : Ref) → Runs state k operation → operation.is_marked ≡ false → fresh_in x operation.line ≡ Some r →
-      IsUnused state (generation_at state.heap r)
+      IsUnused state past (generation_at state.heap r)
   pub fresh_apart : (k j : ℕ) (a b : Operation) (x y : Bool) (r q : Ref) → Runs state k a → Runs state j b → a.is_marked ≡ false → b.is_marked ≡ false →
       fresh_in x a.line ≡ Some r → fresh_in y b.line ≡ Some q →
       generation_at state.heap r ≡ generation_at state.heap q → (k ≡ j) × (x ≡ y)
@@ -103,8 +105,9 @@ writable_call (Snapshot h) second e = (refl, refl)
 writable_call (Freeze h) second e = (refl, refl)
 writable_call call second e = absurd (false≢true e)
 
-module _ (state : State) (S : IsSafe state) (I : HasOffers state) (H : HasHandles state) (B : IsBelow state) (R : HasRoots state) (s : Step) (o : Outcome)
-    (after : State) (m : Moves state s o after) where
+module _ (state : State) (S : IsSafe state) (I : HasOffers state) (H : HasHandles state) (B : IsBelow state) (past recorded : Record)
+    (C : ClosingsBelow state.generations past.closings) (R : HasRoots state past) (s : Step) (o : Outcome) (after : State) (m : Moves state s o after)
+    (notes : recorded ≡ noted past state.steps (told_in state s)) where
   -- ---- fresh roots behind the step
 
   data FreshHad (k : ℕ) (found : Operation) (x : Bool) (r : Ref) : Type 0 where
@@ -134,7 +137,7 @@ module _ (state : State) (S : IsSafe state) (I : HasOffers state) (H : HasHandle
     stands : StandsBy state (handle_of mover.call) offer
     stands = I.offers (handle_of mover.call) offer (carried_stands state I actor mover offer is c)
 
-    new_unused : (x : Bool) (r : Ref) → fresh_of x offer ≡ Some r → IsUnused state (generation_at state.heap r)
+    new_unused : (x : Bool) (r : Ref) → fresh_of x offer ≡ Some r → IsUnused state past (generation_at state.heap r)
     new_unused x r e = R.fresh stands.k stands.owner x r stands.runs stands.unmarked (its_fresh stands.owner.line offer x r stands.completes e)
 
     -- a root behind the swap: one that stood elsewhere, a new one, or that of a read-only handle over the old one
@@ -178,12 +181,12 @@ module _ (state : State) (S : IsSafe state) (I : HasOffers state) (H : HasHandle
         let same = one_carried state (handle_of mover.call) (action_of state mover) offer other c d in
         behind_opened handle now (ap (λ (x : Descriptor). x.opens) (sym same) ∙ its ∙ ap Some (sym at_it)) offer.second refl (it ∙ ap (λ (x : Descriptor). opened_root x x.second) same)
 
-    module _ (closings : after.closings ≡ state.closings ++ closing_of state offer ∷ []) (roots : (handle : ℕ) (now : Root) → root_at after handle ≡ Some now →
+    module _ (closings : recorded.closings ≡ past.closings ++ closing_of state offer ∷ []) (roots : (handle : ℕ) (now : Root) → root_at after handle ≡ Some now →
         RootFrom state (handle_of mover.call) (action_of state mover) handle now) where
-      still_open : (g : ℕ) → closed_at state g ≡ None → (generation_at state.heap offer.root ≡ g → ⊥) → closed_at after g ≡ None
-      still_open g none other = ap (λ l. closed_in l g) closings ∙ closed_other state.closings (closing_of state offer) g none other
+      still_open : (g : ℕ) → closed_at past g ≡ None → (generation_at state.heap offer.root ≡ g → ⊥) → closed_at recorded g ≡ None
+      still_open g none other = ap (λ l. closed_in l g) closings ∙ closed_other past.closings (closing_of state offer) g none other
 
-      unused_swapped : (g : ℕ) → IsUnused state g → ((x : Bool) (r : Ref) → fresh_of x offer ≡ Some r → generation_at state.heap r ≡ g → ⊥) → IsUnused after g
+      unused_swapped : (g : ℕ) → IsUnused state past g → ((x : Bool) (r : Ref) → fresh_of x offer ≡ Some r → generation_at state.heap r ≡ g → ⊥) → IsUnused after recorded g
       unused_swapped g u free = record {
         unclosed = still_open g u.unclosed (λ e. u.alone (handle_of mover.call) old_root.0 old_root.1 (old_gen ∙ e));
         alone = λ handle now e. by handle now (behind handle now (roots handle now e));
@@ -198,26 +201,26 @@ module _ (state : State) (S : IsSafe state) (I : HasOffers state) (H : HasHandle
       not_old : (x : Bool) (r : Ref) → fresh_of x offer ≡ Some r → generation_at state.heap offer.root ≡ generation_at state.heap r → ⊥
       not_old x r e same = (new_unused x r e).alone (handle_of mover.call) old_root.0 old_root.1 (old_gen ∙ same)
 
-      open_by : (handle : ℕ) (now : Root) → Behind handle now → now.access ≡ Writable → closed_at after (gen after now) ≡ None
+      open_by : (handle : ℕ) (now : Root) → Behind handle now → now.access ≡ Writable → closed_at recorded (gen after now) ≡ None
       open_by handle now (kept root e access same away) w =
-          ap (closed_at after) same ∙
+          ap (closed_at recorded) same ∙
           still_open (gen state root) (R.unclosed handle root e (sym access ∙ w))
           (λ both. away (R.apart handle (handle_of mover.call) root old_root.0 e old_root.1 (sym access ∙ w) old_root.3 (sym both ∙ sym old_gen)))
-      open_by handle now (first r e same at_it access) w = ap (closed_at after) same ∙ still_open (generation_at state.heap r) (new_unused true r e).unclosed (not_old true r e)
-      open_by handle now (second r e same its access) w = ap (closed_at after) same ∙ still_open (generation_at state.heap r) (new_unused false r e).unclosed (not_old false r e)
+      open_by handle now (first r e same at_it access) w = ap (closed_at recorded) same ∙ still_open (generation_at state.heap r) (new_unused true r e).unclosed (not_old true r e)
+      open_by handle now (second r e same its access) w = ap (closed_at recorded) same ∙ still_open (generation_at state.heap r) (new_unused false r e).unclosed (not_old false r e)
       open_by handle now (frozen access same) w = let wrong : ⊥ = both_kinds now.access w access in absurd wrong
 
-      closed_by : (handle : ℕ) (now : Root) → Behind handle now → now.access ≡ ReadOnly → (d : ℕ) × (closed_at after (gen after now) ≡ Some d)
+      closed_by : (handle : ℕ) (now : Root) → Behind handle now → now.access ≡ ReadOnly → (d : ℕ) × (closed_at recorded (gen after now) ≡ Some d)
       closed_by handle now (kept root e access same away) w =
           let (d, was) = R.is_closed handle root e (sym access ∙ w) in
-          (d, ap (closed_at after) same ∙ ap (λ l. closed_in l (gen state root)) closings ∙ closed_kept state.closings (closing_of state offer ∷ []) (gen state root) d was)
+          (d, ap (closed_at recorded) same ∙ ap (λ l. closed_in l (gen state root)) closings ∙ closed_kept past.closings (closing_of state offer ∷ []) (gen state root) d was)
       closed_by handle now (first r e same at_it access) w = absurd (both_kinds now.access access w)
       closed_by handle now (second r e same its access) w = absurd (both_kinds now.access access w)
       closed_by handle now (frozen access same) w = (
         state.steps,
-        ap (closed_at after) same ∙ ap (λ l. closed_in l (generation_at state.heap offer.root)) closings
-            ∙ closed_last state.closings (closing_of state offer) (generation_at state.heap offer.root)
-            (ap (closed_at state) (sym old_gen) ∙ R.unclosed (handle_of mover.call) old_root.0 old_root.1 old_root.3) refl,
+        ap (closed_at recorded) same ∙ ap (λ l. closed_in l (generation_at state.heap offer.root)) closings
+            ∙ closed_last past.closings (closing_of state offer) (generation_at state.heap offer.root)
+            (ap (closed_at past) (sym old_gen) ∙ R.unclosed (handle_of mover.call) old_root.0 old_root.1 old_root.3) refl,
       )
 
       two_fresh : (x y : Bool) (r q : Ref) → fresh_of x offer ≡ Some r → fresh_of y offer ≡ Some q → generation_at state.heap r ≡ generation_at state.heap q → x ≡ y
@@ -253,15 +256,15 @@ module _ (state : State) (S : IsSafe state) (I : HasOffers state) (H : HasHandle
 
   -- ---- a generation that is drawn is used by none
 
-  drawn_unused : IsUnused state state.generations
+  drawn_unused : IsUnused state past state.generations
   drawn_unused = record {
-    unclosed = by (closed_at state state.generations) refl;
+    unclosed = by (closed_at past state.generations) refl;
     alone = λ handle root e same. omega (arith, looked_up_below state B (root_of root.word), same);
   }
     where
-      by : (o : Option ℕ) → closed_at state state.generations ≡ o → o ≡ None
+      by : (o : Option ℕ) → closed_at past state.generations ≡ o → o ≡ None
       by None e = refl
-      by (Some c) e = absurd (omega (arith, closed_below state.generations state.closings state.generations c B.closings e))
+      by (Some c) e = absurd (omega (arith, closed_below state.generations past.closings state.generations c C e))
 
   fresh_apart_by : (k j : ℕ) (a b : Operation) (x y : Bool) (r q : Ref) → FreshHad k a x r → FreshHad j b y q → a.is_marked ≡ false → b.is_marked ≡ false →
       generation_at after.heap r ≡ generation_at after.heap q → (k ≡ j) × (x ≡ y)
@@ -286,27 +289,27 @@ module _ (state : State) (S : IsSafe state) (I : HasOffers state) (H : HasHandle
 
   -- ---- a step that carries nothing out
 
-  module _ (closings : after.closings ≡ state.closings) (roots : (handle : ℕ) (now : Root) → root_at after handle ≡ Some now → Kept state handle now) where
-    unused_kept : (g : ℕ) → IsUnused state g → IsUnused after g
+  module _ (closings : recorded.closings ≡ past.closings) (roots : (handle : ℕ) (now : Root) → root_at after handle ≡ Some now → Kept state handle now) where
+    unused_kept : (g : ℕ) → IsUnused state past g → IsUnused after recorded g
     unused_kept g u = record {
       unclosed = ap (λ l. closed_in l g) closings ∙ u.unclosed;
       alone = λ handle now e same. let (root, was, access, word) = roots handle now e in u.alone handle root was (sym (gen_kept handle root now was word) ∙ same);
     }
 
-    fresh_quiet : (k : ℕ) (found : Operation) (x : Bool) (r : Ref) → found.is_marked ≡ false → FreshHad k found x r → IsUnused after (generation_at after.heap r)
+    fresh_quiet : (k : ℕ) (found : Operation) (x : Bool) (r : Ref) → found.is_marked ≡ false → FreshHad k found x r → IsUnused after recorded (generation_at after.heap r)
     fresh_quiet k found x r unmarked (old ran e) =
-        subst (IsUnused after) (sym (fresh_kept state S s o after m k ran.was x r ran.at_k e)) (unused_kept _ (R.fresh k ran.was x r ran.at_k (ran.unmarked unmarked) e))
-    fresh_quiet k found x r unmarked (made was at_k is drawn side) = subst (IsUnused after) (sym drawn) (unused_kept _ drawn_unused)
+        subst (IsUnused after recorded) (sym (fresh_kept state S s o after m k ran.was x r ran.at_k e)) (unused_kept _ (R.fresh k ran.was x r ran.at_k (ran.unmarked unmarked) e))
+    fresh_quiet k found x r unmarked (made was at_k is drawn side) = subst (IsUnused after recorded) (sym drawn) (unused_kept _ drawn_unused)
 
-    roots_quiet : HasRoots after
+    roots_quiet : HasRoots after recorded
     roots_quiet = record {
       unclosed = λ handle now e w.
           let (root, was, access, word) = roots handle now e in
-          ap (closed_at after) (gen_kept handle root now was word) ∙ ap (λ l. closed_in l (gen state root)) closings ∙ R.unclosed handle root was (sym access ∙ w);
+          ap (closed_at recorded) (gen_kept handle root now was word) ∙ ap (λ l. closed_in l (gen state root)) closings ∙ R.unclosed handle root was (sym access ∙ w);
       is_closed = λ handle now e w.
           let (root, was, access, word) = roots handle now e in
           let (d, closed) = R.is_closed handle root was (sym access ∙ w) in
-          (d, ap (closed_at after) (gen_kept handle root now was word) ∙ ap (λ l. closed_in l (gen state root)) closings ∙ closed);
+          (d, ap (closed_at recorded) (gen_kept handle root now was word) ∙ ap (λ l. closed_in l (gen state root)) closings ∙ closed);
       apart = λ h j a b e f wa wb same.
           let (p, was_p, pa, pw) = roots h a e in
           let (q, was_q, qa, qw) = roots j b f in
@@ -319,17 +322,17 @@ module _ (state : State) (S : IsSafe state) (I : HasOffers state) (H : HasHandle
 
   fresh_swapped : (actor : ℕ) (mover : Operation) (offer : Descriptor) (go : s ≡ step.Go actor) (is : operation_of state actor ≡ Some mover)
       (c : ActionCarriesOut state (handle_of mover.call) (action_of state mover) offer) →
-      (closings : after.closings ≡ state.closings ++ closing_of state offer ∷ []) →
+      (closings : recorded.closings ≡ past.closings ++ closing_of state offer ∷ []) →
       (roots : (handle : ℕ) (now : Root) → root_at after handle ≡ Some now → RootFrom state (handle_of mover.call) (action_of state mover) handle now) →
-      (k : ℕ) (found : Operation) (x : Bool) (r : Ref) → found.is_marked ≡ false → FreshHad k found x r → IsUnused after (generation_at after.heap r)
+      (k : ℕ) (found : Operation) (x : Bool) (r : Ref) → found.is_marked ≡ false → FreshHad k found x r → IsUnused after recorded (generation_at after.heap r)
   fresh_swapped actor mover offer go is c closings roots k found x r unmarked (old ran e) =
-      subst (IsUnused after) (sym (fresh_kept state S s o after m k ran.was x r ran.at_k e))
+      subst (IsUnused after recorded) (sym (fresh_kept state S s o after m k ran.was x r ran.at_k e))
       (unused_swapped actor mover offer go is c closings roots _ (R.fresh k ran.was x r ran.at_k (ran.unmarked unmarked) e)
       (not_its actor mover offer go is c closings roots k found ran unmarked x r e))
   fresh_swapped actor mover offer go is c closings roots k found x r unmarked (made was at_k is' drawn side) =
-      subst (IsUnused after) (sym drawn) (unused_swapped actor mover offer go is c closings roots _ drawn_unused (λ y q e same. omega (arith, looked_up_below state B q, same)))
+      subst (IsUnused after recorded) (sym drawn) (unused_swapped actor mover offer go is c closings roots _ drawn_unused (λ y q e same. omega (arith, looked_up_below state B q, same)))
 
-  roots_by : StepKind state s after → HasRoots after
+  roots_by : StepKind state past s after recorded → HasRoots after recorded
   roots_by (quiet closings roots) = roots_quiet closings roots
   roots_by (swaps actor mover offer go is c closings roots) = record {
     unclosed = λ handle now e. open_by actor mover offer go is c closings roots handle now (behind actor mover offer go is c handle now (roots handle now e));
@@ -339,26 +342,27 @@ module _ (state : State) (S : IsSafe state) (I : HasOffers state) (H : HasHandle
     fresh_apart = fresh_apart_after;
   }
 
-  pub roots_after : HasRoots after
-  roots_after = roots_by (step_kind state I s o after m)
+  pub roots_after : HasRoots after recorded
+  roots_after = roots_by (step_kind state I past recorded s o after m notes)
 
   -- ---- what becomes of the root of a writable handle
 
-  goes_on_by : StepKind state s after → (handle : ℕ) (root now : Root) → root_at state handle ≡ Some root → root.access ≡ Writable → root_at after handle ≡ Some now → now.access ≡ Writable →
-      (gen after now ≡ gen state root) ⊎ (closed_at after (gen state root) ≡ Some state.steps)
+  goes_on_by : StepKind state past s after recorded → (handle : ℕ) (root now : Root) → root_at state handle ≡ Some root → root.access ≡ Writable →
+      root_at after handle ≡ Some now → now.access ≡ Writable →
+      (gen after now ≡ gen state root) ⊎ (closed_at recorded (gen state root) ≡ Some state.steps)
   goes_on_by (quiet closings roots) handle root now e w f v =
       let (was, at_handle, access, word) = roots handle now f in
       inl (gen_kept handle was now at_handle word ∙ ap (gen state) (same_Some _ _ (sym at_handle ∙ e)))
   goes_on_by (swaps actor mover offer go is c closings roots) handle root now e w f v = by (behind actor mover offer go is c handle now (roots handle now f))
     where
-      by : Behind actor mover offer go is c handle now → (gen after now ≡ gen state root) ⊎ (closed_at after (gen state root) ≡ Some state.steps)
+      by : Behind actor mover offer go is c handle now → (gen after now ≡ gen state root) ⊎ (closed_at recorded (gen state root) ≡ Some state.steps)
       by (kept was at_handle access same away) = inl (same ∙ ap (gen state) (same_Some _ _ (sym at_handle ∙ e)))
       by (first r fresh same at_it access) =
           let old = old_root actor mover offer go is c in
           let one = same_Some _ _ (sym e ∙ ap (root_at state) at_it ∙ old.1) in
           let its : gen state root ≡ generation_at state.heap offer.root = ap (gen state) one ∙ old_gen actor mover offer go is c in
-          inr (ap (closed_at after) its ∙ ap (λ l. closed_in l (generation_at state.heap offer.root)) closings
-          ∙ closed_last state.closings (closing_of state offer) (generation_at state.heap offer.root) (ap (closed_at state) (sym its) ∙ R.unclosed handle root e w) refl)
+          inr (ap (closed_at recorded) its ∙ ap (λ l. closed_in l (generation_at state.heap offer.root)) closings
+          ∙ closed_last past.closings (closing_of state offer) (generation_at state.heap offer.root) (ap (closed_at past) (sym its) ∙ R.unclosed handle root e w) refl)
       by (second r fresh same its access) =
           let b = stands actor mover offer go is c in
           let mine = own_numbers b.owner offer (I.own b.k b.owner b.runs) b.completes in
@@ -367,5 +371,5 @@ module _ (state : State) (S : IsSafe state) (I : HasOffers state) (H : HasHandle
 
   -- while it is open its generation stays, or the step closes that
   pub root_goes_on : (handle : ℕ) (root now : Root) → root_at state handle ≡ Some root → root.access ≡ Writable → root_at after handle ≡ Some now → now.access ≡ Writable →
-      (gen after now ≡ gen state root) ⊎ (closed_at after (gen state root) ≡ Some state.steps)
-  root_goes_on = goes_on_by (step_kind state I s o after m)
+      (gen after now ≡ gen state root) ⊎ (closed_at recorded (gen state root) ≡ Some state.steps)
+  root_goes_on = goes_on_by (step_kind state I past recorded s o after m notes)

@@ -16,11 +16,11 @@ use Rattle.proof_generations.specs.Beneath.machine_model.specs.declared.roots.Ro
 use Rattle.proof_generations.specs.Beneath.machine_model.specs.declared.roots.RootLine.TheVariants as root
 use Rattle.proof_generations.specs.Beneath.machine_model.specs.declared.roots.RootWord.{RootWord}
 use Rattle.proof_generations.specs.Beneath.machine_model.specs.declared.roots.RootWord.TheVariants.{Plain, Offer}
-use Rattle.proof_generations.specs.Beneath.machine_model.specs.declared.steps.Limits.{Limits}
+use Rattle.proof_generations.specs.Beneath.machine_model.specs.declared.steps.Bounds.{Bounds}
 use Rattle.proof_generations.specs.Beneath.machine_model.specs.declared.steps.Outcome.{Outcome}
 use Rattle.proof_generations.specs.Beneath.machine_model.specs.declared.steps.Step.{Step}
 use Rattle.proof_generations.specs.Beneath.machine_model.specs.Calls.{handle_of, is_close}
-use Rattle.proof_generations.specs.Beneath.machine_model.specs.States.{State, first_state, root_at, root_of, word_of, word_at, closed_at}
+use Rattle.proof_generations.specs.Beneath.machine_model.specs.States.{State, first_state, root_at, root_of, word_of, word_at}
 use Rattle.proof_generations.specs.Beneath.machine_model.specs.Swapping.{root_after, after_root_word, after_completing, complete_after}
 use Rattle.proof_generations.specs.Beneath.machine_model.specs.Operations.{generation_from, given_root}
 use Rattle.proof_generations.specs.Beneath.machine_model.specs.Acting.{operation_after}
@@ -28,7 +28,7 @@ use Rattle.proof_generations.specs.Beneath.machine_model.specs.Moves.{Moves}
 use Rattle.proof_generations.specs.Beneath.machine_model.proofs.Actors.{mark_only, marks_in}
 use Rattle.proof_generations.specs.Beneath.machine_model.proofs.Found.{none_found}
 use Rattle.proof_generations.specs.Beneath.machine_model.proofs.Times.{along_run, steps_at}
-use Rattle.proof_generations.specs.Beneath.machine_model.specs.Times.{turns}
+use Rattle.proof_generations.specs.Beneath.machine_model.specs.Times.{turns, noted_turn}
 use Rattle.proof_generations.specs.Beneath.machine_model.specs.Times.{IsRun, Turn}
 use Rattle.proof_generations.specs.Beneath.proof_memory.proofs.Safety.States.{IsSafe}
 use Rattle.proof_generations.specs.Beneath.proof_memory.proofs.Safety.AtEachTime.{safe_at}
@@ -37,6 +37,8 @@ use Rattle.proof_generations.proofs.Handles.Running.{Comes, began, rested, went,
 use Rattle.proof_generations.specs.Running.{Runs}
 use Rattle.proof_generations.proofs.Roots.Own.{gen, root_goes_on}
 use Rattle.proof_generations.proofs.Roots.Along.{IsOrdered, ordered_at, ordered_after, closed_stays}
+use Rattle.proof_generations.specs.Beneath.machine_model.specs.Records.{closed_at, Record, noted}
+use Rattle.proof_generations.specs.Beneath.machine_model.specs.Tellings.{told_in}
 
 -- the root behind a standing
 pub standing_root : (state : State) (handle : ℕ) (access : Access) (generation : ℕ) → standing state handle ≡ Some (access, generation) →
@@ -56,16 +58,17 @@ stands states t handle generation root is writable its =
     ap (standing_of (states t).heap) is ∙ ap (λ a. Some (a, gen (states t) root)) writable ∙ ap (λ g. Some (Writable, g)) its
 
 -- while the handle is open and writable
-rooted_next : (states : ℕ → State) (t handle generation : ℕ) (s : Step) (o : Outcome) → IsSafe (states t) → IsOrdered (states t) → (states t).steps ≡ t → Moves (states t) s o (states (suc t)) →
-    (now : Root) → root_at (states (suc t)) handle ≡ Some now → now.access ≡ Writable → IsRooted states t handle generation → IsRooted states (suc t) handle generation
-rooted_next states t handle generation s o S I count m now e w (inl on) =
+rooted_next : (states : ℕ → State) (records : ℕ → Record) (t handle generation : ℕ) (s : Step) (o : Outcome) → IsSafe (states t) → IsOrdered (states t) (records t) →
+    (states t).steps ≡ t → Moves (states t) s o (states (suc t)) → records (suc t) ≡ noted (records t) (states t).steps (told_in (states t) s) → (now : Root) →
+    root_at (states (suc t)) handle ≡ Some now → now.access ≡ Writable → IsRooted states records t handle generation → IsRooted states records (suc t) handle generation
+rooted_next states records t handle generation s o S I count m notes now e w (inl on) =
     let (root, is_open, writable, its) = standing_root (states t) handle Writable generation on in
-    elim (root_goes_on (states t) S I.offers I.handles I.below I.roots s o (states (suc t)) m handle root now is_open writable e w) [
+    elim (root_goes_on (states t) S I.offers I.handles I.below (records t) (records (suc t)) I.closings I.roots s o (states (suc t)) m notes handle root now is_open writable e w) [
       | inl same ↦ inl (stands states (suc t) handle generation now e w (same ∙ its))
-      | inr closed ↦ inr (t, omega arith, ap (closed_at (states (suc t))) (sym its) ∙ closed ∙ ap Some count, on)
+      | inr closed ↦ inr (t, omega arith, ap (closed_at (records (suc t))) (sym its) ∙ closed ∙ ap Some count, on)
     ]
-rooted_next states t handle generation s o S I count m now e w (inr (c, before, closed, on)) =
-    inr (c, omega (arith, before), closed_stays (states t) I.offers s o (states (suc t)) m generation c closed, on)
+rooted_next states records t handle generation s o S I count m notes now e w (inr (c, before, closed, on)) =
+    inr (c, omega (arith, before), closed_stays (states t) I.offers (records t) (records (suc t)) s o (states (suc t)) m notes generation c closed, on)
 
 -- ---- what ROOT gives
 
@@ -103,14 +106,16 @@ generation_so state operation l g e = inl e
 -- ---- along a run
 
 -- each running operation on a writable handle that has a generation, but a close
-abbrev AllRooted : (ℕ → State) → ℕ → Type 0
-AllRooted states t =
+abbrev AllRooted : (ℕ → State) → (ℕ → Record) → ℕ → Type 0
+AllRooted states records t =
     (k : ℕ) (operation : Operation) (g : ℕ) → Runs (states t) k operation → is_close operation.call ≡ false → operation.access ≡ Writable → operation.generation ≡ Some g →
-    IsRooted states t (handle_of operation.call) g
+    IsRooted states records t (handle_of operation.call) g
 
-module _ (states : ℕ → State) (t : ℕ) (S : IsSafe (states t)) (I : IsOrdered (states t)) (count : (states t).steps ≡ t) (all : AllRooted states t) (s : Step)
-    (o : Outcome) (m : Moves (states t) s o (states (suc t))) where
-  before_by : (k : ℕ) (was : Operation) (g : ℕ) → Runs (states t) k was → is_close was.call ≡ false → was.access ≡ Writable → GivenFrom (states t) was g → IsRooted states t (handle_of was.call) g
+module _ (states : ℕ → State) (records : ℕ → Record) (t : ℕ) (S : IsSafe (states t)) (I : IsOrdered (states t) (records t)) (count : (states t).steps ≡ t)
+    (all : AllRooted states records t) (s : Step) (o : Outcome) (m : Moves (states t) s o (states (suc t)))
+    (notes : records (suc t) ≡ noted (records t) (states t).steps (told_in (states t) s)) where
+  before_by : (k : ℕ) (was : Operation) (g : ℕ) → Runs (states t) k was → is_close was.call ≡ false → was.access ≡ Writable → GivenFrom (states t) was g →
+      IsRooted states records t (handle_of was.call) g
   unfolding GivenFrom
   before_by k was g at_k no_close w (inl same) = all k was g at_k no_close w same
   before_by k was g at_k no_close w (inr (r, word, its)) =
@@ -118,40 +123,39 @@ module _ (states : ℕ → State) (t : ℕ) (S : IsSafe (states t)) (I : IsOrder
       inl (stands states t (handle_of was.call) g root found (access ∙ w) (ap (λ x. generation_at (states t).heap (root_of x)) (sym (ap word_of found) ∙ word) ∙ its))
 
   from_before : (k : ℕ) (found : Operation) (g : ℕ) → Comes (states t) s k found → is_close found.call ≡ false → found.access ≡ Writable →
-      found.generation ≡ Some g → IsRooted states t (handle_of found.call) g
+      found.generation ≡ Some g → IsRooted states records t (handle_of found.call) g
   unfolding GivenFrom
   from_before k found g (began call is d it) no_close w e = absurd (none-some g (sym (ap (λ (x : Operation). x.generation) it) ∙ e))
-  from_before k found g (rested was at_k it) no_close w e =
+  from_before k found g (rested was at_k it other_step) no_close w e =
       let same = it ∙ mark_only (marks_in (states t) s) was in
-      subst (λ c. IsRooted states t (handle_of c) g) (sym (ap (λ (x : Operation). x.call) same))
+      subst (λ c. IsRooted states records t (handle_of c) g) (sym (ap (λ (x : Operation). x.call) same))
       (all k was g at_k (ap (λ (x : Operation). is_close x.call) (sym same) ∙ no_close) (ap (λ (x : Operation). x.access) (sym same) ∙ w) (ap (λ (x : Operation). x.generation) (sym same) ∙ e))
   from_before k found g (went was is at_k go it) no_close w e =
       let same = it ∙ mark_only (marks_in (states t) s) (operation_after (states t) was) in
-      subst (λ c. IsRooted states t (handle_of c) g) (sym (ap (λ (x : Operation). x.call) same))
+      subst (λ c. IsRooted states records t (handle_of c) g) (sym (ap (λ (x : Operation). x.call) same))
       (before_by k was g at_k (ap (λ (x : Operation). is_close x.call) (sym same) ∙ no_close) (ap (λ (x : Operation). x.access) (sym same) ∙ w)
       (generation_so (states t) was was.line g (ap (λ (x : Operation). x.generation) (sym same) ∙ e)))
 
-  rooted_after : AllRooted states (suc t)
+  rooted_after : AllRooted states records (suc t)
   rooted_after k found g at_k no_close w e =
-      let (now, is_open, access) = (ordered_after (states t) S I s o (states (suc t)) m).handles.on_open k found at_k no_close in
-      rooted_next states t (handle_of found.call) g s o S I count m now is_open (access ∙ w) (from_before k found g (comes (states t) s o (states (suc t)) m k found at_k) no_close w e)
+      let (now, is_open, access) = (ordered_after (states t) (records t) S I s o (states (suc t)) m).handles.on_open k found at_k no_close in
+      rooted_next states records t (handle_of found.call) g s o S I count m notes now is_open (access ∙ w) (from_before k found g (comes (states t) s o (states (suc t)) m k found at_k) no_close w e)
 
 -- a running operation's generation was its handle's root's until it was closed
-pub rooted_at : (limits : Limits) (states : ℕ → State) (last : ℕ) → IsRun limits states last → (t : ℕ) → t ≤ last → AllRooted states t
+pub rooted_at : (limits : Bounds) (states : ℕ → State) (last : ℕ) (r : IsRun limits states last) (t : ℕ) → t ≤ last → AllRooted states r.records t
 unfolding first_state
 rooted_at limits states last r =
-    along_run limits states last r (λ t. AllRooted states t) first
-    (λ t lt turn all. by_turn t (safe_at limits states last r t (omega arith)) (ordered_at limits states last r t (omega arith)) (steps_at limits states last r t (omega arith)) all turn)
+    along_run limits states last r (λ t. AllRooted states r.records t) first
+    (λ t lt turn all. turned t (safe_at limits states last r t (omega arith)) (ordered_at limits states last r t (omega arith)) (steps_at limits states last r t (omega arith)) all
+    (states (suc t)) refl (r.turn t lt) (r.recorded t lt))
   where
     none_runs : (state : State) → state ≡ first_state limits → (k : ℕ) (operation : Operation) → Runs state k operation → ⊥
     none_runs state is k operation at_k = none_found limits.actors k operation (ap (λ (q : State). get_or q.actors k None) (sym is) ∙ at_k)
 
-    first : AllRooted states zero
+    first : AllRooted states r.records zero
     first k operation g at_k no_close w e = absurd (none_runs (states zero) r.first k operation at_k)
 
-    turned : (t : ℕ) → IsSafe (states t) → IsOrdered (states t) → (states t).steps ≡ t → AllRooted states t → (after : State) → after ≡ states (suc t) →
-        Turn (states t) after → AllRooted states (suc t)
-    turned t S I count all after is (turns s o m) = rooted_after states t S I count all s o (subst (λ q. Moves (states t) s o q) is m)
-
-    by_turn : (t : ℕ) → IsSafe (states t) → IsOrdered (states t) → (states t).steps ≡ t → AllRooted states t → Turn (states t) (states (suc t)) → AllRooted states (suc t)
-    by_turn t S I count all turn = turned t S I count all (states (suc t)) refl turn
+    turned : (t : ℕ) → IsSafe (states t) → IsOrdered (states t) (r.records t) → (states t).steps ≡ t → AllRooted states r.records t → (after : State) → after ≡ states (suc t) →
+        (turn : Turn (states t) after) → r.records (suc t) ≡ noted_turn turn (r.records t) → AllRooted states r.records (suc t)
+    turned t S I count all after is (turns s o m) notes =
+        rooted_after states r.records t S I count all s o (subst (λ q. Moves (states t) s o q) is m) notes

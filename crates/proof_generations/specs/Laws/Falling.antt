@@ -7,18 +7,19 @@ use Rattle.proof_generations.specs.Beneath.machine_model.specs.declared.lines.Li
 use Rattle.proof_generations.specs.Beneath.machine_model.specs.declared.lines.Purpose.{Purpose}
 use Rattle.proof_generations.specs.Beneath.machine_model.specs.declared.operations.Operation.{Operation}
 use Rattle.proof_generations.specs.Beneath.machine_model.specs.declared.reading.Swap.{Swap}
-use Rattle.proof_generations.specs.Beneath.machine_model.specs.declared.steps.Limits.{Limits}
+use Rattle.proof_generations.specs.Beneath.machine_model.specs.declared.steps.Bounds.{Bounds}
 use Rattle.proof_generations.specs.Beneath.machine_model.specs.declared.steps.Step.{Step}
-use Rattle.proof_generations.specs.Beneath.machine_model.specs.States.{State, operation_of, closed_at}
-use Rattle.proof_generations.specs.Beneath.machine_model.specs.Machine.{AreLimits, run}
+use Rattle.proof_generations.specs.Beneath.machine_model.specs.States.{State, operation_of}
+use Rattle.proof_generations.specs.Beneath.machine_model.specs.Machine.{AreBounds, run}
 use Rattle.proof_commits.specs.Runs.{HasIndirection}
-use Rattle.proof_commits.specs.Laws.{IsGiven, after_given}
+use Rattle.proof_commits.specs.Laws.{IsGiven, known_after}
 use Rattle.proof_generations.specs.Falling.{ReadsClosed, WasOpened}
 use Rattle.proof_generations.specs.Beneath.proof_memory.specs.Wants.{is_indirection}
 use Rattle.proof_generations.specs.Beneath.machine_model.specs.Times.{states_of, last_of}
+use Rattle.proof_generations.specs.Beneath.machine_model.specs.Records.{closed_at, record_of}
 
 -- after some of the steps a handle's root had this generation
-abbrev pub IsOpened : Limits → List Step → ℕ → Type 0
+abbrev pub IsOpened : Bounds → List Step → ℕ → Type 0
 IsOpened limits steps g = WasOpened (states_of limits steps) (last_of limits steps) g
 
 -- the main node counts for the indirection, or stands in its main word
@@ -37,22 +38,22 @@ pub record IsBelow (state : State) (i child : Ref) : Type 0 where
 -- root, below which stands what stands below the root that it is to follow.
 abbrev pub FallBelow : Type 0
 FallBelow =
-    (limits : Limits) (steps : List Step) → AreLimits limits → (i child : Ref) → IsBelow (run limits steps) i child →
+    (limits : Bounds) (steps : List Step) → AreBounds limits → (i child : Ref) → IsBelow (run limits steps) i child →
     (generation_at (run limits steps).heap child ≤ generation_at (run limits steps).heap i)
     × (IsOpened limits steps (generation_at (run limits steps).heap i) →
     (generation_at (run limits steps).heap child ≡ generation_at (run limits steps).heap i)
-    ⊎ ((c : ℕ) × (closed_at (run limits steps) (generation_at (run limits steps).heap child) ≡ Some c)))
+    ⊎ ((c : ℕ) × (closed_at (record_of limits steps) (generation_at (run limits steps).heap child) ≡ Some c)))
 
 -- who swaps a main node in does so on a writable handle, into an indirection of the generation that its root had when it began its try
 abbrev pub SwapsAreOwn : Type 0
 SwapsAreOwn =
-    (limits : Limits) (steps : List Step) → AreLimits limits → (actor : ℕ) (operation : Operation) → operation_of (run limits steps) actor ≡ Some operation → (why : Purpose) (s : Swap) →
+    (limits : Bounds) (steps : List Step) → AreBounds limits → (actor : ℕ) (operation : Operation) → operation_of (run limits steps) actor ≡ Some operation → (why : Purpose) (s : Swap) →
     operation.line ≡ line.Swap why s → (operation.access ≡ Writable) × (operation.generation ≡ Some (generation_at (run limits steps).heap s.indirection))
 
 -- what a READ gives through a read-only handle, or a repair's READ of an indirection of another generation than the operation's, is its logical main node for ever
 abbrev pub ReadForGood : Type 0
 ReadForGood =
-    (limits : Limits) (steps : List Step) → AreLimits limits → (n : ℕ) → n < last_of limits steps → (indirection main : Ref) (given : IsGiven limits steps n indirection main) →
+    (limits : Bounds) (steps : List Step) → AreBounds limits → (n : ℕ) → n < last_of limits steps → (indirection main : Ref) (given : IsGiven limits steps n indirection main) →
     HasIndirection (states_of limits steps n) indirection → ReadsClosed given.operation (generation_at (states_of limits steps n).heap indirection) →
-    (k : ℕ) → (after_given given).moment < k → k ≤ last_of limits steps → HasIndirection (states_of limits steps k) indirection →
+    (k : ℕ) → (known_after given).moment < k → k ≤ last_of limits steps → HasIndirection (states_of limits steps k) indirection →
     logical_main (states_of limits steps k).heap indirection ≡ main

@@ -7,11 +7,11 @@ use Rattle.proof_memory.specs.Beneath.slot_arena.specs.declared.refs.Ref.{Ref}
 use Rattle.proof_memory.specs.Beneath.slot_arena.specs.declared.nodes.Node.TheVariants.{Indirection}
 use Rattle.proof_memory.specs.Beneath.slot_arena.specs.declared.nodes.Slot.{Slot}
 use Rattle.proof_memory.specs.Beneath.slot_arena.specs.Heaps.{next_ref}
-use Rattle.machine_model.specs.declared.steps.Limits.{Limits}
+use Rattle.machine_model.specs.declared.steps.Bounds.{Bounds}
 use Rattle.machine_model.specs.declared.steps.Outcome.{Outcome}
 use Rattle.machine_model.specs.declared.steps.Step.{Step}
 use Rattle.machine_model.specs.States.{State, first_state}
-use Rattle.machine_model.specs.Machine.{AreLimits, run, run_from, next_state}
+use Rattle.machine_model.specs.Machine.{AreBounds, run, run_from, next_state}
 use Rattle.machine_model.proofs.Along.{kept_by_moves, run-append}
 use Rattle.machine_model.specs.Moves.{Moves}
 use Rattle.machine_model.specs.Grown.{standing}
@@ -71,7 +71,7 @@ still_after r was state I h s o after m =
     too_late : birth_of r ≡ state.heap.births + 1 → birth_of r ≤ state.heap.births → ⊥
     too_late a b = omega arith
 
-pub one_node : (limits : Limits) → AreLimits limits → (steps more : List Step) (r : Ref) (was now : Slot) → standing (run limits steps).heap r ≡ Some was →
+pub one_node : (limits : Bounds) → AreBounds limits → (steps more : List Step) (r : Ref) (was now : Slot) → standing (run limits steps).heap r ≡ Some was →
     standing (run limits (steps ++ more)).heap r ≡ Some now → SameNode was.node now.node
 one_node limits ok steps more r was now h h' =
     let I = safe_along limits ok steps in
@@ -92,7 +92,7 @@ births_later b state I h s o after m = later (births_grow _ _ _ _ _ _ ((step_eff
 pub drawn_birth : (state : State) → IsSafe state → (r : Ref) → next_ref state.heap ≡ Some r → birth_of r ≡ state.heap.births + 1
 drawn_birth state I r e = (taken_all state.limits.slots state.heap (I.sound.heap) (I.small) (Indirection 0 0) r e).3
 
-pub drawn_once : (limits : Limits) → AreLimits limits → (before since : List Step) (r : Ref) → next_ref (run limits (before ++ since)).heap ≡ Some r → IsInUse (run limits before).heap r → ⊥
+pub drawn_once : (limits : Bounds) → AreBounds limits → (before since : List Step) (r : Ref) → next_ref (run limits (before ++ since)).heap ≡ Some r → IsInUse (run limits before).heap r → ⊥
 drawn_once limits ok before since r e (slot, found) =
     let I = safe_along limits ok before in
     let later = onward (λ state. (run limits before).heap.births ≤ state.heap.births) (births_later (run limits before).heap.births) since (run limits before) I (omega arith) in

@@ -16,7 +16,7 @@ use Rattle.proof_memory.specs.Beneath.slot_arena.specs.Heaps.{Heap, main_at, mai
 use Rattle.machine_model.specs.declared.actions.Action.{Action}
 use Rattle.machine_model.specs.declared.actions.Action.TheVariants as act
 use Rattle.machine_model.specs.declared.operations.Operation.{Operation}
-use Rattle.machine_model.specs.declared.steps.Limits.{Limits}
+use Rattle.machine_model.specs.declared.steps.Bounds.{Bounds}
 use Rattle.machine_model.specs.declared.steps.Outcome.{Outcome}
 use Rattle.machine_model.specs.declared.steps.Step.{Step}
 use Rattle.machine_model.specs.Calls.{handle_of}
@@ -225,7 +225,7 @@ moved_stays state f g (fails actor operation i main previous told at_main takes 
   | inr other ↦ (was, others r other ∙ h, same_slot was)
 ]
 
-module _ (limits : Limits) (states : ℕ → State) (last : ℕ) (run : IsRun limits states last) where
+module _ (limits : Bounds) (states : ℕ → State) (last : ℕ) (run : IsRun limits states last) where
   -- births
   births_so_far : (t : ℕ) → t < last → (states t).heap.births ≤ (states (suc t)).heap.births
   births_so_far t h = by_turn (states t) (states (suc t)) (safe_at limits states last run t (omega arith)) (run.turn t h)

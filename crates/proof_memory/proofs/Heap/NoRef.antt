@@ -5,7 +5,7 @@ use Rattle.proof_memory.specs.Beneath.slot_arena.specs.Refs.{birth_of}
 use Rattle.proof_memory.specs.Beneath.slot_arena.specs.declared.refs.Ref.{Ref}
 use Rattle.proof_memory.specs.Beneath.slot_arena.specs.declared.nodes.Node.{Node}
 use Rattle.proof_memory.specs.Beneath.slot_arena.specs.Heaps.{no_ref, next_ref}
-use Rattle.machine_model.specs.declared.steps.Limits.{Limits}
+use Rattle.machine_model.specs.declared.steps.Bounds.{Bounds}
 use Rattle.machine_model.specs.States.{State, first_state}
 use Rattle.machine_model.specs.Grown.{standing, grown}
 use Rattle.machine_model.proofs.Times.{along_run}
@@ -23,7 +23,7 @@ born_later r n is same = not_zero (ap birth_of same ∙ is)
     not_zero : 0 ≡ n + 1 → ⊥
     not_zero e = omega (arith, e)
 
-module _ (limits : Limits) (states : ℕ → State) (last : ℕ) (run : IsRun limits states last) where
+module _ (limits : Bounds) (states : ℕ → State) (last : ℕ) (run : IsRun limits states last) where
   first_none : grown states zero no_ref ≡ None
   unfolding grown first_state
   first_none = by (standing (states zero).heap no_ref) refl

@@ -80,8 +80,8 @@ module _ (P : RootWord → Type 0) where
   put_words state at action h w = h
 
   -- a begin leaves them, but for that of the handle that it closes
-  pub begin_words : (state : State) (call : Call) (id : ℕ) → AllWords state → AllWords (handle_closed state call id)
-  begin_words state call id h =
+  pub begin_words : (state : State) (call : Call) → AllWords state → AllWords (handle_closed state call)
+  begin_words state call h =
       cond_both (is_close call) _ _ AllWords (λ e. written_words state.roots (handle_of call) None h (λ root e. absurd (none-some root e))) (λ e. h)
 
 module _ (S : Ref → Type 0) (heap : Heap) where
@@ -102,5 +102,5 @@ module _ (S : Ref → Type 0) (heap : Heap) where
   pub acted_words : (state : State) (at : ℕ) (action : Action) → WordsHold state → AllHold S heap (action_wants action) → WordsHold (acted state at action)
   acted_words state at action h w = put_words (λ word. AllHold S heap (word_wants word)) state at action h (puts_right action w)
 
-  pub begun_words : (state : State) (call : Call) (id : ℕ) → WordsHold state → WordsHold (handle_closed state call id)
-  begun_words state call id h = begin_words (λ word. AllHold S heap (word_wants word)) state call id h
+  pub begun_words : (state : State) (call : Call) → WordsHold state → WordsHold (handle_closed state call)
+  begun_words state call h = begin_words (λ word. AllHold S heap (word_wants word)) state call h

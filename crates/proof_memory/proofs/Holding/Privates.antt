@@ -8,12 +8,12 @@ use Rattle.proof_memory.specs.Beneath.slot_arena.proofs.Times.{times-cons, times
 use Rattle.machine_model.specs.declared.actions.Action.{Action}
 use Rattle.machine_model.specs.declared.actions.Action.TheVariants as act
 use Rattle.machine_model.specs.declared.operations.Operation.{Operation}
-use Rattle.machine_model.specs.declared.steps.Limits.{Limits}
+use Rattle.machine_model.specs.declared.steps.Bounds.{Bounds}
 use Rattle.machine_model.specs.declared.steps.Step.{Step}
 use Rattle.machine_model.specs.States.{operation_of}
 use Rattle.machine_model.specs.Operations.{action_of}
 use Rattle.machine_model.specs.Acting.{private_after, with_made, operation_after}
-use Rattle.machine_model.specs.Machine.{AreLimits, run}
+use Rattle.machine_model.specs.Machine.{AreBounds, run}
 use Rattle.machine_model.proofs.Actors.{mark_only, marks_by, marks_in}
 use Rattle.machine_model.proofs.EachOperation.{OfEach, of_running, of_each_along}
 use Rattle.proof_memory.specs.Holding.{PrivatesOnce}
@@ -39,7 +39,7 @@ once_more rs made h none r = elim (cases_eq r made) [
   | inr other ↦ omega (arith, times_push r made rs, once_other r made other, h r)
 ]
 
-module _ (limits : Limits) (ok : AreLimits limits) where
+module _ (limits : Bounds) (ok : AreBounds limits) where
   -- a slot that is made is new
   is_new : (steps : List Step) (actor : ℕ) (operation : Operation) (made : Ref) → operation_of (run limits steps) actor ≡ Some operation →
       next_ref (run limits steps).heap ≡ Some made → Contains operation.private made → ⊥

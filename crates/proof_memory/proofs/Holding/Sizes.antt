@@ -1,16 +1,15 @@
 -- There are as many handle numbers and actors as at first.
-use Rattle.std.proofs.Common.{◌≡◌, ℕ, ◌==◌, ◌-◌, Bool, true, false, cond, [], ◌∷◌, ◌++◌, Option, Some, None, length, refl, ◌∙◌, length-set}
+use Rattle.std.proofs.Common.{◌≡◌, ℕ, ◌==◌, ◌-◌, Bool, true, false, cond, Option, Some, None, length, refl, ◌∙◌, length-set}
 use Rattle.std.proofs.lemmas.List.{length-map, length-replicate}
 use Rattle.proof_memory.specs.Beneath.slot_arena.specs.declared.refs.Ref.{Ref}
 use Rattle.proof_memory.specs.Beneath.history.specs.declared.calls.Call.{Call}
-use Rattle.proof_memory.specs.Beneath.places.specs.Places.{on_time}
 use Rattle.machine_model.specs.declared.actions.Action.{Action}
 use Rattle.machine_model.specs.declared.actions.Action.TheVariants as act
 use Rattle.machine_model.specs.declared.operations.Operation.{Operation}
 use Rattle.machine_model.specs.declared.roots.Descriptor.{Descriptor}
 use Rattle.machine_model.specs.declared.roots.RootWord.{RootWord}
 use Rattle.machine_model.specs.declared.roots.RootWord.TheVariants.{Plain, Offer}
-use Rattle.machine_model.specs.declared.steps.Limits.{Limits}
+use Rattle.machine_model.specs.declared.steps.Bounds.{Bounds}
 use Rattle.machine_model.specs.declared.steps.Outcome.{Outcome}
 use Rattle.machine_model.specs.declared.steps.Step.{Step}
 use Rattle.machine_model.specs.Calls.{handle_of, is_close}
@@ -65,16 +64,16 @@ acted_sizes state handle (act.MakeRoot main) = root_sizes state main _
 acted_sizes state handle action = record { roots = refl; actors = refl }
 
 -- a close takes a handle away
-closed_sizes : (state : State) (call : Call) (id : ℕ) → SameSizes state (handle_closed state call id)
-closed_sizes state call id = by (is_close call)
+closed_sizes : (state : State) (call : Call) → SameSizes state (handle_closed state call)
+closed_sizes state call = by (is_close call)
   where
-    by : (b : Bool) → SameSizes state (cond b (record (with_root state (handle_of call) None) { places = state.places ++ on_time state.steps false id ∷ [] }) state)
+    by : (b : Bool) → SameSizes state (cond b (with_root state (handle_of call) None) state)
     by true = record { roots = length-set state.roots (handle_of call) None; actors = refl }
     by false = same state
 
 begun_sizes : (state : State) (actor : ℕ) (call : Call) (operation : Operation) → SameSizes state (with_begin state actor call operation)
 begun_sizes state actor call operation =
-    let closed = closed_sizes state call operation.id in
+    let closed = closed_sizes state call in
     record { roots = closed.roots; actors = length-set _ (actor - 1) _ ∙ closed.actors }
 
 -- each step that is taken
@@ -86,7 +85,7 @@ moved_sizes state s o after (Goes {actor} {operation} d is a g) =
 moved_sizes state s o after (Ends {actor} d is a) = record { roots = refl; actors = length-set state.actors (actor - 1) None }
 moved_sizes state s o after (Sweeps spent) = record { roots = refl; actors = refl }
 
-first_sizes : (limits : Limits) → (length (first_state limits).roots ≡ handle_limit) × (length (first_state limits).actors ≡ limits.actors)
+first_sizes : (limits : Bounds) → (length (first_state limits).roots ≡ handle_limit) × (length (first_state limits).actors ≡ limits.actors)
 unfolding first_state
 first_sizes limits = (refl, length-replicate {A = Option Operation} limits.actors None)
 

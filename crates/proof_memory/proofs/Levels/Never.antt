@@ -3,7 +3,7 @@ use Rattle.std.proofs.Common.{◌≡◌, ℕ, Option, Some, None, get_or, subst}
 use Rattle.proof_memory.specs.Beneath.history.specs.declared.calls.Call.{Call}
 use Rattle.proof_memory.specs.Beneath.history.specs.declared.calls.Call.TheVariants.{Close, Entries}
 use Rattle.machine_model.specs.declared.operations.Operation.{Operation}
-use Rattle.machine_model.specs.declared.steps.Limits.{Limits}
+use Rattle.machine_model.specs.declared.steps.Bounds.{Bounds}
 use Rattle.machine_model.specs.declared.steps.Outcome.{Outcome}
 use Rattle.machine_model.specs.declared.steps.Step.{Step}
 use Rattle.machine_model.specs.States.{State, first_state}
@@ -40,6 +40,6 @@ never_after state I strange before s o after m =
     (I.lines k operation found) (before k operation found) i)))
     (λ s o after m k other operation found e. marked_possible _ operation (before k operation found)) s o after m
 
-pub none_at_first : (limits : Limits) → NoneRuns (λ state operation. IsImpossible operation.line) (first_state limits)
+pub none_at_first : (limits : Bounds) → NoneRuns (λ state operation. IsImpossible operation.line) (first_state limits)
 unfolding first_state
 none_at_first limits k operation found i = none_found limits.actors k operation found

@@ -8,7 +8,7 @@ use Rattle.proof_memory.specs.Beneath.slot_arena.specs.declared.refs.Ref.{Ref}
 use Rattle.proof_memory.specs.Beneath.slot_arena.specs.declared.nodes.Node.{Node}
 use Rattle.proof_memory.specs.Beneath.slot_arena.specs.Heaps.{Heap, next_ref}
 use Rattle.machine_model.specs.declared.operations.Operation.{Operation}
-use Rattle.machine_model.specs.declared.steps.Limits.{Limits}
+use Rattle.machine_model.specs.declared.steps.Bounds.{Bounds}
 use Rattle.machine_model.specs.declared.steps.Outcome.{Outcome}
 use Rattle.machine_model.specs.declared.steps.Step.{Step}
 use Rattle.machine_model.specs.declared.steps.Step.TheVariants as step
@@ -16,7 +16,7 @@ use Rattle.machine_model.specs.Calls.{handle_of}
 use Rattle.machine_model.specs.States.{State, first_state, operation_of}
 use Rattle.machine_model.specs.Operations.{action_of}
 use Rattle.machine_model.specs.Acting.{gone}
-use Rattle.machine_model.specs.Machine.{Answer, AreLimits, run, run_from, next, next_state, state_after, is_number, taken_steps}
+use Rattle.machine_model.specs.Machine.{Answer, AreBounds, run, run_from, next, next_state, state_after, is_number, taken_steps}
 use Rattle.machine_model.specs.Times.{states_from, states_of}
 use Rattle.machine_model.proofs.Found.{none_found}
 use Rattle.machine_model.proofs.Moves.{moves}
@@ -176,7 +176,7 @@ unfolding levels_from
 old_level [] state I r low = refl
 old_level (s ∷ steps) state I r low = old_by state I s steps (next state s) (moves state s) r low (λ after J still. old_level steps after J r still)
 
-module _ (limits : Limits) (ok : AreLimits limits) (lv : Ref → ℕ) (old : (r : Ref) → birth_of r ≤ (first_state limits).heap.births → lv r ≡ 1) where
+module _ (limits : Bounds) (ok : AreBounds limits) (lv : Ref → ℕ) (old : (r : Ref) → birth_of r ≤ (first_state limits).heap.births → lv r ≡ 1) where
   root_old : birth_of (ref_to 2 1) ≤ (first_state limits).heap.births
   unfolding first_state
   root_old = let (slot, found) = safe_of ((safe_at_first limits ok).words 0 _ refl).0 in (safe_at_first limits ok).births (ref_to 2 1) slot found
@@ -203,25 +203,25 @@ module _ (limits : Limits) (ok : AreLimits limits) (lv : Ref → ℕ) (old : (r 
   }
 
 -- the levels of a run
-abbrev pub levels_of : Limits → List Step → Ref → ℕ
+abbrev pub levels_of : Bounds → List Step → Ref → ℕ
 levels_of limits steps = levels_from (first_state limits) steps
 
 -- what the first state has, and each step keeps that gives what it makes its level
-pub along_levels : (limits : Limits) (ok : AreLimits limits) (steps : List Step) (P : State → Type 0) → P (first_state limits) →
+pub along_levels : (limits : Bounds) (ok : AreBounds limits) (steps : List Step) (P : State → Type 0) → P (first_state limits) →
     ((state : State) → IsSafe state → P state → (s : Step) (o : Outcome) (after : State) → Moves state s o after → GivesLevel (levels_of limits steps) state s → P after) → P (run limits steps)
 along_levels limits ok steps P first keeps = kept_along (levels_of limits steps) P keeps steps (first_state limits) (safe_at_first limits ok) first (λ r high. refl)
 
 -- the same at each time of the steps that are taken, where one function gives the levels for all times
-pub levels_at : (limits : Limits) (ok : AreLimits limits) (steps : List Step) (P : State → Type 0) → P (first_state limits) →
+pub levels_at : (limits : Bounds) (ok : AreBounds limits) (steps : List Step) (P : State → Type 0) → P (first_state limits) →
     ((state : State) → IsSafe state → P state → (s : Step) (o : Outcome) (after : State) → Moves state s o after → GivesLevel (levels_of limits (taken_steps limits steps)) state s → P after) →
     (t : ℕ) → P (states_of limits steps t)
 levels_at limits ok steps P first keeps =
     kept_at (levels_of limits (taken_steps limits steps)) P keeps (taken_steps limits steps) (first_state limits) (safe_at_first limits ok) first (λ r high. refl)
 
-pub levels_at_first : (limits : Limits) (ok : AreLimits limits) (steps : List Step) → HasLevels (levels_of limits steps) (first_state limits)
+pub levels_at_first : (limits : Bounds) (ok : AreBounds limits) (steps : List Step) → HasLevels (levels_of limits steps) (first_state limits)
 levels_at_first limits ok steps = first_levels limits ok (levels_of limits steps) (old_level steps (first_state limits) (safe_at_first limits ok))
 
-pub has_levels : (limits : Limits) → AreLimits limits → (steps : List Step) → HasLevels (levels_of limits steps) (run limits steps)
+pub has_levels : (limits : Bounds) → AreBounds limits → (steps : List Step) → HasLevels (levels_of limits steps) (run limits steps)
 has_levels limits ok steps =
     along_levels limits ok steps (HasLevels (levels_of limits steps)) (levels_at_first limits ok steps)
     (λ state I h s o after m gives. levels_after (levels_of limits steps) state I h s o after m gives)

@@ -24,7 +24,7 @@ use Rattle.machine_model.specs.declared.lines.Line.{Line}
 use Rattle.machine_model.specs.declared.lines.Line.TheVariants as line
 use Rattle.machine_model.specs.declared.finding.KeyLine.TheVariants as key
 use Rattle.machine_model.specs.declared.repairs.ClimbLine.TheVariants as climb
-use Rattle.machine_model.specs.declared.steps.Limits.{Limits}
+use Rattle.machine_model.specs.declared.steps.Bounds.{Bounds}
 use Rattle.machine_model.specs.declared.steps.Outcome.{Outcome}
 use Rattle.machine_model.specs.declared.steps.Step.{Step}
 use Rattle.machine_model.specs.Calls.{handle_of}
@@ -33,7 +33,7 @@ use Rattle.machine_model.specs.Paths.{above, depth_of}
 use Rattle.machine_model.specs.Operations.{action_of, first_line}
 use Rattle.machine_model.specs.Acting.{operation_after, gone}
 use Rattle.machine_model.specs.Counting.{settled}
-use Rattle.machine_model.specs.Machine.{AreLimits, run, pin_of, taken_steps}
+use Rattle.machine_model.specs.Machine.{AreBounds, run, pin_of, taken_steps}
 use Rattle.machine_model.specs.Times.{states_of}
 use Rattle.machine_model.proofs.Along.{along}
 use Rattle.machine_model.proofs.Found.{none_found}
@@ -195,8 +195,8 @@ module _ (lv : Ref → ℕ) (state : State) (I : IsSafe state) (h : HasLevels lv
 
   pub shapes_after : (s : Step) (o : Outcome) (after : State) → Moves state s o after → GivesLevel lv state s → HasShapes lv after
   shapes_after s o after m gives = record {
-    nodes = λ r slot e. subst (λ (l : Limits). ShapeAt (list_depth l.hash) (lv r) slot.node) (sym (limits_kept state s o after m)) (nodes_shape s o after m gives r slot e);
-    lines = λ k found e. subst (λ (l : Limits). LineShape (list_depth l.hash) found.line) (sym (limits_kept state s o after m)) (lines_shape s o after m k found e);
+    nodes = λ r slot e. subst (λ (l : Bounds). ShapeAt (list_depth l.hash) (lv r) slot.node) (sym (limits_kept state s o after m)) (nodes_shape s o after m gives r slot e);
+    lines = λ k found e. subst (λ (l : Bounds). LineShape (list_depth l.hash) found.line) (sym (limits_kept state s o after m)) (lines_shape s o after m k found e);
   }
 
   -- ---- no line is strange
@@ -250,7 +250,7 @@ module _ (lv : Ref → ℕ) (state : State) (I : IsSafe state) (h : HasLevels lv
 
 -- ---- along runs
 
-module _ (limits : Limits) (ok : AreLimits limits) (steps : List Step) where
+module _ (limits : Bounds) (ok : AreBounds limits) (steps : List Step) where
   abbrev lv : Ref → ℕ
   lv = levels_of limits steps
 
@@ -276,7 +276,7 @@ module _ (limits : Limits) (ok : AreLimits limits) (steps : List Step) where
       (λ state I both s o after m gives. (levels_after lv state I both.0 s o after m gives, shapes_after lv state I both.0 both.1 s o after m gives))
 
 -- levels and shapes at each time of a run, with one function for all times
-pub shapes_at : (limits : Limits) → AreLimits limits → (steps : List Step) (t : ℕ) →
+pub shapes_at : (limits : Bounds) → AreBounds limits → (steps : List Step) (t : ℕ) →
     HasLevels (levels_of limits (taken_steps limits steps)) (states_of limits steps t) × HasShapes (levels_of limits (taken_steps limits steps)) (states_of limits steps t)
 shapes_at limits ok steps =
     let levels = levels_of limits (taken_steps limits steps) in
@@ -284,7 +284,7 @@ shapes_at limits ok steps =
     (λ state I both s o after m gives. (levels_after levels state I both.0 s o after m gives, shapes_after levels state I both.0 both.1 s o after m gives))
 
 -- no operation comes to the impossible line
-pub none_impossible : (limits : Limits) → AreLimits limits → (steps : List Step) → NoneRuns (λ state operation. IsImpossible operation.line) (run limits steps)
+pub none_impossible : (limits : Bounds) → AreBounds limits → (steps : List Step) → NoneRuns (λ state operation. IsImpossible operation.line) (run limits steps)
 none_impossible limits ok =
     along limits (NoneRuns (λ state operation. IsImpossible operation.line)) (none_at_first limits)
     (λ steps s o after m before.
@@ -292,7 +292,7 @@ none_impossible limits ok =
     let both = has_shapes limits ok steps in
     never_after (run limits steps) I (none_strange (levels_of limits steps) (run limits steps) I both.0 both.1) before s o after m)
 
-pub never_there : (limits : Limits) → AreLimits limits → (steps : List Step) (actor : ℕ) (operation : Operation) →
+pub never_there : (limits : Bounds) → AreBounds limits → (steps : List Step) (actor : ℕ) (operation : Operation) →
     operation_of (run limits steps) actor ≡ Some operation → operation.line ≡ line.Impossible → ⊥
 never_there limits ok steps zero operation found e = none-some operation found
 never_there limits ok steps (suc k) operation found e = none_impossible limits ok steps k operation found (subst IsImpossible (sym e) tt)

@@ -199,7 +199,7 @@ module _ (lv : Ref → ℕ) (state : State) (I : IsSafe state) (h : HasLevels lv
       by_births a b = omega arith
 
   words_after : (s : Step) (o : Outcome) (after : State) → Moves state s o after → AllWords (WordLevel lv) after
-  words_after s o after (Begins {actor} {call} d) = begin_words (WordLevel lv) state call (begun_operation state call).id (h.words)
+  words_after s o after (Begins {actor} {call} d) = begin_words (WordLevel lv) state call (h.words)
   words_after s o after (Goes {actor} {operation} d is a g) =
       put_words (WordLevel lv) _ (handle_of operation.call) (action_of state operation) (h.words)
       (puts_level lv (made_level operation.line) (action_of state operation) (acts_level actor operation is))

@@ -10,7 +10,7 @@ use Rattle.proof_memory.specs.Beneath.epochs.specs.declared.limbo.Zeroed.{Zeroed
 use Rattle.proof_memory.specs.Beneath.epochs.specs.declared.limbo.Swept.{Swept}
 use Rattle.proof_memory.specs.Beneath.epochs.specs.Limbo.{is_zero, is_in_use, newly_zero, limbo_after}
 use Rattle.proof_memory.specs.Beneath.epochs.specs.Sweeping.{Reclaimer, ripe, sweep_by}
-use Rattle.machine_model.specs.declared.steps.Limits.{Limits}
+use Rattle.machine_model.specs.declared.steps.Bounds.{Bounds}
 use Rattle.machine_model.specs.declared.steps.Outcome.{Outcome}
 use Rattle.machine_model.specs.declared.steps.Step.{Step}
 use Rattle.machine_model.specs.States.{State, first_state}
@@ -107,6 +107,6 @@ lies_next state s o after m h =
     subst (λ l. IsRising l × All (Lies after.epoch) l) (sym (limbo_is state s o after m))
     (lies_after after.heap (outside after) after.epoch state.limbo h.0 (old_lie state after.epoch (epoch_step state s o after m) h))
 
-pub limbo_lies : (limits : Limits) (steps : List Step) → LimboLies (run limits steps)
+pub limbo_lies : (limits : Bounds) (steps : List Step) → LimboLies (run limits steps)
 unfolding first_state
 limbo_lies limits = along limits LimboLies (tt, All-nil _) (λ steps s o after m h. lies_next (run limits steps) s o after m h)

@@ -17,7 +17,6 @@ use Rattle.machine_model.specs.declared.steps.Step.TheVariants as step
 use Rattle.machine_model.specs.States.{State, root_at, word_at, word_of, root_of}
 use Rattle.machine_model.specs.Pairs.{by_key}
 use Rattle.machine_model.specs.Contents.{pairs_at, pairs_below, most_levels, content_at}
-use Rattle.machine_model.specs.Orders.{order_of}
 use Rattle.machine_model.specs.Machine.{Answer, next, next_state, state_after, pin_of}
 use Rattle.machine_model.proofs.InUse.{InUse}
 use Rattle.machine_model.proofs.Moves.{moves}
@@ -92,8 +91,7 @@ root_safe S heap (Offer offer) h = safe_of h.0
 -- what it leaves
 abbrev Leaves : State → State → Type 0
 Leaves state after =
-    ((handle : ℕ) (root : Root) → root_at state handle ≡ Some root → (root_at after handle ≡ Some root) × (content_at after handle ≡ content_at state handle))
-    × (after.events ≡ state.events) × (order_of after ≡ order_of state)
+    (handle : ℕ) (root : Root) → root_at state handle ≡ Some root → (root_at after handle ≡ Some root) × (content_at after handle ≡ content_at state handle)
 
 module _ (state : State) (I : IsSafe state) (after : State) (o : Outcome) (m : Moves state step.Sweep o after)
     (goes : (r : Ref) → (standing after.heap r ≡ standing state.heap r) ⊎ (standing after.heap r ≡ None)) (roots : after.roots ≡ state.roots) where
@@ -116,11 +114,11 @@ sweep_move : (state : State) → IsSafe state → (o : Outcome) (after : State) 
 sweep_move state I o after (Sweeps spent) =
     let goes = sweep_goes state I (map pin_of state.actors) (ripe state.epoch state.limbo)
     (λ q due. stands_in_use state.heap q (omega (arith, I.small, I.sound.heap.size)) (ripe_in_use (InUse state.heap) state.epoch state.limbo (I.sound.limbo) q due)) in
-    ((λ handle root e. (e, content_same state I after o (Sweeps spent) goes refl handle root e)), refl, refl)
+    λ handle root e. (e, content_same state I after o (Sweeps spent) goes refl handle root e)
 
 by_answer : (state : State) → IsSafe state → (answer : Answer) → MovesIfTaken state step.Sweep answer → Leaves state (state_after state answer)
 by_answer state I (Ok done) m = sweep_move state I done.0 done.1 m
-by_answer state I (Err why) m = ((λ handle root e. (e, refl)), refl, refl)
+by_answer state I (Err why) m = λ handle root e. (e, refl)
 
 pub sweep_leaves : (state : State) → IsSafe state → Leaves state (next_state state step.Sweep)
 sweep_leaves state I = by_answer state I (next state step.Sweep) (moves state step.Sweep)

@@ -9,13 +9,13 @@ use Rattle.proof_memory.specs.Beneath.slot_arena.specs.declared.refs.Ref.{Ref}
 use Rattle.proof_memory.specs.Beneath.epochs.specs.declared.limbo.Zeroed.{Zeroed}
 use Rattle.proof_memory.specs.Beneath.epochs.specs.Limbo.{limbo_after}
 use Rattle.proof_memory.specs.Beneath.epochs.specs.Sweeping.{ripe}
-use Rattle.machine_model.specs.declared.steps.Limits.{Limits}
+use Rattle.machine_model.specs.declared.steps.Bounds.{Bounds}
 use Rattle.machine_model.specs.declared.steps.Outcome.{Outcome}
 use Rattle.machine_model.specs.declared.steps.Step.{Step}
 use Rattle.machine_model.specs.declared.steps.Step.TheVariants as step
 use Rattle.machine_model.specs.States.{State, first_state}
 use Rattle.machine_model.specs.Counting.{outside}
-use Rattle.machine_model.specs.Machine.{Answer, AreLimits, run, run_from, next, next_state, state_after}
+use Rattle.machine_model.specs.Machine.{Answer, AreBounds, run, run_from, next, next_state, state_after}
 use Rattle.machine_model.proofs.Along.{along, by_last, run_push}
 use Rattle.machine_model.proofs.Moves.{moves}
 use Rattle.machine_model.specs.Moves.{Moves, MovesIfTaken}
@@ -29,13 +29,13 @@ use Rattle.proof_memory.proofs.Safety.First.{first_zeros}
 
 -- ---- exactness along runs
 
-pub has_zeros : (limits : Limits) → AreLimits limits → (steps : List Step) → HasZeros (run limits steps)
+pub has_zeros : (limits : Bounds) → AreBounds limits → (steps : List Step) → HasZeros (run limits steps)
 has_zeros limits ok = along limits HasZeros (first_zeros limits ok) (λ steps s o after m h. zeros_in_limbo (run limits steps) after (limbo_is (run limits steps) s o after m))
 
 -- ---- since when
 
 -- nothing has referred to it since these of the steps, after which the epoch was that one
-abbrev pub ZeroSince : Limits → List Step → Zeroed → Type 0
+abbrev pub ZeroSince : Bounds → List Step → Zeroed → Type 0
 ZeroSince limits steps z =
     (before since : List Step) × (steps ≡ before ++ since) × ((run limits before).epoch ≡ z.epoch) × ((a b : List Step) → since ≡ a ++ b → IsZero (run limits (before ++ a)) z.at)
 
@@ -53,7 +53,7 @@ beginning since a b s e = elim (ends_so b) [
   | inr some ↦ inr (some.0, (same_from_push since (a ++ some.0) s some.1 (e ∙ ap (λ l. a ++ l) some.2 ∙ sym (append_assoc a some.0 (some.1 ∷ [])))).0)
 ]
 
-module _ (limits : Limits) (steps : List Step) (s : Step) where
+module _ (limits : Bounds) (steps : List Step) (s : Step) where
   -- it goes on being so
   still_since : (z : Zeroed) → ZeroSince limits steps z → IsZero (run limits (steps ++ s ∷ [])) z.at → ZeroSince limits (steps ++ s ∷ []) z
   still_since z (before, since, e, epoch, zeros) now = (
@@ -85,10 +85,10 @@ module _ (limits : Limits) (steps : List Step) (s : Step) where
           no_list x l e = cc
 
 -- each slot of limbo
-abbrev AllSince : Limits → List Step → Type 0
+abbrev AllSince : Bounds → List Step → Type 0
 AllSince limits steps = All (ZeroSince limits steps) (run limits steps).limbo
 
-module _ (limits : Limits) (ok : AreLimits limits) (steps : List Step) (h : AllSince limits steps) (s : Step) where
+module _ (limits : Bounds) (ok : AreBounds limits) (steps : List Step) (h : AllSince limits steps) (s : Step) where
   abbrev after : State
   after = run limits (steps ++ s ∷ [])
 
@@ -125,11 +125,11 @@ module _ (limits : Limits) (ok : AreLimits limits) (steps : List Step) (h : AllS
   all_since_after : AllSince limits (steps ++ s ∷ [])
   all_since_after = both (by_answer (next (run limits steps) s) after_is (moves (run limits steps) s))
 
-none_since : (limits : Limits) → AllSince limits []
+none_since : (limits : Bounds) → AllSince limits []
 unfolding first_state run_from
 none_since limits = All-nil _
 
-pub all_since : (limits : Limits) → AreLimits limits → (steps : List Step) → AllSince limits steps
+pub all_since : (limits : Bounds) → AreBounds limits → (steps : List Step) → AllSince limits steps
 all_since limits ok = by_last (AllSince limits) (none_since limits) (λ steps s h. all_since_after limits ok steps h s)
 
 -- ---- what is freed
@@ -167,7 +167,7 @@ only_sweep state (step.Begin actor call) r e = absurd (none-some r e)
 only_sweep state (step.Go actor) r e = absurd (none-some r e)
 only_sweep state step.Sweep r e = refl
 
-pub freed_late : (limits : Limits) → AreLimits limits → (steps : List Step) (s : Step) (r : Ref) → IsInUse (run limits steps).heap r → (IsInUse (next_state (run limits steps) s).heap r → ⊥) →
+pub freed_late : (limits : Bounds) → AreBounds limits → (steps : List Step) (s : Step) (r : Ref) → IsInUse (run limits steps).heap r → (IsInUse (next_state (run limits steps) s).heap r → ⊥) →
     (s ≡ step.Sweep)
     × ((before since : List Step) × (steps ≡ before ++ since) × ((run limits before).epoch + 2 ≤ (run limits steps).epoch)
     × ((a b : List Step) → since ≡ a ++ b → IsZero (run limits (before ++ a)) r))

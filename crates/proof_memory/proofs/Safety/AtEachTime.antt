@@ -1,9 +1,9 @@
 -- Memory is safe at each time of a run. The layers above cite `safe_at`, with the parts of IsSafe and its `heaped`, `open_word` and `step_claims`.
 use Rattle.std.proofs.Common.{ℕ, ◌≤◌, List}
-use Rattle.machine_model.specs.declared.steps.Limits.{Limits}
+use Rattle.machine_model.specs.declared.steps.Bounds.{Bounds}
 use Rattle.machine_model.specs.declared.steps.Step.{Step}
 use Rattle.machine_model.specs.States.{State}
-use Rattle.machine_model.specs.Machine.{AreLimits, run, next_state}
+use Rattle.machine_model.specs.Machine.{AreBounds, run, next_state}
 use Rattle.machine_model.proofs.Along.{along, kept_by_moves}
 use Rattle.machine_model.proofs.Times.{at_each_time}
 use Rattle.machine_model.specs.Times.{IsRun}
@@ -11,11 +11,11 @@ use Rattle.proof_memory.proofs.Safety.States.{IsSafe}
 use Rattle.proof_memory.proofs.Safety.Steps.{safe_after}
 use Rattle.proof_memory.proofs.Safety.First.{safe_at_first}
 
-pub safe_at : (limits : Limits) (states : ℕ → State) (last : ℕ) → IsRun limits states last → (t : ℕ) → t ≤ last → IsSafe (states t)
+pub safe_at : (limits : Bounds) (states : ℕ → State) (last : ℕ) → IsRun limits states last → (t : ℕ) → t ≤ last → IsSafe (states t)
 safe_at limits states last r = at_each_time limits states last r IsSafe (safe_at_first limits (r.limits_ok)) (λ before s o after m I. safe_after before I s o after m)
 
 -- after each list of steps
-pub safe_along : (limits : Limits) → AreLimits limits → (steps : List Step) → IsSafe (run limits steps)
+pub safe_along : (limits : Bounds) → AreBounds limits → (steps : List Step) → IsSafe (run limits steps)
 safe_along limits ok = along limits IsSafe (safe_at_first limits ok) (λ steps s o after m I. safe_after (run limits steps) I s o after m)
 
 -- after a step, be it taken or denied

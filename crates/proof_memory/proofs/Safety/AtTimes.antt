@@ -5,7 +5,7 @@ use Rattle.proof_memory.specs.Beneath.slot_arena.specs.declared.refs.Ref.{Ref}
 use Rattle.proof_memory.specs.Beneath.slot_arena.specs.declared.nodes.Slot.{Slot}
 use Rattle.proof_memory.specs.Beneath.slot_arena.specs.Heaps.{node_at, main_at, prev_at, main_of, generation_at, generation_of}
 use Rattle.machine_model.specs.declared.operations.Operation.{Operation}
-use Rattle.machine_model.specs.declared.steps.Limits.{Limits}
+use Rattle.machine_model.specs.declared.steps.Bounds.{Bounds}
 use Rattle.machine_model.specs.States.{State, first_state, operation_of}
 use Rattle.machine_model.specs.Operations.{action_of}
 use Rattle.machine_model.proofs.Frames.{limits_kept}
@@ -43,19 +43,19 @@ module _ (state : State) (I : IsSafe state) where
       all_carried (Safe state operation.epoch) state.heap (IsInUse state.heap) state.heap (used_carries operation.epoch) (action_wants (action_of state operation)) h
 
 -- by the limits of the run
-pub line_finds_in : (state : State) → IsSafe state → (limits : Limits) → state.limits ≡ limits → (actor : ℕ) (operation : Operation) → operation_of state actor ≡ Some operation →
+pub line_finds_in : (state : State) → IsSafe state → (limits : Bounds) → state.limits ≡ limits → (actor : ℕ) (operation : Operation) → operation_of state actor ≡ Some operation →
     AllHold (IsInUse state.heap) state.heap (line_wants limits.hash operation.call operation.access operation.line)
 line_finds_in state I limits same actor operation e =
-    subst (λ (l : Limits). AllHold (IsInUse state.heap) state.heap (line_wants l.hash operation.call operation.access operation.line)) same (line_finds state I actor operation e)
+    subst (λ (l : Bounds). AllHold (IsInUse state.heap) state.heap (line_wants l.hash operation.call operation.access operation.line)) same (line_finds state I actor operation e)
 
 -- ---- at a time of a run
 
 -- a machine keeps its limits
-pub limits_at : (limits : Limits) (states : ℕ → State) (last : ℕ) → IsRun limits states last → (t : ℕ) → t ≤ last → (states t).limits ≡ limits
+pub limits_at : (limits : Bounds) (states : ℕ → State) (last : ℕ) → IsRun limits states last → (t : ℕ) → t ≤ last → (states t).limits ≡ limits
 unfolding first_state
 limits_at limits states last r = at_each_time limits states last r (λ s. s.limits ≡ limits) refl (λ before s o after m e. limits_kept before s o after m ∙ e)
 
-module _ (limits : Limits) (states : ℕ → State) (last : ℕ) (run : IsRun limits states last) (t : ℕ) (within : t ≤ last) where
+module _ (limits : Bounds) (states : ℕ → State) (last : ℕ) (run : IsRun limits states last) (t : ℕ) (within : t ≤ last) where
   pub line_at : (actor : ℕ) (operation : Operation) → operation_of (states t) actor ≡ Some operation →
       AllHold (IsInUse (states t).heap) (states t).heap (line_wants limits.hash operation.call operation.access operation.line)
   line_at actor operation e = line_finds_in (states t) (safe_at limits states last run t within) limits (limits_at limits states last run t within) actor operation e

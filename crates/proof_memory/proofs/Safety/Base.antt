@@ -108,8 +108,8 @@ acted_open state at (act.MakeRoot main) handle h = taken_open state main _ handl
 acted_open state at action handle h = h
 
 -- a begin leaves the roots, but for that of the handle that it closes
-pub closed_root : (state : State) (call : Call) (id handle : ℕ) → (is_close call ≡ true → handle ≡ handle_of call → ⊥) → root_at (handle_closed state call id) handle ≡ root_at state handle
-closed_root state call id handle other =
+pub closed_root : (state : State) (call : Call) (handle : ℕ) → (is_close call ≡ true → handle ≡ handle_of call → ⊥) → root_at (handle_closed state call) handle ≡ root_at state handle
+closed_root state call handle other =
     cond_both (is_close call) _ _ (λ (s : State). root_at s handle ≡ root_at state handle) (λ e. found_elsewhere state.roots (handle_of call) handle None (other e)) (λ e. refl)
 
 -- a handle on which an operation runs isn't closed
@@ -139,7 +139,7 @@ module _ (state : State) (all : (k : ℕ) (operation : Operation) → get_or sta
       HasHandle (settled state (with_begin state actor call (begun_operation state call))) (begun_operation state call)
   begun_handle actor call k own d = elim (cases_Bool (is_close call)) [
     | inl c ↦ or_left _ _ (close_ends call c)
-    | inr c ↦ or_right _ _ (ap is_some (closed_root state call (begun_operation state call).id (handle_of call) (λ e same. false≢true (sym c ∙ e))) ∙ handle_given state actor call d)
+    | inr c ↦ or_right _ _ (ap is_some (closed_root state call (handle_of call) (λ e same. false≢true (sym c ∙ e))) ∙ handle_given state actor call d)
   ]
 
   -- a handle that is open before a step of an operation
@@ -160,7 +160,7 @@ module _ (state : State) (all : (k : ℕ) (operation : Operation) → get_or sta
       HasHandle state operation → HasHandle after (mark_one (marks_in state s) operation)
   other_handle s o after (Begins {actor} {call} d) k other operation found h =
       kept_handle after operation
-      (λ handle same open_now. ap is_some (closed_root state call (begun_operation state call).id handle
+      (λ handle same open_now. ap is_some (closed_root state call handle
       (λ c e. close_denied state actor call d c (subst (λ x. runs_on state x ≡ true) (sym same ∙ e) (running_on state.actors k operation found)))) ∙ open_now) h
   other_handle s o after (Goes {actor} {operation = mover} d is a g) k other operation found h =
       rw (mark_only (marks_in state s) operation)

@@ -17,9 +17,9 @@ use Rattle.machine_model.specs.Counting.{outside, refs_of_root}
 use Rattle.machine_model.specs.declared.actions.Action.TheVariants as act
 use Rattle.machine_model.specs.declared.roots.Root.{Root}
 use Rattle.machine_model.specs.declared.roots.RootWord.{RootWord}
-use Rattle.machine_model.specs.declared.steps.Limits.{Limits}
+use Rattle.machine_model.specs.declared.steps.Bounds.{Bounds}
 use Rattle.machine_model.specs.States.{State, first_state, first_heap, empty_heap, handle_limit, root_at}
-use Rattle.machine_model.specs.Machine.{AreLimits}
+use Rattle.machine_model.specs.Machine.{AreBounds}
 use Rattle.machine_model.proofs.Found.{none_found, found_here, found_elsewhere}
 use Rattle.machine_model.specs.Grown.{standing, of_birth}
 use Rattle.machine_model.proofs.Slots.{AddsUp, empty_adds_up, taken_kept, sound_at_first}
@@ -127,7 +127,7 @@ first_words P word h k root e = elim (cases_eq k 0) [
   | inr other ↦ absurd (none_found handle_limit k root (sym (found_elsewhere (replicate handle_limit None) 0 k (Some word) other) ∙ e))
 ]
 
-pub safe_at_first : (limits : Limits) → AreLimits limits → IsSafe (first_state limits)
+pub safe_at_first : (limits : Bounds) → AreBounds limits → IsSafe (first_state limits)
 unfolding first_state
 safe_at_first limits ok =
     let (right, root) = first_right limits.slots ok.0 ok.1 in
@@ -205,7 +205,7 @@ first_counted_by (suc zero) low small = absurd (omega arith)
 first_counted_by (suc (suc n)) low small = first_counted n small
 
 -- so limbo has all with none, which it is to have
-pub first_zeros : (limits : Limits) → AreLimits limits → HasZeros (first_state limits)
+pub first_zeros : (limits : Bounds) → AreBounds limits → HasZeros (first_state limits)
 unfolding first_state
 first_zeros limits ok r (used, zeros) =
     let is_counted = first_counted_by limits.slots ok.0 ok.1 (first_state limits) refl _ refl (zero, omega arith, refl) r used in

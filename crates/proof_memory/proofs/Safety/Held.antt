@@ -16,7 +16,7 @@ use Rattle.machine_model.specs.declared.actions.Action.{Action}
 use Rattle.machine_model.specs.declared.actions.Action.TheVariants as act
 use Rattle.machine_model.specs.declared.roots.RootWord.{RootWord}
 use Rattle.machine_model.specs.declared.roots.RootWord.TheVariants.{Plain, Offer}
-use Rattle.machine_model.specs.declared.steps.Limits.{Limits}
+use Rattle.machine_model.specs.declared.steps.Bounds.{Bounds}
 use Rattle.machine_model.specs.declared.steps.Outcome.{Outcome}
 use Rattle.machine_model.specs.declared.steps.Step.{Step}
 use Rattle.machine_model.specs.declared.steps.Step.TheVariants as step
@@ -26,7 +26,7 @@ use Rattle.machine_model.specs.Operations.{action_of}
 use Rattle.machine_model.specs.Acting.{gone}
 use Rattle.machine_model.specs.Counting.{settled, refs_of_word}
 use Rattle.machine_model.specs.Contents.{got_by, got_in, got_of, while_running, held_from, held}
-use Rattle.machine_model.specs.Machine.{Answer, AreLimits, begin_denial, next, next_state, state_after, is_taken_step, run_from, run}
+use Rattle.machine_model.specs.Machine.{Answer, AreBounds, begin_denial, next, next_state, state_after, is_taken_step, run_from, run}
 use Rattle.machine_model.proofs.Found.{none_found}
 use Rattle.machine_model.proofs.Moves.{moves}
 use Rattle.machine_model.specs.Moves.{Begins, Goes, Ends, Sweeps}
@@ -183,7 +183,7 @@ unfolding held_from
 none_by_zero [] state = refl
 none_by_zero (s ∷ steps) state = none_by_zero steps (next_state state s)
 
-first_holds : (limits : Limits) (k : ℕ) → HoldsSafe (first_state limits) k []
+first_holds : (limits : Bounds) (k : ℕ) → HoldsSafe (first_state limits) k []
 unfolding first_state
 first_holds limits k = record { safe = λ operation found. absurd (none_found limits.actors k operation found); none = λ e. refl }
 
@@ -195,7 +195,7 @@ in_use_by state k refs h None e r c = none_contained r (subst (λ rs. Contains r
     none_contained r (i, within, at_i) = absurd (omega arith)
 in_use_by state k refs h (Some operation) e r c = (All-contains (Safe state operation.epoch) refs r (h.safe operation e) c).used
 
-pub held_in_use : (limits : Limits) → AreLimits limits → (steps : List Step) (actor : ℕ) (r : Ref) → Contains (held limits steps actor) r → IsInUse (run limits steps).heap r
+pub held_in_use : (limits : Bounds) → AreBounds limits → (steps : List Step) (actor : ℕ) (r : Ref) → Contains (held limits steps actor) r → IsInUse (run limits steps).heap r
 held_in_use limits ok steps zero r c = none_contained (subst (λ rs. Contains rs r) (none_by_zero steps (first_state limits)) c)
   where
     none_contained : Contains [] r → IsInUse (run limits steps).heap r

@@ -17,7 +17,7 @@ use Rattle.proof_memory.specs.Beneath.epochs.specs.Sweeping.{Reclaimer, ripe, sw
 use Rattle.machine_model.specs.declared.operations.Operation.{Operation}
 use Rattle.machine_model.specs.declared.actions.Action.{Action}
 use Rattle.machine_model.specs.declared.actions.Action.TheVariants as act
-use Rattle.machine_model.specs.declared.steps.Limits.{Limits}
+use Rattle.machine_model.specs.declared.steps.Bounds.{Bounds}
 use Rattle.machine_model.specs.declared.steps.Outcome.{Outcome}
 use Rattle.machine_model.specs.declared.steps.Step.{Step}
 use Rattle.machine_model.specs.declared.steps.Step.TheVariants as step
@@ -163,7 +163,7 @@ module _ (state : State) (I : IsSafe state) where
   -- root words, where what they want is still said of the state before
   words_between : (s : Step) (o : Outcome) (after : State) → Moves state s o after → (epoch : ℕ) × (epoch ≤ state.epoch) × (state.epoch ≤ epoch + 1) × WordsHold (Safe state epoch) state.heap after
   words_between s o after (Begins {actor} {call} d) =
-      (state.epoch, omega arith, omega arith, begun_words (Safe state state.epoch) state.heap state call (begun_operation state call).id (word_in state I state.epoch))
+      (state.epoch, omega arith, omega arith, begun_words (Safe state state.epoch) state.heap state call (word_in state I state.epoch))
   words_between s o after (Goes {actor} {operation} d is a g) =
       let (k, recent) = of_actor state (λ k operation. IsRecent state k operation × (get_or state.actors k None ≡ Some operation))
       (λ k operation e. (I.recent k operation e, e)) actor operation is in (
@@ -247,7 +247,7 @@ module _ (state : State) (I : IsSafe state) where
       get_or state.actors k None ≡ Some operation → Lines (settled state (gone state actor operation)) k (mark_one (marks_by state (Some operation)) (operation_after state operation))
   own_line actor operation k own is g found =
       rw (mark_only (marks_by state (Some operation)) (operation_after state operation))
-      (subst (λ (l : Limits). AllHold (Safe (settled state (gone state actor operation)) operation.epoch) (gone state actor operation).heap
+      (subst (λ (l : Bounds). AllHold (Safe (settled state (gone state actor operation)) operation.epoch) (gone state actor operation).heap
       (line_wants l.hash operation.call operation.access (line_after state operation operation.line)))
       (sym (acted_framed _ (handle_of operation.call) (action_of state operation)).limits) (gone_line actor k operation found g))
 
@@ -257,7 +257,7 @@ module _ (state : State) (I : IsSafe state) where
       rw (mark_only (marks_in state s) operation)
       (all_carried (Safe state operation.epoch) state.heap (Safe after operation.epoch) after.heap
       (step_carries s o after m operation.epoch (I.recent k operation found).0 (I.recent k operation found).1) _
-      (subst (λ (l : Limits). AllHold (Safe state operation.epoch) state.heap (line_wants l.hash operation.call operation.access operation.line))
+      (subst (λ (l : Bounds). AllHold (Safe state operation.epoch) state.heap (line_wants l.hash operation.call operation.access operation.line))
       (sym (limits_kept state s o after m)) (I.lines k operation found)))
 
   lines_after : (s : Step) (o : Outcome) (after : State) → Moves state s o after → (k : ℕ) (operation : Operation) → get_or after.actors k None ≡ Some operation → Lines after k operation
@@ -291,8 +291,8 @@ module _ (state : State) (I : IsSafe state) where
 
   pub safe_after : (s : Step) (o : Outcome) (after : State) → Moves state s o after → IsSafe after
   safe_after s o after m = record {
-    sound = subst (λ (l : Limits). IsSound l.slots after) (sym (limits_kept state s o after m)) (sound_after state.limits.slots (I.small) state s (I.sound) o after m);
-    small = subst (λ (l : Limits). l.slots ≤ 2 ^ 16) (sym (limits_kept state s o after m)) (I.small);
+    sound = subst (λ (l : Bounds). IsSound l.slots after) (sym (limits_kept state s o after m)) (sound_after state.limits.slots (I.small) state s (I.sound) o after m);
+    small = subst (λ (l : Bounds). l.slots ≤ 2 ^ 16) (sym (limits_kept state s o after m)) (I.small);
     births = births_after _ _ _ _ _ _ ((step_effect s o after m).3) (I.births);
     zeros = zeros_after s o after m;
     recent = recent_after state (I.recent) s o after m;

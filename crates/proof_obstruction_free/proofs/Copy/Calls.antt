@@ -14,7 +14,7 @@ use Rattle.proof_obstruction_free.specs.Beneath.machine_model.specs.declared.rea
 use Rattle.proof_obstruction_free.specs.Beneath.machine_model.specs.declared.reading.After.TheVariants.{Goes, Gives}
 use Rattle.proof_obstruction_free.specs.Beneath.machine_model.specs.declared.roots.Complete.{Complete}
 use Rattle.proof_obstruction_free.specs.Beneath.machine_model.specs.declared.roots.RootLine.{RootLine}
-use Rattle.proof_obstruction_free.specs.Beneath.machine_model.specs.declared.steps.Limits.{Limits}
+use Rattle.proof_obstruction_free.specs.Beneath.machine_model.specs.declared.steps.Bounds.{Bounds}
 use Rattle.proof_obstruction_free.specs.Beneath.machine_model.specs.declared.steps.Step.{Step}
 use Rattle.proof_obstruction_free.specs.Beneath.machine_model.specs.Calls.{handle_of}
 use Rattle.proof_obstruction_free.specs.Beneath.machine_model.specs.Copying.{after_offer, after_successor, copy_if_made, copy_after, copy_after_read, copy_after_complete, copied_reply, after_given}
@@ -117,7 +117,7 @@ AllSo state = (k : ℕ) (operation : Operation) → Runs state k operation → I
 
 so_by : (state : State) (s : Step) → AllSo state → (k : ℕ) (found : Operation) → Comes state s k found → IsCopying found.call → OfCopy found.line
 so_by state s all k found (began call is d it) copies = subst (λ (x : Operation). OfCopy x.line) (sym it) (first_so call (subst (λ (x : Operation). IsCopying x.call) it copies))
-so_by state s all k found (rested was at_k it) copies =
+so_by state s all k found (rested was at_k it other_step) copies =
     let same = it ∙ mark_only (marks_in state s) was in
     subst (λ (x : Operation). OfCopy x.line) (sym same) (all k was at_k (subst (λ (x : Operation). IsCopying x.call) same copies))
 so_by state s all k found (went was is at_k g it) copies =
@@ -125,7 +125,7 @@ so_by state s all k found (went was is at_k g it) copies =
     let before : IsCopying was.call = subst (λ (x : Operation). IsCopying x.call) same copies in
     subst (λ (x : Operation). OfCopy x.line) (sym same) (line_so state was before was.line (all k was at_k before))
 
-none_so : (limits : Limits) → AllSo (first_state limits)
+none_so : (limits : Bounds) → AllSo (first_state limits)
 unfolding first_state
 none_so limits k operation at_k = absurd (none_found limits.actors k operation at_k)
 

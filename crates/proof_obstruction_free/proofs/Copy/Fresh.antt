@@ -24,6 +24,7 @@ use Rattle.proof_obstruction_free.specs.Machines.{HoldsRead, lead}
 use Rattle.proof_obstruction_free.specs.Stepping.{Stepping, LeavesWords}
 use Rattle.proof_obstruction_free.proofs.Copy.Lines.{completing_line, swapping_line, complete_reads}
 use Rattle.proof_obstruction_free.proofs.Root.Words.{offered_on}
+use Rattle.proof_obstruction_free.proofs.Step.Next.{own_run}
 use Rattle.proof_obstruction_free.proofs.Swap.Course.{prev_leaves, main_leaves}
 use Rattle.proof_obstruction_free.proofs.Swap.Found.{handle_open}
 use Rattle.proof_obstruction_free.proofs.Swap.Steps.{w, known, facts, keeps_left, read_acts, reads, read_next, same_word}
@@ -87,7 +88,7 @@ module _ (a : Lone) (steps : Stepping a) where
         let l = line.Copy (copy.Offer d) in
         let h : t < a.last = omega (arith, room) in
         let f = facts a t g l s h tt in
-        let left = leaves_words a.states a.last (λ g. None) t f.acts (no_commit a.limits a.states a.last (known a) t h f.commits) in
+        let left = leaves_words a.states (own_run a).records a.last (λ g. None) t f.acts (no_commit a.limits a.states a.last (known a) t h f.commits) in
         let it : word_at (a.states t) (handle_of s.operation.call) ≡ Plain d.root = ap (λ x. word_at (a.states t) (handle_of x)) s.call ∙ plain in
         let there : is_plain (word_at (a.states t) (handle_of s.operation.call)) d.root ≡ true = ap (λ x. is_plain x d.root) it ∙ eq-eqb d.root d.root refl in
         let (root, standing, access) = handle_open a t g l s refl in

@@ -2,7 +2,7 @@
 use Rattle.std.proofs.Common.{◌≡◌, ℕ, suc, ◌&&◌, true, List, Some, sym, ap, ◌∙◌, subst}
 use Rattle.std.specs.Prelude.{nat_lt, nat_le}
 use Rattle.proof_obstruction_free.specs.Beneath.machine_model.specs.declared.operations.Operation.{Operation}
-use Rattle.proof_obstruction_free.specs.Beneath.machine_model.specs.declared.steps.Limits.{Limits}
+use Rattle.proof_obstruction_free.specs.Beneath.machine_model.specs.declared.steps.Bounds.{Bounds}
 use Rattle.proof_obstruction_free.specs.Beneath.machine_model.specs.declared.steps.Step.{Step}
 use Rattle.proof_obstruction_free.specs.Beneath.machine_model.specs.Machine.{is_actor, run}
 use Rattle.proof_obstruction_free.specs.Beneath.machine_model.specs.States.{State, first_state, operation_of}
@@ -17,24 +17,24 @@ abbrev AllActors : State → Type 0
 AllActors state = (k : ℕ) (operation : Operation) → Runs state k operation → is_actor state (suc k) ≡ true
 
 same_actors : (before after : State) → after.limits ≡ before.limits → (actor : ℕ) → is_actor before actor ≡ true → is_actor after actor ≡ true
-same_actors before after same actor own = ap (λ (l : Limits). nat_lt 0 actor && nat_le actor l.actors) same ∙ own
+same_actors before after same actor own = ap (λ (l : Bounds). nat_lt 0 actor && nat_le actor l.actors) same ∙ own
 
 by_coming : (before : State) (s : Step) (k : ℕ) (found : Operation) → Comes before s k found → AllActors before → is_actor before (suc k) ≡ true
 by_coming before s k found (began call e d same) all = begin_actor before (suc k) call d
-by_coming before s k found (rested was runs same) all = all k was runs
+by_coming before s k found (rested was runs same other_step) all = all k was runs
 by_coming before s k found (went was e runs g same) all = all k was runs
 
-at_first : (limits : Limits) → AllActors (first_state limits)
+at_first : (limits : Bounds) → AllActors (first_state limits)
 unfolding first_state
 at_first limits k operation runs = absurd (none_found limits.actors k operation runs)
 
-pub actors_known : (limits : Limits) (steps : List Step) → AllActors (run limits steps)
+pub actors_known : (limits : Bounds) (steps : List Step) → AllActors (run limits steps)
 actors_known limits =
     along limits AllActors (at_first limits)
     (λ steps s o after m all k operation runs. same_actors (run limits steps) after (limits_kept (run limits steps) s o after m) (suc k)
     (by_coming (run limits steps) s k operation (comes (run limits steps) s o after m k operation runs) all))
 
-pub is_one : (limits : Limits) (steps : List Step) (actor : ℕ) (operation : Operation) → operation_of (run limits steps) actor ≡ Some operation → is_actor (run limits steps) actor ≡ true
+pub is_one : (limits : Bounds) (steps : List Step) (actor : ℕ) (operation : Operation) → operation_of (run limits steps) actor ≡ Some operation → is_actor (run limits steps) actor ≡ true
 is_one limits steps actor operation runs =
     let (k, place, found) = place_of_actor (run limits steps) actor operation runs in
     subst (λ x. is_actor (run limits steps) x ≡ true) (sym place) (actors_known limits steps k operation found)

@@ -1,18 +1,20 @@
 -- An operation whose actor alone takes steps ends: from what can't be in a run in which it never does.
-use Rattle.std.proofs.Common.{◌≡◌, ℕ, zero, suc, ◌+◌, ◌-◌, ◌<◌, ◌≤◌, ◌⊎◌, true, List, ◌++◌, replicate, Option, Some, None, inl, inr, Ok, refl, sym, ap, subst, ◌∙◌, arith}
+use Rattle.std.proofs.Common.{◌≡◌, ℕ, zero, suc, cond, ◌+◌, ◌-◌, ◌<◌, ◌≤◌, ◌⊎◌, true, List, ◌++◌, replicate, Option, Some, None, inl, inr, Ok, refl, sym, ap, subst, ◌∙◌, arith}
 use Rattle.std.specs.Prelude.{Contains}
 use Rattle.std.proofs.lemmas.Bool.{cases_lt}
 use Rattle.std.proofs.lemmas.List.Elements.{All-append, All-replicate}
 use Rattle.proof_obstruction_free.specs.Beneath.ctrie_base.specs.declared.refusals.Refusal.{Refusal}
 use Rattle.proof_obstruction_free.specs.Beneath.history.specs.declared.events.Event.TheVariants.{End}
 use Rattle.proof_obstruction_free.specs.Beneath.machine_model.specs.declared.operations.Operation.{Operation}
-use Rattle.proof_obstruction_free.specs.Beneath.machine_model.specs.declared.steps.Limits.{Limits}
+use Rattle.proof_obstruction_free.specs.Beneath.machine_model.specs.declared.steps.Bounds.{Bounds}
 use Rattle.proof_obstruction_free.specs.Beneath.machine_model.specs.declared.steps.Outcome.TheVariants.{Went, Ended}
 use Rattle.proof_obstruction_free.specs.Beneath.machine_model.specs.declared.steps.Step.{Step}
 use Rattle.proof_obstruction_free.specs.Beneath.machine_model.specs.declared.steps.Step.TheVariants as step
 use Rattle.proof_obstruction_free.specs.Beneath.machine_model.specs.Keys.{FitsKey, KeysFit}
 use Rattle.proof_obstruction_free.specs.Beneath.machine_model.specs.Machine.{go_denial, go_on, go_unless, is_taken_step, next, next_state, run, state_after}
-use Rattle.proof_obstruction_free.specs.Beneath.machine_model.specs.States.{State, operation_of, step_limit}
+use Rattle.proof_obstruction_free.specs.Beneath.machine_model.specs.Records.{Record, next_record}
+use Rattle.proof_obstruction_free.specs.Beneath.machine_model.specs.States.{State, operation_of}
+use Rattle.proof_obstruction_free.specs.Beneath.machine_model.proofs.Along.{limits_along}
 use Rattle.proof_obstruction_free.specs.Beneath.machine_model.proofs.Frames.{steps_counted}
 use Rattle.proof_obstruction_free.specs.Beneath.machine_model.proofs.Moves.{moved}
 use Rattle.proof_obstruction_free.specs.Beneath.machine_model.proofs.Times.{run_is}
@@ -23,7 +25,7 @@ use Rattle.proof_obstruction_free.specs.Beneath.proof_shape.proofs.Sites.Stepped
 use Rattle.proof_obstruction_free.specs.Alone.{Lone}
 use Rattle.proof_obstruction_free.specs.Laws.{AloneItEnds, EachStepLeadsToItsEnd, EndsAt, GoesOnAt, HasEnded, IsOnKeyOrRoot, RunsAlone, alone_after, most_steps_alone}
 use Rattle.proof_obstruction_free.proofs.Ends.Actors.{is_one}
-use Rattle.proof_obstruction_free.proofs.Ends.Lists.{last_all, none_more, one_more, state_at, step_at}
+use Rattle.proof_obstruction_free.proofs.Ends.Lists.{last_all, none_more, one_more, one_more_recorded, record_after, state_at, step_at}
 use Rattle.proof_obstruction_free.proofs.Ends.Steps.{Last, Leads, Steps, allowed, steps_alone}
 
 -- no run is so long in which such an operation never ends
@@ -35,9 +37,12 @@ NoneIsLong = (a : Lone) → IsOnKeyOrRoot a.own.call → a.start + most_steps_al
 pub all_fit : (steps : List Step) (actor n : ℕ) → KeysFit steps → KeysFit (steps ++ replicate n (step.Go actor))
 all_fit steps actor n fit = All-append FitsKey steps (replicate n (step.Go actor)) fit (All-replicate FitsKey n (step.Go actor) tt)
 
-module _ (limits : Limits) (steps : List Step) (actor : ℕ) (operation : Operation) (r : RunsAlone limits steps actor operation) where
+module _ (limits : Bounds) (steps : List Step) (actor : ℕ) (operation : Operation) (r : RunsAlone limits steps actor operation) where
   abbrev after : ℕ → State
   after k = alone_after limits steps actor k
+
+  abbrev past : ℕ → Record
+  past k = record_after limits steps actor k
 
   -- so many steps were taken, and it still runs
   pub record StillRuns (n : ℕ) : Type 0 where
@@ -52,7 +57,7 @@ module _ (limits : Limits) (steps : List Step) (actor : ℕ) (operation : Operat
     pub goes : (k : ℕ) → k < at → GoesOnAt limits steps actor k
     pub ends : EndsAt limits steps actor operation.id at
     pub idle : operation_of (after (suc at)) actor ≡ None
-    pub told : Contains (after (suc at)).events (End operation.id ends.0)
+    pub told : Contains (past (suc at)).events (End operation.id ends.0)
 
   -- ---- one step more
 
@@ -82,17 +87,19 @@ module _ (limits : Limits) (steps : List Step) (actor : ℕ) (operation : Operat
     goes = still.goes;
     ends = (answer, subst (λ id. next (after n) (step.Go actor) ≡ Ok (Ended id answer, after (suc n))) same (e ∙ ap (λ x. Ok (Ended o.id answer, x)) (sym (one_more limits steps actor n))));
     idle = ap (λ (x : State). operation_of x actor) (one_more limits steps actor n) ∙ idle;
-    told = subst (λ id. Contains (after (suc n)).events (End id answer)) same (subst (λ (x : State). Contains x.events (End o.id answer)) (sym (one_more limits steps actor n)) told);
+    told = subst (λ id. Contains (past (suc n)).events (End id answer)) same
+        (subst (λ (x : Record). Contains x.events (End o.id answer)) (sym (one_more_recorded limits steps actor n)) (told (past n)));
   })
 
   not_denied : (n : ℕ) → n < most_steps_alone → StillRuns n → (o : Operation) → operation_of (after n) actor ≡ Some o → go_denial (after n) actor ≡ None
   not_denied n lt still o runs =
       let left = r.left in
       let counted = still.counted in
-      allowed (after n) actor o (is_one limits (steps ++ replicate n (step.Go actor)) actor o runs) runs (less n (run limits steps).steps (after n).steps lt left counted)
+      allowed (after n) actor o (is_one limits (steps ++ replicate n (step.Go actor)) actor o runs) runs
+      (less n (run limits steps).steps (after n).steps (after n).limits.steps lt left counted (ap (λ (b : Bounds). b.steps) (limits_along limits (steps ++ replicate n (step.Go actor)))))
     where
-      less : (n s t : ℕ) → n < most_steps_alone → s + most_steps_alone ≤ step_limit → t ≡ s + n → t < step_limit
-      less n s t lt left counted = omega (arith, lt, left, counted)
+      less : (n s t most : ℕ) → n < most_steps_alone → s + most_steps_alone ≤ limits.steps → t ≡ s + n → most ≡ limits.steps → t < most
+      less n s t most lt left counted same = omega (arith, lt, left, counted, same)
 
   pub goes_or_ended : (n : ℕ) → n ≤ most_steps_alone → StillRuns n ⊎ EndedBefore n
   goes_or_ended zero le = inl at_first
@@ -172,6 +179,15 @@ module _ (limits : Limits) (steps : List Step) (actor : ℕ) (operation : Operat
   unfolding next
   rests state idle = rest_by state (go_denial state actor) idle
 
+  record_by : (state : State) (denial : Option Refusal) (noted before : Record) → operation_of state actor ≡ None →
+      cond (is_taken_step (go_unless state actor denial)) noted before ≡ before
+  record_by state None noted before idle = ap (λ o. cond (is_taken_step (go_on state actor o)) noted before) idle
+  record_by state (Some why) noted before idle = refl
+
+  nothing_recorded : (state : State) (before : Record) → operation_of state actor ≡ None → next_record state before (step.Go actor) ≡ before
+  unfolding next
+  nothing_recorded state before idle = record_by state (go_denial state actor) _ before idle
+
   pub stays : (n k : ℕ) → RestsAt n → after (n + k) ≡ after n
   stays n zero idle = let none : n + 0 ≡ n = omega arith in ap after none
   stays n (suc k) idle =
@@ -179,18 +195,26 @@ module _ (limits : Limits) (steps : List Step) (actor : ℕ) (operation : Operat
       let next : n + suc k ≡ suc (n + k) = omega arith in
       ap after next ∙ one_more limits steps actor (n + k) ∙ rests (after (n + k)) (ap (λ (x : State). operation_of x actor) before ∙ idle) ∙ before
 
-  pub has_ended : (n : ℕ) → EndedBefore n → HasEnded (after n) actor operation.id
+  past_stays : (n k : ℕ) → RestsAt n → past (n + k) ≡ past n
+  past_stays n zero idle = let none : n + 0 ≡ n = omega arith in ap past none
+  past_stays n (suc k) idle =
+      let next : n + suc k ≡ suc (n + k) = omega arith in
+      ap past next ∙ one_more_recorded limits steps actor (n + k)
+      ∙ nothing_recorded (after (n + k)) (past (n + k)) (ap (λ (x : State). operation_of x actor) (stays n k idle) ∙ idle) ∙ past_stays n k idle
+
+  pub has_ended : (n : ℕ) → EndedBefore n → HasEnded (after n) (past n).events actor operation.id
   has_ended n ended =
       let rest : suc ended.at + (n - suc ended.at) ≡ n = omega (arith, ended.before) in
       let same : after n ≡ after (suc ended.at) = ap after (sym rest) ∙ stays (suc ended.at) (n - suc ended.at) ended.idle in
+      let recorded : past n ≡ past (suc ended.at) = ap past (sym rest) ∙ past_stays (suc ended.at) (n - suc ended.at) ended.idle in
       record {
         idle = ap (λ (x : State). operation_of x actor) same ∙ ended.idle;
         answer = ended.ends.0;
-        told = subst (λ (x : State). Contains x.events (End operation.id ended.ends.0)) (sym same) ended.told;
+        told = subst (λ (x : Record). Contains x.events (End operation.id ended.ends.0)) (sym recorded) ended.told;
       }
 
   -- where no run is so long in which it never ends, it has ended
-  pub ends_within : (n : ℕ) → n ≤ most_steps_alone → (StillRuns n → ⊥) → HasEnded (after n) actor operation.id
+  pub ends_within : (n : ℕ) → n ≤ most_steps_alone → (StillRuns n → ⊥) → HasEnded (after n) (past n).events actor operation.id
   ends_within n le short = has_ended n (ended_before n le short)
 
   too_long : NoneIsLong → StillRuns most_steps_alone → ⊥

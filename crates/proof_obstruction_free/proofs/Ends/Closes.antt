@@ -1,16 +1,18 @@
 -- A close ends with the step after its begin.
-use Rattle.std.proofs.Common.{◌≡◌, ℕ, true, List, Some, Ok, refl, sym, ap, ◌∙◌, subst}
+use Rattle.std.proofs.Common.{◌≡◌, ℕ, ◌<◌, true, List, Some, Ok, refl, sym, ap, ◌∙◌, subst, append-nil}
+use Rattle.std.specs.Prelude.{Contains}
 use Rattle.std.proofs.lemmas.Bool.{false≢true}
 use Rattle.std.proofs.lemmas.Option.{same_Some}
 use Rattle.proof_obstruction_free.specs.Beneath.ctrie_base.specs.declared.kinds.Kind.{Kind}
 use Rattle.proof_obstruction_free.specs.Beneath.history.specs.declared.calls.Call.{Call}
 use Rattle.proof_obstruction_free.specs.Beneath.history.specs.declared.calls.Call.TheVariants.{Close}
+use Rattle.proof_obstruction_free.specs.Beneath.history.specs.declared.events.Event.TheVariants.{End}
 use Rattle.proof_obstruction_free.specs.Beneath.history.specs.declared.replies.Reply.{Reply}
 use Rattle.proof_obstruction_free.specs.Beneath.history.specs.declared.replies.Reply.TheVariants.{Closed}
 use Rattle.proof_obstruction_free.specs.Beneath.machine_model.specs.declared.actions.Action.TheVariants as act
 use Rattle.proof_obstruction_free.specs.Beneath.machine_model.specs.declared.lines.Line.TheVariants as line
 use Rattle.proof_obstruction_free.specs.Beneath.machine_model.specs.declared.operations.Operation.{Operation}
-use Rattle.proof_obstruction_free.specs.Beneath.machine_model.specs.declared.steps.Limits.{Limits}
+use Rattle.proof_obstruction_free.specs.Beneath.machine_model.specs.declared.steps.Bounds.{Bounds}
 use Rattle.proof_obstruction_free.specs.Beneath.machine_model.specs.declared.steps.Outcome.TheVariants.{Ended, Went}
 use Rattle.proof_obstruction_free.specs.Beneath.machine_model.specs.declared.steps.Step.{Step}
 use Rattle.proof_obstruction_free.specs.Beneath.machine_model.specs.declared.steps.Step.TheVariants as step
@@ -19,13 +21,15 @@ use Rattle.proof_obstruction_free.specs.Beneath.machine_model.specs.Machine.{nex
 use Rattle.proof_obstruction_free.specs.Beneath.machine_model.specs.Moves.{Moves, Goes, GoesOn}
 use Rattle.proof_obstruction_free.specs.Beneath.machine_model.specs.Operations.{action_of, first_line, line_action}
 use Rattle.proof_obstruction_free.specs.Beneath.machine_model.specs.States.{State, operation_of}
+use Rattle.proof_obstruction_free.specs.Beneath.machine_model.specs.Records.{Record, next_record, record_of}
+use Rattle.proof_obstruction_free.specs.Beneath.machine_model.proofs.Along.{limits_along}
 use Rattle.proof_obstruction_free.specs.Beneath.machine_model.proofs.Actors.{mark_only}
 use Rattle.proof_obstruction_free.specs.Beneath.machine_model.proofs.EachOperation.{OfEach, of_each_along, of_running}
 use Rattle.proof_obstruction_free.specs.Beneath.machine_model.proofs.Moves.{ending, moved}
 use Rattle.proof_obstruction_free.specs.Closes.{ClosesEnd}
-use Rattle.proof_obstruction_free.specs.Laws.{HasEnded, alone_after}
+use Rattle.proof_obstruction_free.specs.Laws.{HasEnded, alone_after, history_after}
 use Rattle.proof_obstruction_free.proofs.Ends.Actors.{is_one}
-use Rattle.proof_obstruction_free.proofs.Ends.Lists.{none_more, one_more}
+use Rattle.proof_obstruction_free.proofs.Ends.Lists.{none_more, one_more, one_more_recorded, record_after}
 use Rattle.proof_obstruction_free.proofs.Ends.Steps.{Last, Leads, Steps, allowed, steps_alone}
 
 -- a close stands on its end
@@ -39,7 +43,7 @@ begun_closes call e = absurd (false≢true e)
 no_step : (state : State) (operation : Operation) → operation.line ≡ line.End Closed → GoesOn (action_of state operation) → ⊥
 no_step state operation e g = subst GoesOn (ap (line_action state operation) e) g
 
-each_closes : (limits : Limits) (steps : List Step) → OfEach Closes (run limits steps)
+each_closes : (limits : Bounds) (steps : List Step) → OfEach Closes (run limits steps)
 each_closes limits =
     of_each_along limits Closes (λ steps actor call d e. begun_closes call e)
     (λ steps actor operation found g h. rw (mark_only _ _) (λ e. absurd (no_step (run limits steps) operation (h e) g)))
@@ -49,7 +53,7 @@ goes_on : (state : State) (actor : ℕ) (kind : Kind) (after : State) → Moves 
     (operation : Operation) × (operation_of state actor ≡ Some operation) × GoesOn (action_of state operation)
 goes_on state actor kind after (Goes {operation} d is a g) = (operation, is, rw a g)
 
-module _ (limits : Limits) (steps : List Step) (actor : ℕ) (operation : Operation) (runs : operation_of (run limits steps) actor ≡ Some operation) (closes : is_close operation.call ≡ true) where
+module _ (limits : Bounds) (steps : List Step) (actor : ℕ) (operation : Operation) (runs : operation_of (run limits steps) actor ≡ Some operation) (closes : is_close operation.call ≡ true) where
   abbrev now : State
   now = run limits steps
 
@@ -62,6 +66,10 @@ module _ (limits : Limits) (steps : List Step) (actor : ℕ) (operation : Operat
   after_one : alone_after limits steps actor 1 ≡ later
   after_one = one_more limits steps actor 0 ∙ ap (λ x. next_state x (step.Go actor)) (none_more limits steps actor)
 
+  recorded_one : record_after limits steps actor 1 ≡ next_record now (record_of limits steps) (step.Go actor)
+  recorded_one =
+      one_more_recorded limits steps actor 0 ∙ ap (λ l. next_record (run limits l) (record_of limits l) (step.Go actor)) (append-nil steps)
+
   its_answer : (answer : Reply) → next now (step.Go actor) ≡ Ok (Ended operation.id answer, later) → answer ≡ Closed
   its_answer answer e =
       let (found, at, same, is, d) = ending now actor operation.id answer later (moved now (step.Go actor) (Ended operation.id answer) later e) in
@@ -69,7 +77,8 @@ module _ (limits : Limits) (steps : List Step) (actor : ℕ) (operation : Operat
       let ends : act.End answer ≡ act.End Closed = sym is ∙ ap (action_of now) (sym one) ∙ ap (line_action now operation) there in
       cc ends
 
-  by : Steps now actor operation → (next now (step.Go actor) ≡ Ok (Ended operation.id Closed, alone_after limits steps actor 1)) × HasEnded (alone_after limits steps actor 1) actor operation.id
+  by : Steps now actor operation → (next now (step.Go actor) ≡ Ok (Ended operation.id Closed, alone_after limits steps actor 1))
+      × HasEnded (alone_after limits steps actor 1) (history_after limits steps actor 1) actor operation.id
   by (Leads kind e found at id) =
       let (was, is, g) = goes_on now actor kind later (moved now (step.Go actor) (Went kind) later e) in
       let one = same_Some operation was (sym runs ∙ is) in
@@ -77,10 +86,15 @@ module _ (limits : Limits) (steps : List Step) (actor : ℕ) (operation : Operat
   by (Last answer e idle told) =
       let same = its_answer answer e in (
         e ∙ ap (λ r. Ok (Ended operation.id r, later)) same ∙ ap (λ x. Ok (Ended operation.id Closed, x)) (sym after_one),
-        subst (λ x. HasEnded x actor operation.id) (sym after_one) (record { idle = idle; answer = answer; told = told }),
+        record {
+          idle = ap (λ x. operation_of x actor) after_one ∙ idle;
+          answer = answer;
+          told = subst (λ (x : Record). Contains x.events (End operation.id answer)) (sym recorded_one) (told (record_of limits steps));
+        },
       )
 
 pub closes_end : ClosesEnd
 closes_end limits steps actor operation runs closes left =
     by limits steps actor operation runs closes
-    (steps_alone (run limits steps) actor operation (allowed (run limits steps) actor operation (is_one limits steps actor operation runs) runs left) runs)
+    (steps_alone (run limits steps) actor operation (allowed (run limits steps) actor operation (is_one limits steps actor operation runs) runs
+    (subst (λ (b : Bounds). (run limits steps).steps < b.steps) (sym (limits_along limits steps)) left)) runs)

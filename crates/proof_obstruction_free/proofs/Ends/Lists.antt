@@ -1,12 +1,14 @@
 -- The run of a list of steps, and of steps of one actor behind it that are all taken.
 use Rattle.std.proofs.Common.{◌≡◌, ℕ, zero, suc, cond, ◌+◌, ◌-◌, ◌<◌, ◌≤◌, List, [], ◌∷◌, ◌++◌, length, get_or, replicate, true, refl, sym, ap, ap₂, ◌∙◌, append_assoc, arith}
 use Rattle.std.proofs.lemmas.List.{append-nil, length-append, length-replicate, replicate-append-replicate, get_or-append_right, get_or-replicate}
-use Rattle.proof_obstruction_free.specs.Beneath.machine_model.specs.declared.steps.Limits.{Limits}
+use Rattle.proof_obstruction_free.specs.Beneath.machine_model.specs.declared.steps.Bounds.{Bounds}
 use Rattle.proof_obstruction_free.specs.Beneath.machine_model.specs.declared.steps.Step.{Step}
 use Rattle.proof_obstruction_free.specs.Beneath.machine_model.specs.declared.steps.Step.TheVariants as step
 use Rattle.proof_obstruction_free.specs.Beneath.machine_model.specs.Machine.{is_taken_step, next, next_state, run, taken_from, taken_steps}
 use Rattle.proof_obstruction_free.specs.Beneath.machine_model.specs.States.{State, first_state}
+use Rattle.proof_obstruction_free.specs.Beneath.machine_model.specs.Records.{Record, first_record, next_record, record_of}
 use Rattle.proof_obstruction_free.specs.Beneath.machine_model.proofs.Along.{run_push}
+use Rattle.proof_obstruction_free.specs.Beneath.machine_model.proofs.Recorded.{record_push}
 use Rattle.proof_obstruction_free.specs.Beneath.machine_model.proofs.Times.{run_ends}
 use Rattle.proof_obstruction_free.specs.Beneath.machine_model.specs.Times.{last_of, states_of}
 use Rattle.proof_obstruction_free.specs.Beneath.proof_shape.specs.Sites.Nodes.{steps_of}
@@ -20,17 +22,26 @@ more n s xs =
     let one : n + 1 ≡ suc n = omega arith in
     ap (λ l. xs ++ l) (sym (replicate-append-replicate n 1 s ∙ ap (λ m. replicate m s) one)) ∙ sym (append_assoc xs (replicate n s) (s ∷ []))
 
-pub one_more : (limits : Limits) (steps : List Step) (actor n : ℕ) → alone_after limits steps actor (suc n) ≡ next_state (alone_after limits steps actor n) (step.Go actor)
+pub one_more : (limits : Bounds) (steps : List Step) (actor n : ℕ) → alone_after limits steps actor (suc n) ≡ next_state (alone_after limits steps actor n) (step.Go actor)
 one_more limits steps actor n = ap (run limits) (more n (step.Go actor) steps) ∙ run_push (first_state limits) (steps ++ replicate n (step.Go actor)) (step.Go actor)
 
-pub none_more : (limits : Limits) (steps : List Step) (actor : ℕ) → alone_after limits steps actor 0 ≡ run limits steps
+-- and in what is recorded
+abbrev pub record_after : Bounds → List Step → ℕ → ℕ → Record
+record_after limits steps actor n = record_of limits (steps ++ replicate n (step.Go actor))
+
+pub one_more_recorded : (limits : Bounds) (steps : List Step) (actor n : ℕ) →
+    record_after limits steps actor (suc n) ≡ next_record (alone_after limits steps actor n) (record_after limits steps actor n) (step.Go actor)
+one_more_recorded limits steps actor n =
+    ap (record_of limits) (more n (step.Go actor) steps) ∙ record_push (first_state limits) (first_record limits) (steps ++ replicate n (step.Go actor)) (step.Go actor)
+
+pub none_more : (limits : Bounds) (steps : List Step) (actor : ℕ) → alone_after limits steps actor 0 ≡ run limits steps
 none_more limits steps actor = ap (run limits) (append-nil steps)
 
 taken_one : (state : State) (s : Step) → is_taken_step (next state s) ≡ true → taken_from state (s ∷ []) ≡ s ∷ []
 unfolding taken_from
 taken_one state s e = ap (λ b. cond b (s ∷ []) []) e
 
-module _ (limits : Limits) (steps : List Step) (actor n : ℕ) (each : (k : ℕ) → k < n → is_taken_step (next (alone_after limits steps actor k) (step.Go actor)) ≡ true) where
+module _ (limits : Bounds) (steps : List Step) (actor n : ℕ) (each : (k : ℕ) → k < n → is_taken_step (next (alone_after limits steps actor k) (step.Go actor)) ≡ true) where
   abbrev pub all : List Step
   all = steps ++ replicate n (step.Go actor)
 

@@ -10,7 +10,7 @@ use Rattle.proof_obstruction_free.specs.Beneath.nodes.specs.Levels.{flag_of}
 use Rattle.proof_obstruction_free.specs.Beneath.machine_model.specs.declared.finding.KeyLine.TheVariants as key
 use Rattle.proof_obstruction_free.specs.Beneath.machine_model.specs.declared.lines.Line.{Line}
 use Rattle.proof_obstruction_free.specs.Beneath.machine_model.specs.declared.lines.Line.TheVariants as line
-use Rattle.proof_obstruction_free.specs.Beneath.machine_model.specs.declared.steps.Limits.{Limits}
+use Rattle.proof_obstruction_free.specs.Beneath.machine_model.specs.declared.steps.Bounds.{Bounds}
 use Rattle.proof_obstruction_free.specs.Beneath.machine_model.specs.Calls.{key_of}
 use Rattle.proof_obstruction_free.specs.Beneath.machine_model.specs.Paths.{depth_of, flag_in}
 use Rattle.proof_obstruction_free.specs.Beneath.proof_memory.specs.Laws.{IsInUse}
@@ -27,7 +27,7 @@ module _ (a : Lone) where
   -- the flag of the call's key
   pub flag_is : (t : ℕ) (g : Option ℕ) (l : Line) (s : Stands a t g l) (path : List Ref) → flag_in (a.states t) s.operation path ≡ flag_at a (depth_of path)
   flag_is t g l s path =
-      ap₂ (λ (x : Limits) (call : Call). flag_of (hash_of x.hash (key_of call)) (depth_of path)) (limits_at a.limits a.states a.last a.run t s.until) s.call
+      ap₂ (λ (x : Bounds) (call : Call). flag_of (hash_of x.hash (key_of call)) (depth_of path)) (limits_at a.limits a.states a.last a.run t s.until) s.call
 
   module _ (steps : Stepping a) where
     -- a main node at which KEY is

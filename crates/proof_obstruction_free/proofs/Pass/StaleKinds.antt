@@ -10,7 +10,7 @@ use Rattle.proof_obstruction_free.specs.Beneath.machine_model.specs.declared.ope
 use Rattle.proof_obstruction_free.specs.Beneath.machine_model.specs.declared.reading.After.{After}
 use Rattle.proof_obstruction_free.specs.Beneath.machine_model.specs.declared.reading.After.TheVariants.{Gives, Goes as Continues}
 use Rattle.proof_obstruction_free.specs.Beneath.machine_model.specs.declared.roots.RootLine.{RootLine}
-use Rattle.proof_obstruction_free.specs.Beneath.machine_model.specs.declared.steps.Limits.{Limits}
+use Rattle.proof_obstruction_free.specs.Beneath.machine_model.specs.declared.steps.Bounds.{Bounds}
 use Rattle.proof_obstruction_free.specs.Beneath.machine_model.specs.declared.steps.Step.{Step}
 use Rattle.proof_obstruction_free.specs.Beneath.machine_model.specs.Acting.{operation_after}
 use Rattle.proof_obstruction_free.specs.Beneath.machine_model.specs.Calls.{handle_of}
@@ -74,15 +74,15 @@ marked_down m operation h = subst IsDown (sym (mark_only m operation)) h
 
 by_coming : (state : State) (s : Step) (k : ℕ) (found : Operation) → AllDown state → Comes state s k found → IsDown found
 by_coming state s k found all (began call is d it) = subst IsDown (sym it) (first_down call)
-by_coming state s k found all (rested was at_k it) = subst IsDown (sym it) (marked_down (marks_in state s) was (all k was at_k))
+by_coming state s k found all (rested was at_k it other_step) = subst IsDown (sym it) (marked_down (marks_in state s) was (all k was at_k))
 by_coming state s k found all (went was is at_k g it) =
     subst IsDown (sym it) (marked_down (marks_in state s) (operation_after state was) (λ on. down_after state was on was.line (all k was at_k on)))
 
-at_first : (limits : Limits) → AllDown (first_state limits)
+at_first : (limits : Bounds) → AllDown (first_state limits)
 unfolding first_state
 at_first limits k operation runs = absurd (none_found limits.actors k operation runs)
 
-pub key_lines : (limits : Limits) (states : ℕ → State) (last : ℕ) → IsRun limits states last → (t : ℕ) → t ≤ last → (actor : ℕ) (operation : Operation) →
+pub key_lines : (limits : Bounds) (states : ℕ → State) (last : ℕ) → IsRun limits states last → (t : ℕ) → t ≤ last → (actor : ℕ) (operation : Operation) →
     operation_of (states t) actor ≡ Some operation → IsOnKey operation.call → is_down operation.line ≡ true
 key_lines limits states last run t within actor operation runs =
     let (k, place, at_k) = place_of_actor (states t) actor operation runs in

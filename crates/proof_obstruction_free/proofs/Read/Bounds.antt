@@ -5,7 +5,7 @@ use Rattle.proof_obstruction_free.specs.Beneath.slot_arena.specs.declared.refs.R
 use Rattle.proof_obstruction_free.specs.Beneath.machine_model.specs.declared.operations.Operation.{Operation}
 use Rattle.proof_obstruction_free.specs.Beneath.machine_model.specs.declared.reading.Read.{Read}
 use Rattle.proof_obstruction_free.specs.Beneath.machine_model.specs.declared.reading.ReadLine.TheVariants as read
-use Rattle.proof_obstruction_free.specs.Beneath.machine_model.specs.declared.steps.Limits.{Limits}
+use Rattle.proof_obstruction_free.specs.Beneath.machine_model.specs.declared.steps.Bounds.{Bounds}
 use Rattle.proof_obstruction_free.specs.Beneath.machine_model.specs.declared.steps.Step.{Step}
 use Rattle.proof_obstruction_free.specs.Beneath.machine_model.specs.Operations.{read_of}
 use Rattle.proof_obstruction_free.specs.Beneath.machine_model.specs.States.{State, operation_of}
@@ -19,7 +19,7 @@ use Rattle.proof_obstruction_free.proofs.Read.Ends.{read_ends, read_goes_to_its_
 use Rattle.proof_obstruction_free.proofs.Read.Holds.{Holding, holding}
 use Rattle.proof_obstruction_free.proofs.Ends.StandsAt.{begins}
 
-module _ (limits : Limits) (steps : List Step) (actor : ℕ) (operation : Operation) (r : RunsAlone limits steps actor operation) (own : Read) (reads : read_of operation.line ≡ Some own) where
+module _ (limits : Bounds) (steps : List Step) (actor : ℕ) (operation : Operation) (r : RunsAlone limits steps actor operation) (own : Read) (reads : read_of operation.line ≡ Some own) where
   -- within so many steps it is over
   abbrev Over : ℕ → Type 0
   Over n = (k : ℕ) × (k ≤ n) × IsOutOfRead (alone_after limits steps actor k) actor

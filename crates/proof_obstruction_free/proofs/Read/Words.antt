@@ -22,10 +22,11 @@ use Rattle.proof_obstruction_free.specs.Weighing.{Sees}
 use Rattle.proof_obstruction_free.specs.Beneath.proof_commits.proofs.Known.Acts.{known_run}
 use Rattle.proof_obstruction_free.specs.Beneath.machine_model.proofs.Basics.{none≢failed}
 use Rattle.proof_obstruction_free.specs.Beneath.machine_model.proofs.Slots.{change_kept}
+use Rattle.proof_obstruction_free.proofs.Step.Next.{own_run}
 
 module _ (a : Lone) where
   abbrev pub p : Protocol
-  p = protocol a.limits a.states a.last (known_run a.limits a.states a.last a.run)
+  p = protocol a.limits a.states a.last (known_run a.limits a.states a.last (own_run a))
 
   abbrev pub w : Words
   w = p.words

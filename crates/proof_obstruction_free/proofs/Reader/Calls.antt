@@ -13,7 +13,7 @@ use Rattle.proof_obstruction_free.specs.Beneath.machine_model.specs.declared.rea
 use Rattle.proof_obstruction_free.specs.Beneath.machine_model.specs.declared.reading.After.TheVariants.{Goes, Gives}
 use Rattle.proof_obstruction_free.specs.Beneath.machine_model.specs.declared.reading.Read.{Read}
 use Rattle.proof_obstruction_free.specs.Beneath.machine_model.specs.declared.roots.RootLine.{RootLine}
-use Rattle.proof_obstruction_free.specs.Beneath.machine_model.specs.declared.steps.Limits.{Limits}
+use Rattle.proof_obstruction_free.specs.Beneath.machine_model.specs.declared.steps.Bounds.{Bounds}
 use Rattle.proof_obstruction_free.specs.Beneath.machine_model.specs.declared.steps.Step.{Step}
 use Rattle.proof_obstruction_free.specs.Beneath.machine_model.specs.Calls.{handle_of}
 use Rattle.proof_obstruction_free.specs.Beneath.machine_model.specs.Finding.{key_after_read}
@@ -94,7 +94,7 @@ AllSo state = (k : ℕ) (operation : Operation) → Runs state k operation → o
 
 so_by : (state : State) → IsSafe state → (s : Step) → AllSo state → (k : ℕ) (found : Operation) → Comes state s k found → found.access ≡ ReadOnly → IsOnKey found.call → OfReader found.line
 so_by state I s all k found (began call is d it) reads on = subst (λ (x : Operation). OfReader x.line) (sym it) (first_so call (subst (λ (x : Operation). IsOnKey x.call) it on))
-so_by state I s all k found (rested was at_k it) reads on =
+so_by state I s all k found (rested was at_k it other_step) reads on =
     let same = it ∙ mark_only (marks_in state s) was in
     subst (λ (x : Operation). OfReader x.line) (sym same) (all k was at_k (ap (λ (x : Operation). x.access) (sym same) ∙ reads) (subst (λ (x : Operation). IsOnKey x.call) same on))
 so_by state I s all k found (went was is at_k g it) reads on =
@@ -104,11 +104,11 @@ so_by state I s all k found (went was is at_k g it) reads on =
     subst (λ (x : Operation). OfReader x.line) (sym same)
     (line_so state was (record { read_only = read_only; on_key = on_key; reads = I.fits k was at_k read_only }) was.line (all k was at_k read_only on_key))
 
-none_so : (limits : Limits) → AllSo (first_state limits)
+none_so : (limits : Bounds) → AllSo (first_state limits)
 unfolding first_state
 none_so limits k operation at_k = absurd (none_found limits.actors k operation at_k)
 
-all_so : (limits : Limits) (states : ℕ → State) (last : ℕ) → IsRun limits states last → (t : ℕ) → t ≤ last → AllSo (states t)
+all_so : (limits : Bounds) (states : ℕ → State) (last : ℕ) → IsRun limits states last → (t : ℕ) → t ≤ last → AllSo (states t)
 all_so limits states last r =
     along_run limits states last r (λ t. AllSo (states t)) (subst AllSo (sym r.first) (none_so limits))
     (λ t h turn all. by_turn (states t) (states (suc t)) (safe_at limits states last r t (omega arith)) all turn)

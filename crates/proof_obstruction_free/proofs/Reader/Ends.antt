@@ -46,6 +46,7 @@ use Rattle.proof_obstruction_free.proofs.Step.Within.{weaken, bind, one, ended}
 use Rattle.proof_obstruction_free.proofs.Pass.Along.{key_begins}
 use Rattle.proof_obstruction_free.proofs.Pass.Lines.{key_read_of, key_gives, key_holds_read_of}
 use Rattle.proof_obstruction_free.proofs.Climb.On.{short_way}
+use Rattle.proof_obstruction_free.specs.Beneath.machine_model.specs.Records.{moment_at}
 
 list_plain : (n : Node) → meets TombOrList n ≡ true → is_indirection n ≡ false
 list_plain n e = grind arith
@@ -195,13 +196,13 @@ module _ (a : Lone) (read_only : a.own.access ≡ ReadOnly) (on_key : IsOnKey a.
   root_plain : (t : ℕ) (g : Option ℕ) → Stands a t g (line.Root root.Read) → (r : Ref) × IsPlain a t r
   root_plain t g s =
       let (found, is, access) = handle_open a t g (line.Root root.Read) s refl in
-      let plain = read_only_plain (a.states t) (safe_at a.limits a.states a.last a.run t s.until) (ordered_at a.limits a.states a.last a.run t s.until)
+      let plain = read_only_plain (a.states t) (a.run.records t) (safe_at a.limits a.states a.last a.run t s.until) (ordered_at a.limits a.states a.last a.run t s.until)
       (handle_of a.own.call) found is (access ∙ read_only) in
       (root_of found.word, ap word_of is ∙ plain)
 
   never_completes : (t : ℕ) (g : Option ℕ) (c : Complete) → Stands a t g (line.Root (root.Completing c)) → ⊥
   never_completes t g c s =
-      subst (KnowsReader (Ends a.states a.last t) (Shut a.states a.last t) (LateEnd a.states a.last t s.operation)) s.line
+      subst (KnowsReader (Ends a.states a.run.records a.last t) (Shut a.states a.run.records a.last t) (LateEnd a.states a.run.records a.last t (moment_at (a.run.records t) a.actor))) s.line
       ((knows_at a.limits a.states a.last a.run t s.until a.actor s.operation s.runs).1 (s.access ∙ read_only))
 
   from_line : (t : ℕ) (g : Option ℕ) (l : Line) → OfReader l → Stands a t g l → Never 164 t

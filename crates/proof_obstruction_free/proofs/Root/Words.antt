@@ -10,8 +10,8 @@ use Rattle.proof_obstruction_free.specs.Beneath.machine_model.specs.declared.roo
 use Rattle.proof_obstruction_free.specs.Beneath.machine_model.specs.declared.roots.RootWord.{RootWord}
 use Rattle.proof_obstruction_free.specs.Beneath.machine_model.specs.declared.roots.RootWord.TheVariants.{Plain, Offer}
 use Rattle.proof_obstruction_free.specs.Beneath.machine_model.specs.Calls.{handle_of}
-use Rattle.proof_obstruction_free.specs.Beneath.machine_model.specs.States.{State, root_at, word_of, word_at, rewritten, with_word}
-use Rattle.proof_obstruction_free.specs.Beneath.machine_model.specs.Acting.{acted, carried_out, new_root_taken, if_changed}
+use Rattle.proof_obstruction_free.specs.Beneath.machine_model.specs.States.{State, root_at, word_of, word_at, rewritten, with_operation, with_word}
+use Rattle.proof_obstruction_free.specs.Beneath.machine_model.specs.Acting.{acted, carried_out, new_root_taken, if_changed, operation_after}
 use Rattle.proof_obstruction_free.specs.Beneath.machine_model.specs.Operations.{action_of, line_action}
 use Rattle.proof_obstruction_free.specs.Beneath.machine_model.specs.Swapping.{is_plain, stands_in}
 use Rattle.proof_obstruction_free.specs.Beneath.machine_model.specs.declared.roots.Root.{Root}
@@ -24,7 +24,6 @@ use Rattle.proof_obstruction_free.specs.Beneath.proof_generations.proofs.Handles
 use Rattle.proof_obstruction_free.specs.Beneath.proof_generations.proofs.Offers.Standing.{OfferFrom, stood, put, offer_from, own_offer, own_numbers, offer_line, try_itself}
 use Rattle.proof_obstruction_free.specs.Beneath.proof_generations.proofs.Handles.Running.{place_of_actor}
 use Rattle.proof_obstruction_free.specs.Beneath.proof_generations.proofs.Offers.Same.{has_offers_at}
-use Rattle.proof_obstruction_free.specs.Beneath.proof_generations.proofs.Offers.Swaps.{noted}
 use Rattle.proof_obstruction_free.specs.Alone.{Lone, Stands, WordStays, IsPlain, word}
 use Rattle.proof_obstruction_free.specs.Stepping.{IsNoEnd}
 use Rattle.proof_obstruction_free.proofs.Ends.StandsAt.{stands_at, goes_on}
@@ -67,7 +66,7 @@ module _ (a : Lone) where
     action = line_action (a.states t) s.operation l
 
     abbrev st : State
-    st = noted (a.states t) a.actor s.operation
+    st = with_operation (a.states t) a.actor (Some (operation_after (a.states t) s.operation))
 
     word_after : word a (suc t) ≡ word_at (acted st handle action) handle
     word_after =

@@ -5,7 +5,7 @@ use Rattle.proof_obstruction_free.specs.Beneath.history.specs.declared.calls.Cal
 use Rattle.proof_obstruction_free.specs.Beneath.history.specs.declared.calls.Call.TheVariants.{Clear, Close, Count, Entries, Freeze, Snapshot}
 use Rattle.proof_obstruction_free.specs.Beneath.machine_model.specs.declared.lines.Line.TheVariants as line
 use Rattle.proof_obstruction_free.specs.Beneath.machine_model.specs.declared.operations.Operation.{Operation}
-use Rattle.proof_obstruction_free.specs.Beneath.machine_model.specs.declared.steps.Limits.{Limits}
+use Rattle.proof_obstruction_free.specs.Beneath.machine_model.specs.declared.steps.Bounds.{Bounds}
 use Rattle.proof_obstruction_free.specs.Beneath.machine_model.specs.declared.steps.Outcome.{Outcome}
 use Rattle.proof_obstruction_free.specs.Beneath.machine_model.specs.declared.steps.Step.{Step}
 use Rattle.proof_obstruction_free.specs.Beneath.machine_model.specs.declared.steps.Step.TheVariants as step
@@ -52,7 +52,7 @@ begun_next : (state : State) (actor : ℕ) (call : Call) → operation_of state 
 begun_next state zero call idle operation is = absurd (none-some operation is)
 begun_next state (suc k) call idle operation is = begun_after state k call (next state (step.Begin (suc k) call)) (moves state (step.Begin (suc k) call)) idle operation is
 
-module _ (limits : Limits) (steps : List Step) (actor : ℕ) (call : Call) (operation : Operation) (idle : operation_of (run limits steps) actor ≡ None)
+module _ (limits : Bounds) (steps : List Step) (actor : ℕ) (call : Call) (operation : Operation) (idle : operation_of (run limits steps) actor ≡ None)
     (is : operation_of (run limits (steps ++ step.Begin actor call ∷ [])) actor ≡ Some operation) where
   begun : HasBegun (run limits steps) (run limits (steps ++ step.Begin actor call ∷ [])) call operation
   begun =

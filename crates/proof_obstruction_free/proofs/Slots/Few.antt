@@ -3,7 +3,7 @@ use Rattle.std.proofs.Common.{◌≡◌, ℕ, zero, suc, ◌+◌, ◌-◌, ◌�
 use Rattle.std.proofs.lemmas.Bool.{cases_lt}
 use Rattle.std.proofs.lemmas.Option.{same_Some}
 use Rattle.proof_obstruction_free.specs.Beneath.machine_model.specs.declared.operations.Operation.{Operation}
-use Rattle.proof_obstruction_free.specs.Beneath.machine_model.specs.declared.steps.Limits.{Limits}
+use Rattle.proof_obstruction_free.specs.Beneath.machine_model.specs.declared.steps.Bounds.{Bounds}
 use Rattle.proof_obstruction_free.specs.Beneath.machine_model.specs.declared.steps.Step.{Step}
 use Rattle.proof_obstruction_free.specs.Beneath.machine_model.specs.Operations.{action_of, kind_of}
 use Rattle.proof_obstruction_free.specs.Beneath.machine_model.specs.States.{State, operation_of}
@@ -20,7 +20,7 @@ use Rattle.proof_obstruction_free.specs.Beneath.slot_arena.proofs.Times.{bit}
 use Rattle.proof_obstruction_free.specs.Beneath.epochs.proofs.InUse.{bit_small}
 
 -- one in each step at most
-pub made_steps : (limits : Limits) (steps : List Step) (actor n : ℕ) → made limits steps actor n ≤ n
+pub made_steps : (limits : Bounds) (steps : List Step) (actor n : ℕ) → made limits steps actor n ≤ n
 made_steps limits steps actor zero = omega (arith, none_made limits steps actor)
 made_steps limits steps actor (suc n) =
     omega (arith, one_made limits steps actor n, bit_small (makes_next (alone_after limits steps actor n) actor), made_steps limits steps actor n)
@@ -29,7 +29,7 @@ made_steps limits steps actor (suc n) =
 idle_makes_none : (state : State) (actor : ℕ) → operation_of state actor ≡ None → makes_next state actor ≡ false
 idle_makes_none state actor idle = ap (λ o. is_make (option_map (λ x. kind_of (action_of state x)) o)) idle
 
-module _ (limits : Limits) (steps : List Step) (actor : ℕ) (operation : Operation) (r : RunsAlone limits steps actor operation) where
+module _ (limits : Bounds) (steps : List Step) (actor : ℕ) (operation : Operation) (r : RunsAlone limits steps actor operation) where
   abbrev after : ℕ → State
   after n = alone_after limits steps actor n
 

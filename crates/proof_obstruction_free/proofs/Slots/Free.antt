@@ -9,7 +9,7 @@ use Rattle.proof_obstruction_free.specs.Beneath.history.specs.declared.replies.R
 use Rattle.proof_obstruction_free.specs.Beneath.machine_model.specs.declared.lines.Line.{Line}
 use Rattle.proof_obstruction_free.specs.Beneath.machine_model.specs.declared.lines.Line.TheVariants as line
 use Rattle.proof_obstruction_free.specs.Beneath.machine_model.specs.declared.operations.Operation.{Operation}
-use Rattle.proof_obstruction_free.specs.Beneath.machine_model.specs.declared.steps.Limits.{Limits}
+use Rattle.proof_obstruction_free.specs.Beneath.machine_model.specs.declared.steps.Bounds.{Bounds}
 use Rattle.proof_obstruction_free.specs.Beneath.machine_model.specs.declared.steps.Outcome.{Outcome}
 use Rattle.proof_obstruction_free.specs.Beneath.machine_model.specs.declared.steps.Outcome.TheVariants.{Ended}
 use Rattle.proof_obstruction_free.specs.Beneath.machine_model.specs.declared.steps.Step.{Step}
@@ -59,7 +59,7 @@ not_refused_next state (suc k) h free = not_refused_after state k h free (next s
 
 -- ---- many steps
 
-module _ (limits : Limits) (steps : List Step) (actor : ℕ) where
+module _ (limits : Bounds) (steps : List Step) (actor : ℕ) where
   abbrev after : ℕ → State
   after n = alone_after limits steps actor n
 

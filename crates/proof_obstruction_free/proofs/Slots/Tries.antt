@@ -6,7 +6,7 @@ use Rattle.proof_obstruction_free.specs.Beneath.history.specs.declared.calls.Acc
 use Rattle.proof_obstruction_free.specs.Beneath.history.specs.declared.calls.Call.{Call}
 use Rattle.proof_obstruction_free.specs.Beneath.history.specs.declared.calls.Call.TheVariants.{Clear, Freeze, Snapshot, Close, Entries, Count}
 use Rattle.proof_obstruction_free.specs.Beneath.machine_model.specs.declared.operations.Operation.{Operation}
-use Rattle.proof_obstruction_free.specs.Beneath.machine_model.specs.declared.steps.Limits.{Limits}
+use Rattle.proof_obstruction_free.specs.Beneath.machine_model.specs.declared.steps.Bounds.{Bounds}
 use Rattle.proof_obstruction_free.specs.Beneath.machine_model.specs.declared.steps.Step.{Step}
 use Rattle.proof_obstruction_free.specs.Beneath.machine_model.specs.Lines.{new_try}
 use Rattle.proof_obstruction_free.specs.Beneath.machine_model.specs.States.{State, operation_of}
@@ -31,7 +31,7 @@ use Rattle.proof_obstruction_free.proofs.Step.Step.{stepping}
 use Rattle.proof_obstruction_free.specs.Beneath.slot_arena.proofs.Times.{bit}
 use Rattle.proof_obstruction_free.specs.Beneath.epochs.proofs.InUse.{bit_small}
 
-module _ (limits : Limits) (steps : List Step) (actor : ℕ) (operation : Operation) (r : RunsAlone limits steps actor operation) where
+module _ (limits : Bounds) (steps : List Step) (actor : ℕ) (operation : Operation) (r : RunsAlone limits steps actor operation) where
   -- ---- while it runs
 
   module _ (n : ℕ) (still : StillRuns limits steps actor operation r n) where

@@ -10,14 +10,17 @@ use Rattle.proof_obstruction_free.specs.Beneath.machine_model.specs.Acting.{acte
 use Rattle.proof_obstruction_free.specs.Beneath.machine_model.specs.Calls.{handle_of}
 use Rattle.proof_obstruction_free.specs.Beneath.machine_model.specs.Counting.{settled}
 use Rattle.proof_obstruction_free.specs.Beneath.machine_model.specs.Operations.{action_of, line_action}
+use Rattle.proof_obstruction_free.specs.Beneath.machine_model.specs.Records.{noted, noted_progress}
 use Rattle.proof_obstruction_free.specs.Beneath.machine_model.specs.States.{State, word_at}
+use Rattle.proof_obstruction_free.specs.Beneath.machine_model.specs.Tellings.{progress_of, told_in}
 use Rattle.proof_obstruction_free.specs.Beneath.machine_model.specs.Grown.{grown}
 use Rattle.proof_obstruction_free.specs.Beneath.machine_model.specs.Moves.{GoesOn}
+use Rattle.proof_obstruction_free.specs.Beneath.machine_model.proofs.Notes.{noted_going}
 use Rattle.proof_obstruction_free.specs.Beneath.proof_commits.proofs.Known.Given.{Known, ActsOn, GrownStays, GrownTakes, Taken}
 use Rattle.proof_obstruction_free.specs.Beneath.proof_generations.proofs.Falling.ReadsGive.{gone_is}
 use Rattle.proof_obstruction_free.specs.Alone.{Lone, Stands, Keeps, IsQuiet, word}
 use Rattle.proof_obstruction_free.specs.Stepping.{IsNoEnd, LeavesWords}
-use Rattle.proof_obstruction_free.proofs.Step.Next.{takes, no_end}
+use Rattle.proof_obstruction_free.proofs.Step.Next.{takes, no_end, own_run}
 use Rattle.proof_obstruction_free.specs.Beneath.proof_commits.proofs.Known.Acts.{known_run}
 
 -- what isn't the end goes on
@@ -40,7 +43,7 @@ acted_word state at handle action leaves = refl
 
 module _ (a : Lone) where
   abbrev known : Known a.limits a.states a.last
-  known = known_run a.limits a.states a.last a.run
+  known = known_run a.limits a.states a.last (own_run a)
 
   -- ---- the step itself
 
@@ -55,6 +58,14 @@ module _ (a : Lone) where
   after_so t g l s more not =
       let moved = takes a t s.since more in
       gone_is (a.states t) a.actor moved.outcome (a.states (suc t)) moved.moves s.operation s.runs
+      (goes_by (action_of (a.states t) s.operation) (λ answer e. no_end (a.states t) s.operation l not answer (ap (line_action (a.states t) s.operation) (sym s.line) ∙ e)))
+
+  pub noted_so : (t : ℕ) (g : Option ℕ) (l : Line) (s : Stands a t g l) → t < a.last → IsNoEnd l →
+      (own_run a).records (suc t) ≡ noted_progress ((own_run a).records t) (a.states t).steps a.actor (progress_of (a.states t) s.operation)
+  noted_so t g l s more not =
+      (own_run a).recorded t more
+      ∙ ap (λ x. noted ((own_run a).records t) (a.states t).steps (told_in (a.states t) x)) (a.alone t s.since more)
+      ∙ noted_going (a.states t) ((own_run a).records t) a.actor s.operation (action_of (a.states t) s.operation) s.runs refl
       (goes_by (action_of (a.states t) s.operation) (λ answer e. no_end (a.states t) s.operation l not answer (ap (line_action (a.states t) s.operation) (sym s.line) ∙ e)))
 
   -- ---- what it leaves

@@ -1,5 +1,5 @@
 -- The line on which an operation that is alone stands after its step; it doesn't end.
-use Rattle.std.proofs.Common.{◌≡◌, ℕ, suc, ◌<◌, ◌≤◌, Option, Some, sym, ap, ◌∙◌, subst, arith}
+use Rattle.std.proofs.Common.{◌≡◌, ℕ, zero, suc, ◌<◌, ◌≤◌, Option, Some, refl, sym, ap, ◌∙◌, subst, arith}
 use Rattle.std.proofs.lemmas.Option.{same_Some}
 use Rattle.proof_obstruction_free.specs.Beneath.history.specs.declared.replies.Reply.{Reply}
 use Rattle.proof_obstruction_free.specs.Beneath.machine_model.specs.declared.actions.Action.TheVariants as act
@@ -11,7 +11,10 @@ use Rattle.proof_obstruction_free.specs.Beneath.machine_model.specs.declared.ste
 use Rattle.proof_obstruction_free.specs.Beneath.machine_model.specs.declared.steps.Step.TheVariants as step
 use Rattle.proof_obstruction_free.specs.Beneath.machine_model.specs.Acting.{operation_after}
 use Rattle.proof_obstruction_free.specs.Beneath.machine_model.specs.Operations.{action_of, line_action, line_after, generation_from}
+use Rattle.proof_obstruction_free.specs.Beneath.machine_model.specs.Records.{Record, first_record, noted}
 use Rattle.proof_obstruction_free.specs.Beneath.machine_model.specs.States.{State, operation_of}
+use Rattle.proof_obstruction_free.specs.Beneath.machine_model.specs.Tellings.{told_in}
+use Rattle.proof_obstruction_free.specs.Beneath.machine_model.specs.Times.{IsRun, turns}
 use Rattle.proof_obstruction_free.specs.Beneath.machine_model.proofs.Actors.{mark_one, mark_only, marks_in, of_end}
 use Rattle.proof_obstruction_free.specs.Beneath.machine_model.specs.Moves.{Begins, Goes, Ends, Sweeps}
 use Rattle.proof_obstruction_free.specs.Beneath.machine_model.specs.Moves.{Moves, GoesOn}
@@ -40,6 +43,30 @@ ends_so state s o after (Ends {actor} d is a) k operation found answer e at_k at
 ends_so state s o after (Sweeps spent) k operation found answer e at_k at_end at_found = let wrong : ⊥ = cc e in wrong
 
 module _ (a : Lone) where
+  -- what its steps record
+  unfoldable pub recorded : ℕ → Record
+  recorded zero = first_record a.limits
+  recorded (suc t) = noted (recorded t) (a.states t).steps (told_in (a.states t) (a.steps t))
+
+  pub recorded_first : recorded zero ≡ first_record a.limits
+  unfolding recorded
+  recorded_first = refl
+
+  pub recorded_next : (t : ℕ) → recorded (suc t) ≡ noted (recorded t) (a.states t).steps (told_in (a.states t) (a.steps t))
+  unfolding recorded
+  recorded_next t = refl
+
+  -- the run of these steps, with their record
+  abbrev pub own_run : IsRun a.limits a.states a.last
+  own_run = record {
+    limits_ok = a.run.limits_ok;
+    first = a.run.first;
+    turn = λ t h. turns (a.steps t) (a.takes t h).0 (a.takes t h).1;
+    records = recorded;
+    nothing_recorded = recorded_first;
+    recorded = λ t h. recorded_next t;
+  }
+
   -- its next step
   pub record Takes (t : ℕ) : Type 0 where
     pub outcome : Outcome

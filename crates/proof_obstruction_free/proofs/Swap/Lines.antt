@@ -37,6 +37,7 @@ use Rattle.proof_obstruction_free.specs.Machines.{HoldsRead, lead}
 use Rattle.proof_obstruction_free.specs.Stepping.{Stepping}
 use Rattle.proof_obstruction_free.proofs.Swap.Steps.{known, w, facts}
 use Rattle.proof_obstruction_free.proofs.Ends.StandsAt.{stands_as}
+use Rattle.proof_obstruction_free.proofs.Step.Next.{own_run}
 
 -- ---- what comes after a SWAP is told by the call
 
@@ -131,7 +132,7 @@ module _ (a : Lone) (why : Purpose) (i replaced fresh : Ref) where
               (on_line (record { indirection = i; replaced = replaced; fresh = fresh; line = swap.Check }) x)) (check_so v)
               ∙ ends_so t g swap.Check s (is_decided v))
               (steps.next t g (swap_line swap.Check) s h tt);
-          leaves = leaves_words a.states a.last (λ g. None) t f.acts.1 (no_commit a.limits a.states a.last (known a) t h f.commits);
+          leaves = leaves_words a.states (own_run a).records a.last (λ g. None) t f.acts.1 (no_commit a.limits a.states a.last (known a) t h f.commits);
           word = steps.words t g (swap_line swap.Check) s h tt tt;
         }
 
@@ -177,11 +178,11 @@ module _ (a : Lone) (why : Purpose) (i replaced fresh : Ref) where
             Either b (SwapsIn (w a) t i replaced fresh) (Leaves (w a) t)
         by true test e =
             let f = facts a t g (swap_line swap.Publish) s h tt in
-            swaps_words a.states a.last (λ g. None) t i replaced fresh f.acts.0.link f.acts.1.made (sym f.acts.0.main ∙ eqb-true _ replaced test) e
+            swaps_words a.states (own_run a).records a.last (λ g. None) t i replaced fresh f.acts.0.link f.acts.1.made (sym f.acts.0.main ∙ eqb-true _ replaced test) e
             (no_commit a.limits a.states a.last (known a) t h f.commits)
         by false test e =
             let f = facts a t g (swap_line swap.Publish) s h tt in
-            leaves_words a.states a.last (λ g. None) t e (no_commit a.limits a.states a.last (known a) t h f.commits)
+            leaves_words a.states (own_run a).records a.last (λ g. None) t e (no_commit a.limits a.states a.last (known a) t h f.commits)
 
     pub publishes : (t : ℕ) (g : Option ℕ) → Stands a t g (swap_line swap.Publish) → t < a.last → (b : Bool) × Publishes t g b
     publishes t g s h = (main_at (a.states t).heap i == replaced, publishes_by t g s h (main_at (a.states t).heap i == replaced) refl)

@@ -8,9 +8,7 @@ use Rattle.proof_obstruction_free.specs.Beneath.machine_model.specs.declared.rea
 use Rattle.proof_obstruction_free.specs.Beneath.machine_model.specs.declared.reading.ReadLine.{ReadLine}
 use Rattle.proof_obstruction_free.specs.Beneath.machine_model.specs.declared.steps.Outcome.{Outcome}
 use Rattle.proof_obstruction_free.specs.Beneath.machine_model.specs.declared.steps.Step.TheVariants as step
-use Rattle.proof_obstruction_free.specs.Beneath.machine_model.specs.Acting.{commits_after}
 use Rattle.proof_obstruction_free.specs.Beneath.machine_model.specs.Operations.{line_action, read_of}
-use Rattle.proof_obstruction_free.specs.Beneath.machine_model.specs.Orders.{committed_in}
 use Rattle.proof_obstruction_free.specs.Beneath.machine_model.specs.Reading.{read_action, read_after}
 use Rattle.proof_obstruction_free.specs.Beneath.machine_model.specs.Moves.{Moves}
 use Rattle.proof_obstruction_free.specs.Beneath.proof_commits.specs.Protocol.{Words, ReadTurn, Leaves}
@@ -23,9 +21,11 @@ use Rattle.proof_obstruction_free.specs.Beneath.proof_commits.proofs.Words.Along
 use Rattle.proof_obstruction_free.specs.Alone.{Lone, Stands, Keeps, word}
 use Rattle.proof_obstruction_free.specs.Machines.{HoldsRead, lead}
 use Rattle.proof_obstruction_free.specs.Stepping.{IsNoEnd, LeavesWords}
-use Rattle.proof_obstruction_free.proofs.Step.Keeps.{after_so, words}
+use Rattle.proof_obstruction_free.proofs.Step.Keeps.{noted_so, words}
 use Rattle.proof_obstruction_free.proofs.Ends.StandsAt.{stands_as}
-use Rattle.proof_obstruction_free.proofs.Step.Next.{next}
+use Rattle.proof_obstruction_free.proofs.Step.Next.{next, own_run}
+use Rattle.proof_obstruction_free.specs.Beneath.machine_model.specs.Records.{commits_after}
+use Rattle.proof_obstruction_free.specs.Beneath.machine_model.specs.Tellings.{committed_in}
 
 -- a line with a READ is no end
 pub reads_no_end : (l : Line) (r : Read) → read_of l ≡ Some r → IsNoEnd l
@@ -34,11 +34,11 @@ reads_no_end l r e = tt
 
 module _ (a : Lone) where
   abbrev pub known : Known a.limits a.states a.last
-  known = known_run a.limits a.states a.last a.run
+  known = known_run a.limits a.states a.last (own_run a)
 
   -- the words of the run, with no closing told
   abbrev pub w : Words
-  w = words_of a.states a.last (λ g. None)
+  w = words_of a.states (own_run a).records a.last (λ g. None)
 
   pub own_move : (t : ℕ) → a.start ≤ t → t < a.last → (o : Outcome) × Moves (a.states t) (step.Go a.actor) o (a.states (suc t))
   own_move t since h = let (o, m) = a.takes t h in (o, subst (λ s. Moves (a.states t) s o (a.states (suc t))) (a.alone t since h) m)
@@ -52,7 +52,7 @@ module _ (a : Lone) where
     facts more =
         let (o, m) = own_move t s.since h in
         at_line t g l s (λ x. LineFacts a.limits a.states a.last known t h a.actor s.operation x)
-        (line_facts a.limits a.states a.last known t h a.actor s.operation o m s.runs (after_so a t g l s h more))
+        (line_facts a.limits a.states a.last known t h a.actor s.operation o m s.runs (noted_so a t g l s h more))
 
   -- a step that leaves all words keeps main nodes
   pub keeps_left : (t : ℕ) → Leaves w t → Keeps a t (suc t)
@@ -76,7 +76,7 @@ module _ (a : Lone) where
     reads =
         let f = facts t g (wrap l) s h read_no_end in
         read_turn a.limits a.states a.last known t h i l a.own.access (word a t) read_acts
-        (f.commits ∙ ap (λ x. commits_after (a.states t) (committed_in (a.states t) x)) (holds.embedded.reads l))
+        (f.commits ∙ ap (λ x. commits_after ((own_run a).records t) t (committed_in (a.states t) x)) (holds.embedded.reads l))
         (λ m p is r plain c closed. absurd (none-some c closed))
 
     -- where the operation stands afterwards

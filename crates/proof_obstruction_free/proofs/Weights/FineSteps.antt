@@ -20,8 +20,8 @@ use Rattle.proof_obstruction_free.specs.Beneath.proof_commits.proofs.Words.Along
 use Rattle.proof_obstruction_free.specs.Beneath.proof_generations.proofs.Handles.Running.{actors_length}
 use Rattle.proof_obstruction_free.specs.Alone.{Lone, Stands}
 use Rattle.proof_obstruction_free.specs.Stepping.{IsNoEnd}
-use Rattle.proof_obstruction_free.proofs.Step.Next.{takes, next, no_end}
-use Rattle.proof_obstruction_free.proofs.Step.Keeps.{after_so, goes_by}
+use Rattle.proof_obstruction_free.proofs.Step.Next.{takes, next, no_end, own_run}
+use Rattle.proof_obstruction_free.proofs.Step.Keeps.{after_so, goes_by, noted_so}
 use Rattle.proof_obstruction_free.proofs.Read.Words.{w, p, sound, NonePending}
 use Rattle.proof_obstruction_free.proofs.Weights.FineWeight.{stage_weight, still_lighter, own_lighter}
 use Rattle.proof_obstruction_free.specs.Beneath.proof_commits.proofs.Known.Acts.{known_run}
@@ -64,9 +64,9 @@ module _ (a : Lone) where
         let moved = takes a t s.since more in
         let after = next a t g l s more not in
         let goes = goes_by (action_of (a.states t) s.operation) (λ answer e. no_end (a.states t) s.operation l not answer (ap (line_action (a.states t) s.operation) (sym s.line) ∙ e)) in
-        let turn = line_turn a.limits a.states a.last (known_run a.limits a.states a.last a.run) t more a.actor s.operation s.operation.line goes (record {
-          facts = line_facts a.limits a.states a.last (known_run a.limits a.states a.last a.run) t more a.actor s.operation moved.outcome moved.moves s.runs (after_so a t g l s more not);
-          remembers = remembers_at a.limits a.states a.last (known_run a.limits a.states a.last a.run) t s.until a.actor s.operation s.runs;
+        let turn = line_turn a.limits a.states a.last (known_run a.limits a.states a.last (own_run a)) t more a.actor s.operation s.operation.line goes (record {
+          facts = line_facts a.limits a.states a.last (known_run a.limits a.states a.last (own_run a)) t more a.actor s.operation moved.outcome moved.moves s.runs (noted_so a t g l s more not);
+          remembers = remembers_at a.limits a.states a.last (known_run a.limits a.states a.last (own_run a)) t s.until a.actor s.operation s.runs;
         }) in
         subst (λ x. Word.Moves (w a) t a.actor x ((w a).stage (suc t) a.actor)) (sym (ap stage_of_actor s.runs))
         (subst (λ x. Word.Moves (w a) t a.actor (stage_of s.operation.line) x)

@@ -6,14 +6,14 @@ use Rattle.proof_order.specs.Beneath.history.specs.declared.replies.Reply.{Reply
 use Rattle.proof_order.specs.Beneath.history.specs.declared.replies.Reply.TheVariants as reply
 use Rattle.proof_order.specs.Beneath.history.specs.declared.events.Event.{Event}
 use Rattle.proof_order.specs.Beneath.history.specs.declared.events.Event.TheVariants.{Begin, End}
-use Rattle.proof_order.specs.Beneath.history.specs.Histories.{Operation as Told, HasEnded, begun}
+use Rattle.proof_order.specs.Beneath.history.specs.Histories.{Operation as Told, HasEnded}
 use Rattle.proof_order.specs.Beneath.history.proofs.Places.{at_cases}
 use Rattle.proof_order.specs.Beneath.history.proofs.Begins.{begins_once}
 use Rattle.proof_order.specs.Beneath.machine_model.specs.declared.operations.Operation.{Operation}
 use Rattle.proof_order.specs.Beneath.machine_model.specs.declared.actions.Action.{Action}
 use Rattle.proof_order.specs.Beneath.machine_model.specs.declared.actions.Action.TheVariants as act
 use Rattle.proof_order.specs.Beneath.machine_model.specs.declared.lines.Line.TheVariants as line
-use Rattle.proof_order.specs.Beneath.machine_model.specs.declared.steps.Limits.{Limits}
+use Rattle.proof_order.specs.Beneath.machine_model.specs.declared.steps.Bounds.{Bounds}
 use Rattle.proof_order.specs.Beneath.machine_model.specs.declared.steps.Outcome.{Outcome}
 use Rattle.proof_order.specs.Beneath.machine_model.specs.declared.steps.Step.{Step}
 use Rattle.proof_order.specs.Beneath.machine_model.specs.States.{State, first_state}
@@ -22,15 +22,16 @@ use Rattle.proof_order.specs.Beneath.machine_model.specs.Acting.{operation_after
 use Rattle.proof_order.specs.Beneath.machine_model.specs.Moves.{Begins, Goes, Ends, Sweeps}
 use Rattle.proof_order.specs.Beneath.machine_model.specs.Moves.{Moves, GoesOn, begun_operation}
 use Rattle.proof_order.specs.Beneath.machine_model.proofs.Found.{none_found}
-use Rattle.proof_order.specs.Beneath.machine_model.proofs.Times.{at_each_time}
 use Rattle.proof_order.specs.Beneath.machine_model.specs.Times.{IsRun}
 use Rattle.proof_order.specs.Beneath.machine_model.proofs.Actors.{IsOf, is_of, mark_one, mark_only, of_others, of_itself, of_begin, of_end}
 use Rattle.proof_generations.proofs.Handles.Running.{place_of_actor, at_place}
 use Rattle.proof_order.specs.Facts.{Runs}
 use Rattle.proof_order.proofs.History.Books.{Books, ended_below}
-use Rattle.proof_order.proofs.History.AllBooks.{books_kept, gone_events, first_books}
-use Rattle.proof_order.proofs.History.Growing.{IsKept}
-use Rattle.proof_order.specs.Beneath.machine_model.proofs.Frames.{begin_events}
+use Rattle.proof_order.proofs.History.AllBooks.{books_kept, first_books}
+use Rattle.proof_order.specs.Beneath.machine_model.specs.Records.{Record, first_record, noted}
+use Rattle.proof_order.specs.Beneath.machine_model.proofs.Recorded.{KeptByNotes, at_each_record}
+use Rattle.proof_order.specs.Beneath.machine_model.specs.Tellings.{told_in}
+use Rattle.proof_order.specs.Beneath.machine_model.proofs.Notes.{noted_going, noted_ending}
 
 -- ---- a close that runs is about to end
 
@@ -66,74 +67,77 @@ closed_by state s o after (Sweeps spent) k found at_k h (yes own) = absurd own
 
 -- ---- so it is answered with that
 
-record Closing (state : State) : Type 0 where
-  books : Books state
+record Closing (state : State) (past : Record) : Type 0 where
+  books : Books state past
   ends : (k : ℕ) (operation : Operation) → Runs state k operation → EndsClosed operation
-  answers : (place id actor handle : ℕ) (opens : Option ℕ) (answer : Reply) → slice_get state.events place ≡ Some (Begin id actor (Close handle) opens) →
-      HasEnded state.events id answer → answer ≡ reply.Closed
+  answers : (place id actor handle : ℕ) (opens : Option ℕ) (answer : Reply) → slice_get past.events place ≡ Some (Begin id actor (Close handle) opens) →
+      HasEnded past.events id answer → answer ≡ reply.Closed
 
-ended_closed : (state : State) (k : ℕ) (operation : Operation) (told : Reply) → Closing state → Runs state k operation → action_of state operation ≡ act.End told →
-    (place actor handle : ℕ) (opens : Option ℕ) → slice_get state.events place ≡ Some (Begin operation.id actor (Close handle) opens) → told ≡ reply.Closed
-ended_closed state k operation told c runs a place actor handle opens at =
+ended_closed : (state : State) (past : Record) (k : ℕ) (operation : Operation) (told : Reply) → Closing state past → Runs state k operation → action_of state operation ≡ act.End told →
+    (place actor handle : ℕ) (opens : Option ℕ) → slice_get past.events place ≡ Some (Begin operation.id actor (Close handle) opens) → told ≡ reply.Closed
+ended_closed state past k operation told c runs a place actor handle opens at =
     let its = c.books.told k operation runs in
     let x : Told = record { actor = suc k; call = operation.call; opens = operation.opens } in
     let y : Told = record { actor = actor; call = Close handle; opens = opens } in
-    let here : its.place ≡ place = begins_once state.events its.place place operation.id x y c.books.well_formed its.begins at in
-    let events : Some (Begin operation.id (suc k) operation.call operation.opens) ≡ Some (Begin operation.id actor (Close handle) opens) = sym its.begins ∙ ap (slice_get state.events) here ∙ at in
+    let here : its.place ≡ place = begins_once past.events its.place place operation.id x y c.books.well_formed its.begins at in
+    let events : Some (Begin operation.id (suc k) operation.call operation.opens) ≡ Some (Begin operation.id actor (Close handle) opens) = sym its.begins ∙ ap (slice_get past.events) here ∙ at in
     let calls : operation.call ≡ Close handle = cc events in
     let replies : act.End told ≡ act.End reply.Closed = sym a ∙ ap (line_action state operation) (c.ends k operation runs handle calls) in
     cc replies
 
-answers_kept : (state : State) (s : Step) (o : Outcome) (after : State) → Moves state s o after → Closing state → (place id actor handle : ℕ) (opens : Option ℕ) (answer : Reply) →
-    slice_get after.events place ≡ Some (Begin id actor (Close handle) opens) → HasEnded after.events id answer → answer ≡ reply.Closed
-answers_kept state s o after (Begins {actor = a} {call} d) c place id actor handle opens answer at ended =
-    let e = begin_events state a call (begun_operation state call) in
-    let (end, at_end) = subst (λ l. HasEnded l id answer) e ended in
-    elim (at_cases state.events _ end _ at_end) [
-      | inl old_end ↦ elim (at_cases state.events _ place _ (subst (λ l. slice_get l place ≡ Some (Begin id actor (Close handle) opens)) e at)) [
+answers_kept : (state : State) (past : Record) (s : Step) (o : Outcome) (after : State) → Moves state s o after → Closing state past →
+    (place id actor handle : ℕ) (opens : Option ℕ) (answer : Reply) →
+    slice_get (noted past state.steps (told_in state s)).events place ≡ Some (Begin id actor (Close handle) opens) →
+    HasEnded (noted past state.steps (told_in state s)).events id answer → answer ≡ reply.Closed
+answers_kept state past s o after (Begins {actor = a} {call} d) c place id actor handle opens answer at ended =
+    let (end, at_end) = ended in
+    elim (at_cases past.events _ end _ at_end) [
+      | inl old_end ↦ elim (at_cases past.events _ place _ at) [
         | inl old ↦ c.answers place id actor handle opens answer old (end, old_end)
         | inr new ↦
-            let same : begun state.events ≡ id = let event = new.1 in cc event in
-            let lt = ended_below state.events end id answer c.books.well_formed old_end in
+            let same : state.begun ≡ id = let event = new.1 in cc event in
+            let count = c.books.alike.begun_are in
+            let lt = ended_below past.events end id answer c.books.well_formed old_end in
             absurd (omega arith)
       ]
       | inr new_end ↦ let event = new_end.1 in let wrong : ⊥ = cc event in absurd wrong
     ]
-answers_kept state s o after (Goes {actor = a} {operation} d is b g) c place id actor handle opens answer at ended =
-    let e = gone_events state a operation in
+answers_kept state past s o after (Goes {actor = a} {operation} {action} d is b g) c place id actor handle opens answer at ended =
+    let e = ap (λ (r : Record). r.events) (noted_going state past a operation action is b g) in
     c.answers place id actor handle opens answer (subst (λ l. slice_get l place ≡ Some (Begin id actor (Close handle) opens)) e at) (subst (λ l. HasEnded l id answer) e ended)
-answers_kept state s o after (Ends {actor = a} {operation} {answer = told} d is b) c place id actor handle opens answer at ended =
-    elim (at_cases state.events (End operation.id told) place _ at) [
-      | inl old ↦ elim (at_cases state.events (End operation.id told) ended.0 _ ended.1) [
-        | inl old_end ↦ c.answers place id actor handle opens answer old (ended.0, old_end)
+answers_kept state past s o after (Ends {actor = a} {operation} {answer = told} d is b) c place id actor handle opens answer at ended =
+    let e = ap (λ (r : Record). r.events) (noted_ending state past a operation told is b) in
+    let (end, at_end) = subst (λ l. HasEnded l id answer) e ended in
+    elim (at_cases past.events (End operation.id told) place _ (subst (λ l. slice_get l place ≡ Some (Begin id actor (Close handle) opens)) e at)) [
+      | inl old ↦ elim (at_cases past.events (End operation.id told) end _ at_end) [
+        | inl old_end ↦ c.answers place id actor handle opens answer old (end, old_end)
         | inr new_end ↦
             let event = new_end.1 in
             let same_id : operation.id ≡ id = cc event in
             let same_reply : told ≡ answer = cc event in
             let (k, own, runs) = place_of_actor state a operation is in
-            sym same_reply ∙ ended_closed state k operation told c runs b place actor handle opens
-            (subst (λ i. slice_get state.events place ≡ Some (Begin i actor (Close handle) opens)) (sym same_id) old)
+            sym same_reply ∙ ended_closed state past k operation told c runs b place actor handle opens
+            (subst (λ i. slice_get past.events place ≡ Some (Begin i actor (Close handle) opens)) (sym same_id) old)
       ]
       | inr new ↦ let event = new.1 in let wrong : ⊥ = cc event in absurd wrong
     ]
-answers_kept state s o after (Sweeps spent) c place id actor handle opens answer at ended = c.answers place id actor handle opens answer at ended
+answers_kept state past s o after (Sweeps spent) c place id actor handle opens answer at ended = c.answers place id actor handle opens answer at ended
 
-closing_kept : IsKept Closing
-closing_kept state s o after m c = record {
-  books = books_kept state s o after m c.books;
+closing_kept : KeptByNotes Closing
+closing_kept state past s o after m c = record {
+  books = books_kept state past s o after m c.books;
   ends = λ k found at_k. closed_by state s o after m k found at_k c.ends (is_of (suc k) s);
-  answers = answers_kept state s o after m c;
+  answers = answers_kept state past s o after m c;
 }
 
-none_closes : (limits : Limits) (k : ℕ) (operation : Operation) → Runs (first_state limits) k operation → EndsClosed operation
+none_closes : (limits : Bounds) (k : ℕ) (operation : Operation) → Runs (first_state limits) k operation → EndsClosed operation
 unfolding first_state
 none_closes limits k operation at_k = absurd (none_found limits.actors k operation at_k)
 
-nothing_told : (limits : Limits) (place : ℕ) (event : Event) → slice_get (first_state limits).events place ≡ Some event → ⊥
-unfolding first_state
+nothing_told : (limits : Bounds) (place : ℕ) (event : Event) → slice_get (first_record limits).events place ≡ Some event → ⊥
 nothing_told limits place event at = cc at
 
-first_closing : (limits : Limits) → Closing (first_state limits)
+first_closing : (limits : Bounds) → Closing (first_state limits) (first_record limits)
 first_closing limits = record {
   books = first_books limits;
   ends = none_closes limits;
@@ -141,6 +145,6 @@ first_closing limits = record {
 }
 
 -- at each time of a run
-pub closed_reply : (limits : Limits) (states : ℕ → State) (last : ℕ) → IsRun limits states last → (t : ℕ) → t ≤ last → (place id actor handle : ℕ) (opens : Option ℕ) (answer : Reply) →
-    slice_get (states t).events place ≡ Some (Begin id actor (Close handle) opens) → HasEnded (states t).events id answer → answer ≡ reply.Closed
-closed_reply limits states last r t le = (at_each_time limits states last r Closing (first_closing limits) closing_kept t le).answers
+pub closed_reply : (limits : Bounds) (states : ℕ → State) (last : ℕ) (r : IsRun limits states last) (t : ℕ) → t ≤ last → (place id actor handle : ℕ) (opens : Option ℕ) (answer : Reply) →
+    slice_get (r.records t).events place ≡ Some (Begin id actor (Close handle) opens) → HasEnded (r.records t).events id answer → answer ≡ reply.Closed
+closed_reply limits states last r t le = (at_each_record limits states last r Closing (first_closing limits) closing_kept t le).answers

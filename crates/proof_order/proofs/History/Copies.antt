@@ -28,6 +28,7 @@ use Rattle.proof_generations.proofs.Offers.Standing.{completes_it}
 use Rattle.proof_order.specs.Facts.{Runs}
 use Rattle.proof_order.proofs.Offers.Known.{Offers}
 use Rattle.proof_order.proofs.History.OneStep.{From, began, kept, stepped}
+use Rattle.proof_order.specs.Beneath.machine_model.specs.Records.{Record}
 
 -- ---- what a marked operation does
 
@@ -37,7 +38,7 @@ IsDone operation =
     operation.is_marked ≡ true → ((c : Complete) × (operation.line ≡ line.Copy (copy.Complete c))) ⊎ (operation.line ≡ line.End (copied_reply operation.call operation.opens))
 
 -- who is marked by a step completes its offer
-marked_completes : (state : State) (s : Step) → Offers state → (k : ℕ) (operation : Operation) → Runs state k operation → marks_in state s ≡ Some operation.id →
+marked_completes : (state : State) {past : Record} (s : Step) → Offers state past → (k : ℕ) (operation : Operation) → Runs state k operation → marks_in state s ≡ Some operation.id →
     (it : Marks state s k operation) × (c : Complete) × (operation.line ≡ line.Copy (copy.Complete c))
 marked_completes state s offers k operation runs e =
     let it = marked_in state offers.own s k operation runs e in
@@ -101,7 +102,8 @@ pub own_marks : (state : State) (s : Step) (k : ℕ) (operation : Operation) →
 own_marks state s k operation e runs = ap (marks_in state) e ∙ ap (marks_by state) runs
 
 -- in its own step
-stepped_done : (state : State) (s : Step) → Offers state → (k : ℕ) (operation : Operation) → Runs state k operation → s ≡ step.Go (suc k) → GoesOn (action_of state operation) → IsDone operation →
+stepped_done : (state : State) {past : Record} (s : Step) → Offers state past → (k : ℕ) (operation : Operation) → Runs state k operation → s ≡ step.Go (suc k) →
+    GoesOn (action_of state operation) → IsDone operation →
     (operation.is_marked ≡ true) ⊎ (marks_in state s ≡ Some operation.id) →
     ((c : Complete) × ((operation_after state operation).line ≡ line.Copy (copy.Complete c)))
     ⊎ ((operation_after state operation).line ≡ line.End (copied_reply operation.call operation.opens))
@@ -121,7 +123,7 @@ stepped_done state s offers k operation runs e goes done (inr marked) =
     subst (λ l. ((c : Complete) × (line_after state operation l ≡ line.Copy (copy.Complete c))) ⊎ (line_after state operation l ≡ line.End (copied_reply operation.call operation.opens)))
     (sym at) (completes_on state operation c (λ gives. absurd (gives_carried state operation c it.offer main does carried gives)))
 
-pub done_by : (state : State) (s : Step) → Offers state → ((k : ℕ) (operation : Operation) → Runs state k operation → IsDone operation) →
+pub done_by : (state : State) {past : Record} (s : Step) → Offers state past → ((k : ℕ) (operation : Operation) → Runs state k operation → IsDone operation) →
     (k : ℕ) (found : Operation) → From state s k found → IsDone found
 done_by state s offers each k found (began new) e = absurd (false≢true (ap (λ (x : Operation). x.is_marked) (sym new.is_it) ∙ e))
 done_by state s offers each k found (kept operation runs is other) e =

@@ -1,5 +1,6 @@
 -- Each operation that has a place has begun.
-use Rattle.std.proofs.Common.{◌≡◌, ℕ, zero, suc, ◌⊎◌, inl, inr, Bool, true, false, if◌then◌else◌, List, [], ◌∷◌, ◌++◌, get_or, length, Option, Some, None, slice_get, ◌<◌, ◌≤◌}
+use Rattle.std.proofs.Common.{◌≡◌, ℕ, zero, suc, ◌⊎◌, inl, inr, Bool, true, false, if◌then◌else◌, List, []}
+use Rattle.std.proofs.Common.{◌∷◌, ◌++◌, get_or, length, Option, Some, None, ◌<◌, ◌≤◌, option_and_then, cond, find, option_to_list, ◌==◌}
 use Rattle.std.proofs.Common.{refl, sym, ap, ◌∙◌, subst}
 use Rattle.std.proofs.lemmas.Bool.{and_parts}
 use Rattle.proof_order.specs.Beneath.history.specs.declared.calls.Call.{Call}
@@ -13,44 +14,55 @@ use Rattle.proof_order.specs.Beneath.history.specs.Orders.{OrderedAt}
 use Rattle.proof_order.specs.Beneath.history.proofs.Places.{at_push}
 use Rattle.proof_order.specs.Beneath.slot_arena.specs.declared.refs.Ref.{Ref}
 use Rattle.proof_order.specs.Beneath.places.specs.declared.place.Place.{Place}
-use Rattle.proof_order.specs.Beneath.places.specs.Places.{on_time, rising, ids_by_place}
+use Rattle.proof_order.specs.Beneath.places.specs.Places.{rising, ids_by_place}
 use Rattle.proof_order.specs.Beneath.machine_model.specs.declared.actions.Action.{Action}
 use Rattle.proof_order.specs.Beneath.machine_model.specs.declared.actions.Action.TheVariants as act
 use Rattle.proof_order.specs.Beneath.machine_model.specs.declared.operations.Operation.{Operation}
 use Rattle.proof_order.specs.Beneath.machine_model.specs.declared.roots.Descriptor.{Descriptor}
-use Rattle.proof_order.specs.Beneath.machine_model.specs.declared.steps.Limits.{Limits}
+use Rattle.proof_order.specs.Beneath.machine_model.specs.declared.steps.Bounds.{Bounds}
 use Rattle.proof_order.specs.Beneath.machine_model.specs.declared.steps.Outcome.{Outcome}
 use Rattle.proof_order.specs.Beneath.machine_model.specs.declared.steps.Step.{Step}
 use Rattle.proof_order.specs.Beneath.machine_model.specs.Calls.{handle_of}
 use Rattle.proof_order.specs.Beneath.machine_model.specs.States.{State, first_state, word_at, operation_of}
 use Rattle.proof_order.specs.Beneath.machine_model.specs.Operations.{action_of}
 use Rattle.proof_order.specs.Beneath.machine_model.specs.Swapping.{stands_in, is_carried_out}
-use Rattle.proof_order.specs.Beneath.machine_model.specs.Orders.{place_of, is_placed, closing_for, committed_now, order_of}
-use Rattle.proof_order.specs.Beneath.machine_model.specs.Acting.{swaps_in, entered, entered_by, entered_at_end, acted}
-use Rattle.proof_order.specs.Beneath.machine_model.specs.Machine.{with_begin, run}
+use Rattle.proof_order.specs.Beneath.machine_model.specs.Machine.{run}
 use Rattle.proof_order.specs.Beneath.machine_model.specs.Moves.{Begins, Goes, Ends, Sweeps}
 use Rattle.proof_order.specs.Beneath.machine_model.specs.Moves.{Moves, begun_operation}
-use Rattle.proof_order.specs.Beneath.machine_model.proofs.Along.{along}
-use Rattle.proof_order.specs.Beneath.machine_model.proofs.Times.{at_each_time}
 use Rattle.proof_order.specs.Beneath.machine_model.specs.Times.{IsRun}
 use Rattle.proof_generations.specs.Laws.Roots.{settles}
 use Rattle.proof_generations.proofs.Offers.Same.{same_offer}
 use Rattle.proof_generations.proofs.Handles.Running.{place_of_actor}
 use Rattle.proof_order.specs.Facts.{Runs}
 use Rattle.proof_order.specs.Beneath.history.proofs.Among.{Among, among_either}
-use Rattle.proof_order.proofs.Places.Elements.{among_get, among_mapped, among_flat_map}
+use Rattle.proof_order.proofs.Places.Elements.{among_get, among_mapped}
 use Rattle.proof_order.proofs.Places.Sorting.{among_rising}
 use Rattle.proof_order.proofs.History.Books.{Books, id_below}
-use Rattle.proof_order.proofs.Views.Changes.{carries, acted_places, completed_is, carried_roots}
 use Rattle.proof_order.proofs.History.Growing.{Grows, get_grown, events_grow}
 use Rattle.proof_order.proofs.Places.Origins.{place_says}
 use Rattle.proof_order.proofs.Offers.Known.{Offers, stands}
 use Rattle.proof_order.proofs.Offers.Standing.{offers_kept, first_offers}
-use Rattle.proof_order.specs.Beneath.machine_model.proofs.Frames.{begin_events}
+use Rattle.proof_order.specs.Beneath.machine_model.specs.Records.{place_of, is_placed, closing_for, order_of, entered, entered_by, entered_at_end}
+use Rattle.proof_order.specs.Beneath.machine_model.specs.Records.{Record, entered_at_begin, first_record, record_of, changer_of, noted, placed_by, moment_at}
+use Rattle.proof_order.specs.Beneath.machine_model.specs.Tellings.{carried_by, told_in, progress_of, published_by, entrant_of, published_at, changer_for}
+use Rattle.proof_order.specs.Beneath.machine_model.specs.declared.records.Publication.{Publication}
+use Rattle.proof_order.specs.Beneath.machine_model.specs.declared.records.Carried.{Carried}
+use Rattle.proof_order.specs.Beneath.machine_model.proofs.Recorded.{KeptByNotes, at_each_record, along_with}
+use Rattle.proof_order.specs.Beneath.machine_model.specs.declared.records.Entrant.{Entrant}
+use Rattle.proof_order.specs.Beneath.machine_model.specs.declared.records.Progress.{Progress}
+use Rattle.proof_order.specs.Beneath.machine_model.proofs.Notes.{noted_going, noted_ending}
+use Rattle.std.proofs.lemmas.Option.{none-some, same_Some}
+use Rattle.proof_order.specs.Beneath.machine_model.specs.declared.lines.Line.{Line}
+use Rattle.proof_order.specs.Beneath.slot_arena.specs.Heaps.{generation_at}
+use Rattle.proof_order.specs.Beneath.machine_model.specs.declared.lines.Line.TheVariants as line
+use Rattle.proof_order.specs.Beneath.machine_model.specs.declared.lines.Purpose.{Purpose}
+use Rattle.proof_order.specs.Beneath.machine_model.specs.declared.reading.SwapLine.{SwapLine}
+use Rattle.proof_order.specs.Beneath.machine_model.specs.declared.reading.SwapLine.TheVariants as swap
+use Rattle.proof_order.specs.Beneath.machine_model.specs.declared.lines.Purpose.TheVariants as purpose
 
 -- who runs has begun
-runs_begun : (state : State) → Books state → (k : ℕ) (operation : Operation) → Runs state k operation → HasBegun state.events operation.id
-runs_begun state books k operation runs =
+runs_begun : (state : State) (past : Record) → Books state past → (k : ℕ) (operation : Operation) → Runs state k operation → HasBegun past.events operation.id
+runs_begun state past books k operation runs =
     let told = books.told k operation runs in
     let says : Told = record { actor = suc k; call = operation.call; opens = operation.opens } in
     (told.place, says, told.begins)
@@ -62,133 +74,198 @@ among_runs (x ∷ xs) operation (inr a) = let (k, e) = among_runs xs operation a
 
 -- ---- the places that a step adds
 
-entered_one : (state : State) (main : Ref) (found : Option Operation) (p : Place) → Among p (entered_by state main found) → (operation : Operation) × (found ≡ Some operation) × (p.id ≡ operation.id)
-entered_one state main None p a = absurd a
-entered_one state main (Some operation) p a = by (swaps_in main operation.line) a
-  where
-    by : (b : Bool) → Among p (if b then place_of state operation state.steps false ∷ [] else []) → (other : Operation) × (Some operation ≡ Some other) × (p.id ≡ other.id)
-    by true (inl is) = (operation, refl, ap (λ (q : Place). q.id) is ∙ (place_says (closing_for state operation operation.access) state.steps operation.id false).2)
-    by true (inr none) = absurd none
-    by false none = absurd none
+-- a place is its entrant's
+id_of_place : (past : Record) (e : Entrant) (moment : ℕ) (changed_nothing : Bool) → (place_of past e moment changed_nothing).id ≡ e.id
+id_of_place past e moment changed_nothing = (place_says (closing_for past e.generation e.access) moment e.id changed_nothing).2
 
-entered_begun : (state : State) → Books state → (committed : Option Ref) (p : Place) → Among p (entered state committed) → HasBegun state.events p.id
-entered_begun state books None p a = absurd a
-entered_begun state books (Some main) p a =
-    let (found, within, its) = among_flat_map (entered_by state main) state.actors p a in
-    let (operation, is, id) = entered_one state main found p its in
-    let (k, runs) = among_runs state.actors operation (subst (λ x. Among x state.actors) is within) in
-    subst (λ i. HasBegun state.events i) (sym id) (runs_begun state books k operation runs)
+-- whose change a node is said to be was said as it was to be swapped in
+changer_published : (xs : List Publication) (main : Ref) (e : Entrant) → option_and_then (λ (p : Publication). p.changer) (find (λ (p : Publication). p.main == main) xs) ≡ Some e →
+    (p : Publication) × Among p xs × (p.changer ≡ Some e)
+changer_published [] main e is = absurd (none-some e is)
+changer_published (p ∷ ps) main e is = by (p.main == main) (changer_published ps main e) is
+  where
+    by : (b : Bool) → (option_and_then (λ (q : Publication). q.changer) (find (λ (q : Publication). q.main == main) ps) ≡ Some e → (q : Publication) × Among q ps × (q.changer ≡ Some e)) →
+        option_and_then (λ (q : Publication). q.changer) (cond b (Some p) (find (λ (q : Publication). q.main == main) ps)) ≡ Some e →
+        (q : Publication) × Among q (p ∷ ps) × (q.changer ≡ Some e)
+    by true rest at = (p, inl refl, at)
+    by false rest at = let (q, among, its) = rest at in (q, inr among, its)
+
+-- who enters by a commit published the node
+entered_one : (past : Record) (step : ℕ) (changer : Option Entrant) (p : Place) → Among p (entered_by past step changer) → (e : Entrant) × (changer ≡ Some e) × (p.id ≡ e.id)
+entered_one past step None p a = absurd a
+entered_one past step (Some e) p (inl is) = (e, refl, ap (λ (q : Place). q.id) is ∙ id_of_place past e step false)
+entered_one past step (Some e) p (inr none) = absurd none
+
+-- the changes that were published are of operations that have begun
+abbrev ChangersBegun : Record → Type 0
+ChangersBegun past = (p : Publication) (e : Entrant) → Among p past.published → p.changer ≡ Some e → HasBegun past.events e.id
+
+entered_begun : (past : Record) → ChangersBegun past → (step : ℕ) (committed : Option Ref) (p : Place) → Among p (entered past step committed) → HasBegun past.events p.id
+entered_begun past changers step None p a = absurd a
+entered_begun past changers step (Some main) p a =
+    let (e, is, id) = entered_one past step (changer_of past main) p a in
+    let (published, among, its) = changer_published past.published main e is in
+    subst (λ i. HasBegun past.events i) (sym id) (changers published e among its)
+
+-- what a step publishes is its operation's
+published_own : (operation : Operation) (l : Line) (p : Publication) (e : Entrant) → Among p (option_to_list (published_by operation l)) → p.changer ≡ Some e → e.id ≡ operation.id
+published_own operation (line.Swap why s) p e a its = by why (published_line why s.line a) its
+  where
+    -- it stands on the SWAP's first line
+    published_line : (w : Purpose) (l : SwapLine) → Among p (option_to_list (published_at (changer_for operation w) s.fresh l)) → p.changer ≡ changer_for operation w
+    published_line w swap.Publish (inl is) = ap (λ (q : Publication). q.changer) is
+    published_line w swap.Publish (inr none) = absurd none
+    published_line w (swap.Deciding r) a = absurd a
+    published_line w swap.Check a = absurd a
+
+    by : (w : Purpose) → p.changer ≡ changer_for operation w → p.changer ≡ Some e → e.id ≡ operation.id
+    by (purpose.Update path former) is its = ap (λ (x : Entrant). x.id) (same_Some _ _ (sym its ∙ is))
+    by (purpose.Renew path) is its = absurd (none-some e (sym is ∙ its))
+    by purpose.Clean is its = absurd (none-some e (sym is ∙ its))
+    by (purpose.Climb c) is its = absurd (none-some e (sym is ∙ its))
+published_own operation (line.Root l) p e a its = absurd a
+published_own operation (line.Key l) p e a its = absurd a
+published_own operation (line.Build l) p e a its = absurd a
+published_own operation (line.Renew l) p e a its = absurd a
+published_own operation (line.Clean l) p e a its = absurd a
+published_own operation (line.Climb l) p e a its = absurd a
+published_own operation (line.Copy l) p e a its = absurd a
+published_own operation (line.Walk l) p e a its = absurd a
+published_own operation (line.End answer) p e a its = absurd a
+published_own operation line.Impossible p e a its = absurd a
 
 -- an offer that is carried out is of an operation that has begun
-carried_begun : (state : State) → Offers state → (actor : ℕ) (operation : Operation) (offer : Descriptor) (main : Ref) → operation_of state actor ≡ Some operation →
-    action_of state operation ≡ act.Complete offer main → is_carried_out (word_at state (handle_of operation.call)) offer main ≡ true → HasBegun state.events offer.operation
-carried_begun state offers actor operation offer main is does carried =
+carried_begun : (state : State) (past : Record) → Offers state past → (actor : ℕ) (operation : Operation) (offer : Descriptor) (main : Ref) → operation_of state actor ≡ Some operation →
+    action_of state operation ≡ act.Complete offer main → is_carried_out (word_at state (handle_of operation.call)) offer main ≡ true → HasBegun past.events offer.operation
+carried_begun state past offers actor operation offer main is does carried =
     let there = (and_parts (stands_in (word_at state (handle_of operation.call)) offer) _ carried).0 in
     let st = stands state offers (handle_of operation.call) offer (same_offer state offers.own actor operation offer is (ap settles does) (handle_of operation.call) there) in
-    subst (λ i. HasBegun state.events i) st.id (runs_begun state offers.books st.k st.operation st.runs)
+    subst (λ i. HasBegun past.events i) st.id (runs_begun state past offers.books st.k st.operation st.runs)
 
-acted_begun : (base : State) (handle : ℕ) (action : Action) (carried : Bool) → carries base handle action ≡ carried → (p : Place) → Among p (acted base handle action).places →
-    Among p base.places ⊎ ((offer : Descriptor) × (main : Ref) × (action ≡ act.Complete offer main) × (is_carried_out (word_at base handle) offer main ≡ true) × (p.id ≡ offer.operation))
-acted_begun base handle action false e p a = inl (subst (Among p) (acted_places base handle action e).0 a)
-acted_begun base handle (act.Complete offer main) true e p a =
-    let (roots, places, closings, heap) = carried_roots base handle offer offer.opens in
-    elim (among_either base.places _ p
-    (subst (Among p) (ap (λ (q : State). q.places) (completed_is base handle offer main e) ∙ ap (λ l. l ++ on_time base.steps false offer.operation ∷ []) places) a)) [
-      | inl old ↦ inl old
-      | inr new ↦ elim new [ inl is ↦ inr (offer, main, refl, e, ap (λ (q : Place). q.id) is) | inr none ↦ absurd none ]
-    ]
-acted_begun base handle action true e p a = absurd (let wrong : false ≡ true = e in cc wrong)
-
-end_place : (state : State) (operation : Operation) (answer : Reply) (p : Place) → Among p (entered_at_end state operation answer) → p.id ≡ operation.id
-end_place state operation reply.NoSlots p a = absurd a
-end_place state operation answer p a = by (is_placed state operation.id) a
+-- what is told to be carried out
+carried_says : (state : State) (handle : ℕ) (action : Action) (c : Carried) → carried_by state handle action ≡ Some c →
+    (offer : Descriptor) × (main : Ref) × (action ≡ act.Complete offer main) × (is_carried_out (word_at state handle) offer main ≡ true) × (c.operation ≡ offer.operation)
+carried_says state handle (act.Complete offer main) c e = by (is_carried_out (word_at state handle) offer main) refl e
   where
-    by : (b : Bool) → Among p (if b then [] else place_of state operation operation.moment true ∷ []) → p.id ≡ operation.id
+    by : (b : Bool) → is_carried_out (word_at state handle) offer main ≡ b →
+        cond b (Some (record { generation = generation_at state.heap offer.root; operation = offer.operation })) None ≡ Some c →
+        (other : Descriptor) × (node : Ref) × (act.Complete offer main ≡ act.Complete other node) × (is_carried_out (word_at state handle) other node ≡ true) × (c.operation ≡ other.operation)
+    by true is e = (offer, main, refl, is, ap (λ (x : Carried). x.operation) (sym (same_Some _ c e)))
+    by false is e = absurd (none-some c e)
+carried_says state handle action c e = absurd (let wrong : None ≡ Some c = e in none-some c wrong)
+
+placed_begun_by : (state : State) (past : Record) → Offers state past → (actor : ℕ) (operation : Operation) → operation_of state actor ≡ Some operation → (carried : Option Carried) →
+    carried_by state (handle_of operation.call) (action_of state operation) ≡ carried → (p : Place) → Among p (placed_by state.steps carried) → HasBegun past.events p.id
+placed_begun_by state past offers actor operation is None e p a = absurd a
+placed_begun_by state past offers actor operation is (Some c) e p (inr none) = absurd none
+placed_begun_by state past offers actor operation is (Some c) e p (inl at) =
+    let (offer, main, does, carried, its) = carried_says state (handle_of operation.call) (action_of state operation) c e in
+    subst (λ i. HasBegun past.events i) (sym (ap (λ (q : Place). q.id) at ∙ its)) (carried_begun state past offers actor operation offer main is does carried)
+
+end_place : (past : Record) (e : Entrant) (moment : ℕ) (answer : Reply) (p : Place) → Among p (entered_at_end past e moment answer) → p.id ≡ e.id
+end_place past e moment reply.NoSlots p a = absurd a
+end_place past e moment answer p a = by (is_placed past e.id) a
+  where
+    by : (b : Bool) → Among p (if b then [] else place_of past e moment true ∷ []) → p.id ≡ e.id
     by true none = absurd none
-    by false (inl is) = ap (λ (q : Place). q.id) is ∙ (place_says (closing_for state operation operation.access) operation.moment operation.id true).2
+    by false (inl is) = ap (λ (q : Place). q.id) is ∙ id_of_place past e moment true
     by false (inr none) = absurd none
 
 -- ---- each place
 
-record Begun (state : State) : Type 0 where
-  offers : Offers state
-  each : (p : Place) → Among p state.places → HasBegun state.events p.id
+record Begun (state : State) (past : Record) : Type 0 where
+  offers : Offers state past
+  changers : ChangersBegun past
+  each : (p : Place) → Among p past.places → HasBegun past.events p.id
 
-begin_place : (state : State) (actor : ℕ) (call : Call) (operation : Operation) (p : Place) → Among p (with_begin state actor call operation).places →
-    Among p state.places ⊎ (p.id ≡ operation.id)
-begin_place state actor (Close handle) operation p a = elim (among_either state.places _ p a) [
-  | inl old ↦ inl old
-  | inr new ↦ elim new [ inl is ↦ inr (ap (λ (q : Place). q.id) is) | inr none ↦ absurd none ]
-]
-begin_place state actor call operation p a = inl a
+begin_place : (step id : ℕ) (call : Call) (p : Place) → Among p (entered_at_begin step id call) → p.id ≡ id
+begin_place step id (Close handle) p (inl is) = ap (λ (q : Place). q.id) is
+begin_place step id (Close handle) p (inr none) = absurd none
+begin_place step id call p a = absurd a
 
 still_begun : (before after : List Event) (id : ℕ) → Grows before after → HasBegun before id → HasBegun after id
 still_begun before after id g (place, operation, at) = (place, operation, get_grown before after place _ g at)
 
--- a place behind a step is an old one, or its operation has begun by now
-place_begun : (state : State) (s : Step) (o : Outcome) (after : State) → Moves state s o after → Offers state → (p : Place) → Among p after.places → Among p state.places ⊎ HasBegun after.events p.id
-place_begun state s o after (Begins {actor} {call} d) offers p a =
+-- what is noted of a step's place or publication: it is an old one, or its operation has begun by now
+place_begun : (state : State) (past : Record) (s : Step) (o : Outcome) (after : State) → Moves state s o after → Begun state past → (p : Place) →
+    Among p (noted past state.steps (told_in state s)).places → Among p past.places ⊎ HasBegun (noted past state.steps (told_in state s)).events p.id
+place_begun state past s o after (Begins {actor} {call} d) h p a =
     let operation : Operation = begun_operation state call in
     let says : Told = record { actor = actor; call = call; opens = operation.opens } in
-    let told = begin_events state actor call operation in
-    let here : slice_get (state.events ++ Begin operation.id actor call operation.opens ∷ []) (length state.events) ≡ Some (Begin operation.id actor call operation.opens) =
-    at_push state.events (Begin operation.id actor call operation.opens) (length state.events) refl in
-    elim (begin_place state actor call operation p a) [
+    let event : Event = Begin operation.id actor call operation.opens in
+    elim (among_either past.places _ p a) [
       | inl old ↦ inl old
-      | inr new ↦ inr (subst (λ i. HasBegun (with_begin state actor call operation).events i) (sym new) (length state.events, says, ap (λ l. slice_get l (length state.events)) told ∙ here))
+      | inr new ↦ inr (subst (λ i. HasBegun (past.events ++ event ∷ []) i) (sym (begin_place state.steps operation.id call p new))
+          (length past.events, says, at_push past.events event (length past.events) refl))
     ]
-place_begun state s o after (Goes {actor} {operation} d is b g) offers p a =
-    let grown = events_grow state s o after (Goes {actor = actor} {operation = operation} d is b g) in
-    elim (acted_begun _ (handle_of operation.call) (action_of state operation) _ refl p a) [
-      | inl noted ↦ elim (among_either state.places (entered state (committed_now state operation)) p noted) [
+place_begun state past s o after (Goes {actor} {operation} {action} d is b g) h p a =
+    let grown = events_grow state past s o after (Goes {actor = actor} {operation = operation} {action = action} d is b g) in
+    let p_of : Progress = progress_of state operation in
+    elim (among_either (past.places ++ entered past state.steps p_of.committed) (placed_by state.steps p_of.carried) p
+    (subst (λ (r : Record). Among p r.places) (noted_going state past actor operation action is b g) a)) [
+      | inl before ↦ elim (among_either past.places (entered past state.steps p_of.committed) p before) [
         | inl old ↦ inl old
-        | inr new ↦ inr (still_begun state.events after.events p.id grown (entered_begun state offers.books (committed_now state operation) p new))
+        | inr new ↦ inr (still_begun past.events _ p.id grown (entered_begun past h.changers state.steps p_of.committed p new))
       ]
-      | inr new ↦
-          let (offer, main, does, carried, id) = new in
-          inr (still_begun state.events after.events p.id grown (subst (λ i. HasBegun state.events i) (sym id) (carried_begun state offers actor operation offer main is does carried)))
+      | inr new ↦ inr (still_begun past.events _ p.id grown (placed_begun_by state past h.offers actor operation is p_of.carried refl p new))
     ]
-place_begun state s o after (Ends {actor} {operation} {answer} d is b) offers p a =
+place_begun state past s o after (Ends {actor} {operation} {answer} d is b) h p a =
     let (k, actors, runs) = place_of_actor state actor operation is in
-    let grown = events_grow state s o after (Ends {actor = actor} {operation = operation} {answer = answer} d is b) in
-    elim (among_either state.places (entered_at_end state operation answer) p a) [
+    let grown = events_grow state past s o after (Ends {actor = actor} {operation = operation} {answer = answer} d is b) in
+    elim (among_either past.places (entered_at_end past (entrant_of operation) (moment_at past actor).moment answer) p
+    (subst (λ (r : Record). Among p r.places) (noted_ending state past actor operation answer is b) a)) [
       | inl old ↦ inl old
-      | inr new ↦ inr
-          (still_begun state.events after.events p.id grown (subst (λ i. HasBegun state.events i) (sym (end_place state operation answer p new)) (runs_begun state offers.books k operation runs)))
+      | inr new ↦ inr (still_begun past.events _ p.id grown
+          (subst (λ i. HasBegun past.events i) (sym (end_place past (entrant_of operation) (moment_at past actor).moment answer p new)) (runs_begun state past h.offers.books k operation runs)))
     ]
-place_begun state s o after (Sweeps spent) offers p a = inl a
+place_begun state past s o after (Sweeps spent) h p a = inl a
 
-begun_kept : (state : State) (s : Step) (o : Outcome) (after : State) → Moves state s o after → Begun state → Begun after
-begun_kept state s o after m h = record {
-  offers = offers_kept state s o after m h.offers;
-  each = λ p a. elim (place_begun state s o after m h.offers p a) [
-    | inl old ↦ still_begun state.events after.events p.id (events_grow state s o after m) (h.each p old)
+changers_begun : (state : State) (past : Record) (s : Step) (o : Outcome) (after : State) → Moves state s o after → Begun state past → ChangersBegun (noted past state.steps (told_in state s))
+changers_begun state past s o after (Begins {actor} {call} d) h p e a its =
+    still_begun past.events _ e.id (events_grow state past s o after (Begins {actor = actor} {call = call} d)) (h.changers p e a its)
+changers_begun state past s o after (Goes {actor} {operation} {action} d is b g) h p e a its =
+    let grown = events_grow state past s o after (Goes {actor = actor} {operation = operation} {action = action} d is b g) in
+    let (k, actors, runs) = place_of_actor state actor operation is in
+    still_begun past.events _ e.id grown
+    (elim (among_either (option_to_list (published_by operation operation.line)) past.published p
+    (subst (λ (r : Record). Among p r.published) (noted_going state past actor operation action is b g) a)) [
+      | inl new ↦ subst (λ i. HasBegun past.events i) (sym (published_own operation operation.line p e new its)) (runs_begun state past h.offers.books k operation runs)
+      | inr old ↦ h.changers p e old its
+    ])
+changers_begun state past s o after (Ends {actor} {operation} {answer} d is b) h p e a its =
+    still_begun past.events _ e.id (events_grow state past s o after (Ends {actor = actor} {operation = operation} {answer = answer} d is b))
+    (h.changers p e (subst (λ (r : Record). Among p r.published) (noted_ending state past actor operation answer is b) a) its)
+changers_begun state past s o after (Sweeps spent) h p e a its = h.changers p e a its
+
+begun_kept : KeptByNotes Begun
+begun_kept state past s o after m h = record {
+  offers = offers_kept state past s o after m h.offers;
+  changers = changers_begun state past s o after m h;
+  each = λ p a. elim (place_begun state past s o after m h p a) [
+    | inl old ↦ still_begun past.events _ p.id (events_grow state past s o after m) (h.each p old)
     | inr new ↦ new
   ];
 }
 
-nothing_placed : (limits : Limits) (p : Place) → Among p (first_state limits).places → ⊥
-unfolding first_state
-nothing_placed limits p a = a
-
-first_begun : (limits : Limits) → Begun (first_state limits)
-first_begun limits = record { offers = first_offers limits; each = λ p a. absurd (nothing_placed limits p a) }
+first_begun : (limits : Bounds) → Begun (first_state limits) (first_record limits)
+first_begun limits = record { offers = first_offers limits; changers = λ p e a its. absurd a; each = λ p a. absurd a }
 
 -- after each list of steps
-pub placed_begun : (limits : Limits) (steps : List Step) (p : Place) → Among p (run limits steps).places → HasBegun (run limits steps).events p.id
-placed_begun limits steps = (along limits Begun (first_begun limits) (λ before s o after m h. begun_kept (run limits before) s o after m h) steps).each
+pub placed_begun : (limits : Bounds) (steps : List Step) (p : Place) → Among p (record_of limits steps).places → HasBegun (record_of limits steps).events p.id
+placed_begun limits steps = (along_with limits Begun (first_begun limits) (λ before s o after m h. begun_kept (run limits before) (record_of limits before) s o after m h) steps).each
 
 -- at each time of a run the ids of places are below the number of those that have begun
-pub places_below : (limits : Limits) (states : ℕ → State) (last : ℕ) → IsRun limits states last → (t : ℕ) → t ≤ last → (p : Place) → Among p (states t).places → p.id < begun (states t).events
+pub places_below : (limits : Bounds) (states : ℕ → State) (last : ℕ) (r : IsRun limits states last) (t : ℕ) → t ≤ last → (p : Place) → Among p (r.records t).places →
+    p.id < begun (r.records t).events
 places_below limits states last r t le p a =
-    let h = at_each_time limits states last r Begun (first_begun limits) begun_kept t le in
+    let h = at_each_record limits states last r Begun (first_begun limits) begun_kept t le in
     let (place, told, at) = h.each p a in
-    id_below (states t).events place p.id told h.offers.books.well_formed at
+    id_below (r.records t).events place p.id told h.offers.books.well_formed at
 
 -- so each id of the order has
-pub ordered_begun : (limits : Limits) (steps : List Step) (i id : ℕ) → OrderedAt (order_of (run limits steps)) i id → HasBegun (run limits steps).events id
+pub ordered_begun : (limits : Bounds) (steps : List Step) (i id : ℕ) → OrderedAt (order_of (record_of limits steps)) i id → HasBegun (record_of limits steps).events id
 unfolding ids_by_place
 ordered_begun limits steps i id at =
-    let places = (run limits steps).places in
-    let (p, within, same) = among_mapped (λ (q : Place). q.id) (rising places) id (among_get (order_of (run limits steps)) i id at) in
-    subst (λ x. HasBegun (run limits steps).events x) same (placed_begun limits steps p (among_rising places p within))
+    let places = (record_of limits steps).places in
+    let (p, within, same) = among_mapped (λ (q : Place). q.id) (rising places) id (among_get (order_of (record_of limits steps)) i id at) in
+    subst (λ x. HasBegun (record_of limits steps).events x) same (placed_begun limits steps p (among_rising places p within))

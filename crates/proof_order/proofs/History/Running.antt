@@ -20,6 +20,9 @@ use Rattle.proof_generations.proofs.Handles.Running.{one_at, at_place, write_cas
 use Rattle.proof_order.specs.Facts.{Runs}
 use Rattle.proof_order.specs.Running.{IsSame}
 use Rattle.proof_order.specs.Beneath.machine_model.proofs.Basics.{actor_at}
+use Rattle.proof_order.specs.Beneath.machine_model.specs.Records.{Record, noted}
+use Rattle.proof_order.specs.Beneath.machine_model.specs.Tellings.{told_in}
+use Rattle.proof_order.specs.Beneath.machine_model.proofs.Notes.{noted_ending}
 
 -- with a mark it is the same
 pub marked_same : (m : Option ℕ) (operation : Operation) → IsSame operation (mark_one m operation)
@@ -75,18 +78,18 @@ pub same_trans : (a b c : Operation) → IsSame a b → IsSame b c → IsSame a 
 same_trans a b c p q = record { id = q.id ∙ p.id; call = q.call ∙ p.call; opens = q.opens ∙ p.opens; access = q.access ∙ p.access }
 
 -- the step is the end of this operation
-abbrev pub IsEnded : State → Step → State → ℕ → Operation → Type 0
-IsEnded state s after k operation =
-    (answer : Reply) × (s ≡ step.Go (suc k)) × (action_of state operation ≡ act.End answer) × (after.events ≡ state.events ++ End operation.id answer ∷ [])
+abbrev pub IsEnded : State → Record → Step → Record → ℕ → Operation → Type 0
+IsEnded state past s now k operation =
+    (answer : Reply) × (s ≡ step.Go (suc k)) × (action_of state operation ≡ act.End answer) × (now.events ≡ past.events ++ End operation.id answer ∷ [])
 
 -- what runs before a step runs after it, or ends with it
-pub runs_on : (state : State) (s : Step) (o : Outcome) (after : State) → Moves state s o after → (k : ℕ) (operation : Operation) → Runs state k operation →
-    IsEnded state s after k operation ⊎ ((found : Operation) × Runs after k found × IsSame operation found)
-runs_on state s o after (Begins {actor} {call} d) k operation at_k = elim (write_cases state.actors (actor - 1) k (Some (begun_operation state call)) operation at_k) [
+pub runs_on : (state : State) (past : Record) (s : Step) (o : Outcome) (after : State) → Moves state s o after → (k : ℕ) (operation : Operation) → Runs state k operation →
+    IsEnded state past s (noted past state.steps (told_in state s)) k operation ⊎ ((found : Operation) × Runs after k found × IsSame operation found)
+runs_on state past s o after (Begins {actor} {call} d) k operation at_k = elim (write_cases state.actors (actor - 1) k (Some (begun_operation state call)) operation at_k) [
   | inl here ↦ absurd (begin_not_running state k actor call operation d (actor_at actor k (begin_counts state actor call d) here.0) at_k)
   | inr there ↦ inr (operation, rw begin_actors there.1, record { id = refl; call = refl; opens = refl; access = refl })
 ]
-runs_on state s o after (Goes {actor} {operation = own} d is a g) k operation at_k = elim (write_cases state.actors (actor - 1) k (Some (operation_after state own)) operation at_k) [
+runs_on state past s o after (Goes {actor} {operation = own} d is a g) k operation at_k = elim (write_cases state.actors (actor - 1) k (Some (operation_after state own)) operation at_k) [
   | inl here ↦
       let at_own = at_place state actor k own (actor_at actor k (go_counts state actor d) here.0) is in
       let (found, at_found, same) = marked_runs (marks_by state (Some own)) (set state.actors (actor - 1) (Some (operation_after state own))) k (operation_after state own) here.1 in
@@ -100,11 +103,17 @@ runs_on state s o after (Goes {actor} {operation = own} d is a g) k operation at
       let (found, at_found, same) = marked_runs (marks_by state (Some own)) (set state.actors (actor - 1) (Some (operation_after state own))) k operation there.1 in
       inr (found, rw gone_actors at_found, same)
 ]
-runs_on state s o after (Ends {actor} {operation = own} {answer} d is a) k operation at_k = elim (write_cases state.actors (actor - 1) k None operation at_k) [
+runs_on state past s o after (Ends {actor} {operation = own} {answer} d is a) k operation at_k = elim (write_cases state.actors (actor - 1) k None operation at_k) [
   | inl here ↦
       let own_place = actor_at actor k (go_counts state actor d) here.0 in
       let one = one_at state k own operation (at_place state actor k own own_place is) at_k in
-      inl (answer, ap (λ a. step.Go a) own_place, subst (λ x. action_of state x ≡ act.End answer) one a, ap (λ (x : Operation). state.events ++ End x.id answer ∷ []) one)
+      inl (
+        answer,
+        ap (λ a. step.Go a) own_place,
+        subst (λ x. action_of state x ≡ act.End answer) one a,
+        ap (λ (r : Record). r.events)
+            (noted_ending state past actor own answer is a) ∙ ap (λ (x : Operation). past.events ++ End x.id answer ∷ []) one,
+      )
   | inr there ↦ inr (operation, there.1, record { id = refl; call = refl; opens = refl; access = refl })
 ]
-runs_on state s o after (Sweeps spent) k operation at_k = inr (operation, at_k, record { id = refl; call = refl; opens = refl; access = refl })
+runs_on state past s o after (Sweeps spent) k operation at_k = inr (operation, at_k, record { id = refl; call = refl; opens = refl; access = refl })

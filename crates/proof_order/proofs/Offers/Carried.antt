@@ -6,20 +6,20 @@ use Rattle.proof_order.specs.Beneath.machine_model.specs.declared.operations.Ope
 use Rattle.proof_order.specs.Beneath.machine_model.specs.declared.roots.Descriptor.{Descriptor}
 use Rattle.proof_order.specs.Beneath.machine_model.specs.declared.steps.Outcome.{Outcome}
 use Rattle.proof_order.specs.Beneath.machine_model.specs.declared.steps.Step.{Step}
-use Rattle.proof_order.specs.Beneath.machine_model.specs.declared.steps.Limits.{Limits}
+use Rattle.proof_order.specs.Beneath.machine_model.specs.declared.steps.Bounds.{Bounds}
 use Rattle.proof_order.specs.Beneath.machine_model.specs.States.{State, root_at}
-use Rattle.proof_order.specs.Beneath.machine_model.specs.Orders.{is_placed}
 use Rattle.proof_order.specs.Beneath.machine_model.specs.Moves.{Moves}
 use Rattle.proof_generations.proofs.Handles.Operations.{has_handles_at}
-use Rattle.proof_order.specs.Facts.{IsReply, Runs, On, IsFresh, Opens, CarriesOut, Facts}
+use Rattle.proof_order.specs.Facts.{IsReply, Runs, On, IsFresh, Opens, CarriesOut, Facts, Notes}
 use Rattle.proof_order.specs.Beneath.machine_model.specs.Copying.{copied_reply}
 use Rattle.proof_order.specs.Beneath.machine_model.specs.Times.{IsRun}
 use Rattle.proof_order.proofs.History.Answering.{carried_reply}
 use Rattle.proof_order.proofs.Offers.Honest.{offerer_of}
 use Rattle.proof_order.proofs.Offers.Known.{Offers}
+use Rattle.proof_order.specs.Beneath.machine_model.specs.Records.{is_placed, Record}
 
 -- an offer that is carried out, with the operation that made it
-pub record Carried (states : ℕ → State) (last : ℕ) (V : ℕ → ℕ → KeyMap) (t handle : ℕ) (offer : Descriptor) : Type 0 where
+pub record Carried (states : ℕ → State) (records : ℕ → Record) (last : ℕ) (V : ℕ → ℕ → KeyMap) (t handle : ℕ) (offer : Descriptor) : Type 0 where
   pub k : ℕ
   pub offerer : Operation
   pub runs : Runs (states t) k offerer
@@ -28,18 +28,20 @@ pub record Carried (states : ℕ → State) (last : ℕ) (V : ℕ → ℕ → Ke
   -- the number that it opens isn't open
   pub free : (n : ℕ) → offer.opens ≡ Some n → root_at (states t) n ≡ None
   -- it answers that it was carried out
-  pub agrees : IsReply (states last).events offer.operation (copied_reply offerer.call offerer.opens)
-  pub unplaced : is_placed (states t) offer.operation ≡ false
+  pub agrees : IsReply (records last).events offer.operation (copied_reply offerer.call offerer.opens)
+  pub unplaced : is_placed (records t) offer.operation ≡ false
   pub stands : On states t handle (generation_at (states t).heap offer.root)
-  pub is_fresh : IsFresh (states t) (generation_at (states t).heap offer.successor)
-  pub opens : Opens states last V t handle (generation_at (states t).heap offer.root) offer offerer.call
+  pub is_fresh : IsFresh (states t) (records t) (generation_at (states t).heap offer.successor)
+  pub opens : Opens states records last V t handle (generation_at (states t).heap offer.root) offer offerer.call
 
 -- the facts, of the operation that made it
-pub carried : (limits : Limits) (states : ℕ → State) (last : ℕ) → IsRun limits states last → (V : ℕ → ℕ → KeyMap) → Facts limits states last V → (t : ℕ) (s : Step) (o : Outcome) → t < last →
-    Moves (states t) s o (states (suc t)) → (handle : ℕ) (offer : Descriptor) → CarriesOut (states t) s handle offer → Offers (states t) → Carried states last V t handle offer
-carried limits states last r V facts t s o lt m handle offer carries offers =
+pub carried : (limits : Bounds) (states : ℕ → State) (last : ℕ) (r : IsRun limits states last) (V : ℕ → ℕ → KeyMap) → Facts limits states r.records last V →
+    (t : ℕ) (s : Step) (o : Outcome) → t < last →
+    Moves (states t) s o (states (suc t)) → Notes states r.records t s → (handle : ℕ) (offer : Descriptor) → CarriesOut (states t) s handle offer →
+    Offers (states t) (r.records t) → Carried states r.records last V t handle offer
+carried limits states last r V facts t s o lt m notes handle offer carries offers =
     let st = offerer_of (states t) offers s handle offer carries in
-    let facts_of = facts.swaps t s o lt m handle offer carries st.k st.operation st.runs st.id in
+    let facts_of = facts.swaps t s o lt m notes handle offer carries st.k st.operation st.runs st.id in
     record {
       k = st.k;
       offerer = st.operation;
@@ -47,7 +49,7 @@ carried limits states last r V facts t s o lt m handle offer carries offers =
       is_its = st.id;
       number = st.opens;
       free = λ n e. (has_handles_at limits states last r t (omega arith)).1.unopened st.k n st.operation st.runs st.unmarked (st.opens ∙ e);
-      agrees = carried_reply limits states last r t s o lt m handle offer carries st.k st.operation st.runs st.id;
+      agrees = carried_reply limits states last r t s o lt m notes handle offer carries st.k st.operation st.runs st.id;
       unplaced = facts_of.unplaced;
       stands = facts_of.stands;
       is_fresh = facts_of.is_fresh;

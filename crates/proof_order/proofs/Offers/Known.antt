@@ -13,18 +13,19 @@ use Rattle.proof_generations.proofs.Offers.Standing.{own_numbers, completes_it}
 use Rattle.proof_generations.proofs.Offers.Same.{HasOffers}
 use Rattle.proof_order.specs.Facts.{Runs}
 use Rattle.proof_order.proofs.History.Books.{Books, id_below}
+use Rattle.proof_order.specs.Beneath.machine_model.specs.Records.{Record}
 
 -- who runs has begun
-pub running_below : (state : State) → Books state → (k : ℕ) (operation : Operation) → Runs state k operation → operation.id < begun state.events
-running_below state books k operation runs =
+pub running_below : (state : State) {past : Record} → Books state past → (k : ℕ) (operation : Operation) → Runs state k operation → operation.id < begun past.events
+running_below state {past} books k operation runs =
     let told = books.told k operation runs in
     let says : Told = record { actor = suc k; call = operation.call; opens = operation.opens } in
-    id_below state.events told.place operation.id says books.well_formed told.begins
+    id_below past.events told.place operation.id says books.well_formed told.begins
 
 -- ---- whose an offer is
 
-pub record Offers (state : State) : Type 0 where
-  pub books : Books state
+pub record Offers (state : State) (past : Record) : Type 0 where
+  pub books : Books state past
   pub own : HasOffers state
 
 -- an offer that stands on a handle: its operation completes it, without a mark
@@ -40,7 +41,7 @@ pub record OfferStands (state : State) (handle : ℕ) (offer : Descriptor) : Typ
   pub at : operation.line ≡ line.Copy (copy.Complete c)
   pub its : c.offer ≡ offer
 
-pub stands : (state : State) → Offers state → (handle : ℕ) (offer : Descriptor) → word_at state handle ≡ Offer offer → OfferStands state handle offer
+pub stands : (state : State) {past : Record} → Offers state past → (handle : ℕ) (offer : Descriptor) → word_at state handle ≡ Offer offer → OfferStands state handle offer
 stands state offers handle offer word =
     let b = offers.own.offers handle offer word in
     let mine = own_numbers b.owner offer (offers.own.own b.k b.owner b.runs) b.completes in

@@ -6,7 +6,7 @@ use Rattle.proof_order.specs.Beneath.machine_model.specs.declared.actions.Action
 use Rattle.proof_order.specs.Beneath.machine_model.specs.declared.actions.Action.TheVariants as act
 use Rattle.proof_order.specs.Beneath.machine_model.specs.declared.operations.Operation.{Operation}
 use Rattle.proof_order.specs.Beneath.machine_model.specs.declared.roots.Descriptor.{Descriptor}
-use Rattle.proof_order.specs.Beneath.machine_model.specs.declared.steps.Limits.{Limits}
+use Rattle.proof_order.specs.Beneath.machine_model.specs.declared.steps.Bounds.{Bounds}
 use Rattle.proof_order.specs.Beneath.machine_model.specs.declared.steps.Step.{Step}
 use Rattle.proof_order.specs.Beneath.machine_model.specs.declared.steps.Step.TheVariants as step
 use Rattle.proof_order.specs.Beneath.machine_model.specs.Calls.{handle_of}
@@ -14,15 +14,15 @@ use Rattle.proof_order.specs.Beneath.machine_model.specs.States.{State, first_st
 use Rattle.proof_order.specs.Beneath.machine_model.specs.Swapping.{is_carried_out}
 use Rattle.proof_order.specs.Beneath.machine_model.specs.Operations.{action_of}
 use Rattle.proof_order.specs.Beneath.machine_model.proofs.Found.{none_found}
-use Rattle.proof_order.specs.Beneath.machine_model.proofs.Times.{at_each_time}
 use Rattle.proof_order.specs.Beneath.machine_model.specs.Times.{IsRun}
 use Rattle.proof_order.specs.Beneath.machine_model.proofs.Actors.{marks_in, marks_by, marks_of}
 use Rattle.proof_generations.proofs.Handles.Running.{place_of_actor}
 use Rattle.proof_generations.proofs.Offers.Same.{has_offers_after, no_offers_at_first}
 use Rattle.proof_order.specs.Facts.{Runs}
 use Rattle.proof_order.proofs.History.AllBooks.{books_kept, first_books}
-use Rattle.proof_order.proofs.History.Growing.{IsKept}
 use Rattle.proof_order.proofs.Offers.Known.{Offers}
+use Rattle.proof_order.specs.Beneath.machine_model.proofs.Recorded.{KeptByNotes, at_each_record}
+use Rattle.proof_order.specs.Beneath.machine_model.specs.Records.{first_record}
 
 -- ---- who is marked
 
@@ -62,15 +62,15 @@ marks_says state step.Sweep id e = absurd (none-some id e)
 
 -- ---- at each time
 
-pub nobody : (limits : Limits) (k : ℕ) (operation : Operation) → Runs (first_state limits) k operation → ⊥
+pub nobody : (limits : Bounds) (k : ℕ) (operation : Operation) → Runs (first_state limits) k operation → ⊥
 unfolding first_state
 nobody limits k operation at_k = none_found limits.actors k operation at_k
 
-pub offers_kept : IsKept Offers
-offers_kept state s o after m offers = record { books = books_kept state s o after m offers.books; own = has_offers_after state offers.own s o after m }
+pub offers_kept : KeptByNotes Offers
+offers_kept state past s o after m offers = record { books = books_kept state past s o after m offers.books; own = has_offers_after state offers.own s o after m }
 
-pub first_offers : (limits : Limits) → Offers (first_state limits)
+pub first_offers : (limits : Bounds) → Offers (first_state limits) (first_record limits)
 first_offers limits = record { books = first_books limits; own = no_offers_at_first limits }
 
-pub offers_at : (limits : Limits) (states : ℕ → State) (last : ℕ) → IsRun limits states last → (t : ℕ) → t ≤ last → Offers (states t)
-offers_at limits states last r = at_each_time limits states last r Offers (first_offers limits) offers_kept
+pub offers_at : (limits : Bounds) (states : ℕ → State) (last : ℕ) (r : IsRun limits states last) (t : ℕ) → t ≤ last → Offers (states t) (r.records t)
+offers_at limits states last r = at_each_record limits states last r Offers (first_offers limits) offers_kept

@@ -12,7 +12,7 @@ use Rattle.proof_order.specs.Beneath.machine_model.specs.declared.operations.Ope
 use Rattle.proof_order.specs.Beneath.machine_model.specs.declared.reading.After.{After}
 use Rattle.proof_order.specs.Beneath.machine_model.specs.declared.reading.After.TheVariants.{Goes as Continues, Gives}
 use Rattle.proof_order.specs.Beneath.machine_model.specs.declared.roots.RootLine.{RootLine}
-use Rattle.proof_order.specs.Beneath.machine_model.specs.declared.steps.Limits.{Limits}
+use Rattle.proof_order.specs.Beneath.machine_model.specs.declared.steps.Bounds.{Bounds}
 use Rattle.proof_order.specs.Beneath.machine_model.specs.declared.steps.Outcome.{Outcome}
 use Rattle.proof_order.specs.Beneath.machine_model.specs.declared.steps.Step.{Step}
 use Rattle.proof_order.specs.Beneath.machine_model.specs.declared.steps.Step.TheVariants as step
@@ -88,7 +88,7 @@ module _ (state : State) (operation : Operation) (b : Ref) where
   cleared_makes (line.Root l) is = absurd (root_makes l is)
   cleared_makes l is = absurd (no_copy (line_after state operation l) b (no_copy_after state operation l refl refl) is)
 
-module _ (limits : Limits) (states : ℕ → State) (last : ℕ) (run : IsRun limits states last) where
+module _ (limits : Bounds) (states : ℕ → State) (last : ℕ) (run : IsRun limits states last) where
   abbrev AllEmpty : ℕ → Type 0
   AllEmpty t = (k : ℕ) (operation : Operation) (b : Ref) → Runs (states t) k operation → IsCleared operation.line b → node_under states last b ≡ empty_branch
 
@@ -111,4 +111,4 @@ module _ (limits : Limits) (states : ℕ → State) (last : ℕ) (run : IsRun li
         ]
 
   pub empty_at : (t : ℕ) → t ≤ last → AllEmpty t
-  empty_at = along_moves limits states last run AllEmpty (λ none k operation b at_k. absurd (none k operation at_k)) empty_next
+  empty_at = along_moves limits states last run AllEmpty (λ none k operation b at_k. absurd (none k operation at_k)) (λ t h so_far s o m notes. empty_next t h so_far s o m)

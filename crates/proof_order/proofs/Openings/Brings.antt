@@ -7,12 +7,12 @@ use Rattle.proof_order.specs.Beneath.slot_arena.specs.declared.refs.Ref.{Ref}
 use Rattle.proof_order.specs.Beneath.slot_arena.specs.Heaps.{generation_at}
 use Rattle.proof_order.specs.Beneath.machine_model.specs.declared.operations.Operation.{Operation}
 use Rattle.proof_order.specs.Beneath.machine_model.specs.declared.roots.Descriptor.{Descriptor}
-use Rattle.proof_order.specs.Beneath.machine_model.specs.declared.steps.Limits.{Limits}
+use Rattle.proof_order.specs.Beneath.machine_model.specs.declared.steps.Bounds.{Bounds}
 use Rattle.proof_order.specs.Beneath.machine_model.specs.declared.steps.Step.{Step}
 use Rattle.proof_order.specs.Beneath.machine_model.specs.Calls.{handle_of, opens_handle}
 use Rattle.proof_order.specs.Beneath.machine_model.specs.States.{State, first_state, operation_of}
 use Rattle.proof_order.specs.Beneath.machine_model.specs.Acting.{operation_after}
-use Rattle.proof_order.specs.Beneath.machine_model.specs.Machine.{least_free}
+use Rattle.proof_order.specs.Beneath.machine_model.specs.Machine.{least_free, run}
 use Rattle.proof_order.specs.Beneath.machine_model.proofs.Actors.{mark_only, marks_in}
 use Rattle.proof_order.specs.Beneath.machine_model.proofs.Found.{none_found}
 use Rattle.proof_order.specs.Beneath.machine_model.proofs.Times.{at_each_time}
@@ -49,25 +49,25 @@ numbered state call = by (opens_handle call)
 
 numbers_by : (state : State) (s : Step) → HaveNumbers state → (k : ℕ) (found : Operation) → Comes state s k found → is_some found.opens ≡ opens_handle found.call
 numbers_by state s all k found (began call is d it) = ap (λ (x : Operation). is_some x.opens) it ∙ numbered state call ∙ ap (λ (x : Operation). opens_handle x.call) (sym it)
-numbers_by state s all k found (rested was at_k it) =
+numbers_by state s all k found (rested was at_k it other_step) =
     let same = it ∙ mark_only (marks_in state s) was in
     ap (λ (x : Operation). is_some x.opens) same ∙ all k was at_k ∙ ap (λ (x : Operation). opens_handle x.call) (sym same)
 numbers_by state s all k found (went was is at_k g it) =
     let same = it ∙ mark_only (marks_in state s) (operation_after state was) in
     ap (λ (x : Operation). is_some x.opens) same ∙ all k was at_k ∙ ap (λ (x : Operation). opens_handle x.call) (sym same)
 
-numbers_at_first : (limits : Limits) → HaveNumbers (first_state limits)
+numbers_at_first : (limits : Bounds) → HaveNumbers (first_state limits)
 unfolding first_state
 numbers_at_first limits k operation at_k = absurd (none_found limits.actors k operation at_k)
 
-numbers_at : (limits : Limits) (states : ℕ → State) (last : ℕ) → IsRun limits states last → (t : ℕ) → t ≤ last → HaveNumbers (states t)
+numbers_at : (limits : Bounds) (states : ℕ → State) (last : ℕ) (run : IsRun limits states last) → (t : ℕ) → t ≤ last → HaveNumbers (states t)
 numbers_at limits states last run =
     at_each_time limits states last run HaveNumbers (numbers_at_first limits) (λ before s o after m all k found now. numbers_by before s all k found (comes before s o after m k found now))
 
 -- ---- the new roots
 
-module _ (limits : Limits) (states : ℕ → State) (last : ℕ) (run : IsRun limits states last)
-    (t handle : ℕ) (offer : Descriptor) (swap : IsSwap states last t handle offer) where
+module _ (limits : Bounds) (states : ℕ → State) (last : ℕ) (run : IsRun limits states last)
+    (t handle : ℕ) (offer : Descriptor) (swap : IsSwap states run.records last t handle offer) where
   abbrev by : StandsBy (states t) handle offer
   by = offerer limits states last run t handle offer swap
 
@@ -155,7 +155,7 @@ module _ (limits : Limits) (states : ℕ → State) (last : ℕ) (run : IsRun li
       let (k, place, at_k) = place_of_actor (states t) actor operation is in
       one_of_id (states t) (ordered limits states last run t handle offer swap).offers.ids by.k k by.owner operation by.runs at_k (sym (offers limits states last run t handle offer swap).its ∙ sym id)
 
-pub swaps_bring : (limits : Limits) (states : ℕ → State) (last : ℕ) → IsRun limits states last → SwapsBring states last
+pub swaps_bring : (limits : Bounds) (states : ℕ → State) (last : ℕ) (run : IsRun limits states last) → SwapsBring states run.records last
 swaps_bring limits states last run t handle offer swap actor operation is id =
     subst (λ (x : Operation). Brings states last t handle offer x.call) (offered_by limits states last run t handle offer swap actor operation is id)
     (brings_owner limits states last run t handle offer swap)

@@ -10,7 +10,7 @@ use Rattle.proof_order.specs.Beneath.machine_model.specs.declared.operations.Ope
 use Rattle.proof_order.specs.Beneath.machine_model.specs.declared.roots.Descriptor.{Descriptor}
 use Rattle.proof_order.specs.Beneath.machine_model.specs.declared.roots.Root.{Root}
 use Rattle.proof_order.specs.Beneath.machine_model.specs.declared.roots.RootWord.TheVariants.{Offer}
-use Rattle.proof_order.specs.Beneath.machine_model.specs.declared.steps.Limits.{Limits}
+use Rattle.proof_order.specs.Beneath.machine_model.specs.declared.steps.Bounds.{Bounds}
 use Rattle.proof_order.specs.Beneath.machine_model.specs.declared.steps.Step.{Step}
 use Rattle.proof_order.specs.Beneath.machine_model.specs.declared.steps.Step.TheVariants as step
 use Rattle.proof_order.specs.Beneath.machine_model.specs.Calls.{handle_of}
@@ -29,6 +29,7 @@ use Rattle.proof_generations.proofs.Roots.Along.{IsOrdered, ordered_at, offer_wr
 use Rattle.proof_order.specs.Facts.{CarriesOut, On, IsFresh, standing_of}
 use Rattle.proof_order.specs.Openings.{IsSwap}
 use Rattle.proof_order.specs.Beneath.machine_model.proofs.Basics.{not_offer}
+use Rattle.proof_order.specs.Beneath.machine_model.specs.Records.{Record}
 
 -- what carries an offer out, told apart
 pub record Carried (state : State) (s : Step) (handle : ℕ) (offer : Descriptor) : Type 0 where
@@ -51,16 +52,16 @@ pub record IsOffered (state : State) (handle : ℕ) (offer : Descriptor) : Type 
   pub word : root.word ≡ Offer offer
   pub writable : root.access ≡ Writable
 
-pub offered_root : (state : State) → IsSafe state → IsOrdered state → (handle : ℕ) (offer : Descriptor) → word_at state handle ≡ Offer offer → IsOffered state handle offer
-offered_root state S I handle offer e = by (root_at state handle) refl e
+pub offered_root : (state : State) (past : Record) → IsSafe state → IsOrdered state past → (handle : ℕ) (offer : Descriptor) → word_at state handle ≡ Offer offer → IsOffered state handle offer
+offered_root state past S I handle offer e = by (root_at state handle) refl e
   where
     by : (o : Option Root) → root_at state handle ≡ o → word_of o ≡ Offer offer → IsOffered state handle offer
     by None is w = absurd (not_offer _ offer w)
-    by (Some root) is w = record { root = root; is_open = is; word = w; writable = offer_writable state S I handle root offer is w }
+    by (Some root) is w = record { root = root; is_open = is; word = w; writable = offer_writable state past S I handle root offer is w }
 
 -- what no handle's root has is fresh
-pub fresh_unused : (state : State) (g : ℕ) → IsUnused state g → IsFresh state g
-fresh_unused state g u = (u.unclosed, λ handle access e. by handle access (root_at state handle) refl e)
+pub fresh_unused : (state : State) (past : Record) (g : ℕ) → IsUnused state past g → IsFresh state past g
+fresh_unused state past g u = (u.unclosed, λ handle access e. by handle access (root_at state handle) refl e)
   where
     gens : (p q : Access × ℕ) → Some p ≡ Some q → p.1 ≡ q.1
     gens p q e = ap (λ (x : Access × ℕ). x.1) (same_Some p q e)
@@ -69,11 +70,11 @@ fresh_unused state g u = (u.unclosed, λ handle access e. by handle access (root
     by handle access None is e = none-some _ e
     by handle access (Some root) is e = u.alone handle root is (gens (root.access, gen state root) (access, g) e)
 
-module _ (limits : Limits) (states : ℕ → State) (last : ℕ) (r : IsRun limits states last) (t handle : ℕ) (offer : Descriptor) (swap : IsSwap states last t handle offer) where
+module _ (limits : Bounds) (states : ℕ → State) (last : ℕ) (r : IsRun limits states last) (t handle : ℕ) (offer : Descriptor) (swap : IsSwap states r.records last t handle offer) where
   pub safe : IsSafe (states t)
   safe = safe_at limits states last r t (omega (arith, swap.taken))
 
-  pub ordered : IsOrdered (states t)
+  pub ordered : IsOrdered (states t) (r.records t)
   ordered = ordered_at limits states last r t (omega (arith, swap.taken))
 
   pub mover : Carried (states t) swap.step handle offer
@@ -87,7 +88,7 @@ module _ (limits : Limits) (states : ℕ → State) (last : ℕ) (r : IsRun limi
   word = ap (word_at (states t)) (sym mover.on) ∙ carried_stands (states t) ordered.offers mover.actor mover.mover offer mover.moves carries
 
   pub root : IsOffered (states t) handle offer
-  root = offered_root (states t) safe ordered handle offer word
+  root = offered_root (states t) (r.records t) safe ordered handle offer word
 
   -- the handle is writable, and its root is the offer's
   pub swap_stands : On states t handle (generation_at (states t).heap offer.root)
@@ -95,21 +96,21 @@ module _ (limits : Limits) (states : ℕ → State) (last : ℕ) (r : IsRun limi
       ap (standing_of (states t).heap) root.is_open ∙ ap (λ a. Some (a, generation_at (states t).heap (root_of root.root.word))) root.writable
       ∙ ap (λ w. Some (Writable, generation_at (states t).heap (root_of w))) root.word
 
-  pub unused : (x : Bool) (q : Ref) → fresh_of x offer ≡ Some q → IsUnused (states t) (generation_at (states t).heap q)
-  unused x q e = offered_unused (states t) ordered handle offer word x q e
+  pub unused : (x : Bool) (q : Ref) → fresh_of x offer ≡ Some q → IsUnused (states t) (r.records t) (generation_at (states t).heap q)
+  unused x q e = offered_unused (states t) (r.records t) ordered handle offer word x q e
 
   -- the generations that it brings are fresh, and differ
-  pub swap_is_fresh : IsFresh (states t) (generation_at (states t).heap offer.successor)
-  swap_is_fresh = fresh_unused (states t) _ (unused true offer.successor refl)
+  pub swap_is_fresh : IsFresh (states t) (r.records t) (generation_at (states t).heap offer.successor)
+  swap_is_fresh = fresh_unused (states t) (r.records t) _ (unused true offer.successor refl)
 
-  pub second_is_fresh : (second : Ref) → offer.second ≡ Some second → IsFresh (states t) (generation_at (states t).heap second)
-  second_is_fresh second e = fresh_unused (states t) _ (unused false second e)
+  pub second_is_fresh : (second : Ref) → offer.second ≡ Some second → IsFresh (states t) (r.records t) (generation_at (states t).heap second)
+  second_is_fresh second e = fresh_unused (states t) (r.records t) _ (unused false second e)
 
   pub second_differs : (second : Ref) → offer.second ≡ Some second → generation_at (states t).heap second ≡ generation_at (states t).heap offer.successor → ⊥
-  second_differs second e = offered_apart (states t) ordered handle offer word second e
+  second_differs second e = offered_apart (states t) (r.records t) ordered handle offer word second e
 
 -- a step leaves the generation of a handle's root as it is
-pub keeps_generation : (limits : Limits) (states : ℕ → State) (last : ℕ) → IsRun limits states last → (t handle : ℕ) (root : Root) → t < last → root_at (states t) handle ≡ Some root →
+pub keeps_generation : (limits : Bounds) (states : ℕ → State) (last : ℕ) (r : IsRun limits states last) → (t handle : ℕ) (root : Root) → t < last → root_at (states t) handle ≡ Some root →
     generation_at (states (suc t)).heap (root_of root.word) ≡ generation_at (states t).heap (root_of root.word)
 keeps_generation limits states last r t handle root within e = by (r.turn t within)
   where

@@ -5,7 +5,7 @@ use Rattle.proof_order.specs.Beneath.slot_arena.specs.Heaps.{node_at, node_of, l
 use Rattle.proof_order.specs.Beneath.machine_model.specs.declared.roots.Root.{Root}
 use Rattle.proof_order.specs.Beneath.machine_model.specs.declared.roots.RootWord.{RootWord}
 use Rattle.proof_order.specs.Beneath.machine_model.specs.declared.roots.RootWord.TheVariants.{Plain, Offer}
-use Rattle.proof_order.specs.Beneath.machine_model.specs.declared.steps.Limits.{Limits}
+use Rattle.proof_order.specs.Beneath.machine_model.specs.declared.steps.Bounds.{Bounds}
 use Rattle.proof_order.specs.Beneath.machine_model.specs.States.{State, root_at, root_of}
 use Rattle.proof_order.specs.Beneath.machine_model.specs.Grown.{node_under}
 use Rattle.proof_order.specs.Beneath.machine_model.specs.Times.{IsRun}
@@ -32,7 +32,7 @@ use Rattle.proof_order.specs.Beneath.proof_commits.proofs.Known.MainsInUse.{logi
 use Rattle.proof_order.specs.Beneath.proof_commits.proofs.Known.Acts.{known_run}
 use Rattle.proof_generations.proofs.Falling.Nodes.{nodes_stay}
 
-module _ (limits : Limits) (states : ℕ → State) (last : ℕ) (run : IsRun limits states last) where
+module _ (limits : Bounds) (states : ℕ → State) (last : ℕ) (run : IsRun limits states last) where
   stands : (t handle : ℕ) (root : Root) → root_at (states t) handle ≡ Some root → IsRootOf states t handle (root_of root.word) (root_generation (states t) root)
   stands t handle root e = record { root = root; is_open = e; is = refl; its = refl }
 
@@ -65,7 +65,7 @@ module _ (limits : Limits) (states : ℕ → State) (last : ℕ) (run : IsRun li
       logical_standing limits states last (known_run limits states last run) t within r used.0 used.1 link ∙ sym (counting_main-made states last t r (ap is_some there))
 
   -- the root of a generation has one main node from its closing on
-  module _ (closed generation : ℕ) (so : ClosesSo states last closed generation) where
+  module _ (closed generation : ℕ) (so : ClosesSo states run.records last closed generation) where
     pub closed_root : trie.root_of_generation states last generation ≡ so.offer.root
     closed_root =
         let within = so.swap.taken in
@@ -75,7 +75,7 @@ module _ (limits : Limits) (states : ℕ → State) (last : ℕ) (run : IsRun li
     final : (r : Ref) → trie.root_of_generation states last generation ≡ r → (u : ℕ) → closed ≤ u → u ≤ last → counting_main states last u r ≡ so.offer.expected
     final r is u after inside = ap (λ q. counting_main states last u q) (sym is ∙ closed_root) ∙ no_late_commit limits states last run closed so.handle so.offer so.swap u after inside
 
-  pub closed_roots_stay : ClosedRootsStayIn states last
+  pub closed_roots_stay : ClosedRootsStayIn states run.records last
   closed_roots_stay m n k closed handle root le e is from before within used_n used_k =
       let (earlier, so) = closing_swaps limits states last run last (root_generation (states m) root) closed (omega arith) is in
       let its = root_is m handle root le e in

@@ -17,29 +17,26 @@ use Rattle.proof_order.specs.Beneath.machine_model.specs.declared.roots.Complete
 use Rattle.proof_order.specs.Beneath.machine_model.specs.declared.roots.CompleteLine.TheVariants as complete
 use Rattle.proof_order.specs.Beneath.machine_model.specs.declared.roots.Descriptor.{Descriptor}
 use Rattle.proof_order.specs.Beneath.machine_model.specs.declared.roots.RootLine.TheVariants as root
-use Rattle.proof_order.specs.Beneath.machine_model.specs.declared.steps.Limits.{Limits}
+use Rattle.proof_order.specs.Beneath.machine_model.specs.declared.steps.Bounds.{Bounds}
 use Rattle.proof_order.specs.Beneath.machine_model.specs.declared.steps.Outcome.{Outcome}
 use Rattle.proof_order.specs.Beneath.machine_model.specs.declared.steps.Step.{Step}
 use Rattle.proof_order.specs.Beneath.machine_model.specs.declared.steps.Step.TheVariants as step
 use Rattle.proof_order.specs.Beneath.machine_model.specs.Calls.{handle_of}
 use Rattle.proof_order.specs.Beneath.machine_model.specs.States.{State, word_at, operation_of}
-use Rattle.proof_order.specs.Beneath.machine_model.specs.Reading.{read_action, read_after}
+use Rattle.proof_order.specs.Beneath.machine_model.specs.Reading.{read_after}
 use Rattle.proof_order.specs.Beneath.machine_model.specs.Swapping.{complete_after, complete_action, after_reading, of_offer}
 use Rattle.proof_order.specs.Beneath.machine_model.specs.Operations.{action_of, line_action, first_line}
-use Rattle.proof_order.specs.Beneath.machine_model.specs.Orders.{counted_from}
 use Rattle.proof_order.specs.Beneath.machine_model.specs.Acting.{gone, operation_after}
 use Rattle.proof_order.specs.Beneath.machine_model.specs.Counting.{settled}
 use Rattle.proof_order.specs.Beneath.machine_model.specs.Moves.{Begins, Goes, Ends, Sweeps}
 use Rattle.proof_order.specs.Beneath.machine_model.specs.Moves.{Moves, GoesOn}
 use Rattle.proof_order.specs.Beneath.machine_model.proofs.Actors.{mark_only, marks_in}
-use Rattle.proof_order.specs.Beneath.machine_model.proofs.Times.{steps_at}
 use Rattle.proof_order.specs.Beneath.machine_model.specs.Times.{IsRun}
-use Rattle.proof_order.specs.Beneath.proof_commits.specs.Protocol.{Words, counts_at}
+use Rattle.proof_order.specs.Beneath.proof_commits.specs.Protocol.{Words, counts_at, Reads}
 use Rattle.proof_order.specs.Beneath.proof_commits.specs.Stages.{stage_of, stage_of_complete}
 use Rattle.proof_order.specs.Beneath.proof_commits.specs.Moments.{IsMoment}
 use Rattle.proof_order.specs.Beneath.proof_commits.specs.Words.{words_of}
-use Rattle.proof_order.specs.Beneath.proof_commits.proofs.Lines.Reads.{read_counts}
-use Rattle.proof_order.specs.Beneath.proof_commits.proofs.Course.Moments.{moment_at}
+use Rattle.proof_order.specs.Beneath.proof_commits.proofs.Course.Moments.{found, counted, moment_noted}
 use Rattle.proof_order.specs.Beneath.proof_commits.proofs.Known.Acts.{known_run}
 use Rattle.proof_generations.proofs.Handles.Running.{Comes, began, rested, went, comes}
 use Rattle.proof_generations.specs.Running.{Runs}
@@ -48,6 +45,12 @@ use Rattle.proof_generations.proofs.Offers.Same.{IsKnown}
 use Rattle.proof_generations.proofs.Roots.Along.{ordered_at}
 use Rattle.proof_order.proofs.Openings.AlongMoves.{along_moves}
 use Rattle.proof_order.proofs.Openings.NextComplete.{ComesFrom, starts, goes_on, comes_from}
+use Rattle.proof_order.specs.Beneath.machine_model.specs.declared.records.Moment.{Moment}
+use Rattle.proof_order.specs.Beneath.machine_model.specs.Records.{moment_at, noted_progress, noted}
+use Rattle.proof_order.specs.Beneath.machine_model.proofs.Alike.{moment_goes, moment_rests, alike, go_actor, not_denied}
+use Rattle.proof_order.specs.Beneath.machine_model.specs.Tellings.{progress_of, told_in}
+use Rattle.proof_order.specs.Beneath.machine_model.proofs.Notes.{noted_going}
+use Rattle.proof_order.specs.Facts.{Notes}
 
 -- ---- a line in a COMPLETE
 
@@ -90,70 +93,89 @@ counts_from (read.Abort m p offer) since t read_at le (inr h) = h
 counts_from (read.Decide m p told) since t read_at le (inr h) = h
 counts_from l since t read_at le (inl e) = let wrong : ⊥ = cc e in absurd wrong
 
-module _ (limits : Limits) (states : ℕ → State) (last : ℕ) (run : IsRun limits states last) where
+module _ (limits : Bounds) (states : ℕ → State) (last : ℕ) (run : IsRun limits states last) where
   -- the words of the run, with no closing told
   abbrev pub w : Words
-  w = words_of states last (λ g. None)
+  w = words_of states run.records last (λ g. None)
 
   -- a COMPLETE that counts from a time on: at its first line, in its READ, or with what that gave
-  abbrev pub CountsSince : ℕ → ℕ → Operation → Descriptor → CompleteLine → Type 0
-  CountsSince t since operation offer (complete.Reading l) = (l ≡ read.Main) ⊎ (since ≤ operation.read_at)
-  CountsSince t since operation offer (complete.Swap main) =
-      (since ≤ operation.read_at) × ((v : ℕ) × (v < t) × IsMoment w offer.root main operation.read_at operation.moment v)
+  abbrev pub CountsSince : ℕ → ℕ → Moment → Descriptor → CompleteLine → Type 0
+  CountsSince t since n offer (complete.Reading l) = (l ≡ read.Main) ⊎ (since ≤ n.read_at)
+  CountsSince t since n offer (complete.Swap main) = (since ≤ n.read_at) × ((v : ℕ) × (v < t) × IsMoment w offer.root main n.read_at n.moment v)
 
-  pub record Since (t : ℕ) (operation : Operation) (c : Complete) : Type 0 where
+  pub record Since (t k : ℕ) (c : Complete) : Type 0 where
     pub at : ℕ
     pub past : at ≤ t
     pub known : IsKnown (states at) c.offer
-    pub counts : CountsSince t at operation c.offer c.line
+    pub counts : CountsSince t at (moment_at (run.records t) (suc k)) c.offer c.line
 
   abbrev AllSince : ℕ → Type 0
-  AllSince t = (k : ℕ) (operation : Operation) (c : Complete) → Runs (states t) k operation → completing_of operation.line ≡ Some c → Since t operation c
+  AllSince t = (k : ℕ) (operation : Operation) (c : Complete) → Runs (states t) k operation → completing_of operation.line ≡ Some c → Since t k c
 
-  counts_later : (t since : ℕ) (was found : Operation) → found.read_at ≡ was.read_at → found.moment ≡ was.moment → (offer : Descriptor) (l : CompleteLine) → CountsSince t since was offer l →
-      CountsSince (suc t) since found offer l
-  counts_later t since was found reads moment offer (complete.Reading l) (inl e) = inl e
-  counts_later t since was found reads moment offer (complete.Reading l) (inr le) = inr (omega (arith, le, reads))
-  counts_later t since was found reads moment offer (complete.Swap main) (le, (v, before, is)) =
-      (omega (arith, le, reads), (v, omega arith, subst (λ r. IsMoment w offer.root main r found.moment v) (sym reads) (subst (λ n. IsMoment w offer.root main was.read_at n v) (sym moment) is)))
+  counts_later : (t since : ℕ) (was found : Moment) → found ≡ was → (offer : Descriptor) (l : CompleteLine) → CountsSince t since was offer l → CountsSince (suc t) since found offer l
+  counts_later t since was found same offer (complete.Reading l) counts = subst (λ n. CountsSince (suc t) since n offer (complete.Reading l)) (sym same) counts
+  counts_later t since was found same offer (complete.Swap main) (le, (v, before, is)) =
+      subst (λ n. CountsSince (suc t) since n offer (complete.Swap main)) (sym same) (le, (v, omega arith, is))
 
-  module _ (t : ℕ) (within : t < last) (so_far : AllSince t) (s : Step) (o : Outcome) (m : Moves (states t) s o (states (suc t))) where
+  module _ (t : ℕ) (within : t < last) (so_far : AllSince t) (s : Step) (o : Outcome) (m : Moves (states t) s o (states (suc t))) (notes : Notes states run.records t s) where
+    -- what was known of an actor's READs, and what is
+    abbrev before_of : ℕ → Moment
+    before_of k = moment_at (run.records t) (suc k)
+
+    abbrev now_of : ℕ → Moment
+    now_of k = moment_at (run.records (suc t)) (suc k)
+
     -- a step of its READ
     module _ (k : ℕ) (was : Operation) (go : s ≡ step.Go (suc k)) (at_k : Runs (states t) k was) (g : GoesOn (action_of (states t) was)) where
-      abbrev next : Operation
-      next = operation_after (states t) was
+      moved : Moves (states t) (step.Go (suc k)) o (states (suc t))
+      moved = (went_so (states t) s o (states (suc t)) m k was go at_k g).0
 
-      read_by : (since : ℕ) → since ≤ t → (offer : Descriptor) (l : ReadLine) →
-          completing_of was.line ≡ Some (record { offer = offer; line = complete.Reading l }) → (l ≡ read.Main) ⊎ (since ≤ was.read_at) →
-          since ≤ next.read_at
-      read_by since le offer l is h =
-          let counts : next.read_at ≡ counts_at l t was.read_at =
-          ap (λ a. counted_from a (states t).steps was.read_at) (completing_action (states t) was was.line (record { offer = offer; line = complete.Reading l }) is)
-          ∙ ap (λ n. counted_from (read_action offer.root l) n was.read_at) (steps_at limits states last run t (omega arith)) ∙ read_counts offer.root l t was.read_at in
-          omega (arith, counts_from l since t was.read_at le h, counts)
+      noted_go : run.records (suc t) ≡ noted_progress (run.records t) (states t).steps (suc k) (progress_of (states t) was)
+      noted_go =
+          notes ∙ ap (λ x. noted (run.records t) (states t).steps (told_in (states t) x)) go
+          ∙ noted_going (states t) (run.records t) (suc k) was (action_of (states t) was) at_k refl g
 
-      -- what comes after it
-      goes_by : (offer : Descriptor) (l : ReadLine) → completing_of was.line ≡ Some (record { offer = offer; line = complete.Reading l }) → (since : ℕ) →
-          since ≤ t → (l ≡ read.Main) ⊎ (since ≤ was.read_at) →
-          (out : After ReadLine Ref) → read_after (states t).heap was.access (word_at (states t) (handle_of was.call)) offer.root l ≡ out → (c : Complete) →
-          of_offer offer (after_reading out) ≡ Continues c → (c.offer ≡ offer) × CountsSince (suc t) since next c.offer c.line
-      goes_by offer l is since le h (Continues x) gives c e =
-          let same : record { offer = offer; line = complete.Reading x } ≡ c = cc e in
-          (ap (λ (y : Complete). y.offer) (sym same), subst (λ (y : Complete). CountsSince (suc t) since next y.offer y.line) same (inr (read_by since le offer l is h)))
-      goes_by offer l is since le h (Gives main) gives c e =
-          let same : record { offer = offer; line = complete.Swap main } ≡ c = cc e in
-          let moved = went_so (states t) s o (states (suc t)) m k was go at_k g in
-          let moment = moment_at limits states last (known_run limits states last run) t within (suc k) was o moved.0 at_k moved.1 offer.root l
-          (completing_stage was.line (record { offer = offer; line = complete.Reading l }) is) main gives in
-          (ap (λ (y : Complete). y.offer) (sym same), subst (λ (y : Complete). CountsSince (suc t) since next y.offer y.line) same (read_by since le offer l is h, (t, omega arith, moment)))
+      module _ (offer : Descriptor) (l : ReadLine) (is : completing_of was.line ≡ Some (record { offer = offer; line = complete.Reading l })) where
+        abbrev on : stage_of was.line ≡ Reads offer.root l
+        on = completing_stage was.line (record { offer = offer; line = complete.Reading l }) is
+
+        abbrev its : Moment
+        its = found limits states last (known_run limits states last run) t within (suc k) was o moved at_k noted_go offer.root l on
+
+        now_is : now_of k ≡ its
+        now_is =
+            ap (λ r. moment_at r (suc k)) noted_go
+            ∙ moment_goes (states t) (run.records t) (suc k) was (alike limits states last run t (omega arith)) (go_actor (states t) (suc k) (not_denied moved))
+
+        read_by : (since : ℕ) → since ≤ t → (l ≡ read.Main) ⊎ (since ≤ (before_of k).read_at) → since ≤ its.read_at
+        read_by since le h =
+            let counts : its.read_at ≡ counts_at l t (before_of k).read_at = counted limits states last (known_run limits states last run) t within (suc k) was o moved at_k noted_go offer.root l on in
+            omega (arith, counts_from l since t (before_of k).read_at le h, counts)
+
+        -- what comes after it
+        goes_by : (since : ℕ) → since ≤ t → (l ≡ read.Main) ⊎ (since ≤ (before_of k).read_at) →
+            (out : After ReadLine Ref) → read_after (states t).heap was.access (word_at (states t) (handle_of was.call)) offer.root l ≡ out → (c : Complete) →
+            of_offer offer (after_reading out) ≡ Continues c → (c.offer ≡ offer) × CountsSince (suc t) since (now_of k) c.offer c.line
+        goes_by since le h (Continues x) gives c e =
+            let same : record { offer = offer; line = complete.Reading x } ≡ c = cc e in
+            let counts : since ≤ (now_of k).read_at = subst (λ (n : Moment). since ≤ n.read_at) (sym now_is) (read_by since le h) in
+            (ap (λ (y : Complete). y.offer) (sym same), subst (λ (y : Complete). CountsSince (suc t) since (now_of k) y.offer y.line) same (inr counts))
+        goes_by since le h (Gives main) gives c e =
+            let same : record { offer = offer; line = complete.Swap main } ≡ c = cc e in
+            let moment = moment_noted limits states last (known_run limits states last run) t within (suc k) was o moved at_k noted_go offer.root l on main gives in
+            let counts : CountsSince (suc t) since its offer (complete.Swap main) = (read_by since le h, (t, omega arith, moment)) in (
+              ap (λ (y : Complete). y.offer) (sym same),
+              subst (λ (y : Complete). CountsSince (suc t) since (now_of k) y.offer y.line) same
+                  (subst (λ n. CountsSince (suc t) since n offer (complete.Swap main)) (sym now_is) counts),
+            )
 
       on_by : (d c : Complete) → completing_of was.line ≡ Some d → complete_after (states t).heap was.access (word_at (states t) (handle_of was.call)) d
           ≡ Continues c → (l : CompleteLine) → d.line ≡ l →
-          Since (suc t) next c
+          Since (suc t) k c
       on_by d c is e (complete.Reading l) at_line =
           let so = so_far k was d at_k is in
           let all : record { offer = d.offer; line = complete.Reading l } ≡ d = ap (λ y. record { offer = d.offer; line = y }) (sym at_line) in
-          let kept = goes_by d.offer l (is ∙ ap Some (sym all)) so.at so.past (subst (λ y. CountsSince t so.at was d.offer y) at_line so.counts)
+          let kept = goes_by d.offer l (is ∙ ap Some (sym all)) so.at so.past (subst (λ y. CountsSince t so.at (before_of k) d.offer y) at_line so.counts)
           (read_after (states t).heap was.access (word_at (states t) (handle_of was.call)) d.offer.root l) refl c
           (ap (complete_after (states t).heap was.access (word_at (states t) (handle_of was.call))) all ∙ e) in
           record { at = so.at; past = omega (arith, so.past); known = subst (λ y. IsKnown (states so.at) y) (sym kept.0) so.known; counts = kept.1 }
@@ -162,41 +184,29 @@ module _ (limits : Limits) (states : ℕ → State) (last : ℕ) (run : IsRun li
           let wrong : ⊥ = cc swaps in
           absurd wrong
 
-    same_complete : (was found : Operation) (c : Complete) → found.read_at ≡ was.read_at → found.moment ≡ was.moment → Since t was c → Since (suc t) found c
-    same_complete was found c reads moment so = record { at = so.at; past = omega (arith, so.past); known = so.known; counts = counts_later t so.at was found reads moment c.offer c.line so.counts }
-
-    -- with the same fields
-    same_fields : (next found : Operation) (c : Complete) → found.read_at ≡ next.read_at → found.moment ≡ next.moment → Since (suc t) next c → Since (suc t) found c
-    same_fields next found c reads moment so = record { at = so.at; past = so.past; known = so.known; counts = by c.line so.counts }
-      where
-        by : (l : CompleteLine) → CountsSince (suc t) so.at next c.offer l → CountsSince (suc t) so.at found c.offer l
-        by (complete.Reading l) (inl e) = inl e
-        by (complete.Reading l) (inr le) = inr (omega (arith, le, reads))
-        by (complete.Swap main) (le, (v, before, is)) =
-            (omega (arith, le, reads), (v, before, subst (λ r. IsMoment w c.offer.root main r found.moment v) (sym reads) (subst (λ n. IsMoment w c.offer.root main next.read_at n v) (sym moment) is)))
+    same_complete : (k : ℕ) (c : Complete) → now_of k ≡ before_of k → Since t k c → Since (suc t) k c
+    same_complete k c same so =
+        record { at = so.at; past = omega (arith, so.past); known = so.known; counts = counts_later t so.at (before_of k) (now_of k) same c.offer c.line so.counts }
 
     went_by : (k : ℕ) (found was : Operation) (c : Complete) → Runs (states (suc t)) k found → completing_of found.line ≡ Some c → s ≡ step.Go (suc k) →
-        Runs (states t) k was → GoesOn (action_of (states t) was) →
-        ComesFrom (states t) was was.line c → found.read_at ≡ (operation_after (states t) was).read_at → found.moment ≡ (operation_after (states t) was).moment → Since (suc t) found c
-    went_by k found was c now e go at_k g (starts first) reads moment = record {
+        Runs (states t) k was → GoesOn (action_of (states t) was) → ComesFrom (states t) was was.line c → Since (suc t) k c
+    went_by k found was c now e go at_k g (starts first) = record {
       at = suc t;
       past = omega arith;
       known = (ordered_at limits states last run (suc t) within).offers.known k found now c.offer (inr (c, e, refl));
-      counts = subst (λ l. CountsSince (suc t) (suc t) found c.offer l) (sym first) (inl refl);
+      counts = subst (λ l. CountsSince (suc t) (suc t) (now_of k) c.offer l) (sym first) (inl refl);
     }
-    went_by k found was c now e go at_k g (goes_on before is goes) reads moment =
-        same_fields (operation_after (states t) was) found c reads moment (on_by k was go at_k g before c is goes before.line refl)
+    went_by k found was c now e go at_k g (goes_on before is goes) = on_by k was go at_k g before c is goes before.line refl
 
-    since_by : (k : ℕ) (found : Operation) (c : Complete) → Runs (states (suc t)) k found → completing_of found.line ≡ Some c → Comes (states t) s k found → Since (suc t) found c
+    since_by : (k : ℕ) (found : Operation) (c : Complete) → Runs (states (suc t)) k found → completing_of found.line ≡ Some c → Comes (states t) s k found → Since (suc t) k c
     since_by k found c now e (began call is d it) = absurd (none-some c (sym (first_none call) ∙ ap (λ (x : Operation). completing_of x.line) (sym it) ∙ e))
-    since_by k found c now e (rested was at_k it) =
+    since_by k found c now e (rested was at_k it other_step) =
         let same = it ∙ mark_only (marks_in (states t) s) was in
-        same_complete was found c (ap (λ (x : Operation). x.read_at) same) (ap (λ (x : Operation). x.moment) same)
+        same_complete k c (ap (λ r. moment_at r (suc k)) notes ∙ moment_rests (states t) (run.records t) s o (states (suc t)) m k other_step)
         (so_far k was c at_k (ap (λ (x : Operation). completing_of x.line) (sym same) ∙ e))
     since_by k found c now e (went was go at_k g it) =
         let same = it ∙ mark_only (marks_in (states t) s) (operation_after (states t) was) in
         went_by k found was c now e go at_k g (comes_from (states t) was c was.line (ap (λ (x : Operation). completing_of x.line) (sym same) ∙ e))
-        (ap (λ (x : Operation). x.read_at) same) (ap (λ (x : Operation). x.moment) same)
 
     all_next : AllSince (suc t)
     all_next k found c now e = since_by k found c now e (comes (states t) s o (states (suc t)) m k found now)

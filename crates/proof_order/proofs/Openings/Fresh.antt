@@ -24,6 +24,7 @@ use Rattle.proof_generations.proofs.Handles.Operations.{Ran, ran_or_began}
 use Rattle.proof_generations.proofs.Roots.Kept.{fresh_in, fresh_from, FreshFrom, had, new, makes_first, fresh_kept}
 use Rattle.proof_generations.proofs.Roots.Along.{IsOrdered}
 use Rattle.proof_generations.proofs.Roots.Own.{first_none}
+use Rattle.proof_order.specs.Beneath.machine_model.specs.Records.{Record}
 
 -- what a step makes stands behind it
 pub stands_made : (state : State) (S : IsSafe state) (s : Step) (o : Outcome) (after : State) → Moves state s o after → (k : ℕ) (was : Operation) →
@@ -41,7 +42,7 @@ stands_made state S s o after (Ends {actor} {operation} {answer} d is action) k 
     absurd (none-some node (ap (made_node state) (sym action ∙ ap (action_of state) one) ∙ a))
 stands_made state S s o after (Sweeps spent) k was e at_k node r a n = let wrong : ⊥ = cc e in absurd wrong
 
-module _ (state : State) (S : IsSafe state) (I : IsOrdered state) (s : Step) (o : Outcome) (after : State) (m : Moves state s o after) where
+module _ (state : State) (past : Record) (S : IsSafe state) (I : IsOrdered state past) (s : Step) (o : Outcome) (after : State) (m : Moves state s o after) where
   pub data FreshBehind (k : ℕ) (found : Operation) (x : Bool) (r : Ref) : Type 0 where
     -- its line had it
     stays : (ran : Ran state s k found) → fresh_in x ran.was.line ≡ Some r → generation_at after.heap r ≡ generation_at state.heap r → FreshBehind k found x r

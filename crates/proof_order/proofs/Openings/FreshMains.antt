@@ -9,7 +9,7 @@ use Rattle.proof_order.specs.Beneath.slot_arena.specs.Heaps.{generation_at, gene
 use Rattle.proof_order.specs.Beneath.machine_model.specs.declared.actions.Action.TheVariants as act
 use Rattle.proof_order.specs.Beneath.machine_model.specs.declared.lines.Line.{Line}
 use Rattle.proof_order.specs.Beneath.machine_model.specs.declared.operations.Operation.{Operation}
-use Rattle.proof_order.specs.Beneath.machine_model.specs.declared.steps.Limits.{Limits}
+use Rattle.proof_order.specs.Beneath.machine_model.specs.declared.steps.Bounds.{Bounds}
 use Rattle.proof_order.specs.Beneath.machine_model.specs.declared.steps.Outcome.{Outcome}
 use Rattle.proof_order.specs.Beneath.machine_model.specs.declared.steps.Step.{Step}
 use Rattle.proof_order.specs.Beneath.machine_model.specs.declared.steps.Step.TheVariants as step
@@ -50,7 +50,7 @@ use Rattle.proof_order.specs.Beneath.proof_commits.proofs.Known.Acts.{known_run}
 
 -- ---- along a run
 
-module _ (limits : Limits) (states : ℕ → State) (last : ℕ) (run : IsRun limits states last) where
+module _ (limits : Bounds) (states : ℕ → State) (last : ℕ) (run : IsRun limits states last) where
   -- the main node that was found, or, for a clear, an empty branch
   abbrev pub ShowsMain : Bool → Ref → Ref → Type 0
   ShowsMain false expected main = main ≡ expected
@@ -67,7 +67,7 @@ module _ (limits : Limits) (states : ℕ → State) (last : ℕ) (run : IsRun li
   S : (t : ℕ) → t ≤ last → IsSafe (states t)
   S t within = safe_at limits states last run t within
 
-  I : (t : ℕ) → t ≤ last → IsOrdered (states t)
+  I : (t : ℕ) → t ≤ last → IsOrdered (states t) (run.records t)
   I t within = ordered_at limits states last run t within
 
   -- a fresh root's main node stays in a step
@@ -80,7 +80,7 @@ module _ (limits : Limits) (states : ℕ → State) (last : ℕ) (run : IsRun li
       generation_found states t q used ∙ sym (generation_stays limits states last run t last (omega arith) (omega arith) q used.0 (grown_in_use states t q used.0 used.1)) in
       counting_main-stays states last t q within
       (λ is_there. unused_stays limits states last run t within q l
-      (subst (IsUnused (states t)) its ((I t (omega arith)).roots.fresh k operation x q at_k unmarked e)))
+      (subst (IsUnused (states t) (run.records t)) its ((I t (omega arith)).roots.fresh k operation x q at_k unmarked e)))
 
   module _ (t : ℕ) (within : t < last) (so_far : AllShow t) (s : Step) (o : Outcome) (m : Moves (states t) s o (states (suc t))) where
     -- ---- a root that is made
@@ -138,7 +138,7 @@ module _ (limits : Limits) (states : ℕ → State) (last : ℕ) (run : IsRun li
     -- ---- all of them
 
     show_by : (k : ℕ) (found : Operation) (x : Bool) (q : Ref) → Runs (states (suc t)) k found → found.is_marked ≡ false → fresh_in x found.line ≡ Some q →
-        FreshBehind (states t) (S t (omega arith)) (I t (omega arith)) s o (states (suc t)) m k found x q → Shows (suc t) found q
+        FreshBehind (states t) (run.records t) (S t (omega arith)) (I t (omega arith)) s o (states (suc t)) m k found x q → Shows (suc t) found q
     show_by k found x q now unmarked e (stays ran f kept) =
         let before = so_far k ran.was x q ran.at_k (ran.unmarked unmarked) f in
         let same : copied found.line ≡ copied ran.was.line = elim ran.line [
@@ -165,7 +165,7 @@ module _ (limits : Limits) (states : ℕ → State) (last : ℕ) (run : IsRun li
 
     show_next : AllShow (suc t)
     show_next k found x q now unmarked e =
-        show_by k found x q now unmarked e (fresh_behind (states t) (S t (omega arith)) (I t (omega arith)) s o (states (suc t)) m k found now x q e)
+        show_by k found x q now unmarked e (fresh_behind (states t) (run.records t) (S t (omega arith)) (I t (omega arith)) s o (states (suc t)) m k found now x q e)
 
   pub show_at : (t : ℕ) → t ≤ last → AllShow t
-  show_at = along_moves limits states last run AllShow (λ none k operation x q at_k. absurd (none k operation at_k)) show_next
+  show_at = along_moves limits states last run AllShow (λ none k operation x q at_k. absurd (none k operation at_k)) (λ t h so_far s o m notes. show_next t h so_far s o m)

@@ -8,7 +8,7 @@ use Rattle.proof_order.specs.Beneath.slot_arena.specs.Heaps.{generation_at}
 use Rattle.proof_order.specs.Beneath.machine_model.specs.declared.operations.Operation.{Operation}
 use Rattle.proof_order.specs.Beneath.machine_model.specs.declared.roots.Descriptor.{Descriptor}
 use Rattle.proof_order.specs.Beneath.machine_model.specs.declared.roots.Root.{Root}
-use Rattle.proof_order.specs.Beneath.machine_model.specs.declared.steps.Limits.{Limits}
+use Rattle.proof_order.specs.Beneath.machine_model.specs.declared.steps.Bounds.{Bounds}
 use Rattle.proof_order.specs.Beneath.machine_model.specs.declared.steps.Outcome.{Outcome}
 use Rattle.proof_order.specs.Beneath.machine_model.specs.declared.steps.Step.{Step}
 use Rattle.proof_order.specs.Beneath.machine_model.specs.Calls.{handle_of}
@@ -16,7 +16,7 @@ use Rattle.proof_order.specs.Beneath.machine_model.specs.States.{State, root_at,
 use Rattle.proof_order.specs.Beneath.machine_model.specs.Operations.{action_of}
 use Rattle.proof_order.specs.Beneath.machine_model.specs.Acting.{opened_root}
 use Rattle.proof_order.specs.Beneath.machine_model.specs.Moves.{Moves}
-use Rattle.proof_order.specs.Beneath.machine_model.specs.Times.{turns}
+use Rattle.proof_order.specs.Beneath.machine_model.specs.Times.{turns, noted_turn}
 use Rattle.proof_order.specs.Beneath.machine_model.specs.Times.{IsRun, Turn}
 use Rattle.proof_order.specs.Beneath.proof_memory.proofs.Safety.AtEachTime.{safe_at}
 use Rattle.proof_order.specs.Beneath.proof_memory.proofs.Safety.States.{IsSafe}
@@ -37,11 +37,11 @@ use Rattle.proof_order.proofs.Openings.RootOf.{roots_are_one}
 read_only : (second : Option Ref) (offer : Descriptor) → second ≡ None → (opened_root offer second).access ≡ Writable → ⊥
 read_only second offer e w = let both : ReadOnly ≡ Writable = ap (λ x. (opened_root offer x).access) (sym e) ∙ w in cc both
 
-module _ (limits : Limits) (states : ℕ → State) (last : ℕ) (run : IsRun limits states last) where
+module _ (limits : Bounds) (states : ℕ → State) (last : ℕ) (run : IsRun limits states last) where
   safe : (t : ℕ) → t ≤ last → IsSafe (states t)
   safe t within = safe_at limits states last run t within
 
-  ordered : (t : ℕ) → t ≤ last → IsOrdered (states t)
+  ordered : (t : ℕ) → t ≤ last → IsOrdered (states t) (run.records t)
   ordered t within = ordered_at limits states last run t within
 
   -- the same root has the same generation at all times
@@ -72,10 +72,10 @@ module _ (limits : Limits) (states : ℕ → State) (last : ℕ) (run : IsRun li
     module _ (actor : ℕ) (mover : Operation) (offer : Descriptor) (is : operation_of (states t) actor ≡ Some mover)
         (c : ActionCarriesOut (states t) (handle_of mover.call) (action_of (states t) mover) offer) where
       by : StandsBy (states t) (handle_of mover.call) offer
-      by = stands (states t) (safe t (omega arith)) (ordered t (omega arith)) s o (states (suc t)) m actor mover offer is c
+      by = stands (states t) (run.records t) (safe t (omega arith)) (ordered t (omega arith)) s o (states (suc t)) m actor mover offer is c
 
       before : IsOffered (states t) (handle_of mover.call) offer
-      before = old (states t) (safe t (omega arith)) (ordered t (omega arith)) s o (states (suc t)) m actor mover offer is c
+      before = old (states t) (run.records t) (safe t (omega arith)) (ordered t (omega arith)) s o (states (suc t)) m actor mover offer is c
 
       is_new : (x : _) (q : Ref) → fresh_of x offer ≡ Some q → IsNew limits states last run t by.owner q
       is_new x q e = new_at limits states last run t (omega arith) by.k by.owner x q by.runs by.unmarked (its_fresh by.owner.line offer x q by.completes e)
@@ -117,10 +117,11 @@ module _ (limits : Limits) (states : ℕ → State) (last : ℕ) (run : IsRun li
             ap (λ (x : Descriptor). generation_at (states (suc t)).heap x.successor) (one_carried (states t) (handle_of mover.call) (action_of (states t) mover) offer other c d),
           ))
       by_from (newly other n d its at_it it) =
-          by_second offer.second refl (ap (λ (x : Descriptor). x.opens) (sym (one_carried (states t) (handle_of mover.call) (action_of (states t) mover) offer other c d)) ∙ its ∙ ap Some (sym at_it))
+          by_second offer.second refl (ap (λ (x : Descriptor). x.opens) (sym (one_carried (states t) (handle_of mover.call) (action_of (states t) mover) offer other c d)) ∙ its
+          ∙ ap Some (sym at_it))
           (it ∙ ap (λ (x : Descriptor). opened_root x x.second) (one_carried (states t) (handle_of mover.call) (action_of (states t) mover) offer other c d))
 
-    rise_next : StepKind (states t) s (states (suc t)) → Rises u (suc t) handle a now
+    rise_next : StepKind (states t) (run.records t) s (states (suc t)) (run.records (suc t)) → Rises u (suc t) handle a now
     rise_next (quiet closings roots) = by_kept (roots handle now at_now)
     rise_next (swaps actor mover offer go is c closings roots) = by_from actor mover offer is c (roots handle now at_now)
 
@@ -131,11 +132,12 @@ module _ (limits : Limits) (states : ℕ → State) (last : ℕ) (run : IsRun li
   rise_at zero within u handle a b le at_u at_t w = let now : u ≡ zero = omega arith in inl (same_root zero handle a b (ap (λ v. root_at (states v) handle) (sym now) ∙ at_u) at_t)
   rise_at (suc t) within u handle a b le at_u at_t w = elim (cases_eq u (suc t)) [
     | inl now ↦ inl (same_root (suc t) handle a b (ap (λ v. root_at (states v) handle) (sym now) ∙ at_u) at_t)
-    | inr earlier ↦ by_turn (omega arith) (rise_at t (omega arith)) (run.turn t within)
+    | inr earlier ↦ by_turn (omega arith) (rise_at t (omega arith)) (run.turn t within) (run.recorded t within)
   ]
     where
-      by_turn : u ≤ t → AllRise t → Turn (states t) (states (suc t)) → Rises u (suc t) handle a b
-      by_turn below so_far (turns s o m) = rise_next t within so_far s o m u handle a b below at_u at_t w (step_kind (states t) (ordered t (omega arith)).offers s o (states (suc t)) m)
+      by_turn : u ≤ t → AllRise t → (turn : Turn (states t) (states (suc t))) → run.records (suc t) ≡ noted_turn turn (run.records t) → Rises u (suc t) handle a b
+      by_turn below so_far (turns s o m) notes = rise_next t within so_far s o m u handle a b below at_u at_t w
+          (step_kind (states t) (ordered t (omega arith)).offers (run.records t) (run.records (suc t)) s o (states (suc t)) m notes)
 
   pub handles_rise : HandlesRiseIn states last
   handles_rise n k le within handle before after at_n at_k w = rise_at k within n handle before after le at_n at_k w

@@ -4,7 +4,7 @@ use Rattle.proof_order.specs.Beneath.slot_arena.specs.declared.refs.Ref.{Ref}
 use Rattle.proof_order.specs.Beneath.slot_arena.specs.declared.nodes.Node.{Node}
 use Rattle.proof_order.specs.Beneath.slot_arena.specs.declared.nodes.Node.TheVariants.{Indirection}
 use Rattle.proof_order.specs.Beneath.slot_arena.specs.Heaps.{node_at}
-use Rattle.proof_order.specs.Beneath.machine_model.specs.declared.steps.Limits.{Limits}
+use Rattle.proof_order.specs.Beneath.machine_model.specs.declared.steps.Bounds.{Bounds}
 use Rattle.proof_order.specs.Beneath.machine_model.specs.States.{State}
 use Rattle.proof_order.specs.Beneath.machine_model.specs.Grown.{node_under}
 use Rattle.proof_order.specs.Beneath.machine_model.specs.Times.{IsRun}
@@ -16,7 +16,7 @@ use Rattle.proof_order.specs.Beneath.proof_contents.proofs.Values.Started.{node_
 use Rattle.proof_order.specs.Beneath.machine_model.proofs.Grown.{grown_in_use, node_standing}
 use Rattle.proof_generations.proofs.Falling.Nodes.{nodes_stay}
 
-module _ (limits : Limits) (states : ℕ → State) (last : ℕ) (run : IsRun limits states last) where
+module _ (limits : Bounds) (states : ℕ → State) (last : ℕ) (run : IsRun limits states last) where
   pub reaches_in_use : (t : ℕ) → t ≤ last → ReachesInUse (states t)
   reaches_in_use t within r reached = reached_in_use (states t) (safe_at limits states last run t within) r reached
 

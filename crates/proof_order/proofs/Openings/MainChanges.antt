@@ -6,7 +6,7 @@ use Rattle.proof_order.specs.Beneath.machine_model.specs.declared.lines.Line.The
 use Rattle.proof_order.specs.Beneath.machine_model.specs.declared.lines.Purpose.{Purpose}
 use Rattle.proof_order.specs.Beneath.machine_model.specs.declared.operations.Operation.{Operation}
 use Rattle.proof_order.specs.Beneath.machine_model.specs.declared.reading.Swap.{Swap}
-use Rattle.proof_order.specs.Beneath.machine_model.specs.declared.steps.Limits.{Limits}
+use Rattle.proof_order.specs.Beneath.machine_model.specs.declared.steps.Bounds.{Bounds}
 use Rattle.proof_order.specs.Beneath.machine_model.specs.Calls.{handle_of}
 use Rattle.proof_order.specs.Beneath.machine_model.specs.States.{State, operation_of}
 use Rattle.proof_order.specs.Beneath.machine_model.specs.Grown.{node_under, main_before}
@@ -38,7 +38,7 @@ pub record SwapsInto (state : State) (i : Ref) : Type 0 where
   pub stands : operation.line ≡ line.Swap why at
   pub into : at.indirection ≡ i
 
-module _ (limits : Limits) (states : ℕ → State) (last : ℕ) (run : IsRun limits states last) where
+module _ (limits : Bounds) (states : ℕ → State) (last : ℕ) (run : IsRun limits states last) where
   sound : (t : ℕ) → t ≤ last → IsSound (w limits states last run) t
   sound t within = sound_at (protocol limits states last (known_run limits states last run)) t within
 
@@ -57,18 +57,18 @@ module _ (limits : Limits) (states : ℕ → State) (last : ℕ) (run : IsRun li
   main_changes t within i l = changes_by t within i l (main_step (protocol limits states last (known_run limits states last run)) t within i l)
 
   -- nobody swaps in a generation that is on no handle and isn't closed
-  no_swap : (t : ℕ) → t < last → (i : Ref) → IsUnused (states t) (generation_of (node_under states last i)) → SwapsInto (states t) i → ⊥
+  no_swap : (t : ℕ) → t < last → (i : Ref) → IsUnused (states t) (run.records t) (generation_of (node_under states last i)) → SwapsInto (states t) i → ⊥
   no_swap t within i unused s =
       let (writable, its) = swaps_in_own_generation limits states last run t (omega arith) s.actor s.operation s.runs s.why s.at s.stands in
       let (k, place, at_k) = place_of_actor (states t) s.actor s.operation s.runs in
       let going : is_end s.operation.line ≡ false = ap is_end s.stands in
-      not_rooted states t (handle_of s.operation.call) (generation_of (node_under states last i)) unused
+      not_rooted states run.records t (handle_of s.operation.call) (generation_of (node_under states last i)) unused
       (rooted_at limits states last run t (omega arith) k s.operation (generation_of (node_under states last i)) at_k
       (no_close_at limits states last run t (omega arith) k s.operation at_k going) writable
       (its ∙ ap (λ r. Some (generation_of (node_under states last r))) s.into))
 
   -- so its main nodes stay
-  pub unused_stays : (t : ℕ) → t < last → (i : Ref) → is_indirection (node_under states t i) ≡ true → IsUnused (states t) (generation_of (node_under states last i)) →
+  pub unused_stays : (t : ℕ) → t < last → (i : Ref) → is_indirection (node_under states t i) ≡ true → IsUnused (states t) (run.records t) (generation_of (node_under states last i)) →
       main_before states (suc t) i ≡ main_before states t i
   unused_stays t within i l unused = elim (main_changes t within i l) [
     | inl same ↦ same

@@ -8,7 +8,7 @@ use Rattle.proof_order.specs.Beneath.machine_model.specs.declared.copying.CopyLi
 use Rattle.proof_order.specs.Beneath.machine_model.specs.declared.lines.Line.TheVariants as line
 use Rattle.proof_order.specs.Beneath.machine_model.specs.declared.operations.Operation.{Operation}
 use Rattle.proof_order.specs.Beneath.machine_model.specs.declared.roots.Root.{Root}
-use Rattle.proof_order.specs.Beneath.machine_model.specs.declared.steps.Limits.{Limits}
+use Rattle.proof_order.specs.Beneath.machine_model.specs.declared.steps.Bounds.{Bounds}
 use Rattle.proof_order.specs.Beneath.machine_model.specs.declared.steps.Outcome.{Outcome}
 use Rattle.proof_order.specs.Beneath.machine_model.specs.declared.steps.Step.{Step}
 use Rattle.proof_order.specs.Beneath.machine_model.specs.States.{State, root_at, root_of}
@@ -26,8 +26,9 @@ use Rattle.proof_generations.proofs.Falling.Counted.{counted}
 use Rattle.proof_order.proofs.Openings.AlongMoves.{along_moves}
 use Rattle.proof_order.proofs.Openings.Copy.{copied, copied_kept, copied_made, makes_over, line_safe, fresh_copies, over_copies}
 use Rattle.proof_order.proofs.Openings.Fresh.{FreshBehind, stays, made, fresh_behind}
+use Rattle.proof_order.specs.Facts.{Notes}
 
-module _ (limits : Limits) (states : ℕ → State) (last : ℕ) (run : IsRun limits states last) where
+module _ (limits : Bounds) (states : ℕ → State) (last : ℕ) (run : IsRun limits states last) where
   -- a handle's root up to a time has a generation that was drawn
   pub stood_below : (u t handle : ℕ) (root : Root) → u ≤ t → t ≤ last → gen (states u) root < (states t).generations
   stood_below u t handle root le within =
@@ -51,7 +52,8 @@ module _ (limits : Limits) (states : ℕ → State) (last : ℕ) (run : IsRun li
   abbrev AllNew : ℕ → Type 0
   AllNew t = (k : ℕ) (operation : Operation) (x : Bool) (r : Ref) → Runs (states t) k operation → operation.is_marked ≡ false → fresh_in x operation.line ≡ Some r → IsNew t operation r
 
-  module _ (t : ℕ) (within : t < last) (so_far : AllNew t) (s : Step) (o : Outcome) (m : Moves (states t) s o (states (suc t))) where
+  module _ (t : ℕ) (within : t < last) (so_far : AllNew t) (s : Step) (o : Outcome) (m : Moves (states t) s o (states (suc t)))
+      (notes : Notes states run.records t s) where
     -- before the step, and just behind it
     next_by : (k : ℕ) (found : Operation) (x : Bool) (r : Ref) → Runs (states (suc t)) k found → found.is_marked ≡ false → fresh_in x found.line ≡ Some r →
         ((u handle : ℕ) (root : Root) → u ≤ t → root_at (states u) handle ≡ Some root → gen (states u) root ≡ generation_at (states (suc t)).heap r → ⊥) →
@@ -70,10 +72,10 @@ module _ (limits : Limits) (states : ℕ → State) (last : ℕ) (run : IsRun li
       ];
     }
       where
-        behind : IsOrdered (states (suc t))
+        behind : IsOrdered (states (suc t)) (run.records (suc t))
         behind = ordered_at limits states last run (suc t) within
 
-        unused : IsUnused (states (suc t)) (generation_at (states (suc t)).heap r)
+        unused : IsUnused (states (suc t)) (run.records (suc t)) (generation_at (states (suc t)).heap r)
         unused = behind.roots.fresh k found x r at_k unmarked e
 
     -- a line that had it goes on over the same root
@@ -85,7 +87,8 @@ module _ (limits : Limits) (states : ℕ → State) (last : ℕ) (run : IsRun li
     ]
 
     new_by : (k : ℕ) (found : Operation) (x : Bool) (r : Ref) → Runs (states (suc t)) k found → found.is_marked ≡ false → fresh_in x found.line ≡ Some r →
-        FreshBehind (states t) (safe_at limits states last run t (omega arith)) (ordered_at limits states last run t (omega arith)) s o (states (suc t)) m k found x r → IsNew (suc t) found r
+        FreshBehind (states t) (run.records t) (safe_at limits states last run t (omega arith)) (ordered_at limits states last run t (omega arith)) s o
+        (states (suc t)) m k found x r → IsNew (suc t) found r
     new_by k found x r at_k unmarked e (stays ran f kept) =
         let before = so_far k ran.was x r ran.at_k (ran.unmarked unmarked) f in
         next_by k found x r at_k unmarked e (λ u handle root le at_handle same. before.never u handle root le at_handle (same ∙ kept))
@@ -109,7 +112,7 @@ module _ (limits : Limits) (states : ℕ → State) (last : ℕ) (run : IsRun li
     all_next : AllNew (suc t)
     all_next k found x r at_k unmarked e =
         new_by k found x r at_k unmarked e
-        (fresh_behind (states t) (safe_at limits states last run t (omega arith)) (ordered_at limits states last run t (omega arith)) s o (states (suc t)) m k found at_k x r e)
+        (fresh_behind (states t) (run.records t) (safe_at limits states last run t (omega arith)) (ordered_at limits states last run t (omega arith)) s o (states (suc t)) m k found at_k x r e)
 
   pub new_at : (t : ℕ) → t ≤ last → AllNew t
   new_at = along_moves limits states last run AllNew (λ none k operation x r at_k. absurd (none k operation at_k)) all_next

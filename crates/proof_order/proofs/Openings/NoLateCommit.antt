@@ -14,9 +14,9 @@ use Rattle.proof_order.specs.Beneath.machine_model.specs.declared.roots.Complete
 use Rattle.proof_order.specs.Beneath.machine_model.specs.declared.roots.Descriptor.{Descriptor}
 use Rattle.proof_order.specs.Beneath.machine_model.specs.declared.roots.Root.{Root}
 use Rattle.proof_order.specs.Beneath.machine_model.specs.declared.roots.RootWord.TheVariants.{Plain, Offer}
-use Rattle.proof_order.specs.Beneath.machine_model.specs.declared.steps.Limits.{Limits}
+use Rattle.proof_order.specs.Beneath.machine_model.specs.declared.steps.Bounds.{Bounds}
 use Rattle.proof_order.specs.Beneath.machine_model.specs.Calls.{handle_of}
-use Rattle.proof_order.specs.Beneath.machine_model.specs.States.{State, root_at, root_of, word_of, word_at, closed_at}
+use Rattle.proof_order.specs.Beneath.machine_model.specs.States.{State, root_at, root_of, word_of, word_at}
 use Rattle.proof_order.specs.Beneath.machine_model.specs.Swapping.{stands_in}
 use Rattle.proof_order.specs.Beneath.machine_model.specs.Operations.{line_action, read_of}
 use Rattle.proof_order.specs.Beneath.machine_model.specs.Grown.{node_under, main_before}
@@ -44,6 +44,9 @@ use Rattle.proof_order.proofs.Openings.CompleteTimes.{Since, since_at}
 use Rattle.proof_order.proofs.Openings.SwapState.{closed_for_ever, old_stands}
 use Rattle.proof_order.proofs.Openings.OfferStood.{stood_since, known_later, known_later_than_first}
 use Rattle.proof_order.specs.Beneath.machine_model.proofs.Grown.{grown_in_use}
+use Rattle.proof_order.specs.Beneath.machine_model.specs.Records.{closed_at, moment_at}
+use Rattle.proof_order.specs.Beneath.machine_model.specs.declared.records.Moment.{Moment}
+use Rattle.proof_order.specs.Facts.{Runs}
 
 -- who carries an offer out stands on the last line of a COMPLETE of it
 completes_so : (state : State) (operation : Operation) (l : Line) (offer : Descriptor) (main : Ref) → line_action state operation l ≡ act.Complete offer main →
@@ -76,18 +79,25 @@ made_later states t (suc u) i le e = elim (cases_lt t (suc u)) [
   | inr now ↦ let same : t ≡ suc u = omega arith in subst (λ v. is_made states v i ≡ true) same e
 ]
 
-module _ (limits : Limits) (states : ℕ → State) (last : ℕ) (run : IsRun limits states last) (t handle : ℕ) (offer : Descriptor) (swap : IsSwap states last t handle offer) where
+module _ (limits : Bounds) (states : ℕ → State) (last : ℕ) (run : IsRun limits states last) (t handle : ℕ) (offer : Descriptor) (swap : IsSwap states run.records last t handle offer) where
   abbrev carried : Carried (states t) swap.step handle offer
   carried = mover limits states last run t handle offer swap
 
   abbrev its : Complete
   its = record { offer = offer; line = complete.Swap carried.main }
 
+  -- who takes the step
+  taking : (k : ℕ) × (carried.actor ≡ suc k) × Runs (states t) k carried.mover
+  taking = place_of_actor (states t) carried.actor carried.mover carried.moves
+
+  abbrev its_moment : Moment
+  its_moment = moment_at (run.records t) (suc taking.0)
+
   -- the COMPLETE that carries it out
-  complete_since : Since limits states last run t carried.mover its
+  complete_since : Since limits states last run t taking.0 its
   complete_since =
-      let (k, place, at_k) = place_of_actor (states t) carried.actor carried.mover carried.moves in
-      since_at limits states last run t (omega (arith, swap.taken)) k carried.mover its at_k (completes_so (states t) carried.mover carried.mover.line offer carried.main carried.completes)
+      let at_k = taking.2 in
+      since_at limits states last run t (omega (arith, swap.taken)) taking.0 carried.mover its at_k (completes_so (states t) carried.mover carried.mover.line offer carried.main carried.completes)
 
   abbrev since : ℕ
   since = complete_since.at
@@ -103,7 +113,8 @@ module _ (limits : Limits) (states : ℕ → State) (last : ℕ) (run : IsRun li
 
   offered_then : (u : ℕ) → since ≤ u → u ≤ t → IsOffered (states u) handle offer
   offered_then u from before =
-      offered_root (states u) (safe_at limits states last run u (omega (arith, swap.taken))) (ordered_at limits states last run u (omega (arith, swap.taken))) handle offer (stands_then u from before)
+      offered_root (states u) (run.records u) (safe_at limits states last run u (omega (arith, swap.taken)))
+      (ordered_at limits states last run u (omega (arith, swap.taken))) handle offer (stands_then u from before)
 
   root_then : (u : ℕ) → since ≤ u → u ≤ t → generation_at (states u).heap offer.root ≡ g
   root_then u from before =
@@ -120,7 +131,7 @@ module _ (limits : Limits) (states : ℕ → State) (last : ℕ) (run : IsRun li
       generation_at (states u).heap r ≡ g → ⊥
   not_plain u from before other root r is_open writable plain same =
       let o = offered_then u from before in
-      let I : IsOrdered (states u) = ordered_at limits states last run u (omega (arith, swap.taken)) in
+      let I : IsOrdered (states u) (run.records u) = ordered_at limits states last run u (omega (arith, swap.taken)) in
       let gens : gen (states u) root ≡ gen (states u) o.root =
       ap (λ x. generation_at (states u).heap (root_of x)) (sym (ap word_of is_open) ∙ plain) ∙ same ∙ sym (root_then u from before)
       ∙ ap (λ x. generation_at (states u).heap (root_of x)) (sym o.word) in
@@ -144,7 +155,7 @@ module _ (limits : Limits) (states : ℕ → State) (last : ℕ) (run : IsRun li
       by_swap : generation_at (states u).heap r ≡ g → u ≤ t
       by_swap same =
           open_root limits states last run u (omega arith) actor operation is going writable r plain t
-          (ap (closed_at (states last)) same ∙ closed_for_ever limits states last run t handle offer swap last (swap.taken) (omega arith))
+          (ap (closed_at (run.records last)) same ∙ closed_for_ever limits states last run t handle offer swap last (swap.taken) (omega arith))
 
       on_handle : (root : Root) × (root_at (states u) (handle_of operation.call) ≡ Some root) × (root.access ≡ operation.access)
       on_handle =
@@ -169,7 +180,7 @@ module _ (limits : Limits) (states : ℕ → State) (last : ℕ) (run : IsRun li
   given : carried.main ≡ offer.expected
   given = eqb-true carried.main offer.expected (and_parts (stands_in (word_at (states t) handle) offer) (carried.main == offer.expected) carried.carried).1
 
-  moment : IsMoment (words_of states last closing) offer.root carried.main carried.mover.read_at carried.mover.moment complete_since.counts.1.0
+  moment : IsMoment (words_of states run.records last closing) offer.root carried.main its_moment.read_at its_moment.moment complete_since.counts.1.0
   moment =
       let m = complete_since.counts.1.2 in
       record { from = m.from; past = m.past; link = m.link; stood = m.stood; none = m.none; is = m.is; first = m.first }
@@ -183,10 +194,10 @@ module _ (limits : Limits) (states : ℕ → State) (last : ℕ) (run : IsRun li
   stays_expected u after within =
       let counts = complete_since.counts in
       let final : main_before states u offer.root ≡ carried.main =
-      given_for_good (protocol limits states last known_so) offer.root carried.main carried.mover.read_at carried.mover.moment counts.1.0 (since - 1)
+      given_for_good (protocol limits states last known_so) offer.root carried.main its_moment.read_at its_moment.moment counts.1.0 (since - 1)
       (omega (arith, counts.1.1, swap.taken)) moment its_closing (omega (arith, counts.0, began)) u (omega (arith, moment.past, counts.1.1)) within in
       let used = root_in_use limits states last run t handle offer.root g (omega (arith, swap.taken)) (old_stands limits states last run t handle offer swap) in
       counting_main-made states last u offer.root (made_later states t u offer.root after (ap is_some (grown_in_use states t offer.root used.0 used.1))) ∙ final ∙ given
 
-pub no_late_commit : (limits : Limits) (states : ℕ → State) (last : ℕ) → IsRun limits states last → NoLateCommit states last
+pub no_late_commit : (limits : Bounds) (states : ℕ → State) (last : ℕ) (run : IsRun limits states last) → NoLateCommit states run.records last
 no_late_commit limits states last run t handle offer swap = stays_expected limits states last run t handle offer swap

@@ -1,10 +1,9 @@
 -- An offer that is known is never put up again: where it stands later, it stood all the time since.
 use Rattle.std.proofs.Common.{◌≡◌, ℕ, zero, suc, ◌+◌, ◌<◌, ◌≤◌, inl, inr, sym, ap, subst, arith}
 use Rattle.std.proofs.lemmas.Bool.{cases_eq}
-use Rattle.proof_order.specs.Beneath.history.specs.Histories.{begun}
 use Rattle.proof_order.specs.Beneath.machine_model.specs.declared.roots.Descriptor.{Descriptor}
 use Rattle.proof_order.specs.Beneath.machine_model.specs.declared.roots.RootWord.TheVariants.{Offer}
-use Rattle.proof_order.specs.Beneath.machine_model.specs.declared.steps.Limits.{Limits}
+use Rattle.proof_order.specs.Beneath.machine_model.specs.declared.steps.Bounds.{Bounds}
 use Rattle.proof_order.specs.Beneath.machine_model.specs.declared.steps.Step.{Step}
 use Rattle.proof_order.specs.Beneath.machine_model.specs.States.{State, first_state, word_at}
 use Rattle.proof_order.specs.Beneath.machine_model.specs.Times.{turns}
@@ -24,10 +23,10 @@ stood_before state s handle offer own known (put k operation go at_k does on pla
     subst (λ l. LineFits operation.call operation.id operation.opens operation.attempt l) (offer_line state operation operation.line offer does) (own k operation at_k) in
     absurd (omega (arith, known.tried k operation at_k (sym its.its), its.at_try))
 
-module _ (limits : Limits) (states : ℕ → State) (last : ℕ) (run : IsRun limits states last) (handle : ℕ) (offer : Descriptor) where
+module _ (limits : Bounds) (states : ℕ → State) (last : ℕ) (run : IsRun limits states last) (handle : ℕ) (offer : Descriptor) where
   pub known_later : (u t : ℕ) → u ≤ t → t ≤ last → IsKnown (states u) offer → IsKnown (states t) offer
   known_later u t le within known =
-      holds_later limits states last run (λ state. IsKnown state offer) (λ state s o after m h. known_kept state s o after m offer h) u t le within known
+      holds_later limits states last run (λ state past. IsKnown state offer) (λ state past s o after m h. known_kept state s o after m offer h) u t le within known
 
   pub stood_since : (u t : ℕ) → u ≤ t → t ≤ last → IsKnown (states u) offer → word_at (states t) handle ≡ Offer offer → word_at (states u) handle ≡ Offer offer
   stood_since u zero le within known word = subst (λ v. word_at (states v) handle ≡ Offer offer) (none_earlier u le) word
@@ -49,5 +48,5 @@ module _ (limits : Limits) (states : ℕ → State) (last : ℕ) (run : IsRun li
   known_later_than_first zero known = absurd (none known)
     where
       none : IsKnown (states zero) offer → ⊥
-      none known = let none_begun : begun (states zero).events ≡ 0 = ap (λ (q : State). begun q.events) run.first in omega (arith, known.has_begun, none_begun)
+      none known = let none_begun : (states zero).begun ≡ 0 = ap (λ (q : State). q.begun) run.first in omega (arith, known.has_begun, none_begun)
   known_later_than_first (suc t) known = omega arith

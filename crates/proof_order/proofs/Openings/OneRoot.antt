@@ -10,7 +10,7 @@ use Rattle.proof_order.specs.Beneath.machine_model.specs.declared.operations.Ope
 use Rattle.proof_order.specs.Beneath.machine_model.specs.declared.roots.Descriptor.{Descriptor}
 use Rattle.proof_order.specs.Beneath.machine_model.specs.declared.roots.Root.{Root}
 use Rattle.proof_order.specs.Beneath.machine_model.specs.declared.roots.RootWord.TheVariants.{Plain, Offer}
-use Rattle.proof_order.specs.Beneath.machine_model.specs.declared.steps.Limits.{Limits}
+use Rattle.proof_order.specs.Beneath.machine_model.specs.declared.steps.Bounds.{Bounds}
 use Rattle.proof_order.specs.Beneath.machine_model.specs.declared.steps.Outcome.{Outcome}
 use Rattle.proof_order.specs.Beneath.machine_model.specs.declared.steps.Step.{Step}
 use Rattle.proof_order.specs.Beneath.machine_model.specs.Calls.{handle_of}
@@ -33,10 +33,11 @@ use Rattle.proof_order.specs.Openings.{IsRootOf}
 use Rattle.proof_order.proofs.Openings.AlongMoves.{along_moves}
 use Rattle.proof_order.proofs.Openings.Carried.{IsOffered, offered_root}
 use Rattle.proof_order.proofs.Openings.NeverStood.{new_at}
+use Rattle.proof_order.specs.Beneath.machine_model.specs.Records.{Record}
 
 -- ---- what a swap brings
 
-module _ (state : State) (S : IsSafe state) (I : IsOrdered state) (s : Step) (o : Outcome) (after : State) (m : Moves state s o after) (actor : ℕ) (mover : Operation)
+module _ (state : State) (past : Record) (S : IsSafe state) (I : IsOrdered state past) (s : Step) (o : Outcome) (after : State) (m : Moves state s o after) (actor : ℕ) (mover : Operation)
     (offer : Descriptor) (is : operation_of state actor ≡ Some mover) (c : ActionCarriesOut state (handle_of mover.call) (action_of state mover) offer) where
   word_is : word_at state (handle_of mover.call) ≡ Offer offer
   word_is = carried_stands state I.offers actor mover offer is c
@@ -45,7 +46,7 @@ module _ (state : State) (S : IsSafe state) (I : IsOrdered state) (s : Step) (o 
   stands = I.offers.offers (handle_of mover.call) offer word_is
 
   pub old : IsOffered state (handle_of mover.call) offer
-  old = offered_root state S I (handle_of mover.call) offer word_is
+  old = offered_root state past S I (handle_of mover.call) offer word_is
 
   -- a root behind the swap stood before, or is brought
   pub data Behind (r : Ref) (g : ℕ) : Type 0 where
@@ -73,7 +74,7 @@ module _ (state : State) (S : IsSafe state) (I : IsOrdered state) (s : Step) (o 
 
 -- ---- at first
 
-started : (limits : Limits) (handle : ℕ) (root : Root) → root_at (first_state limits) handle ≡ Some root → root.word ≡ Plain (ref_to 2 1)
+started : (limits : Bounds) (handle : ℕ) (root : Root) → root_at (first_state limits) handle ≡ Some root → root.word ≡ Plain (ref_to 2 1)
 unfolding first_state
 started limits handle root e = elim (cases_eq handle 0) [
   | inl same ↦
@@ -87,7 +88,7 @@ started limits handle root e = elim (cases_eq handle 0) [
 
 -- ---- along a run
 
-module _ (limits : Limits) (states : ℕ → State) (last : ℕ) (run : IsRun limits states last) where
+module _ (limits : Bounds) (states : ℕ → State) (last : ℕ) (run : IsRun limits states last) where
   -- a handle had this root of this generation by this time
   abbrev pub HasRoot : ℕ → Ref → ℕ → Type 0
   HasRoot t r g = (u handle : ℕ) × (u ≤ t) × IsRootOf states u handle r g
@@ -98,7 +99,7 @@ module _ (limits : Limits) (states : ℕ → State) (last : ℕ) (run : IsRun li
   safe : (t : ℕ) → t ≤ last → IsSafe (states t)
   safe t within = safe_at limits states last run t within
 
-  ordered : (t : ℕ) → t ≤ last → IsOrdered (states t)
+  ordered : (t : ℕ) → t ≤ last → IsOrdered (states t) (run.records t)
   ordered t within = ordered_at limits states last run t within
 
   here : (t handle : ℕ) (root : Root) (r : Ref) (g : ℕ) → root_at (states t) handle ≡ Some root → root_of root.word ≡ r → gen (states t) root ≡ g → HasRoot t r g
@@ -132,7 +133,7 @@ module _ (limits : Limits) (states : ℕ → State) (last : ℕ) (run : IsRun li
       abbrev B : Ref → ℕ → Type 0
       B r g = HasRoot t r g ⊎ ((x : Bool) × (fresh_of x offer ≡ Some r) × (generation_at (states t).heap r ≡ g))
 
-      as_behind : (r : Ref) (g : ℕ) → Behind (states t) (safe t (omega arith)) (ordered t (omega arith)) s o (states (suc t)) m actor mover offer is c r g → B r g
+      as_behind : (r : Ref) (g : ℕ) → Behind (states t) (run.records t) (safe t (omega arith)) (ordered t (omega arith)) s o (states (suc t)) m actor mover offer is c r g → B r g
       as_behind r g (from_before handle root e word its) = inl (here t handle root r g e word its)
       as_behind r g (brought x e its) = inr (x, e, its)
 
@@ -140,14 +141,15 @@ module _ (limits : Limits) (states : ℕ → State) (last : ℕ) (run : IsRun li
       behind r g h = elim (split r g h) [
         | inl was ↦ inl was
         | inr (handle, now) ↦
-            as_behind r g (subst (λ x. Behind (states t) (safe t (omega arith)) (ordered t (omega arith)) s o (states (suc t)) m actor mover offer is c r x)
+            as_behind r g (subst (λ x. Behind (states t) (run.records t) (safe t (omega arith)) (ordered t (omega arith)) s o (states (suc t)) m actor mover offer is c r x)
             (ap (generation_at (states (suc t)).heap) now.is ∙ now.its)
-            (subst (λ x. Behind (states t) (safe t (omega arith)) (ordered t (omega arith)) s o (states (suc t)) m actor mover offer is c x (gen (states (suc t)) now.root)) now.is
-            (behind_swap (states t) (safe t (omega arith)) (ordered t (omega arith)) s o (states (suc t)) m actor mover offer is c handle now.root (roots handle now.root now.is_open))))
+            (subst (λ x. Behind (states t) (run.records t) (safe t (omega arith)) (ordered t (omega arith)) s o (states (suc t)) m actor mover offer is c x (gen (states (suc t)) now.root)) now.is
+            (behind_swap (states t) (run.records t) (safe t (omega arith)) (ordered t (omega arith)) s o (states (suc t)) m actor mover offer is c handle now.root
+            (roots handle now.root now.is_open))))
       ]
 
       by : StandsBy (states t) (handle_of mover.call) offer
-      by = stands (states t) (safe t (omega arith)) (ordered t (omega arith)) s o (states (suc t)) m actor mover offer is c
+      by = stands (states t) (run.records t) (safe t (omega arith)) (ordered t (omega arith)) s o (states (suc t)) m actor mover offer is c
 
       -- what is brought never stood
       never : (x : Bool) (r q : Ref) (g : ℕ) → fresh_of x offer ≡ Some r → generation_at (states t).heap r ≡ g → HasRoot t q g → ⊥
@@ -170,7 +172,7 @@ module _ (limits : Limits) (states : ℕ → State) (last : ℕ) (run : IsRun li
       swapped_one : AreOne (suc t)
       swapped_one r q g a b = one_by r q g (behind r g a) (behind q g b)
 
-    one_next : StepKind (states t) s (states (suc t)) → AreOne (suc t)
+    one_next : StepKind (states t) (run.records t) s (states (suc t)) (run.records (suc t)) → AreOne (suc t)
     one_next (quiet closings roots) = quiet_one roots
     one_next (swaps actor mover offer go is c closings roots) = swapped_one actor mover offer is c roots
 
@@ -188,4 +190,4 @@ module _ (limits : Limits) (states : ℕ → State) (last : ℕ) (run : IsRun li
   pub one_at : (t : ℕ) → t ≤ last → AreOne t
   one_at =
       along_moves limits states last run AreOne (λ none. one_at_first)
-      (λ t within one s o m. one_next t within one s o m (step_kind (states t) (ordered t (omega arith)).offers s o (states (suc t)) m))
+      (λ t within one s o m notes. one_next t within one s o m (step_kind (states t) (ordered t (omega arith)).offers (run.records t) (run.records (suc t)) s o (states (suc t)) m notes))

@@ -5,10 +5,9 @@ use Rattle.proof_order.specs.Beneath.slot_arena.specs.declared.refs.Ref.{Ref}
 use Rattle.proof_order.specs.Beneath.slot_arena.specs.Heaps.{generation_at, generation_of}
 use Rattle.proof_order.specs.Beneath.machine_model.specs.declared.operations.Operation.{Operation}
 use Rattle.proof_order.specs.Beneath.machine_model.specs.declared.roots.Descriptor.{Descriptor}
-use Rattle.proof_order.specs.Beneath.machine_model.specs.declared.steps.Limits.{Limits}
+use Rattle.proof_order.specs.Beneath.machine_model.specs.declared.steps.Bounds.{Bounds}
 use Rattle.proof_order.specs.Beneath.machine_model.specs.declared.steps.Outcome.{Outcome}
 use Rattle.proof_order.specs.Beneath.machine_model.specs.declared.steps.Step.{Step}
-use Rattle.proof_order.specs.Beneath.machine_model.specs.Orders.{is_placed}
 use Rattle.proof_order.specs.Beneath.machine_model.specs.Moves.{Moves}
 use Rattle.proof_order.specs.Beneath.machine_model.specs.States.{State}
 use Rattle.proof_order.specs.Beneath.machine_model.specs.Grown.{node_under}
@@ -19,15 +18,17 @@ use Rattle.proof_order.specs.Beneath.proof_contents.specs.Steps.{IsTrie}
 use Rattle.proof_order.specs.Beneath.proof_contents.specs.Tries.{Trie, content}
 use Rattle.proof_order.specs.Beneath.proof_contents.proofs.Changes.Openings.{copy_opens, empty_opens}
 use Rattle.proof_order.specs.Facts as facts
-use Rattle.proof_order.specs.Facts.{Opens, CarriesOut, Runs}
+use Rattle.proof_order.specs.Facts.{Opens, CarriesOut, Runs, Notes}
 use Rattle.proof_order.specs.Openings.{IsSwap, IsNewRoot, Brings, clears, snapshots, freezes, SwapsOpen}
 use Rattle.proof_order.proofs.Openings.Carried.{swap_stands, swap_is_fresh, second_is_fresh, second_differs}
 use Rattle.proof_order.proofs.Openings.RootOf.{roots_are_one}
 use Rattle.proof_order.proofs.Openings.SwapState.{old_stands}
 use Rattle.proof_order.proofs.Openings.NoLateCommit.{no_late_commit}
 use Rattle.proof_order.proofs.Openings.Brings.{swaps_bring}
+use Rattle.proof_order.specs.Beneath.machine_model.specs.Records.{is_placed}
 
-module _ (limits : Limits) (states : ℕ → State) (last : ℕ) (run : IsRun limits states last) (depth path : Ref → ℕ) (t handle : ℕ) (offer : Descriptor) (swap : IsSwap states last t handle offer) where
+module _ (limits : Bounds) (states : ℕ → State) (last : ℕ) (run : IsRun limits states last) (depth path : Ref → ℕ) (t handle : ℕ) (offer : Descriptor)
+    (swap : IsSwap states run.records last t handle offer) where
   abbrev pub trie : Trie
   trie = trie_of limits states last depth path
 
@@ -53,7 +54,7 @@ module _ (limits : Limits) (states : ℕ → State) (last : ℕ) (run : IsRun li
   }
 
   module _ (ok : IsTrie trie) where
-    opens_by : (call : Call) → Brings states last t handle offer call → Opens states last (content trie) t handle old offer call
+    opens_by : (call : Call) → Brings states last t handle offer call → Opens states run.records last (content trie) t handle old offer call
     opens_by call (clears opens new empty) =
         facts.clears opens
         (empty_opens trie ok (suc t) (gen offer.successor) (ap (λ q. generation_of (node_under states last q)) new.is_root ∙ new.keeps)
@@ -63,17 +64,17 @@ module _ (limits : Limits) (states : ℕ → State) (last : ℕ) (run : IsRun li
         (copy_opens trie ok t old (gen offer.successor) (opens_over offer.successor first main)) (copy_opens trie ok t old (gen second) (opens_over second copy its))
     opens_by call (freezes n opens none first main) = facts.freezes n opens none (copy_opens trie ok t old (gen offer.successor) (opens_over offer.successor first main))
 
-pub swaps_open : (limits : Limits) (states : ℕ → State) (last : ℕ) → IsRun limits states last → SwapsOpen limits states last
+pub swaps_open : (limits : Bounds) (states : ℕ → State) (last : ℕ) (run : IsRun limits states last) → SwapsOpen limits states run.records last
 swaps_open limits states last run depth path ok t handle offer swap actor offerer is id =
     opens_by limits states last run depth path t handle offer swap ok offerer.call (swaps_bring limits states last run t handle offer swap actor offerer is id)
 
 -- a step that carries an offer out is a swap as the order takes it, where the operation that offered has no place yet
-pub swap_so : (limits : Limits) (states : ℕ → State) (last : ℕ) → IsRun limits states last → (depth path : Ref → ℕ) → IsTrie (trie_of limits states last depth path) →
-    (t : ℕ) (s : Step) (o : Outcome) → t < last → Moves (states t) s o (states (suc t)) → (handle : ℕ) (offer : Descriptor) → CarriesOut (states t) s handle offer →
-    (k : ℕ) (offerer : Operation) → Runs (states t) k offerer → offerer.id ≡ offer.operation → is_placed (states t) offer.operation ≡ false →
-    facts.Swap states last (content (trie_of limits states last depth path)) t handle offer offerer.call
-swap_so limits states last run depth path ok t s o within m handle offer carries k offerer runs id unplaced =
-    let swap : IsSwap states last t handle offer = record { taken = within; step = s; outcome = o; moves = m; carries = carries } in
+pub swap_so : (limits : Bounds) (states : ℕ → State) (last : ℕ) (run : IsRun limits states last) → (depth path : Ref → ℕ) → IsTrie (trie_of limits states last depth path) →
+    (t : ℕ) (s : Step) (o : Outcome) → t < last → Moves (states t) s o (states (suc t)) → Notes states run.records t s → (handle : ℕ) (offer : Descriptor) → CarriesOut (states t) s handle offer →
+    (k : ℕ) (offerer : Operation) → Runs (states t) k offerer → offerer.id ≡ offer.operation → is_placed (run.records t) offer.operation ≡ false →
+    facts.Swap states run.records last (content (trie_of limits states last depth path)) t handle offer offerer.call
+swap_so limits states last run depth path ok t s o within m notes handle offer carries k offerer runs id unplaced =
+    let swap : IsSwap states run.records last t handle offer = record { taken = within; step = s; outcome = o; moves = m; notes = notes; carries = carries } in
     record {
       unplaced = unplaced;
       stands = swap_stands limits states last run t handle offer swap;

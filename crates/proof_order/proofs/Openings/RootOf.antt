@@ -8,7 +8,7 @@ use Rattle.proof_order.specs.Beneath.slot_arena.specs.Heaps.{Heap, generation_at
 use Rattle.proof_order.specs.Beneath.machine_model.specs.declared.roots.Root.{Root}
 use Rattle.proof_order.specs.Beneath.machine_model.specs.declared.roots.RootWord.{RootWord}
 use Rattle.proof_order.specs.Beneath.machine_model.specs.declared.roots.RootWord.TheVariants.{Plain, Offer}
-use Rattle.proof_order.specs.Beneath.machine_model.specs.declared.steps.Limits.{Limits}
+use Rattle.proof_order.specs.Beneath.machine_model.specs.declared.steps.Bounds.{Bounds}
 use Rattle.proof_order.specs.Beneath.machine_model.specs.States.{State, root_of}
 use Rattle.proof_order.specs.Beneath.machine_model.specs.Grown.{node_under}
 use Rattle.proof_order.specs.Beneath.machine_model.specs.Times.{IsRun}
@@ -100,7 +100,7 @@ module _ (states : ℕ → State) where
 
 -- ---- along a run
 
-module _ (limits : Limits) (states : ℕ → State) (last : ℕ) (run : IsRun limits states last) where
+module _ (limits : Bounds) (states : ℕ → State) (last : ℕ) (run : IsRun limits states last) where
   -- a handle's root is in use
   pub root_in_use : (t handle : ℕ) (r : Ref) (generation : ℕ) → t ≤ last → IsRootOf states t handle r generation → IsInUse (states t).heap r
   root_in_use t handle r generation within is =

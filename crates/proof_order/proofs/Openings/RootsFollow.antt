@@ -9,7 +9,7 @@ use Rattle.proof_order.specs.Beneath.slot_arena.specs.declared.nodes.Prev.{Prev}
 use Rattle.proof_order.specs.Beneath.slot_arena.specs.declared.nodes.Prev.TheVariants as over
 use Rattle.proof_order.specs.Beneath.slot_arena.specs.Heaps.{node_at, node_of, main_of, main_at, prev_at, logical, logical_main, generation_at, empty_branch, with_main_word}
 use Rattle.proof_order.specs.Beneath.machine_model.specs.declared.roots.Descriptor.{Descriptor}
-use Rattle.proof_order.specs.Beneath.machine_model.specs.declared.steps.Limits.{Limits}
+use Rattle.proof_order.specs.Beneath.machine_model.specs.declared.steps.Bounds.{Bounds}
 use Rattle.proof_order.specs.Beneath.machine_model.specs.States.{State}
 use Rattle.proof_order.specs.Beneath.machine_model.specs.Grown.{node_under}
 use Rattle.proof_order.specs.Beneath.machine_model.specs.Times.{IsRun}
@@ -66,7 +66,7 @@ was_empty : (m : Ref) (n : Node) → with_main_word m n ≡ empty_branch → n �
 was_empty m (Indirection g word) e = let wrong : ⊥ = cc e in absurd wrong
 was_empty m n e = e
 
-module _ (limits : Limits) (states : ℕ → State) (last : ℕ) (run : IsRun limits states last) where
+module _ (limits : Bounds) (states : ℕ → State) (last : ℕ) (run : IsRun limits states last) where
   module _ (t handle : ℕ) (r : Ref) (generation : ℕ) (within : t ≤ last) (stands : IsRootOf states t handle r generation) where
     used : IsInUse (states t).heap r
     used = root_in_use limits states last run t handle r generation within stands
@@ -93,7 +93,7 @@ module _ (limits : Limits) (states : ℕ → State) (last : ℕ) (run : IsRun li
         node_standing (states t).heap main there.0 there.1
         ∙ was_empty now.2.0 there.0.node (sym now.2.1 ∙ sym (ap node_of now.1) ∙ ap (node_under states last) root_main ∙ e)
 
-  module _ (t handle : ℕ) (offer : Descriptor) (swap : IsSwap states last t handle offer) where
+  module _ (t handle : ℕ) (offer : Descriptor) (swap : IsSwap states run.records last t handle offer) where
     -- the old root's main node is the expected one
     expected : logical_main (states t).heap offer.root ≡ offer.expected
     expected =
@@ -113,9 +113,9 @@ module _ (limits : Limits) (states : ℕ → State) (last : ℕ) (run : IsRun li
         (follows n second (second_stands limits states last run t handle offer swap n second opens is) its)
     follow_by call (opening.freezes n opens none first main) = freezes handle none (follows handle offer.successor (successor_stands limits states last run t handle offer swap) main)
 
-  pub new_roots_follow : NewRootsFollowIn states last
+  pub new_roots_follow : NewRootsFollowIn states run.records last
   new_roots_follow t handle offer swap actor offerer is id = follow_by t handle offer swap offerer.call (swaps_bring limits states last run t handle offer swap actor offerer is id)
 
-  pub roots_swapped_as_expected : RootsSwappedAsExpectedIn states last
+  pub roots_swapped_as_expected : RootsSwappedAsExpectedIn states run.records last
   roots_swapped_as_expected t handle offer swap =
       let old = old_stands limits states last run t handle offer swap in (old.root, old.is_open, old.is, expected t handle offer swap)

@@ -5,7 +5,7 @@ use Rattle.proof_order.specs.Beneath.slot_arena.specs.declared.refs.Ref.{Ref}
 use Rattle.proof_order.specs.Beneath.slot_arena.specs.Heaps.{node_at, generation_at}
 use Rattle.proof_order.specs.Beneath.machine_model.specs.declared.roots.RootWord.{RootWord}
 use Rattle.proof_order.specs.Beneath.machine_model.specs.declared.roots.RootWord.TheVariants.{Plain, Offer}
-use Rattle.proof_order.specs.Beneath.machine_model.specs.declared.steps.Limits.{Limits}
+use Rattle.proof_order.specs.Beneath.machine_model.specs.declared.steps.Bounds.{Bounds}
 use Rattle.proof_order.specs.Beneath.machine_model.specs.States.{State, root_of}
 use Rattle.proof_order.specs.Beneath.machine_model.specs.Times.{IsRun}
 use Rattle.proof_order.specs.Beneath.proof_memory.specs.Laws.{IsInUse}
@@ -24,7 +24,7 @@ use Rattle.proof_order.proofs.Openings.InUse.{reaches_in_use}
 use Rattle.proof_order.proofs.Openings.RootOf.{roots_are_one, root_in_use}
 use Rattle.proof_generations.proofs.Falling.Nodes.{nodes_stay}
 
-module _ (limits : Limits) (states : ℕ → State) (last : ℕ) (run : IsRun limits states last) where
+module _ (limits : Bounds) (states : ℕ → State) (last : ℕ) (run : IsRun limits states last) where
   pub handles_show : HandlesShow limits states last
   handles_show depth path ok handle root e =
       let g = generation_at (states last).heap (root_of root.word) in

@@ -9,14 +9,14 @@ use Rattle.proof_order.specs.Beneath.machine_model.specs.declared.actions.Action
 use Rattle.proof_order.specs.Beneath.machine_model.specs.declared.operations.Operation.{Operation}
 use Rattle.proof_order.specs.Beneath.machine_model.specs.declared.roots.Descriptor.{Descriptor}
 use Rattle.proof_order.specs.Beneath.machine_model.specs.declared.roots.RootWord.TheVariants.{Plain}
-use Rattle.proof_order.specs.Beneath.machine_model.specs.declared.steps.Limits.{Limits}
+use Rattle.proof_order.specs.Beneath.machine_model.specs.declared.steps.Bounds.{Bounds}
 use Rattle.proof_order.specs.Beneath.machine_model.specs.declared.steps.Outcome.{Outcome}
 use Rattle.proof_order.specs.Beneath.machine_model.specs.declared.steps.Step.{Step}
 use Rattle.proof_order.specs.Beneath.machine_model.specs.Calls.{handle_of}
-use Rattle.proof_order.specs.Beneath.machine_model.specs.States.{State, root_at, root_of, word_at, operation_of, closed_at, rewritten}
+use Rattle.proof_order.specs.Beneath.machine_model.specs.States.{State, root_at, root_of, word_at, operation_of, rewritten, with_operation}
 use Rattle.proof_order.specs.Beneath.machine_model.specs.Operations.{action_of}
 use Rattle.proof_order.specs.Beneath.machine_model.specs.Swapping.{is_carried_out}
-use Rattle.proof_order.specs.Beneath.machine_model.specs.Acting.{acted, gone, carried_out, opened_root}
+use Rattle.proof_order.specs.Beneath.machine_model.specs.Acting.{acted, gone, carried_out, opened_root, operation_after}
 use Rattle.proof_order.specs.Beneath.machine_model.specs.Counting.{settled}
 use Rattle.proof_order.specs.Beneath.machine_model.specs.Moves.{Begins, Goes, Ends, Sweeps}
 use Rattle.proof_order.specs.Beneath.machine_model.specs.Moves.{Moves}
@@ -25,69 +25,77 @@ use Rattle.proof_order.specs.Beneath.machine_model.proofs.Times.{steps_at}
 use Rattle.proof_order.specs.Beneath.machine_model.specs.Times.{IsRun}
 use Rattle.proof_generations.proofs.Lines.Copy.{IsOwn}
 use Rattle.proof_generations.proofs.Offers.Standing.{StandsBy, own_numbers}
-use Rattle.proof_generations.proofs.Offers.Swaps.{closing_of, closed_in, closed_last, noted}
+use Rattle.proof_generations.proofs.Offers.Swaps.{closing_of, closed_in, closed_last}
 use Rattle.proof_generations.proofs.Falling.Opened.{closed_until}
-use Rattle.proof_order.proofs.Views.Changes.{completed_is, roots_swapped, carried_roots, same_swapped}
+use Rattle.proof_order.proofs.Views.Changes.{completed_is, roots_swapped, carried_roots, same_swapped, carries_some}
 use Rattle.proof_order.proofs.Views.Handles.{opens_in_range}
 use Rattle.proof_order.specs.Openings.{IsSwap, IsRootOf}
 use Rattle.proof_order.proofs.Openings.Carried.{Carried, mover, root, word, IsOffered, ordered}
+use Rattle.proof_order.specs.Beneath.machine_model.specs.Records.{closed_at, noted, Record, noted_progress, closed_by}
+use Rattle.proof_order.specs.Beneath.machine_model.specs.Tellings.{told_in, progress_of, carried_by}
+use Rattle.proof_order.specs.Beneath.machine_model.proofs.Notes.{noted_going}
 
 -- the state behind the swap, as far as closings, roots and the heap go
-pub record Swapped (state : State) (handle : ℕ) (offer : Descriptor) (after : State) : Type 0 where
-  pub closings : after.closings ≡ state.closings ++ closing_of state offer ∷ []
+pub record Swapped (state : State) (past : Record) (handle : ℕ) (offer : Descriptor) (after : State) (now : Record) : Type 0 where
+  pub closings : now.closings ≡ past.closings ++ closing_of state offer ∷ []
   pub roots : after.roots ≡ roots_swapped state handle offer offer.opens
   pub heap : after.heap ≡ state.heap
 
-gone_swapped : (state : State) (actor : ℕ) (operation : Operation) (offer : Descriptor) (main : Ref) → action_of state operation ≡ act.Complete offer main →
-    is_carried_out (word_at state (handle_of operation.call)) offer main ≡ true → Swapped state (handle_of operation.call) offer (settled state (gone state actor operation))
-gone_swapped state actor operation offer main does carried =
-    let base = noted state actor operation in
+gone_swapped : (state : State) (past : Record) (actor : ℕ) (operation : Operation) (offer : Descriptor) (main : Ref) → action_of state operation ≡ act.Complete offer main →
+    is_carried_out (word_at state (handle_of operation.call)) offer main ≡ true → Swapped state past (handle_of operation.call) offer (settled state (gone state actor operation))
+    (noted_progress past state.steps actor (progress_of state operation))
+gone_swapped state past actor operation offer main does carried =
+    let base = with_operation state actor (Some (operation_after state operation)) in
     let at = handle_of operation.call in
     let same : gone state actor operation ≡ carried_out base at offer = ap (acted base at) does ∙ completed_is base at offer main carried in
-    let (roots, places, closings, heap) = carried_roots base at offer offer.opens in
+    let (roots, heap) = carried_roots base at offer offer.opens in
     record {
-      closings = ap (λ (q : State). q.closings) same ∙ ap (λ l. l ++ closing_of state offer ∷ []) closings;
+      closings = ap (λ c. past.closings ++ closed_by state.steps c) (ap (carried_by state at) does ∙ carries_some state at offer main carried);
       roots = ap (λ (q : State). q.roots) same ∙ roots ∙ same_swapped base state at offer offer.opens refl;
       heap = ap (λ (q : State). q.heap) same ∙ heap;
     }
 
-swapped_by : (state : State) (s : Step) (o : Outcome) (after : State) (handle : ℕ) (offer : Descriptor) → Moves state s o after → Carried state s handle offer → Swapped state handle offer after
-swapped_by state s o after handle offer (Begins d) c = let go = c.go in let wrong : ⊥ = cc go in absurd wrong
-swapped_by state s o after handle offer (Goes {actor} {operation} d is a g) c =
+swapped_by : (state : State) (past : Record) (s : Step) (o : Outcome) (after : State) (handle : ℕ) (offer : Descriptor) → Moves state s o after → Carried state s handle offer →
+    Swapped state past handle offer after (noted past state.steps (told_in state s))
+swapped_by state past s o after handle offer (Begins d) c = let go = c.go in let wrong : ⊥ = cc go in absurd wrong
+swapped_by state past s o after handle offer (Goes {actor} {operation} {action} d is a g) c =
     let go = c.go in
     let place : actor ≡ c.actor = cc go in
     let one : operation ≡ c.mover = same_Some _ _ (sym is ∙ ap (operation_of state) place ∙ c.moves) in
     let on : handle_of operation.call ≡ handle = ap (λ (x : Operation). handle_of x.call) one ∙ c.on in
-    subst (λ h. Swapped state h offer (settled state (gone state actor operation))) on
-    (gone_swapped state actor operation offer c.main (ap (action_of state) one ∙ c.completes) (ap (λ h. is_carried_out (word_at state h) offer c.main) on ∙ c.carried))
-swapped_by state s o after handle offer (Ends {actor} {operation} {answer} d is a) c =
+    subst (λ now. Swapped state past handle offer (settled state (gone state actor operation)) now) (sym (noted_going state past actor operation action is a g))
+    (subst (λ h. Swapped state past h offer (settled state (gone state actor operation)) (noted_progress past state.steps actor (progress_of state operation))) on
+    (gone_swapped state past actor operation offer c.main (ap (action_of state) one ∙ c.completes) (ap (λ h. is_carried_out (word_at state h) offer c.main) on ∙ c.carried)))
+swapped_by state past s o after handle offer (Ends {actor} {operation} {answer} d is a) c =
     let go = c.go in
     let place : actor ≡ c.actor = cc go in
     let one : operation ≡ c.mover = same_Some _ _ (sym is ∙ ap (operation_of state) place ∙ c.moves) in
     let both : act.End answer ≡ act.Complete offer c.main = sym a ∙ ap (action_of state) one ∙ c.completes in
     let wrong : ⊥ = cc both in
     absurd wrong
-swapped_by state s o after handle offer (Sweeps spent) c = let go = c.go in let wrong : ⊥ = cc go in absurd wrong
+swapped_by state past s o after handle offer (Sweeps spent) c = let go = c.go in let wrong : ⊥ = cc go in absurd wrong
 
-module _ (limits : Limits) (states : ℕ → State) (last : ℕ) (r : IsRun limits states last) where
-  module _ (t handle : ℕ) (offer : Descriptor) (swap : IsSwap states last t handle offer) where
-    pub swapped : Swapped (states t) handle offer (states (suc t))
-    swapped = swapped_by (states t) swap.step swap.outcome (states (suc t)) handle offer swap.moves (mover limits states last r t handle offer swap)
+module _ (limits : Bounds) (states : ℕ → State) (last : ℕ) (r : IsRun limits states last) where
+  module _ (t handle : ℕ) (offer : Descriptor) (swap : IsSwap states r.records last t handle offer) where
+    pub swapped : Swapped (states t) (r.records t) handle offer (states (suc t)) (r.records (suc t))
+    swapped =
+        subst (λ now. Swapped (states t) (r.records t) handle offer (states (suc t)) now) (sym swap.notes)
+        (swapped_by (states t) (r.records t) swap.step swap.outcome (states (suc t)) handle offer swap.moves (mover limits states last r t handle offer swap))
 
     abbrev old : IsOffered (states t) handle offer
     old = root limits states last r t handle offer swap
 
     -- the step closes the old root's generation
-    pub closes : closed_at (states (suc t)) (generation_at (states t).heap offer.root) ≡ Some t
+    pub closes : closed_at (r.records (suc t)) (generation_at (states t).heap offer.root) ≡ Some t
     closes =
         let g = generation_at (states t).heap offer.root in
-        let open_then : closed_at (states t) g ≡ None =
-        ap (closed_at (states t)) (ap (λ w. generation_at (states t).heap (root_of w)) (sym old.word))
+        let open_then : closed_at (r.records t) g ≡ None =
+        ap (closed_at (r.records t)) (ap (λ w. generation_at (states t).heap (root_of w)) (sym old.word))
         ∙ (ordered limits states last r t handle offer swap).roots.unclosed handle old.root old.is_open old.writable in
-        ap (λ l. closed_in l g) swapped.closings ∙ closed_last (states t).closings (closing_of (states t) offer) g open_then refl
+        ap (λ l. closed_in l g) swapped.closings ∙ closed_last (r.records t).closings (closing_of (states t) offer) g open_then refl
         ∙ ap Some (steps_at limits states last r t (omega (arith, swap.taken)))
 
-    pub closed_for_ever : (u : ℕ) → t < u → u ≤ last → closed_at (states u) (generation_at (states t).heap offer.root) ≡ Some t
+    pub closed_for_ever : (u : ℕ) → t < u → u ≤ last → closed_at (r.records u) (generation_at (states t).heap offer.root) ≡ Some t
     closed_for_ever u after within = closed_until limits states last r (suc t) u after within (generation_at (states t).heap offer.root) t closes
 
     -- ---- the new roots

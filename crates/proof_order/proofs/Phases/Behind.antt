@@ -11,28 +11,27 @@ use Rattle.proof_order.specs.Beneath.machine_model.specs.declared.actions.Action
 use Rattle.proof_order.specs.Beneath.machine_model.specs.declared.copying.CopyLine.TheVariants as copy
 use Rattle.proof_order.specs.Beneath.machine_model.specs.declared.lines.Line.TheVariants as line
 use Rattle.proof_order.specs.Beneath.machine_model.specs.declared.operations.Operation.{Operation}
-use Rattle.proof_order.specs.Beneath.machine_model.specs.declared.steps.Limits.{Limits}
+use Rattle.proof_order.specs.Beneath.machine_model.specs.declared.steps.Bounds.{Bounds}
 use Rattle.proof_order.specs.Beneath.machine_model.specs.declared.steps.Outcome.{Outcome}
 use Rattle.proof_order.specs.Beneath.machine_model.specs.declared.steps.Step.{Step}
 use Rattle.proof_order.specs.Beneath.machine_model.specs.Calls.{handle_of, is_close}
-use Rattle.proof_order.specs.Beneath.machine_model.specs.States.{State, closed_at}
+use Rattle.proof_order.specs.Beneath.machine_model.specs.States.{State}
 use Rattle.proof_order.specs.Beneath.machine_model.specs.Operations.{action_of}
-use Rattle.proof_order.specs.Beneath.machine_model.specs.Orders.{place_of, is_placed, closing_for, closed_after}
-use Rattle.proof_order.specs.Beneath.machine_model.specs.Acting.{operation_after, swaps_in}
+use Rattle.proof_order.specs.Beneath.machine_model.specs.Acting.{operation_after}
 use Rattle.proof_order.specs.Beneath.machine_model.specs.Moves.{Moves, begun_operation}
 use Rattle.proof_order.specs.Beneath.machine_model.proofs.Actors.{mark_one, mark_only, marks_in}
 use Rattle.proof_order.specs.Beneath.machine_model.proofs.Times.{along_run, steps_at}
-use Rattle.proof_order.specs.Beneath.machine_model.specs.Times.{turns}
+use Rattle.proof_order.specs.Beneath.machine_model.specs.Times.{turns, noted_turn}
 use Rattle.proof_order.specs.Beneath.machine_model.specs.Times.{IsRun, Turn}
 use Rattle.proof_generations.proofs.Roots.Open.{closed_from}
 use Rattle.proof_generations.proofs.Roots.Along.{ordered_at}
 use Rattle.proof_generations.proofs.Handles.Running.{Follows, rests, steps, ends, follows, place_of_actor}
-use Rattle.proof_order.specs.Facts.{Runs}
+use Rattle.proof_order.specs.Facts.{Runs, Notes}
 use Rattle.proof_order.specs.Beneath.history.proofs.Among.{Among}
 use Rattle.proof_order.proofs.Views.EachStep.{changes}
 use Rattle.proof_order.proofs.Offers.Honest.{honest, offerer_of}
 use Rattle.proof_order.proofs.Offers.Standing.{offers_at}
-use Rattle.proof_order.proofs.Places.Origins.{nothing_placed, place_says, on_time_says, late_says}
+use Rattle.proof_order.proofs.Places.Origins.{place_says, on_time_says, late_says}
 use Rattle.proof_order.specs.Phases.{PlacesRunBehind}
 use Rattle.proof_order.specs.Times.{Try, has_read}
 use Rattle.proof_order.proofs.Phases.Closers.{begun_runs, closes_placed}
@@ -40,8 +39,13 @@ use Rattle.proof_order.proofs.Phases.Entering.{Enters, commits, at_end, at_close
 use Rattle.proof_order.proofs.Phases.Since.{run_since}
 use Rattle.proof_generations.proofs.Roots.Rooted.{standing_root}
 use Rattle.proof_order.specs.Beneath.proof_commits.proofs.Lines.Reads.{only_end}
+use Rattle.proof_order.specs.Beneath.machine_model.specs.Records.{closed_at, place_of, is_placed, closing_for, closed_after, moment_at, noted, Record}
+use Rattle.proof_order.specs.Beneath.machine_model.specs.Tellings.{entrant_of, told_in}
+use Rattle.proof_order.specs.Beneath.machine_model.specs.declared.lines.Purpose.{Purpose}
+use Rattle.proof_order.specs.Beneath.machine_model.specs.declared.reading.Swap.{Swap}
+use Rattle.proof_order.proofs.Phases.NewPlaces.{owns}
 
-module _ (limits : Limits) (states : ℕ → State) (last : ℕ) (r : IsRun limits states last) where
+module _ (limits : Bounds) (states : ℕ → State) (last : ℕ) (r : IsRun limits states last) where
   -- an operation with this id runs just behind the step
   abbrev RunsBehind : ℕ → ℕ → Type 0
   RunsBehind n id = (k : ℕ) × (operation : Operation) × Runs (states (suc n)) k operation × (operation.id ≡ id)
@@ -49,18 +53,19 @@ module _ (limits : Limits) (states : ℕ → State) (last : ℕ) (r : IsRun limi
   -- ---- on time, and late
 
   -- the closing of its generation lies behind the step with which an operation got its root
-  closed_behind : (t k : ℕ) (operation : Operation) (generation c : ℕ) → t ≤ last → operation.access ≡ Writable → (its : Try states t k operation generation) →
-      closed_at (states t) generation ≡ Some c → its.at ≤ c
+  closed_behind : (t k : ℕ) (operation : Operation) (generation c : ℕ) → t ≤ last → operation.access ≡ Writable → (its : Try states r.records t k operation generation) →
+      closed_at (r.records t) generation ≡ Some c → its.at ≤ c
   closed_behind t k operation generation c le writable its closed =
       let (root, is, access, gen) = standing_root (states its.at) (handle_of operation.call) operation.access generation its.stood in
       let within : its.at ≤ last = omega (arith, its.past) in
       let none = (ordered_at limits states last r its.at within).roots.unclosed (handle_of operation.call) root is (access ∙ writable) in
-      closed_from limits states last r its.at generation (ap (closed_at (states its.at)) (sym gen) ∙ none) t c le (omega (arith, its.past)) closed
+      closed_from limits states last r its.at generation (ap (closed_at (r.records its.at)) (sym gen) ∙ none) t c le (omega (arith, its.past)) closed
 
-  late_behind : (t k : ℕ) (operation : Operation) (c : ℕ) → t ≤ last → Runs (states t) k operation → closing_for (states t) operation operation.access ≡ Some c → c < t → RunsBehind c operation.id
+  late_behind : (t k : ℕ) (operation : Operation) (c : ℕ) → t ≤ last → Runs (states t) k operation → closing_for (r.records t) operation.generation operation.access ≡ Some c →
+      c < t → RunsBehind c operation.id
   late_behind t k operation c le runs e before = by operation.access refl e
     where
-      with_root : (g : Option ℕ) → operation.generation ≡ g → operation.access ≡ Writable → closed_after (states t) g ≡ Some c → RunsBehind c operation.id
+      with_root : (g : Option ℕ) → operation.generation ≡ g → operation.access ≡ Writable → closed_after (r.records t) g ≡ Some c → RunsBehind c operation.id
       with_root None of_it writable closed = absurd (none-some c closed)
       with_root (Some generation) of_it writable closed =
           let its = (run_since limits states last r t k operation le runs).tries generation of_it in
@@ -68,25 +73,26 @@ module _ (limits : Limits) (states : ℕ → State) (last : ℕ) (r : IsRun limi
           let (was, at_k, same, rooted) = its.runs (suc c) (omega arith) (omega arith) in
           (k, was, at_k, sym same.id)
 
-      by : (access : Access) → operation.access ≡ access → closing_for (states t) operation access ≡ Some c → RunsBehind c operation.id
+      by : (access : Access) → operation.access ≡ access → closing_for (r.records t) operation.generation access ≡ Some c → RunsBehind c operation.id
       by Writable is closed = with_root operation.generation refl is closed
       by ReadOnly is closed = absurd (none-some c closed)
 
   -- a place of an operation with this moment
   placed_behind : (t k : ℕ) (operation : Operation) (moment : ℕ) (b : Bool) → t ≤ last → Runs (states t) k operation → moment ≤ t → RunsBehind moment operation.id →
-      RunsBehind (place_of (states t) operation moment b).step operation.id
-  placed_behind t k operation moment b le runs past now = elim (cases_Bool (place_of (states t) operation moment b).on_time) [
+      RunsBehind (place_of (r.records t) (entrant_of operation) moment b).step operation.id
+  placed_behind t k operation moment b le runs past now = elim (cases_Bool (place_of (r.records t) (entrant_of operation) moment b).on_time) [
     | inl timely ↦
-        let says = on_time_says (closing_for (states t) operation operation.access) moment operation.id b timely in
+        let says = on_time_says (closing_for (r.records t) operation.generation operation.access) moment operation.id b timely in
         subst (λ n. RunsBehind n operation.id) (sym says.0) now
     | inr late ↦
-        let says = late_says (closing_for (states t) operation operation.access) moment operation.id b late in
-        late_behind t k operation (place_of (states t) operation moment b).step le runs says.0 (omega (arith, says.1, past))
+        let says = late_says (closing_for (r.records t) operation.generation operation.access) moment operation.id b late in
+        late_behind t k operation (place_of (r.records t) (entrant_of operation) moment b).step le runs says.0 (omega (arith, says.1, past))
   ]
 
   -- ---- what a step adds
 
-  module _ (t : ℕ) (lt : t < last) (s : Step) (o : Outcome) (m : Moves (states t) s o (states (suc t))) where
+  module _ (t : ℕ) (lt : t < last) (s : Step) (o : Outcome) (m : Moves (states t) s o (states (suc t)))
+      (notes : Notes states r.records t s) where
     within : t ≤ last
     within = omega (arith, lt)
 
@@ -96,18 +102,23 @@ module _ (limits : Limits) (states : ℕ → State) (last : ℕ) (r : IsRun limi
       where
         by : Follows (states t) s (states (suc t)) k operation → RunsBehind t operation.id
         by (rests other after) = (k, mark_one (marks_in (states t) s) operation, after, ap (λ (x : Operation). x.id) (mark_only (marks_in (states t) s) operation))
-        by (steps go goes after) =
-            (k, mark_one (marks_in (states t) s) (operation_after (states t) operation), after, ap (λ (x : Operation). x.id) (mark_only (marks_in (states t) s) (operation_after (states t) operation)))
+        by (steps go goes after) = (
+          k,
+          mark_one (marks_in (states t) s) (operation_after (states t) operation),
+          after,
+          ap (λ (x : Operation). x.id)
+              (mark_only (marks_in (states t) s) (operation_after (states t) operation)),
+        )
         by (ends answer go does) = absurd (going answer (only_end (states t) operation operation.line answer does))
 
     -- behind the moment of who ends without a place
-    ended_behind : (k : ℕ) (operation : Operation) (answer : _) → Runs (states t) k operation → action_of (states t) operation ≡ act.End answer → is_placed (states t) operation.id ≡ false →
-        (operation.moment ≤ t) × RunsBehind operation.moment operation.id
+    ended_behind : (k : ℕ) (operation : Operation) (answer : _) → Runs (states t) k operation → action_of (states t) operation ≡ act.End answer → is_placed (r.records t) operation.id ≡ false →
+        ((moment_at (r.records t) (suc k)).moment ≤ t) × RunsBehind (moment_at (r.records t) (suc k)).moment operation.id
     ended_behind k operation answer runs does unplaced =
         let since = run_since limits states last r t k operation within runs in
         let at = only_end (states t) operation operation.line answer does in
         let moment = (since.reads no_close).moment (ap has_read at) in
-        let (was, at_k, same) = since.runs (suc operation.moment) (omega (arith, moment.behind)) moment.past in
+        let (was, at_k, same) = since.runs (suc (moment_at (r.records t) (suc k)).moment) (omega (arith, moment.behind)) moment.past in
         (omega (arith, moment.past), (k, was, at_k, sym same.id))
       where
         no_close : is_close operation.call ≡ false
@@ -116,22 +127,26 @@ module _ (limits : Limits) (states : ℕ → State) (last : ℕ) (r : IsRun limi
           | inl close ↦ absurd (true≢false (sym (closes_placed limits states last r t within k operation runs close) ∙ unplaced))
         ]
 
-    behind_by : (q : Place) → Enters (states t) s q → RunsBehind q.step q.id
+    behind_by : (q : Place) → Enters (states t) (r.records t) s q → RunsBehind q.step q.id
     behind_by q (commits it) =
-        let id : q.id ≡ it.owner.id = ap (λ (x : Place). x.id) it.is_it ∙ (place_says (closing_for (states t) it.owner it.owner.access) (states t).steps it.owner.id false).2 in
+        let id : q.id ≡ it.owner.id = ap (λ (x : Place). x.id) it.is_it ∙ (place_says (closing_for (r.records t) it.owner.generation it.owner.access) (states t).steps it.owner.id false).2 in
         let count = steps_at limits states last r t within in
-        let now = subst (λ n. RunsBehind n it.owner.id) (sym count) (runs_on it.k it.owner it.runs (λ answer at. swaps_no_end it.main it.owner.line answer it.swaps at)) in
+        let now = subst (λ n. RunsBehind n it.owner.id) (sym count) (runs_on it.k it.owner it.runs (λ answer at. let wrong : ⊥ = swaps_no_end answer (sym it.swaps.at ∙ at) in wrong)) in
         let behind = placed_behind t it.k it.owner (states t).steps false within it.runs (omega (arith, count)) now in
-        subst (λ (x : Place). RunsBehind x.step q.id) (sym it.is_it) (subst (λ i. RunsBehind (place_of (states t) it.owner (states t).steps false).step i) (sym id) behind)
+        subst (λ (x : Place). RunsBehind x.step q.id) (sym it.is_it) (subst (λ i. RunsBehind (place_of (r.records t) (entrant_of it.owner) (states t).steps false).step i) (sym id) behind)
       where
-        swaps_no_end : (main : _) (l : _) (answer : _) → swaps_in main l ≡ true → l ≡ line.End answer → ⊥
-        swaps_no_end main l answer e at = true≢false (sym e ∙ ap (swaps_in main) at)
+        swaps_no_end : {why : Purpose} {x : Swap} (answer : _) → line.Swap why x ≡ line.End answer → ⊥
+        swaps_no_end answer e = cc e
     behind_by q (at_end actor operation answer go is does unplaced other its) =
         let (k, actors, runs) = place_of_actor (states t) actor operation is in
-        let (past, now) = ended_behind k operation answer runs does unplaced in
-        let id : q.id ≡ operation.id = ap (λ (x : Place). x.id) its ∙ (place_says (closing_for (states t) operation operation.access) operation.moment operation.id true).2 in
-        let behind = placed_behind t k operation operation.moment true within runs past now in
-        subst (λ (x : Place). RunsBehind x.step q.id) (sym its) (subst (λ i. RunsBehind (place_of (states t) operation operation.moment true).step i) (sym id) behind)
+        let ended = ended_behind k operation answer runs does unplaced in
+        let before : (moment_at (r.records t) actor).moment ≤ t = subst (λ j. (moment_at (r.records t) j).moment ≤ t) (sym actors) ended.0 in
+        let now = subst (λ j. RunsBehind (moment_at (r.records t) j).moment operation.id) (sym actors) ended.1 in
+        let id : q.id ≡ operation.id = ap (λ (x : Place). x.id) its ∙ (place_says (closing_for (r.records t) operation.generation operation.access)
+        (moment_at (r.records t) actor).moment operation.id true).2 in
+        let behind = placed_behind t k operation (moment_at (r.records t) actor).moment true within runs before now in
+        subst (λ (x : Place). RunsBehind x.step q.id) (sym its)
+        (subst (λ i. RunsBehind (place_of (r.records t) (entrant_of operation) (moment_at (r.records t) actor).moment true).step i) (sym id) behind)
     behind_by q (at_close actor handle go its) =
         let (k, runs) = begun_runs (states t) s o (states (suc t)) m (offers_at limits states last r t within).books actor (Close handle) go in
         let step_is : q.step ≡ t = ap (λ (x : Place). x.step) its ∙ steps_at limits states last r t within in
@@ -145,11 +160,13 @@ module _ (limits : Limits) (states : ℕ → State) (last : ℕ) (r : IsRun limi
         copies_no_end : (c : _) (answer : _) → line.Copy (copy.Complete c) ≡ line.End answer → ⊥
         copies_no_end c answer e = cc e
 
-    behind_after : ((q : Place) → Among q (states t).places → RunsBehind q.step q.id) → (q : Place) → Among q (states (suc t)).places → RunsBehind q.step q.id
-    behind_after before q a = elim (entering (states t) s (states (suc t)) (changes (states t) s o (states (suc t)) m (honest (states t) (offers_at limits states last r t within))) q a) [
-      | inl old ↦ before q old
-      | inr new ↦ behind_by q new
-    ]
+    behind_after : ((q : Place) → Among q (r.records t).places → RunsBehind q.step q.id) → (q : Place) → Among q (r.records (suc t)).places → RunsBehind q.step q.id
+    behind_after before q a = elim (entering (states t) (r.records t) s (states (suc t)) (noted (r.records t) (states t).steps (told_in (states t) s))
+        (changes (states t) (r.records t) s o (states (suc t)) m (honest (states t) (offers_at limits states last r t within)))
+        (owns limits states last r t lt s o m notes) q (subst (λ (x : Record). Among q x.places) notes a)) [
+          | inl old ↦ before q old
+          | inr new ↦ behind_by q new
+        ]
 
 -- ---- along a run
 
@@ -158,12 +175,12 @@ among_contains [] x (k, lt, e) = absurd (omega (arith, lt))
 among_contains (y ∷ ys) x (zero, lt, e) = inl (sym e)
 among_contains (y ∷ ys) x (suc k, lt, e) = inr (among_contains ys x (k, omega (arith, lt), e))
 
-pub run_behind : (limits : Limits) (states : ℕ → State) (last : ℕ) → IsRun limits states last → PlacesRunBehind states last
+pub run_behind : (limits : Bounds) (states : ℕ → State) (last : ℕ) (r : IsRun limits states last) → PlacesRunBehind states r.records last
 run_behind limits states last r q within =
-    along_run limits states last r (λ t. (q : Place) → Among q (states t).places → RunsBehind limits states last r q.step q.id)
-    (λ q a. let none : Among q [] = subst (Among q) (ap (λ (s : State). s.places) r.first ∙ nothing_placed limits) a in absurd none)
-    (λ t lt turn before. by_turn t lt (states (suc t)) turn refl before) last (omega arith) q (among_contains (states last).places q within)
+    along_run limits states last r (λ t. (q : Place) → Among q (r.records t).places → RunsBehind limits states last r q.step q.id)
+    (λ q a. let none : Among q [] = subst (Among q) (ap (λ (x : Record). x.places) r.nothing_recorded) a in absurd none)
+    (λ t lt turn before. by_turn t lt (r.turn t lt) (r.recorded t lt) before) last (omega arith) q (among_contains (r.records last).places q within)
   where
-    by_turn : (t : ℕ) → t < last → (after : State) → Turn (states t) after → after ≡ states (suc t) → ((q : Place) → Among q (states t).places → RunsBehind limits states last r q.step q.id) →
-        (q : Place) → Among q (states (suc t)).places → RunsBehind limits states last r q.step q.id
-    by_turn t lt after (turns s o m) e before = behind_after limits states last r t lt s o (subst (λ x. Moves (states t) s o x) e m) before
+    by_turn : (t : ℕ) → t < last → (turn : Turn (states t) (states (suc t))) → r.records (suc t) ≡ noted_turn turn (r.records t) →
+        ((q : Place) → Among q (r.records t).places → RunsBehind limits states last r q.step q.id) → (q : Place) → Among q (r.records (suc t)).places → RunsBehind limits states last r q.step q.id
+    by_turn t lt (turns s o m) e before = behind_after limits states last r t lt s o m e before

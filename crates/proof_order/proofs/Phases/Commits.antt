@@ -29,7 +29,7 @@ use Rattle.proof_order.specs.Beneath.machine_model.specs.States.{State}
 use Rattle.proof_order.specs.Beneath.machine_model.specs.Reading.{Verdict, Commits, Fails, Overtaken, verdict, read_action, committed_by, committed_so}
 use Rattle.proof_order.specs.Beneath.machine_model.specs.Swapping.{complete_action_at, root_action, action_at}
 use Rattle.proof_order.specs.Beneath.machine_model.specs.Operations.{line_action, read_of, completing_read, rooting_read, swapping_read}
-use Rattle.proof_order.specs.Beneath.machine_model.specs.Orders.{committed_in}
+use Rattle.proof_order.specs.Beneath.machine_model.specs.Tellings.{committed_in}
 
 -- ---- by its line
 

@@ -23,9 +23,12 @@ use Rattle.proof_order.specs.Beneath.machine_model.specs.Reading.{read_action, r
 use Rattle.proof_order.specs.Beneath.machine_model.specs.Finding.{key_after_read}
 use Rattle.proof_order.specs.Beneath.machine_model.specs.Copying.{copy_after_read}
 use Rattle.proof_order.specs.Beneath.machine_model.specs.Walking.{walk_after_read}
-use Rattle.proof_order.specs.Beneath.machine_model.specs.Operations.{first_line, line_action, line_after, after_root, from_root, read_of}
-use Rattle.proof_order.specs.Beneath.machine_model.specs.Orders.{counted_from, read_at_after, commit_step, committed_now, moment_after, moment_from, moment_given}
+use Rattle.proof_order.specs.Beneath.machine_model.specs.Operations.{first_line, line_action, line_after, after_root, from_root, read_of, action_of}
 use Rattle.proof_order.specs.Times.{counts, has_read, read_counts}
+use Rattle.proof_order.specs.Beneath.machine_model.specs.Records.{read_at_after, commit_step, moment_after, moment_given, Record}
+use Rattle.proof_order.specs.Beneath.machine_model.specs.Tellings.{committed_now, counts_from, progress_of, given_now, given_in, given_by}
+use Rattle.proof_order.specs.Beneath.machine_model.specs.declared.records.Progress.{Progress}
+use Rattle.proof_order.specs.Beneath.machine_model.specs.declared.records.Moment.{Moment}
 
 -- ---- whence a READ counts
 
@@ -62,12 +65,13 @@ counts_after state operation (line.Copy l) e = inl refl
 counts_after state operation l e = inl refl
 
 -- from this step on, or from where it did
-pub counted_now : (action : Action) (n before : ℕ) → CountsNow action → counted_from action n before ≡ n
+pub counted_now : (action : Action) (n before : ℕ) → CountsNow action → read_at_after n (counts_from action) before ≡ n
 counted_now (act.ReadMain i) n before h = refl
 counted_now (act.Restore i main previous) n before h = refl
 counted_now action n before h = absurd h
 
-pub counted_or : (action : Action) (n before : ℕ) → (counted_from action n before ≡ before) ⊎ (CountsNow action × (counted_from action n before ≡ n))
+pub counted_or : (action : Action) (n before : ℕ) →
+    (read_at_after n (counts_from action) before ≡ before) ⊎ (CountsNow action × (read_at_after n (counts_from action) before ≡ n))
 counted_or (act.ReadMain i) n before = inr (tt, refl)
 counted_or (act.Restore i main previous) n before = inr (tt, refl)
 counted_or action n before = inl refl
@@ -117,25 +121,23 @@ read_after_step state operation l h = (refl, inl refl)
 -- ---- the moment
 
 -- the greater of the step from which the READ counts, and that of the given node's commit
-abbrev pub MomentNow : State → Operation → Type 0
-MomentNow state operation = (main : Ref) × (moment_after state operation ≡ max (read_at_after state operation) (commit_step state main (committed_now state operation)))
+abbrev pub MomentNow : Record → ℕ → Progress → Moment → Type 0
+MomentNow past step p m = (main : Ref) × ((moment_after past step p m).moment ≡ max (moment_after past step p m).read_at (commit_step past step main p.committed))
 
-moment_given_by : (state : State) (operation : Operation) (a : After Read Ref) → (moment_given state operation a ≡ operation.moment)
-    ⊎ ((main : Ref) × (moment_given state operation a ≡ max (read_at_after state operation) (commit_step state main (committed_now state operation))))
-moment_given_by state operation (Continues r) = inl refl
-moment_given_by state operation (Gives main) = inr (main, refl)
-
-moment_by : (state : State) (operation : Operation) (r : Option Read) → (moment_from state operation r ≡ operation.moment)
-    ⊎ ((main : Ref) × (moment_from state operation r ≡ max (read_at_after state operation) (commit_step state main (committed_now state operation))))
-moment_by state operation None = inl refl
-moment_by state operation (Some r) = moment_given_by state operation (read_step state operation r)
+moment_by : (past : Record) (step read_at moment : ℕ) (given committed : Option Ref) → (moment_given past step read_at moment given committed ≡ moment)
+    ⊎ ((main : Ref) × (moment_given past step read_at moment given committed ≡ max read_at (commit_step past step main committed)))
+moment_by past step read_at moment None committed = inl refl
+moment_by past step read_at moment (Some main) committed = inr (main, refl)
 
 -- a step leaves the moment, or gives one
-pub moment_so : (state : State) (operation : Operation) → (moment_after state operation ≡ operation.moment) ⊎ MomentNow state operation
-moment_so state operation = moment_by state operation (read_of operation.line)
+pub moment_so : (past : Record) (step : ℕ) (p : Progress) (m : Moment) → ((moment_after past step p m).moment ≡ m.moment) ⊎ MomentNow past step p m
+moment_so past step p m = moment_by past step (read_at_after step p.counts m.read_at) m.moment p.given p.committed
 
-pub moment_now : (state : State) (operation : Operation) → GivesNow state operation operation.line → MomentNow state operation
-moment_now state operation (r, main, is, gives) = (main, ap (moment_from state operation) is ∙ ap (moment_given state operation) gives)
+pub moment_now : (state : State) (past : Record) (operation : Operation) (m : Moment) → GivesNow state operation operation.line →
+    MomentNow past state.steps (progress_of state operation) m
+moment_now state past operation m (r, main, is, gives) =
+    let given : given_now state operation ≡ Some main = ap (given_in state operation) is ∙ ap given_by gives in
+    (main, ap (λ g. moment_given past state.steps (read_at_after state.steps (counts_from (action_of state operation)) m.read_at) m.moment g (committed_now state operation)) given)
 
 -- ---- a begin
 

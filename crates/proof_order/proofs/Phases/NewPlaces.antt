@@ -1,9 +1,8 @@
 -- An operation that gets its place in a step: past its own commit behind it, or about to answer that its offer was carried out or its handle closed.
-use Rattle.std.proofs.Common.{◌≡◌, ℕ, suc, ◌<◌, ◌≤◌, true, false, Option, Some, None, refl, sym, ap, ◌∙◌, subst, arith}
+use Rattle.std.proofs.Common.{◌≡◌, ℕ, suc, ◌<◌, ◌≤◌, true, false, Option, Some, None, refl, sym, ap, ◌∙◌, subst, arith, inl, inr}
 use Rattle.std.proofs.lemmas.Option.{none-some}
 use Rattle.proof_order.specs.Beneath.history.specs.declared.calls.Call.TheVariants.{Close}
 use Rattle.proof_order.specs.Beneath.history.specs.declared.replies.Reply.TheVariants as reply
-use Rattle.proof_order.specs.Beneath.history.specs.Histories.{begun}
 use Rattle.proof_order.specs.Beneath.places.specs.declared.place.Place.{Place}
 use Rattle.proof_order.specs.Beneath.slot_arena.specs.declared.nodes.Prev.TheVariants as prev
 use Rattle.proof_order.specs.Beneath.slot_arena.specs.declared.refs.Ref.{Ref}
@@ -13,13 +12,12 @@ use Rattle.proof_order.specs.Beneath.machine_model.specs.declared.lines.Purpose.
 use Rattle.proof_order.specs.Beneath.machine_model.specs.declared.operations.Operation.{Operation}
 use Rattle.proof_order.specs.Beneath.machine_model.specs.declared.reading.SwapLine.TheVariants as swap
 use Rattle.proof_order.specs.Beneath.machine_model.specs.declared.roots.Descriptor.{Descriptor}
-use Rattle.proof_order.specs.Beneath.machine_model.specs.declared.steps.Limits.{Limits}
+use Rattle.proof_order.specs.Beneath.machine_model.specs.declared.steps.Bounds.{Bounds}
 use Rattle.proof_order.specs.Beneath.machine_model.specs.declared.steps.Outcome.{Outcome}
 use Rattle.proof_order.specs.Beneath.machine_model.specs.declared.steps.Step.{Step}
 use Rattle.proof_order.specs.Beneath.machine_model.specs.declared.steps.Step.TheVariants as step
 use Rattle.proof_order.specs.Beneath.machine_model.specs.States.{State, operation_of}
 use Rattle.proof_order.specs.Beneath.machine_model.specs.Operations.{action_of, line_after, first_line, read_of}
-use Rattle.proof_order.specs.Beneath.machine_model.specs.Orders.{closing_for, committed_now, committed_in}
 use Rattle.proof_order.specs.Beneath.machine_model.specs.Acting.{operation_after}
 use Rattle.proof_order.specs.Beneath.machine_model.specs.Moves.{Moves, GoesOn}
 use Rattle.proof_order.specs.Beneath.machine_model.proofs.Actors.{mark_one, mark_only, marks_in, marks_by}
@@ -27,7 +25,7 @@ use Rattle.proof_order.specs.Beneath.machine_model.specs.Grown.{prev_word}
 use Rattle.proof_order.specs.Beneath.machine_model.specs.Times.{IsRun}
 use Rattle.proof_generations.proofs.Handles.Running.{place_of_actor}
 use Rattle.proof_generations.proofs.Offers.Marks.{marks_mark}
-use Rattle.proof_order.specs.Facts.{Runs, committed_of, committed_by_step, CarriesOut}
+use Rattle.proof_order.specs.Facts.{Runs, committed_of, committed_by_step, CarriesOut, Notes, entered_by_step}
 use Rattle.proof_order.proofs.History.Books.{Books, one_by_id}
 use Rattle.proof_order.proofs.Offers.Honest.{offerer_of}
 use Rattle.proof_order.proofs.Places.Origins.{place_says}
@@ -37,20 +35,30 @@ use Rattle.proof_order.proofs.History.OneStep.{From, began, kept, stepped, from}
 use Rattle.proof_order.proofs.History.Copies.{own_marks}
 use Rattle.proof_order.proofs.History.Answering.{carried_marks}
 use Rattle.proof_order.specs.Phases.{Phase, past, answers, IsPast, IsPastAt, IsPublished}
-use Rattle.proof_order.proofs.Phases.Entering.{SwapsIn, swaps_so, Owns, Enters, commits, at_end, at_close, carried}
+use Rattle.proof_order.proofs.Phases.Entering.{SwapsIn, Owns, Enters, commits, at_end, at_close, carried}
 use Rattle.proof_order.proofs.Phases.PastLines.{past_swap}
 use Rattle.proof_order.proofs.Phases.PastSteps.{past_marked}
 use Rattle.proof_order.proofs.Phases.Steps.{marked_phase}
-use Rattle.proof_order.proofs.Phases.Published.{Committed, committed_so, pending_published}
+use Rattle.proof_order.proofs.Phases.Published.{Committed, committed_so, pending_published, run_words}
+use Rattle.proof_order.specs.Beneath.machine_model.specs.Records.{closing_for, moment_at, changer_of, entered, entered_by}
+use Rattle.proof_order.specs.Beneath.machine_model.specs.Tellings.{committed_now, committed_in, changer_for}
+use Rattle.proof_order.specs.Beneath.machine_model.specs.declared.lines.Purpose.{Purpose}
+use Rattle.proof_order.specs.Beneath.history.proofs.Among.{Among}
+use Rattle.proof_order.specs.Beneath.machine_model.specs.declared.reading.SwapLine.{SwapLine}
+use Rattle.proof_order.specs.Beneath.proof_commits.proofs.Known.Sounds.{sound_at}
+use Rattle.proof_order.specs.Beneath.proof_commits.proofs.Course.Changers.{changers_known}
+use Rattle.proof_order.specs.Beneath.proof_commits.proofs.Known.Acts.{known_run}
+use Rattle.proof_order.specs.Beneath.proof_commits.proofs.Lines.Swap.{runs_deciding}
 
-module _ (limits : Limits) (states : ℕ → State) (last : ℕ) (r : IsRun limits states last) (t : ℕ) (lt : t < last) (s : Step) (o : Outcome) (m : Moves (states t) s o (states (suc t))) where
+module _ (limits : Bounds) (states : ℕ → State) (last : ℕ) (r : IsRun limits states last) (t : ℕ) (lt : t < last) (s : Step) (o : Outcome) (m : Moves (states t) s o (states (suc t)))
+    (notes : Notes states r.records t s) where
   within : t ≤ last
   within = omega (arith, lt)
 
-  offers : Offers (states t)
+  offers : Offers (states t) (r.records t)
   offers = offers_at limits states last r t within
 
-  books : Books (states t)
+  books : Books (states t) (r.records t)
   books = offers.books
 
   -- ---- by its own commit
@@ -80,10 +88,44 @@ module _ (limits : Limits) (states : ℕ → State) (last : ℕ) (r : IsRun limi
       let it = mover main e in
       committed_so limits states last r t it.actor it.operation o main lt (subst (λ x. Moves (states t) x o (states (suc t))) it.go m) it.runs it.now
 
+  -- whose change of its key it is enters
+  places_of : (k actor : ℕ) (owner : Operation) (main : Ref) (why : Purpose) (i a : Ref) (l : SwapLine) → actor ≡ suc k → Runs (states t) k owner →
+      owner.line ≡ line.Swap why (record { indirection = i; replaced = a; fresh = main; line = l }) → changer_of (r.records t) main ≡ changer_for owner why →
+      committed_by_step (states t) s ≡ Some main → (p : Place) → Among p (entered_by (r.records t) (states t).steps (changer_for owner why)) → Owns (states t) (r.records t) s p
+  places_of k actor owner main (purpose.Update path former) i a l place runs at changer says p (inl is) = record {
+    main = main;
+    commits = says;
+    k = k;
+    owner = owner;
+    runs = runs;
+    swaps = record { path = path; former = former; its = record { indirection = i; replaced = a; fresh = main; line = l }; at = at; fresh = refl };
+    changer = changer;
+    is_it = is;
+  }
+  places_of k actor owner main (purpose.Update path former) i a l place runs at changer says p (inr none) = absurd none
+  places_of k actor owner main (purpose.Renew path) i a l place runs at changer says p none = absurd none
+  places_of k actor owner main purpose.Clean i a l place runs at changer says p none = absurd none
+  places_of k actor owner main (purpose.Climb c) i a l place runs at changer says p none = absurd none
+
+  -- whose places a commit brings
+  pub owns : (p : Place) → Among p (entered_by_step (r.records t) (states t) s) → Owns (states t) (r.records t) s p
+  owns p a = by (committed_by_step (states t) s) refl a
+    where
+      by : (c : Option Ref) → committed_by_step (states t) s ≡ c → Among p (entered (r.records t) (states t).steps c) → Owns (states t) (r.records t) s p
+      by None is none = absurd none
+      by (Some main) is a =
+          let c = committed main is in
+          let o = (sound_at (run_words limits states last r) t within).owned main c.previous c.was in
+          let it = runs_deciding (operation_of (states t) o.actor) o.link c.previous main o.line o.stage in
+          let known = changers_known limits states last (known_run limits states last r) t within o.actor it.operation it.is it.swaps.0 o.link c.previous main o.line it.swaps.1 in
+          let (k, actors, runs) = place_of_actor (states t) o.actor it.operation it.is in
+          places_of k o.actor it.operation main it.swaps.0 o.link c.previous (swap.Deciding o.line) actors runs it.swaps.1 known is p
+          (subst (λ x. Among p (entered_by (r.records t) (states t).steps x)) known a)
+
   -- the owner, swapped in
-  module _ (own : Place) (it : Owns (states t) s own) where
-    pub line_so : SwapsIn it.owner.line it.main
-    line_so = swaps_so it.main it.owner.line it.swaps
+  module _ (own : Place) (it : Owns (states t) (r.records t) s own) where
+    abbrev pub line_so : SwapsIn it.owner.line it.main
+    line_so = it.swaps
 
     pub commit_so : Committed limits states last r t it.main
     commit_so = committed it.main it.commits
@@ -122,16 +164,17 @@ module _ (limits : Limits) (states : ℕ → State) (last : ℕ) (r : IsRun limi
     pub past_owner : (k : ℕ) (found : Operation) → found.id ≡ it.owner.id → From (states t) s k found → IsPast states (suc t) found line_so.former
     past_owner k found same (began new) =
         let low = running_below (states t) books it.k it.owner it.runs in
-        let its : found.id ≡ begun (states t).events = ap (λ (x : Operation). x.id) new.is_it in
+        let count = books.alike.begun_are in
+        let its : found.id ≡ (states t).begun = ap (λ (x : Operation). x.id) new.is_it in
         absurd (omega arith)
     past_owner k found same (kept was at_k is other) =
         let its : was.id ≡ it.owner.id = sym (ap (λ (x : Operation). x.id) (is ∙ mark_only (marks_in (states t) s) was)) ∙ same in
-        let one = (one_by_id (states t) books k it.k was it.owner at_k it.runs its).1 in
+        let one = (one_by_id (states t) (r.records t) books k it.k was it.owner at_k it.runs its).1 in
         subst (λ x. IsPast states (suc t) x line_so.former) (sym (is ∙ ap (mark_one (marks_in (states t) s)) one)) (past_resting (marks_in (states t) s))
     past_owner k found same (stepped was at_k go goes is) =
         let marks : Option ℕ = marks_by (states t) (Some was) in
         let its : was.id ≡ it.owner.id = sym (ap (λ (x : Operation). x.id) (is ∙ mark_only marks (operation_after (states t) was))) ∙ same in
-        let one = one_by_id (states t) books k it.k was it.owner at_k it.runs its in
+        let one = one_by_id (states t) (r.records t) books k it.k was it.owner at_k it.runs its in
         subst (λ x. IsPast states (suc t) x line_so.former) (sym (is ∙ ap (λ x. mark_one marks (operation_after (states t) x)) one.1))
         (past_going (go ∙ ap (λ j. step.Go (suc j)) one.0) marks)
 
@@ -145,40 +188,45 @@ module _ (limits : Limits) (states : ℕ → State) (last : ℕ) (r : IsRun limi
       by : (j : ℕ) → actor ≡ suc j → Runs (states t) j operation → From (states t) s k found → ⊥
       by j actors runs (began new) =
           let low = running_below (states t) books j operation runs in
-          let its : found.id ≡ begun (states t).events = ap (λ (x : Operation). x.id) new.is_it in
+          let count = books.alike.begun_are in
+          let its : found.id ≡ (states t).begun = ap (λ (x : Operation). x.id) new.is_it in
           omega arith
       by j actors runs (kept was at_k is_it other) =
           let its : was.id ≡ operation.id = sym (ap (λ (x : Operation). x.id) (is_it ∙ mark_only (marks_in (states t) s) was)) ∙ same in
-          let place = (one_by_id (states t) books k j was operation at_k runs its).0 in
+          let place = (one_by_id (states t) (r.records t) books k j was operation at_k runs its).0 in
           other (go ∙ ap step.Go (actors ∙ ap suc (sym place)))
       by j actors runs (stepped was at_k own goes is_it) =
           let its : was.id ≡ operation.id = sym (ap (λ (x : Operation). x.id) (is_it ∙ mark_only (marks_by (states t) (Some was)) (operation_after (states t) was))) ∙ same in
-          let one = (one_by_id (states t) books k j was operation at_k runs its).1 in
+          let one = (one_by_id (states t) (r.records t) books k j was operation at_k runs its).1 in
           subst (λ x. GoesOn x) (ap (action_of (states t)) one ∙ does) goes
 
   -- ---- by a close
 
-  closed : (actor handle : ℕ) → s ≡ step.Begin actor (Close handle) → (k : ℕ) (found : Operation) → found.id ≡ begun (states t).events → From (states t) s k found → Phase states (suc t) found
+  closed : (actor handle : ℕ) → s ≡ step.Begin actor (Close handle) → (k : ℕ) (found : Operation) → found.id ≡ (states t).begun → From (states t) s k found → Phase states (suc t) found
   closed actor handle go k found same (began new) =
       let calls : step.Begin (suc k) new.call ≡ step.Begin actor (Close handle) = sym new.is_step ∙ go in
       let call : new.call ≡ Close handle = cc calls in
       answers reply.Closed (ap (λ (x : Operation). x.line) new.is_it ∙ ap first_line call) (λ e. let wrong : ⊥ = cc e in wrong)
   closed actor handle go k found same (kept was at_k is other) =
       let low = running_below (states t) books k was at_k in
+      let count = books.alike.begun_are in
       let its : found.id ≡ was.id = ap (λ (x : Operation). x.id) (is ∙ mark_only (marks_in (states t) s) was) in
       absurd (omega arith)
   closed actor handle go k found same (stepped was at_k own goes is) =
       let low = running_below (states t) books k was at_k in
+      let count = books.alike.begun_are in
       let its : found.id ≡ was.id = ap (λ (x : Operation). x.id) (is ∙ mark_only (marks_by (states t) (Some was)) (operation_after (states t) was)) in
       absurd (omega arith)
 
   -- ---- by its offer
 
-  marked_now : (handle : ℕ) (offer : Descriptor) → CarriesOut (states t) s handle offer → (k : ℕ) (found : Operation) → found.id ≡ offer.operation → From (states t) s k found → found.is_marked ≡ true
+  marked_now : (handle : ℕ) (offer : Descriptor) → CarriesOut (states t) s handle offer → (k : ℕ) (found : Operation) → found.id ≡ offer.operation → From (states t) s k found →
+      found.is_marked ≡ true
   marked_now handle offer c k found same (began new) =
       let st = offerer_of (states t) offers s handle offer c in
       let low = running_below (states t) books st.k st.operation st.runs in
-      let its : found.id ≡ begun (states t).events = ap (λ (x : Operation). x.id) new.is_it in
+      let count = books.alike.begun_are in
+      let its : found.id ≡ (states t).begun = ap (λ (x : Operation). x.id) new.is_it in
       let of_it = st.id in
       absurd (omega arith)
   marked_now handle offer c k found same (kept was at_k is other) =
@@ -193,12 +241,14 @@ module _ (limits : Limits) (states : ℕ → State) (last : ℕ) (r : IsRun limi
 
   -- ---- whichever
 
-  pub new_phase : (p : Place) → Enters (states t) s p → (k : ℕ) (found : Operation) → Runs (states (suc t)) k found → p.id ≡ found.id → From (states t) s k found → Phase states (suc t) found
+  pub new_phase : (p : Place) → Enters (states t) (r.records t) s p → (k : ℕ) (found : Operation) → Runs (states (suc t)) k found → p.id ≡ found.id → From (states t) s k found →
+      Phase states (suc t) found
   new_phase p (commits it) k found runs same from =
-      let id : p.id ≡ it.owner.id = ap (λ (q : Place). q.id) it.is_it ∙ (place_says (closing_for (states t) it.owner it.owner.access) (states t).steps it.owner.id false).2 in
+      let id : p.id ≡ it.owner.id = ap (λ (q : Place). q.id) it.is_it ∙ (place_says (closing_for (r.records t) it.owner.generation it.owner.access) (states t).steps it.owner.id false).2 in
       past (line_so p it).former (past_owner p it k found (sym same ∙ id) from)
   new_phase p (at_end actor operation answer go is does none other its) k found runs same from =
-      let id : p.id ≡ operation.id = ap (λ (q : Place). q.id) its ∙ (place_says (closing_for (states t) operation operation.access) operation.moment operation.id true).2 in
+      let id : p.id ≡ operation.id = ap (λ (q : Place). q.id) its ∙ (place_says (closing_for (r.records t) operation.generation operation.access)
+      (moment_at (r.records t) actor).moment operation.id true).2 in
       absurd (ended_else actor operation answer go is does k found (sym same ∙ id) from)
   new_phase p (at_close actor handle go its) k found runs same from = closed actor handle go k found (sym same ∙ ap (λ (q : Place). q.id) its) from
   new_phase p (carried handle offer c its) k found runs same from =

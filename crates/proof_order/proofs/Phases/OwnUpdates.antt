@@ -1,5 +1,5 @@
 -- A step that commits an own update: whose it is, that it enters the order alone and hadn't before, and what it answers.
-use Rattle.std.proofs.Common.{◌≡◌, ◌≢◌, ℕ, zero, suc, ◌<◌, ◌≤◌, Bool, true, false, cond, inl, inr, List, [], ◌∷◌, ◌++◌, flat_map, append-nil, get_or, Option, Some, None, refl, sym}
+use Rattle.std.proofs.Common.{◌≡◌, ◌≢◌, ℕ, suc, ◌<◌, ◌≤◌, false, inl, inr, List, [], ◌∷◌, Some, refl, sym}
 use Rattle.std.proofs.Common.{ap, ◌∙◌, subst, arith}
 use Rattle.std.proofs.lemmas.Bool.{cases_Bool}
 use Rattle.proof_order.specs.Beneath.places.specs.declared.place.Place.{Place}
@@ -7,97 +7,64 @@ use Rattle.proof_order.specs.Beneath.machine_model.specs.declared.copying.CopyLi
 use Rattle.proof_order.specs.Beneath.machine_model.specs.declared.lines.Line.TheVariants as line
 use Rattle.proof_order.specs.Beneath.machine_model.specs.declared.lines.Purpose.TheVariants as purpose
 use Rattle.proof_order.specs.Beneath.machine_model.specs.declared.operations.Operation.{Operation}
-use Rattle.proof_order.specs.Beneath.machine_model.specs.declared.steps.Limits.{Limits}
+use Rattle.proof_order.specs.Beneath.machine_model.specs.declared.steps.Bounds.{Bounds}
 use Rattle.proof_order.specs.Beneath.machine_model.specs.declared.steps.Outcome.{Outcome}
 use Rattle.proof_order.specs.Beneath.machine_model.specs.declared.steps.Step.{Step}
 use Rattle.proof_order.specs.Beneath.machine_model.specs.Calls.{changed_reply}
 use Rattle.proof_order.specs.Beneath.machine_model.specs.States.{State}
-use Rattle.proof_order.specs.Beneath.machine_model.specs.Orders.{place_of, is_placed}
-use Rattle.proof_order.specs.Beneath.machine_model.specs.Acting.{operation_after, entered, entered_by, swaps_in}
+use Rattle.proof_order.specs.Beneath.machine_model.specs.Acting.{operation_after}
 use Rattle.proof_order.specs.Beneath.machine_model.specs.Moves.{Moves}
 use Rattle.proof_order.specs.Beneath.machine_model.proofs.Actors.{mark_one, mark_only, marks_in}
 use Rattle.proof_order.specs.Beneath.machine_model.specs.Grown.{prev_word}
 use Rattle.proof_order.specs.Beneath.machine_model.proofs.Times.{steps_at}
 use Rattle.proof_order.specs.Beneath.machine_model.specs.Times.{IsRun}
-use Rattle.proof_order.specs.Beneath.proof_commits.proofs.Known.Owners.{HasFresh}
 use Rattle.proof_generations.proofs.Handles.Running.{Follows, rests, steps, ends, follows}
-use Rattle.proof_order.specs.Facts.{Runs, IsReply, entered_by_step}
+use Rattle.proof_order.specs.Facts.{Runs, IsReply, entered_by_step, Notes}
 use Rattle.proof_order.specs.Beneath.history.proofs.Among.{Among}
 use Rattle.proof_order.proofs.History.OneStep.{from}
 use Rattle.proof_order.specs.Phases.{Phase, past, completes, answers, IsPastAt, OwnUpdate, OwnUpdatesEnter}
-use Rattle.proof_order.proofs.Phases.Entering.{SwapsIn, Owns, owns, swaps_so}
-use Rattle.proof_order.proofs.Phases.NewPlaces.{line_so, commit_so, published, past_owner}
+use Rattle.proof_order.proofs.Phases.Entering.{SwapsIn, Owns}
+use Rattle.proof_order.proofs.Phases.NewPlaces.{commit_so, published, past_owner, owns}
 use Rattle.proof_order.proofs.Phases.PastAnswers.{past_answers}
 use Rattle.proof_order.proofs.Phases.Placed.{placed_phase}
-use Rattle.proof_order.proofs.Phases.Published.{run_words, fresh_so, one_fresh}
 use Rattle.proof_order.proofs.Phases.Standing.{rooted_at}
 use Rattle.proof_order.proofs.Phases.Writers.{swaps_writable, swaps_rooted}
 use Rattle.proof_order.specs.Beneath.proof_commits.proofs.Lines.Reads.{only_end}
 use Rattle.proof_order.specs.Beneath.proof_commits.proofs.Words.Stood.{none≢pending}
+use Rattle.proof_order.specs.Beneath.machine_model.specs.Records.{place_of, is_placed, entered, entered_by}
+use Rattle.proof_order.specs.Beneath.machine_model.specs.Tellings.{entrant_of}
 
--- ---- what one alone adds
-
-module _ {X Y : Type 0} (f : Option X → List Y) (nothing : f None ≡ []) where
-  flat_none : (xs : List (Option X)) → ((j : ℕ) (y : X) → get_or xs j None ≡ Some y → f (Some y) ≡ []) → flat_map f xs ≡ []
-  flat_none [] each = refl
-  flat_none (None ∷ xs) each = ap (λ l. l ++ flat_map f xs) nothing ∙ flat_none xs (λ j. each (suc j))
-  flat_none (Some y ∷ xs) each = ap (λ l. l ++ flat_map f xs) (each zero y refl) ∙ flat_none xs (λ j. each (suc j))
-
-  flat_one : (xs : List (Option X)) (k : ℕ) (x : X) → get_or xs k None ≡ Some x → ((j : ℕ) (y : X) → get_or xs j None ≡ Some y → (j ≡ k → ⊥) → f (Some y) ≡ []) → flat_map f xs ≡ f (Some x)
-  flat_one [] k x at others = let wrong : ⊥ = cc at in absurd wrong
-  flat_one (y ∷ xs) zero x at others =
-      ap (λ l. f y ++ l) (flat_none xs (λ j z is. others (suc j) z is (λ e. let wrong : ⊥ = omega (arith, e) in wrong))) ∙ append-nil (f y) ∙ ap f at
-  flat_one (None ∷ xs) (suc k) x at others =
-      ap (λ l. l ++ flat_map f xs) nothing ∙ flat_one xs k x at (λ j z is apart. others (suc j) z is (λ e. apart (omega (arith, e))))
-  flat_one (Some y ∷ xs) (suc k) x at others =
-      ap (λ l. l ++ flat_map f xs) (others zero y refl (λ e. let wrong : ⊥ = omega (arith, e) in wrong))
-      ∙ flat_one xs k x at (λ j z is apart. others (suc j) z is (λ e. apart (omega (arith, e))))
+-- ---- the step
 
 some_place : (places : List Place) → places ≢ [] → (q : Place) × Among q places
 some_place [] other = absurd (other refl)
 some_place (q ∷ places) other = (q, inl refl)
 
--- ---- the step
-
-module _ (limits : Limits) (states : ℕ → State) (last : ℕ) (r : IsRun limits states last) (t : ℕ) (lt : t < last) (s : Step) (o : Outcome) (m : Moves (states t) s o (states (suc t))) (own : Place)
-    (it : Owns (states t) s own) where
+module _ (limits : Bounds) (states : ℕ → State) (last : ℕ) (r : IsRun limits states last) (t : ℕ) (lt : t < last) (s : Step) (o : Outcome) (m : Moves (states t) s o (states (suc t)))
+    (notes : Notes states r.records t s) (own : Place) (it : Owns (states t) (r.records t) s own) where
   within : t ≤ last
   within = omega (arith, lt)
 
   -- the owner's SWAP
   abbrev mine : SwapsIn it.owner.line it.main
-  mine = line_so limits states last r t lt s o m own it
+  mine = it.swaps
 
-  -- nobody else swaps this node in
-  apart : (j : ℕ) (other : Operation) → Runs (states t) j other → (j ≡ it.k → ⊥) → entered_by (states t) it.main (Some other) ≡ []
-  apart j other runs away = by (swaps_in it.main other.line) refl
-    where
-      by : (b : Bool) → swaps_in it.main other.line ≡ b → cond b (place_of (states t) other (states t).steps false ∷ []) [] ≡ []
-      by false e = refl
-      by true e =
-          let rival = swaps_so it.main other.line e in
-          let of_rival = subst (HasFresh ((run_words limits states last r).words.stage t (suc j))) rival.fresh
-          (fresh_so limits states last r t j within other runs (purpose.Update rival.path rival.former) rival.its rival.at) in
-          let of_mine = subst (HasFresh ((run_words limits states last r).words.stage t (suc it.k))) mine.fresh
-          (fresh_so limits states last r t it.k within it.owner it.runs (purpose.Update mine.path mine.former) mine.its mine.at) in
-          absurd (away (one_fresh limits states last r t j it.k within it.main of_rival of_mine))
-
-  enters : entered_by_step (states t) s ≡ place_of (states t) it.owner t false ∷ []
+  -- it alone enters
+  enters : entered_by_step (r.records t) (states t) s ≡ place_of (r.records t) (entrant_of it.owner) t false ∷ []
   enters =
-      ap (entered (states t)) it.commits ∙ flat_one (entered_by (states t) it.main) refl (states t).actors it.k it.owner it.runs apart
-      ∙ ap (λ b. cond b (place_of (states t) it.owner (states t).steps false ∷ []) []) it.swaps
-      ∙ ap (λ n. place_of (states t) it.owner n false ∷ []) (steps_at limits states last r t within)
+      ap (entered (r.records t) (states t).steps) it.commits ∙ ap (entered_by (r.records t) (states t).steps) it.changer
+      ∙ ap (λ n. place_of (r.records t) (entrant_of it.owner) n false ∷ []) (steps_at limits states last r t within)
 
   -- it had no place
-  unplaced : is_placed (states t) it.owner.id ≡ false
-  unplaced = elim (cases_Bool (is_placed (states t) it.owner.id)) [
+  unplaced : is_placed (r.records t) it.owner.id ≡ false
+  unplaced = elim (cases_Bool (is_placed (r.records t) it.owner.id)) [
     | inr none ↦ none
     | inl has ↦ absurd (by (placed_phase limits states last r t it.k it.owner within it.runs has))
   ]
     where
       by : Phase states t it.owner → ⊥
       by (past former h) =
-          let c = commit_so limits states last r t lt s o m own it in
+          let c = commit_so limits states last r t lt s o m notes own it in
           let now = subst (IsPastAt states t it.owner.call former) mine.at h in
           none≢pending now.2 (ap (prev_word states t) mine.fresh ∙ c.was)
       by (completes c marked on) =
@@ -108,17 +75,17 @@ module _ (limits : Limits) (states : ℕ → State) (last : ℕ) (r : IsRun limi
           cc wrong
 
   -- and answers that it made the change
-  agrees : IsReply (states last).events it.owner.id (changed_reply it.owner.call mine.former)
+  agrees : IsReply (r.records last).events it.owner.id (changed_reply it.owner.call mine.former)
   agrees = by (follows (states t) s o (states (suc t)) m it.k it.owner it.runs)
     where
       behind : (found : Operation) → Runs (states (suc t)) it.k found → found.id ≡ it.owner.id → found.call ≡ it.owner.call →
-          IsReply (states last).events it.owner.id (changed_reply it.owner.call mine.former)
+          IsReply (r.records last).events it.owner.id (changed_reply it.owner.call mine.former)
       behind found runs same calls =
-          let h = past_owner limits states last r t lt s o m own it it.k found same (from (states t) s o (states (suc t)) m it.k found runs) in
-          subst (λ i. IsReply (states last).events i (changed_reply it.owner.call mine.former)) same
-          (subst (λ c. IsReply (states last).events found.id (changed_reply c mine.former)) calls (past_answers limits states last r (suc t) it.k found mine.former lt runs h))
+          let h = past_owner limits states last r t lt s o m notes own it it.k found same (from (states t) s o (states (suc t)) m it.k found runs) in
+          subst (λ i. IsReply (r.records last).events i (changed_reply it.owner.call mine.former)) same
+          (subst (λ c. IsReply (r.records last).events found.id (changed_reply c mine.former)) calls (past_answers limits states last r (suc t) it.k found mine.former lt runs h))
 
-      by : Follows (states t) s (states (suc t)) it.k it.owner → IsReply (states last).events it.owner.id (changed_reply it.owner.call mine.former)
+      by : Follows (states t) s (states (suc t)) it.k it.owner → IsReply (r.records last).events it.owner.id (changed_reply it.owner.call mine.former)
       by (rests other runs) =
           let same = mark_only (marks_in (states t) s) it.owner in
           behind (mark_one (marks_in (states t) s) it.owner) runs (ap (λ (x : Operation). x.id) same) (ap (λ (x : Operation). x.call) same)
@@ -129,7 +96,7 @@ module _ (limits : Limits) (states : ℕ → State) (last : ℕ) (r : IsRun limi
           let wrong : line.Swap (purpose.Update mine.path mine.former) mine.its ≡ line.End answer = sym mine.at ∙ only_end (states t) it.owner it.owner.line answer does in
           absurd (cc wrong)
 
-  pub own_update : OwnUpdate states last t s
+  pub own_update : OwnUpdate states r.records last t s
   own_update =
       let writable = swaps_writable limits states last r t it.k it.owner (purpose.Update mine.path mine.former) mine.its within it.runs mine.at in
       let (generation, of_it) = swaps_rooted limits states last r t it.k it.owner (purpose.Update mine.path mine.former) mine.its within it.runs mine.at in
@@ -141,7 +108,7 @@ module _ (limits : Limits) (states : ℕ → State) (last : ℕ) (r : IsRun limi
         former = mine.former;
         its = mine.its;
         at = mine.at;
-        published = published limits states last r t lt s o m own it;
+        published = published limits states last r t lt s o m notes own it;
         commits = it.commits ∙ ap Some (sym mine.fresh);
         enters = enters;
         unplaced = unplaced;
@@ -152,6 +119,6 @@ module _ (limits : Limits) (states : ℕ → State) (last : ℕ) (r : IsRun limi
         agrees = agrees;
       }
 
-pub own_updates_enter : (limits : Limits) (states : ℕ → State) (last : ℕ) → IsRun limits states last → OwnUpdatesEnter states last
-own_updates_enter limits states last r t s o lt m some =
-    let (q, a) = some_place (entered_by_step (states t) s) some in own_update limits states last r t lt s o m q (owns (states t) s q a)
+pub own_updates_enter : (limits : Bounds) (states : ℕ → State) (last : ℕ) (r : IsRun limits states last) → OwnUpdatesEnter states r.records last
+own_updates_enter limits states last r t s o lt m notes some =
+    let (q, a) = some_place (entered_by_step (r.records t) (states t) s) some in own_update limits states last r t lt s o m notes q (owns limits states last r t lt s o m notes q a)

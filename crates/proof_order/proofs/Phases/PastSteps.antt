@@ -3,14 +3,13 @@ use Rattle.std.proofs.Common.{◌≡◌, ℕ, suc, ◌<◌, ◌≤◌, List, Opt
 use Rattle.proof_order.specs.Beneath.slot_arena.specs.declared.nodes.Prev.TheVariants as prev
 use Rattle.proof_order.specs.Beneath.slot_arena.specs.declared.refs.Ref.{Ref}
 use Rattle.proof_order.specs.Beneath.slot_arena.specs.Heaps.{prev_at}
-use Rattle.proof_order.specs.Beneath.history.specs.Histories.{begun}
 use Rattle.proof_order.specs.Beneath.machine_model.specs.declared.lines.Line.{Line}
 use Rattle.proof_order.specs.Beneath.machine_model.specs.declared.lines.Line.TheVariants as line
 use Rattle.proof_order.specs.Beneath.machine_model.specs.declared.lines.Purpose.TheVariants as purpose
 use Rattle.proof_order.specs.Beneath.machine_model.specs.declared.operations.Operation.{Operation}
 use Rattle.proof_order.specs.Beneath.machine_model.specs.declared.reading.Swap.{Swap}
 use Rattle.proof_order.specs.Beneath.machine_model.specs.declared.reading.SwapLine.TheVariants as swap
-use Rattle.proof_order.specs.Beneath.machine_model.specs.declared.steps.Limits.{Limits}
+use Rattle.proof_order.specs.Beneath.machine_model.specs.declared.steps.Bounds.{Bounds}
 use Rattle.proof_order.specs.Beneath.machine_model.specs.declared.steps.Step.{Step}
 use Rattle.proof_order.specs.Beneath.machine_model.specs.States.{State}
 use Rattle.proof_order.specs.Beneath.machine_model.specs.Operations.{action_of}
@@ -27,6 +26,7 @@ use Rattle.proof_order.proofs.History.OneStep.{From, began, kept, stepped}
 use Rattle.proof_order.specs.Phases.{IsPast, IsPastAt}
 use Rattle.proof_order.proofs.Phases.PastLines.{past_after}
 use Rattle.proof_order.proofs.Phases.Published.{stays_none, seen}
+use Rattle.proof_order.specs.Beneath.machine_model.proofs.Alike.{alike}
 
 -- what the SWAP of its own change needs
 abbrev Keeps : (ℕ → State) → ℕ → Option ℕ → Line → Type 0
@@ -45,7 +45,7 @@ past_rests states t call former l h keeps = absurd h
 pub past_marked : (states : ℕ → State) (t : ℕ) (m : Option ℕ) (operation : Operation) (former : Option ℕ) → IsPast states t operation former → IsPast states t (mark_one m operation) former
 past_marked states t m operation former h = subst (λ x. IsPast states t x former) (sym (mark_only m operation)) h
 
-module _ (limits : Limits) (states : ℕ → State) (last : ℕ) (r : IsRun limits states last) (t : ℕ) (lt : t < last) where
+module _ (limits : Bounds) (states : ℕ → State) (last : ℕ) (r : IsRun limits states last) (t : ℕ) (lt : t < last) where
   within : t ≤ last
   within = omega (arith, lt)
 
@@ -73,7 +73,8 @@ module _ (limits : Limits) (states : ℕ → State) (last : ℕ) (r : IsRun limi
       From (states t) s k found → IsPast states (suc t) found former
   past_by s k operation found former runs h same (began new) =
       let low = running_below (states t) (offers_at limits states last r t within).books k operation runs in
-      let its : found.id ≡ begun (states t).events = ap (λ (x : Operation). x.id) new.is_it in
+      let count = (alike limits states last r t within).begun_are in
+      let its : found.id ≡ (states t).begun = ap (λ (x : Operation). x.id) new.is_it in
       absurd (omega arith)
   past_by s k operation found former runs h same (kept was at_k it other) =
       subst (λ x. IsPast states (suc t) x former) (sym (it ∙ ap (mark_one (marks_in (states t) s)) (one_at (states t) k was operation at_k runs)))

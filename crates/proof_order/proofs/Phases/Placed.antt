@@ -1,23 +1,22 @@
 -- Where an operation stands that has its place, along a run; and who has none: who is refused for want of slots, and whose offer is being carried out.
-use Rattle.std.proofs.Common.{◌≡◌, ℕ, suc, ◌<◌, true, false, inl, inr, Option, refl, sym, ap, ◌∙◌, subst, arith}
+use Rattle.std.proofs.Common.{◌≡◌, ℕ, suc, ◌<◌, true, false, inl, inr, Option, sym, ap, ◌∙◌, subst, arith}
 use Rattle.std.proofs.lemmas.Bool.{true≢false, cases_Bool}
 use Rattle.proof_order.specs.Beneath.history.specs.declared.replies.Reply.TheVariants as reply
 use Rattle.proof_order.specs.Beneath.machine_model.specs.declared.copying.CopyLine.TheVariants as copy
 use Rattle.proof_order.specs.Beneath.machine_model.specs.declared.lines.Line.TheVariants as line
 use Rattle.proof_order.specs.Beneath.machine_model.specs.declared.operations.Operation.{Operation}
 use Rattle.proof_order.specs.Beneath.machine_model.specs.declared.roots.Complete.{Complete}
-use Rattle.proof_order.specs.Beneath.machine_model.specs.declared.steps.Limits.{Limits}
+use Rattle.proof_order.specs.Beneath.machine_model.specs.declared.steps.Bounds.{Bounds}
 use Rattle.proof_order.specs.Beneath.machine_model.specs.declared.steps.Outcome.{Outcome}
 use Rattle.proof_order.specs.Beneath.machine_model.specs.declared.steps.Step.{Step}
 use Rattle.proof_order.specs.Beneath.machine_model.specs.Calls.{changed_reply}
 use Rattle.proof_order.specs.Beneath.machine_model.specs.States.{State}
-use Rattle.proof_order.specs.Beneath.machine_model.specs.Orders.{is_placed}
 use Rattle.proof_order.specs.Beneath.machine_model.specs.Moves.{Moves}
 use Rattle.proof_order.specs.Beneath.machine_model.proofs.Times.{along_run}
-use Rattle.proof_order.specs.Beneath.machine_model.specs.Times.{turns}
+use Rattle.proof_order.specs.Beneath.machine_model.specs.Times.{turns, noted_turn}
 use Rattle.proof_order.specs.Beneath.machine_model.specs.Times.{IsRun, Turn}
 use Rattle.proof_generations.proofs.Handles.Running.{place_of_actor}
-use Rattle.proof_order.specs.Facts.{Runs}
+use Rattle.proof_order.specs.Facts.{Runs, Notes}
 use Rattle.proof_order.proofs.History.Growing.{placed}
 use Rattle.proof_order.proofs.Views.EachStep.{changes}
 use Rattle.proof_order.proofs.Offers.Honest.{honest, offerer_of}
@@ -26,42 +25,48 @@ use Rattle.proof_order.proofs.History.OneStep.{from}
 use Rattle.proof_order.specs.Phases.{Phase, past, completes, answers, IsPastAt, PlacedPhase, RefusedAreUnplaced, OffersAreUnplaced}
 use Rattle.proof_order.proofs.Phases.Entering.{entering}
 use Rattle.proof_order.proofs.Phases.Steps.{is_placed_so, old}
-use Rattle.proof_order.proofs.Phases.NewPlaces.{new_phase}
+use Rattle.proof_order.proofs.Phases.NewPlaces.{new_phase, owns}
 use Rattle.proof_order.specs.Beneath.proof_commits.proofs.Lines.Reads.{only_end}
+use Rattle.proof_order.specs.Beneath.machine_model.specs.Records.{is_placed, Record, noted}
+use Rattle.proof_order.specs.Beneath.machine_model.specs.Tellings.{told_in}
+use Rattle.proof_order.specs.Beneath.history.proofs.Among.{Among}
 
 -- ---- along a run
 
 -- each running operation that has its place is in such a phase
-abbrev AllPhased : (ℕ → State) → ℕ → Type 0
-AllPhased states t = (k : ℕ) (operation : Operation) → Runs (states t) k operation → is_placed (states t) operation.id ≡ true → Phase states t operation
+abbrev AllPhased : (ℕ → State) → (ℕ → Record) → ℕ → Type 0
+AllPhased states records t = (k : ℕ) (operation : Operation) → Runs (states t) k operation → is_placed (records t) operation.id ≡ true → Phase states t operation
 
-phased_after : (limits : Limits) (states : ℕ → State) (last : ℕ) → IsRun limits states last → (t : ℕ) → t < last → (s : Step) (o : Outcome) →
-    Moves (states t) s o (states (suc t)) → AllPhased states t →
-    AllPhased states (suc t)
-phased_after limits states last r t lt s o m before k found runs is =
+phased_after : (limits : Bounds) (states : ℕ → State) (last : ℕ) (r : IsRun limits states last) → (t : ℕ) → t < last → (s : Step) (o : Outcome) →
+    Moves (states t) s o (states (suc t)) → Notes states r.records t s → AllPhased states r.records t →
+    AllPhased states r.records (suc t)
+phased_after limits states last r t lt s o m notes before k found runs is =
     let its = from (states t) s o (states (suc t)) m k found runs in
-    let (p, a, same) = placed (states (suc t)) found.id is in
-    elim (entering (states t) s (states (suc t)) (changes (states t) s o (states (suc t)) m (honest (states t) (offers_at limits states last r t (omega arith)))) p a) [
-      | inl stood ↦ old limits states last r t lt s k found runs (before k) (is_placed_so (states t) p stood found.id same) its
-      | inr enters ↦ new_phase limits states last r t lt s o m p enters k found runs same its
+    let (p, a, same) = placed (r.records (suc t)) found.id is in
+    elim (entering (states t) (r.records t) s (states (suc t)) (noted (r.records t) (states t).steps (told_in (states t) s))
+    (changes (states t) (r.records t) s o (states (suc t)) m (honest (states t) (offers_at limits states last r t (omega arith))))
+    (owns limits states last r t lt s o m notes) p (subst (λ (x : Record). Among p x.places) notes a)) [
+      | inl stood ↦ old limits states last r t lt s k found runs (before k) (is_placed_so (r.records t) p stood found.id same) its
+      | inr enters ↦ new_phase limits states last r t lt s o m notes p enters k found runs same its
     ]
 
-pub placed_phase : (limits : Limits) (states : ℕ → State) (last : ℕ) → IsRun limits states last → PlacedPhase states last
+pub placed_phase : (limits : Bounds) (states : ℕ → State) (last : ℕ) (r : IsRun limits states last) → PlacedPhase states r.records last
 placed_phase limits states last r t k operation le runs is =
-    along_run limits states last r (λ t. AllPhased states t)
+    along_run limits states last r (λ t. AllPhased states r.records t)
     (λ k operation runs is. absurd (nobody limits k operation (subst (λ q. Runs q k operation) r.first runs)))
-    (λ t lt turn before. by_turn t lt (states (suc t)) turn refl before) t le k operation runs is
+    (λ t lt turn before. by_turn t lt (r.turn t lt) (r.recorded t lt) before) t le k operation runs is
   where
-    by_turn : (t : ℕ) → t < last → (after : State) → Turn (states t) after → after ≡ states (suc t) → AllPhased states t → AllPhased states (suc t)
-    by_turn t lt after (turns s o m) e before = phased_after limits states last r t lt s o (subst (λ q. Moves (states t) s o q) e m) before
+    by_turn : (t : ℕ) → t < last → (turn : Turn (states t) (states (suc t))) → r.records (suc t) ≡ noted_turn turn (r.records t) → AllPhased states r.records t →
+        AllPhased states r.records (suc t)
+    by_turn t lt (turns s o m) e before = phased_after limits states last r t lt s o m e before
 
 -- ---- who has no place
 
 refused_reply : (call : _) (former : Option ℕ) → reply.NoSlots ≡ changed_reply call former → ⊥
 refused_reply call former e = grind arith
 
-pub refused_unplaced : (limits : Limits) (states : ℕ → State) (last : ℕ) → IsRun limits states last → RefusedAreUnplaced states last
-refused_unplaced limits states last r t actor operation lt is does = elim (cases_Bool (is_placed (states t) operation.id)) [
+pub refused_unplaced : (limits : Bounds) (states : ℕ → State) (last : ℕ) (r : IsRun limits states last) → RefusedAreUnplaced states r.records last
+refused_unplaced limits states last r t actor operation lt is does = elim (cases_Bool (is_placed (r.records t) operation.id)) [
   | inr none ↦ none
   | inl has ↦ let (k, actors, runs) = place_of_actor (states t) actor operation is in absurd (by (placed_phase limits states last r t k operation (omega (arith, lt)) runs has))
 ]
@@ -74,12 +79,12 @@ refused_unplaced limits states last r t actor operation lt is does = elim (cases
     by (completes c marked on) = let wrong : line.End reply.NoSlots ≡ line.Copy (copy.Complete c) = sym at ∙ on in cc wrong
     by (answers answer on other) = let ends : line.End reply.NoSlots ≡ line.End answer = sym at ∙ on in let same : answer ≡ reply.NoSlots = cc ends in other same
 
-pub offers_unplaced : (limits : Limits) (states : ℕ → State) (last : ℕ) → IsRun limits states last → OffersAreUnplaced states last
-offers_unplaced limits states last r t s o lt m handle offer carries = elim (cases_Bool (is_placed (states t) offer.operation)) [
+pub offers_unplaced : (limits : Bounds) (states : ℕ → State) (last : ℕ) (r : IsRun limits states last) → OffersAreUnplaced states r.records last
+offers_unplaced limits states last r t s o lt m notes handle offer carries = elim (cases_Bool (is_placed (r.records t) offer.operation)) [
   | inr none ↦ none
   | inl has ↦
       let st = offerer_of (states t) (offers_at limits states last r t (omega (arith, lt))) s handle offer carries in
-      absurd (by st.operation st.c st.unmarked st.at (placed_phase limits states last r t st.k st.operation (omega (arith, lt)) st.runs (ap (is_placed (states t)) st.id ∙ has)))
+      absurd (by st.operation st.c st.unmarked st.at (placed_phase limits states last r t st.k st.operation (omega (arith, lt)) st.runs (ap (is_placed (r.records t)) st.id ∙ has)))
 ]
   where
     by : (offerer : Operation) (c : Complete) → offerer.is_marked ≡ false → offerer.line ≡ line.Copy (copy.Complete c) → Phase states t offerer → ⊥

@@ -11,12 +11,11 @@ use Rattle.proof_order.specs.Beneath.machine_model.specs.declared.operations.Ope
 use Rattle.proof_order.specs.Beneath.machine_model.specs.declared.reading.Swap.{Swap}
 use Rattle.proof_order.specs.Beneath.machine_model.specs.declared.reading.SwapLine.{SwapLine}
 use Rattle.proof_order.specs.Beneath.machine_model.specs.declared.reading.SwapLine.TheVariants as swap
-use Rattle.proof_order.specs.Beneath.machine_model.specs.declared.steps.Limits.{Limits}
+use Rattle.proof_order.specs.Beneath.machine_model.specs.declared.steps.Bounds.{Bounds}
 use Rattle.proof_order.specs.Beneath.machine_model.specs.declared.steps.Outcome.{Outcome}
 use Rattle.proof_order.specs.Beneath.machine_model.specs.declared.steps.Step.TheVariants as step
 use Rattle.proof_order.specs.Beneath.machine_model.specs.States.{State, operation_of}
 use Rattle.proof_order.specs.Beneath.machine_model.specs.Operations.{action_of, line_action}
-use Rattle.proof_order.specs.Beneath.machine_model.specs.Orders.{committed_now}
 use Rattle.proof_order.specs.Beneath.machine_model.specs.Moves.{Moves}
 use Rattle.proof_order.specs.Beneath.machine_model.specs.Grown.{grown, prev_word}
 use Rattle.proof_order.specs.Beneath.machine_model.specs.Times.{IsRun}
@@ -35,8 +34,9 @@ use Rattle.proof_order.specs.Facts.{Runs}
 use Rattle.proof_order.specs.Phases.{IsPublished}
 use Rattle.proof_order.proofs.Phases.Commits.{line_decides, now_none}
 use Rattle.proof_order.specs.Beneath.proof_commits.proofs.Lines.Read.{was_pending}
+use Rattle.proof_order.specs.Beneath.machine_model.specs.Tellings.{committed_now}
 
-module _ (limits : Limits) (states : ℕ → State) (last : ℕ) (run : IsRun limits states last) where
+module _ (limits : Bounds) (states : ℕ → State) (last : ℕ) (run : IsRun limits states last) where
   abbrev known : Known limits states last
   known = known_run limits states last run
 

@@ -4,27 +4,28 @@ use Rattle.std.proofs.lemmas.Option.{none-some, same_Some}
 use Rattle.proof_order.specs.Beneath.slot_arena.specs.declared.refs.Ref.{Ref}
 use Rattle.proof_order.specs.Beneath.machine_model.specs.declared.actions.Action.{Action}
 use Rattle.proof_order.specs.Beneath.machine_model.specs.declared.actions.Action.TheVariants as act
-use Rattle.proof_order.specs.Beneath.machine_model.specs.declared.heaps.Commit.{Commit}
+use Rattle.proof_order.specs.Beneath.machine_model.specs.declared.records.Commit.{Commit}
 use Rattle.proof_order.specs.Beneath.machine_model.specs.declared.operations.Operation.{Operation}
 use Rattle.proof_order.specs.Beneath.machine_model.specs.declared.roots.Descriptor.{Descriptor}
-use Rattle.proof_order.specs.Beneath.machine_model.specs.declared.steps.Limits.{Limits}
+use Rattle.proof_order.specs.Beneath.machine_model.specs.declared.steps.Bounds.{Bounds}
 use Rattle.proof_order.specs.Beneath.machine_model.specs.declared.steps.Outcome.{Outcome}
 use Rattle.proof_order.specs.Beneath.machine_model.specs.declared.steps.Step.{Step}
 use Rattle.proof_order.specs.Beneath.machine_model.specs.declared.steps.Step.TheVariants as step
-use Rattle.proof_order.specs.Beneath.machine_model.specs.States.{State, first_state, operation_of, step_of_commit}
+use Rattle.proof_order.specs.Beneath.machine_model.specs.States.{State, operation_of}
 use Rattle.proof_order.specs.Beneath.machine_model.specs.Operations.{action_of}
-use Rattle.proof_order.specs.Beneath.machine_model.specs.Orders.{committed_now, commit_step}
-use Rattle.proof_order.specs.Beneath.machine_model.specs.Acting.{commits_after}
-use Rattle.proof_order.specs.Beneath.machine_model.specs.Moves.{Moves, begun_operation}
+use Rattle.proof_order.specs.Beneath.machine_model.specs.Moves.{Moves}
 use Rattle.proof_order.specs.Beneath.machine_model.proofs.Times.{along_run, steps_at}
 use Rattle.proof_order.specs.Beneath.machine_model.specs.Times.{IsRun}
 use Rattle.proof_generations.proofs.Offers.Same.{HasOffers, has_offers_at}
 use Rattle.proof_generations.proofs.Offers.Swaps.{StepKind, quiet, swaps, step_kind}
-use Rattle.proof_order.specs.Beneath.proof_commits.proofs.Known.StepsAt.{StepAt, IsBegin, IsGo, IsEnd, IsSweep, step_at, gone_commits, begun_commits}
+use Rattle.proof_order.specs.Beneath.proof_commits.proofs.Known.StepsAt.{NotedAt, NotesBegin, NotesGo, NotesEnd, NotesSweep, noted_at}
 use Rattle.proof_order.specs.Beneath.history.proofs.Among.{Among, among_either}
 use Rattle.proof_order.proofs.Views.Changes.{complete_commits}
 use Rattle.proof_order.specs.Times.{ClosesNone, IsWithin}
 use Rattle.proof_order.proofs.Phases.LineTimes.{CountsNow}
+use Rattle.proof_order.specs.Beneath.machine_model.specs.Records.{step_of_commit, commit_step, commits_after, Record, noted}
+use Rattle.proof_order.specs.Beneath.machine_model.specs.Tellings.{committed_now, told_in}
+use Rattle.proof_order.specs.Beneath.machine_model.proofs.Notes.{noted_going}
 
 -- ---- steps
 
@@ -47,56 +48,63 @@ commits_complete state operation m e = by (action_of state operation) refl
 no_complete : (action : Action) (offer : Descriptor) (main : Ref) → NoComplete action → action ≡ act.Complete offer main → ⊥
 no_complete action offer main h e = subst NoComplete e h
 
-closes_by : (state : State) (s : Step) (after : State) → StepKind state s after → (actor : ℕ) (operation : Operation) → s ≡ step.Go actor → operation_of state actor ≡ Some operation →
-    NoComplete (action_of state operation) → after.closings ≡ state.closings
-closes_by state s after (quiet closings roots) actor operation go is h = closings
-closes_by state s after (swaps other mover offer goes moves c closings roots) actor operation go is h =
+closes_by : (state : State) (past : Record) (s : Step) (after : State) (now : Record) → StepKind state past s after now → (actor : ℕ) (operation : Operation) → s ≡ step.Go actor →
+    operation_of state actor ≡ Some operation →
+    NoComplete (action_of state operation) → now.closings ≡ past.closings
+closes_by state past s after now (quiet closings roots) actor operation go is h = closings
+closes_by state past s after now (swaps other mover offer goes moves c closings roots) actor operation go is h =
     let steps : step.Go other ≡ step.Go actor = sym goes ∙ go in
     let actors : other ≡ actor = cc steps in
     let one = same_Some _ _ (sym moves ∙ ap (operation_of state) actors ∙ is) in
     absurd (no_complete (action_of state operation) offer c.main h (ap (action_of state) (sym one) ∙ c.is_it))
 
 -- such a step closes nothing
-pub closes_none : (state : State) → HasOffers state → (s : Step) (o : Outcome) (after : State) → Moves state s o after → (actor : ℕ) (operation : Operation) → s ≡ step.Go actor →
-    operation_of state actor ≡ Some operation → NoComplete (action_of state operation) → after.closings ≡ state.closings
-closes_none state I s o after m = closes_by state s after (step_kind state I s o after m)
+pub closes_none : (state : State) → HasOffers state → (past now : Record) (s : Step) (o : Outcome) (after : State) → Moves state s o after →
+    now ≡ noted past state.steps (told_in state s) → (actor : ℕ) (operation : Operation) → s ≡ step.Go actor →
+    operation_of state actor ≡ Some operation → NoComplete (action_of state operation) → now.closings ≡ past.closings
+closes_none state I past now s o after m notes = closes_by state past s after now (step_kind state I past now s o after m notes)
 
 -- ---- commits
 
 -- the steps of commits lie before now, and close nothing
-abbrev pub QuietCommits : (ℕ → State) → ℕ → Type 0
-QuietCommits states t = (c : Commit) → Among c (states t).commits → (c.step < t) × ClosesNone states c.step
+abbrev pub QuietCommits : (ℕ → Record) → ℕ → Type 0
+QuietCommits records t = (c : Commit) → Among c (records t).commits → (c.step < t) × ClosesNone records c.step
 
-one_more : (states : ℕ → State) (t : ℕ) (now : Option Ref) → (states (suc t)).commits ≡ commits_after (states t) now → (states t).steps ≡ t → ((m : Ref) → now ≡ Some m → ClosesNone states t) →
-    QuietCommits states t → QuietCommits states (suc t)
-one_more states t None e count closes h c a = let p = h c (subst (Among c) e a) in (omega (arith, p.0), p.1)
-one_more states t (Some m) e count closes h c a = elim (among_either (states t).commits (record { main = m; step = (states t).steps } ∷ []) c (subst (Among c) e a)) [
+one_more : (records : ℕ → Record) (t n : ℕ) (now : Option Ref) → (records (suc t)).commits ≡ commits_after (records t) n now → n ≡ t → ((m : Ref) → now ≡ Some m → ClosesNone records t) →
+    QuietCommits records t → QuietCommits records (suc t)
+one_more records t n None e count closes h c a = let p = h c (subst (Among c) e a) in (omega (arith, p.0), p.1)
+one_more records t n (Some m) e count closes h c a = elim (among_either (records t).commits (record { main = m; step = n } ∷ []) c (subst (Among c) e a)) [
   | inl old ↦ let p = h c old in (omega (arith, p.0), p.1)
   | inr new ↦ elim new [
     | inl is ↦
         let at : c.step ≡ t = ap (λ (x : Commit). x.step) is ∙ count in
-        (omega (arith, at), subst (ClosesNone states) (sym at) (closes m refl))
+        (omega (arith, at), subst (ClosesNone records) (sym at) (closes m refl))
     | inr none ↦ absurd none
   ]
 ]
 
-quiet_by : (states : ℕ → State) (t : ℕ) → HasOffers (states t) → (states t).steps ≡ t → StepAt (states t) (states (suc t)) → QuietCommits states t → QuietCommits states (suc t)
-quiet_by states t I count (IsBegin actor call o m d e) =
-    one_more states t None (ap (λ (s : State). s.commits) e ∙ begun_commits (states t) actor call (begun_operation (states t) call)) count (λ m e. absurd (none-some m e))
-quiet_by states t I count (IsGo actor operation o m is g e) =
-    one_more states t (committed_now (states t) operation) (ap (λ (s : State). s.commits) e ∙ gone_commits (states t) actor operation) count
-    (λ main now. closes_none (states t) I (step.Go actor) o (states (suc t)) m actor operation refl is (commits_complete (states t) operation main now))
-quiet_by states t I count (IsEnd actor operation answer o m is a e) = one_more states t None (ap (λ (s : State). s.commits) e) count (λ m e. absurd (none-some m e))
-quiet_by states t I count (IsSweep o m e) = one_more states t None (ap (λ (s : State). s.commits) e) count (λ m e. absurd (none-some m e))
+-- where the commits stay
+none_more : (records : ℕ → Record) (t : ℕ) → (records (suc t)).commits ≡ (records t).commits → QuietCommits records t → QuietCommits records (suc t)
+none_more records t e h c a = let p = h c (subst (Among c) e a) in (omega (arith, p.0), p.1)
 
-pub quiet_commits : (limits : Limits) (states : ℕ → State) (last : ℕ) → IsRun limits states last → (t : ℕ) → t ≤ last → QuietCommits states t
-unfolding first_state
+quiet_by : (states : ℕ → State) (records : ℕ → Record) (t : ℕ) → HasOffers (states t) → (states t).steps ≡ t → NotedAt (states t) (records t) (states (suc t)) (records (suc t)) →
+    QuietCommits records t → QuietCommits records (suc t)
+quiet_by states records t I count (NotesBegin actor call o m d e n) = none_more records t (ap (λ (r : Record). r.commits) n)
+quiet_by states records t I count (NotesGo actor operation o m d is g e n) =
+    one_more records t (states t).steps (committed_now (states t) operation) (ap (λ (r : Record). r.commits) n) count
+    (λ main now. closes_none (states t) I (records t) (records (suc t)) (step.Go actor) o (states (suc t)) m
+    (n ∙ sym (noted_going (states t) (records t) actor operation (action_of (states t) operation) is refl g)) actor operation refl is (commits_complete (states t) operation main now))
+quiet_by states records t I count (NotesEnd actor operation answer o m is a e n) = none_more records t (ap (λ (r : Record). r.commits) n)
+quiet_by states records t I count (NotesSweep o m e n) = none_more records t (ap (λ (r : Record). r.commits) n)
+
+pub quiet_commits : (limits : Bounds) (states : ℕ → State) (last : ℕ) (r : IsRun limits states last) → (t : ℕ) → t ≤ last → QuietCommits r.records t
 quiet_commits limits states last r =
-    along_run limits states last r (λ t. QuietCommits states t) (none (states zero) r.first)
-    (λ t lt turn h. quiet_by states t (has_offers_at limits states last r t (omega arith)) (steps_at limits states last r t (omega arith)) (step_at (states t) (states (suc t)) turn) h)
+    along_run limits states last r (λ t. QuietCommits r.records t) none
+    (λ t lt turn h. quiet_by states r.records t (has_offers_at limits states last r t (omega arith)) (steps_at limits states last r t (omega arith))
+    (noted_at (r.turn t lt) (r.recorded t lt)) h)
   where
-    none : (state : State) → state ≡ first_state limits → (c : Commit) → Among c state.commits → (c.step < zero) × ClosesNone states c.step
-    none state e c a = absurd (subst (Among c) (ap (λ (s : State). s.commits) e) a)
+    none : (c : Commit) → Among c (r.records zero).commits → (c.step < zero) × ClosesNone r.records c.step
+    none c a = absurd (subst (Among c) (ap (λ (s : Record). s.commits) r.nothing_recorded) a)
 
 -- ---- the greater of a step that closes nothing, and of a commit's
 
@@ -113,26 +121,26 @@ found_step main (c ∷ cs) = by (c.main == main) (found_step main cs)
     by false (inr (d, a, e)) = inr (d, inr a, e)
 
 -- a step that is none, or closes nothing
-abbrev pub IsCommitStep : (ℕ → State) → ℕ → ℕ → Type 0
-IsCommitStep states t n = (n ≡ 0) ⊎ ((n < suc t) × ClosesNone states n)
+abbrev pub IsCommitStep : (ℕ → Record) → ℕ → ℕ → Type 0
+IsCommitStep records t n = (n ≡ 0) ⊎ ((n < suc t) × ClosesNone records n)
 
-pub commit_quiet : (states : ℕ → State) (t : ℕ) (main : Ref) (now : Option Ref) → (states t).steps ≡ t → QuietCommits states t → ((m : Ref) → now ≡ Some m → ClosesNone states t) →
-    IsCommitStep states t (commit_step (states t) main now)
-commit_quiet states t main None count h closes = elim (found_step main (states t).commits) [
+pub commit_quiet : (records : ℕ → Record) (t : ℕ) (n : ℕ) (main : Ref) (now : Option Ref) → n ≡ t → QuietCommits records t → ((m : Ref) → now ≡ Some m → ClosesNone records t) →
+    IsCommitStep records t (commit_step (records t) n main now)
+commit_quiet records t n main None count h closes = elim (found_step main (records t).commits) [
   | inl e ↦ inl e
-  | inr found ↦ let (c, a, e) = found in let p = h c a in inr (subst (λ n. (n < suc t) × ClosesNone states n) (sym e) (omega (arith, p.0), p.1))
+  | inr found ↦ let (c, a, e) = found in let p = h c a in inr (subst (λ n. (n < suc t) × ClosesNone records n) (sym e) (omega (arith, p.0), p.1))
 ]
-commit_quiet states t main (Some m) count h closes = inr (subst (λ n. (n < suc t) × ClosesNone states n) (sym count) (omega arith, closes m refl))
+commit_quiet records t n main (Some m) count h closes = inr (subst (λ n. (n < suc t) × ClosesNone records n) (sym count) (omega arith, closes m refl))
 
-greater : (states : ℕ → State) (at t a b : ℕ) → IsWithin states at (suc t) a → b < suc t → ClosesNone states b → (a < b) ⊎ (b ≤ a) → IsWithin states at (suc t) (max a b)
-greater states at t a b w lt closes (inl more) =
+greater : (records : ℕ → Record) (at t a b : ℕ) → IsWithin records at (suc t) a → b < suc t → ClosesNone records b → (a < b) ⊎ (b ≤ a) → IsWithin records at (suc t) (max a b)
+greater records at t a b w lt closes (inl more) =
     let is : b ≡ max a b = omega arith in
-    subst (IsWithin states at (suc t)) is (record { behind = omega (arith, w.behind); past = lt; closes_none = closes })
-greater states at t a b w lt closes (inr less) = let is : a ≡ max a b = omega arith in subst (IsWithin states at (suc t)) is w
+    subst (IsWithin records at (suc t)) is (record { behind = omega (arith, w.behind); past = lt; closes_none = closes })
+greater records at t a b w lt closes (inr less) = let is : a ≡ max a b = omega arith in subst (IsWithin records at (suc t)) is w
 
 either : (a b : ℕ) → (a < b) ⊎ (b ≤ a)
 either a b = grind arith
 
-pub max_within : (states : ℕ → State) (at t a b : ℕ) → IsWithin states at (suc t) a → IsCommitStep states t b → IsWithin states at (suc t) (max a b)
-max_within states at t a b w (inl none) = let is : a ≡ max a b = omega arith in subst (IsWithin states at (suc t)) is w
-max_within states at t a b w (inr (lt, closes)) = greater states at t a b w lt closes (either a b)
+pub max_within : (records : ℕ → Record) (at t a b : ℕ) → IsWithin records at (suc t) a → IsCommitStep records t b → IsWithin records at (suc t) (max a b)
+max_within records at t a b w (inl none) = let is : a ≡ max a b = omega arith in subst (IsWithin records at (suc t)) is w
+max_within records at t a b w (inr (lt, closes)) = greater records at t a b w lt closes (either a b)

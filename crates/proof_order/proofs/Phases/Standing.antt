@@ -6,14 +6,14 @@ use Rattle.proof_order.specs.Beneath.slot_arena.specs.Heaps.{generation_at}
 use Rattle.proof_order.specs.Beneath.machine_model.specs.declared.operations.Operation.{Operation}
 use Rattle.proof_order.specs.Beneath.machine_model.specs.declared.roots.Root.{Root}
 use Rattle.proof_order.specs.Beneath.machine_model.specs.declared.roots.RootWord.TheVariants.{Plain, Offer}
-use Rattle.proof_order.specs.Beneath.machine_model.specs.declared.steps.Limits.{Limits}
+use Rattle.proof_order.specs.Beneath.machine_model.specs.declared.steps.Bounds.{Bounds}
 use Rattle.proof_order.specs.Beneath.machine_model.specs.declared.steps.Outcome.{Outcome}
 use Rattle.proof_order.specs.Beneath.machine_model.specs.declared.steps.Step.{Step}
 use Rattle.proof_order.specs.Beneath.machine_model.specs.Calls.{handle_of, is_close}
 use Rattle.proof_order.specs.Beneath.machine_model.specs.States.{State, root_at, root_of, word_of, word_at}
 use Rattle.proof_order.specs.Beneath.machine_model.specs.Operations.{action_of}
 use Rattle.proof_order.specs.Beneath.machine_model.specs.Moves.{Moves}
-use Rattle.proof_order.specs.Beneath.machine_model.specs.Times.{turns}
+use Rattle.proof_order.specs.Beneath.machine_model.specs.Times.{turns, noted_turn}
 use Rattle.proof_order.specs.Beneath.machine_model.specs.Times.{IsRun, Turn}
 use Rattle.proof_order.specs.Beneath.proof_memory.proofs.Safety.AtEachTime.{safe_at}
 use Rattle.proof_order.specs.Beneath.proof_memory.proofs.Safety.States.{IsSafe}
@@ -29,37 +29,40 @@ use Rattle.proof_order.specs.Beneath.proof_commits.proofs.Course.Finals.{from_ti
 use Rattle.proof_order.specs.Facts.{Runs, IsRooted, standing, standing_of}
 use Rattle.proof_order.specs.Times.{Since, RootedSince, RootedAtMoments, ReadOnlyStands}
 use Rattle.proof_order.proofs.Phases.Since.{run_since}
+use Rattle.proof_order.specs.Beneath.machine_model.specs.Records.{moment_at, Record, noted}
+use Rattle.proof_order.specs.Beneath.machine_model.specs.Tellings.{told_in}
 
 -- ---- writable handles
 
 from_or_behind : (at u : ℕ) → at ≤ u → (u ≡ at) ⊎ (at < u)
 from_or_behind at u h = grind arith
 
-pub rooted_since : (limits : Limits) (states : ℕ → State) (last : ℕ) → IsRun limits states last → RootedSince states last
+pub rooted_since : (limits : Bounds) (states : ℕ → State) (last : ℕ) (r : IsRun limits states last) → RootedSince states r.records last
 rooted_since limits states last r t k operation generation le runs writable its u from within = elim (from_or_behind its.at u from) [
   | inl same ↦ inl (ap (λ v. standing (states v) (handle_of operation.call)) same ∙ its.stood ∙ ap (λ a. Some (a, generation)) writable)
   | inr behind ↦
       let (was, at_k, same, of_it) = its.runs u behind within in
-      subst (λ c. IsRooted states u (handle_of c) generation) (sym same.call)
+      subst (λ c. IsRooted states r.records u (handle_of c) generation) (sym same.call)
       (roots.rooted_at limits states last r u (omega arith) k was generation at_k (ap is_close (sym same.call) ∙ its.no_close) (sym same.access ∙ writable) of_it)
 ]
 
 -- now, and behind its moment
-pub rooted_at : (limits : Limits) (states : ℕ → State) (last : ℕ) → IsRun limits states last → (t k : ℕ) (operation : Operation) (generation : ℕ) → t ≤ last → Runs (states t) k operation →
-    operation.access ≡ Writable → operation.generation ≡ Some generation → IsRooted states t (handle_of operation.call) generation
+pub rooted_at : (limits : Bounds) (states : ℕ → State) (last : ℕ) (r : IsRun limits states last) → (t k : ℕ) (operation : Operation) (generation : ℕ) → t ≤ last → Runs (states t) k operation →
+    operation.access ≡ Writable → operation.generation ≡ Some generation → IsRooted states r.records t (handle_of operation.call) generation
 rooted_at limits states last r t k operation generation le runs writable of_it =
     let its = (run_since limits states last r t k operation le runs).tries generation of_it in
     rooted_since limits states last r t k operation generation le runs writable its t (omega (arith, its.past)) (omega arith)
 
-pub rooted_at_moments : (limits : Limits) (states : ℕ → State) (last : ℕ) → IsRun limits states last → RootedAtMoments states last
+pub rooted_at_moments : (limits : Bounds) (states : ℕ → State) (last : ℕ) (r : IsRun limits states last) → RootedAtMoments states r.records last
 rooted_at_moments limits states last r t k operation generation le runs writable of_it given =
     let its = (run_since limits states last r t k operation le runs).tries generation of_it in
     let within = its.reads.moment given in
-    rooted_since limits states last r t k operation generation le runs writable its (suc operation.moment) (omega (arith, within.behind)) (omega (arith, within.past))
+    rooted_since limits states last r t k operation generation le runs writable its (suc (moment_at (r.records t) (suc k)).moment) (omega (arith, within.behind)) (omega (arith, within.past))
 
 -- ---- read-only handles
 
-module _ (state : State) (S : IsSafe state) (I : IsOrdered state) (s : Step) (o : Outcome) (after : State) (m : Moves state s o after) (handle : ℕ) (root : Root)
+module _ (state : State) (past now : Record) (S : IsSafe state) (I : IsOrdered state past) (s : Step) (o : Outcome) (after : State) (m : Moves state s o after)
+    (notes : now ≡ noted past state.steps (told_in state s)) (handle : ℕ) (root : Root)
     (is : root_at state handle ≡ Some root) (read_only : root.access ≡ ReadOnly) where
   -- the root that stood there, with its generation
   abbrev pub IsItsRoot : Root → Type 0
@@ -70,14 +73,14 @@ module _ (state : State) (S : IsSafe state) (I : IsOrdered state) (s : Step) (o 
       let one = same_Some _ _ (sym found ∙ is) in
       ap (generation_at after.heap) (word ∙ ap (λ (x : Root). root_of x.word) one) ∙ root_kept state S s o after m handle root is
 
-  stands_by : (kind : StepKind state s after) (now : Root) → root_at after handle ≡ Some now → IsItsRoot now
+  stands_by : (kind : StepKind state past s after now) (found_root : Root) → root_at after handle ≡ Some found_root → IsItsRoot found_root
   stands_by (quiet closings roots) now found = let (was, at_it, access, word) = roots handle now found in kept_root now was at_it word
   stands_by (swaps actor mover offer go moves c closings roots) now found = by (roots handle now found)
     where
       by : RootFrom state (handle_of mover.call) (action_of state mover) handle now → IsItsRoot now
       by (stood was at_it access word other) = kept_root now was at_it word
       by (swapped was other d here at_it it) =
-          let plain = read_only_plain state S I handle root is read_only in
+          let plain = read_only_plain state past S I handle root is read_only in
           let offered = carried_stands state I.offers actor mover other moves d in
           absurd (clash (root_of root.word) other (sym plain ∙ sym (ap word_of is) ∙ ap (word_at state) here ∙ offered))
         where
@@ -89,10 +92,10 @@ module _ (state : State) (S : IsSafe state) (I : IsOrdered state) (s : Step) (o 
           absurd (none-some root (sym (I.handles.unopened b.k n b.owner b.runs b.unmarked (sym mine.number ∙ opens)) ∙ ap (root_at state) (sym at_it) ∙ is))
 
   pub read_only_stays : (now : Root) → root_at after handle ≡ Some now → IsItsRoot now
-  read_only_stays = stands_by (step_kind state I.offers s o after m)
+  read_only_stays = stands_by (step_kind state I.offers past now s o after m notes)
 
-module _ (limits : Limits) (states : ℕ → State) (last : ℕ) (r : IsRun limits states last) (t k : ℕ) (operation : Operation) (le : t ≤ last) (read_only : operation.access ≡ ReadOnly)
-    (no_close : is_close operation.call ≡ false) (since : Since states t k operation) where
+module _ (limits : Bounds) (states : ℕ → State) (last : ℕ) (r : IsRun limits states last) (t k : ℕ) (operation : Operation) (le : t ≤ last) (read_only : operation.access ≡ ReadOnly)
+    (no_close : is_close operation.call ≡ false) (since : Since states r.records t k operation) where
   -- the handle is open and read-only
   Opened : ℕ → Type 0
   Opened u = (root : Root) × (root_at (states u) (handle_of operation.call) ≡ Some root) × (root.access ≡ ReadOnly)
@@ -110,12 +113,13 @@ module _ (limits : Limits) (states : ℕ → State) (last : ℕ) (r : IsRun limi
 
   stays_by : (u : ℕ) → u < last → Turn (states u) (states (suc u)) → Opened u → Opened (suc u) → standing (states (suc u)) (handle_of operation.call) ≡ standing (states u) (handle_of operation.call)
   unfolding Opened
-  stays_by u lt turn (root, is, access) (now, found, read) = by (states (suc u)) turn refl
+  stays_by u lt turn (root, is, access) (now, found, read) = by (r.turn u lt) (r.recorded u lt)
     where
-      by : (after : State) → Turn (states u) after → after ≡ states (suc u) → standing (states (suc u)) (handle_of operation.call) ≡ standing (states u) (handle_of operation.call)
-      by after (turns s o m) e =
-          let its = read_only_stays (states u) (safe_at limits states last r u (omega arith)) (ordered_at limits states last r u (omega arith)) s o (states (suc u))
-          (subst (λ q. Moves (states u) s o q) e m) (handle_of operation.call) root is access now found in
+      by : (turn : Turn (states u) (states (suc u))) → r.records (suc u) ≡ noted_turn turn (r.records u) →
+          standing (states (suc u)) (handle_of operation.call) ≡ standing (states u) (handle_of operation.call)
+      by (turns s o m) notes =
+          let its = read_only_stays (states u) (r.records u) (r.records (suc u)) (safe_at limits states last r u (omega arith))
+          (ordered_at limits states last r u (omega arith)) s o (states (suc u)) m notes (handle_of operation.call) root is access now found in
           standing_of_opened (suc u) now found read ∙ ap (λ g. Some (ReadOnly, g)) its ∙ sym (standing_of_opened u root is access)
 
   pub one_root : (generation : ℕ) × ((u : ℕ) → since.at < u → u ≤ t → standing (states u) (handle_of operation.call) ≡ Some (ReadOnly, generation))
@@ -129,5 +133,5 @@ module _ (limits : Limits) (states : ℕ → State) (last : ℕ) (r : IsRun limi
             t within (omega arith) ∙ standing_of_opened t root is access,
       )
 
-pub read_only_stands : (limits : Limits) (states : ℕ → State) (last : ℕ) → IsRun limits states last → ReadOnlyStands states last
+pub read_only_stands : (limits : Bounds) (states : ℕ → State) (last : ℕ) (r : IsRun limits states last) → ReadOnlyStands states r.records last
 read_only_stands limits states last r t k operation le runs read_only no_close since = one_root limits states last r t k operation le read_only no_close since

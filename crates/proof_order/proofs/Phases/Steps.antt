@@ -4,15 +4,13 @@ use Rattle.std.proofs.lemmas.Bool.{cases_Bool}
 use Rattle.proof_order.specs.Beneath.history.specs.declared.calls.Call.{Call}
 use Rattle.proof_order.specs.Beneath.history.specs.declared.calls.Call.TheVariants.{Clear}
 use Rattle.proof_order.specs.Beneath.history.specs.declared.replies.Reply.TheVariants as reply
-use Rattle.proof_order.specs.Beneath.history.specs.Histories.{begun}
 use Rattle.proof_order.specs.Beneath.places.specs.declared.place.Place.{Place}
 use Rattle.proof_order.specs.Beneath.machine_model.specs.declared.operations.Operation.{Operation}
-use Rattle.proof_order.specs.Beneath.machine_model.specs.declared.steps.Limits.{Limits}
+use Rattle.proof_order.specs.Beneath.machine_model.specs.declared.steps.Bounds.{Bounds}
 use Rattle.proof_order.specs.Beneath.machine_model.specs.declared.steps.Step.{Step}
 use Rattle.proof_order.specs.Beneath.machine_model.specs.States.{State}
 use Rattle.proof_order.specs.Beneath.machine_model.specs.Copying.{copied_reply}
 use Rattle.proof_order.specs.Beneath.machine_model.specs.Operations.{action_of, line_action}
-use Rattle.proof_order.specs.Beneath.machine_model.specs.Orders.{is_placed}
 use Rattle.proof_order.specs.Beneath.machine_model.specs.Acting.{operation_after}
 use Rattle.proof_order.specs.Beneath.machine_model.specs.Moves.{GoesOn}
 use Rattle.proof_order.specs.Beneath.machine_model.proofs.Actors.{mark_one, mark_only, marks_in, marks_by}
@@ -26,6 +24,8 @@ use Rattle.proof_order.proofs.History.Copies.{stays_marked, mark_kept}
 use Rattle.proof_order.proofs.History.Answering.{phased_at, no_offer}
 use Rattle.proof_order.specs.Phases.{Phase, past, completes, answers, IsPast}
 use Rattle.proof_order.proofs.Phases.PastSteps.{past_rested, past_went}
+use Rattle.proof_order.specs.Beneath.machine_model.specs.Records.{is_placed, Record}
+use Rattle.proof_order.specs.Beneath.machine_model.proofs.Alike.{alike}
 
 -- ---- one by one
 
@@ -33,13 +33,13 @@ copied_no_slots : (call : Call) (opens : Option ℕ) → copied_reply call opens
 copied_no_slots (Clear h) opens e = let wrong : ⊥ = cc e in wrong
 copied_no_slots call opens e = let wrong : ⊥ = cc e in wrong
 
-pub is_placed_so : (state : State) (p : Place) → Among p state.places → (id : ℕ) → p.id ≡ id → is_placed state id ≡ true
-is_placed_so state p a id same = elim (cases_Bool (is_placed state id)) [
+pub is_placed_so : (told : Record) (p : Place) → Among p told.places → (id : ℕ) → p.id ≡ id → is_placed told id ≡ true
+is_placed_so told p a id same = elim (cases_Bool (is_placed told id)) [
   | inl is ↦ is
-  | inr none ↦ absurd (unplaced state id none p a same)
+  | inr none ↦ absurd (unplaced told id none p a same)
 ]
 
-module _ (limits : Limits) (states : ℕ → State) (last : ℕ) (r : IsRun limits states last) where
+module _ (limits : Bounds) (states : ℕ → State) (last : ℕ) (r : IsRun limits states last) where
   -- a marked operation
   pub marked_phase : (t : ℕ) → t ≤ last → (k : ℕ) (operation : Operation) → Runs (states t) k operation → operation.is_marked ≡ true → Phase states t operation
   marked_phase t le k operation runs marked = elim ((phased_at limits states last r t le).done k operation runs marked) [
@@ -70,17 +70,18 @@ module _ (limits : Limits) (states : ℕ → State) (last : ℕ) (r : IsRun limi
         marked_phase (suc t) lt k found runs (ap (λ (x : Operation). x.is_marked) it ∙ stays_marked m (operation_after (states t) was) (keeps ∙ marked))
     phase_went k was found m at_k runs goes it (answers answer at other) = absurd (subst (λ l. GoesOn (line_action (states t) was l)) at goes)
 
-    pub old : (s : Step) (k : ℕ) (found : Operation) → Runs (states (suc t)) k found → ((was : Operation) → Runs (states t) k was → is_placed (states t) was.id ≡ true → Phase states t was) →
-        is_placed (states t) found.id ≡ true → From (states t) s k found → Phase states (suc t) found
+    pub old : (s : Step) (k : ℕ) (found : Operation) → Runs (states (suc t)) k found → ((was : Operation) → Runs (states t) k was → is_placed (r.records t) was.id ≡ true → Phase states t was) →
+        is_placed (r.records t) found.id ≡ true → From (states t) s k found → Phase states (suc t) found
     old s k found runs before is (began new) =
-        let (p, a, same) = placed (states t) found.id is in
+        let (p, a, same) = placed (r.records t) found.id is in
         let low = places_below limits states last r t within p a in
-        let its : found.id ≡ begun (states t).events = ap (λ (x : Operation). x.id) new.is_it in
+        let count = (alike limits states last r t within).begun_are in
+        let its : found.id ≡ (states t).begun = ap (λ (x : Operation). x.id) new.is_it in
         absurd (omega arith)
     old s k found runs before is (kept was at_k it other) =
         let same : found.id ≡ was.id = ap (λ (x : Operation). x.id) (it ∙ mark_only (marks_in (states t) s) was) in
-        phase_rested k was found (marks_in (states t) s) at_k runs it (before was at_k (ap (is_placed (states t)) (sym same) ∙ is))
+        phase_rested k was found (marks_in (states t) s) at_k runs it (before was at_k (ap (is_placed (r.records t)) (sym same) ∙ is))
     old s k found runs before is (stepped was at_k go goes it) =
         let m : Option ℕ = marks_by (states t) (Some was) in
         let same : found.id ≡ was.id = ap (λ (x : Operation). x.id) (it ∙ mark_only m (operation_after (states t) was)) in
-        phase_went k was found m at_k runs goes it (before was at_k (ap (is_placed (states t)) (sym same) ∙ is))
+        phase_went k was found m at_k runs goes it (before was at_k (ap (is_placed (r.records t)) (sym same) ∙ is))

@@ -6,7 +6,7 @@ use Rattle.proof_order.specs.Beneath.machine_model.specs.declared.lines.Line.The
 use Rattle.proof_order.specs.Beneath.machine_model.specs.declared.lines.Purpose.{Purpose}
 use Rattle.proof_order.specs.Beneath.machine_model.specs.declared.operations.Operation.{Operation}
 use Rattle.proof_order.specs.Beneath.machine_model.specs.declared.reading.Swap.{Swap}
-use Rattle.proof_order.specs.Beneath.machine_model.specs.declared.steps.Limits.{Limits}
+use Rattle.proof_order.specs.Beneath.machine_model.specs.declared.steps.Bounds.{Bounds}
 use Rattle.proof_order.specs.Beneath.machine_model.specs.declared.steps.Step.{Step}
 use Rattle.proof_order.specs.Beneath.machine_model.specs.States.{State}
 use Rattle.proof_order.specs.Beneath.machine_model.specs.Acting.{operation_after}
@@ -29,7 +29,7 @@ AllReaders state = (k : ℕ) (operation : Operation) → Runs state k operation 
 
 readers_by : (state : State) (s : Step) → IsSafe state → AllReaders state → (k : ℕ) (found : Operation) → Comes state s k found → found.access ≡ ReadOnly → IsReaders found.line
 readers_by state s S all k found (began call go d it) e = subst IsReaders (sym (ap (λ (x : Operation). x.line) it)) (first_readers call)
-readers_by state s S all k found (rested was at_k it) e =
+readers_by state s S all k found (rested was at_k it other_step) e =
     let same = it ∙ mark_only (marks_in state s) was in
     subst IsReaders (sym (ap (λ (x : Operation). x.line) same)) (all k was at_k (ap (λ (x : Operation). x.access) (sym same) ∙ e))
 readers_by state s S all k found (went was go at_k g it) e =
@@ -37,7 +37,7 @@ readers_by state s S all k found (went was go at_k g it) e =
     let read_only = ap (λ (x : Operation). x.access) (sym same) ∙ e in
     subst IsReaders (sym (ap (λ (x : Operation). x.line) same)) (readers state was was.line read_only (S.fits k was at_k read_only) (all k was at_k read_only))
 
-readers_at : (limits : Limits) (states : ℕ → State) (last : ℕ) → IsRun limits states last → (t : ℕ) → t ≤ last → AllReaders (states t)
+readers_at : (limits : Bounds) (states : ℕ → State) (last : ℕ) (r : IsRun limits states last) → (t : ℕ) → t ≤ last → AllReaders (states t)
 readers_at limits states last r =
     along_run limits states last r (λ t. AllReaders (states t)) (λ k operation runs. absurd (nobody limits k operation (subst (λ q. Runs q k operation) r.first runs)))
     (λ t lt turn before. by_turn (states t) (states (suc t)) (safe_at limits states last r t (omega arith)) turn before)
@@ -45,7 +45,7 @@ readers_at limits states last r =
     by_turn : (before after : State) → IsSafe before → Turn before after → AllReaders before → AllReaders after
     by_turn before after S (turns s o m) all k found runs = readers_by before s S all k found (comes before s o after m k found runs)
 
-pub swaps_writable : (limits : Limits) (states : ℕ → State) (last : ℕ) → IsRun limits states last → (t k : ℕ) (operation : Operation) (why : Purpose) (s : Swap) →
+pub swaps_writable : (limits : Bounds) (states : ℕ → State) (last : ℕ) (r : IsRun limits states last) → (t k : ℕ) (operation : Operation) (why : Purpose) (s : Swap) →
     t ≤ last → Runs (states t) k operation →
     operation.line ≡ line.Swap why s → operation.access ≡ Writable
 swaps_writable limits states last r t k operation why s le runs at = by operation.access refl
@@ -54,7 +54,7 @@ swaps_writable limits states last r t k operation why s le runs at = by operatio
     by Writable e = refl
     by ReadOnly e = absurd (subst IsReaders at (readers_at limits states last r t le k operation runs e))
 
-pub swaps_rooted : (limits : Limits) (states : ℕ → State) (last : ℕ) → IsRun limits states last → (t k : ℕ) (operation : Operation) (why : Purpose) (s : Swap) →
+pub swaps_rooted : (limits : Bounds) (states : ℕ → State) (last : ℕ) (r : IsRun limits states last) → (t k : ℕ) (operation : Operation) (why : Purpose) (s : Swap) →
     t ≤ last → Runs (states t) k operation →
     operation.line ≡ line.Swap why s → (generation : ℕ) × (operation.generation ≡ Some generation)
 swaps_rooted limits states last r t k operation why s le runs at = option_tested operation.generation ((safe_at limits states last r t le).known k operation runs (ap is_past_root at))

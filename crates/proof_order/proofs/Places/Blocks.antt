@@ -8,9 +8,8 @@ use Rattle.proof_order.specs.Beneath.history.specs.Worlds.{KeyMap}
 use Rattle.proof_order.specs.Beneath.history.specs.declared.replies.Reply.{Reply}
 use Rattle.proof_order.specs.Beneath.places.specs.declared.place.Place.{Place}
 use Rattle.proof_order.specs.Beneath.machine_model.specs.declared.operations.Operation.{Operation}
-use Rattle.proof_order.specs.Beneath.machine_model.specs.declared.steps.Limits.{Limits}
-use Rattle.proof_order.specs.Beneath.machine_model.specs.States.{State, closed_at}
-use Rattle.proof_order.specs.Beneath.machine_model.specs.Orders.{place_of, closing_for}
+use Rattle.proof_order.specs.Beneath.machine_model.specs.declared.steps.Bounds.{Bounds}
+use Rattle.proof_order.specs.Beneath.machine_model.specs.States.{State}
 use Rattle.proof_order.specs.Beneath.machine_model.specs.Times.{IsRun}
 use Rattle.proof_order.specs.Facts.{Facts, Replied, on_writable, on_read_only}
 use Rattle.proof_order.specs.Beneath.history.proofs.Among.{Among}
@@ -26,10 +25,12 @@ use Rattle.proof_order.proofs.Places.Members.{sorted, block, lates, timely, in_l
 use Rattle.proof_order.proofs.Places.Late.{closing_is, all_lately}
 use Rattle.proof_order.proofs.Places.OnTime.{readers_timely, of_changing, none_timely, other_timely, one_timely, still_view, update_by}
 use Rattle.proof_order.proofs.Views.Openings.{close_leads, at_last, swap_leads}
+use Rattle.proof_order.specs.Beneath.machine_model.specs.Records.{closed_at, place_of, closing_for, moment_at}
+use Rattle.proof_order.specs.Beneath.machine_model.specs.Tellings.{entrant_of}
 
-module _ (limits : Limits) (states : ℕ → State) (last : ℕ) (r : IsRun limits states last) (V : ℕ → ℕ → KeyMap) (facts : Facts limits states last V) where
+module _ (limits : Bounds) (states : ℕ → State) (last : ℕ) (r : IsRun limits states last) (V : ℕ → ℕ → KeyMap) (facts : Facts limits states r.records last V) where
   abbrev LeadsOn : List Place → View → View → Type 0
-  LeadsOn ps before after = Leads (hash_of limits.hash) (states last).events ps before after
+  LeadsOn ps before after = Leads (hash_of limits.hash) (r.records last).events ps before after
 
   abbrev at_time : ℕ → View
   at_time t = view limits states last V t
@@ -37,57 +38,57 @@ module _ (limits : Limits) (states : ℕ → State) (last : ℕ) (r : IsRun limi
   -- ---- late places belong to swaps
 
   -- a step that closes nothing closed no generation
-  closed_none : (t u generation : ℕ) → u ≤ last → ClosesNone limits states last V t → closed_at (states u) generation ≡ Some t → ⊥
+  closed_none : (t u generation : ℕ) → u ≤ last → ClosesNone limits states r.records last V t → closed_at (r.records u) generation ≡ Some t → ⊥
   closed_none t u generation le same e =
       let (before, none, some) = closed_from limits states last r V facts u generation t le e in
       none-some t (sym none ∙ ap (λ l. closed_in l generation) (sym same) ∙ some)
 
-  late_closing : (u t : ℕ) (operation : Operation) (p : Place) (moment : ℕ) (changed_nothing : Bool) → p ≡ place_of (states u) operation moment changed_nothing →
-      p.on_time ≡ false → p.step ≡ t → closing_for (states u) operation operation.access ≡ Some t
+  late_closing : (u t : ℕ) (operation : Operation) (p : Place) (moment : ℕ) (changed_nothing : Bool) → p ≡ place_of (r.records u) (entrant_of operation) moment changed_nothing →
+      p.on_time ≡ false → p.step ≡ t → closing_for (r.records u) operation.generation operation.access ≡ Some t
   late_closing u t operation p moment changed_nothing is is_late at =
-      (late_says (closing_for (states u) operation operation.access) moment operation.id changed_nothing (ap (λ (q : Place). q.on_time) (sym is) ∙ is_late)).0
+      (late_says (closing_for (r.records u) operation.generation operation.access) moment operation.id changed_nothing (ap (λ (q : Place). q.on_time) (sym is) ∙ is_late)).0
       ∙ ap Some (ap (λ (q : Place). q.step) (sym is) ∙ at)
 
-  late_replied : (u t : ℕ) (operation : Operation) → u ≤ last → ClosesNone limits states last V t → closing_for (states u) operation operation.access ≡ Some t →
-      (answer : Reply) → Replied limits states last V operation answer → ⊥
-  late_replied u t operation le same e answer (on_writable generation writable of rooted none acts) =
-      closed_none t u generation le same (sym (closing_is (states u) operation generation writable of) ∙ e)
-  late_replied u t operation le same e answer (on_read_only generation read_only stands acts) = none-some t (ap (closing_for (states u) operation) (sym read_only) ∙ e)
+  late_replied : (u t : ℕ) (operation : Operation) (moment : ℕ) → u ≤ last → ClosesNone limits states r.records last V t → closing_for (r.records u) operation.generation operation.access ≡ Some t →
+      (answer : Reply) → Replied limits states r.records last V operation moment answer → ⊥
+  late_replied u t operation moment le same e answer (on_writable generation writable of rooted none acts) =
+      closed_none t u generation le same (sym (closing_is (r.records u) operation generation writable of) ∙ e)
+  late_replied u t operation moment le same e answer (on_read_only generation read_only stands acts) = none-some t (ap (closing_for (r.records u) operation.generation) (sym read_only) ∙ e)
 
-  none_late_by : (t u : ℕ) (p : Place) → u < last → ClosesNone limits states last V t → p.on_time ≡ false → p.step ≡ t → Why limits states last V u p → ⊥
+  none_late_by : (t u : ℕ) (p : Place) → u < last → ClosesNone limits states r.records last V t → p.on_time ≡ false → p.step ≡ t → Why limits states r.records last V u p → ⊥
   none_late_by t u p within same is_late at (by_update entered update is) =
       closed_none t u update.generation (omega arith) same
-      (sym (closing_is (states u) update.owner update.generation update.writable update.of_generation) ∙ late_closing u t update.owner p u false is is_late at)
+      (sym (closing_is (r.records u) update.owner update.generation update.writable update.of_generation) ∙ late_closing u t update.owner p u false is is_late at)
   none_late_by t u p within same is_late at (by_answer k operation answer runs is agrees replied) =
-      late_replied u t operation (omega arith) same (late_closing u t operation p operation.moment true is is_late at) answer replied
+      late_replied u t operation (moment_at (r.records u) (suc k)).moment (omega arith) same (late_closing u t operation p (moment_at (r.records u) (suc k)).moment true is is_late at) answer replied
   none_late_by t u p within same is_late at (by_change id is) = true≢false (sym (ap (λ (q : Place). q.on_time) is) ∙ is_late)
 
-  none_late : (t : ℕ) → ClosesNone limits states last V t → (p : Place) → Among p (lates states last t) → ⊥
+  none_late : (t : ℕ) → ClosesNone limits states r.records last V t → (p : Place) → Among p (lates r.records last t) → ⊥
   none_late t same p a =
-      let (place, at, is_late) = in_lates states last t p a in
+      let (place, at, is_late) = in_lates r.records last t p a in
       let o = origin limits states last r V facts last (omega arith) p place in
       none_late_by t o.u p o.is_before same is_late at o.why
 
-  lates_none : (t : ℕ) → ClosesNone limits states last V t → LeadsOn (lates states last t) (at_time t) (at_time t)
+  lates_none : (t : ℕ) → ClosesNone limits states r.records last V t → LeadsOn (lates r.records last t) (at_time t) (at_time t)
   lates_none t same =
-      subst (λ l. LeadsOn l (at_time t) (at_time t)) (sym (no_members (lates states last t) (none_late t same)))
-      (leads_none (hash_of limits.hash) (states last).events (at_time t) (at_time t) (λ handle. refl))
+      subst (λ l. LeadsOn l (at_time t) (at_time t)) (sym (no_members (lates r.records last t) (none_late t same)))
+      (leads_none (hash_of limits.hash) (r.records last).events (at_time t) (at_time t) (λ handle. refl))
 
   -- ---- one step
 
   abbrev Changing : ℕ → List Place
-  Changing t = filter (equals role 0) (timely states last t)
+  Changing t = filter (equals role 0) (timely r.records last t)
 
   -- the late ones, then those that change something, then the readers
-  together : (t : ℕ) (middle : View) → t < last → LeadsOn (lates states last t) (at_time t) middle → LeadsOn (Changing t) middle (at_time (suc t)) →
-      LeadsOn (block states last t) (at_time t) (at_time (suc t))
+  together : (t : ℕ) (middle : View) → t < last → LeadsOn (lates r.records last t) (at_time t) middle → LeadsOn (Changing t) middle (at_time (suc t)) →
+      LeadsOn (block r.records last t) (at_time t) (at_time (suc t))
   together t middle lt first second =
-      leads_parts (hash_of limits.hash) (states last).events timing (block states last t) (block_along states last t) (λ p. number_below p.on_time) (at_time t) middle (at_time (suc t))
+      leads_parts (hash_of limits.hash) (r.records last).events timing (block r.records last t) (block_along r.records last t) (λ p. number_below p.on_time) (at_time t) middle (at_time (suc t))
       first
-      (leads_parts (hash_of limits.hash) (states last).events role (timely states last t) (timely_along limits states last r V facts t) (λ p. number_below p.changed_nothing)
+      (leads_parts (hash_of limits.hash) (r.records last).events role (timely r.records last t) (timely_along limits states last r V facts t) (λ p. number_below p.changed_nothing)
       middle (at_time (suc t)) (at_time (suc t)) second (readers_timely limits states last r V facts t lt))
 
-  block_by : (t : ℕ) → t < last → Kind limits states last V t → LeadsOn (block states last t) (at_time t) (at_time (suc t))
+  block_by : (t : ℕ) → t < last → Kind limits states r.records last V t → LeadsOn (block r.records last t) (at_time t) (at_time (suc t))
   block_by t lt (plain places closings kept still) =
       together t (at_time t) lt (lates_none t closings) (none_timely limits states last r V facts t
       (λ p a. let (place, on, moment, e) = of_changing limits states last r V facts t p a in none_changing limits states last r V facts t places p place e moment)
@@ -97,7 +98,7 @@ module _ (limits : Limits) (states : ℕ → State) (last : ℕ) (r : IsRun limi
   block_by t lt (answers k operation answer runs places unplaced agrees replied closings kept still) =
       together t (at_time t) lt (lates_none t closings) (none_timely limits states last r V facts t
       (other_timely limits states last r V facts t _ places
-      (λ on e. true≢false (sym (place_says (closing_for (states t) operation operation.access) operation.moment operation.id true).1 ∙ e)))
+      (λ on e. true≢false (sym (place_says (closing_for (r.records t) operation.generation operation.access) (moment_at (r.records t) (suc k)).moment operation.id true).1 ∙ e)))
       (still_view limits states last r V facts t kept still))
   block_by t lt (closes handle stood places recalls more at gone others closings still) =
       together t (at_time t) lt (lates_none t closings)
@@ -109,13 +110,13 @@ module _ (limits : Limits) (states : ℕ → State) (last : ℕ) (r : IsRun limi
       (subst (λ l. LeadsOn l middle (at_time (suc t))) (sym (one_timely limits states last r V facts t _ lt places refl refl refl))
       (swap_leads limits states last r V facts t handle lt offer swap roots heap still))
 
-  pub block_leads : (t : ℕ) → t < last → LeadsOn (block states last t) (at_time t) (at_time (suc t))
+  pub block_leads : (t : ℕ) → t < last → LeadsOn (block r.records last t) (at_time t) (at_time (suc t))
   block_leads t lt = block_by t lt (kind_at limits states last r V facts t lt)
 
   -- ---- all steps
 
   -- the order leads from the first view to the last
-  pub order_leads : LeadsOn (sorted states last) (at_time zero) (at_time last)
+  pub order_leads : LeadsOn (sorted r.records last) (at_time zero) (at_time last)
   order_leads =
-      leads_all (hash_of limits.hash) (states last).events (λ p. p.step) (sorted states last) (sorted_along states last) at_time last
-      (λ p a. step_within limits states last r V facts p (among_rising (states last).places p a)) block_leads
+      leads_all (hash_of limits.hash) (r.records last).events (λ p. p.step) (sorted r.records last) (sorted_along r.records last) at_time last
+      (λ p a. step_within limits states last r V facts p (among_rising (r.records last).places p a)) block_leads

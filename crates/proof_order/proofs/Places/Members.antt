@@ -1,14 +1,13 @@
 -- The places of one step, one moment and one role, among all places of a run.
-use Rattle.std.proofs.Common.{◌≡◌, ℕ, ◌<◌, Bool, true, false, List, filter, Option, refl, sym, ap, ◌∙◌, subst, arith, eqb-true, eq-eqb}
+use Rattle.std.proofs.Common.{◌≡◌, ℕ, ◌<◌, Bool, true, false, List, filter, Option, refl, sym, ap, ◌∙◌, subst, arith, eqb-true, eq-eqb, suc}
 use Rattle.std.proofs.lemmas.Bool.{true≢false, false≢true}
 use Rattle.proof_order.specs.Beneath.history.specs.Worlds.{KeyMap}
 use Rattle.proof_order.specs.Beneath.history.specs.declared.replies.Reply.{Reply}
 use Rattle.proof_order.specs.Beneath.places.specs.declared.place.Place.{Place}
 use Rattle.proof_order.specs.Beneath.places.specs.Places.{place_by, rising}
 use Rattle.proof_order.specs.Beneath.machine_model.specs.declared.operations.Operation.{Operation}
-use Rattle.proof_order.specs.Beneath.machine_model.specs.declared.steps.Limits.{Limits}
+use Rattle.proof_order.specs.Beneath.machine_model.specs.declared.steps.Bounds.{Bounds}
 use Rattle.proof_order.specs.Beneath.machine_model.specs.States.{State}
-use Rattle.proof_order.specs.Beneath.machine_model.specs.Orders.{place_of, closing_for}
 use Rattle.proof_order.specs.Beneath.machine_model.proofs.Times.{steps_at}
 use Rattle.proof_order.specs.Beneath.machine_model.specs.Times.{IsRun}
 use Rattle.proof_order.specs.Facts.{Runs, IsReply, Facts, Replied}
@@ -19,12 +18,14 @@ use Rattle.proof_order.proofs.Places.Sorting.{role, number_false, number_true, f
 use Rattle.proof_order.proofs.History.Past.{past_at}
 use Rattle.proof_order.proofs.Views.Steps.{Enters, EntersNone}
 use Rattle.proof_order.proofs.Places.Origins.{Why, by_update, by_answer, by_change, origin, apart_at, place_says, on_time_says, late_says, same_last}
+use Rattle.proof_order.specs.Beneath.machine_model.specs.Records.{place_of, closing_for, Record, moment_at}
+use Rattle.proof_order.specs.Beneath.machine_model.specs.Tellings.{entrant_of}
 
 -- ---- the parts of the order
 
-module _ (states : ℕ → State) (last : ℕ) where
+module _ (records : ℕ → Record) (last : ℕ) where
   abbrev pub sorted : List Place
-  sorted = rising (states last).places
+  sorted = rising (records last).places
 
   -- the places of one step
   abbrev pub block : ℕ → List Place
@@ -43,13 +44,13 @@ module _ (states : ℕ → State) (last : ℕ) where
 
   -- it is a place of the run
   abbrev pub IsPlace : Place → Type 0
-  IsPlace p = Among p (states last).places
+  IsPlace p = Among p (records last).places
 
   pub in_block : (t : ℕ) (p : Place) → Among p (block t) → IsPlace p × (p.step ≡ t)
-  in_block t p a = let (within, e) = among_filter (equals (λ p. p.step) t) sorted p a in (among_rising (states last).places p within, eqb-true p.step t e)
+  in_block t p a = let (within, e) = among_filter (equals (λ p. p.step) t) sorted p a in (among_rising (records last).places p within, eqb-true p.step t e)
 
   pub to_block : (t : ℕ) (p : Place) → IsPlace p → p.step ≡ t → Among p (block t)
-  to_block t p a e = filter_among (equals (λ p. p.step) t) sorted p (rising_among (states last).places p a) (eq-eqb p.step t e)
+  to_block t p a e = filter_among (equals (λ p. p.step) t) sorted p (rising_among (records last).places p a) (eq-eqb p.step t e)
 
   pub in_lates : (t : ℕ) (p : Place) → Among p (lates t) → IsPlace p × (p.step ≡ t) × (p.on_time ≡ false)
   in_lates t p a =
@@ -91,10 +92,10 @@ module _ (states : ℕ → State) (last : ℕ) where
   -- ---- how they rise
 
   pub block_rises : (t : ℕ) → Rises (block t)
-  block_rises t = rises_filter (equals (λ p. p.step) t) sorted (rising_rises (states last).places)
+  block_rises t = rises_filter (equals (λ p. p.step) t) sorted (rising_rises (records last).places)
 
   pub sorted_along : Along (λ (p : Place). p.step) sorted
-  sorted_along = steps_along sorted (rising_rises (states last).places)
+  sorted_along = steps_along sorted (rising_rises (records last).places)
 
   pub block_along : (t : ℕ) → Along timing (block t)
   block_along t = along_where timing (λ p. p.step ≡ t) (λ p q a b e. timing_up t p q a b e) (block t) (block_rises t) (each_of (λ (p : Place). p.step ≡ t) (block t) (λ p a. (in_block t p a).1))
@@ -116,28 +117,29 @@ module _ (states : ℕ → State) (last : ℕ) where
       (rises_filter (equals (λ p. p.moment) n) (lates t) (rises_filter (equals timing 0) (block t) (block_rises t)))
       (each_of (LateAt t n) (late_at t n) (λ p a. let (place, at, late, moment) = in_late_at t n p a in (at, late, moment)))
 
-module _ (limits : Limits) (states : ℕ → State) (last : ℕ) (r : IsRun limits states last) (V : ℕ → ℕ → KeyMap) (facts : Facts limits states last V) where
+module _ (limits : Bounds) (states : ℕ → State) (last : ℕ) (r : IsRun limits states last) (V : ℕ → ℕ → KeyMap) (facts : Facts limits states r.records last V) where
   -- ---- what changes something was entered at its moment
 
-  changing_by : (u : ℕ) (p : Place) → Why limits states last V u p → p.changed_nothing ≡ false → p.moment ≡ u
+  changing_by : (u : ℕ) (p : Place) → Why limits states r.records last V u p → p.changed_nothing ≡ false → p.moment ≡ u
   changing_by u p (by_update entered update is) e =
-      ap (λ (q : Place). q.moment) is ∙ (place_says (closing_for (states u) update.owner update.owner.access) u update.owner.id false).0
+      ap (λ (q : Place). q.moment) is ∙ (place_says (closing_for (r.records u) update.owner.generation update.owner.access) u update.owner.id false).0
   changing_by u p (by_answer k operation answer runs is agrees replied) e =
-      absurd (true≢false (sym (place_says (closing_for (states u) operation operation.access) operation.moment operation.id true).1 ∙ sym (ap (λ (q : Place). q.changed_nothing) is) ∙ e))
+      absurd (true≢false (sym (place_says (closing_for (r.records u) operation.generation operation.access) (moment_at (r.records u) (suc k)).moment operation.id true).1
+      ∙ sym (ap (λ (q : Place). q.changed_nothing) is) ∙ e))
   changing_by u p (by_change id is) e = ap (λ (q : Place). q.moment) is
 
-  pub changing_enters : (p : Place) → IsPlace states last p → p.changed_nothing ≡ false → (n : ℕ) → p.moment ≡ n → Enters limits states last V n p
+  pub changing_enters : (p : Place) → IsPlace r.records last p → p.changed_nothing ≡ false → (n : ℕ) → p.moment ≡ n → Enters limits states r.records last V n p
   changing_enters p a e n at =
       let o = origin limits states last r V facts last (omega arith) p a in
-      subst (λ u. Enters limits states last V u p) (sym (changing_by o.u p o.why e) ∙ at) o.enters
+      subst (λ u. Enters limits states r.records last V u p) (sym (changing_by o.u p o.why e) ∙ at) o.enters
 
   -- where a step enters none there is none
-  pub none_changing : (n : ℕ) → EntersNone limits states last V n → (p : Place) → IsPlace states last p → p.changed_nothing ≡ false → p.moment ≡ n → ⊥
-  none_changing n none p a e at = no_last (states n).places p (sym none ∙ changing_enters p a e n at)
+  pub none_changing : (n : ℕ) → EntersNone limits states r.records last V n → (p : Place) → IsPlace r.records last p → p.changed_nothing ≡ false → p.moment ≡ n → ⊥
+  none_changing n none p a e at = no_last (r.records n).places p (sym none ∙ changing_enters p a e n at)
 
   -- where it enters one there is that one alone
-  pub one_changing : (n : ℕ) (new : Place) → Enters limits states last V n new → (p : Place) → IsPlace states last p → p.changed_nothing ≡ false → p.moment ≡ n → p ≡ new
-  one_changing n new enters p a e at = same_last (states n).places p new (sym (changing_enters p a e n at) ∙ enters)
+  pub one_changing : (n : ℕ) (new : Place) → Enters limits states r.records last V n new → (p : Place) → IsPlace r.records last p → p.changed_nothing ≡ false → p.moment ≡ n → p ≡ new
+  one_changing n new enters p a e at = same_last (r.records n).places p new (sym (changing_enters p a e n at) ∙ enters)
 
   -- ---- what changes nothing
 
@@ -146,46 +148,49 @@ module _ (limits : Limits) (states : ℕ → State) (last : ℕ) (r : IsRun limi
     pub within : u < last
     pub k : ℕ
     pub operation : Operation
+    pub moment : ℕ
     pub answer : Reply
     pub runs : Runs (states u) k operation
-    pub is_its : p ≡ place_of (states u) operation operation.moment true
-    pub agrees : IsReply (states last).events operation.id answer
-    pub replied : Replied limits states last V operation answer
-    pub moment : p.moment ≡ operation.moment
-    pub past : operation.moment < u
+    pub is_its : p ≡ place_of (r.records u) (entrant_of operation) moment true
+    pub agrees : IsReply (r.records last).events operation.id answer
+    pub replied : Replied limits states r.records last V operation moment answer
+    pub is_moment : p.moment ≡ moment
+    pub past : moment < u
 
-  reading_by : (u : ℕ) (p : Place) → u < last → Why limits states last V u p → p.changed_nothing ≡ true → Reading p
+  reading_by : (u : ℕ) (p : Place) → u < last → Why limits states r.records last V u p → p.changed_nothing ≡ true → Reading p
   reading_by u p lt (by_update entered update is) e =
-      absurd (false≢true (sym (place_says (closing_for (states u) update.owner update.owner.access) u update.owner.id false).1 ∙ sym (ap (λ (q : Place). q.changed_nothing) is) ∙ e))
+      absurd (false≢true (sym (place_says (closing_for (r.records u) update.owner.generation update.owner.access) u update.owner.id false).1 ∙ sym (ap (λ (q : Place). q.changed_nothing) is) ∙ e))
   reading_by u p lt (by_answer k operation answer runs is agrees replied) e = record {
     u = u;
     within = lt;
     k = k;
     operation = operation;
+    moment = (moment_at (r.records u) (suc k)).moment;
     answer = answer;
     runs = runs;
     is_its = is;
     agrees = agrees;
     replied = replied;
-    moment = ap (λ (q : Place). q.moment) is ∙ (place_says (closing_for (states u) operation operation.access) operation.moment operation.id true).0;
-    past = subst (λ n. operation.moment < n) (steps_at limits states last r u (omega arith)) ((past_at limits states last r u (omega arith)).operations k operation runs).1;
+    is_moment = ap (λ (q : Place). q.moment) is ∙ (place_says (closing_for (r.records u) operation.generation operation.access) (moment_at (r.records u) (suc k)).moment operation.id true).0;
+    past = subst (λ n. (moment_at (r.records u) (suc k)).moment < n) (steps_at limits states last r u (omega arith)) ((past_at limits states last r u (omega arith)).operations k operation runs).1;
   }
   reading_by u p lt (by_change id is) e = absurd (false≢true (sym (ap (λ (q : Place). q.changed_nothing) is) ∙ e))
 
-  pub reading : (p : Place) → IsPlace states last p → p.changed_nothing ≡ true → Reading p
+  pub reading : (p : Place) → IsPlace r.records last p → p.changed_nothing ≡ true → Reading p
   reading p a e = let o = origin limits states last r V facts last (omega arith) p a in reading_by o.u p o.is_before o.why e
 
   -- ---- each is of one operation
 
-  pub sorted_apart : AreApart (sorted states last)
-  sorted_apart = rising_apart (states last).places (apart_at limits states last r V facts last (omega arith))
+  pub sorted_apart : AreApart (sorted r.records last)
+  sorted_apart = rising_apart (r.records last).places (apart_at limits states last r V facts last (omega arith))
 
-  pub timely_apart : (t : ℕ) → AreApart (timely states last t)
-  timely_apart t = apart_filter (equals timing 1) (block states last t) (apart_filter (equals (λ p. p.step) t) (sorted states last) sorted_apart)
+  pub timely_apart : (t : ℕ) → AreApart (timely r.records last t)
+  timely_apart t = apart_filter (equals timing 1) (block r.records last t) (apart_filter (equals (λ p. p.step) t) (sorted r.records last) sorted_apart)
 
-  pub late_at_apart : (t n : ℕ) → AreApart (late_at states last t n)
+  pub late_at_apart : (t n : ℕ) → AreApart (late_at r.records last t n)
   late_at_apart t n =
-      apart_filter (equals (λ p. p.moment) n) (lates states last t) (apart_filter (equals timing 0) (block states last t) (apart_filter (equals (λ p. p.step) t) (sorted states last) sorted_apart))
+      apart_filter (equals (λ p. p.moment) n) (lates r.records last t) (apart_filter (equals timing 0) (block r.records last t)
+      (apart_filter (equals (λ p. p.step) t) (sorted r.records last) sorted_apart))
 
   -- ---- a place lies in the past of its step
 
@@ -195,57 +200,57 @@ module _ (limits : Limits) (states : ℕ → State) (last : ℕ) (r : IsRun limi
       let says = (place_says closing moment id changed_nothing).0 in
       subst (λ (q : Place). q.step < q.moment) (sym is) (rw says lt)
 
-  late_by : (u : ℕ) (p : Place) → Why limits states last V u p → p.on_time ≡ false → p.step < p.moment
+  late_by : (u : ℕ) (p : Place) → Why limits states r.records last V u p → p.on_time ≡ false → p.step < p.moment
   late_by u p (by_update entered update is) late = late_step p _ u update.owner.id false is late
-  late_by u p (by_answer k operation answer runs is agrees replied) late = late_step p _ operation.moment operation.id true is late
+  late_by u p (by_answer k operation answer runs is agrees replied) late = late_step p _ (moment_at (r.records u) (suc k)).moment operation.id true is late
   late_by u p (by_change id is) late = absurd (true≢false (sym (ap (λ (q : Place). q.on_time) is) ∙ late))
 
   -- a late place stands before its moment
-  pub late_before : (p : Place) → IsPlace states last p → p.on_time ≡ false → p.step < p.moment
+  pub late_before : (p : Place) → IsPlace r.records last p → p.on_time ≡ false → p.step < p.moment
   late_before p a late = let o = origin limits states last r V facts last (omega arith) p a in late_by o.u p o.why late
 
-  moment_by : (u : ℕ) (p : Place) → u < last → Why limits states last V u p → p.moment < last
+  moment_by : (u : ℕ) (p : Place) → u < last → Why limits states r.records last V u p → p.moment < last
   moment_by u p lt (by_update entered update is) =
-      let m = ap (λ (q : Place). q.moment) is ∙ (place_says (closing_for (states u) update.owner update.owner.access) u update.owner.id false).0 in omega arith
+      let m = ap (λ (q : Place). q.moment) is ∙ (place_says (closing_for (r.records u) update.owner.generation update.owner.access) u update.owner.id false).0 in omega arith
   moment_by u p lt (by_answer k operation answer runs is agrees replied) =
-      let m = ap (λ (q : Place). q.moment) is ∙ (place_says (closing_for (states u) operation operation.access) operation.moment operation.id true).0 in
+      let m = ap (λ (q : Place). q.moment) is ∙ (place_says (closing_for (r.records u) operation.generation operation.access) (moment_at (r.records u) (suc k)).moment operation.id true).0 in
       let past = ((past_at limits states last r u (omega arith)).operations k operation runs).1 in
       let steps = steps_at limits states last r u (omega arith) in
       omega arith
   moment_by u p lt (by_change id is) = let m = ap (λ (q : Place). q.moment) is in omega arith
 
   -- each moment lies in the run
-  pub moment_within : (p : Place) → IsPlace states last p → p.moment < last
+  pub moment_within : (p : Place) → IsPlace r.records last p → p.moment < last
   moment_within p a = let o = origin limits states last r V facts last (omega arith) p a in moment_by o.u p o.is_before o.why
 
-  step_by : (u : ℕ) (p : Place) → Why limits states last V u p → p.on_time ≡ true → p.step ≡ p.moment
+  step_by : (u : ℕ) (p : Place) → Why limits states r.records last V u p → p.on_time ≡ true → p.step ≡ p.moment
   step_by u p (by_update entered update is) on =
-      let closing = closing_for (states u) update.owner update.owner.access in
+      let closing = closing_for (r.records u) update.owner.generation update.owner.access in
       ap (λ (q : Place). q.step) is ∙ (on_time_says closing u update.owner.id false (ap (λ (q : Place). q.on_time) (sym is) ∙ on)).0
       ∙ sym (ap (λ (q : Place). q.moment) is ∙ (place_says closing u update.owner.id false).0)
   step_by u p (by_answer k operation answer runs is agrees replied) on =
-      let closing = closing_for (states u) operation operation.access in
-      ap (λ (q : Place). q.step) is ∙ (on_time_says closing operation.moment operation.id true (ap (λ (q : Place). q.on_time) (sym is) ∙ on)).0
-      ∙ sym (ap (λ (q : Place). q.moment) is ∙ (place_says closing operation.moment operation.id true).0)
+      let closing = closing_for (r.records u) operation.generation operation.access in
+      ap (λ (q : Place). q.step) is ∙ (on_time_says closing (moment_at (r.records u) (suc k)).moment operation.id true (ap (λ (q : Place). q.on_time) (sym is) ∙ on)).0
+      ∙ sym (ap (λ (q : Place). q.moment) is ∙ (place_says closing (moment_at (r.records u) (suc k)).moment operation.id true).0)
   step_by u p (by_change id is) on = ap (λ (q : Place). q.step) is ∙ sym (ap (λ (q : Place). q.moment) is)
 
   -- on time a place stands at its moment
-  pub on_time_moment : (p : Place) → IsPlace states last p → p.on_time ≡ true → p.step ≡ p.moment
+  pub on_time_moment : (p : Place) → IsPlace r.records last p → p.on_time ≡ true → p.step ≡ p.moment
   on_time_moment p a on = let o = origin limits states last r V facts last (omega arith) p a in step_by o.u p o.why on
 
-  within_by : (p : Place) → IsPlace states last p → (b : Bool) → p.on_time ≡ b → p.step < last
+  within_by : (p : Place) → IsPlace r.records last p → (b : Bool) → p.on_time ≡ b → p.step < last
   within_by p a true e = let m = moment_within p a in let s = on_time_moment p a e in omega arith
   within_by p a false e = let m = moment_within p a in let s = late_before p a e in omega arith
 
   -- so each step does
-  pub step_within : (p : Place) → IsPlace states last p → p.step < last
+  pub step_within : (p : Place) → IsPlace r.records last p → p.step < last
   step_within p a = within_by p a p.on_time refl
 
   abbrev TimelyOf : ℕ → Place → Type 0
   TimelyOf t p = (p.step ≡ t) × (p.on_time ≡ true) × (p.moment ≡ t)
 
-  pub timely_along : (t : ℕ) → Along role (timely states last t)
+  pub timely_along : (t : ℕ) → Along role (timely r.records last t)
   timely_along t =
-      along_where role (TimelyOf t) (λ p q a b e. role_up t true t p q a.0 b.0 a.1 b.1 a.2 b.2 e) (timely states last t)
-      (rises_filter (equals timing 1) (block states last t) (block_rises states last t))
-      (each_of (TimelyOf t) (timely states last t) (λ p a. let (place, at, on) = in_timely states last t p a in (at, on, sym (on_time_moment p place on) ∙ at)))
+      along_where role (TimelyOf t) (λ p q a b e. role_up t true t p q a.0 b.0 a.1 b.1 a.2 b.2 e) (timely r.records last t)
+      (rises_filter (equals timing 1) (block r.records last t) (block_rises r.records last t))
+      (each_of (TimelyOf t) (timely r.records last t) (λ p a. let (place, at, on) = in_timely r.records last t p a in (at, on, sym (on_time_moment p place on) ∙ at)))

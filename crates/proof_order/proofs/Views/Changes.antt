@@ -20,11 +20,12 @@ use Rattle.proof_order.specs.Beneath.machine_model.specs.declared.roots.Descript
 use Rattle.proof_order.specs.Beneath.machine_model.specs.States.{State, root_at, word_of, word_at, root_of, rewritten, with_word}
 use Rattle.proof_order.specs.Beneath.machine_model.specs.Operations.{line_action, read_of}
 use Rattle.proof_order.specs.Beneath.machine_model.specs.Swapping.{stands_in, is_plain, is_carried_out}
-use Rattle.proof_order.specs.Beneath.machine_model.specs.Orders.{committed_in}
-use Rattle.proof_order.specs.Beneath.machine_model.specs.Acting.{if_changed, acted, aborted, offered, completed, carried_out, opened, opened_root, new_root_taken}
+use Rattle.proof_order.specs.Beneath.machine_model.specs.Acting.{if_changed, acted, completed, carried_out, opened, opened_root, new_root_taken}
 use Rattle.proof_order.specs.Beneath.machine_model.proofs.Found.{found_elsewhere}
 use Rattle.proof_generations.specs.Laws.Roots.{settles}
 use Rattle.proof_generations.proofs.Handles.Footings.{plain_root}
+use Rattle.proof_order.specs.Beneath.machine_model.specs.Tellings.{committed_in, carried_by}
+use Rattle.proof_order.specs.Beneath.slot_arena.specs.Heaps.{generation_at}
 
 -- ---- the roots of handles
 
@@ -71,29 +72,14 @@ carries state handle action = false
 abbrev pub Honest : State → ℕ → Action → Type 0
 Honest state handle action = (offer : Descriptor) → settles action ≡ Some offer → stands_in (word_at state handle) offer ≡ true → word_at state handle ≡ Offer offer
 
-completed_places : (state : State) (handle : ℕ) (offer : Descriptor) (main : Ref) → is_carried_out (word_at state handle) offer main ≡ false →
-    ((completed state handle offer main).places ≡ state.places) × ((completed state handle offer main).closings ≡ state.closings)
-completed_places state handle offer main e = (grind arith, grind arith)
+root_taken_roots : (state : State) (main : Ref) (made : Option Ref) → (new_root_taken state main made).roots ≡ state.roots
+root_taken_roots state main None = refl
+root_taken_roots state main (Some made) = refl
 
-aborted_places : (state : State) (handle : ℕ) (offer : Descriptor) → ((aborted state handle offer).places ≡ state.places) × ((aborted state handle offer).closings ≡ state.closings)
-aborted_places state handle offer = (grind arith, grind arith)
-
-offered_places : (state : State) (handle : ℕ) (offer : Descriptor) → ((offered state handle offer).places ≡ state.places) × ((offered state handle offer).closings ≡ state.closings)
-offered_places state handle offer = (grind arith, grind arith)
-
-root_taken_places : (state : State) (main : Ref) (made : Option Ref) →
-    ((new_root_taken state main made).places ≡ state.places) × ((new_root_taken state main made).closings ≡ state.closings) × ((new_root_taken state main made).roots ≡ state.roots)
-root_taken_places state main None = (refl, refl, refl)
-root_taken_places state main (Some made) = (refl, refl, refl)
-
--- it enters nothing and closes nothing
-pub acted_places : (state : State) (handle : ℕ) (action : Action) → carries state handle action ≡ false →
-    ((acted state handle action).places ≡ state.places) × ((acted state handle action).closings ≡ state.closings)
-acted_places state handle (act.Abort offer) e = aborted_places state handle offer
-acted_places state handle (act.Offer offer) e = offered_places state handle offer
-acted_places state handle (act.Complete offer main) e = completed_places state handle offer main e
-acted_places state handle (act.MakeRoot main) e = let p = root_taken_places state main _ in (p.0, p.1)
-acted_places state handle action e = (refl, refl)
+-- nothing is told to be carried out
+pub carries_none : (state : State) (handle : ℕ) (action : Action) → carries state handle action ≡ false → carried_by state handle action ≡ None
+carries_none state handle (act.Complete offer main) e = ap (λ b. cond b (Some (record { generation = generation_at state.heap offer.root; operation = offer.operation })) None) e
+carries_none state handle action e = refl
 
 taken_back : (state : State) (handle : ℕ) (offer : Descriptor) (b : Bool) → (b ≡ true → word_at state handle ≡ Offer offer) → (other : ℕ) →
     footing (if_changed b (with_word state handle (Plain offer.root)) state) other ≡ footing state other
@@ -118,7 +104,7 @@ acted_footing state handle (act.Abort offer) e h other = taken_back state handle
 acted_footing state handle (act.Offer offer) e h other =
     put_up state handle offer (is_plain (word_at state handle) offer.root) (plain_root (word_at state handle) offer.root) other
 acted_footing state handle (act.Complete offer main) e h other = not_carried state handle offer (stands_in (word_at state handle) offer) (main == offer.expected) e (h offer refl) other
-acted_footing state handle (act.MakeRoot main) e h other = ap (λ roots. footing_of (get_or roots other None)) (root_taken_places state main _).2
+acted_footing state handle (act.MakeRoot main) e h other = ap (λ roots. footing_of (get_or roots other None)) (root_taken_roots state main _)
 acted_footing state handle action e h other = refl
 
 -- ---- an action that carries its offer out
@@ -140,9 +126,14 @@ roots_swapped state handle offer (Some n) = set (with_word state handle (Plain o
 
 pub carried_roots : (state : State) (handle : ℕ) (offer : Descriptor) (opens : Option ℕ) →
     let after = opened (with_word state handle (Plain offer.successor)) offer opens in
-    (after.roots ≡ roots_swapped state handle offer opens) × (after.places ≡ state.places) × (after.closings ≡ state.closings) × (after.heap ≡ state.heap)
-carried_roots state handle offer None = (refl, refl, refl, refl)
-carried_roots state handle offer (Some n) = (refl, refl, refl, refl)
+    (after.roots ≡ roots_swapped state handle offer opens) × (after.heap ≡ state.heap)
+carried_roots state handle offer None = (refl, refl)
+carried_roots state handle offer (Some n) = (refl, refl)
+
+-- and it is told
+pub carries_some : (state : State) (handle : ℕ) (offer : Descriptor) (main : Ref) → is_carried_out (word_at state handle) offer main ≡ true →
+    carried_by state handle (act.Complete offer main) ≡ Some (record { generation = generation_at state.heap offer.root; operation = offer.operation })
+carries_some state handle offer main e = ap (λ b. cond b (Some (record { generation = generation_at state.heap offer.root; operation = offer.operation })) None) e
 
 pub same_swapped : (a b : State) (handle : ℕ) (offer : Descriptor) (opens : Option ℕ) → a.roots ≡ b.roots → roots_swapped a handle offer opens ≡ roots_swapped b handle offer opens
 same_swapped a b handle offer None e = ap (λ roots. set roots handle (rewritten (Plain offer.successor) (get_or roots handle None))) e

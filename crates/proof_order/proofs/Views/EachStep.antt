@@ -4,7 +4,6 @@ use Rattle.std.proofs.lemmas.List.{get_or-set_same}
 use Rattle.proof_order.specs.Beneath.history.specs.declared.calls.Call.{Call}
 use Rattle.proof_order.specs.Beneath.history.specs.declared.calls.Call.TheVariants.{Close}
 use Rattle.proof_order.specs.Beneath.history.specs.declared.replies.Reply.{Reply}
-use Rattle.proof_order.specs.Beneath.history.specs.Histories.{begun}
 use Rattle.proof_order.specs.Beneath.slot_arena.specs.declared.refs.Ref.{Ref}
 use Rattle.proof_order.specs.Beneath.slot_arena.specs.Heaps.{generation_at}
 use Rattle.proof_order.specs.Beneath.places.specs.Places.{on_time}
@@ -21,8 +20,7 @@ use Rattle.proof_order.specs.Beneath.machine_model.specs.Calls.{handle_of}
 use Rattle.proof_order.specs.Beneath.machine_model.specs.States.{State, root_at, word_at, with_operation, operation_of}
 use Rattle.proof_order.specs.Beneath.machine_model.specs.Operations.{action_of}
 use Rattle.proof_order.specs.Beneath.machine_model.specs.Swapping.{stands_in, is_carried_out}
-use Rattle.proof_order.specs.Beneath.machine_model.specs.Orders.{committed_now}
-use Rattle.proof_order.specs.Beneath.machine_model.specs.Acting.{acted, carried_out, gone, entered, entered_at_end, operation_after, commits_after}
+use Rattle.proof_order.specs.Beneath.machine_model.specs.Acting.{acted, carried_out, gone, operation_after}
 use Rattle.proof_order.specs.Beneath.machine_model.specs.Counting.{settled}
 use Rattle.proof_order.specs.Beneath.machine_model.specs.Machine.{begin_denial, with_begin}
 use Rattle.proof_order.specs.Beneath.machine_model.specs.Moves.{Begins, Goes, Ends, Sweeps}
@@ -30,7 +28,11 @@ use Rattle.proof_order.specs.Beneath.machine_model.specs.Moves.{Moves, begun_ope
 use Rattle.proof_order.specs.Beneath.machine_model.proofs.Found.{found_within, found_elsewhere}
 use Rattle.proof_order.specs.Facts.{committed_of, committed_by_step, entered_by_step, CarriesOut}
 use Rattle.proof_generations.specs.Laws.Roots.{settles}
-use Rattle.proof_order.proofs.Views.Changes.{footing_of, footing, carries, acted_places, acted_footing, completed_is, roots_swapped, carried_roots, same_swapped, complete_commits, end_commits}
+use Rattle.proof_order.proofs.Views.Changes.{footing_of, footing, carries, acted_footing, completed_is, roots_swapped}
+use Rattle.proof_order.proofs.Views.Changes.{carried_roots, same_swapped, complete_commits, end_commits, carries_none, carries_some}
+use Rattle.proof_order.specs.Beneath.machine_model.specs.Tellings.{committed_now, entrant_of, told_in, progress_of, carried_by}
+use Rattle.proof_order.specs.Beneath.machine_model.specs.Records.{entered, entered_at_end, Record, noted, noted_progress, moment_at, placed_by, closed_by}
+use Rattle.proof_order.specs.Beneath.machine_model.proofs.Notes.{noted_going, noted_ending}
 
 -- offers are honest in each step from this state
 abbrev pub HonestIn : State → Type 0
@@ -38,22 +40,22 @@ HonestIn state =
     (actor : ℕ) (operation : Operation) (offer : Descriptor) → operation_of state actor ≡ Some operation → settles (action_of state operation) ≡ Some offer →
     stands_in (word_at state (handle_of operation.call)) offer ≡ true → word_at state (handle_of operation.call) ≡ Offer offer
 
-pub data Changes (state : State) (s : Step) (after : State) : Type 0 where
+pub data Changes (state : State) (past : Record) (s : Step) (after : State) (now : Record) : Type 0 where
   -- it enters those alone whose own change it commits
-  quiet : after.places ≡ state.places ++ entered_by_step state s → after.closings ≡ state.closings → ((h : ℕ) → footing after h ≡ footing state h) → Changes state s after
+  quiet : now.places ≡ past.places ++ entered_by_step past state s → now.closings ≡ past.closings → ((h : ℕ) → footing after h ≡ footing state h) → Changes state past s after now
   -- an operation ends
   ends : (actor : ℕ) (operation : Operation) (answer : Reply) → s ≡ step.Go actor → operation_of state actor ≡ Some operation → action_of state operation ≡ act.End answer →
-      entered_by_step state s ≡ [] → after.places ≡ state.places ++ entered_at_end state operation answer → after.closings ≡ state.closings →
-      ((h : ℕ) → footing after h ≡ footing state h) → Changes state s after
+      entered_by_step past state s ≡ [] → now.places ≡ past.places ++ entered_at_end past (entrant_of operation) (moment_at past actor).moment answer → now.closings ≡ past.closings →
+      ((h : ℕ) → footing after h ≡ footing state h) → Changes state past s after now
   -- a close begins
   closes : (actor handle : ℕ) (root : Root) → s ≡ step.Begin actor (Close handle) → root_at state handle ≡ Some root →
-      entered_by_step state s ≡ [] → after.places ≡ state.places ++ on_time state.steps false (begun state.events) ∷ [] → after.closings ≡ state.closings →
-      footing after handle ≡ None → ((h : ℕ) → (h ≡ handle → ⊥) → footing after h ≡ footing state h) → Changes state s after
+      entered_by_step past state s ≡ [] → now.places ≡ past.places ++ on_time state.steps false state.begun ∷ [] → now.closings ≡ past.closings →
+      footing after handle ≡ None → ((h : ℕ) → (h ≡ handle → ⊥) → footing after h ≡ footing state h) → Changes state past s after now
   -- an offer is carried out
   swaps : (handle : ℕ) (offer : Descriptor) → CarriesOut state s handle offer →
-      entered_by_step state s ≡ [] → after.places ≡ state.places ++ on_time state.steps false offer.operation ∷ [] →
-      after.closings ≡ state.closings ++ record { generation = generation_at state.heap offer.root; step = state.steps } ∷ [] →
-      after.roots ≡ roots_swapped state handle offer offer.opens → after.heap ≡ state.heap → Changes state s after
+      entered_by_step past state s ≡ [] → now.places ≡ past.places ++ on_time state.steps false offer.operation ∷ [] →
+      now.closings ≡ past.closings ++ record { generation = generation_at state.heap offer.root; step = state.steps } ∷ [] →
+      after.roots ≡ roots_swapped state handle offer offer.opens → after.heap ≡ state.heap → Changes state past s after now
 
 -- ---- a begin
 
@@ -64,72 +66,79 @@ open_by state actor handle d None e = absurd (denied e)
     denied : root_at state handle ≡ None → ⊥
     denied e = grind arith
 
-begin_changes : (state : State) (actor : ℕ) (call : Call) → begin_denial state actor call ≡ None →
-    Changes state (step.Begin actor call) (settled state (with_begin state actor call (begun_operation state call)))
-begin_changes state actor (Close handle) d =
+begin_changes : (state : State) (past : Record) (actor : ℕ) (call : Call) → begin_denial state actor call ≡ None →
+    Changes state past (step.Begin actor call) (settled state (with_begin state actor call (begun_operation state call))) (noted past state.steps (told_in state (step.Begin actor call)))
+begin_changes state past actor (Close handle) d =
     let (root, is) = open_by state actor handle d (root_at state handle) refl in
     closes actor handle root refl is refl refl refl
     (ap footing_of (get_or-set_same state.roots handle None None (found_within state.roots handle root is)))
     (λ h apart. ap footing_of (found_elsewhere state.roots handle h None apart))
-begin_changes state actor call d = quiet (sym (append-nil state.places)) refl (λ h. refl)
+begin_changes state past actor call d = quiet refl refl (λ h. refl)
 
 -- ---- a step of an operation
 
 committed_is : (state : State) (actor : ℕ) (operation : Operation) → operation_of state actor ≡ Some operation → committed_by_step state (step.Go actor) ≡ committed_now state operation
 committed_is state actor operation is = ap (committed_of state) is
 
-entered_is : (state : State) (actor : ℕ) (operation : Operation) (committed : Option Ref) → operation_of state actor ≡ Some operation → committed_now state operation ≡ committed →
-    entered_by_step state (step.Go actor) ≡ entered state committed
-entered_is state actor operation committed is e = ap (entered state) (committed_is state actor operation is ∙ e)
+entered_is : (state : State) (past : Record) (actor : ℕ) (operation : Operation) (committed : Option Ref) → operation_of state actor ≡ Some operation →
+    committed_now state operation ≡ committed → entered_by_step past state (step.Go actor) ≡ entered past state.steps committed
+entered_is state past actor operation committed is e = ap (entered past state.steps) (committed_is state actor operation is ∙ e)
 
 -- the state in which its action takes place
-noted : State → ℕ → Operation → State
-noted state actor operation =
-    let committed = committed_now state operation in
-    let with_order = record state { commits = commits_after state committed; places = state.places ++ entered state committed } in
-    with_operation with_order actor (Some (operation_after state operation))
+acting : State → ℕ → Operation → State
+acting state actor operation = with_operation state actor (Some (operation_after state operation))
 
-quiet_changes : (state : State) (actor : ℕ) (operation : Operation) → operation_of state actor ≡ Some operation → HonestIn state →
-    carries state (handle_of operation.call) (action_of state operation) ≡ false → Changes state (step.Go actor) (settled state (gone state actor operation))
-unfolding noted
-quiet_changes state actor operation is honest e =
-    let base = noted state actor operation in
-    let (places, closings) = acted_places base (handle_of operation.call) (action_of state operation) e in
+quiet_changes : (state : State) (past now : Record) (actor : ℕ) (operation : Operation) → operation_of state actor ≡ Some operation → HonestIn state →
+    now ≡ noted_progress past state.steps actor (progress_of state operation) → carries state (handle_of operation.call) (action_of state operation) ≡ false →
+    Changes state past (step.Go actor) (settled state (gone state actor operation)) now
+unfolding acting
+quiet_changes state past now actor operation is honest notes e =
+    let none = carries_none state (handle_of operation.call) (action_of state operation) e in
     quiet
-    (places ∙ ap (λ l. state.places ++ l) (sym (entered_is state actor operation (committed_now state operation) is refl)))
-    closings
-    (acted_footing base (handle_of operation.call) (action_of state operation) e (λ offer settles stands. honest actor operation offer is settles stands))
+    (ap (λ (r : Record). r.places) notes ∙ ap (λ c. (past.places ++ entered past state.steps (committed_now state operation)) ++ placed_by state.steps c) none
+    ∙ append-nil (past.places ++ entered past state.steps (committed_now state operation))
+    ∙ ap (λ l. past.places ++ l) (sym (entered_is state past actor operation (committed_now state operation) is refl)))
+    (ap (λ (r : Record). r.closings) notes ∙ ap (λ c. past.closings ++ closed_by state.steps c) none ∙ append-nil past.closings)
+    (acted_footing (acting state actor operation) (handle_of operation.call) (action_of state operation) e (λ offer settles stands. honest actor operation offer is settles stands))
 
-carried_changes : (state : State) (actor : ℕ) (operation : Operation) (offer : Descriptor) (main : Ref) → operation_of state actor ≡ Some operation →
-    action_of state operation ≡ act.Complete offer main → is_carried_out (word_at state (handle_of operation.call)) offer main ≡ true →
-    Changes state (step.Go actor) (settled state (gone state actor operation))
-unfolding noted
-carried_changes state actor operation offer main is does carried =
-    let base = noted state actor operation in
+carried_changes : (state : State) (past now : Record) (actor : ℕ) (operation : Operation) (offer : Descriptor) (main : Ref) → operation_of state actor ≡ Some operation →
+    now ≡ noted_progress past state.steps actor (progress_of state operation) → action_of state operation ≡ act.Complete offer main →
+    is_carried_out (word_at state (handle_of operation.call)) offer main ≡ true → Changes state past (step.Go actor) (settled state (gone state actor operation)) now
+unfolding acting
+carried_changes state past now actor operation offer main is notes does carried =
+    let base = acting state actor operation in
     let nothing = complete_commits state operation operation.line offer main does in
     let handle = handle_of operation.call in
     let same : gone state actor operation ≡ carried_out base handle offer = ap (acted base handle) does ∙ completed_is base handle offer main carried in
-    let (roots, places, closings, heap) = carried_roots base handle offer offer.opens in
-    let none : entered state (committed_now state operation) ≡ [] = ap (entered state) nothing in
+    let (roots, heap) = carried_roots base handle offer offer.opens in
+    let told : carried_by state handle (action_of state operation) ≡ Some (record { generation = generation_at state.heap offer.root; operation = offer.operation }) =
+    ap (carried_by state handle) does ∙ carries_some state handle offer main carried in
     swaps handle offer (actor, operation, main, refl, is, does, refl, carried)
-    (entered_is state actor operation None is nothing)
-    (ap (λ (q : State). q.places) same ∙ ap (λ l. l ++ on_time state.steps false offer.operation ∷ []) (places ∙ ap (λ l. state.places ++ l) none ∙ append-nil state.places))
-    (ap (λ (q : State). q.closings) same ∙ ap (λ l. l ++ record { generation = generation_at state.heap offer.root; step = state.steps } ∷ []) closings)
+    (entered_is state past actor operation None is nothing)
+    (ap (λ (r : Record). r.places) notes ∙ ap (λ c. (past.places ++ entered past state.steps c) ++ placed_by state.steps (carried_by state handle (action_of state operation))) nothing
+    ∙ ap (λ l. l ++ placed_by state.steps (carried_by state handle (action_of state operation))) (append-nil past.places) ∙ ap (λ c. past.places ++ placed_by state.steps c) told)
+    (ap (λ (r : Record). r.closings) notes ∙ ap (λ c. past.closings ++ closed_by state.steps c) told)
     (ap (λ (q : State). q.roots) same ∙ roots ∙ same_swapped base state handle offer offer.opens refl)
     (ap (λ (q : State). q.heap) same ∙ heap)
 
-go_by : (state : State) (actor : ℕ) (operation : Operation) (action : Action) (carried : Bool) → operation_of state actor ≡ Some operation → HonestIn state →
-    action_of state operation ≡ action → carries state (handle_of operation.call) action ≡ carried → Changes state (step.Go actor) (settled state (gone state actor operation))
-go_by state actor operation (act.Complete offer main) true is honest does e = carried_changes state actor operation offer main is does e
-go_by state actor operation action true is honest does e = absurd (let wrong : false ≡ true = e in cc wrong)
-go_by state actor operation action false is honest does e = quiet_changes state actor operation is honest (ap (carries state (handle_of operation.call)) does ∙ e)
+go_by : (state : State) (past now : Record) (actor : ℕ) (operation : Operation) (action : Action) (carried : Bool) → operation_of state actor ≡ Some operation → HonestIn state →
+    now ≡ noted_progress past state.steps actor (progress_of state operation) → action_of state operation ≡ action →
+    carries state (handle_of operation.call) action ≡ carried → Changes state past (step.Go actor) (settled state (gone state actor operation)) now
+go_by state past now actor operation (act.Complete offer main) true is honest notes does e = carried_changes state past now actor operation offer main is notes does e
+go_by state past now actor operation action true is honest notes does e = absurd (let wrong : false ≡ true = e in cc wrong)
+go_by state past now actor operation action false is honest notes does e =
+    quiet_changes state past now actor operation is honest notes (ap (carries state (handle_of operation.call)) does ∙ e)
 
 -- ---- each step
 
-pub changes : (state : State) (s : Step) (o : Outcome) (after : State) → Moves state s o after → HonestIn state → Changes state s after
-changes state s o after (Begins {actor} {call} d) honest = begin_changes state actor call d
-changes state s o after (Goes {actor} {operation} {action} d is a g) honest =
-    go_by state actor operation action (carries state (handle_of operation.call) action) is honest a refl
-changes state s o after (Ends {actor} {operation} {answer} d is a) honest =
-    ends actor operation answer refl is a (entered_is state actor operation None is (end_commits state operation operation.line answer a)) refl refl (λ h. refl)
-changes state s o after (Sweeps spent) honest = quiet (sym (append-nil state.places)) refl (λ h. refl)
+pub changes : (state : State) (past : Record) (s : Step) (o : Outcome) (after : State) → Moves state s o after → HonestIn state →
+    Changes state past s after (noted past state.steps (told_in state s))
+changes state past s o after (Begins {actor} {call} d) honest = begin_changes state past actor call d
+changes state past s o after (Goes {actor} {operation} {action} d is a g) honest =
+    go_by state past (noted past state.steps (told_in state s)) actor operation action (carries state (handle_of operation.call) action) is honest
+    (noted_going state past actor operation action is a g) a refl
+changes state past s o after (Ends {actor} {operation} {answer} d is a) honest =
+    let notes = noted_ending state past actor operation answer is a in
+    ends actor operation answer refl is a (entered_is state past actor operation None is (end_commits state operation operation.line answer a))
+    (ap (λ (r : Record). r.places) notes) (ap (λ (r : Record). r.closings) notes) (λ h. refl)
+changes state past s o after (Sweeps spent) honest = quiet (sym (append-nil past.places)) refl (λ h. refl)

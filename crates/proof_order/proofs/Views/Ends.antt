@@ -8,7 +8,7 @@ use Rattle.proof_order.specs.Beneath.history.specs.declared.calls.Access.TheVari
 use Rattle.proof_order.specs.Beneath.slot_arena.specs.Refs.{ref_to}
 use Rattle.proof_order.specs.Beneath.slot_arena.specs.Heaps.{generation_at}
 use Rattle.proof_order.specs.Beneath.machine_model.specs.declared.roots.Root.{Root}
-use Rattle.proof_order.specs.Beneath.machine_model.specs.declared.steps.Limits.{Limits}
+use Rattle.proof_order.specs.Beneath.machine_model.specs.declared.steps.Bounds.{Bounds}
 use Rattle.proof_order.specs.Beneath.machine_model.specs.States.{State, first_state, first_heap, root_at, root_of}
 use Rattle.proof_order.specs.Beneath.machine_model.specs.Contents.{content_at}
 use Rattle.proof_order.specs.Beneath.machine_model.specs.Times.{IsRun}
@@ -23,7 +23,7 @@ use Rattle.proof_order.specs.Beneath.machine_model.proofs.Basics.{two_or_more}
 
 -- ---- at first
 
-first_stands : (limits : Limits) (n : ℕ) → limits.slots ≡ suc (suc n) → standing (first_state limits) 0 ≡ Some (Writable, 0)
+first_stands : (limits : Bounds) (n : ℕ) → limits.slots ≡ suc (suc n) → standing (first_state limits) 0 ≡ Some (Writable, 0)
 unfolding first_state
 first_stands limits n e = ap (λ g. Some (Writable, g)) (ap (λ s. generation_at (first_heap s) (ref_to 2 1)) e ∙ first_generation n)
 
@@ -52,7 +52,7 @@ first_shown V last state empty here others (suc n) =
         differs : (n : ℕ) → (suc n == 0) ≡ false
         differs n = grind arith
 
-module _ (limits : Limits) (states : ℕ → State) (last : ℕ) (r : IsRun limits states last) (V : ℕ → ℕ → KeyMap) (facts : Facts limits states last V) where
+module _ (limits : Bounds) (states : ℕ → State) (last : ℕ) (r : IsRun limits states last) (V : ℕ → ℕ → KeyMap) (facts : Facts limits states r.records last V) where
   -- the first world shows what the handles show at first
   pub shows_first : Shows first_world (view limits states last V zero)
   shows_first =

@@ -5,13 +5,12 @@ use Rattle.proof_order.specs.Beneath.history.specs.Worlds.{KeyMap, first_world}
 use Rattle.proof_order.specs.Beneath.history.specs.Orders.{Explains}
 use Rattle.proof_order.specs.Beneath.places.specs.declared.place.Place.{Place}
 use Rattle.proof_order.specs.Beneath.places.specs.Places.{ids_by_place}
-use Rattle.proof_order.specs.Beneath.machine_model.specs.declared.steps.Limits.{Limits}
+use Rattle.proof_order.specs.Beneath.machine_model.specs.declared.steps.Bounds.{Bounds}
 use Rattle.proof_order.specs.Beneath.machine_model.specs.declared.steps.Step.{Step}
 use Rattle.proof_order.specs.Beneath.machine_model.specs.States.{State}
-use Rattle.proof_order.specs.Beneath.machine_model.specs.Orders.{order_of}
-use Rattle.proof_order.specs.Beneath.machine_model.specs.Machine.{AreLimits, run}
+use Rattle.proof_order.specs.Beneath.machine_model.specs.Machine.{AreBounds, run}
 use Rattle.proof_order.specs.Beneath.machine_model.proofs.Times.{run_is, run_ends}
-use Rattle.proof_order.specs.Beneath.machine_model.specs.Times.{IsRun, states_of, last_of}
+use Rattle.proof_order.specs.Beneath.machine_model.specs.Times.{IsRun, states_of, last_of, records_of}
 use Rattle.proof_order.specs.Facts.{Facts}
 use Rattle.proof_order.specs.Laws.Orders.{IsExplained}
 use Rattle.proof_order.specs.Beneath.history.proofs.Among.{Among}
@@ -21,31 +20,35 @@ use Rattle.proof_order.proofs.Places.Members.{sorted, step_within}
 use Rattle.proof_order.proofs.Places.Blocks.{order_leads}
 use Rattle.proof_order.proofs.Views.Ends.{shows_first, shows_last}
 use Rattle.proof_order.proofs.History.Candidates.{is_candidate, keeps_time}
+use Rattle.proof_order.specs.Beneath.machine_model.specs.Records.{order_of, Record, record_of}
+use Rattle.proof_order.specs.Beneath.machine_model.proofs.Recorded.{record_ends}
 
 -- the order is the ids of the rising places
-order_is : (states : ℕ → State) (last : ℕ) → order_of (states last) ≡ ids_of (sorted states last)
+order_is : (records : ℕ → Record) (last : ℕ) → order_of (records last) ≡ ids_of (sorted records last)
 unfolding ids_by_place
-order_is states last = refl
+order_is records last = refl
 
 -- in any run with such contents
-pub explained : (limits : Limits) (states : ℕ → State) (last : ℕ) (r : IsRun limits states last) (V : ℕ → ℕ → KeyMap) (facts : Facts limits states last V) → IsExplained limits (states last)
+pub explained : (limits : Bounds) (states : ℕ → State) (last : ℕ) (r : IsRun limits states last) (V : ℕ → ℕ → KeyMap) (facts : Facts limits states r.records last V) →
+    IsExplained limits (states last) (r.records last)
 explained limits states last r V facts =
     let (calls, world, recalls, replays, shows) = order_leads limits states last r V facts first_world (shows_first limits states last r V facts) in
-    let within : (p : Place) → Among p (states last).places → p.step < last = λ p a. step_within limits states last r V facts p a in
-    let explains : Explains (hash_of limits.hash) (states last).events (ids_of (sorted states last)) world = record {
+    let within : (p : Place) → Among p (r.records last).places → p.step < last = λ p a. step_within limits states last r V facts p a in
+    let explains : Explains (hash_of limits.hash) (r.records last).events (ids_of (sorted r.records last)) world = record {
       well_formed = (books_at limits states last r last (omega arith)).well_formed;
       candidate = is_candidate limits states last r V facts within;
       keeps_time = keeps_time limits states last r V facts within;
       replayed = (calls, recalls, replays);
     } in (
       world,
-      subst (λ order. Explains (hash_of limits.hash) (states last).events order world) (sym (order_is states last)) explains,
+      subst (λ order. Explains (hash_of limits.hash) (r.records last).events order world) (sym (order_is r.records last)) explains,
       shows_last limits states last r V facts world shows,
     )
 
 -- and so for each list of steps
-pub legal_by_facts : (limits : Limits) (steps : List Step) (V : ℕ → ℕ → KeyMap) → AreLimits limits → Facts limits (states_of limits steps) (last_of limits steps) V →
-    IsExplained limits (run limits steps)
+pub legal_by_facts : (limits : Bounds) (steps : List Step) (V : ℕ → ℕ → KeyMap) → AreBounds limits → Facts limits (states_of limits steps) (records_of limits steps) (last_of limits steps) V →
+    IsExplained limits (run limits steps) (record_of limits steps)
 legal_by_facts limits steps V ok facts =
-    subst (λ state. IsExplained limits state) (run_ends limits steps)
-    (explained limits (states_of limits steps) (last_of limits steps) (run_is limits steps ok) V facts)
+    subst (λ past. IsExplained limits (run limits steps) past) (record_ends limits steps)
+    (subst (λ state. IsExplained limits state (records_of limits steps (last_of limits steps))) (run_ends limits steps)
+    (explained limits (states_of limits steps) (last_of limits steps) (run_is limits steps ok) V facts))

@@ -14,7 +14,7 @@ use Rattle.proof_order.specs.Beneath.machine_model.specs.declared.roots.Root.{Ro
 use Rattle.proof_order.specs.Beneath.machine_model.specs.declared.roots.RootWord.TheVariants.{Plain}
 use Rattle.proof_order.specs.Beneath.slot_arena.specs.Refs.{ref_to}
 use Rattle.proof_order.specs.Beneath.machine_model.specs.declared.roots.Descriptor.{Descriptor}
-use Rattle.proof_order.specs.Beneath.machine_model.specs.declared.steps.Limits.{Limits}
+use Rattle.proof_order.specs.Beneath.machine_model.specs.declared.steps.Bounds.{Bounds}
 use Rattle.proof_order.specs.Beneath.machine_model.specs.declared.steps.Outcome.{Outcome}
 use Rattle.proof_order.specs.Beneath.machine_model.specs.declared.steps.Step.{Step}
 use Rattle.proof_order.specs.Beneath.machine_model.specs.declared.steps.Step.TheVariants as step
@@ -31,7 +31,6 @@ use Rattle.proof_order.specs.Beneath.machine_model.specs.Times.{IsRun}
 use Rattle.proof_generations.proofs.Handles.Operations.{opens_allowed}
 use Rattle.proof_order.specs.Facts.{Runs}
 use Rattle.proof_order.proofs.History.Running.{ran_before}
-use Rattle.proof_order.proofs.History.Growing.{IsKept}
 
 -- ---- there are always as many handle numbers
 
@@ -66,19 +65,19 @@ begun_size : (state : State) (actor : ℕ) (call : Call) (operation : Operation)
 begun_size state actor (Close handle) operation = length-set state.roots handle None
 begun_size state actor call operation = refl
 
-sized_kept : IsKept Sized
+sized_kept : (state : State) (s : Step) (o : Outcome) (after : State) → Moves state s o after → Sized state → Sized after
 unfolding Sized
 sized_kept state s o after (Begins {actor} {call} d) size = begun_size state actor call (begun_operation state call) ∙ size
 sized_kept state s o after (Goes {actor} {operation} d is a g) size = acted_size _ (handle_of operation.call) (action_of state operation) ∙ size
 sized_kept state s o after (Ends d is a) size = size
 sized_kept state s o after (Sweeps spent) size = size
 
-first_sized : (limits : Limits) → Sized (first_state limits)
+first_sized : (limits : Bounds) → Sized (first_state limits)
 unfolding Sized first_state
 first_sized limits =
     length-set {A = Option Root} (replicate handle_limit None) 0 (Some (record { access = Writable; word = Plain (ref_to 2 1) })) ∙ length-replicate {A = Option Root} handle_limit None
 
-pub handles_at : (limits : Limits) (states : ℕ → State) (last : ℕ) → IsRun limits states last → (t : ℕ) → t ≤ last → length (states t).roots ≡ handle_limit
+pub handles_at : (limits : Bounds) (states : ℕ → State) (last : ℕ) → IsRun limits states last → (t : ℕ) → t ≤ last → length (states t).roots ≡ handle_limit
 unfolding Sized
 handles_at limits states last r = at_each_time limits states last r Sized (first_sized limits) sized_kept
 
@@ -134,18 +133,18 @@ in_range_of_begin state s o after (Goes d found a g) k other e n is = let wrong 
 in_range_of_begin state s o after (Ends d found a) k other e n is = let wrong : ⊥ = cc e in absurd wrong
 in_range_of_begin state s o after (Sweeps spent) k other e n is = let wrong : ⊥ = cc e in absurd wrong
 
-in_range_kept : IsKept InRange
+in_range_kept : (state : State) (s : Step) (o : Outcome) (after : State) → Moves state s o after → InRange state → InRange after
 unfolding InRange
 in_range_kept state s o after m h k found at_k n is = elim (ran_before state s o after m k found at_k) [
   | inl new ↦ in_range_of_begin state s o after m k new.call new.is_step n (ap (λ (x : Operation). x.opens) (sym new.is_it) ∙ is)
   | inr old ↦ h k old.0 old.1 n (sym old.2.opens ∙ is)
 ]
 
-first_in_range : (limits : Limits) → InRange (first_state limits)
+first_in_range : (limits : Bounds) → InRange (first_state limits)
 unfolding InRange first_state
 first_in_range limits k operation at_k = absurd (none_found limits.actors k operation at_k)
 
-pub opens_in_range : (limits : Limits) (states : ℕ → State) (last : ℕ) → IsRun limits states last → (t : ℕ) → t ≤ last → (k : ℕ) (operation : Operation) → Runs (states t) k operation →
+pub opens_in_range : (limits : Bounds) (states : ℕ → State) (last : ℕ) → IsRun limits states last → (t : ℕ) → t ≤ last → (k : ℕ) (operation : Operation) → Runs (states t) k operation →
     (n : ℕ) → operation.opens ≡ Some n → n < length (states t).roots
 unfolding InRange
 opens_in_range limits states last r t le k operation at_k n is =

@@ -17,7 +17,7 @@ use Rattle.proof_order.specs.Beneath.slot_arena.specs.Heaps.{generation_at}
 use Rattle.proof_order.specs.Beneath.places.specs.declared.place.Place.{Place}
 use Rattle.proof_order.specs.Beneath.places.specs.Places.{on_time}
 use Rattle.proof_order.specs.Beneath.machine_model.specs.declared.roots.Descriptor.{Descriptor}
-use Rattle.proof_order.specs.Beneath.machine_model.specs.declared.steps.Limits.{Limits}
+use Rattle.proof_order.specs.Beneath.machine_model.specs.declared.steps.Bounds.{Bounds}
 use Rattle.proof_order.specs.Beneath.machine_model.specs.States.{State, root_at}
 use Rattle.proof_order.specs.Beneath.machine_model.specs.Copying.{copied_reply}
 use Rattle.proof_order.specs.Beneath.machine_model.specs.Acting.{opened_root}
@@ -37,23 +37,24 @@ shown_named : (V : ℕ → ℕ → KeyMap) (last t : ℕ) (stood : Access × ℕ
 shown_named V last t (Writable, generation) = (Writable, V generation t, refl)
 shown_named V last t (ReadOnly, generation) = (ReadOnly, V generation last, refl)
 
-module _ (limits : Limits) (states : ℕ → State) (last : ℕ) (r : IsRun limits states last) (V : ℕ → ℕ → KeyMap) (facts : Facts limits states last V) where
+module _ (limits : Bounds) (states : ℕ → State) (last : ℕ) (r : IsRun limits states last) (V : ℕ → ℕ → KeyMap) (facts : Facts limits states r.records last V) where
   abbrev LeadsOn : List Place → View → View → Type 0
-  LeadsOn ps before after = Leads (hash_of limits.hash) (states last).events ps before after
+  LeadsOn ps before after = Leads (hash_of limits.hash) (r.records last).events ps before after
 
   abbrev at_time : ℕ → View
   at_time t = view limits states last V t
 
   -- ---- a close
 
-  pub close_leads : (t handle : ℕ) (stood : Access × ℕ) → Recalls (states last).events (begun (states t).events) (record { call = Close handle; opens = None; answer = reply.Closed }) →
+  pub close_leads : (t handle : ℕ) (stood : Access × ℕ) → Recalls (r.records last).events (begun (r.records t).events) (record { call = Close handle; opens = None; answer = reply.Closed }) →
       standing (states t) handle ≡ Some stood → standing (states (suc t)) handle ≡ None →
-      ((other : ℕ) → (other ≡ handle → ⊥) → standing (states (suc t)) other ≡ standing (states t) other) → IsStill limits states last V t →
-      LeadsOn (on_time t false (begun (states t).events) ∷ []) (at_time t) (at_time (suc t))
+      ((other : ℕ) → (other ≡ handle → ⊥) → standing (states (suc t)) other ≡ standing (states t) other) → IsStill limits states r.records last V t →
+      LeadsOn (on_time t false (begun (r.records t).events) ∷ []) (at_time t) (at_time (suc t))
   close_leads t handle stood recalls at gone others still =
       let (access, m, is) = shown_named V last t stood in
-      leads_same (hash_of limits.hash) (states last).events (on_time t false (begun (states t).events) ∷ []) (at_time t) (but (at_time t) handle None) (at_time (suc t))
-      (leads_one (hash_of limits.hash) (states last).events (on_time t false (begun (states t).events)) (record { call = Close handle; opens = None; answer = reply.Closed }) (at_time t) _ recalls
+      leads_same (hash_of limits.hash) (r.records last).events (on_time t false (begun (r.records t).events) ∷ []) (at_time t) (but (at_time t) handle None) (at_time (suc t))
+      (leads_one (hash_of limits.hash) (r.records last).events (on_time t false (begun (r.records t).events)) (record { call = Close handle; opens = None; answer = reply.Closed })
+      (at_time t) _ recalls
       (closes_handle (hash_of limits.hash) handle None (at_time t) access m (ap (shown V last t) at ∙ is)))
       (λ other. behind other (ℕ_discrete other handle))
     where
@@ -66,8 +67,8 @@ module _ (limits : Limits) (states : ℕ → State) (last : ℕ) (r : IsRun limi
 
   -- ---- a swap
 
-  module _ (t handle : ℕ) (lt : t < last) (offer : Descriptor) (swap : Carried states last V t handle offer)
-      (roots : (states (suc t)).roots ≡ roots_swapped (states t) handle offer offer.opens) (heap : (states (suc t)).heap ≡ (states t).heap) (still : IsStill limits states last V t) where
+  module _ (t handle : ℕ) (lt : t < last) (offer : Descriptor) (swap : Carried states r.records last V t handle offer)
+      (roots : (states (suc t)).roots ≡ roots_swapped (states t) handle offer offer.opens) (heap : (states (suc t)).heap ≡ (states t).heap) (still : IsStill limits states r.records last V t) where
     abbrev old : ℕ
     old = generation_at (states t).heap offer.root
 
@@ -81,20 +82,20 @@ module _ (limits : Limits) (states : ℕ → State) (last : ℕ) (r : IsRun limi
     place = on_time t false offer.operation
 
     -- the operation that offered, with this reply
-    recalled : (call : Call) (opens : Option ℕ) (answer : Reply) → swap.offerer.call ≡ call → offer.opens ≡ opens → IsReply (states last).events offer.operation answer →
-        Recalls (states last).events offer.operation (record { call = call; opens = opens; answer = answer })
+    recalled : (call : Call) (opens : Option ℕ) (answer : Reply) → swap.offerer.call ≡ call → offer.opens ≡ opens → IsReply (r.records last).events offer.operation answer →
+        Recalls (r.records last).events offer.operation (record { call = call; opens = opens; answer = answer })
     recalled call opens answer c o is =
-        let its : IsReply (states last).events swap.offerer.id answer = subst (λ i. IsReply (states last).events i answer) (sym swap.is_its) is in
+        let its : IsReply (r.records last).events swap.offerer.id answer = subst (λ i. IsReply (r.records last).events i answer) (sym swap.is_its) is in
         let told = recalls_running limits states last r t swap.k swap.offerer answer (omega arith) swap.runs its in
-        let here = subst (λ i. Recalls (states last).events i (record { call = swap.offerer.call; opens = swap.offerer.opens; answer = answer })) swap.is_its told in
-        let with_call = subst (λ x. Recalls (states last).events offer.operation (record { call = x; opens = swap.offerer.opens; answer = answer })) c here in
-        subst (λ x. Recalls (states last).events offer.operation (record { call = call; opens = x; answer = answer })) (swap.number ∙ o) with_call
+        let here = subst (λ i. Recalls (r.records last).events i (record { call = swap.offerer.call; opens = swap.offerer.opens; answer = answer })) swap.is_its told in
+        let with_call = subst (λ x. Recalls (r.records last).events offer.operation (record { call = x; opens = swap.offerer.opens; answer = answer })) c here in
+        subst (λ x. Recalls (r.records last).events offer.operation (record { call = call; opens = x; answer = answer })) (swap.number ∙ o) with_call
 
     -- its reply
-    agrees_as : (call : Call) (opens : Option ℕ) → swap.offerer.call ≡ call → offer.opens ≡ opens → IsReply (states last).events offer.operation (copied_reply call opens)
+    agrees_as : (call : Call) (opens : Option ℕ) → swap.offerer.call ≡ call → offer.opens ≡ opens → IsReply (r.records last).events offer.operation (copied_reply call opens)
     agrees_as call opens c o =
-        subst (λ x. IsReply (states last).events offer.operation (copied_reply call x)) (swap.number ∙ o)
-        (subst (λ x. IsReply (states last).events offer.operation (copied_reply x swap.offerer.opens)) c swap.agrees)
+        subst (λ x. IsReply (r.records last).events offer.operation (copied_reply call x)) (swap.number ∙ o)
+        (subst (λ x. IsReply (r.records last).events offer.operation (copied_reply x swap.offerer.opens)) c swap.agrees)
 
     -- a handle that isn't touched shows the same
     untouched : (opens : Option ℕ) (other : ℕ) → offer.opens ≡ opens → (other ≡ handle → ⊥) → ((n : ℕ) → opens ≡ Some n → other ≡ n → ⊥) → at_time t other ≡ at_time (suc t) other
@@ -144,10 +145,10 @@ module _ (limits : Limits) (states : ℕ → State) (last : ℕ) (r : IsRun limi
       there_last : at_last handle ≡ Some (named Writable (V old last))
       there_last = but_here (at_time t) handle (Some (named Writable (V old last)))
 
-    opens_lead : (call : Call) → swap.offerer.call ≡ call → Opens states last V t handle old offer call → LeadsOn (place ∷ []) at_last (at_time (suc t))
+    opens_lead : (call : Call) → swap.offerer.call ≡ call → Opens states r.records last V t handle old offer call → LeadsOn (place ∷ []) at_last (at_time (suc t))
     opens_lead call c (clears e empty) =
-        leads_same (hash_of limits.hash) (states last).events (place ∷ []) at_last (but at_last handle (Some (named Writable fin.empty))) (at_time (suc t))
-        (leads_one (hash_of limits.hash) (states last).events place (record { call = Clear handle; opens = None; answer = reply.Cleared }) at_last _
+        leads_same (hash_of limits.hash) (r.records last).events (place ∷ []) at_last (but at_last handle (Some (named Writable fin.empty))) (at_time (suc t))
+        (leads_one (hash_of limits.hash) (r.records last).events place (record { call = Clear handle; opens = None; answer = reply.Cleared }) at_last _
         (recalled (Clear handle) None reply.Cleared c e (agrees_as (Clear handle) None c e))
         (acts_on (hash_of limits.hash) Writable (Clear handle) None at_last (V old last) reply.Cleared fin.empty (but_here (at_time t) handle (Some (named Writable (V old last)))) refl))
         (λ other. clear_behind e empty other (ℕ_discrete other handle))
@@ -156,8 +157,8 @@ module _ (limits : Limits) (states : ℕ → State) (last : ℕ) (r : IsRun limi
         stands_there limits states last r V facts t handle lt offer swap roots heap n e ∙ ap (λ o. standing_of (states t).heap (Some (opened_root offer o))) s in
         let opened : at_time (suc t) n ≡ Some (named Writable (V old last)) =
         view_writable limits states last V (suc t) n (generation_at (states t).heap second) stands ∙ ap (λ x. Some (named Writable x)) copy in
-        leads_same (hash_of limits.hash) (states last).events (place ∷ []) at_last (but at_last n (Some (named Writable (V old last)))) (at_time (suc t))
-        (leads_one (hash_of limits.hash) (states last).events place (record { call = Snapshot handle; opens = Some n; answer = reply.Opened n }) at_last _
+        leads_same (hash_of limits.hash) (r.records last).events (place ∷ []) at_last (but at_last n (Some (named Writable (V old last)))) (at_time (suc t))
+        (leads_one (hash_of limits.hash) (r.records last).events place (record { call = Snapshot handle; opens = Some n; answer = reply.Opened n }) at_last _
         (recalled (Snapshot handle) (Some n) (reply.Opened n) c e (agrees_as (Snapshot handle) (Some n) c e))
         (copies (hash_of limits.hash) (Snapshot handle) at_last handle n Writable (V old last) (λ w. refl) (there_last n e (swap.free n e) Writable first opened)
         (not_there n e (swap.free n e) Writable first opened)))
@@ -166,8 +167,8 @@ module _ (limits : Limits) (states : ℕ → State) (last : ℕ) (r : IsRun limi
         let stands : standing (states (suc t)) n ≡ Some (ReadOnly, old) =
         stands_there limits states last r V facts t handle lt offer swap roots heap n e ∙ ap (λ o. standing_of (states t).heap (Some (opened_root offer o))) s in
         let opened : at_time (suc t) n ≡ Some (named ReadOnly (V old last)) = view_read_only limits states last V (suc t) n old stands in
-        leads_same (hash_of limits.hash) (states last).events (place ∷ []) at_last (but at_last n (Some (named ReadOnly (V old last)))) (at_time (suc t))
-        (leads_one (hash_of limits.hash) (states last).events place (record { call = Freeze handle; opens = Some n; answer = reply.Opened n }) at_last _
+        leads_same (hash_of limits.hash) (r.records last).events (place ∷ []) at_last (but at_last n (Some (named ReadOnly (V old last)))) (at_time (suc t))
+        (leads_one (hash_of limits.hash) (r.records last).events place (record { call = Freeze handle; opens = Some n; answer = reply.Opened n }) at_last _
         (recalled (Freeze handle) (Some n) (reply.Opened n) c e (agrees_as (Freeze handle) (Some n) c e))
         (copies (hash_of limits.hash) (Freeze handle) at_last handle n ReadOnly (V old last) (λ w. refl) (there_last n e (swap.free n e) ReadOnly first opened)
         (not_there n e (swap.free n e) ReadOnly first opened)))

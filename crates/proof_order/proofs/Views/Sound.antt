@@ -10,8 +10,8 @@ use Rattle.proof_order.specs.Beneath.slot_arena.specs.declared.refs.Ref.{Ref}
 use Rattle.proof_order.specs.Beneath.slot_arena.specs.Heaps.{generation_at}
 use Rattle.proof_order.specs.Beneath.machine_model.specs.declared.roots.Root.{Root}
 use Rattle.proof_order.specs.Beneath.machine_model.specs.declared.roots.Descriptor.{Descriptor}
-use Rattle.proof_order.specs.Beneath.machine_model.specs.declared.steps.Limits.{Limits}
-use Rattle.proof_order.specs.Beneath.machine_model.specs.States.{State, first_state, root_at, closed_at, handle_limit}
+use Rattle.proof_order.specs.Beneath.machine_model.specs.declared.steps.Bounds.{Bounds}
+use Rattle.proof_order.specs.Beneath.machine_model.specs.States.{State, first_state, root_at, handle_limit}
 use Rattle.proof_order.specs.Beneath.machine_model.specs.Acting.{opened_root}
 use Rattle.proof_order.specs.Beneath.machine_model.proofs.Found.{none_found, found_elsewhere}
 use Rattle.proof_order.specs.Beneath.machine_model.specs.Times.{IsRun}
@@ -23,23 +23,23 @@ use Rattle.proof_order.proofs.Views.Standing.{here_none, here_some, there_some, 
 use Rattle.proof_order.proofs.Views.Steps.{Kind, plain, updates, answers, closes, swaps, kind_at}
 use Rattle.proof_generations.proofs.Offers.Swaps.{closed_in, closed_other}
 use Rattle.proof_generations.proofs.Roots.Rooted.{standing_root}
+use Rattle.proof_order.specs.Beneath.machine_model.specs.Records.{closed_at, first_record}
 
 -- the standing at first: handle 0 alone is open
-pub first_standing : (limits : Limits) (handle : ℕ) (access : Access) (generation : ℕ) → standing (first_state limits) handle ≡ Some (access, generation) → handle ≡ 0
+pub first_standing : (limits : Bounds) (handle : ℕ) (access : Access) (generation : ℕ) → standing (first_state limits) handle ≡ Some (access, generation) → handle ≡ 0
 unfolding first_state
 first_standing limits zero access generation e = refl
 first_standing limits (suc n) access generation e =
     let (root, is, kind, same) = standing_root (first_state limits) (suc n) access generation e in
     absurd (none_found handle_limit (suc n) root (sym (found_elsewhere (replicate handle_limit None) 0 (suc n) first_root (λ same. omega (arith, same))) ∙ is))
 
-nothing_closed : (limits : Limits) (generation : ℕ) → closed_at (first_state limits) generation ≡ None
-unfolding first_state
+nothing_closed : (limits : Bounds) (generation : ℕ) → closed_at (first_record limits) generation ≡ None
 nothing_closed limits generation = refl
 
-module _ (limits : Limits) (states : ℕ → State) (last : ℕ) (r : IsRun limits states last) (V : ℕ → ℕ → KeyMap) (facts : Facts limits states last V) where
+module _ (limits : Bounds) (states : ℕ → State) (last : ℕ) (r : IsRun limits states last) (V : ℕ → ℕ → KeyMap) (facts : Facts limits states r.records last V) where
   -- ---- what a swap makes of the handles
 
-  module _ (t handle : ℕ) (lt : t < last) (offer : Descriptor) (swap : Carried states last V t handle offer)
+  module _ (t handle : ℕ) (lt : t < last) (offer : Descriptor) (swap : Carried states r.records last V t handle offer)
       (roots : (states (suc t)).roots ≡ roots_swapped (states t) handle offer offer.opens) (heap : (states (suc t)).heap ≡ (states t).heap) where
     root_there : (root : Root) × (root_at (states t) handle ≡ Some root) × (root.access ≡ Writable)
     root_there = let (root, is, access, generation) = standing_root (states t) handle Writable _ swap.stands in (root, is, access)
@@ -78,7 +78,7 @@ module _ (limits : Limits) (states : ℕ → State) (last : ℕ) (r : IsRun limi
     -- a writable handle behind the swap
     data WasOn (other generation : ℕ) : Type 0 where
       its_own : other ≡ handle → generation ≡ generation_at (states t).heap offer.successor → WasOn other generation
-      opened : (second : Ref) → offer.opens ≡ Some other → generation ≡ generation_at (states t).heap second → IsFresh (states t) (generation_at (states t).heap second) →
+      opened : (second : Ref) → offer.opens ≡ Some other → generation ≡ generation_at (states t).heap second → IsFresh (states t) (r.records t) (generation_at (states t).heap second) →
           generation_at (states t).heap second ≢ generation_at (states t).heap offer.successor → WasOn other generation
       before : (other ≡ handle → ⊥) → On states t other generation → WasOn other generation
 
@@ -86,7 +86,7 @@ module _ (limits : Limits) (states : ℕ → State) (last : ℕ) (r : IsRun limi
     own_generation other generation same here on =
         its_own same (some_pair_parts Writable Writable _ _ (sym on ∙ ap (standing (states (suc t))) same ∙ here)).1
 
-    was_on : (call : Call) → Opens states last V t handle (generation_at (states t).heap offer.root) offer call → (other generation : ℕ) → On states (suc t) other generation →
+    was_on : (call : Call) → Opens states r.records last V t handle (generation_at (states t).heap offer.root) offer call → (other generation : ℕ) → On states (suc t) other generation →
         Dec (other ≡ handle) → WasOn other generation
     was_on call (clears e empty) other generation on (yes same) =
         own_generation other generation same (stands_here None e (λ n is. absurd (none-some n is))) on
@@ -118,19 +118,20 @@ module _ (limits : Limits) (states : ℕ → State) (last : ℕ) (r : IsRun limi
 
   pub record Sound (t : ℕ) : Type 0 where
     pub apart : (a b generation : ℕ) → On states t a generation → On states t b generation → a ≡ b
-    pub unclosed : (handle generation : ℕ) → On states t handle generation → closed_at (states t) generation ≡ None
+    pub unclosed : (handle generation : ℕ) → On states t handle generation → closed_at (r.records t) generation ≡ None
 
   -- where each standing stays and nothing is closed
-  kept_sound : (t : ℕ) → ((handle generation : ℕ) → On states (suc t) handle generation → On states t handle generation) → (states (suc t)).closings ≡ (states t).closings → Sound t → Sound (suc t)
+  kept_sound : (t : ℕ) → ((handle generation : ℕ) → On states (suc t) handle generation → On states t handle generation) → (r.records (suc t)).closings ≡ (r.records t).closings →
+      Sound t → Sound (suc t)
   kept_sound t back closings sound = record {
     apart = λ a b generation on_a on_b. sound.apart a b generation (back a generation on_a) (back b generation on_b);
     unclosed = λ handle generation on. ap (λ l. closed_in l generation) closings ∙ sound.unclosed handle generation (back handle generation on);
   }
 
-  module _ (t handle : ℕ) (lt : t < last) (offer : Descriptor) (swap : Carried states last V t handle offer)
+  module _ (t handle : ℕ) (lt : t < last) (offer : Descriptor) (swap : Carried states r.records last V t handle offer)
       (roots : (states (suc t)).roots ≡ roots_swapped (states t) handle offer offer.opens) (heap : (states (suc t)).heap ≡ (states t).heap)
-      (closings : (states (suc t)).closings ≡ (states t).closings ++ record { generation = generation_at (states t).heap offer.root; step = t } ∷ []) (sound : Sound t) where
-    not_fresh : (other generation fresh : ℕ) → generation ≡ fresh → IsFresh (states t) fresh → On states t other generation → ⊥
+      (closings : (r.records (suc t)).closings ≡ (r.records t).closings ++ record { generation = generation_at (states t).heap offer.root; step = t } ∷ []) (sound : Sound t) where
+    not_fresh : (other generation fresh : ℕ) → generation ≡ fresh → IsFresh (states t) (r.records t) fresh → On states t other generation → ⊥
     not_fresh other generation fresh same is on = is.1 other Writable (on ∙ ap (λ g. Some (Writable, g)) same)
 
     apart_by : (a b generation : ℕ) → WasOn t handle lt offer swap roots heap a generation → WasOn t handle lt offer swap roots heap b generation → a ≡ b
@@ -147,14 +148,14 @@ module _ (limits : Limits) (states : ℕ → State) (last : ℕ) (r : IsRun limi
     was : (other generation : ℕ) → On states (suc t) other generation → WasOn t handle lt offer swap roots heap other generation
     was other generation on = was_on t handle lt offer swap roots heap swap.offerer.call swap.opens other generation on (ℕ_discrete other handle)
 
-    open_by : (generation : ℕ) → closed_at (states t) generation ≡ None → (generation_at (states t).heap offer.root ≡ generation → ⊥) → closed_at (states (suc t)) generation ≡ None
-    open_by generation none other = ap (λ l. closed_in l generation) closings ∙ closed_other (states t).closings _ generation none other
+    open_by : (generation : ℕ) → closed_at (r.records t) generation ≡ None → (generation_at (states t).heap offer.root ≡ generation → ⊥) → closed_at (r.records (suc t)) generation ≡ None
+    open_by generation none other = ap (λ l. closed_in l generation) closings ∙ closed_other (r.records t).closings _ generation none other
 
-    fresh_open : (generation fresh : ℕ) → generation ≡ fresh → IsFresh (states t) fresh → closed_at (states (suc t)) generation ≡ None
+    fresh_open : (generation fresh : ℕ) → generation ≡ fresh → IsFresh (states t) (r.records t) fresh → closed_at (r.records (suc t)) generation ≡ None
     fresh_open generation fresh same is =
-        open_by generation (ap (closed_at (states t)) same ∙ is.0) (λ old. not_fresh handle (generation_at (states t).heap offer.root) fresh (old ∙ same) is swap.stands)
+        open_by generation (ap (closed_at (r.records t)) same ∙ is.0) (λ old. not_fresh handle (generation_at (states t).heap offer.root) fresh (old ∙ same) is swap.stands)
 
-    unclosed_by : (other generation : ℕ) → WasOn t handle lt offer swap roots heap other generation → closed_at (states (suc t)) generation ≡ None
+    unclosed_by : (other generation : ℕ) → WasOn t handle lt offer swap roots heap other generation → closed_at (r.records (suc t)) generation ≡ None
     unclosed_by other generation (its_own e g) = fresh_open generation _ g swap.is_fresh
     unclosed_by other generation (opened second o h fresh differ) = fresh_open generation _ h fresh
     unclosed_by other generation (before apart on) =
@@ -166,7 +167,7 @@ module _ (limits : Limits) (states : ℕ → State) (last : ℕ) (r : IsRun limi
       unclosed = λ other generation on. unclosed_by other generation (was other generation on);
     }
 
-  sound_by : (t : ℕ) → t < last → Kind limits states last V t → Sound t → Sound (suc t)
+  sound_by : (t : ℕ) → t < last → Kind limits states r.records last V t → Sound t → Sound (suc t)
   sound_by t lt (plain places closings kept still) sound = kept_sound t (λ handle generation on. sym (kept handle) ∙ on) closings sound
   sound_by t lt (updates entered update places closings kept) sound = kept_sound t (λ handle generation on. sym (kept handle) ∙ on) closings sound
   sound_by t lt (answers k operation answer runs places unplaced agrees replied closings kept still) sound = kept_sound t (λ handle generation on. sym (kept handle) ∙ on) closings sound
@@ -183,7 +184,7 @@ module _ (limits : Limits) (states : ℕ → State) (last : ℕ) (r : IsRun limi
   first_sound : Sound zero
   first_sound = record {
     apart = λ a b generation on_a on_b. at_first a generation on_a ∙ sym (at_first b generation on_b);
-    unclosed = λ handle generation on. ap (λ state. closed_at state generation) r.first ∙ nothing_closed limits generation;
+    unclosed = λ handle generation on. ap (λ past. closed_at past generation) r.nothing_recorded ∙ nothing_closed limits generation;
   }
     where
       at_first : (a generation : ℕ) → On states zero a generation → a ≡ 0

@@ -1,5 +1,5 @@
 -- Which generations stand on which handles, along a run: what each step leaves, and what a swap makes of it.
-use Rattle.std.proofs.Common.{◌≡◌, ℕ, suc, ◌<◌, List, set, get_or, length, Option, Some, None, refl, sym, ap, ◌∙◌, length-set, arith}
+use Rattle.std.proofs.Common.{◌≡◌, ℕ, suc, ◌<◌, List, set, get_or, length, Option, Some, None, refl, sym, ap, ◌∙◌, length-set, arith, subst}
 use Rattle.std.proofs.lemmas.List.{get_or-set_same}
 use Rattle.std.proofs.lemmas.Option.{none-some}
 use Rattle.proof_order.specs.Beneath.history.specs.declared.calls.Access.{Access}
@@ -10,14 +10,14 @@ use Rattle.proof_order.specs.Beneath.machine_model.specs.declared.roots.Root.{Ro
 use Rattle.proof_order.specs.Beneath.machine_model.specs.declared.roots.RootWord.{RootWord}
 use Rattle.proof_order.specs.Beneath.machine_model.specs.declared.roots.RootWord.TheVariants.{Plain}
 use Rattle.proof_order.specs.Beneath.machine_model.specs.declared.roots.Descriptor.{Descriptor}
-use Rattle.proof_order.specs.Beneath.machine_model.specs.declared.steps.Limits.{Limits}
+use Rattle.proof_order.specs.Beneath.machine_model.specs.declared.steps.Bounds.{Bounds}
 use Rattle.proof_order.specs.Beneath.machine_model.specs.declared.steps.Outcome.{Outcome}
 use Rattle.proof_order.specs.Beneath.machine_model.specs.declared.steps.Step.{Step}
 use Rattle.proof_order.specs.Beneath.machine_model.specs.States.{State, root_at, root_of, rewritten}
 use Rattle.proof_order.specs.Beneath.machine_model.specs.Acting.{opened_root}
 use Rattle.proof_order.specs.Beneath.machine_model.specs.Moves.{Moves}
 use Rattle.proof_order.specs.Beneath.machine_model.proofs.Found.{found_within, found_elsewhere}
-use Rattle.proof_order.specs.Beneath.machine_model.specs.Times.{turns}
+use Rattle.proof_order.specs.Beneath.machine_model.specs.Times.{turns, noted_turn}
 use Rattle.proof_order.specs.Beneath.machine_model.specs.Times.{IsRun, Turn}
 use Rattle.proof_order.specs.Beneath.history.specs.Worlds.{KeyMap}
 use Rattle.proof_order.specs.Facts.{standing_of, standing, Facts}
@@ -25,6 +25,8 @@ use Rattle.proof_order.proofs.Views.Changes.{footing_of, footing, roots_swapped}
 use Rattle.proof_order.proofs.Offers.Standing.{offers_at}
 use Rattle.proof_order.proofs.Offers.Honest.{honest}
 use Rattle.proof_order.proofs.Views.EachStep.{HonestIn, Changes, changes}
+use Rattle.proof_order.specs.Beneath.machine_model.specs.Records.{Record, noted}
+use Rattle.proof_order.specs.Beneath.machine_model.specs.Tellings.{told_in}
 
 -- ---- standing, by the root
 
@@ -88,23 +90,26 @@ module _ (state after : State) (handle : ℕ) (offer : Descriptor) (root : Root)
 
 -- ---- along a run
 
-pub record AStep (before after : State) : Type 0 where
+pub record AStep (before : State) (past : Record) (after : State) (now : Record) : Type 0 where
   pub its : Step
   pub outcome : Outcome
   pub move : Moves before its outcome after
+  pub notes : now ≡ noted past before.steps (told_in before its)
 
-step_of_turn : (before after : State) → Turn before after → AStep before after
-step_of_turn before after (turns s o m) = record { its = s; outcome = o; move = m }
+step_of_turn : {before after : State} {past now : Record} (turn : Turn before after) → now ≡ noted_turn turn past → AStep before past after now
+step_of_turn (turns s o m) e = record { its = s; outcome = o; move = m; notes = e }
 
-module _ (limits : Limits) (states : ℕ → State) (last : ℕ) (r : IsRun limits states last) (V : ℕ → ℕ → KeyMap) (facts : Facts limits states last V) where
-  pub step_at : (t : ℕ) → t < last → AStep (states t) (states (suc t))
-  step_at t lt = step_of_turn (states t) (states (suc t)) (r.turn t lt)
+module _ (limits : Bounds) (states : ℕ → State) (last : ℕ) (r : IsRun limits states last) (V : ℕ → ℕ → KeyMap) (facts : Facts limits states r.records last V) where
+  pub step_at : (t : ℕ) → t < last → AStep (states t) (r.records t) (states (suc t)) (r.records (suc t))
+  step_at t lt = step_of_turn (r.turn t lt) (r.recorded t lt)
 
   honest_at : (t : ℕ) → t < last → HonestIn (states t)
   honest_at t lt = honest (states t) (offers_at limits states last r t (omega arith))
 
-  pub change_at : (t : ℕ) (lt : t < last) → Changes (states t) (step_at t lt).its (states (suc t))
-  change_at t lt = let a = step_at t lt in changes (states t) a.its a.outcome (states (suc t)) a.move (honest_at t lt)
+  pub change_at : (t : ℕ) (lt : t < last) → Changes (states t) (r.records t) (step_at t lt).its (states (suc t)) (r.records (suc t))
+  change_at t lt =
+      let a = step_at t lt in
+      subst (λ now. Changes (states t) (r.records t) a.its (states (suc t)) now) (sym a.notes) (changes (states t) (r.records t) a.its a.outcome (states (suc t)) a.move (honest_at t lt))
 
   -- where a step leaves a handle's root it leaves its standing
   pub keeps_standing : (t handle : ℕ) → t < last → footing (states (suc t)) handle ≡ footing (states t) handle → standing (states (suc t)) handle ≡ standing (states t) handle

@@ -8,10 +8,9 @@ use Rattle.proof_order.specs.Beneath.history.specs.declared.replies.Reply.{Reply
 use Rattle.proof_order.specs.Beneath.history.specs.Orders.{Answered, Recalls}
 use Rattle.proof_order.specs.Beneath.places.specs.declared.place.Place.{Place}
 use Rattle.proof_order.specs.Beneath.machine_model.specs.declared.operations.Operation.{Operation}
-use Rattle.proof_order.specs.Beneath.machine_model.specs.declared.steps.Limits.{Limits}
+use Rattle.proof_order.specs.Beneath.machine_model.specs.declared.steps.Bounds.{Bounds}
 use Rattle.proof_order.specs.Beneath.machine_model.specs.Calls.{handle_of}
 use Rattle.proof_order.specs.Beneath.machine_model.specs.States.{State}
-use Rattle.proof_order.specs.Beneath.machine_model.specs.Orders.{place_of, closing_for}
 use Rattle.proof_order.specs.Beneath.machine_model.specs.Times.{IsRun}
 use Rattle.proof_order.specs.Beneath.proof_contents.specs.Effects.{act_in}
 use Rattle.proof_order.specs.Facts.{standing, On, Runs, IsReply, Update}
@@ -19,6 +18,8 @@ use Rattle.proof_order.proofs.Views.Replay.{View, but, Leads, leads_one, leads_s
 use Rattle.proof_order.proofs.Views.Acts.{named, but_same, acts_on}
 use Rattle.proof_order.proofs.History.Recalling.{recalls_running}
 use Rattle.proof_order.proofs.Places.Origins.{place_says}
+use Rattle.proof_order.specs.Beneath.machine_model.specs.Records.{place_of, closing_for}
+use Rattle.proof_order.specs.Beneath.machine_model.specs.Tellings.{entrant_of}
 
 -- ---- views that differ at one handle
 
@@ -42,7 +43,7 @@ same_shown V last t u None still = refl
 same_shown V last t u (Some (Writable, generation)) still = ap (λ m. Some (named Writable m)) (sym (still generation refl))
 same_shown V last t u (Some (ReadOnly, generation)) still = refl
 
-module _ (limits : Limits) (states : ℕ → State) (last : ℕ) (V : ℕ → ℕ → KeyMap) where
+module _ (limits : Bounds) (states : ℕ → State) (last : ℕ) (V : ℕ → ℕ → KeyMap) where
   -- what the handles show at a time
   abbrev pub view : ℕ → View
   view t handle = shown V last t (standing (states t) handle)
@@ -58,31 +59,31 @@ module _ (limits : Limits) (states : ℕ → State) (last : ℕ) (V : ℕ → �
       ((generation : ℕ) → On states t handle generation → V generation (suc t) ≡ V generation t) → view t handle ≡ view (suc t) handle
   view_stays t handle same still = same_shown V last t (suc t) (standing (states t) handle) still ∙ ap (shown V last (suc t)) (sym same)
 
-module _ (limits : Limits) (states : ℕ → State) (last : ℕ) (r : IsRun limits states last) (V : ℕ → ℕ → KeyMap) where
+module _ (limits : Bounds) (states : ℕ → State) (last : ℕ) (r : IsRun limits states last) (V : ℕ → ℕ → KeyMap) where
   -- an own update leads its handle from one content to the next
-  pub update_leads : (t : ℕ) → t < last → (entered : List Place) (update : Update limits states last V t entered) (before : View) →
+  pub update_leads : (t : ℕ) → t < last → (entered : List Place) (update : Update limits states r.records last V t entered) (before : View) →
       before (handle_of update.owner.call) ≡ Some (named Writable (V update.generation t)) →
-      Leads (hash_of limits.hash) (states last).events (place_of (states t) update.owner t false ∷ []) before
+      Leads (hash_of limits.hash) (r.records last).events (place_of (r.records t) (entrant_of update.owner) t false ∷ []) before
       (but before (handle_of update.owner.call) (Some (named Writable (V update.generation (suc t)))))
   update_leads t lt entered update before at =
       let owner : Operation = update.owner in
-      let id = (place_says (closing_for (states t) owner owner.access) t owner.id false).2 in
+      let id = (place_says (closing_for (r.records t) owner.generation owner.access) t owner.id false).2 in
       let one : Answered = record { call = owner.call; opens = owner.opens; answer = update.answer } in
       let recalls = recalls_running limits states last r t update.k owner update.answer (omega arith) update.runs update.agrees in
-      leads_one (hash_of limits.hash) (states last).events (place_of (states t) owner t false) one before _
-      (subst (λ i. Recalls (states last).events i one) (sym id) recalls)
+      leads_one (hash_of limits.hash) (r.records last).events (place_of (r.records t) (entrant_of owner) t false) one before _
+      (subst (λ i. Recalls (r.records last).events i one) (sym id) recalls)
       (acts_on (hash_of limits.hash) Writable owner.call owner.opens before (V update.generation t) update.answer (V update.generation (suc t)) at update.acts)
 
   -- an operation that changes nothing
-  pub reader_leads : (u k : ℕ) (operation : Operation) (answer : Reply) (p : Place) (access : Access) (m : KeyMap) (before : View) → u ≤ last → Runs (states u) k operation →
-      p ≡ place_of (states u) operation operation.moment true → IsReply (states last).events operation.id answer →
+  pub reader_leads : (u k : ℕ) (operation : Operation) (moment : ℕ) (answer : Reply) (p : Place) (access : Access) (m : KeyMap) (before : View) → u ≤ last → Runs (states u) k operation →
+      p ≡ place_of (r.records u) (entrant_of operation) moment true → IsReply (r.records last).events operation.id answer →
       before (handle_of operation.call) ≡ Some (named access m) → act_in (hash_of limits.hash) access operation.call m ≡ Some (answer, m) →
-      Leads (hash_of limits.hash) (states last).events (p ∷ []) before before
-  reader_leads u k operation answer p access m before le runs is agrees at acts =
-      let id = ap (λ (q : Place). q.id) is ∙ (place_says (closing_for (states u) operation operation.access) operation.moment operation.id true).2 in
+      Leads (hash_of limits.hash) (r.records last).events (p ∷ []) before before
+  reader_leads u k operation moment answer p access m before le runs is agrees at acts =
+      let id = ap (λ (q : Place). q.id) is ∙ (place_says (closing_for (r.records u) operation.generation operation.access) moment operation.id true).2 in
       let one : Answered = record { call = operation.call; opens = operation.opens; answer = answer } in
       let recalls = recalls_running limits states last r u k operation answer le runs agrees in
-      leads_same (hash_of limits.hash) (states last).events (p ∷ []) before (but before (handle_of operation.call) (Some (named access m))) before
-      (leads_one (hash_of limits.hash) (states last).events p one before _ (subst (λ i. Recalls (states last).events i one) (sym id) recalls)
+      leads_same (hash_of limits.hash) (r.records last).events (p ∷ []) before (but before (handle_of operation.call) (Some (named access m))) before
+      (leads_one (hash_of limits.hash) (r.records last).events p one before _ (subst (λ i. Recalls (r.records last).events i one) (sym id) recalls)
       (acts_on (hash_of limits.hash) access operation.call operation.opens before m answer m at acts))
       (λ other. sym (but_same before (handle_of operation.call) (Some (named access m)) at other))

@@ -8,48 +8,49 @@ use Rattle.proof_order.specs.Beneath.history.specs.Histories.{HasEnded}
 use Rattle.proof_order.specs.Beneath.history.specs.Orders.{OrderedAt}
 use Rattle.proof_order.specs.Beneath.places.specs.declared.place.Place.{Place}
 use Rattle.proof_order.specs.Beneath.places.specs.Places.{is_before, placed, rising, ids_by_place}
-use Rattle.proof_order.specs.Beneath.machine_model.specs.declared.steps.Limits.{Limits}
+use Rattle.proof_order.specs.Beneath.machine_model.specs.declared.steps.Bounds.{Bounds}
 use Rattle.proof_order.specs.Beneath.machine_model.specs.declared.steps.Step.{Step}
 use Rattle.proof_order.specs.Beneath.machine_model.specs.States.{State, first_state}
-use Rattle.proof_order.specs.Beneath.machine_model.specs.Orders.{order_of}
-use Rattle.proof_order.specs.Beneath.machine_model.specs.Machine.{next_state, run_from, run}
-use Rattle.proof_order.specs.Beneath.machine_model.proofs.Along.{along, run-append, kept_by_moves}
+use Rattle.proof_order.specs.Beneath.machine_model.specs.Machine.{next_state, run}
 use Rattle.proof_order.proofs.Places.Elements.{among_map, get_among}
 use Rattle.proof_order.proofs.Places.Sorting.{Rises, rising_rises, rising_among}
 use Rattle.proof_order.proofs.History.Books.{Books}
 use Rattle.proof_order.proofs.History.AllBooks.{books_kept, first_books}
 use Rattle.proof_order.proofs.History.Growing.{Answered, answered_kept, first_answered, Grows, grows_same, grows_trans, places_grow}
+use Rattle.proof_order.specs.Beneath.machine_model.specs.Records.{order_of, record_of, record_from, Record, next_record, first_record}
+use Rattle.proof_order.specs.Beneath.machine_model.proofs.Recorded.{along_with, record-append, kept_by_notes}
 
 -- ---- after each list of steps
 
-pub books_of : (limits : Limits) (steps : List Step) → Books (run limits steps)
-books_of limits = along limits Books (first_books limits) (λ steps s o after m books. books_kept (run limits steps) s o after m books)
+pub books_of : (limits : Bounds) (steps : List Step) → Books (run limits steps) (record_of limits steps)
+books_of limits = along_with limits Books (first_books limits) (λ steps s o after m books. books_kept (run limits steps) (record_of limits steps) s o after m books)
 
-answered_of : (limits : Limits) (steps : List Step) → Answered (run limits steps)
-answered_of limits = along limits Answered (first_answered limits) (λ steps s o after m h. answered_kept (run limits steps) s o after m h)
+answered_of : (limits : Bounds) (steps : List Step) → Answered (record_of limits steps)
+answered_of limits =
+    along_with limits (λ state past. Answered past) (first_answered limits) (λ steps s o after m h. answered_kept (run limits steps) (record_of limits steps) s o after m h)
 
 -- each answered operation stands in the order
-pub ordered : (limits : Limits) (steps : List Step) (id : ℕ) (answer : Reply) → HasEnded (run limits steps).events id answer → answer ≢ NoSlots →
-    (i : ℕ) × OrderedAt (order_of (run limits steps)) i id
+pub ordered : (limits : Bounds) (steps : List Step) (id : ℕ) (answer : Reply) → HasEnded (record_of limits steps).events id answer → answer ≢ NoSlots →
+    (i : ℕ) × OrderedAt (order_of (record_of limits steps)) i id
 unfolding ids_by_place
 ordered limits steps id answer ended other =
     let (p, within, same) = answered_of limits steps id answer ended other in
-    let places = (run limits steps).places in
-    let (i, at) = get_among (order_of (run limits steps)) p.id (among_map (λ (q : Place). q.id) (rising places) p (rising_among places p within)) in
+    let places = (record_of limits steps).places in
+    let (i, at) = get_among (order_of (record_of limits steps)) p.id (among_map (λ (q : Place). q.id) (rising places) p (rising_among places p within)) in
     (i, at ∙ ap Some same)
 
 -- the places grow along more steps
-stay_from : (first state : State) (more : List Step) → Grows first.places state.places → Grows first.places (run_from state more).places
-unfolding run_from
-stay_from first state [] g = g
-stay_from first state (s ∷ more) g =
-    stay_from first (next_state state s) more
-    (kept_by_moves (λ q. Grows first.places q.places) state s g (λ o after m. grows_trans first.places state.places after.places g (places_grow state s o after m)))
+stay_from : (first : Record) (state : State) (past : Record) (more : List Step) → Grows first.places past.places → Grows first.places (record_from state past more).places
+unfolding record_from
+stay_from first state past [] g = g
+stay_from first state past (s ∷ more) g =
+    stay_from first (next_state state s) (next_record state past s) more
+    (kept_by_notes (λ state q. Grows first.places q.places) state past s g (λ o after m. grows_trans first.places past.places _ g (places_grow state past s o after m)))
 
-pub stay : (limits : Limits) (steps more : List Step) → Grows (run limits steps).places (run limits (steps ++ more)).places
+pub stay : (limits : Bounds) (steps more : List Step) → Grows (record_of limits steps).places (record_of limits (steps ++ more)).places
 stay limits steps more =
-    subst (λ (q : State). Grows (run limits steps).places q.places) (sym (run-append (first_state limits) steps more))
-    (stay_from (run limits steps) (run limits steps) more (grows_same (run limits steps).places (run limits steps).places refl))
+    subst (λ (q : Record). Grows (record_of limits steps).places q.places) (sym (record-append (first_state limits) (first_record limits) steps more))
+    (stay_from (record_of limits steps) (run limits steps) (record_of limits steps) more (grows_same (record_of limits steps).places (record_of limits steps).places refl))
 
 -- ---- sorting
 

@@ -5,18 +5,19 @@ use Rattle.proof_order.specs.Beneath.history.specs.declared.calls.Call.{Call}
 use Rattle.proof_order.specs.Beneath.history.specs.declared.calls.Call.TheVariants.{Clear, Snapshot, Freeze}
 use Rattle.proof_order.specs.Beneath.slot_arena.specs.declared.refs.Ref.{Ref}
 use Rattle.proof_order.specs.Beneath.slot_arena.specs.Heaps.{node_at, logical_main, empty_branch}
-use Rattle.proof_order.specs.Beneath.machine_model.specs.declared.heaps.Closing.{Closing}
+use Rattle.proof_order.specs.Beneath.machine_model.specs.declared.records.Closing.{Closing}
 use Rattle.proof_order.specs.Beneath.machine_model.specs.declared.operations.Operation.{Operation}
 use Rattle.proof_order.specs.Beneath.machine_model.specs.declared.roots.Descriptor.{Descriptor}
 use Rattle.proof_order.specs.Beneath.machine_model.specs.declared.roots.Root.{Root}
-use Rattle.proof_order.specs.Beneath.machine_model.specs.declared.steps.Limits.{Limits}
+use Rattle.proof_order.specs.Beneath.machine_model.specs.declared.steps.Bounds.{Bounds}
 use Rattle.proof_order.specs.Beneath.machine_model.specs.declared.steps.Step.{Step}
-use Rattle.proof_order.specs.Beneath.machine_model.specs.States.{State, root_at, root_of, closed_at, operation_of}
-use Rattle.proof_order.specs.Beneath.machine_model.specs.Machine.{AreLimits, run}
+use Rattle.proof_order.specs.Beneath.machine_model.specs.States.{State, root_at, root_of, operation_of}
+use Rattle.proof_order.specs.Beneath.machine_model.specs.Machine.{AreBounds}
 use Rattle.proof_order.specs.Beneath.proof_memory.specs.Laws.{IsInUse}
 use Rattle.proof_generations.specs.Laws.Roots.{root_generation}
 use Rattle.proof_order.specs.Openings.{IsSwap}
-use Rattle.proof_order.specs.Beneath.machine_model.specs.Times.{states_of, last_of}
+use Rattle.proof_order.specs.Beneath.machine_model.specs.Times.{states_of, last_of, records_of}
+use Rattle.proof_order.specs.Beneath.machine_model.specs.Records.{Record, record_of, closed_at}
 
 -- ---- of the states of a run, each before the step of its number
 
@@ -33,15 +34,15 @@ HandlesRiseIn states last =
     (root_of after.word ≡ root_of before.word) ⊎ (root_generation (states n) before < root_generation (states k) after)
 
 -- after the generation of a handle's root was closed no main node of that root is replaced
-abbrev pub ClosedRootsStayIn : (ℕ → State) → ℕ → Type 0
-ClosedRootsStayIn states last =
-    (m n k closed handle : ℕ) (root : Root) → m ≤ last → root_at (states m) handle ≡ Some root → closed_at (states last) (root_generation (states m) root) ≡ Some closed →
+abbrev pub ClosedRootsStayIn : (ℕ → State) → (ℕ → Record) → ℕ → Type 0
+ClosedRootsStayIn states records last =
+    (m n k closed handle : ℕ) (root : Root) → m ≤ last → root_at (states m) handle ≡ Some root → closed_at (records last) (root_generation (states m) root) ≡ Some closed →
     closed ≤ n → n ≤ k → k ≤ last → IsInUse (states n).heap (root_of root.word) → IsInUse (states k).heap (root_of root.word) →
     logical_main (states k).heap (root_of root.word) ≡ logical_main (states n).heap (root_of root.word)
 
 -- each closing is of another generation
-abbrev pub ClosingsDifferIn : State → Type 0
-ClosingsDifferIn state = (m n : ℕ) (a b : Closing) → slice_get state.closings m ≡ Some a → slice_get state.closings n ≡ Some b → a.generation ≡ b.generation → m ≡ n
+abbrev pub ClosingsDifferIn : Record → Type 0
+ClosingsDifferIn past = (m n : ℕ) (a b : Closing) → slice_get past.closings m ≡ Some a → slice_get past.closings n ≡ Some b → a.generation ≡ b.generation → m ≡ n
 
 -- What a root swap leads to: a clear to a root over an empty branch, a snapshot and a freeze to roots over the very node that is the old root's.
 pub data RootsFollow (before after : State) (offer : Descriptor) : Call → Type 0 where
@@ -50,33 +51,33 @@ pub data RootsFollow (before after : State) (offer : Descriptor) : Call → Type
       logical_main after.heap second ≡ logical_main before.heap offer.root → RootsFollow before after offer (Snapshot handle)
   freezes : (handle : ℕ) → offer.second ≡ None → logical_main after.heap offer.successor ≡ logical_main before.heap offer.root → RootsFollow before after offer (Freeze handle)
 
-abbrev pub NewRootsFollowIn : (ℕ → State) → ℕ → Type 0
-NewRootsFollowIn states last =
-    (t handle : ℕ) (offer : Descriptor) → IsSwap states last t handle offer → (actor : ℕ) (offerer : Operation) → operation_of (states t) actor ≡ Some offerer →
+abbrev pub NewRootsFollowIn : (ℕ → State) → (ℕ → Record) → ℕ → Type 0
+NewRootsFollowIn states records last =
+    (t handle : ℕ) (offer : Descriptor) → IsSwap states records last t handle offer → (actor : ℕ) (offerer : Operation) → operation_of (states t) actor ≡ Some offerer →
     offerer.id ≡ offer.operation → RootsFollow (states t) (states (suc t)) offer offerer.call
 
 -- a root is swapped only where the handle is open over it, and its logical main node is the expected one
-abbrev pub RootsSwappedAsExpectedIn : (ℕ → State) → ℕ → Type 0
-RootsSwappedAsExpectedIn states last =
-    (t handle : ℕ) (offer : Descriptor) → IsSwap states last t handle offer →
+abbrev pub RootsSwappedAsExpectedIn : (ℕ → State) → (ℕ → Record) → ℕ → Type 0
+RootsSwappedAsExpectedIn states records last =
+    (t handle : ℕ) (offer : Descriptor) → IsSwap states records last t handle offer →
     (root : Root) × (root_at (states t) handle ≡ Some root) × (root_of root.word ≡ offer.root) × (logical_main (states t).heap offer.root ≡ offer.expected)
 
 -- ---- for every list of steps
 
 abbrev pub OneRoot : Type 0
-OneRoot = (limits : Limits) (steps : List Step) → AreLimits limits → OneRootIn (states_of limits steps) (last_of limits steps)
+OneRoot = (limits : Bounds) (steps : List Step) → AreBounds limits → OneRootIn (states_of limits steps) (last_of limits steps)
 
 abbrev pub HandlesRise : Type 0
-HandlesRise = (limits : Limits) (steps : List Step) → AreLimits limits → HandlesRiseIn (states_of limits steps) (last_of limits steps)
+HandlesRise = (limits : Bounds) (steps : List Step) → AreBounds limits → HandlesRiseIn (states_of limits steps) (last_of limits steps)
 
 abbrev pub ClosedRootsStay : Type 0
-ClosedRootsStay = (limits : Limits) (steps : List Step) → AreLimits limits → ClosedRootsStayIn (states_of limits steps) (last_of limits steps)
+ClosedRootsStay = (limits : Bounds) (steps : List Step) → AreBounds limits → ClosedRootsStayIn (states_of limits steps) (records_of limits steps) (last_of limits steps)
 
 abbrev pub ClosingsDiffer : Type 0
-ClosingsDiffer = (limits : Limits) (steps : List Step) → AreLimits limits → ClosingsDifferIn (run limits steps)
+ClosingsDiffer = (limits : Bounds) (steps : List Step) → AreBounds limits → ClosingsDifferIn (record_of limits steps)
 
 abbrev pub NewRootsFollow : Type 0
-NewRootsFollow = (limits : Limits) (steps : List Step) → AreLimits limits → NewRootsFollowIn (states_of limits steps) (last_of limits steps)
+NewRootsFollow = (limits : Bounds) (steps : List Step) → AreBounds limits → NewRootsFollowIn (states_of limits steps) (records_of limits steps) (last_of limits steps)
 
 abbrev pub RootsSwappedAsExpected : Type 0
-RootsSwappedAsExpected = (limits : Limits) (steps : List Step) → AreLimits limits → RootsSwappedAsExpectedIn (states_of limits steps) (last_of limits steps)
+RootsSwappedAsExpected = (limits : Bounds) (steps : List Step) → AreBounds limits → RootsSwappedAsExpectedIn (states_of limits steps) (records_of limits steps) (last_of limits steps)

@@ -11,14 +11,14 @@ use Rattle.proof_order.specs.Beneath.history.specs.Orders.{OrderedAt, Explains}
 use Rattle.proof_order.specs.Beneath.places.specs.declared.place.Place.{Place}
 use Rattle.proof_order.specs.Beneath.places.specs.Places.{is_before, rising}
 use Rattle.proof_order.specs.Beneath.machine_model.specs.declared.roots.Root.{Root}
-use Rattle.proof_order.specs.Beneath.machine_model.specs.declared.steps.Limits.{Limits}
+use Rattle.proof_order.specs.Beneath.machine_model.specs.declared.steps.Bounds.{Bounds}
 use Rattle.proof_order.specs.Beneath.machine_model.specs.declared.steps.Step.{Step}
 use Rattle.proof_order.specs.Beneath.machine_model.specs.States.{State, root_at}
-use Rattle.proof_order.specs.Beneath.machine_model.specs.Orders.{order_of}
 use Rattle.proof_order.specs.Beneath.machine_model.specs.Contents.{content_at}
-use Rattle.proof_order.specs.Beneath.machine_model.specs.Machine.{AreLimits, run}
-use Rattle.proof_order.specs.Beneath.machine_model.specs.Times.{states_of, last_of}
+use Rattle.proof_order.specs.Beneath.machine_model.specs.Machine.{AreBounds, run}
+use Rattle.proof_order.specs.Beneath.machine_model.specs.Times.{states_of, last_of, records_of}
 use Rattle.proof_order.specs.Facts.{Facts}
+use Rattle.proof_order.specs.Beneath.machine_model.specs.Records.{order_of, Record, record_of}
 
 -- ---- the legal order
 
@@ -31,37 +31,37 @@ Names (Some root) pairs shown = (m : KeyMap) × (shown ≡ Some (record { access
 abbrev pub ShowsContents : HandleMap → State → Type 0
 ShowsContents world state = (handle : ℕ) → Names (root_at state handle) (content_at state handle) (map.get world handle)
 
--- the state's order explains its history, and leads to a world that shows its contents
-abbrev pub IsExplained : Limits → State → Type 0
-IsExplained limits state = (world : HandleMap) × Explains (hash_of limits.hash) state.events (order_of state) world × ShowsContents world state
+-- the order explains the history, and leads to a world that shows the state's contents
+abbrev pub IsExplained : Bounds → State → Record → Type 0
+IsExplained limits state past = (world : HandleMap) × Explains (hash_of limits.hash) past.events (order_of past) world × ShowsContents world state
 
 -- From the facts about contents it follows that the order is legal.
 abbrev pub LegalByFacts : Type 0
 LegalByFacts =
-    (limits : Limits) (steps : List Step) (V : ℕ → ℕ → KeyMap) → AreLimits limits → Facts limits (states_of limits steps) (last_of limits steps) V →
-    IsExplained limits (run limits steps)
+    (limits : Bounds) (steps : List Step) (V : ℕ → ℕ → KeyMap) → AreBounds limits → Facts limits (states_of limits steps) (records_of limits steps) (last_of limits steps) V →
+    IsExplained limits (run limits steps) (record_of limits steps)
 
 -- ---- laws without facts
 
 -- The recorded history is well formed.
 abbrev pub HistoriesWellFormed : Type 0
-HistoriesWellFormed = (limits : Limits) (steps : List Step) → IsWellFormed (run limits steps).events
+HistoriesWellFormed = (limits : Bounds) (steps : List Step) → IsWellFormed (record_of limits steps).events
 
 -- Each operation that was answered stands in the order.
 abbrev pub AnsweredAreOrdered : Type 0
 AnsweredAreOrdered =
-    (limits : Limits) (steps : List Step) (id : ℕ) (answer : Reply) → HasEnded (run limits steps).events id answer → answer ≢ NoSlots →
-    (i : ℕ) × OrderedAt (order_of (run limits steps)) i id
+    (limits : Bounds) (steps : List Step) (id : ℕ) (answer : Reply) → HasEnded (record_of limits steps).events id answer → answer ≢ NoSlots →
+    (i : ℕ) × OrderedAt (order_of (record_of limits steps)) i id
 
 -- Each operation in the order has begun.
 abbrev pub OrderedHaveBegun : Type 0
-OrderedHaveBegun = (limits : Limits) (steps : List Step) (i id : ℕ) → OrderedAt (order_of (run limits steps)) i id → HasBegun (run limits steps).events id
+OrderedHaveBegun = (limits : Bounds) (steps : List Step) (i id : ℕ) → OrderedAt (order_of (record_of limits steps)) i id → HasBegun (record_of limits steps).events id
 
 -- Places once told stay: later steps add places, and change none.
 abbrev pub PlacesStay : Type 0
 PlacesStay =
-    (limits : Limits) (steps more : List Step) →
-    (new : List Place) × ((run limits (steps ++ more)).places ≡ (run limits steps).places ++ new)
+    (limits : Bounds) (steps more : List Step) →
+    (new : List Place) × ((record_of limits (steps ++ more)).places ≡ (record_of limits steps).places ++ new)
 
 -- The rising places are the places, each as often as before, sorted.
 abbrev pub RisingSorts : Type 0

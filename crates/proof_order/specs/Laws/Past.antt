@@ -1,12 +1,13 @@
 -- Places and closings lie in the past.
 use Rattle.std.specs.Prelude.{◌<◌, List, All}
-use Rattle.proof_order.specs.Beneath.machine_model.specs.declared.steps.Limits.{Limits}
+use Rattle.proof_order.specs.Beneath.machine_model.specs.declared.steps.Bounds.{Bounds}
 use Rattle.proof_order.specs.Beneath.machine_model.specs.declared.steps.Step.{Step}
 use Rattle.proof_order.specs.Beneath.machine_model.specs.Machine.{run}
+use Rattle.proof_order.specs.Beneath.machine_model.specs.Records.{record_of}
 
 -- each place and each closing names a step that was taken
 abbrev pub PlacesPast : Type 0
 PlacesPast =
-    (limits : Limits) (steps : List Step) →
-    All (λ place. place.step < (run limits steps).steps) (run limits steps).places
-    × All (λ closing. closing.step < (run limits steps).steps) (run limits steps).closings
+    (limits : Bounds) (steps : List Step) →
+    All (λ place. place.step < (run limits steps).steps) (record_of limits steps).places
+    × All (λ closing. closing.step < (run limits steps).steps) (record_of limits steps).closings

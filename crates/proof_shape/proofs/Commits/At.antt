@@ -14,24 +14,22 @@ use Rattle.proof_shape.specs.Beneath.machine_model.specs.declared.reading.SwapLi
 use Rattle.proof_shape.specs.Beneath.history.specs.declared.replies.Reply.{Reply}
 use Rattle.proof_shape.specs.Beneath.proof_commits.proofs.Known.Owners.{Owner}
 use Rattle.proof_shape.specs.Beneath.proof_commits.proofs.Lines.Swap.{RunsSwap}
-use Rattle.proof_shape.specs.Beneath.machine_model.specs.declared.steps.Limits.{Limits}
+use Rattle.proof_shape.specs.Beneath.machine_model.specs.declared.steps.Bounds.{Bounds}
 use Rattle.proof_shape.specs.Beneath.machine_model.specs.declared.steps.Outcome.{Outcome}
 use Rattle.proof_shape.specs.Beneath.machine_model.specs.declared.steps.Step.{Step}
 use Rattle.proof_shape.specs.Beneath.machine_model.specs.declared.steps.Step.TheVariants as step
 use Rattle.proof_shape.specs.Beneath.machine_model.specs.States.{State, operation_of}
-use Rattle.proof_shape.specs.Beneath.machine_model.specs.Orders.{committed_now}
 use Rattle.proof_shape.specs.Beneath.machine_model.specs.Operations.{action_of}
-use Rattle.proof_shape.specs.Beneath.machine_model.specs.Acting.{commits_after}
 use Rattle.proof_shape.specs.Beneath.machine_model.specs.Machine.{run as run_steps}
 use Rattle.proof_shape.specs.Beneath.machine_model.specs.Grown.{node_under}
 use Rattle.proof_shape.specs.Beneath.machine_model.proofs.EachOperation.{of_running}
 use Rattle.proof_shape.specs.Beneath.machine_model.specs.Moves.{Begins, Goes, Ends, Sweeps}
-use Rattle.proof_shape.specs.Beneath.machine_model.specs.Moves.{Moves, GoesOn, begun_operation}
+use Rattle.proof_shape.specs.Beneath.machine_model.specs.Moves.{Moves, GoesOn}
 use Rattle.proof_shape.specs.Beneath.machine_model.proofs.Readers.{IsReaders, ReadsIfReadOnly, each_reads}
-use Rattle.proof_shape.specs.Beneath.machine_model.proofs.Times.{steps_at}
 use Rattle.proof_shape.specs.Beneath.machine_model.specs.Times.{IsRun}
 use Rattle.proof_shape.specs.Beneath.proof_commits.specs.Protocol.{CommitsNode, Protocol}
-use Rattle.proof_shape.specs.Beneath.proof_commits.proofs.Known.StepsAt.{gone_commits, begun_commits}
+use Rattle.proof_shape.specs.Beneath.proof_commits.proofs.Course.Changers.{changers_known}
+use Rattle.proof_shape.specs.Beneath.machine_model.proofs.Notes.{noted_ending, noted_going}
 use Rattle.proof_shape.specs.Beneath.proof_commits.proofs.Words.Along.{protocol}
 use Rattle.proof_shape.specs.Beneath.proof_contents.specs.Lines.Changes.{KnowsLine}
 use Rattle.proof_shape.specs.Beneath.proof_contents.specs.Lines.Repairs.{KnowsRepair}
@@ -50,8 +48,10 @@ use Rattle.proof_shape.proofs.Commits.Deciders.{DecidesNode, decides_node}
 use Rattle.proof_shape.proofs.Commits.Owners.{over_another, owner_then, runs_then, alone_then, commits_then, main_before_then, main_after_then, others_then}
 use Rattle.proof_shape.proofs.Commits.Entered.{enters_owner}
 use Rattle.proof_shape.specs.Beneath.proof_commits.proofs.Known.Acts.{known_run}
+use Rattle.proof_shape.specs.Beneath.machine_model.specs.Tellings.{committed_now, told_in}
+use Rattle.proof_shape.specs.Beneath.machine_model.specs.Records.{Record, commits_after, noted}
 
-module _ (limits : Limits) (states : ℕ → State) (last : ℕ) (run : IsRun limits states last) where
+module _ (limits : Bounds) (states : ℕ → State) (last : ℕ) (run : IsRun limits states last) where
   abbrev p : Protocol
   p = protocol limits states last (known_run limits states last run)
 
@@ -77,12 +77,12 @@ module _ (limits : Limits) (states : ℕ → State) (last : ℕ) (run : IsRun li
   FreshKnown firsts =
       (t : ℕ) → t < last → (actor : ℕ) (owner : Operation) (why : Purpose) (i a f : Ref) (l : ReadLine) (start : ℕ) → operation_of (states t) actor ≡ Some owner →
       owner.line ≡ line.Swap why (record { indirection = i; replaced = a; fresh = f; line = swap.Deciding l }) → owner.generation ≡ Some start →
-      CommitsNode (protocol limits states last (known_run limits states last run)).words t f a → KnowsFresh limits states last firsts t actor start owner a f why
+      CommitsNode (protocol limits states last (known_run limits states last run)).words t f a → KnowsFresh limits states run.records last firsts t actor start owner a f why
 
   module _ (firsts : Firsts) (fresh_known : FreshKnown firsts) (t : ℕ) (h : t < last) where
     -- where a node is committed
-    committed : (s : Step) (actor : ℕ) (operation : Operation) → s ≡ step.Go actor → GoesAt states t actor operation → (x : Ref) → committed_now (states t) operation ≡ Some x →
-        OwnCommit limits states last firsts t s
+    committed : (s : Step) (actor : ℕ) (operation : Operation) → s ≡ step.Go actor → GoesAt states run.records t actor operation → (x : Ref) → committed_now (states t) operation ≡ Some x →
+        OwnCommit limits states run.records last firsts t s
     committed s actor operation is_go go x now = record {
       indirection = owner.link;
       replaced = d.previous;
@@ -109,8 +109,8 @@ module _ (limits : Limits) (states : ℕ → State) (last : ℕ) (run : IsRun li
       placed = placed.1;
       knows = fresh_known t h owner.actor runs.operation runs.swaps.0 owner.link d.previous x owner.line placed.0.0 runs.is runs.swaps.1 placed.0.1
           (commits_then limits states last run t h actor operation go x d);
-      enters = enters_owner (states t) x owner.actor runs.operation runs.is (alone_then limits states last run t h actor operation go x d) runs.swaps.0
-          (record { indirection = owner.link; replaced = d.previous; fresh = x; line = swap.Deciding owner.line }) runs.swaps.1 refl t (steps_at limits states last run t (omega arith));
+      enters = enters_owner (run.records t) runs.operation t x runs.swaps.0
+          (changers_known limits states last (known_run limits states last run) t (omega arith) owner.actor runs.operation runs.is runs.swaps.0 owner.link d.previous x owner.line runs.swaps.1);
     }
       where
         d : DecidesNode (states t) operation x
@@ -125,11 +125,11 @@ module _ (limits : Limits) (states : ℕ → State) (last : ℕ) (run : IsRun li
         placed : IsPlaced runs.operation.generation (line.Swap runs.swaps.0 (record { indirection = owner.link; replaced = d.previous; fresh = x; line = swap.Deciding owner.line }))
         placed = subst (λ l. IsPlaced runs.operation.generation l) runs.swaps.1 (places_at limits states last run t (omega arith) owner.actor runs.operation runs.is)
 
-    goes_by : (actor : ℕ) (operation : Operation) → GoesAt states t actor operation → (now : Option Ref) → committed_now (states t) operation ≡ now →
-        MainStep limits states last firsts t (step.Go actor)
+    goes_by : (actor : ℕ) (operation : Operation) → GoesAt states run.records t actor operation → (now : Option Ref) → committed_now (states t) operation ≡ now →
+        MainStep limits states run.records last firsts t (step.Go actor)
     goes_by actor operation go None e =
         stays (goes actor operation go.runs e)
-        (quiet_stays limits states last run t h (ap (λ (x : State). x.commits) go.after ∙ gone_commits (states t) actor operation ∙ ap (commits_after (states t)) e))
+        (quiet_stays limits states last run t h (ap (λ (x : Record). x.commits) go.noted ∙ ap (commits_after (run.records t) (states t).steps) e))
     goes_by actor operation go (Some x) e = changes (committed (step.Go actor) actor operation refl go x e)
 
     -- an end commits nothing
@@ -141,19 +141,26 @@ module _ (limits : Limits) (states : ℕ → State) (last : ℕ) (run : IsRun li
         ends_not : (answer : Reply) (i m q : Ref) (told : Option ℕ) → act.End answer ≡ act.Decide i m q told → ⊥
         ends_not answer i m q told e = cc
 
-    by_move : (s : Step) (o : Outcome) (after : State) → Moves (states t) s o after → after ≡ states (suc t) → MainStep limits states last firsts t s
-    by_move s o after (Begins {actor} {call} d) e =
-        stays (begins actor call) (quiet_stays limits states last run t h (ap (λ (x : State). x.commits) (sym e) ∙ begun_commits (states t) actor call (begun_operation (states t) call)))
-    by_move s o after (Goes {actor} {operation} {action} d is a g) e =
-        goes_by actor operation
-        (record { o = o; moves = subst (λ x. Moves (states t) (step.Go actor) o x) e (Goes d is a g); runs = is; goes = subst GoesOn (sym a) g; after = sym e })
+    by_move : (s : Step) (o : Outcome) (after : State) → Moves (states t) s o after → after ≡ states (suc t) → run.records (suc t) ≡ noted (run.records t) (states t).steps (told_in (states t) s) →
+        MainStep limits states run.records last firsts t s
+    by_move s o after (Begins {actor} {call} d) e notes = stays (begins actor call) (quiet_stays limits states last run t h (ap (λ (x : Record). x.commits) notes))
+    by_move s o after (Goes {actor} {operation} {action} d is a g) e notes =
+        goes_by actor operation (record {
+          o = o;
+          moves = subst (λ x. Moves (states t) (step.Go actor) o x) e (Goes d is a g);
+          runs = is;
+          goes = subst GoesOn (sym a) g;
+          after = sym e;
+          noted = notes ∙ noted_going (states t) (run.records t) actor operation action is a g;
+        })
         (committed_now (states t) operation) refl
-    by_move s o after (Ends {actor} {operation} {answer} d is a) e =
-        stays (goes actor operation is (ends_none operation answer a (committed_now (states t) operation) refl)) (quiet_stays limits states last run t h (ap (λ (x : State). x.commits) (sym e)))
-    by_move s o after (Sweeps spent) e = stays sweeps (quiet_stays limits states last run t h (ap (λ (x : State). x.commits) (sym e)))
+    by_move s o after (Ends {actor} {operation} {answer} d is a) e notes =
+        stays (goes actor operation is (ends_none operation answer a (committed_now (states t) operation) refl))
+        (quiet_stays limits states last run t h (ap (λ (x : Record). x.commits) (notes ∙ noted_ending (states t) (run.records t) actor operation answer is a)))
+    by_move s o after (Sweeps spent) e notes = stays sweeps (quiet_stays limits states last run t h (ap (λ (x : Record). x.commits) notes))
 
-  pub commits_by : (firsts : Firsts) → FreshKnown firsts → CommitsAt limits states last firsts
-  commits_by firsts fresh_known t h s o m = by_move firsts fresh_known t h s o (states (suc t)) m refl
+  pub commits_by : (firsts : Firsts) → FreshKnown firsts → CommitsAt limits states run.records last firsts
+  commits_by firsts fresh_known t h s o m notes = by_move firsts fresh_known t h s o (states (suc t)) m refl notes
 
   -- ---- with the main nodes with which indirections were made
 
@@ -161,13 +168,13 @@ module _ (limits : Limits) (states : ℕ → State) (last : ℕ) (run : IsRun li
   made_known t h actor owner (purpose.Update path former) i a f l start runs e begun commits =
       subst (λ x. KnowsLine (known_with limits states last (first_main states last)) owner.call x) e (knows_at limits states last run t (omega arith) actor owner runs)
   made_known t h actor owner (purpose.Renew path) i a f l start runs e begun commits =
-      subst (λ x. KnowsRepair (node_under states last) (first_main states last) (GaveBelow states last t actor owner.id start) start x) e
+      subst (λ x. KnowsRepair (node_under states last) (first_main states last) (GaveBelow states run.records last t actor owner.id start) start x) e
       (repairs_at limits states last run t (omega arith) actor owner runs start begun)
   made_known t h actor owner purpose.Clean i a f l start runs e begun commits =
-      subst (λ x. KnowsRepair (node_under states last) (first_main states last) (GaveBelow states last t actor owner.id start) start x) e
+      subst (λ x. KnowsRepair (node_under states last) (first_main states last) (GaveBelow states run.records last t actor owner.id start) start x) e
       (repairs_at limits states last run t (omega arith) actor owner runs start begun)
   made_known t h actor owner (purpose.Climb c) i a f l start runs e begun commits =
       subst (λ x. KnowsClimbing (known_with limits states last (first_main states last)) (Was states last t) owner.call x) e (climbs_at limits states last run t (omega arith) actor owner runs)
 
-  pub commits_at : CommitsAt limits states last (made_with states last)
+  pub commits_at : CommitsAt limits states run.records last (made_with states last)
   commits_at = commits_by (made_with states last) made_known

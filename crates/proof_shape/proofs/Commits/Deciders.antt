@@ -21,7 +21,7 @@ use Rattle.proof_shape.specs.Beneath.machine_model.specs.declared.walking.WalkLi
 use Rattle.proof_shape.specs.Beneath.machine_model.specs.States.{State}
 use Rattle.proof_shape.specs.Beneath.machine_model.specs.Reading.{Verdict, Commits, Fails, Overtaken, verdict, read_action, committed_by, committed_so}
 use Rattle.proof_shape.specs.Beneath.machine_model.specs.Operations.{read_of, line_action, action_of}
-use Rattle.proof_shape.specs.Beneath.machine_model.specs.Orders.{committed_in, committed_now}
+use Rattle.proof_shape.specs.Beneath.machine_model.specs.Tellings.{committed_in, committed_now}
 
 -- ---- who is in a READ takes its step
 

@@ -5,8 +5,8 @@ use Rattle.std.proofs.lemmas.Option.{none-some}
 use Rattle.proof_shape.specs.Beneath.slot_arena.specs.declared.refs.Ref.{Ref}
 use Rattle.proof_shape.specs.Beneath.slot_arena.specs.declared.nodes.Slot.{Slot}
 use Rattle.proof_shape.specs.Beneath.slot_arena.specs.Heaps.{node_of}
-use Rattle.proof_shape.specs.Beneath.machine_model.specs.declared.heaps.Commit.{Commit}
-use Rattle.proof_shape.specs.Beneath.machine_model.specs.declared.steps.Limits.{Limits}
+use Rattle.proof_shape.specs.Beneath.machine_model.specs.declared.records.Commit.{Commit}
+use Rattle.proof_shape.specs.Beneath.machine_model.specs.declared.steps.Bounds.{Bounds}
 use Rattle.proof_shape.specs.Beneath.machine_model.specs.States.{State}
 use Rattle.proof_shape.specs.Beneath.machine_model.specs.Grown.{grown, node_under, main_before}
 use Rattle.proof_shape.specs.Beneath.machine_model.specs.Times.{IsRun}
@@ -24,7 +24,7 @@ use Rattle.proof_shape.specs.Beneath.proof_commits.proofs.Words.OfRuns.{link_kep
 use Rattle.proof_shape.specs.Beneath.proof_commits.proofs.Known.Acts.{known_run}
 use Rattle.proof_generations.proofs.Falling.NoRef.{no_main_before}
 
-module _ (limits : Limits) (states : ℕ → State) (last : ℕ) (run : IsRun limits states last) where
+module _ (limits : Bounds) (states : ℕ → State) (last : ℕ) (run : IsRun limits states last) where
   abbrev p : Protocol
   p = protocol limits states last (known_run limits states last run)
 
@@ -49,14 +49,14 @@ module _ (limits : Limits) (states : ℕ → State) (last : ℕ) (run : IsRun li
 
   -- ---- a step that commits nothing
 
-  quiet_step : (t : ℕ) → t < last → (states (suc t)).commits ≡ (states t).commits → (i : Ref) → MainStep p.words t i → main_before states (suc t) i ≡ main_before states t i
+  quiet_step : (t : ℕ) → t < last → (run.records (suc t)).commits ≡ (run.records t).commits → (i : Ref) → MainStep p.words t i → main_before states (suc t) i ≡ main_before states t i
   quiet_step t h quiet i (MainStays e) = e
   quiet_step t h quiet i (MainChanges c) =
       let before : p.words.commit t c.fresh ≡ None = first_commit p t (omega arith) (commits_at p t (omega arith)) c.fresh c.replaced c.commits in
       let after : p.words.commit (suc t) c.fresh ≡ Some t = c.commits.commit before in
       absurd (none-some t (sym before ∙ sym (ap (λ xs. option_map (λ (x : Commit). x.step) (find (λ (x : Commit). x.main == c.fresh) xs)) quiet) ∙ after))
 
-  pub quiet_stays : (t : ℕ) → t < last → (states (suc t)).commits ≡ (states t).commits → (i : Ref) → counting_main states last (suc t) i ≡ counting_main states last t i
+  pub quiet_stays : (t : ℕ) → t < last → (run.records (suc t)).commits ≡ (run.records t).commits → (i : Ref) → counting_main states last (suc t) i ≡ counting_main states last t i
   quiet_stays t h quiet i = mains_by t h i (λ link. quiet_step t h quiet i (main_step p t h i link))
 
   -- ---- a commit

@@ -9,7 +9,7 @@ use Rattle.proof_shape.specs.Beneath.machine_model.specs.declared.actions.Action
 use Rattle.proof_shape.specs.Beneath.machine_model.specs.declared.operations.Operation.{Operation}
 use Rattle.proof_shape.specs.Beneath.machine_model.specs.declared.reading.SwapLine.{SwapLine}
 use Rattle.proof_shape.specs.Beneath.machine_model.specs.declared.reading.SwapLine.TheVariants as swap
-use Rattle.proof_shape.specs.Beneath.machine_model.specs.declared.steps.Limits.{Limits}
+use Rattle.proof_shape.specs.Beneath.machine_model.specs.declared.steps.Bounds.{Bounds}
 use Rattle.proof_shape.specs.Beneath.machine_model.specs.States.{State, operation_of}
 use Rattle.proof_shape.specs.Beneath.machine_model.specs.Grown.{grown, node_under, prev_word}
 use Rattle.proof_shape.specs.Beneath.machine_model.specs.Times.{IsRun}
@@ -37,7 +37,8 @@ none_set : (o : Option Slot) → prev_of (option_map (prev_changed over.None) o)
 none_set None = refl
 none_set (Some slot) = refl
 
-module _ (limits : Limits) (states : ℕ → State) (last : ℕ) (run : IsRun limits states last) (t : ℕ) (h : t < last) (actor : ℕ) (operation : Operation) (go : GoesAt states t actor operation)
+module _ (limits : Bounds) (states : ℕ → State) (last : ℕ) (run : IsRun limits states last) (t : ℕ) (h : t < last) (actor : ℕ) (operation : Operation)
+    (go : GoesAt states run.records t actor operation)
     (x : Ref) (d : DecidesNode (states t) operation x) where
   abbrev p : Protocol
   p = protocol limits states last (known_run limits states last run)

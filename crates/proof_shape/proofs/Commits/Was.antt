@@ -7,7 +7,7 @@ use Rattle.proof_shape.specs.Beneath.slot_arena.specs.declared.nodes.Node.TheVar
 use Rattle.proof_shape.specs.Beneath.slot_arena.specs.declared.nodes.Prev.TheVariants as over
 use Rattle.proof_shape.specs.Beneath.slot_arena.specs.Heaps.{logical}
 use Rattle.proof_shape.specs.Beneath.machine_model.specs.declared.reading.ReadLine.{ReadLine}
-use Rattle.proof_shape.specs.Beneath.machine_model.specs.declared.steps.Limits.{Limits}
+use Rattle.proof_shape.specs.Beneath.machine_model.specs.declared.steps.Bounds.{Bounds}
 use Rattle.proof_shape.specs.Beneath.machine_model.specs.States.{State}
 use Rattle.proof_shape.specs.Beneath.machine_model.specs.Grown.{grown, node_under, prev_word, main_before}
 use Rattle.proof_shape.specs.Beneath.machine_model.specs.Times.{IsRun}
@@ -31,7 +31,7 @@ use Rattle.proof_shape.specs.Beneath.proof_commits.proofs.Known.Acts.{known_run}
 pub was_later : (states : ℕ → State) (last t : ℕ) (i m : Ref) → Was states last t i m → Was states last (suc t) i m
 was_later states last t i m (u, le, is) = (u, omega (arith, le), is)
 
-module _ (limits : Limits) (states : ℕ → State) (last : ℕ) (run : IsRun limits states last) where
+module _ (limits : Bounds) (states : ℕ → State) (last : ℕ) (run : IsRun limits states last) where
   abbrev p : Protocol
   p = protocol limits states last (known_run limits states last run)
 
@@ -50,14 +50,14 @@ module _ (limits : Limits) (states : ℕ → State) (last : ℕ) (run : IsRun li
       by_node (Tomb s) e l = absurd (true≢false (sym l))
       by_node (Listed ss) e l = absurd (true≢false (sym l))
 
-  pub given_link : (t : ℕ) → t ≤ last → (k : ℕ) (i m : Ref) → Given (words_of states last (known_run limits states last run).closing) t k i m →
+  pub given_link : (t : ℕ) → t ≤ last → (k : ℕ) (i m : Ref) → Given (words_of states run.records last (known_run limits states last run).closing) t k i m →
       (g : ℕ) × (w : Ref) × (node_under states last i ≡ Indirection g w)
   given_link t h k i m given =
       let stood = ((sound_at p t h).given k i m given).stood in
       link_in_end stood.at i (omega (arith, stood.past)) stood.link
 
   -- what a READ gave
-  pub was_given : (t : ℕ) → t ≤ last → (k : ℕ) (i m : Ref) → Given (words_of states last (known_run limits states last run).closing) t k i m → Was states last t i m
+  pub was_given : (t : ℕ) → t ≤ last → (k : ℕ) (i m : Ref) → Given (words_of states run.records last (known_run limits states last run).closing) t k i m → Was states last t i m
   was_given t h k i m given =
       let moment = gives_moment p given.at (omega (arith, given.past)) k i m given.line given.stage given.gives in
       let r = counts_at given.line given.at (p.words.from given.at k) in

@@ -14,7 +14,7 @@ use Rattle.proof_shape.specs.Beneath.machine_model.specs.declared.finding.KeyLin
 use Rattle.proof_shape.specs.Beneath.machine_model.specs.declared.repairs.RenewLine.TheVariants as renew
 use Rattle.proof_shape.specs.Beneath.machine_model.specs.declared.lines.Line.{Line}
 use Rattle.proof_shape.specs.Beneath.machine_model.specs.declared.lines.Line.TheVariants as line
-use Rattle.proof_shape.specs.Beneath.machine_model.specs.declared.steps.Limits.{Limits}
+use Rattle.proof_shape.specs.Beneath.machine_model.specs.declared.steps.Bounds.{Bounds}
 use Rattle.proof_shape.specs.Beneath.machine_model.specs.declared.steps.Step.{Step}
 use Rattle.proof_shape.specs.Beneath.machine_model.specs.Calls.{handle_of, key_of}
 use Rattle.proof_shape.specs.Beneath.machine_model.specs.States.{State, first_state, operation_of}
@@ -53,7 +53,7 @@ use Rattle.proof_shape.proofs.Full.Made.{FullNode, ActionFull}
 use Rattle.proof_shape.proofs.Full.Acts.{acts_full}
 use Rattle.proof_shape.specs.Beneath.machine_model.proofs.Grown.{node_standing, grown_in_use}
 
-module _ (limits : Limits) (states : ℕ → State) (steps : ℕ → Step) (last : ℕ) (run : IsRun limits states last) (takes : TakesSteps states steps last) where
+module _ (limits : Bounds) (states : ℕ → State) (steps : ℕ → Step) (last : ℕ) (run : IsRun limits states last) (takes : TakesSteps states steps last) where
   abbrev s : Sites
   s = sites_of states steps last
 
@@ -67,7 +67,8 @@ module _ (limits : Limits) (states : ℕ → State) (steps : ℕ → Step) (last
   Wants t operation l = AllHold (S t) (states t).heap (line_wants limits.hash operation.call operation.access l)
 
   -- a link that was made is an indirection
-  link_made : (t : ℕ) (h : t < last) (actor : ℕ) (operation : Operation) → GoesAt states t actor operation → (g : ℕ) (child : Ref) → action_of (states t) operation ≡ act.Make (Indirection g child) →
+  link_made : (t : ℕ) (h : t < last) (actor : ℕ) (operation : Operation) → GoesAt states run.records t actor operation → (g : ℕ) (child : Ref) →
+      action_of (states t) operation ≡ act.Make (Indirection g child) →
       (made : Ref) → next_ref (states t).heap ≡ Some made → is_indirection (s.node made) ≡ true
   link_made t h actor operation go g child a made e =
       let I = safe_at limits states last run t (omega arith) in
@@ -77,7 +78,7 @@ module _ (limits : Limits) (states : ℕ → State) (steps : ℕ → Step) (last
       ∙ (taken_all (states t).limits.slots (states t).heap (I.sound.heap) (I.small) (Indirection g child) made e).0 in
       sym (bare_link (s.node made)) ∙ ap is_indirection (are_bare limits states steps last run takes (suc t) h made (fresh_slot (states t).heap (Indirection g child)) stood)
 
-  line_next : (t : ℕ) (h : t < last) (actor : ℕ) (operation : Operation) → GoesAt states t actor operation → (l : Line) →
+  line_next : (t : ℕ) (h : t < last) (actor : ℕ) (operation : Operation) → GoesAt states run.records t actor operation → (l : Line) →
       action_of (states t) operation ≡ line_action (states t) operation l → Wants t operation l →
       FullLine s l → FullLine s (line_after (states t) operation l)
   line_next t h actor operation go (line.Key (key.Entry path main position)) a w f =
@@ -86,7 +87,8 @@ module _ (limits : Limits) (states : ℕ → State) (steps : ℕ → Step) (last
       listed_full s (states t) operation (S t) (same t (omega arith)) path main position (node_at (states t).heap (entry_at (states t).heap main position)) (safe_of w.1.1.0)
   line_next t h actor operation go (line.Key (key.Sibling path main position former)) a w f =
       sibling_full s (states t) operation (S t) (same t (omega arith)) path main position former (node_at (states t).heap (entry_at (states t).heap main (1 - position))) refl (safe_of w.1.1.0)
-      (at_position (S t) (states t).heap AnEntry (1 - position) (branch_entries (S t) (states t).heap (heaped_in_use (states t) (safe_at limits states last run t (omega arith))) w.1.1.0) w.1.1.1.0).0
+      (at_position (S t) (states t).heap AnEntry (1 - position) (branch_entries (S t) (states t).heap
+      (heaped_in_use (states t) (safe_at limits states last run t (omega arith))) w.1.1.0) w.1.1.1.0).0
   line_next t h actor operation go (line.Key (key.Read path r)) a w f = free_full s _ (key_read_leads (states t) operation path r).2
   line_next t h actor operation go (line.Key (key.Main path main)) a w f = free_full s _ (key_main_leads (states t) operation path main (node_at (states t).heap main)).2
   line_next t h actor operation go (line.Renew (renew.Entry path main done)) a w f =
@@ -130,7 +132,7 @@ module _ (limits : Limits) (states : ℕ → State) (steps : ℕ → Step) (last
         (actor : ℕ) (operation : Operation) → operation_of (states t) actor ≡ Some operation →
         ActionFull s (made_level operation.line) (action_of (states t) operation)
     acts_at t h old actor operation is =
-        let hash : limits.hash ≡ (states t).limits.hash = ap (λ (l : Limits). l.hash) (sym (limits_at limits states last run t h)) in
+        let hash : limits.hash ≡ (states t).limits.hash = ap (λ (l : Bounds). l.hash) (sym (limits_at limits states last run t h)) in
         let site = lines_have_sites limits states steps last run takes keys t h actor operation is in
         acts_full s (states t) operation (S t) (same t h) (first_main states last)
         (λ r u. subst (FullNode s (s.level r)) (sym (node_standing (states t).heap r u.0 u.1)) (old r u.0 (grown_in_use states t r u.0 u.1))) operation.line

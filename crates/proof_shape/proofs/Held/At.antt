@@ -17,7 +17,7 @@ use Rattle.proof_shape.specs.Beneath.machine_model.specs.declared.reading.After.
 use Rattle.proof_shape.specs.Beneath.machine_model.specs.declared.reading.After.TheVariants.{Goes, Gives}
 use Rattle.proof_shape.specs.Beneath.machine_model.specs.declared.reading.Swap.{Swap}
 use Rattle.proof_shape.specs.Beneath.machine_model.specs.declared.reading.SwapLine.{SwapLine}
-use Rattle.proof_shape.specs.Beneath.machine_model.specs.declared.steps.Limits.{Limits}
+use Rattle.proof_shape.specs.Beneath.machine_model.specs.declared.steps.Bounds.{Bounds}
 use Rattle.proof_shape.specs.Beneath.machine_model.specs.States.{State, operation_of}
 use Rattle.proof_shape.specs.Beneath.machine_model.specs.Swapping.{on_line}
 use Rattle.proof_shape.specs.Beneath.machine_model.specs.Finding.{going_down, is_passable, key_after, key_after_entry}
@@ -48,7 +48,7 @@ use Rattle.proof_shape.proofs.Held.Free.{free_holds, key_single_free, key_listed
 use Rattle.proof_shape.proofs.Lines.Leads.{holds_nothing, first_leads, root_leads, copy_leads, walk_leads, climb_leads, key_read_leads, key_main_leads, key_sibling_leads}
 use Rattle.proof_shape.specs.Beneath.proof_commits.proofs.Known.Acts.{known_run}
 
-module _ (limits : Limits) (states : ℕ → State) (last : ℕ) (run : IsRun limits states last) where
+module _ (limits : Bounds) (states : ℕ → State) (last : ℕ) (run : IsRun limits states last) where
   abbrev p : Protocol
   p = protocol limits states last (known_run limits states last run)
 
@@ -77,7 +77,7 @@ module _ (limits : Limits) (states : ℕ → State) (last : ℕ) (run : IsRun li
       let x = maker_of limits states last run t h m before after in
       by_generation x.operation x.go x.operation.generation refl
     where
-      by_generation : (operation : Operation) → GoesAt states t (taker limits states last run t) operation → (o : Option ℕ) → operation.generation ≡ o →
+      by_generation : (operation : Operation) → GoesAt states run.records t (taker limits states last run t) operation → (o : Option ℕ) → operation.generation ≡ o →
           IsOpen limits states last run t r ⊎ ((s : ℕ) × IsHeld limits states last run t (taker limits states last run t) s r)
       by_generation operation go (Some start) e =
           line_names limits states last run t h (taker limits states last run t) operation go start m r before after names g y is operation.line refl
@@ -131,7 +131,7 @@ module _ (limits : Limits) (states : ℕ → State) (last : ℕ) (run : IsRun li
 
     -- ---- the own step
 
-    module _ (actor : ℕ) (operation : Operation) (go : GoesAt states t actor operation) (takes_it : taker limits states last run t ≡ actor) (start : ℕ) where
+    module _ (actor : ℕ) (operation : Operation) (go : GoesAt states run.records t actor operation) (takes_it : taker limits states last run t ≡ actor) (start : ℕ) where
       abbrev Next : Line → Type 0
       Next l = HeldIn limits states last run (suc t) actor operation.id start operation.call l
 

@@ -8,7 +8,7 @@ use Rattle.proof_shape.specs.Beneath.slot_arena.specs.declared.nodes.Node.TheVar
 use Rattle.proof_shape.specs.Beneath.slot_arena.specs.Heaps.{Heap, node_of, entries_of, main_of, next_ref}
 use Rattle.proof_shape.specs.Beneath.machine_model.specs.declared.actions.Action.TheVariants as act
 use Rattle.proof_shape.specs.Beneath.machine_model.specs.declared.operations.Operation.{Operation}
-use Rattle.proof_shape.specs.Beneath.machine_model.specs.declared.steps.Limits.{Limits}
+use Rattle.proof_shape.specs.Beneath.machine_model.specs.declared.steps.Bounds.{Bounds}
 use Rattle.proof_shape.specs.Beneath.machine_model.specs.States.{State}
 use Rattle.proof_shape.specs.Beneath.machine_model.specs.Paths.{start_of}
 use Rattle.proof_shape.specs.Beneath.machine_model.specs.Operations.{action_of, line_after}
@@ -35,7 +35,8 @@ use Rattle.proof_shape.proofs.Held.Lines.{NamedOrHeld}
 use Rattle.proof_shape.specs.Beneath.proof_memory.specs.Wants.{is_indirection}
 use Rattle.proof_shape.specs.Beneath.proof_commits.proofs.Known.Acts.{known_run}
 
-module _ (limits : Limits) (states : ℕ → State) (last : ℕ) (run : IsRun limits states last) (t : ℕ) (h : t < last) (actor : ℕ) (operation : Operation) (go : GoesAt states t actor operation) where
+module _ (limits : Bounds) (states : ℕ → State) (last : ℕ) (run : IsRun limits states last) (t : ℕ) (h : t < last) (actor : ℕ) (operation : Operation)
+    (go : GoesAt states run.records t actor operation) where
   abbrev heap : Heap
   heap = (states t).heap
 
@@ -53,14 +54,16 @@ module _ (limits : Limits) (states : ℕ → State) (last : ℕ) (run : IsRun li
       is_made states t m ≡ false → is_made states (suc t) m ≡ true → m ≡ made
   only_new n a made next m before after = same_Some _ _ (sym (new_is limits states last run t h actor operation go n a m before after) ∙ next)
 
-  pub made_now : (n : Node) → action_of (states t) operation ≡ act.Make n → (made : Ref) → next_ref (states t).heap ≡ Some made → (is_made states t made ≡ false) × (is_made states (suc t) made ≡ true)
+  pub made_now : (n : Node) → action_of (states t) operation ≡ act.Make n → (made : Ref) → next_ref (states t).heap ≡ Some made → (is_made states t made ≡ false)
+      × (is_made states (suc t) made ≡ true)
   made_now n a made next = let x = takes limits states last run t h actor operation go n a made next in (ap is_some x.new, ap is_some x.here)
 
   -- where the new node names none of them
   pub made_held : (n : Node) → action_of (states t) operation ≡ act.Make n → (made : Ref) → next_ref (states t).heap ≡ Some made → (start : ℕ) (j : Ref) →
       (Contains (entries_of (node_under states last made)) j → ⊥) → IsHeld limits states last run t actor start j → IsHeld limits states last run (suc t) actor start j
   made_held n a made next start j not held =
-      held_by limits states last run t actor start j held (λ m before after names. not (subst (λ x. Contains (entries_of (node_under states last x)) j) (only_new n a made next m before after) names))
+      held_by limits states last run t actor start j held
+      (λ m before after names. not (subst (λ x. Contains (entries_of (node_under states last x)) j) (only_new n a made next m before after) names))
 
   -- where it does, it alone does
   pub made_named : (n : Node) → action_of (states t) operation ≡ act.Make n → (made : Ref) → next_ref (states t).heap ≡ Some made → (start : ℕ) (j : Ref) →
@@ -136,6 +139,6 @@ module _ (limits : Limits) (states : ℕ → State) (last : ℕ) (run : IsRun li
   -- the level of what the next line holds
   pub next_level : LineLevel (level limits states last run) (line_after (states t) operation operation.line)
   next_level =
-      let own : RunsAfter (states (suc t)) actor (operation_after (states t) operation) = runs_after states t actor operation go in
+      let own : RunsAfter (states (suc t)) actor (operation_after (states t) operation) = runs_after states run.records t actor operation go in
       subst (λ l. LineLevel (level limits states last run) l) own.line
       (of_actor (states (suc t)) (λ k operation. LineLevel (level limits states last run) operation.line) ((levels_along limits states last run (suc t) h).lines) actor own.operation own.runs).1

@@ -17,7 +17,7 @@ use Rattle.proof_shape.specs.Beneath.machine_model.specs.declared.building.Site.
 use Rattle.proof_shape.specs.Beneath.machine_model.specs.declared.lines.Line.{Line}
 use Rattle.proof_shape.specs.Beneath.machine_model.specs.declared.lines.Line.TheVariants as line
 use Rattle.proof_shape.specs.Beneath.machine_model.specs.declared.operations.Operation.{Operation}
-use Rattle.proof_shape.specs.Beneath.machine_model.specs.declared.steps.Limits.{Limits}
+use Rattle.proof_shape.specs.Beneath.machine_model.specs.declared.steps.Bounds.{Bounds}
 use Rattle.proof_shape.specs.Beneath.machine_model.specs.States.{State}
 use Rattle.proof_shape.specs.Beneath.machine_model.specs.Calls.{key_of}
 use Rattle.proof_shape.specs.Beneath.machine_model.specs.Paths.{depth_of, start_of, flag_in, hash_in}
@@ -52,7 +52,8 @@ use Rattle.proof_shape.proofs.Held.Lines.{NamedOrHeld, HeldNode, HeldLink, HeldC
 use Rattle.proof_shape.proofs.Held.Build.{made_named, named_or_held, new_held, new_stands, next_level}
 use Rattle.proof_shape.specs.Beneath.proof_commits.proofs.Known.Acts.{known_run}
 
-module _ (limits : Limits) (states : ℕ → State) (last : ℕ) (run : IsRun limits states last) (t : ℕ) (h : t < last) (actor : ℕ) (operation : Operation) (go : GoesAt states t actor operation)
+module _ (limits : Bounds) (states : ℕ → State) (last : ℕ) (run : IsRun limits states last) (t : ℕ) (h : t < last) (actor : ℕ) (operation : Operation)
+    (go : GoesAt states run.records t actor operation)
     (takes_it : taker limits states last run t ≡ actor) (new : NewNames limits states last run t) (start : ℕ) (begun : operation.generation ≡ Some start) where
   abbrev heap : Heap
   heap = (states t).heap
@@ -131,7 +132,8 @@ module _ (limits : Limits) (states : ℕ → State) (last : ℕ) (run : IsRun li
     made_next (build.Rung path main position below depth) e x lv = λ hash d r is. by_entry hash d r is
       where
         rung_is : node_under states last made ≡ rung (hash_in (states t) operation) depth below
-        rung_is = made_node limits states last run t h actor operation go _ (acts _ e) made next (λ g w bad. let wrong : rung (hash_in (states t) operation) depth below ≡ Indirection g w = bad in cc)
+        rung_is = made_node limits states last run t h actor operation go _ (acts _ e) made next
+            (λ g w bad. let wrong : rung (hash_in (states t) operation) depth below ≡ Indirection g w = bad in cc)
 
         names : Contains (entries_of (node_under states last made)) below
         names = subst (λ n. Contains (entries_of n) below) (sym rung_is) (0, omega arith, refl)
@@ -158,7 +160,7 @@ module _ (limits : Limits) (states : ℕ → State) (last : ℕ) (run : IsRun li
             let claim = (claims limits states last run t h actor operation go _ e).1.1.0 in
             made_node limits states last run t h actor operation go n (acts _ e) made next
             (main_no_link n (changed_main (flag_in (states t) operation path) (node_at heap main) c (meets_of claim)))
-            ∙ ap₂ (λ (x : Limits) (m : Node). changed (flag_of (hash_of x.hash (key_of operation.call)) (depth_of path)) m c) (limits_at limits states last run t (omega arith))
+            ∙ ap₂ (λ (x : Bounds) (m : Node). changed (flag_of (hash_of x.hash (key_of operation.call)) (depth_of path)) m c) (limits_at limits states last run t (omega arith))
             (main_seen limits states last run t (omega arith) main BranchOrList both_main claim)
 
         by_change : (c : Change) → HeldChange limits states last run t actor start former c → (position : ℕ) (link : Ref) → c ≡ change.Update position link → former ≡ None →

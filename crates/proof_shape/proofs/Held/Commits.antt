@@ -14,7 +14,7 @@ use Rattle.proof_shape.specs.Beneath.machine_model.specs.declared.lines.Line.The
 use Rattle.proof_shape.specs.Beneath.machine_model.specs.declared.lines.Purpose.{Purpose}
 use Rattle.proof_shape.specs.Beneath.machine_model.specs.declared.lines.Purpose.TheVariants as purpose
 use Rattle.proof_shape.specs.Beneath.machine_model.specs.declared.reading.SwapLine.TheVariants as swap
-use Rattle.proof_shape.specs.Beneath.machine_model.specs.declared.steps.Limits.{Limits}
+use Rattle.proof_shape.specs.Beneath.machine_model.specs.declared.steps.Bounds.{Bounds}
 use Rattle.proof_shape.specs.Beneath.machine_model.specs.Calls.{key_of}
 use Rattle.proof_shape.specs.Beneath.machine_model.specs.States.{State}
 use Rattle.proof_shape.specs.Beneath.machine_model.specs.Paths.{depth_of}
@@ -48,7 +48,8 @@ module _ (kind : HashKind) (node : Ref → Node) (A B : Ref → Ref) where
   abbrev L : Known
   L = record { kind = kind; node = node; first = B }
 
-  flagged_moves : (depth key : ℕ) (main : Ref) (position bitmap : ℕ) (entries : ArrayVec Ref) → IsFlagged K depth key main position bitmap entries → IsFlagged L depth key main position bitmap entries
+  flagged_moves : (depth key : ℕ) (main : Ref) (position bitmap : ℕ) (entries : ArrayVec Ref) → IsFlagged K depth key main position bitmap entries →
+      IsFlagged L depth key main position bitmap entries
   flagged_moves depth key main position bitmap entries f = record { is = f.is; flagged = f.flagged; at = f.at }
 
   absence_moves : (depth key : ℕ) (main : Ref) → Absence K depth key main → Absence L depth key main
@@ -104,7 +105,7 @@ module _ (kind : HashKind) (node : Ref → Node) (A B : Ref → Ref) where
           (change.Remove position, (value, had, removes, presence_moves depth (key_of call) replaced position value presence), made)
       by_change (change.Entomb other) e (value, had, removes, is) made = (change.Entomb other, (value, had, removes, other_moves depth (key_of call) replaced other value is), made)
 
-module _ (limits : Limits) (states : ℕ → State) (last : ℕ) (run : IsRun limits states last) where
+module _ (limits : Bounds) (states : ℕ → State) (last : ℕ) (run : IsRun limits states last) where
   abbrev node : Ref → Node
   node = node_under states last
 
@@ -161,13 +162,14 @@ module _ (limits : Limits) (states : ℕ → State) (last : ℕ) (run : IsRun li
           let it = x.chain position link is none un in
           chain_leads limits.hash other (key_of call) old s levels d link leads it.1 (its_fresh link it.0) (its_closed link it.0))
 
-      repair_known : (id : ℕ) (a : Ref) → HeldRepair limits states last run t actor id start a f → IsRepaired node (assigned_at states last start t) (GaveBelow states last t actor id start) start a f
+      repair_known : (id : ℕ) (a : Ref) → HeldRepair limits states last run t actor id start a f →
+          IsRepaired node (assigned_at states last start t) (GaveBelow states run.records last t actor id start) start a f
       repair_known id a x = (x.done, x.bitmap, x.entries, record { is = x.is; each = λ n lt. by_done (x.each n lt) }, x.all, (x.may_entomb, x.made))
         where
           by_done : {entry other : Ref} →
-              DoneWith node (first_main states last) (GaveBelow states last t actor id start)
+              DoneWith node (first_main states last) (GaveBelow states run.records last t actor id start)
               (λ r. IsUncommitted limits states last run t f → NamedOrHeld limits states last run t actor start f r) start entry other →
-              IsDone node (assigned_at states last start t) (GaveBelow states last t actor id start) start entry other
+              IsDone node (assigned_at states last start t) (GaveBelow states run.records last t actor id start) start entry other
           by_done (kept e) = keeps e
           by_done (cleaned g word child is gave tomb) = cleans g word child is gave tomb
           by_done {entry} {other} (renewed g word word' child is apart is' gave at it) =
@@ -184,7 +186,7 @@ module _ (limits : Limits) (states : ℕ → State) (last : ℕ) (run : IsRun li
       held w e = subst (λ x. HeldIn limits states last run t actor owner.id start owner.call x) e (holds_at limits states last run t (omega arith) actor owner runs start begun)
 
       by_why : (w : Purpose) → owner.line ≡ line.Swap w (record { indirection = i; replaced = a; fresh = f; line = swap.Deciding l }) →
-          KnowsFresh limits states last (assigned_at states last) t actor start owner a f w
+          KnowsFresh limits states run.records last (assigned_at states last) t actor start owner a f w
       by_why (purpose.Update path former) e = update_known t h start actor f un owner.call path former a (held _ e)
       by_why (purpose.Renew path) e = repair_known t h start actor f un owner.id a (held _ e)
       by_why purpose.Clean e = repair_known t h start actor f un owner.id a (held _ e)
@@ -192,5 +194,5 @@ module _ (limits : Limits) (states : ℕ → State) (last : ℕ) (run : IsRun li
           subst (λ x. KnowsClimbing (known_with limits states last (first_main states last)) (Was states last t) owner.call x) e (climbs_at limits states last run t (omega arith) actor owner runs)
 
   -- each step commits nothing, or one fresh node, by the main nodes by which a generation's content is found then
-  pub fresh_commits_at : CommitsAt limits states last (assigned_at states last)
+  pub fresh_commits_at : CommitsAt limits states run.records last (assigned_at states last)
   fresh_commits_at = commits_by limits states last run (assigned_at states last) fresh_known

@@ -15,7 +15,7 @@ use Rattle.proof_shape.specs.Beneath.machine_model.specs.declared.lines.Line.{Li
 use Rattle.proof_shape.specs.Beneath.machine_model.specs.declared.lines.Line.TheVariants as line
 use Rattle.proof_shape.specs.Beneath.machine_model.specs.declared.operations.Operation.{Operation}
 use Rattle.proof_shape.specs.Beneath.machine_model.specs.declared.repairs.CleanLine.TheVariants as clean
-use Rattle.proof_shape.specs.Beneath.machine_model.specs.declared.steps.Limits.{Limits}
+use Rattle.proof_shape.specs.Beneath.machine_model.specs.declared.steps.Bounds.{Bounds}
 use Rattle.proof_shape.specs.Beneath.machine_model.specs.States.{State}
 use Rattle.proof_shape.specs.Beneath.machine_model.specs.Lines.{new_try}
 use Rattle.proof_shape.specs.Beneath.machine_model.specs.Renewing.{next_entry, renew_next}
@@ -39,7 +39,7 @@ use Rattle.proof_shape.proofs.Held.Fresh.{IsHeld, NewNames, IsUncommitted}
 use Rattle.proof_shape.proofs.Held.Lines.{Came, same, single, anew, DoneWith, kept, renewed, cleaned as cleaned_entry, AllCame, NamedOrHeld, HeldRepair, HeldIn, all_still}
 use Rattle.proof_shape.proofs.Held.Build.{quiet_held, named_or_held}
 
-module _ (limits : Limits) (states : ℕ → State) (last : ℕ) (run : IsRun limits states last) (actor start : ℕ) where
+module _ (limits : Bounds) (states : ℕ → State) (last : ℕ) (run : IsRun limits states last) (actor start : ℕ) where
   abbrev Held : ℕ → Ref → Type 0
   Held v j = IsHeld limits states last run v actor start j
 
@@ -77,7 +77,7 @@ module _ (limits : Limits) (states : ℕ → State) (last : ℕ) (run : IsRun li
   with_next t v main done there all = one_more v main done (next_entry (states t) main done) all (next_came t v main done there)
 
 -- the line after entries that are done
-module _ (limits : Limits) (states : ℕ → State) (last : ℕ) (run : IsRun limits states last) (t actor : ℕ) (operation : Operation) (start : ℕ) where
+module _ (limits : Bounds) (states : ℕ → State) (last : ℕ) (run : IsRun limits states last) (t actor : ℕ) (operation : Operation) (start : ℕ) where
   abbrev Next : Line → Type 0
   Next l = HeldIn limits states last run (suc t) actor operation.id start operation.call l
 
@@ -95,7 +95,8 @@ module _ (limits : Limits) (states : ℕ → State) (last : ℕ) (run : IsRun li
       by_test true c = all
       by_test false c = by_change c
 
-module _ (limits : Limits) (states : ℕ → State) (last : ℕ) (run : IsRun limits states last) (t : ℕ) (h : t < last) (actor : ℕ) (operation : Operation) (go : GoesAt states t actor operation)
+module _ (limits : Bounds) (states : ℕ → State) (last : ℕ) (run : IsRun limits states last) (t : ℕ) (h : t < last) (actor : ℕ) (operation : Operation)
+    (go : GoesAt states run.records t actor operation)
     (takes_it : taker limits states last run t ≡ actor) (new : NewNames limits states last run t) (start : ℕ) (begun : operation.generation ≡ Some start) where
   abbrev heap : Heap
   heap = (states t).heap
@@ -116,7 +117,7 @@ module _ (limits : Limits) (states : ℕ → State) (last : ℕ) (run : IsRun li
 
   module _ (main made : Ref) (done : List Ref) (n : Node) (a : action_of (states t) operation ≡ act.Make n) (next : next_ref heap ≡ Some made) (all : Came' t main done) (b : Bool)
       (is_made : (bitmap : ℕ) (entries : ArrayVec Ref) → node main ≡ Branch bitmap entries → node made ≡ contracted b bitmap done) where
-    pub fresh_repair : AllDone node (first_main states last) (GaveBelow states last t actor operation.id start) start main done →
+    pub fresh_repair : AllDone node (first_main states last) (GaveBelow states run.records last t actor operation.id start) start main done →
         HeldRepair limits states last run (suc t) actor operation.id start main made
     fresh_repair (bitmap, entries, are, count) = record {
       done = done;
@@ -130,12 +131,12 @@ module _ (limits : Limits) (states : ℕ → State) (last : ℕ) (run : IsRun li
       made = is_made bitmap entries are.is;
     }
       where
-        by_done : (m : ℕ) (other : Ref) → IsDone node (first_main states last) (GaveBelow states last t actor operation.id start) start (slice_index_or entries.items m no_ref) other →
+        by_done : (m : ℕ) (other : Ref) → IsDone node (first_main states last) (GaveBelow states run.records last t actor operation.id start) start (slice_index_or entries.items m no_ref) other →
             Came node (IsHeld limits states last run t actor start) (slice_index_or entries.items m no_ref) other →
-            DoneWith node (first_main states last) (GaveBelow states last (suc t) actor operation.id start)
+            DoneWith node (first_main states last) (GaveBelow states run.records last (suc t) actor operation.id start)
             (λ r. IsUncommitted limits states last run (suc t) made → NamedOrHeld limits states last run (suc t) actor start made r) start (slice_index_or entries.items m no_ref) other
         by_done m other (keeps e) c = kept e
-        by_done m other (cleans g word child is gave tomb) c = cleaned_entry g word child is (gave_below_later states last t actor operation.id start _ child gave) tomb
+        by_done m other (cleans g word child is gave tomb) c = cleaned_entry g word child is (gave_below_later states run.records last t actor operation.id start _ child gave) tomb
         by_done m other (renews g word word' child is apart is' gave first) (same e) =
             let both : Indirection g word ≡ Indirection start word' = sym is ∙ ap node e ∙ is' in
             let generations : g ≡ start = cc in
@@ -145,12 +146,12 @@ module _ (limits : Limits) (states : ℕ → State) (last : ℕ) (run : IsRun li
             let wrong : ⊥ = cc in
             absurd wrong
         by_done m other (renews g word word' child is apart is' gave first) (anew held) =
-            renewed g word word' child is apart is' (gave_below_later states last t actor operation.id start _ child gave) first
+            renewed g word word' child is apart is' (gave_below_later states run.records last t actor operation.id start _ child gave) first
             (λ un. named_or_held limits states last run t h actor operation go n a made next start other held)
 
-  pub repairs : (l : Line) → operation.line ≡ l → KnowsRepair node (first_main states last) (GaveBelow states last t actor operation.id start) start l
+  pub repairs : (l : Line) → operation.line ≡ l → KnowsRepair node (first_main states last) (GaveBelow states run.records last t actor operation.id start) start l
   repairs l e =
-      subst (λ x. KnowsRepair node (first_main states last) (GaveBelow states last t actor operation.id start) start x) e
+      subst (λ x. KnowsRepair node (first_main states last) (GaveBelow states run.records last t actor operation.id start) start x) e
       (repairs_at limits states last run t (omega arith) actor operation go.runs start begun)
 
   pub branch_there : (main : Ref) → Holds (IsInUse heap) heap (Is main ABranch) → node_at heap main ≡ node main

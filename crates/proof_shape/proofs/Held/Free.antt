@@ -15,7 +15,7 @@ use Rattle.proof_shape.specs.Beneath.machine_model.specs.declared.lines.Purpose.
 use Rattle.proof_shape.specs.Beneath.machine_model.specs.declared.lines.Purpose.TheVariants as purpose
 use Rattle.proof_shape.specs.Beneath.machine_model.specs.declared.operations.Operation.{Operation}
 use Rattle.proof_shape.specs.Beneath.machine_model.specs.declared.repairs.CleanLine.TheVariants as clean
-use Rattle.proof_shape.specs.Beneath.machine_model.specs.declared.steps.Limits.{Limits}
+use Rattle.proof_shape.specs.Beneath.machine_model.specs.declared.steps.Bounds.{Bounds}
 use Rattle.proof_shape.specs.Beneath.machine_model.specs.Calls.{key_of}
 use Rattle.proof_shape.specs.Beneath.machine_model.specs.States.{State}
 use Rattle.proof_shape.specs.Beneath.machine_model.specs.Finding.{key_after_entry, after_listed, found, absent_listed}
@@ -52,7 +52,7 @@ key_listed_free state operation path main position (Listed ss) = refl
 pub swapped_free : (operation : Operation) (node : Node) (why : Purpose) (done : Bool) → holds_nothing (swapped operation node why done) ≡ true
 swapped_free operation node why done = grind arith
 
-module _ (limits : Limits) (states : ℕ → State) (last : ℕ) (run : IsRun limits states last) where
+module _ (limits : Bounds) (states : ℕ → State) (last : ℕ) (run : IsRun limits states last) where
   -- such a line holds nothing
   pub free_holds : (t k id start : ℕ) (call : Call) (l : Line) → holds_nothing l ≡ true → HeldIn limits states last run t k id start call l
   free_holds t k id start call (line.Build (build.Single path main s former)) e = tt

@@ -9,7 +9,7 @@ use Rattle.proof_shape.specs.Beneath.nodes.specs.Builders.{rung}
 use Rattle.proof_shape.specs.Beneath.machine_model.specs.declared.roots.Root.{Root}
 use Rattle.proof_shape.specs.Beneath.machine_model.specs.declared.roots.RootWord.{RootWord}
 use Rattle.proof_shape.specs.Beneath.machine_model.specs.declared.roots.RootWord.TheVariants.{Plain, Offer}
-use Rattle.proof_shape.specs.Beneath.machine_model.specs.declared.steps.Limits.{Limits}
+use Rattle.proof_shape.specs.Beneath.machine_model.specs.declared.steps.Bounds.{Bounds}
 use Rattle.proof_shape.specs.Beneath.machine_model.specs.States.{State, root_at, word_at, word_of, root_of}
 use Rattle.proof_shape.specs.Beneath.machine_model.specs.Grown.{grown, node_under, prev_word}
 use Rattle.proof_shape.specs.Beneath.machine_model.specs.Times.{IsRun}
@@ -30,12 +30,12 @@ use Rattle.proof_shape.proofs.Commits.Standing.{HowStands, stood, given, private
 use Rattle.proof_shape.proofs.Opened.Mains.{IsOpen, rooted, named, given_is_open}
 use Rattle.proof_shape.specs.Beneath.proof_commits.proofs.Known.Acts.{known_run}
 
-module _ (limits : Limits) (states : ℕ → State) (last : ℕ) (run : IsRun limits states last) where
+module _ (limits : Bounds) (states : ℕ → State) (last : ℕ) (run : IsRun limits states last) where
   abbrev p : Protocol
   p = protocol limits states last (known_run limits states last run)
 
   abbrev w : Words
-  w = words_of states last (known_run limits states last run).closing
+  w = words_of states run.records last (known_run limits states last run).closing
 
   -- the main node has the entry
   abbrev pub Names : Ref → Ref → Type 0
@@ -73,8 +73,8 @@ module _ (limits : Limits) (states : ℕ → State) (last : ℕ) (run : IsRun li
 
   -- the main node stood in the word of this indirection alone
   pub record StandsIn (t : ℕ) (n j : Ref) : Type 0 where
-    pub stood_there : Stood (words_of states last (known_run limits states last run).closing) t j n
-    pub only : (i : Ref) → Stood (words_of states last (known_run limits states last run).closing) t i n → i ≡ j
+    pub stood_there : Stood (words_of states run.records last (known_run limits states last run).closing) t j n
+    pub only : (i : Ref) → Stood (words_of states run.records last (known_run limits states last run).closing) t i n → i ≡ j
 
   -- a chain of rungs down to the pair
   pub data IsChain (t start : ℕ) : Ref → Type 0 where
@@ -116,7 +116,7 @@ module _ (limits : Limits) (states : ℕ → State) (last : ℕ) (run : IsRun li
 
   -- no READ gave the node
   abbrev pub NotGiven : ℕ → Ref → Type 0
-  NotGiven t n = (k : ℕ) (i : Ref) → Given (words_of states last (known_run limits states last run).closing) t k i n → ⊥
+  NotGiven t n = (k : ℕ) (i : Ref) → Given (words_of states run.records last (known_run limits states last run).closing) t k i n → ⊥
 
   pub named_closed : (t start : ℕ) (j n : Ref) → t ≤ last → IsNamed t start j n → NotGiven t n → IsOpen limits states last run t j → ⊥
   named_closed t start j n h it not (rooted u handle le is) = not_rooted t start j h it.fresh u handle le is
@@ -130,7 +130,7 @@ module _ (limits : Limits) (states : ℕ → State) (last : ℕ) (run : IsRun li
 
   -- a node isn't decided in any word
   abbrev pub IsUncommitted : ℕ → Ref → Type 0
-  IsUncommitted t n = (i : Ref) → Stood (words_of states last (known_run limits states last run).closing) t i n → prev_word states t n ≡ over.None → ⊥
+  IsUncommitted t n = (i : Ref) → Stood (words_of states run.records last (known_run limits states last run).closing) t i n → prev_word states t n ≡ over.None → ⊥
 
   pub uncommitted_not_given : (t : ℕ) (n : Ref) → t ≤ last → IsUncommitted t n → NotGiven t n
   uncommitted_not_given t n h un k i g = let d = (sound_at p t h).given k i n g in un i d.stood d.none

@@ -18,7 +18,7 @@ use Rattle.proof_shape.specs.Beneath.machine_model.specs.declared.repairs.CleanL
 use Rattle.proof_shape.specs.Beneath.machine_model.specs.declared.repairs.CleanLine.TheVariants as clean
 use Rattle.proof_shape.specs.Beneath.machine_model.specs.declared.repairs.RenewLine.{RenewLine}
 use Rattle.proof_shape.specs.Beneath.machine_model.specs.declared.repairs.RenewLine.TheVariants as renew
-use Rattle.proof_shape.specs.Beneath.machine_model.specs.declared.steps.Limits.{Limits}
+use Rattle.proof_shape.specs.Beneath.machine_model.specs.declared.steps.Bounds.{Bounds}
 use Rattle.proof_shape.specs.Beneath.machine_model.specs.States.{State}
 use Rattle.proof_shape.specs.Beneath.machine_model.specs.Paths.{depth_of}
 use Rattle.proof_shape.specs.Beneath.machine_model.specs.Grown.{node_under}
@@ -43,7 +43,7 @@ pub data DoneWith (node : Ref → Node) (first : Ref → Ref) (G : Ref → Ref �
       DoneWith node first G N start entry other
   cleaned : (h : ℕ) (word child : Ref) → node entry ≡ Indirection h word → G entry child → node child ≡ Tomb other → DoneWith node first G N start entry other
 
-module _ (limits : Limits) (states : ℕ → State) (last : ℕ) (run : IsRun limits states last) where
+module _ (limits : Bounds) (states : ℕ → State) (last : ℕ) (run : IsRun limits states last) where
   abbrev node : Ref → Node
   node = node_under states last
 
@@ -62,7 +62,8 @@ module _ (limits : Limits) (states : ℕ → State) (last : ℕ) (run : IsRun li
     pub entries : ArrayVec Ref
     pub is : node_under states last replaced ≡ Branch bitmap entries
     pub each : (n : ℕ) → n < length done →
-        DoneWith (node_under states last) (first_main states last) (GaveBelow states last t k id start) (λ r. IsUncommitted limits states last run t fresh → NamedOrHeld t k start fresh r) start
+        DoneWith (node_under states last) (first_main states last) (GaveBelow states run.records last t k id start)
+        (λ r. IsUncommitted limits states last run t fresh → NamedOrHeld t k start fresh r) start
         (slice_index_or entries.items n no_ref) (slice_index_or done n no_ref)
     pub all : length done ≡ length entries.items
     pub may_entomb : Bool
@@ -138,12 +139,14 @@ module _ (limits : Limits) (states : ℕ → State) (last : ℕ) (run : IsRun li
     fresh_closed f un r (inr j) = held_closed limits states last run t k start r (omega arith) j
 
     done_still : (f entry other : Ref) →
-        DoneWith node (first_main states last) (GaveBelow states last t k id start) (λ r. IsUncommitted limits states last run t f → NamedOrHeld t k start f r) start entry other →
-        DoneWith node (first_main states last) (GaveBelow states last (suc t) k id start) (λ r. IsUncommitted limits states last run (suc t) f → NamedOrHeld (suc t) k start f r) start entry other
+        DoneWith node (first_main states last) (GaveBelow states run.records last t k id start) (λ r. IsUncommitted limits states last run t f → NamedOrHeld t k start f r) start entry other →
+        DoneWith node (first_main states last) (GaveBelow states run.records last (suc t) k id start)
+        (λ r. IsUncommitted limits states last run (suc t) f → NamedOrHeld (suc t) k start f r) start entry other
     done_still f entry other (kept e) = kept e
     done_still f entry other (renewed g word word' child is apart is' gave at it) =
-        renewed g word word' child is apart is' (gave_below_later states last t k id start entry child gave) at (λ un. fresh_still f un other (it (uncommitted_before limits states last run t f h un)))
-    done_still f entry other (cleaned g word child is gave tomb) = cleaned g word child is (gave_below_later states last t k id start entry child gave) tomb
+        renewed g word word' child is apart is' (gave_below_later states run.records last t k id start entry child gave) at
+        (λ un. fresh_still f un other (it (uncommitted_before limits states last run t f h un)))
+    done_still f entry other (cleaned g word child is gave tomb) = cleaned g word child is (gave_below_later states run.records last t k id start entry child gave) tomb
 
     pub repair_still : (replaced fresh : Ref) → HeldRepair t k id start replaced fresh → HeldRepair (suc t) k id start replaced fresh
     repair_still replaced fresh x = record {

@@ -15,7 +15,7 @@ use Rattle.proof_shape.specs.Beneath.machine_model.specs.declared.reading.After.
 use Rattle.proof_shape.specs.Beneath.machine_model.specs.declared.reading.Read.{Read}
 use Rattle.proof_shape.specs.Beneath.machine_model.specs.declared.repairs.CleanLine.{CleanLine}
 use Rattle.proof_shape.specs.Beneath.machine_model.specs.declared.repairs.CleanLine.TheVariants as clean
-use Rattle.proof_shape.specs.Beneath.machine_model.specs.declared.steps.Limits.{Limits}
+use Rattle.proof_shape.specs.Beneath.machine_model.specs.declared.steps.Bounds.{Bounds}
 use Rattle.proof_shape.specs.Beneath.machine_model.specs.States.{State}
 use Rattle.proof_shape.specs.Beneath.machine_model.specs.Paths.{is_below_root, depth_of, is_start, start_of}
 use Rattle.proof_shape.specs.Beneath.machine_model.specs.Reading.{read_step, reading}
@@ -56,7 +56,8 @@ use Rattle.proof_shape.proofs.Runs.Entries.{no_entry}
 use Rattle.proof_shape.proofs.Held.Build.{made_held, new_held, next_level}
 use Rattle.proof_shape.specs.Beneath.machine_model.proofs.Grown.{grown_in_use}
 
-module _ (limits : Limits) (states : ℕ → State) (last : ℕ) (run : IsRun limits states last) (t : ℕ) (h : t < last) (actor : ℕ) (operation : Operation) (go : GoesAt states t actor operation)
+module _ (limits : Bounds) (states : ℕ → State) (last : ℕ) (run : IsRun limits states last) (t : ℕ) (h : t < last) (actor : ℕ) (operation : Operation)
+    (go : GoesAt states run.records t actor operation)
     (takes_it : taker limits states last run t ≡ actor) (new : NewNames limits states last run t) (start : ℕ) (begun : operation.generation ≡ Some start) where
   abbrev heap : Heap
   heap = (states t).heap
@@ -106,7 +107,8 @@ module _ (limits : Limits) (states : ℕ → State) (last : ℕ) (run : IsRun li
           DoneLevel (level limits states last run) path main (done ++ made ∷ [])
       last_level made lv = by_test (nat_lt (length (done ++ made ∷ [])) (length (entries_of (node_at heap main)))) lv
         where
-          by_test : (b : Bool) → LineLevel (level limits states last run) (cond b (line.Renew (renew.Entry path main (done ++ made ∷ []))) (line.Renew (renew.Branch path main (done ++ made ∷ [])))) →
+          by_test : (b : Bool) → LineLevel (level limits states last run) (cond b (line.Renew (renew.Entry path main (done ++ made ∷ [])))
+              (line.Renew (renew.Branch path main (done ++ made ∷ [])))) →
               DoneLevel (level limits states last run) path main (done ++ made ∷ [])
           by_test true lv = lv
           by_test false lv = lv
@@ -119,7 +121,7 @@ module _ (limits : Limits) (states : ℕ → State) (last : ℕ) (run : IsRun li
           (lv.1 (length done) no_ref (omega (arith, length-append done (made ∷ [])))))
         where
           own : RunsAfter (states (suc t)) actor (operation_after (states t) operation)
-          own = runs_after states t actor operation go
+          own = runs_after states run.records t actor operation go
 
           line_is : own.operation.line ≡ renew_next (states t) path main (done ++ made ∷ [])
           line_is = own.line ∙ ap (line_after (states t) operation) e ∙ is
@@ -242,7 +244,8 @@ module _ (limits : Limits) (states : ℕ → State) (last : ℕ) (run : IsRun li
       (branch_there limits states last run t h actor operation go takes_it new start begun main (claims limits states last run t h actor operation go _ e).1.1.0)
       (quiet_all limits states last run t h actor operation go takes_it new start begun _ e refl main done x) (node_at heap (next_entry (states t) main done))
   clean_holds (clean.Child path main done r) e x =
-      child_holds path main done (quiet_all limits states last run t h actor operation go takes_it new start begun _ e (read_quiet r.indirection r.line) main done x) (read_step (states t) operation r)
+      child_holds path main done (quiet_all limits states last run t h actor operation go takes_it new start begun _ e (read_quiet r.indirection r.line) main done x)
+      (read_step (states t) operation r)
   clean_holds (clean.Tomb path main done child) e x =
       let all = claims limits states last run t h actor operation go _ e in
       clean_tomb_holds path main done child (branch_there limits states last run t h actor operation go takes_it new start begun main all.1.1.0)

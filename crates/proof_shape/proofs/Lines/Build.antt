@@ -15,7 +15,7 @@ use Rattle.proof_shape.specs.Beneath.machine_model.specs.declared.building.Build
 use Rattle.proof_shape.specs.Beneath.machine_model.specs.declared.building.Site.TheVariants as site
 use Rattle.proof_shape.specs.Beneath.machine_model.specs.declared.lines.Line.TheVariants as line
 use Rattle.proof_shape.specs.Beneath.machine_model.specs.declared.operations.Operation.{Operation}
-use Rattle.proof_shape.specs.Beneath.machine_model.specs.declared.steps.Limits.{Limits}
+use Rattle.proof_shape.specs.Beneath.machine_model.specs.declared.steps.Bounds.{Bounds}
 use Rattle.proof_shape.specs.Beneath.machine_model.specs.States.{State}
 use Rattle.proof_shape.specs.Beneath.machine_model.specs.Calls.{key_of, value_of}
 use Rattle.proof_shape.specs.Beneath.machine_model.specs.Paths.{depth_of, flag_in, hash_in, start_of}
@@ -51,7 +51,7 @@ use Rattle.proof_shape.specs.Beneath.proof_commits.proofs.Known.Acts.{known_run}
 
 -- ---- nodes that are made
 
-module _ (limits : Limits) (states : ℕ → State) (last : ℕ) (run : IsRun limits states last) where
+module _ (limits : Bounds) (states : ℕ → State) (last : ℕ) (run : IsRun limits states last) where
   -- the single at a position of a main node in use is there
   pub back_at : (t : ℕ) → t ≤ last → (main : Ref) → IsInUse (states t).heap main → (position k v : ℕ) →
       node_under states last (entry_at (states t).heap main position) ≡ Single k v → node_at (states t).heap (entry_at (states t).heap main position) ≡ Single k v
@@ -75,7 +75,8 @@ module _ (limits : Limits) (states : ℕ → State) (last : ℕ) (run : IsRun li
           let bad : node_of None ≡ Single k v = sym (ap node_of (ap (grown states last) nothing ∙ nothing_stands limits states last run last (omega arith))) ∙ is in
           let wrong : ⊥ = cc in absurd wrong
 
-module _ (limits : Limits) (states : ℕ → State) (last : ℕ) (run : IsRun limits states last) (t : ℕ) (h : t < last) (actor : ℕ) (operation : Operation) (go : GoesAt states t actor operation) where
+module _ (limits : Bounds) (states : ℕ → State) (last : ℕ) (run : IsRun limits states last) (t : ℕ) (h : t < last) (actor : ℕ) (operation : Operation)
+    (go : GoesAt states run.records t actor operation) where
   abbrev heap : Heap
   heap = (states t).heap
 
@@ -122,10 +123,12 @@ module _ (limits : Limits) (states : ℕ → State) (last : ℕ) (run : IsRun li
     new_single : (l : BuildLine) (e : operation.line ≡ line.Build l) → build_action (states t) operation l ≡ act.Make (Single (key_of operation.call) (value_of operation.call)) →
         node made ≡ Single (key_of operation.call) (value_of operation.call)
     new_single l e a =
-        stands (Single (key_of operation.call) (value_of operation.call)) (acts l e ∙ a) (λ g w bad. let wrong : Single (key_of operation.call) (value_of operation.call) ≡ Indirection g w = bad in cc)
+        stands (Single (key_of operation.call) (value_of operation.call)) (acts l e ∙ a) (λ g w bad. let wrong : Single (key_of operation.call)
+        (value_of operation.call) ≡ Indirection g w = bad in cc)
 
     -- the main node that is held is decided
-    held_none : (path : List Ref) (main : Ref) (position : ℕ) (below : Ref) (depth : ℕ) → operation.line ≡ line.Build (build.Link path main position below depth) → prev_word states t below ≡ over.None
+    held_none : (path : List Ref) (main : Ref) (position : ℕ) (below : Ref) (depth : ℕ) → operation.line ≡ line.Build (build.Link path main position below depth) →
+        prev_word states t below ≡ over.None
     held_none path main position below depth e =
         let p = protocol limits states last (known_run limits states last run) in
         let stage : p.words.stage t actor ≡ Builds below = ap stage_of_actor go.runs ∙ ap stage_of e in
@@ -167,7 +170,8 @@ module _ (limits : Limits) (states : ℕ → State) (last : ℕ) (run : IsRun li
               ∙ ap (λ x. changed (flag_in (states t) operation path) x c) there,
         )
 
-  if_made : (l : BuildLine) → operation.line ≡ line.Build l → KnowsBuild K operation.call l → (o : Option Ref) → next_ref heap ≡ o → KnowsLine K operation.call (build_if_made (states t) operation l o)
+  if_made : (l : BuildLine) → operation.line ≡ line.Build l → KnowsBuild K operation.call l → (o : Option Ref) → next_ref heap ≡ o →
+      KnowsLine K operation.call (build_if_made (states t) operation l o)
   if_made l e knows None next = tt
   if_made l e knows (Some made) next = made_step made next l e knows
 

@@ -21,7 +21,7 @@ use Rattle.proof_shape.specs.Beneath.machine_model.specs.declared.repairs.Climb.
 use Rattle.proof_shape.specs.Beneath.machine_model.specs.declared.repairs.ClimbLine.{ClimbLine}
 use Rattle.proof_shape.specs.Beneath.machine_model.specs.declared.repairs.ClimbLine.TheVariants as climb
 use Rattle.proof_shape.specs.Beneath.machine_model.specs.declared.roots.RootLine.{RootLine}
-use Rattle.proof_shape.specs.Beneath.machine_model.specs.declared.steps.Limits.{Limits}
+use Rattle.proof_shape.specs.Beneath.machine_model.specs.declared.steps.Bounds.{Bounds}
 use Rattle.proof_shape.specs.Beneath.machine_model.specs.Calls.{handle_of}
 use Rattle.proof_shape.specs.Beneath.machine_model.specs.States.{State, word_at}
 use Rattle.proof_shape.specs.Beneath.machine_model.specs.Paths.{current, above, is_below_root, flag_in, is_start}
@@ -71,7 +71,7 @@ contracted_single true bitmap (suc zero) (x ∷ y ∷ rest) single other lt e = 
 contracted_single true bitmap (suc (suc p)) (x ∷ y ∷ rest) single other lt e = let wrong : ⊥ = cc in absurd wrong
 contracted_single false bitmap p entries single other lt e = let wrong : ⊥ = cc in absurd wrong
 
-module _ (limits : Limits) (states : ℕ → State) (last : ℕ) (run : IsRun limits states last) where
+module _ (limits : Bounds) (states : ℕ → State) (last : ℕ) (run : IsRun limits states last) where
   -- what is an indirection isn't nothing
   pub position_within : (i : Ref) (g : ℕ) (w : Ref) → node_under states last i ≡ Indirection g w → (p : ℕ) (entries : List Ref) → slice_index_or entries p no_ref ≡ i → p < length entries
   position_within i g w is p entries at = by_test (nat_lt p (length entries)) refl
@@ -83,7 +83,8 @@ module _ (limits : Limits) (states : ℕ → State) (last : ℕ) (run : IsRun li
           let bad : node_of None ≡ Indirection g w = sym (ap node_of (ap (grown states last) nothing ∙ nothing_stands limits states last run last (omega arith))) ∙ is in
           let wrong : ⊥ = cc in absurd wrong
 
-module _ (limits : Limits) (states : ℕ → State) (last : ℕ) (run : IsRun limits states last) (t : ℕ) (h : t < last) (actor : ℕ) (operation : Operation) (go : GoesAt states t actor operation) where
+module _ (limits : Bounds) (states : ℕ → State) (last : ℕ) (run : IsRun limits states last) (t : ℕ) (h : t < last) (actor : ℕ) (operation : Operation)
+    (go : GoesAt states run.records t actor operation) where
   abbrev heap : Heap
   heap = (states t).heap
 
@@ -148,13 +149,15 @@ module _ (limits : Limits) (states : ℕ → State) (last : ℕ) (run : IsRun li
       by_test false = tt
 
   abbrev GivenTo : Ref → Ref → Type 0
-  GivenTo i m = Given (words_of states last (known_run limits states last run).closing) t actor i m
+  GivenTo i m = Given (words_of states run.records last (known_run limits states last run).closing) t actor i m
 
-  pub remembered : (l : Line) → operation.line ≡ l → Remembers (λ i m. Given (words_of states last (known_run limits states last run).closing) t actor i m) (operation.access ≡ Writable) l
+  pub remembered : (l : Line) → operation.line ≡ l → Remembers (λ i m. Given (words_of states run.records last (known_run limits states last run).closing) t actor i m)
+      (operation.access ≡ Writable) l
   remembered l e = subst (λ x. Remembers GivenTo (operation.access ≡ Writable) x) e (remembers_at limits states last (known_run limits states last run) t (omega arith) actor operation go.runs)
 
   -- a tomb that is given
-  pub tombed_given : (i m single : Ref) → Given (words_of states last (known_run limits states last run).closing) t actor i m → node_under states last m ≡ Tomb single → WasTombed K W i single
+  pub tombed_given : (i m single : Ref) → Given (words_of states run.records last (known_run limits states last run).closing) t actor i m →
+      node_under states last m ≡ Tomb single → WasTombed K W i single
   tombed_given i m single given is =
       let link = given_link limits states last run t (omega arith) actor i m given in
       record { generation = link.0; word = link.1; link = link.2; tomb = m; was = was_later states last t i m (was_given limits states last run t (omega arith) actor i m given); is = is }

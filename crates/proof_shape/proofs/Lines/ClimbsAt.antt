@@ -18,7 +18,7 @@ use Rattle.proof_shape.specs.Beneath.machine_model.specs.declared.reading.ReadLi
 use Rattle.proof_shape.specs.Beneath.machine_model.specs.declared.reading.Swap.{Swap}
 use Rattle.proof_shape.specs.Beneath.machine_model.specs.declared.reading.SwapLine.{SwapLine}
 use Rattle.proof_shape.specs.Beneath.machine_model.specs.declared.reading.SwapLine.TheVariants as swap
-use Rattle.proof_shape.specs.Beneath.machine_model.specs.declared.steps.Limits.{Limits}
+use Rattle.proof_shape.specs.Beneath.machine_model.specs.declared.steps.Bounds.{Bounds}
 use Rattle.proof_shape.specs.Beneath.machine_model.specs.Calls.{handle_of}
 use Rattle.proof_shape.specs.Beneath.machine_model.specs.States.{State, word_at}
 use Rattle.proof_shape.specs.Beneath.machine_model.specs.Paths.{current}
@@ -71,7 +71,8 @@ fails_knows k W operation node (purpose.Update path former) s knows = tt
 fails_knows k W operation node (purpose.Renew path) s knows = tt
 fails_knows k W operation node purpose.Clean s knows = tt
 
-module _ (limits : Limits) (states : ℕ → State) (last : ℕ) (run : IsRun limits states last) (t : ℕ) (h : t < last) (actor : ℕ) (operation : Operation) (go : GoesAt states t actor operation) where
+module _ (limits : Bounds) (states : ℕ → State) (last : ℕ) (run : IsRun limits states last) (t : ℕ) (h : t < last) (actor : ℕ) (operation : Operation)
+    (go : GoesAt states run.records t actor operation) where
   abbrev heap : Heap
   heap = (states t).heap
 
@@ -185,11 +186,12 @@ module _ (limits : Limits) (states : ℕ → State) (last : ℕ) (run : IsRun li
   step_climbs (line.End answer) e k = tt
   step_climbs line.Impossible e k = tt
 
-module _ (limits : Limits) (states : ℕ → State) (last : ℕ) (run : IsRun limits states last) where
+module _ (limits : Bounds) (states : ℕ → State) (last : ℕ) (run : IsRun limits states last) where
   abbrev Climbs : ℕ → ℕ → Operation → Type 0
   Climbs t actor operation = KnowsClimbing (known_with limits states last (first_main states last)) (Was states last t) operation.call operation.line
 
-  goes_climbs : (t : ℕ) → t < last → (actor : ℕ) (operation : Operation) → GoesAt states t actor operation → Climbs t actor operation → Climbs (suc t) actor (operation_after (states t) operation)
+  goes_climbs : (t : ℕ) → t < last → (actor : ℕ) (operation : Operation) → GoesAt states run.records t actor operation → Climbs t actor operation →
+      Climbs (suc t) actor (operation_after (states t) operation)
   goes_climbs t h actor operation go k =
       let same = same_known limits states last run t h actor operation go in
       subst (λ (x : Known). KnowsClimbing x (Was states last (suc t)) operation.call (line_after (states t) operation operation.line)) same

@@ -10,7 +10,7 @@ use Rattle.proof_shape.specs.Beneath.machine_model.specs.declared.finding.KeyLin
 use Rattle.proof_shape.specs.Beneath.machine_model.specs.declared.lines.Line.{Line}
 use Rattle.proof_shape.specs.Beneath.machine_model.specs.declared.lines.Line.TheVariants as line
 use Rattle.proof_shape.specs.Beneath.machine_model.specs.declared.operations.Operation.{Operation}
-use Rattle.proof_shape.specs.Beneath.machine_model.specs.declared.steps.Limits.{Limits}
+use Rattle.proof_shape.specs.Beneath.machine_model.specs.declared.steps.Bounds.{Bounds}
 use Rattle.proof_shape.specs.Beneath.machine_model.specs.States.{State}
 use Rattle.proof_shape.specs.Beneath.machine_model.specs.Finding.{key_after}
 use Rattle.proof_shape.specs.Beneath.machine_model.specs.Operations.{line_action}
@@ -27,7 +27,8 @@ use Rattle.proof_shape.proofs.Runs.EachAt.{GoesAt}
 use Rattle.proof_shape.proofs.Lines.Places.{settled_at, FitsCall}
 use Rattle.proof_shape.proofs.Runs.Seen.{listed_main, keyed_get, fits_at, sees, look_used, single_seen}
 
-module _ (limits : Limits) (states : ℕ → State) (last : ℕ) (run : IsRun limits states last) (t : ℕ) (h : t < last) (actor : ℕ) (operation : Operation) (go : GoesAt states t actor operation) where
+module _ (limits : Bounds) (states : ℕ → State) (last : ℕ) (run : IsRun limits states last) (t : ℕ) (h : t < last) (actor : ℕ) (operation : Operation)
+    (go : GoesAt states run.records t actor operation) where
   abbrev heap : Heap
   heap = (states t).heap
 
@@ -39,7 +40,7 @@ module _ (limits : Limits) (states : ℕ → State) (last : ℕ) (run : IsRun li
 
   -- the nodes that are known have the run's limits
   pub same_known : known (states t) operation (node_under states last) (first_main states last) ≡ known_with limits states last (first_main states last)
-  same_known = ap (λ (l : Limits). known_with l states last (first_main states last)) (limits_at limits states last run t (omega arith))
+  same_known = ap (λ (l : Bounds). known_with l states last (first_main states last)) (limits_at limits states last run t (omega arith))
 
   pub claims : (l : Line) → operation.line ≡ l → AllHold (IsInUse (states t).heap) (states t).heap (line_wants limits.hash operation.call operation.access l)
   claims l e = subst (λ x. AllHold (IsInUse heap) heap (line_wants limits.hash operation.call operation.access x)) e (line_at limits states last run t (omega arith) actor operation go.runs)

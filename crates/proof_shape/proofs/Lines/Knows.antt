@@ -19,7 +19,7 @@ use Rattle.proof_shape.specs.Beneath.machine_model.specs.declared.repairs.CleanL
 use Rattle.proof_shape.specs.Beneath.machine_model.specs.declared.repairs.ClimbLine.{ClimbLine}
 use Rattle.proof_shape.specs.Beneath.machine_model.specs.declared.repairs.RenewLine.{RenewLine}
 use Rattle.proof_shape.specs.Beneath.machine_model.specs.declared.roots.RootLine.{RootLine}
-use Rattle.proof_shape.specs.Beneath.machine_model.specs.declared.steps.Limits.{Limits}
+use Rattle.proof_shape.specs.Beneath.machine_model.specs.declared.steps.Bounds.{Bounds}
 use Rattle.proof_shape.specs.Beneath.machine_model.specs.declared.walking.WalkLine.{WalkLine}
 use Rattle.proof_shape.specs.Beneath.machine_model.specs.States.{State}
 use Rattle.proof_shape.specs.Beneath.machine_model.specs.Swapping.{on_line}
@@ -101,11 +101,11 @@ swap_knows : (state : State) (operation : Operation) (known : Known) (why : Purp
 swap_knows state operation known why s knows (Goes l) = swap_stays known operation.call why s l knows
 swap_knows state operation known why s knows (Gives done) = blank_knows known operation.call _ (swapped_blank operation (node_at state.heap s.fresh) why done)
 
-module _ (limits : Limits) (states : ℕ → State) (last : ℕ) (run : IsRun limits states last) where
+module _ (limits : Bounds) (states : ℕ → State) (last : ℕ) (run : IsRun limits states last) where
   abbrev K : Known
   K = known_with limits states last (first_main states last)
 
-  step_knows : (t : ℕ) → t < last → (actor : ℕ) (operation : Operation) → GoesAt states t actor operation → (l : Line) → operation.line ≡ l → KnowsLine K operation.call l →
+  step_knows : (t : ℕ) → t < last → (actor : ℕ) (operation : Operation) → GoesAt states run.records t actor operation → (l : Line) → operation.line ≡ l → KnowsLine K operation.call l →
       KnowsLine K operation.call (line_after (states t) operation l)
   step_knows t h actor operation go (line.Key l) e knows = key_step limits states last run t h actor operation go l e knows
   step_knows t h actor operation go (line.Build l) e knows = build_step limits states last run t h actor operation go l e knows

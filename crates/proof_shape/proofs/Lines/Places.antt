@@ -10,7 +10,7 @@ use Rattle.proof_shape.specs.Beneath.machine_model.specs.declared.operations.Ope
 use Rattle.proof_shape.specs.Beneath.machine_model.specs.declared.reading.After.{After}
 use Rattle.proof_shape.specs.Beneath.machine_model.specs.declared.reading.After.TheVariants.{Goes, Gives}
 use Rattle.proof_shape.specs.Beneath.machine_model.specs.declared.roots.RootLine.{RootLine}
-use Rattle.proof_shape.specs.Beneath.machine_model.specs.declared.steps.Limits.{Limits}
+use Rattle.proof_shape.specs.Beneath.machine_model.specs.declared.steps.Bounds.{Bounds}
 use Rattle.proof_shape.specs.Beneath.machine_model.specs.Calls.{handle_of}
 use Rattle.proof_shape.specs.Beneath.machine_model.specs.States.{State, word_at}
 use Rattle.proof_shape.specs.Beneath.machine_model.specs.Swapping.{root_after}
@@ -150,7 +150,7 @@ first_above call e = grind arith
 first_no_swap : (call : Call) → is_swap (first_line call) ≡ false
 first_no_swap call = grind arith
 
-module _ (limits : Limits) (states : ℕ → State) (last : ℕ) (run : IsRun limits states last) where
+module _ (limits : Bounds) (states : ℕ → State) (last : ℕ) (run : IsRun limits states last) where
   pub settled_at : OfEachAt states last (λ t actor operation. Settled operation)
   settled_at =
       each_at (λ t actor operation. Settled operation) (λ t actor operation s. record { fits = s.fits; starts = s.starts; swaps = s.swaps }) limits states last run

@@ -19,7 +19,7 @@ use Rattle.proof_shape.specs.Beneath.machine_model.specs.declared.repairs.CleanL
 use Rattle.proof_shape.specs.Beneath.machine_model.specs.declared.repairs.CleanLine.TheVariants as clean
 use Rattle.proof_shape.specs.Beneath.machine_model.specs.declared.repairs.RenewLine.{RenewLine}
 use Rattle.proof_shape.specs.Beneath.machine_model.specs.declared.repairs.RenewLine.TheVariants as renew
-use Rattle.proof_shape.specs.Beneath.machine_model.specs.declared.steps.Limits.{Limits}
+use Rattle.proof_shape.specs.Beneath.machine_model.specs.declared.steps.Bounds.{Bounds}
 use Rattle.proof_shape.specs.Beneath.machine_model.specs.Calls.{handle_of}
 use Rattle.proof_shape.specs.Beneath.machine_model.specs.States.{State, word_at}
 use Rattle.proof_shape.specs.Beneath.machine_model.specs.Paths.{start_of, is_below_root}
@@ -27,7 +27,7 @@ use Rattle.proof_shape.specs.Beneath.machine_model.specs.Reading.{read_after, re
 use Rattle.proof_shape.specs.Beneath.machine_model.specs.Finding.{going_down, is_passable, key_after, key_after_main, key_after_entry, after_listed, after_sibling}
 use Rattle.proof_shape.specs.Beneath.machine_model.specs.Renewing.{next_entry, renew_next, branch_of, renew_after, renew_after_link, renew_after_branch}
 use Rattle.proof_shape.specs.Beneath.machine_model.specs.Cleaning.{cleaned, leaves_single, clean_after, clean_after_read, clean_after_contracted}
-use Rattle.proof_shape.specs.Beneath.machine_model.specs.Operations.{line_action, read_of}
+use Rattle.proof_shape.specs.Beneath.machine_model.specs.Operations.{line_action, read_of, action_of}
 use Rattle.proof_shape.specs.Beneath.machine_model.specs.Grown.{node_under, prev_word}
 use Rattle.proof_shape.specs.Beneath.machine_model.specs.Times.{IsRun}
 use Rattle.proof_shape.specs.Beneath.proof_memory.specs.Laws.{IsInUse}
@@ -52,6 +52,7 @@ use Rattle.proof_shape.proofs.Runs.Seen.{main_seen}
 use Rattle.proof_shape.proofs.Lines.Key.{claims, looks}
 use Rattle.proof_shape.proofs.Lines.RepairMore.{is_unrepairing, unrepairing_knows}
 use Rattle.proof_shape.specs.Beneath.proof_commits.proofs.Known.Acts.{known_run}
+use Rattle.proof_shape.specs.Beneath.machine_model.proofs.Notes.{noted_going}
 
 -- ---- KEY's lines but one lead to no repair
 
@@ -75,7 +76,8 @@ key_sibling_not path main position former other node = grind arith
 pub renewed_no_link : (bitmap : ℕ) (entries : List Ref) → IsNoLink (renewed bitmap entries)
 renewed_no_link bitmap entries g w bad = cc
 
-module _ (limits : Limits) (states : ℕ → State) (last : ℕ) (run : IsRun limits states last) (t : ℕ) (h : t < last) (actor : ℕ) (operation : Operation) (go : GoesAt states t actor operation) where
+module _ (limits : Bounds) (states : ℕ → State) (last : ℕ) (run : IsRun limits states last) (t : ℕ) (h : t < last) (actor : ℕ) (operation : Operation)
+    (go : GoesAt states run.records t actor operation) where
   abbrev heap : Heap
   heap = (states t).heap
 
@@ -92,7 +94,7 @@ module _ (limits : Limits) (states : ℕ → State) (last : ℕ) (run : IsRun li
   module _ (start : ℕ) (begun : operation.generation ≡ Some start) where
     -- what READs of repairs gave, this step's included
     abbrev G : Ref → Ref → Type 0
-    G = GaveBelow states last (suc t) actor operation.id start
+    G = GaveBelow states run.records last (suc t) actor operation.id start
 
     gives_now : (l : Line) (e : operation.line ≡ l) (read : Read) → stage_of l ≡ Reads read.indirection read.line → read_of l ≡ Some read → ReadsBelow l → (child : Ref) →
         read_step (states t) operation read ≡ Gives child → G read.indirection child
@@ -111,6 +113,7 @@ module _ (limits : Limits) (states : ℕ → State) (last : ℕ) (run : IsRun li
       reads = ap read_of e ∙ reads;
       of = refl;
       gives = gives;
+      notes = go.noted ∙ sym (noted_going (states t) (run.records t) actor operation (action_of (states t) operation) go.runs refl go.goes);
     }
 
     abbrev Repairs : Line → Type 0
@@ -119,7 +122,7 @@ module _ (limits : Limits) (states : ℕ → State) (last : ℕ) (run : IsRun li
     -- ---- KEY
 
     pub key_repairs : (l : KeyLine) → operation.line ≡ line.Key l → KnowsKey (known_with limits states last (first_main states last)) operation.call l →
-        KnowsRepair (node_under states last) (first_main states last) (GaveBelow states last (suc t) actor operation.id start) start (key_after (states t) operation l)
+        KnowsRepair (node_under states last) (first_main states last) (GaveBelow states run.records last (suc t) actor operation.id start) start (key_after (states t) operation l)
     key_repairs (key.Read path r) e knows = unrepairing_knows node first G start _ (key_read_not (states t) operation path r)
     key_repairs (key.Main path main) e knows = unrepairing_knows node first G start _ (key_main_not (states t) operation path main (node_at heap main))
     key_repairs (key.Entry path main position) e (bitmap, entries, flagged) = by_node (node_at heap (entry_at heap main position))
@@ -144,7 +147,7 @@ module _ (limits : Limits) (states : ℕ → State) (last : ℕ) (run : IsRun li
     -- ---- RENEW
 
     -- what was given is decided
-    given_none : (i m : Ref) → GaveBelow states last (suc t) actor operation.id start i m → prev_word states (suc t) m ≡ over.None
+    given_none : (i m : Ref) → GaveBelow states run.records last (suc t) actor operation.id start i m → prev_word states (suc t) m ≡ over.None
     given_none i m below =
         let gave = below.gave in
         let p = protocol limits states last (known_run limits states last run) in
@@ -155,8 +158,8 @@ module _ (limits : Limits) (states : ℕ → State) (last : ℕ) (run : IsRun li
     branch_there main l e claim = main_seen limits states last run t (omega arith) main ABranch branch_main claim
 
     pub renew_repairs : (l : RenewLine) → operation.line ≡ line.Renew l →
-        KnowsRenew (node_under states last) (first_main states last) (GaveBelow states last (suc t) actor operation.id start) start l →
-        KnowsRepair (node_under states last) (first_main states last) (GaveBelow states last (suc t) actor operation.id start) start (renew_after (states t) operation l)
+        KnowsRenew (node_under states last) (first_main states last) (GaveBelow states run.records last (suc t) actor operation.id start) start l →
+        KnowsRepair (node_under states last) (first_main states last) (GaveBelow states run.records last (suc t) actor operation.id start) start (renew_after (states t) operation l)
     renew_repairs (renew.Entry path main done) e knows =
         let claim = (claims limits states last run t h actor operation go _ e).1.1.0 in
         renew_entry_knows (states t) operation node first G start main (branch_there main _ e claim) path done knows begun
@@ -189,8 +192,8 @@ module _ (limits : Limits) (states : ℕ → State) (last : ℕ) (run : IsRun li
     -- ---- CLEAN
 
     pub clean_repairs : (l : CleanLine) → operation.line ≡ line.Clean l →
-        KnowsClean (node_under states last) (first_main states last) (GaveBelow states last (suc t) actor operation.id start) start l →
-        KnowsRepair (node_under states last) (first_main states last) (GaveBelow states last (suc t) actor operation.id start) start (clean_after (states t) operation l)
+        KnowsClean (node_under states last) (first_main states last) (GaveBelow states run.records last (suc t) actor operation.id start) start l →
+        KnowsRepair (node_under states last) (first_main states last) (GaveBelow states run.records last (suc t) actor operation.id start) start (clean_after (states t) operation l)
     clean_repairs (clean.Read path read) e knows = by_out (read_step (states t) operation read)
       where
         by_out : (out : After Read Ref) → Repairs (clean_after_read path out)

@@ -17,7 +17,7 @@ use Rattle.proof_shape.specs.Beneath.machine_model.specs.declared.reading.Swap.{
 use Rattle.proof_shape.specs.Beneath.machine_model.specs.declared.reading.SwapLine.{SwapLine}
 use Rattle.proof_shape.specs.Beneath.machine_model.specs.declared.repairs.ClimbLine.{ClimbLine}
 use Rattle.proof_shape.specs.Beneath.machine_model.specs.declared.roots.RootLine.{RootLine}
-use Rattle.proof_shape.specs.Beneath.machine_model.specs.declared.steps.Limits.{Limits}
+use Rattle.proof_shape.specs.Beneath.machine_model.specs.declared.steps.Bounds.{Bounds}
 use Rattle.proof_shape.specs.Beneath.machine_model.specs.declared.walking.WalkLine.{WalkLine}
 use Rattle.proof_shape.specs.Beneath.machine_model.specs.States.{State}
 use Rattle.proof_shape.specs.Beneath.machine_model.specs.Swapping.{on_line}
@@ -36,6 +36,7 @@ use Rattle.proof_shape.proofs.Runs.EachAt.{GoesAt, each_at}
 use Rattle.proof_shape.proofs.Lines.Knows.{knows_at}
 use Rattle.proof_shape.proofs.Lines.RepairMore.{repair_more, is_unrepairing, unrepairing_knows}
 use Rattle.proof_shape.proofs.Lines.Repair.{key_repairs, renew_repairs, clean_repairs}
+use Rattle.proof_shape.specs.Beneath.machine_model.specs.Records.{Record}
 
 -- ---- programs that lead to no repair
 
@@ -61,8 +62,8 @@ walk_not : (state : State) (operation : Operation) (l : WalkLine) → is_unrepai
 walk_not state operation l = grind arith
 
 -- what was given stays given
-pub gave_later : (states : ℕ → State) (last t actor id : ℕ) (i m : Ref) → Gave states last t actor id i m → Gave states last (suc t) actor id i m
-gave_later states last t actor id i m g = record {
+pub gave_later : (states : ℕ → State) (records : ℕ → Record) (last t actor id : ℕ) (i m : Ref) → Gave states records last t actor id i m → Gave states records last (suc t) actor id i m
+gave_later states records last t actor id i m g = record {
   began = g.began;
   first = g.first;
   from = g.from;
@@ -77,9 +78,10 @@ gave_later states last t actor id i m g = record {
   is = g.is;
 }
 
-pub gave_below_later : (states : ℕ → State) (last t actor id start : ℕ) (i m : Ref) → GaveBelow states last t actor id start i m → GaveBelow states last (suc t) actor id start i m
-gave_below_later states last t actor id start i m g = record {
-  gave = gave_later states last t actor id i m g.gave;
+pub gave_below_later : (states : ℕ → State) (records : ℕ → Record) (last t actor id start : ℕ) (i m : Ref) → GaveBelow states records last t actor id start i m →
+    GaveBelow states records last (suc t) actor id start i m
+gave_below_later states records last t actor id start i m g = record {
+  gave = gave_later states records last t actor id i m g.gave;
   at = g.at;
   past = omega (arith, g.past);
   outcome = g.outcome;
@@ -92,20 +94,21 @@ gave_below_later states last t actor id start i m g = record {
   reads = g.reads;
   of = g.of;
   gives = g.gives;
+  notes = g.notes;
 }
 
-module _ (limits : Limits) (states : ℕ → State) (last : ℕ) (run : IsRun limits states last) where
+module _ (limits : Bounds) (states : ℕ → State) (last : ℕ) (run : IsRun limits states last) where
   -- what a line knows at a time
   abbrev Repairs : ℕ → ℕ → ℕ → ℕ → Line → Type 0
-  Repairs t actor id start l = KnowsRepair (node_under states last) (first_main states last) (GaveBelow states last t actor id start) start l
+  Repairs t actor id start l = KnowsRepair (node_under states last) (first_main states last) (GaveBelow states run.records last t actor id start) start l
 
   repairs_later : (t actor id start : ℕ) (l : Line) → Repairs t actor id start l → Repairs (suc t) actor id start l
   repairs_later t actor id start l k =
-      repair_more (node_under states last) (first_main states last) (GaveBelow states last t actor id start) (GaveBelow states last (suc t) actor id start)
-      (gave_below_later states last t actor id start) start l k
+      repair_more (node_under states last) (first_main states last) (GaveBelow states run.records last t actor id start) (GaveBelow states run.records last (suc t) actor id start)
+      (gave_below_later states run.records last t actor id start) start l k
 
   not_repairing : (t actor id start : ℕ) (l : Line) → is_unrepairing l ≡ true → Repairs t actor id start l
-  not_repairing t actor id start l e = unrepairing_knows (node_under states last) (first_main states last) (GaveBelow states last t actor id start) start l e
+  not_repairing t actor id start l e = unrepairing_knows (node_under states last) (first_main states last) (GaveBelow states run.records last t actor id start) start l e
 
   swap_stays : (t actor id start : ℕ) (why : Purpose) (s : Swap) (l : SwapLine) → Repairs t actor id start (line.Swap why s) → Repairs t actor id start (line.Swap why (record s { line = l }))
   swap_stays t actor id start (purpose.Update path former) s l k = tt
@@ -118,7 +121,7 @@ module _ (limits : Limits) (states : ℕ → State) (last : ℕ) (run : IsRun li
   swap_repairs t actor operation start why s k (Goes l) = swap_stays (suc t) actor operation.id start why s l k
   swap_repairs t actor operation start why s k (Gives done) = not_repairing (suc t) actor operation.id start _ (swapped_not operation (node_at (states t).heap s.fresh) why done)
 
-  module _ (t : ℕ) (h : t < last) (actor : ℕ) (operation : Operation) (go : GoesAt states t actor operation) (start : ℕ) where
+  module _ (t : ℕ) (h : t < last) (actor : ℕ) (operation : Operation) (go : GoesAt states run.records t actor operation) (start : ℕ) where
     step_repairs : (l : Line) → operation.line ≡ l → generation_from (states t) operation l ≡ Some start → (operation.generation ≡ Some start → Repairs (suc t) actor operation.id start l) →
         Repairs (suc t) actor operation.id start (line_after (states t) operation l)
     step_repairs (line.Key l) e begun k =
@@ -135,7 +138,7 @@ module _ (limits : Limits) (states : ℕ → State) (last : ℕ) (run : IsRun li
     step_repairs (line.End answer) e begun k = tt
     step_repairs line.Impossible e begun k = tt
 
-  pub repairs_at : RepairsAt states last
+  pub repairs_at : RepairsAt states run.records last
   repairs_at =
       each_at (λ t actor operation. (start : ℕ) → operation.generation ≡ Some start → Repairs t actor operation.id start operation.line) (λ t actor operation k. k) limits states last run
       (λ t h actor call d start begun. not_repairing (suc t) actor _ start _ (first_not call))

@@ -25,15 +25,14 @@ use Rattle.proof_shape.specs.Beneath.machine_model.specs.declared.roots.Complete
 use Rattle.proof_shape.specs.Beneath.machine_model.specs.declared.roots.Descriptor.{Descriptor}
 use Rattle.proof_shape.specs.Beneath.machine_model.specs.declared.roots.RootLine.TheVariants as root
 use Rattle.proof_shape.specs.Beneath.machine_model.specs.declared.walking.WalkLine.TheVariants as walk
-use Rattle.proof_shape.specs.Beneath.machine_model.specs.declared.steps.Limits.{Limits}
+use Rattle.proof_shape.specs.Beneath.machine_model.specs.declared.steps.Bounds.{Bounds}
 use Rattle.proof_shape.specs.Beneath.machine_model.specs.Calls.{handle_of}
 use Rattle.proof_shape.specs.Beneath.machine_model.specs.States.{State, operation_of, word_at, root_of}
 use Rattle.proof_shape.specs.Beneath.machine_model.specs.Operations.{first_line}
 use Rattle.proof_shape.specs.Beneath.machine_model.specs.Acting.{operation_after}
 use Rattle.proof_shape.specs.Beneath.machine_model.specs.Grown.{node_under}
 use Rattle.proof_shape.specs.Beneath.machine_model.specs.declared.steps.Step.{Step}
-use Rattle.proof_shape.specs.Beneath.machine_model.specs.Moves.{Moves}
-use Rattle.proof_shape.specs.Beneath.machine_model.specs.Times.{turns}
+use Rattle.proof_shape.specs.Beneath.machine_model.specs.Times.{turns, noted_turn}
 use Rattle.proof_shape.specs.Beneath.machine_model.specs.Times.{IsRun, Turn}
 use Rattle.proof_shape.specs.Beneath.proof_memory.specs.Laws.{IsInUse}
 use Rattle.proof_shape.specs.Beneath.proof_memory.proofs.Safety.AtTimes.{line_at}
@@ -122,9 +121,9 @@ module _ (O : Ref → Type 0) where
 
 -- ---- what may be read before step t
 
-module _ (limits : Limits) (states : ℕ → State) (last : ℕ) (run : IsRun limits states last) where
+module _ (limits : Bounds) (states : ℕ → State) (last : ℕ) (run : IsRun limits states last) where
   abbrev w : Words
-  w = words_of states last (known_run limits states last run).closing
+  w = words_of states run.records last (known_run limits states last run).closing
 
   abbrev p : Protocol
   p = protocol limits states last (known_run limits states last run)
@@ -132,7 +131,7 @@ module _ (limits : Limits) (states : ℕ → State) (last : ℕ) (run : IsRun li
   -- a root that stood by then, or an entry of a main node that was given by then
   pub data IsOpen (t : ℕ) (r : Ref) : Type 0 where
     rooted : (u handle : ℕ) → u ≤ t → root_of (word_at (states u) handle) ≡ r → IsOpen t r
-    named : (k : ℕ) (i m : Ref) → Given (words_of states last (known_run limits states last run).closing) t k i m → Contains (entries_of (node_under states last m)) r → IsOpen t r
+    named : (k : ℕ) (i m : Ref) → Given (words_of states run.records last (known_run limits states last run).closing) t k i m → Contains (entries_of (node_under states last m)) r → IsOpen t r
 
   given_still : (t u : ℕ) → t ≤ u → (k : ℕ) (i m : Ref) → Given w t k i m → Given w u k i m
   given_still t u le k i m g = record { at = g.at; past = omega (arith, g.past); line = g.line; stage = g.stage; gives = g.gives }
@@ -144,7 +143,7 @@ module _ (limits : Limits) (states : ℕ → State) (last : ℕ) (run : IsRun li
   first_opens : (O : Ref → Type 0) (call : Call) → Opens O (first_line call)
   first_opens O call = grind arith
 
-  goes_opens : (t : ℕ) → t < last → (actor : ℕ) (operation : Operation) → GoesAt states t actor operation → Opens (IsOpen t) operation.line →
+  goes_opens : (t : ℕ) → t < last → (actor : ℕ) (operation : Operation) → GoesAt states run.records t actor operation → Opens (IsOpen t) operation.line →
       Opens (IsOpen (suc t)) (operation_after (states t) operation).line
   goes_opens t h actor operation go o =
       line_opens limits.hash (states t) operation (IsOpen (suc t)) (λ i m. Given w t actor i m)
@@ -183,15 +182,15 @@ module _ (limits : Limits) (states : ℕ → State) (last : ℕ) (run : IsRun li
       by_actor None e s = let wrong : ⊥ = cc in absurd wrong
       by_actor (Some operation) e s = reads_opens (IsOpen t) operation.line i x s (opens_at t h k operation e)
 
-  pub given_is_open : (t : ℕ) → t ≤ last → (k : ℕ) (i m : Ref) → Given (words_of states last (known_run limits states last run).closing) t k i m → IsOpen t i
+  pub given_is_open : (t : ℕ) → t ≤ last → (k : ℕ) (i m : Ref) → Given (words_of states run.records last (known_run limits states last run).closing) t k i m → IsOpen t i
   given_is_open t h k i m given = open_still given.at t (omega (arith, given.past)) i (read_is_open given.at (omega (arith, given.past)) k i given.line given.stage)
 
   -- ---- so what may not be read keeps its main node
 
   pub closed_keeps : (t : ℕ) → t < last → (j : Ref) → (IsOpen t j → ⊥) → counting_main states last (suc t) j ≡ counting_main states last t j
-  closed_keeps t h j closed = by_turn (states (suc t)) (run.turn t h) refl
+  closed_keeps t h j closed = by_turn (run.turn t h) (run.recorded t h)
     where
-      by_step : (s : Step) → MainStep limits states last (made_with states last) t s → counting_main states last (suc t) j ≡ counting_main states last t j
+      by_step : (s : Step) → MainStep limits states run.records last (made_with states last) t s → counting_main states last (suc t) j ≡ counting_main states last t j
       by_step s (stays none all) = all j
       by_step s (changes own) = by_place (cases_eq j own.indirection)
         where
@@ -202,5 +201,5 @@ module _ (limits : Limits) (states : ℕ → State) (last : ℕ) (run : IsRun li
               absurd (closed (subst (IsOpen t) (sym same) (given_is_open t (omega arith) own.actor own.indirection own.replaced kept.1)))
           by_place (inr apart) = own.others j apart
 
-      by_turn : (after : State) → Turn (states t) after → after ≡ states (suc t) → counting_main states last (suc t) j ≡ counting_main states last t j
-      by_turn after (turns s o m) e = by_step s (commits_at limits states last run t h s o (subst (λ x. Moves (states t) s o x) e m))
+      by_turn : (turn : Turn (states t) (states (suc t))) → run.records (suc t) ≡ noted_turn turn (run.records t) → counting_main states last (suc t) j ≡ counting_main states last t j
+      by_turn (turns s o m) e = by_step s (commits_at limits states last run t h s o m e)

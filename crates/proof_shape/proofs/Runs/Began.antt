@@ -5,16 +5,14 @@ use Rattle.proof_shape.specs.Beneath.machine_model.specs.declared.operations.Ope
 use Rattle.proof_shape.specs.Beneath.machine_model.specs.declared.reading.After.TheVariants.{Goes, Gives}
 use Rattle.proof_shape.specs.Beneath.machine_model.specs.declared.reading.ReadLine.{ReadLine}
 use Rattle.proof_shape.specs.Beneath.machine_model.specs.declared.reading.ReadLine.TheVariants as read
-use Rattle.proof_shape.specs.Beneath.machine_model.specs.declared.steps.Limits.{Limits}
+use Rattle.proof_shape.specs.Beneath.machine_model.specs.declared.steps.Bounds.{Bounds}
 use Rattle.proof_shape.specs.Beneath.machine_model.specs.Calls.{handle_of}
 use Rattle.proof_shape.specs.Beneath.machine_model.specs.States.{State, operation_of, word_at}
 use Rattle.proof_shape.specs.Beneath.machine_model.specs.Reading.{read_after}
-use Rattle.proof_shape.specs.Beneath.machine_model.specs.Operations.{line_after, action_of}
-use Rattle.proof_shape.specs.Beneath.machine_model.specs.Orders.{counted_from, read_at_after, moment_after}
+use Rattle.proof_shape.specs.Beneath.machine_model.specs.Operations.{line_after}
 use Rattle.proof_shape.specs.Beneath.machine_model.specs.Acting.{operation_after}
 use Rattle.proof_shape.specs.Beneath.machine_model.proofs.Actors.{marks_by}
 use Rattle.proof_shape.specs.Beneath.machine_model.specs.Grown.{grown, node_under}
-use Rattle.proof_shape.specs.Beneath.machine_model.proofs.Times.{steps_at}
 use Rattle.proof_shape.specs.Beneath.machine_model.specs.Times.{IsRun}
 use Rattle.proof_shape.specs.Beneath.proof_commits.specs.Protocol.{Words, Stage, Rests, Reads, IsAtRest, MayHave, Moves, Idles, MakesNode, SwapsNode, ReadsOn, DecidesOn, counts_at}
 use Rattle.proof_shape.specs.Beneath.proof_commits.proofs.Course.Finals.{link_stays}
@@ -24,17 +22,19 @@ use Rattle.proof_shape.specs.Beneath.proof_commits.proofs.Known.Given.{Known}
 use Rattle.proof_shape.specs.Beneath.proof_commits.proofs.Words.OfRuns.{link_made}
 use Rattle.proof_shape.specs.Beneath.proof_commits.specs.Words.{words_of}
 use Rattle.proof_shape.specs.Beneath.proof_commits.proofs.Known.StepsAt.{after_mark, go_own}
-use Rattle.proof_shape.specs.Beneath.proof_commits.proofs.Lines.Reads.{CountsTo, line_counts}
 use Rattle.proof_shape.specs.Beneath.proof_commits.proofs.Lines.Turns.{line_turn}
 use Rattle.proof_shape.specs.Beneath.proof_commits.proofs.Words.Along.{line_facts, remembers_at, protocol}
-use Rattle.proof_shape.specs.Beneath.proof_commits.proofs.Course.Moments.{moment_at}
+use Rattle.proof_shape.specs.Beneath.proof_commits.proofs.Course.Moments.{found, counted as counted_noted, moment_noted}
 use Rattle.proof_shape.specs.Beneath.proof_contents.proofs.Values.Runs.{counting_main-made}
 use Rattle.proof_shape.specs.Lines.Given.{HasBegun, at_first, later, Reading, Gave}
 use Rattle.proof_shape.specs.Lines.Knowing.{OfEachAt}
-use Rattle.proof_shape.proofs.Runs.EachAt.{GoesAt, each_at}
+use Rattle.proof_shape.proofs.Runs.Takers.{GoesAt, each_with, moment_kept}
 use Rattle.proof_shape.specs.Beneath.proof_memory.specs.Wants.{is_indirection}
 use Rattle.proof_shape.specs.Beneath.proof_commits.proofs.Known.Acts.{known_run}
 use Rattle.proof_shape.specs.Beneath.proof_commits.proofs.Lines.Stages.{first_rests}
+use Rattle.proof_shape.specs.Beneath.machine_model.specs.Records.{Record, moment_at}
+use Rattle.proof_shape.specs.Beneath.machine_model.specs.declared.records.Moment.{Moment}
+use Rattle.proof_shape.specs.Beneath.machine_model.proofs.Alike.{alike, go_actor, moment_goes, not_denied}
 
 -- what an actor runs after a step of its operation: what the step makes of it, with a mark or none
 pub record RunsAfter (state : State) (actor : ℕ) (made : Operation) : Type 0 where
@@ -52,8 +52,9 @@ runs_marked state actor made (Some id) e = by_test (made.id == id) e
     by_test true e = record { operation = record made { is_marked = true }; runs = e; id = refl; call = refl; line = refl }
     by_test false e = record { operation = made; runs = e; id = refl; call = refl; line = refl }
 
-pub runs_after : (states : ℕ → State) (t actor : ℕ) (operation : Operation) → GoesAt states t actor operation → RunsAfter (states (suc t)) actor (operation_after (states t) operation)
-runs_after states t actor operation go =
+pub runs_after : (states : ℕ → State) (records : ℕ → Record) (t actor : ℕ) (operation : Operation) → GoesAt states records t actor operation →
+    RunsAfter (states (suc t)) actor (operation_after (states t) operation)
+runs_after states records t actor operation go =
     runs_marked (states (suc t)) actor (operation_after (states t) operation) (marks_by (states t) (Some operation))
     (ap (λ (s : State). operation_of s actor) go.after ∙ go_own (states t) actor operation go.runs)
 
@@ -81,8 +82,9 @@ reads_next w t k s after (DecidesOn {out = Gives m} turn) i x e = let wrong : �
 -- ---- at each time
 
 -- of what an operation runs
-abbrev IsReadingSince : (ℕ → State) → ℕ → ℕ → Operation → Type 0
-IsReadingSince states t actor operation = (i : Ref) (x : ReadLine) → stage_of operation.line ≡ Reads i x → Reading states t actor operation.id operation.read_at i x
+abbrev IsReadingSince : (ℕ → State) → (ℕ → Record) → ℕ → ℕ → Operation → Type 0
+IsReadingSince states records t actor operation =
+    (i : Ref) (x : ReadLine) → stage_of operation.line ≡ Reads i x → Reading states t actor operation.id (moment_at (records t) actor).read_at i x
 
 -- what was read so far is so still where the READ counts from a later time
 counted : (began from t : ℕ) (before after : ReadLine) → began ≤ t → HasBegun began from before → HasBegun began (counts_at before t from) after
@@ -93,42 +95,43 @@ counted began from t (read.Abort m p offer) after past (later b) = later b
 counted began from t (read.Decide m p told) after past (later b) = later b
 counted began from t (read.Restore m p) after past (later b) = later past
 
-module _ (limits : Limits) (states : ℕ → State) (last : ℕ) (run : IsRun limits states last) where
+module _ (limits : Bounds) (states : ℕ → State) (last : ℕ) (run : IsRun limits states last) where
   abbrev known : Known limits states last
   known = known_run limits states last run
 
   abbrev w : Words
-  w = words_of states last known.closing
+  w = words_of states run.records last known.closing
 
   -- a step of an operation is a turn of the protocol
-  pub own_moves : (t : ℕ) (h : t < last) (actor : ℕ) (operation : Operation) → GoesAt states t actor operation →
-      Moves (words_of states last (known_run limits states last run).closing) t actor (stage_of operation.line) (stage_of (line_after (states t) operation operation.line))
+  pub own_moves : (t : ℕ) (h : t < last) (actor : ℕ) (operation : Operation) → GoesAt states run.records t actor operation →
+      Moves (words_of states run.records last (known_run limits states last run).closing) t actor (stage_of operation.line) (stage_of (line_after (states t) operation operation.line))
   own_moves t h actor operation go =
       line_turn limits states last known t h actor operation operation.line go.goes (record {
-        facts = line_facts limits states last known t h actor operation go.o go.moves go.runs go.after;
+        facts = line_facts limits states last known t h actor operation go.o go.moves go.runs go.noted;
         remembers = remembers_at limits states last known t (omega arith) actor operation go.runs;
       })
 
   -- whence its READ counts then
-  counts_to : (t : ℕ) → t ≤ last → (operation : Operation) (i : Ref) (x : ReadLine) → stage_of operation.line ≡ Reads i x →
-      read_at_after (states t) operation ≡ counts_at x t operation.read_at
-  counts_to t h operation i x is =
-      ap (λ n. counted_from (action_of (states t) operation) n operation.read_at) (steps_at limits states last run t h)
-      ∙ subst (λ s. CountsTo s t operation.read_at (counted_from (action_of (states t) operation) t operation.read_at)) is (line_counts (states t) operation operation.line t operation.read_at)
+  counts_to : (t : ℕ) → t < last → (actor : ℕ) (operation : Operation) → GoesAt states run.records t actor operation → (i : Ref) (x : ReadLine) → stage_of operation.line ≡ Reads i x →
+      (moment_at (run.records (suc t)) actor).read_at ≡ counts_at x t (moment_at (run.records t) actor).read_at
+  counts_to t h actor operation go i x is =
+      ap (λ (m : Moment). m.read_at)
+      (ap (λ r. moment_at r actor) go.noted ∙ moment_goes (states t) (run.records t) actor operation (alike limits states last run t (omega arith)) (go_actor (states t) actor (not_denied go.moves)))
+      ∙ counted_noted limits states last known t h actor operation go.o go.moves go.runs go.noted i x is
 
-  goes_reading : (t : ℕ) → t < last → (actor : ℕ) (operation : Operation) → GoesAt states t actor operation → IsReadingSince states t actor operation →
-      IsReadingSince states (suc t) actor (operation_after (states t) operation)
+  goes_reading : (t : ℕ) → t < last → (actor : ℕ) (operation : Operation) → GoesAt states run.records t actor operation → IsReadingSince states run.records t actor operation →
+      IsReadingSince states run.records (suc t) actor (operation_after (states t) operation)
   goes_reading t h actor operation go so_far i x is = by_next (reads_next w t actor (stage_of operation.line) _ (own_moves t h actor operation go) i x is)
     where
       own : RunsAfter (states (suc t)) actor (operation_after (states t) operation)
-      own = runs_after states t actor operation go
+      own = runs_after states run.records t actor operation go
 
-      by_next : ReadsNext (stage_of operation.line) i x → Reading states (suc t) actor operation.id (read_at_after (states t) operation) i x
+      by_next : ReadsNext (stage_of operation.line) i x → Reading states (suc t) actor operation.id (moment_at (run.records (suc t)) actor).read_at i x
       by_next (begins_now e) = record {
         began = suc t;
         past = omega arith;
         first = record { operation = own.operation; runs = own.runs; same = own.id; reads = ap stage_of own.line ∙ is ∙ ap (Reads i) e };
-        counts = subst (λ y. HasBegun (suc t) (read_at_after (states t) operation) y) (sym e) at_first;
+        counts = subst (λ y. HasBegun (suc t) (moment_at (run.records (suc t)) actor).read_at y) (sym e) at_first;
       }
       by_next (goes_on before at) =
           let r = so_far i before at in
@@ -136,43 +139,52 @@ module _ (limits : Limits) (states : ℕ → State) (last : ℕ) (run : IsRun li
             began = r.began;
             past = omega (arith, r.past);
             first = r.first;
-            counts = subst (λ n. HasBegun r.began n x) (sym (counts_to t (omega arith) operation i before at)) (counted r.began operation.read_at t before x r.past r.counts);
+            counts = subst (λ n. HasBegun r.began n x) (sym (counts_to t h actor operation go i before at)) (counted r.began (moment_at (run.records t) actor).read_at t before x r.past r.counts);
           }
 
-  pub reading_at : OfEachAt states last (λ t actor operation. (i : Ref) (x : ReadLine) → stage_of operation.line ≡ Reads i x → Reading states t actor operation.id operation.read_at i x)
+  pub reading_at : OfEachAt states last (λ t actor operation. (i : Ref) (x : ReadLine) → stage_of operation.line ≡ Reads i x →
+      Reading states t actor operation.id (moment_at (run.records t) actor).read_at i x)
   reading_at =
-      each_at (λ t actor operation. IsReadingSince states t actor operation) (λ t actor operation r. r) limits states last run
-      (λ t h actor call d i x is. let wrong : Rests ≡ Reads i x = sym (first_rests call) ∙ is in absurd (let bad : ⊥ = cc in bad))
-      goes_reading (λ t h actor operation runs so_far i x is. let r = so_far i x is in record { began = r.began; past = omega (arith, r.past); first = r.first; counts = r.counts })
+      each_with limits states last run (IsReadingSince states run.records) (λ t actor operation r. r)
+      (λ t h actor call d takes e i x is. let wrong : Rests ≡ Reads i x = sym (first_rests call) ∙ is in absurd (let bad : ⊥ = cc in bad))
+      (λ t h actor operation go takes all. goes_reading t h actor operation go (all actor operation go.runs))
+      (λ t h actor operation runs apart all i x is.
+      let r = all actor operation runs i x is in
+      record {
+        began = r.began;
+        past = omega (arith, r.past);
+        first = r.first;
+        counts = subst (λ n. HasBegun r.began n x) (sym (ap (λ (m : Moment). m.read_at) (moment_kept limits states last run t h actor apart))) r.counts;
+      })
 
   -- ---- what it gives
 
-  pub gave_now : (t : ℕ) → t < last → (actor : ℕ) (operation : Operation) → GoesAt states t actor operation → (i : Ref) (x : ReadLine) (m : Ref) → stage_of operation.line ≡ Reads i x →
-      read_after (states t).heap operation.access (word_at (states t) (handle_of operation.call)) i x ≡ Gives m → Gave states last (suc t) actor operation.id i m
+  pub gave_now : (t : ℕ) → t < last → (actor : ℕ) (operation : Operation) → GoesAt states run.records t actor operation → (i : Ref) (x : ReadLine) (m : Ref) → stage_of operation.line ≡ Reads i x →
+      read_after (states t).heap operation.access (word_at (states t) (handle_of operation.call)) i x ≡ Gives m → Gave states run.records last (suc t) actor operation.id i m
   gave_now t h actor operation go i x m is gives =
       let r = reading_at t (omega arith) actor operation go.runs i x is in
-      let moment : IsMoment w i m (read_at_after (states t) operation) (moment_after (states t) operation) t =
-      moment_at limits states last known t h actor operation go.o go.moves go.runs go.after i x is m gives in
-      let linked : is_indirection (node_under states (suc (moment_after (states t) operation)) i) ≡ true =
-      link_stays (protocol limits states last known) i (suc (read_at_after (states t) operation)) (suc (moment_after (states t) operation))
+      let f : Moment = found limits states last known t h actor operation go.o go.moves go.runs go.noted i x is in
+      let moment : IsMoment w i m f.read_at f.moment t = moment_noted limits states last known t h actor operation go.o go.moves go.runs go.noted i x is m gives in
+      let linked : is_indirection (node_under states (suc f.moment) i) ≡ true =
+      link_stays (protocol limits states last known) i (suc f.read_at) (suc f.moment)
       (omega (arith, moment.from)) (omega (arith, moment.past)) moment.link in
       record {
         began = r.began;
         first = r.first;
-        from = read_at_after (states t) operation;
-        counts = subst (λ n. r.began ≤ n) (sym (counts_to t (omega arith) operation i x is)) (from_first x gives r.past r.counts);
-        moment = moment_after (states t) operation;
+        from = f.read_at;
+        counts = subst (λ n. r.began ≤ n) (sym (counted_noted limits states last known t h actor operation go.o go.moves go.runs go.noted i x is)) (from_first x gives r.past r.counts);
+        moment = f.moment;
         at = t;
         past = omega arith;
         line = x;
         gave = record { operation = operation; runs = go.runs; same = refl; reads = is };
         gives = gives;
         is_moment = moment;
-        is = counting_main-made states last (suc (moment_after (states t) operation)) i (link_made (grown states (suc (moment_after (states t) operation)) i) linked) ∙ moment.is;
+        is = counting_main-made states last (suc f.moment) i (link_made (grown states (suc f.moment) i) linked) ∙ moment.is;
       }
     where
       from_first : {began : ℕ} (y : ReadLine) → read_after (states t).heap operation.access (word_at (states t) (handle_of operation.call)) i y ≡ Gives m → began ≤ t →
-          HasBegun began operation.read_at y → began ≤ counts_at y t operation.read_at
+          HasBegun began (moment_at (run.records t) actor).read_at y → began ≤ counts_at y t (moment_at (run.records t) actor).read_at
       from_first read.Main gives past b = past
       from_first (read.Prev q) gives past (later b) = b
       from_first (read.AskRoot q p) gives past (later b) = b

@@ -2,7 +2,7 @@
 use Rattle.std.proofs.Common.{◌≡◌, ℕ, suc, ◌<◌, true, None, Some}
 use Rattle.proof_shape.specs.Beneath.history.specs.declared.calls.Call.{Call}
 use Rattle.proof_shape.specs.Beneath.machine_model.specs.declared.operations.Operation.{Operation}
-use Rattle.proof_shape.specs.Beneath.machine_model.specs.declared.steps.Limits.{Limits}
+use Rattle.proof_shape.specs.Beneath.machine_model.specs.declared.steps.Bounds.{Bounds}
 use Rattle.proof_shape.specs.Beneath.machine_model.specs.States.{State, operation_of}
 use Rattle.proof_shape.specs.Beneath.machine_model.specs.Acting.{operation_after}
 use Rattle.proof_shape.specs.Beneath.machine_model.specs.Machine.{begin_denial}
@@ -12,10 +12,10 @@ use Rattle.proof_shape.specs.Lines.Knowing.{OfEachAt}
 pub use Rattle.proof_shape.proofs.Runs.Takers.{GoesAt}
 use Rattle.proof_shape.proofs.Runs.Takers.{each_with}
 
-module _ (P : ℕ → ℕ → Operation → Type 0) (with_mark : (t actor : ℕ) (operation : Operation) → P t actor operation → P t actor (record operation { is_marked = true })) (limits : Limits)
+module _ (P : ℕ → ℕ → Operation → Type 0) (with_mark : (t actor : ℕ) (operation : Operation) → P t actor operation → P t actor (record operation { is_marked = true })) (limits : Bounds)
     (states : ℕ → State) (last : ℕ) (run : IsRun limits states last)
     (begins : (t : ℕ) → t < last → (actor : ℕ) (call : Call) → begin_denial (states t) actor call ≡ None → P (suc t) actor (begun_operation (states t) call))
-    (goes : (t : ℕ) → t < last → (actor : ℕ) (operation : Operation) → GoesAt states t actor operation → P t actor operation → P (suc t) actor (operation_after (states t) operation))
+    (goes : (t : ℕ) → t < last → (actor : ℕ) (operation : Operation) → GoesAt states run.records t actor operation → P t actor operation → P (suc t) actor (operation_after (states t) operation))
     (stays : (t : ℕ) → t < last → (actor : ℕ) (operation : Operation) → operation_of (states t) actor ≡ Some operation → P t actor operation → P (suc t) actor operation) where
   pub each_at : OfEachAt states last P
   each_at =

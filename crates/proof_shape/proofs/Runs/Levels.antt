@@ -1,7 +1,7 @@
 -- Levels along a run: one function for all its times.
 use Rattle.std.proofs.Common.{◌≡◌, ℕ, zero, suc, ◌+◌, ◌≤◌, cond, List, [], ◌∷◌, Ok, refl, sym, ◌∙◌, ap, subst, arith}
 use Rattle.proof_shape.specs.Beneath.slot_arena.specs.declared.refs.Ref.{Ref}
-use Rattle.proof_shape.specs.Beneath.machine_model.specs.declared.steps.Limits.{Limits}
+use Rattle.proof_shape.specs.Beneath.machine_model.specs.declared.steps.Bounds.{Bounds}
 use Rattle.proof_shape.specs.Beneath.machine_model.specs.declared.steps.Outcome.{Outcome}
 use Rattle.proof_shape.specs.Beneath.machine_model.specs.declared.steps.Step.{Step}
 use Rattle.proof_shape.specs.Beneath.machine_model.specs.States.{State}
@@ -23,7 +23,7 @@ record Leads (states : ℕ → State) (t n : ℕ) : Type 0 where
   taken : taken_from (states t) steps ≡ steps
   at : (u : ℕ) → u ≤ n → states_from (states t) steps u ≡ states (t + u)
 
-module _ (limits : Limits) (states : ℕ → State) (last : ℕ) (run : IsRun limits states last) where
+module _ (limits : Bounds) (states : ℕ → State) (last : ℕ) (run : IsRun limits states last) where
   leads : (n t : ℕ) → t + n ≤ last → Leads states t n
   unfolding taken_from states_from
   leads zero t le = record { steps = []; taken = refl; at = λ u within. ap states (omega arith) }

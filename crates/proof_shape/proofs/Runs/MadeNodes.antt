@@ -10,7 +10,7 @@ use Rattle.proof_shape.specs.Beneath.slot_arena.specs.Heaps.{entries_of, main_at
 use Rattle.proof_shape.specs.Beneath.machine_model.specs.declared.actions.Action.{Action}
 use Rattle.proof_shape.specs.Beneath.machine_model.specs.declared.actions.Action.TheVariants as act
 use Rattle.proof_shape.specs.Beneath.machine_model.specs.declared.operations.Operation.{Operation}
-use Rattle.proof_shape.specs.Beneath.machine_model.specs.declared.steps.Limits.{Limits}
+use Rattle.proof_shape.specs.Beneath.machine_model.specs.declared.steps.Bounds.{Bounds}
 use Rattle.proof_shape.specs.Beneath.machine_model.specs.declared.steps.Step.TheVariants as step
 use Rattle.proof_shape.specs.Beneath.machine_model.specs.States.{State}
 use Rattle.proof_shape.specs.Beneath.machine_model.specs.Reading.{Verdict, Commits, Fails, Overtaken, verdict}
@@ -25,7 +25,7 @@ use Rattle.proof_shape.specs.Beneath.proof_memory.proofs.Safety.AtEachTime.{safe
 use Rattle.proof_shape.specs.Beneath.proof_memory.proofs.Safety.AtTimes.{action_at}
 use Rattle.proof_shape.specs.Beneath.proof_commits.proofs.Course.Finals.{from_time}
 use Rattle.proof_shape.specs.Beneath.proof_commits.proofs.Known.Given.{ActsOn, Either, Taken, GrownTakes, GrownStays, GrownChanges, GrownSwaps, Decided}
-use Rattle.proof_shape.specs.Beneath.proof_commits.proofs.Known.StepsAt.{StepAt, IsBegin, IsGo, IsEnd, IsSweep}
+use Rattle.proof_shape.specs.Beneath.proof_commits.proofs.Known.StepsAt.{NotedAt, NotesBegin, NotesGo, NotesEnd, NotesSweep}
 use Rattle.proof_shape.specs.Beneath.proof_contents.specs.Runs.{is_made}
 use Rattle.proof_shape.specs.Beneath.proof_contents.proofs.Values.Runs.{made_next}
 use Rattle.proof_shape.specs.Beneath.proof_contents.proofs.Values.Started.{node_stays, indirection_stays}
@@ -90,7 +90,7 @@ module _ (states : ℕ → State) (t : ℕ) where
   quiet_made (act.Look at) q x = stays_made x
   quiet_made (act.End answer) q x = stays_made x
 
-module _ (limits : Limits) (states : ℕ → State) (last : ℕ) (run : IsRun limits states last) where
+module _ (limits : Bounds) (states : ℕ → State) (last : ℕ) (run : IsRun limits states last) where
   -- what is new is what was drawn
   drawn : (t : ℕ) (node : Node) (o : Option Ref) → Taken states t node o → (m : Ref) → is_made states t m ≡ false → is_made states (suc t) m ≡ true → (o ≡ Some m) × GrownTakes states t m node
   drawn t node None x m before after = absurd (true≢false (sym after ∙ stays_made states t x m ∙ before))
@@ -117,7 +117,7 @@ module _ (limits : Limits) (states : ℕ → State) (last : ℕ) (run : IsRun li
       subst (λ n. Contains (entries_of n) r)
       (node_stays states last (nodes_stay limits states last run) (suc t) m _ h takes.here (λ g x bad. let wrong : Listed ss ≡ Indirection g x = bad in cc)) names
 
-  module _ (t : ℕ) (h : t < last) (actor : ℕ) (operation : Operation) (go : GoesAt states t actor operation) where
+  module _ (t : ℕ) (h : t < last) (actor : ℕ) (operation : Operation) (go : GoesAt states run.records t actor operation) where
     acts : (a : Action) → action_of (states t) operation ≡ a → ActsOn states t a
     acts a e = subst (λ x. ActsOn states t x) e ((known_run limits states last run).acts t h actor go.o go.moves operation go.runs)
 
@@ -140,19 +140,19 @@ module _ (limits : Limits) (states : ℕ → State) (last : ℕ) (run : IsRun li
   -- who makes it
   pub record MakesNew (t : ℕ) : Type 0 where
     pub operation : Operation
-    pub go : GoesAt states t (taker limits states last run t) operation
+    pub go : GoesAt states run.records t (taker limits states last run t) operation
 
   pub maker_of : (t : ℕ) → t < last → (m : Ref) → is_made states t m ≡ false → is_made states (suc t) m ≡ true → MakesNew t
   maker_of t h m before after = let x = step_taken limits states last run t h in by_step x.0 x.1
     where
-      by_step : (x : StepAt (states t) (states (suc t))) → taker limits states last run t ≡ taker_of x → MakesNew t
-      by_step (IsGo actor operation o moves is g e) takes =
-          record { operation = operation; go = subst (λ k. GoesAt states t k operation) (sym takes) (record { o = o; moves = moves; runs = is; goes = g; after = e }) }
-      by_step (IsBegin actor call o moves d e) takes =
+      by_step : (x : NotedAt (states t) (run.records t) (states (suc t)) (run.records (suc t))) → taker limits states last run t ≡ taker_of x → MakesNew t
+      by_step (NotesGo actor operation o moves d is g e n) takes =
+          record { operation = operation; go = subst (λ k. GoesAt states run.records t k operation) (sym takes) (record { o = o; moves = moves; runs = is; goes = g; after = e; noted = n }) }
+      by_step (NotesBegin actor call o moves d e n) takes =
           absurd (true≢false (sym after ∙ stays_made states t ((known_run limits states last run).stays t h (step.Begin actor call) o moves tt) m ∙ before))
-      by_step (IsEnd actor operation answer o moves is a e) takes =
+      by_step (NotesEnd actor operation answer o moves is a e n) takes =
           absurd (true≢false (sym after ∙ stays_made states t (subst (λ x. ActsOn states t x) a ((known_run limits states last run).acts t h actor o moves operation is)) m ∙ before))
-      by_step (IsSweep o moves e) takes =
+      by_step (NotesSweep o moves e n) takes =
           absurd (true≢false (sym after ∙ stays_made states t ((known_run limits states last run).stays t h step.Sweep o moves tt) m ∙ before))
 
   -- ---- what a node names was made before it
@@ -199,7 +199,7 @@ module _ (limits : Limits) (states : ℕ → State) (last : ℕ) (run : IsRun li
   new_made : (t : ℕ) (h : t < last) (m r : Ref) → is_made states t m ≡ false → is_made states (suc t) m ≡ true → Contains (entries_of (node_under states last m)) r → is_made states t r ≡ true
   new_made t h m r before after names = let x = maker_of t h m before after in by_action (taker limits states last run t) x.operation x.go (action_of (states t) x.operation) refl
     where
-      by_action : (k : ℕ) (operation : Operation) → GoesAt states t k operation → (a : Action) → action_of (states t) operation ≡ a → is_made states t r ≡ true
+      by_action : (k : ℕ) (operation : Operation) → GoesAt states run.records t k operation → (a : Action) → action_of (states t) operation ≡ a → is_made states t r ≡ true
       by_action k operation go (act.Make n) e =
           in_use_made t (omega arith) n (subst (λ a. AllHold (IsInUse (states t).heap) (states t).heap (action_wants a)) e (action_at limits states last run t (omega arith) k operation go.runs)).1 r
           (new_names t h k operation go n e m r before after names)

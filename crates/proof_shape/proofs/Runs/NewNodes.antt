@@ -31,7 +31,7 @@ use Rattle.proof_shape.specs.Beneath.machine_model.specs.declared.lines.Purpose.
 use Rattle.proof_shape.specs.Beneath.machine_model.specs.declared.repairs.Climb.{Climb}
 use Rattle.proof_shape.specs.Beneath.machine_model.specs.declared.roots.Complete.{Complete}
 use Rattle.proof_shape.specs.Beneath.machine_model.specs.declared.roots.RootLine.{RootLine}
-use Rattle.proof_shape.specs.Beneath.machine_model.specs.declared.steps.Limits.{Limits}
+use Rattle.proof_shape.specs.Beneath.machine_model.specs.declared.steps.Bounds.{Bounds}
 use Rattle.proof_shape.specs.Beneath.machine_model.specs.declared.walking.WalkLine.{WalkLine}
 use Rattle.proof_shape.specs.Beneath.machine_model.specs.Calls.{key_of, value_of}
 use Rattle.proof_shape.specs.Beneath.machine_model.specs.States.{State}
@@ -86,8 +86,8 @@ complete_quiet state operation c = grind arith
 climb_root_quiet : (state : State) (operation : Operation) (c : Climb) (l : RootLine) → is_making (line_action state operation (line.Climb (climb.Root c l))) ≡ false
 climb_root_quiet state operation c l = grind arith
 
-module _ (limits : Limits) (states : ℕ → State) (last : ℕ) (run : IsRun limits states last) (t : ℕ) (h : t < last) (actor : ℕ) (operation : Operation)
-    (go : GoesAt states t actor operation) (start : ℕ) where
+module _ (limits : Bounds) (states : ℕ → State) (last : ℕ) (run : IsRun limits states last) (t : ℕ) (h : t < last) (actor : ℕ) (operation : Operation)
+    (go : GoesAt states run.records t actor operation) (start : ℕ) where
   abbrev heap : Heap
   heap = (states t).heap
 
@@ -119,14 +119,14 @@ module _ (limits : Limits) (states : ℕ → State) (last : ℕ) (run : IsRun li
     no_root l e main a = absurd (root_names limits states last run t h actor operation go main (ap (line_action (states t) operation) e ∙ a) m r before after names)
 
     -- an entry of the main node before
-    by_main : (i main : Ref) → Given (words_of states last (known_run limits states last run).closing) t actor i main → (wanted : Wanted) →
+    by_main : (i main : Ref) → Given (words_of states run.records last (known_run limits states last run).closing) t actor i main → (wanted : Wanted) →
         ((n : Node) → meets wanted n ≡ true → meets AMain n ≡ true) →
         Holds (IsInUse heap) heap (Is main wanted) → Contains (entries_of (node_at heap main)) r → NamesWell r
     by_main i main given wanted also claim c =
         inl (named actor i main given (subst (λ n. Contains (entries_of n) r) (main_seen limits states last run t (omega arith) main wanted also claim) c))
 
     -- an entry that was done
-    by_done : (i main : Ref) → Given (words_of states last (known_run limits states last run).closing) t actor i main → (done : List Ref) →
+    by_done : (i main : Ref) → Given (words_of states run.records last (known_run limits states last run).closing) t actor i main → (done : List Ref) →
         AllCame limits states last run (IsHeld limits states last run t actor start) main done → Contains done r → NamesWell r
     by_done i main given done all (n, lt, at) = by_came (slice_index_or done n no_ref) (get_or_default done n no_ref r lt ∙ at) (all n lt)
       where

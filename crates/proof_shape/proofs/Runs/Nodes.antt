@@ -10,7 +10,7 @@ use Rattle.proof_shape.specs.Beneath.slot_arena.specs.declared.nodes.Slot.{Slot}
 use Rattle.proof_shape.specs.Beneath.slot_arena.specs.Heaps.{node_at, node_of, prev_of, main_of, next_ref, logical}
 use Rattle.proof_shape.specs.Beneath.machine_model.specs.declared.actions.Action.TheVariants as act
 use Rattle.proof_shape.specs.Beneath.machine_model.specs.declared.operations.Operation.{Operation}
-use Rattle.proof_shape.specs.Beneath.machine_model.specs.declared.steps.Limits.{Limits}
+use Rattle.proof_shape.specs.Beneath.machine_model.specs.declared.steps.Bounds.{Bounds}
 use Rattle.proof_shape.specs.Beneath.machine_model.specs.States.{State}
 use Rattle.proof_shape.specs.Beneath.machine_model.specs.Operations.{action_of}
 use Rattle.proof_shape.specs.Beneath.machine_model.specs.Grown.{grown, node_under, main_word, prev_word}
@@ -29,7 +29,7 @@ use Rattle.proof_shape.proofs.Runs.EachAt.{GoesAt}
 use Rattle.proof_shape.specs.Beneath.machine_model.proofs.Grown.{grown_in_use, node_standing}
 use Rattle.proof_generations.proofs.Falling.Nodes.{nodes_stay}
 
-module _ (limits : Limits) (states : ℕ → State) (last : ℕ) (run : IsRun limits states last) where
+module _ (limits : Bounds) (states : ℕ → State) (last : ℕ) (run : IsRun limits states last) where
   -- ---- what is looked at
 
   module _ (t : ℕ) (h : t ≤ last) (r : Ref) (used : IsInUse (states t).heap r) where
@@ -71,7 +71,7 @@ module _ (limits : Limits) (states : ℕ → State) (last : ℕ) (run : IsRun li
 
   -- ---- what is made
 
-  module _ (t : ℕ) (h : t < last) (actor : ℕ) (operation : Operation) (go : GoesAt states t actor operation) (node : Node) (a : action_of (states t) operation ≡ act.Make node)
+  module _ (t : ℕ) (h : t < last) (actor : ℕ) (operation : Operation) (go : GoesAt states run.records t actor operation) (node : Node) (a : action_of (states t) operation ≡ act.Make node)
       (made : Ref) (next : next_ref (states t).heap ≡ Some made) where
     pub takes : GrownTakes states t made node
     takes =

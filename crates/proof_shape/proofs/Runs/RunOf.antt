@@ -8,7 +8,7 @@ use Rattle.proof_shape.specs.Beneath.machine_model.specs.declared.actions.Action
 use Rattle.proof_shape.specs.Beneath.machine_model.specs.declared.actions.Action.TheVariants as act
 use Rattle.proof_shape.specs.Beneath.machine_model.specs.declared.lines.Line.TheVariants as line
 use Rattle.proof_shape.specs.Beneath.machine_model.specs.declared.operations.Operation.{Operation}
-use Rattle.proof_shape.specs.Beneath.machine_model.specs.declared.steps.Limits.{Limits}
+use Rattle.proof_shape.specs.Beneath.machine_model.specs.declared.steps.Bounds.{Bounds}
 use Rattle.proof_shape.specs.Beneath.machine_model.specs.declared.steps.Outcome.{Outcome}
 use Rattle.proof_shape.specs.Beneath.machine_model.specs.declared.steps.Outcome.TheVariants as outcome
 use Rattle.proof_shape.specs.Beneath.machine_model.specs.Operations.{kind_of}
@@ -53,16 +53,16 @@ comes_to state s o after (Sweeps spent) = ap (λ b. cond b (Err refuse.Spent) (s
 
 -- ---- each state of a run is that after a list of steps
 
-abbrev pub IsAfter : Limits → State → Type 0
+abbrev pub IsAfter : Bounds → State → Type 0
 IsAfter limits state = (steps : List Step) × (state ≡ run limits steps)
 
-after_turn : (limits : Limits) (before after : State) → IsAfter limits before → Turn before after → IsAfter limits after
+after_turn : (limits : Bounds) (before after : State) → IsAfter limits before → Turn before after → IsAfter limits after
 after_turn limits before after (steps, is) (turns s o m) = (
   steps ++ s ∷ [],
   sym (ap (state_after before) (comes_to before s o after m)) ∙ ap (λ x. next_state x s) is ∙ sym (run_push (first_state limits) steps s),
 )
 
-pub run_of : (limits : Limits) (states : ℕ → State) (last : ℕ) → IsRun limits states last → (t : ℕ) → t ≤ last → IsAfter limits (states t)
+pub run_of : (limits : Bounds) (states : ℕ → State) (last : ℕ) → IsRun limits states last → (t : ℕ) → t ≤ last → IsAfter limits (states t)
 unfolding run_from
 run_of limits states last r =
     along_run limits states last r (λ t. IsAfter limits (states t)) ([], r.first) (λ t h turn before. after_turn limits (states t) (states (suc t)) before turn)
@@ -75,7 +75,7 @@ pub record HasSites (state : State) : Type 0 where
   pub levels : HasLevels level state
   pub shapes : HasShapes level state
 
-pub sites_at : (limits : Limits) (states : ℕ → State) (last : ℕ) → IsRun limits states last → (t : ℕ) → t ≤ last → HasSites (states t)
+pub sites_at : (limits : Bounds) (states : ℕ → State) (last : ℕ) → IsRun limits states last → (t : ℕ) → t ≤ last → HasSites (states t)
 sites_at limits states last r t h =
     let (steps, is) = run_of limits states last r t h in
     let both = has_shapes limits r.limits_ok steps in
@@ -95,7 +95,7 @@ branch_shallow state sites path main place used is =
     by_node (Listed ss) e shape = absurd (true≢false (sym e))
 
 -- no operation comes to the impossible line
-pub never_impossible : (limits : Limits) (states : ℕ → State) (last : ℕ) → IsRun limits states last → (t : ℕ) → t ≤ last → (actor : ℕ) (operation : Operation) →
+pub never_impossible : (limits : Bounds) (states : ℕ → State) (last : ℕ) → IsRun limits states last → (t : ℕ) → t ≤ last → (actor : ℕ) (operation : Operation) →
     operation_of (states t) actor ≡ Some operation → operation.line ≡ line.Impossible → ⊥
 never_impossible limits states last r t h actor operation is =
     let (steps, same) = run_of limits states last r t h in

@@ -11,7 +11,7 @@ use Rattle.proof_shape.specs.Beneath.slot_arena.specs.declared.nodes.Node.TheVar
 use Rattle.proof_shape.specs.Beneath.slot_arena.specs.Heaps.{Heap, node_at}
 use Rattle.proof_shape.specs.Beneath.machine_model.specs.declared.actions.Action.TheVariants as act
 use Rattle.proof_shape.specs.Beneath.machine_model.specs.declared.operations.Operation.{Operation}
-use Rattle.proof_shape.specs.Beneath.machine_model.specs.declared.steps.Limits.{Limits}
+use Rattle.proof_shape.specs.Beneath.machine_model.specs.declared.steps.Bounds.{Bounds}
 use Rattle.proof_shape.specs.Beneath.machine_model.specs.Calls.{needs_writable}
 use Rattle.proof_shape.specs.Beneath.machine_model.specs.States.{State, operation_of}
 use Rattle.proof_shape.specs.Beneath.machine_model.specs.Operations.{action_of}
@@ -53,7 +53,7 @@ keyed_get (Close h) e n = absurd (true≢false (sym e))
 keyed_get (Entries h) e n = absurd (true≢false (sym e))
 keyed_get (Count h) e n = absurd (true≢false (sym e))
 
-module _ (limits : Limits) (states : ℕ → State) (last : ℕ) (run : IsRun limits states last) (t : ℕ) (h : t ≤ last) where
+module _ (limits : Bounds) (states : ℕ → State) (last : ℕ) (run : IsRun limits states last) (t : ℕ) (h : t ≤ last) where
   abbrev heap : Heap
   heap = (states t).heap
 

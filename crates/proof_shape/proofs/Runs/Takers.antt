@@ -1,10 +1,11 @@
 -- Who takes each step of a run, and what holds of each running operation, by what held of all of them before a step and by who takes it.
-use Rattle.std.proofs.Common.{◌≡◌, ℕ, zero, suc, ◌<◌, ◌≤◌, ◌⊎◌, ◌==◌, nat_lt, Bool, true, false, cond, Option, Some, None, inl, inr, refl, sym, ◌∙◌, ap, subst, arith, ltb-true, ltb-false}
+use Rattle.std.proofs.Common.{◌≡◌, ℕ, zero, suc, ◌<◌, ◌≤◌, ◌⊎◌, ◌==◌, nat_lt, Bool, true, false, cond}
+use Rattle.std.proofs.Common.{Option, Some, None, inl, inr, refl, sym, ◌∙◌, ap, subst, arith, ltb-true, ltb-false, slice_index_or}
 use Rattle.std.proofs.lemmas.Bool.{cases_eq}
 use Rattle.std.proofs.lemmas.Option.{none-some}
 use Rattle.proof_shape.specs.Beneath.history.specs.declared.calls.Call.{Call}
 use Rattle.proof_shape.specs.Beneath.machine_model.specs.declared.operations.Operation.{Operation}
-use Rattle.proof_shape.specs.Beneath.machine_model.specs.declared.steps.Limits.{Limits}
+use Rattle.proof_shape.specs.Beneath.machine_model.specs.declared.steps.Bounds.{Bounds}
 use Rattle.proof_shape.specs.Beneath.machine_model.specs.declared.steps.Outcome.{Outcome}
 use Rattle.proof_shape.specs.Beneath.machine_model.specs.declared.steps.Step.TheVariants as step
 use Rattle.proof_shape.specs.Beneath.machine_model.specs.Operations.{action_of}
@@ -17,42 +18,72 @@ use Rattle.proof_shape.specs.Beneath.machine_model.specs.Machine.{begin_denial, 
 use Rattle.proof_shape.specs.Beneath.machine_model.proofs.Actors.{marks_by, begin_counts}
 use Rattle.proof_shape.specs.Beneath.machine_model.specs.Times.{IsRun}
 use Rattle.proof_shape.specs.Beneath.proof_commits.proofs.Course.Finals.{from_time}
-use Rattle.proof_shape.specs.Beneath.proof_commits.proofs.Known.StepsAt.{StepAt, IsBegin, IsGo, IsEnd, IsSweep, step_at, after_mark, go_others, go_own, end_others, end_own}
+use Rattle.proof_shape.specs.Beneath.proof_commits.proofs.Known.StepsAt.{NotedAt, NotesBegin, NotesGo, NotesEnd, NotesSweep, noted_at, after_mark, go_others, go_own, end_others, end_own}
 use Rattle.proof_shape.specs.Beneath.proof_commits.proofs.Known.StepsAt.{begin_others, begin_own, actor_counts}
 use Rattle.proof_shape.specs.Beneath.proof_commits.proofs.Words.First.{idle_at_first}
 use Rattle.proof_shape.specs.Lines.Knowing.{OfEachAt}
+use Rattle.proof_shape.specs.Beneath.machine_model.specs.Records.{Record, noted_progress, moment_at, no_moment, with_moment, moment_after}
+use Rattle.proof_shape.specs.Beneath.machine_model.specs.Tellings.{progress_of}
+use Rattle.proof_shape.specs.Beneath.machine_model.specs.declared.records.Moment.{Moment}
+use Rattle.proof_shape.specs.Beneath.machine_model.proofs.Alike.{moment_others}
 
 -- step t is the actor's operation's own, and not its end
-pub record GoesAt (states : ℕ → State) (t actor : ℕ) (operation : Operation) : Type 0 where
+pub record GoesAt (states : ℕ → State) (records : ℕ → Record) (t actor : ℕ) (operation : Operation) : Type 0 where
   pub o : Outcome
   pub moves : Machine.Moves (states t) (step.Go actor) o (states (suc t))
   pub runs : operation_of (states t) actor ≡ Some operation
   pub goes : GoesOn (action_of (states t) operation)
   pub after : states (suc t) ≡ settled (states t) (gone (states t) actor operation)
+  pub noted : records (suc t) ≡ noted_progress (records t) (states t).steps actor (progress_of (states t) operation)
+
+-- what is known of READs is by the moments alone
+moment_in : (past now : Record) (k : ℕ) → past.moments ≡ now.moments → moment_at past k ≡ moment_at now k
+moment_in past now zero e = refl
+moment_in past now (suc n) e = ap (λ ms. slice_index_or ms n no_moment) e
 
 -- the actor that takes a step; 0 for the sweep
-abbrev pub taker_of : {before after : State} → StepAt before after → ℕ
-taker_of (IsBegin actor call o m d e) = actor
-taker_of (IsGo actor operation o m is g e) = actor
-taker_of (IsEnd actor operation answer o m is a e) = actor
-taker_of (IsSweep o m e) = 0
+abbrev pub taker_of : {before after : State} {past now : Record} → NotedAt before past after now → ℕ
+taker_of (NotesBegin actor call o m d e n) = actor
+taker_of (NotesGo actor operation o m d is g e n) = actor
+taker_of (NotesEnd actor operation answer o m is a e n) = actor
+taker_of (NotesSweep o m e n) = 0
 
-module _ (limits : Limits) (states : ℕ → State) (last : ℕ) (run : IsRun limits states last) where
+module _ (limits : Bounds) (states : ℕ → State) (last : ℕ) (run : IsRun limits states last) where
   taker_by : (t : ℕ) (b : Bool) → nat_lt t last ≡ b → ℕ
-  taker_by t true e = taker_of (step_at (states t) (states (suc t)) (run.turn t (ltb-true t last e)))
+  taker_by t true e = taker_of (noted_at (run.turn t (ltb-true t last e)) (run.recorded t (ltb-true t last e)))
   taker_by t false e = 0
 
   -- who takes step t
   pub taker : ℕ → ℕ
   taker t = taker_by t (nat_lt t last) refl
 
-  pub step_taken : (t : ℕ) → t < last → (x : StepAt (states t) (states (suc t))) × (taker t ≡ taker_of x)
+  pub step_taken : (t : ℕ) → t < last → (x : NotedAt (states t) (run.records t) (states (suc t)) (run.records (suc t))) × (taker t ≡ taker_of x)
   unfolding taker taker_by
   step_taken t h = by_test (nat_lt t last) refl
     where
-      by_test : (b : Bool) (e : nat_lt t last ≡ b) → (x : StepAt (states t) (states (suc t))) × (taker_by t b e ≡ taker_of x)
-      by_test true e = (step_at (states t) (states (suc t)) (run.turn t (ltb-true t last e)), refl)
+      by_test : (b : Bool) (e : nat_lt t last ≡ b) → (x : NotedAt (states t) (run.records t) (states (suc t)) (run.records (suc t))) × (taker_by t b e ≡ taker_of x)
+      by_test true e = (noted_at (run.turn t (ltb-true t last e)) (run.recorded t (ltb-true t last e)), refl)
       by_test false e = let late : last ≤ t = ltb-false t last e in absurd (omega arith)
+
+  -- what is known of another's READs is left
+  pub moment_kept : (t : ℕ) → t < last → (k : ℕ) → (taker t ≡ k → ⊥) → moment_at (run.records (suc t)) k ≡ moment_at (run.records t) k
+  moment_kept t h k apart = by_step (step_taken t h).0 (step_taken t h).1
+    where
+      written : (actor : ℕ) (m : Moment) → 0 < actor → taker t ≡ actor → (run.records (suc t)).moments ≡ with_moment (run.records t) actor m →
+          moment_at (run.records (suc t)) k ≡ moment_at (run.records t) k
+      written actor m pos takes e =
+          moment_in (run.records (suc t)) (record (run.records t) { moments = with_moment (run.records t) actor m }) k e
+          ∙ moment_others (run.records t) actor k m pos (λ same. apart (takes ∙ sym same))
+
+      by_step : (x : NotedAt (states t) (run.records t) (states (suc t)) (run.records (suc t))) → taker t ≡ taker_of x →
+          moment_at (run.records (suc t)) k ≡ moment_at (run.records t) k
+      by_step (NotesBegin actor call o m d e n) takes = written actor no_moment (begin_counts (states t) actor call d) takes (ap (λ (r : Record). r.moments) n)
+      by_step (NotesGo actor operation o m d is g e n) takes =
+          written actor (moment_after (run.records t) (states t).steps (progress_of (states t) operation) (moment_at (run.records t) actor))
+          (actor_counts (states t) actor operation is) takes (ap (λ (r : Record). r.moments) n)
+      by_step (NotesEnd actor operation answer o m is a e n) takes =
+          moment_in (run.records (suc t)) (run.records t) k (ap (λ (r : Record). r.moments) n)
+      by_step (NotesSweep o m e n) takes = ap (λ r. moment_at r k) n
 
   module _ (P : ℕ → ℕ → Operation → Type 0) (with_mark : (t actor : ℕ) (operation : Operation) → P t actor operation → P t actor (record operation { is_marked = true })) where
     -- of each running operation before step t
@@ -61,7 +92,8 @@ module _ (limits : Limits) (states : ℕ → State) (last : ℕ) (run : IsRun li
 
     module _ (begins : (t : ℕ) → t < last → (actor : ℕ) (call : Call) → begin_denial (states t) actor call ≡ None → taker t ≡ actor →
         states (suc t) ≡ settled (states t) (with_begin (states t) actor call (begun_operation (states t) call)) → P (suc t) actor (begun_operation (states t) call))
-        (goes : (t : ℕ) → t < last → (actor : ℕ) (operation : Operation) → GoesAt states t actor operation → taker t ≡ actor → AllAt t → P (suc t) actor (operation_after (states t) operation))
+        (goes : (t : ℕ) → t < last → (actor : ℕ) (operation : Operation) → GoesAt states run.records t actor operation → taker t ≡ actor → AllAt t →
+        P (suc t) actor (operation_after (states t) operation))
         (stays : (t : ℕ) → t < last → (actor : ℕ) (operation : Operation) → operation_of (states t) actor ≡ Some operation → (taker t ≡ actor → ⊥) → AllAt t → P (suc t) actor operation) where
       mark_by : (t k : ℕ) (x : Option Operation) → ((operation : Operation) → x ≡ Some operation → P t k operation) → (m : Option ℕ) (found : Operation) → after_mark m x ≡ Some found → P t k found
       mark_by t k x all None found e = all found e
@@ -76,8 +108,8 @@ module _ (limits : Limits) (states : ℕ → State) (last : ℕ) (run : IsRun li
           (found : Operation) → operation_of (states (suc t)) k ≡ Some found → P (suc t) k found
       others t h so_far m k apart e found is = mark_by (suc t) k (operation_of (states t) k) (λ operation at. stays t h k operation at apart so_far) m found (sym e ∙ is)
 
-      each_next : (t : ℕ) → t < last → AllAt t → (x : StepAt (states t) (states (suc t))) → taker t ≡ taker_of x → AllAt (suc t)
-      each_next t h so_far (IsBegin actor call o m d e) takes k found is = by_actor (cases_eq k actor)
+      each_next : (t : ℕ) → t < last → AllAt t → (x : NotedAt (states t) (run.records t) (states (suc t)) (run.records (suc t))) → taker t ≡ taker_of x → AllAt (suc t)
+      each_next t h so_far (NotesBegin actor call o m d e n) takes k found is = by_actor (cases_eq k actor)
         where
           own : (operation_of (states (suc t)) actor ≡ None) ⊎ (operation_of (states (suc t)) actor ≡ Some (begun_operation (states t) call))
           own = subst (λ (s : State). (operation_of s actor ≡ None) ⊎ (operation_of s actor ≡ Some (begun_operation (states t) call))) (sym e)
@@ -95,7 +127,7 @@ module _ (limits : Limits) (states : ℕ → State) (last : ℕ) (run : IsRun li
           by_actor (inr apart) =
               others t h so_far None k (λ it. apart (sym (sym takes ∙ it)))
               (ap (λ (s : State). operation_of s k) e ∙ begin_others (states t) actor call (begun_operation (states t) call) (begin_counts (states t) actor call d) k apart) found is
-      each_next t h so_far (IsGo actor operation o m runs g e) takes k found is = by_actor (cases_eq k actor)
+      each_next t h so_far (NotesGo actor operation o m d runs g e n) takes k found is = by_actor (cases_eq k actor)
         where
           marks : Option ℕ
           marks = marks_by (states t) (Some operation)
@@ -104,7 +136,7 @@ module _ (limits : Limits) (states : ℕ → State) (last : ℕ) (run : IsRun li
           own = ap (λ (s : State). operation_of s actor) e ∙ go_own (states t) actor operation runs
 
           gone : P (suc t) actor (operation_after (states t) operation)
-          gone = goes t h actor operation (record { o = o; moves = m; runs = runs; goes = g; after = e }) takes so_far
+          gone = goes t h actor operation (record { o = o; moves = m; runs = runs; goes = g; after = e; noted = n }) takes so_far
 
           by_actor : (k ≡ actor) ⊎ (k ≡ actor → ⊥) → P (suc t) k found
           by_actor (inl same) =
@@ -115,7 +147,7 @@ module _ (limits : Limits) (states : ℕ → State) (last : ℕ) (run : IsRun li
           by_actor (inr apart) =
               others t h so_far marks k (λ it. apart (sym (sym takes ∙ it)))
               (ap (λ (s : State). operation_of s k) e ∙ go_others (states t) actor operation (actor_counts (states t) actor operation runs) k apart) found is
-      each_next t h so_far (IsEnd actor operation answer o m runs a e) takes k found is = by_actor (cases_eq k actor)
+      each_next t h so_far (NotesEnd actor operation answer o m runs a e n) takes k found is = by_actor (cases_eq k actor)
         where
           by_actor : (k ≡ actor) ⊎ (k ≡ actor → ⊥) → P (suc t) k found
           by_actor (inl same) =
@@ -123,7 +155,7 @@ module _ (limits : Limits) (states : ℕ → State) (last : ℕ) (run : IsRun li
           by_actor (inr apart) =
               others t h so_far None k (λ it. apart (sym (sym takes ∙ it)))
               (ap (λ (s : State). operation_of s k) e ∙ end_others (states t) actor operation answer (actor_counts (states t) actor operation runs) k apart) found is
-      each_next t h so_far (IsSweep o m e) takes k found is =
+      each_next t h so_far (NotesSweep o m e n) takes k found is =
           others t h so_far None k (λ it. not_zero (sym it ∙ takes) is) (ap (λ (s : State). operation_of s k) e) found is
         where
           not_zero : k ≡ 0 → operation_of (states (suc t)) k ≡ Some found → ⊥

@@ -8,7 +8,7 @@ use Rattle.proof_shape.specs.Beneath.slot_arena.specs.declared.nodes.Node.{Node}
 use Rattle.proof_shape.specs.Beneath.slot_arena.specs.declared.nodes.Node.TheVariants.{Indirection, Branch, Single, Tomb, List as Listed}
 use Rattle.proof_shape.specs.Beneath.slot_arena.specs.Heaps.{node_of, entries_of, no_ref}
 use Rattle.proof_shape.specs.Beneath.machine_model.specs.declared.roots.Root.{Root}
-use Rattle.proof_shape.specs.Beneath.machine_model.specs.declared.steps.Limits.{Limits}
+use Rattle.proof_shape.specs.Beneath.machine_model.specs.declared.steps.Bounds.{Bounds}
 use Rattle.proof_shape.specs.Beneath.machine_model.specs.declared.steps.Step.{Step}
 use Rattle.proof_shape.specs.Beneath.machine_model.specs.States.{State, root_of}
 use Rattle.proof_shape.specs.Beneath.machine_model.specs.States.{root_at as handle_at, word_of}
@@ -68,7 +68,7 @@ pub reaches_in_use : (state : State) → IsSafe state → ReachesInUse state
 reaches_in_use state I r (from_root handle q within) = in_root state I handle q within
 reaches_in_use state I r (from_slot p q reached within) = in_any_slot state I p q within
 
-module _ (limits : Limits) (states : ℕ → State) (steps : ℕ → Step) (last : ℕ) (run : IsRun limits states last) (takes : TakesSteps states steps last) (keys : StepsFit steps last)
+module _ (limits : Bounds) (states : ℕ → State) (steps : ℕ → Step) (last : ℕ) (run : IsRun limits states last) (takes : TakesSteps states steps last) (keys : StepsFit steps last)
     (handle : ℕ) (root : Root) (at : handle_at (states last) handle ≡ Some root) where
   abbrev pub s : Sites
   s = sites_of states steps last

@@ -8,7 +8,7 @@ use Rattle.proof_shape.specs.Beneath.slot_arena.specs.declared.nodes.Node.{Node}
 use Rattle.proof_shape.specs.Beneath.slot_arena.specs.declared.nodes.Node.TheVariants.{Indirection, Branch, Single, Tomb, List as Listed}
 use Rattle.proof_shape.specs.Beneath.slot_arena.specs.Heaps.{Heap, entries_of, logical_main, no_ref, node_at}
 use Rattle.proof_shape.specs.Beneath.machine_model.specs.declared.roots.Root.{Root}
-use Rattle.proof_shape.specs.Beneath.machine_model.specs.declared.steps.Limits.{Limits}
+use Rattle.proof_shape.specs.Beneath.machine_model.specs.declared.steps.Bounds.{Bounds}
 use Rattle.proof_shape.specs.Beneath.machine_model.specs.declared.steps.Step.{Step}
 use Rattle.proof_shape.specs.Beneath.machine_model.specs.Counting.{refs_of_root}
 use Rattle.proof_shape.specs.Beneath.machine_model.specs.Contents.{IsReached, content_at, from_root, most_levels, pairs_below}
@@ -72,7 +72,7 @@ stands_there (None ∷ places) (suc x) e at = stands_there places x e at
 stands_there (Some first ∷ places) zero e at = (0, omega arith, same_Some first e at)
 stands_there (Some first ∷ places) (suc x) e at = let (k, within, here) = stands_there places x e at in (suc k, omega (arith, within), here)
 
-module _ (limits : Limits) (states : ℕ → State) (steps : ℕ → Step) (last : ℕ) (run : IsRun limits states last) (takes : TakesSteps states steps last) (keys : StepsFit steps last)
+module _ (limits : Bounds) (states : ℕ → State) (steps : ℕ → Step) (last : ℕ) (run : IsRun limits states last) (takes : TakesSteps states steps last) (keys : StepsFit steps last)
     (handle : ℕ) (root : Root) (at : handle_at (states last) handle ≡ Some root) where
   abbrev heap : Heap
   heap = (states last).heap

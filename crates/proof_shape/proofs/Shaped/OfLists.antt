@@ -17,10 +17,10 @@ use Rattle.proof_shape.specs.Beneath.proof_contents.specs.Nodes.Lists.{AreSingle
 use Rattle.proof_shape.specs.Beneath.proof_contents.specs.Nodes.Looking.{Has, look_at, look_among, or_else}
 use Rattle.proof_shape.specs.Beneath.proof_contents.proofs.Nodes.Branches.{before, standing_at}
 use Rattle.proof_shape.specs.Beneath.proof_contents.proofs.Nodes.Tombs.{before-lt}
-use Rattle.proof_shape.specs.Beneath.machine_model.specs.declared.steps.Limits.{Limits}
+use Rattle.proof_shape.specs.Beneath.machine_model.specs.declared.steps.Bounds.{Bounds}
 use Rattle.proof_shape.specs.Beneath.machine_model.specs.declared.steps.Step.{Step}
 use Rattle.proof_shape.specs.Beneath.machine_model.specs.States.{State, root_at, root_of}
-use Rattle.proof_shape.specs.Beneath.machine_model.specs.Machine.{AreLimits, run}
+use Rattle.proof_shape.specs.Beneath.machine_model.specs.Machine.{AreBounds, run}
 use Rattle.proof_shape.specs.Beneath.machine_model.specs.Contents.{content_at, pairs_below, most_levels}
 use Rattle.proof_shape.specs.Beneath.machine_model.proofs.Times.{run_is, run_ends}
 use Rattle.proof_shape.specs.Beneath.machine_model.specs.Times.{states_of, last_of}
@@ -47,7 +47,7 @@ use Rattle.proof_shape.proofs.Full.Made.{FullNode}
 use Rattle.proof_shape.proofs.Full.Runs.{full_grown}
 use Rattle.proof_shape.specs.Beneath.machine_model.proofs.Grown.{node_standing, grown_in_use}
 
-module _ (limits : Limits) (ok : AreLimits limits) (steps : List Step) (fit : KeysFit steps) where
+module _ (limits : Bounds) (ok : AreBounds limits) (steps : List Step) (fit : KeysFit steps) where
   abbrev s : Sites
   s = sites_of (states_of limits steps) (steps_of limits steps) (last_of limits steps)
 

@@ -14,7 +14,7 @@ use Rattle.proof_shape.specs.Beneath.proof_contents.specs.Nodes.Lists.{AreSingle
 use Rattle.proof_shape.specs.Beneath.proof_contents.specs.Nodes.Branches.{at_place}
 use Rattle.proof_shape.specs.Beneath.proof_contents.proofs.Nodes.Branches.{before, standing_at}
 use Rattle.proof_shape.specs.Beneath.proof_contents.proofs.Nodes.Tombs.{before-lt}
-use Rattle.proof_shape.specs.Beneath.machine_model.specs.declared.steps.Limits.{Limits}
+use Rattle.proof_shape.specs.Beneath.machine_model.specs.declared.steps.Bounds.{Bounds}
 use Rattle.proof_shape.specs.Beneath.machine_model.specs.declared.steps.Step.{Step}
 use Rattle.proof_shape.specs.Beneath.machine_model.specs.States.{State}
 use Rattle.proof_shape.specs.Beneath.machine_model.specs.Times.{IsRun}
@@ -43,7 +43,7 @@ use Rattle.proof_shape.proofs.Sites.Roots.{level_of_root}
 use Rattle.proof_shape.proofs.Sites.Grown.{link_same, counts, made_shaped}
 
 -- the trie of a run, where nodes are shown so
-abbrev Shown : Limits → (ℕ → State) → (ℕ → Step) → ℕ → (Node → Node) → Trie
+abbrev Shown : Bounds → (ℕ → State) → (ℕ → Step) → ℕ → (Node → Node) → Trie
 Shown limits states steps last shown = record (trie_of_run limits states steps last) { node = λ r. shown (node_under states last r) }
 
 abbrev IsNewer : Trie → Type 0
@@ -51,7 +51,7 @@ IsNewer trie =
     (t : ℕ) → t ≤ trie.last → (i child : Ref) (h : ℕ) (word : Ref) → Contains (entries_of (node_in trie t i)) child → trie.node child ≡ Indirection h word → generation trie child ≤ generation trie i
 
 -- whether generations of indirections are shown or not
-module _ (limits : Limits) (states : ℕ → State) (steps : ℕ → Step) (last : ℕ) (run : IsRun limits states last) (takes : TakesSteps states steps last) (keys : StepsFit steps last)
+module _ (limits : Bounds) (states : ℕ → State) (steps : ℕ → Step) (last : ℕ) (run : IsRun limits states last) (takes : TakesSteps states steps last) (keys : StepsFit steps last)
     (shown : Node → Node) (tells : (n : Node) → bare (shown n) ≡ bare n) (newer : IsNewer (Shown limits states steps last shown)) where
   abbrev s : Sites
   s = sites_of states steps last

@@ -9,7 +9,7 @@ use Rattle.proof_shape.specs.Beneath.slot_arena.specs.Heaps.{no_ref}
 use Rattle.proof_shape.specs.Beneath.nodes.specs.Levels.{list_depth}
 use Rattle.proof_shape.specs.Beneath.machine_model.specs.declared.lines.Purpose.TheVariants as purpose
 use Rattle.proof_shape.specs.Beneath.machine_model.specs.declared.operations.Operation.{Operation}
-use Rattle.proof_shape.specs.Beneath.machine_model.specs.declared.steps.Limits.{Limits}
+use Rattle.proof_shape.specs.Beneath.machine_model.specs.declared.steps.Bounds.{Bounds}
 use Rattle.proof_shape.specs.Beneath.machine_model.specs.declared.steps.Step.{Step}
 use Rattle.proof_shape.specs.Beneath.machine_model.specs.Calls.{key_of}
 use Rattle.proof_shape.specs.Beneath.machine_model.specs.Paths.{depth_of}
@@ -36,7 +36,7 @@ pub link_high : (deep level : ℕ) (n : Node) → is_indirection n ≡ true → 
 link_high deep level (Indirection g w) e h = h
 link_high deep level n e h = absurd (false≢true e)
 
-module _ (limits : Limits) (states : ℕ → State) (steps : ℕ → Step) (last : ℕ) (run : IsRun limits states last) (takes : TakesSteps states steps last) (keys : StepsFit steps last) where
+module _ (limits : Bounds) (states : ℕ → State) (steps : ℕ → Step) (last : ℕ) (run : IsRun limits states last) (takes : TakesSteps states steps last) (keys : StepsFit steps last) where
   abbrev s : Sites
   s = sites_of states steps last
 
@@ -77,7 +77,7 @@ module _ (limits : Limits) (states : ℕ → State) (steps : ℕ → Step) (last
     high =
         let shape = (levels_there limits states steps last run takes t h).1.nodes i its.0.0 its.0.1 in
         let same = limits_at limits states last run t h in
-        let low = link_high (list_depth limits.hash) (s.level i) its.0.0.node node_is (subst (λ (l : Limits). ShapeAt (list_depth l.hash) (s.level i) its.0.0.node) same shape) in
+        let low = link_high (list_depth limits.hash) (s.level i) its.0.0.node node_is (subst (λ (l : Bounds). ShapeAt (list_depth l.hash) (s.level i) its.0.0.node) same shape) in
         omega (arith, low, list_depth-le limits.hash)
 
     way_depth : depth_of_run states steps last i ≡ d

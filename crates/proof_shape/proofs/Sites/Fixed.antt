@@ -7,7 +7,7 @@ use Rattle.proof_shape.specs.Beneath.machine_model.specs.declared.lines.Line.{Li
 use Rattle.proof_shape.specs.Beneath.machine_model.specs.declared.lines.Line.TheVariants as line
 use Rattle.proof_shape.specs.Beneath.machine_model.specs.declared.operations.Operation.{Operation}
 use Rattle.proof_shape.specs.Beneath.machine_model.specs.declared.repairs.RenewLine.TheVariants as renew
-use Rattle.proof_shape.specs.Beneath.machine_model.specs.declared.steps.Limits.{Limits}
+use Rattle.proof_shape.specs.Beneath.machine_model.specs.declared.steps.Bounds.{Bounds}
 use Rattle.proof_shape.specs.Beneath.machine_model.specs.declared.steps.Step.{Step}
 use Rattle.proof_shape.specs.Beneath.machine_model.specs.declared.steps.Step.TheVariants as step
 use Rattle.proof_shape.specs.Beneath.machine_model.specs.States.{State, first_state, operation_of}
@@ -44,7 +44,7 @@ taken-append state (x ∷ xs) ys = by_test (is_taken_step (next state x)) (taken
     by_test true e = ap (λ zs. x ∷ zs) e
     by_test false e = e
 
-pub states_of-append : (limits : Limits) (xs ys : List Step) (t : ℕ) → t ≤ last_of limits xs → states_of limits (xs ++ ys) t ≡ states_of limits xs t
+pub states_of-append : (limits : Bounds) (xs ys : List Step) (t : ℕ) → t ≤ last_of limits xs → states_of limits (xs ++ ys) t ≡ states_of limits xs t
 states_of-append limits xs ys t h =
     ap (λ l. states_from (first_state limits) l t) (taken-append (first_state limits) xs ys)
     ∙ states_from-append (first_state limits) (taken_steps limits xs) (taken_from (run limits xs) ys) t h
@@ -101,7 +101,7 @@ taken_fit state (s ∷ steps) fit = by_test (is_taken_step (next state s)) (take
     by_test true rest = All-cons FitsKey s (taken_from (next_state state s) steps) (All-head FitsKey s steps fit) rest
     by_test false rest = rest
 
-pub keys_fit : (limits : Limits) (steps : List Step) → KeysFit steps → StepsFit (steps_of limits steps) (last_of limits steps)
+pub keys_fit : (limits : Bounds) (steps : List Step) → KeysFit steps → StepsFit (steps_of limits steps) (last_of limits steps)
 keys_fit limits steps fit t h = taken_fit (first_state limits) steps fit t step.Sweep h
 
 -- ---- the law

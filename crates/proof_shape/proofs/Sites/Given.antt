@@ -9,7 +9,7 @@ use Rattle.proof_shape.specs.Beneath.slot_arena.specs.declared.nodes.Node.{Node}
 use Rattle.proof_shape.specs.Beneath.slot_arena.specs.declared.nodes.Slot.{Slot}
 use Rattle.proof_shape.specs.Beneath.slot_arena.specs.Heaps.{next_ref}
 use Rattle.proof_shape.specs.Beneath.nodes.specs.Levels.{list_depth}
-use Rattle.proof_shape.specs.Beneath.machine_model.specs.declared.steps.Limits.{Limits}
+use Rattle.proof_shape.specs.Beneath.machine_model.specs.declared.steps.Bounds.{Bounds}
 use Rattle.proof_shape.specs.Beneath.machine_model.specs.declared.steps.Outcome.{Outcome}
 use Rattle.proof_shape.specs.Beneath.machine_model.specs.declared.steps.Step.{Step}
 use Rattle.proof_shape.specs.Beneath.machine_model.specs.declared.steps.Step.TheVariants as step
@@ -63,7 +63,7 @@ made_stands state I s o after (Ends {actor} {operation} d is a) r e =
     absurd (none-some r (sym (ap (λ x. if_made x (next_ref state.heap)) (ap (made_node state) a)) ∙ sym (ap (made_by state) is) ∙ e))
 made_stands state I s o after (Sweeps spent) r e = absurd (none-some r e)
 
-module _ (limits : Limits) (states : ℕ → State) (steps : ℕ → Step) (last : ℕ) (run : IsRun limits states last) (takes : TakesSteps states steps last) where
+module _ (limits : Bounds) (states : ℕ → State) (steps : ℕ → Step) (last : ℕ) (run : IsRun limits states last) (takes : TakesSteps states steps last) where
   -- ---- what is made keeps what it was given
 
   made_grows : (t : ℕ) → t < last → (r : Ref) → made_now (states t) (steps t) ≡ Some r → (slot : Slot) × (grown states (suc t) r ≡ Some slot)

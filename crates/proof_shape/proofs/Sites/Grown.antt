@@ -9,7 +9,7 @@ use Rattle.proof_shape.specs.Beneath.slot_arena.specs.declared.nodes.Prev.TheVar
 use Rattle.proof_shape.specs.Beneath.slot_arena.specs.declared.nodes.Slot.{Slot}
 use Rattle.proof_shape.specs.Beneath.slot_arena.specs.Heaps.{node_of, main_of, prev_of, logical}
 use Rattle.proof_shape.specs.Beneath.nodes.specs.Levels.{list_depth}
-use Rattle.proof_shape.specs.Beneath.machine_model.specs.declared.steps.Limits.{Limits}
+use Rattle.proof_shape.specs.Beneath.machine_model.specs.declared.steps.Bounds.{Bounds}
 use Rattle.proof_shape.specs.Beneath.machine_model.specs.declared.steps.Step.{Step}
 use Rattle.proof_shape.specs.Beneath.machine_model.specs.States.{State}
 use Rattle.proof_shape.specs.Beneath.machine_model.specs.Times.{IsRun}
@@ -53,7 +53,7 @@ main_no_link (Single k v) e g w is = false≢true e
 main_no_link (Tomb t) e g w is = let bad : Tomb t ≡ Indirection g w = is in cc
 main_no_link (Listed ss) e g w is = let bad : Listed ss ≡ Indirection g w = is in cc
 
-module _ (limits : Limits) (states : ℕ → State) (steps : ℕ → Step) (last : ℕ) (run : IsRun limits states last) (takes : TakesSteps states steps last) (keys : StepsFit steps last) where
+module _ (limits : Bounds) (states : ℕ → State) (steps : ℕ → Step) (last : ℕ) (run : IsRun limits states last) (takes : TakesSteps states steps last) (keys : StepsFit steps last) where
   abbrev s : Sites
   s = sites_of states steps last
 
@@ -104,7 +104,7 @@ module _ (limits : Limits) (states : ℕ → State) (steps : ℕ → Step) (last
         inside = site.0;
         before = site.1;
         levels = (levels_there limits states steps last run takes t h).0.nodes r slot found;
-        shape = subst (λ (l : Limits). ShapeAt (list_depth l.hash) (s.level r) slot.node) (limits_at limits states last run t h)
+        shape = subst (λ (l : Bounds). ShapeAt (list_depth l.hash) (s.level r) slot.node) (limits_at limits states last run t h)
             ((levels_there limits states steps last run takes t h).1.nodes r slot found);
         word = word_made t slot.node (first_hold (IsInUse (states t).heap) (states t).heap (node_wants slot.node) (prev_wants slot.prev) claims);
         over = prev_made t slot.prev (last_hold (IsInUse (states t).heap) (states t).heap (node_wants slot.node) (prev_wants slot.prev) claims);

@@ -6,7 +6,7 @@ use Rattle.proof_shape.specs.Beneath.slot_arena.specs.Heaps.{Heap, generation_at
 use Rattle.proof_shape.specs.Beneath.machine_model.specs.declared.roots.Root.{Root}
 use Rattle.proof_shape.specs.Beneath.machine_model.specs.declared.roots.RootWord.{RootWord}
 use Rattle.proof_shape.specs.Beneath.machine_model.specs.declared.roots.RootWord.TheVariants.{Plain, Offer}
-use Rattle.proof_shape.specs.Beneath.machine_model.specs.declared.steps.Limits.{Limits}
+use Rattle.proof_shape.specs.Beneath.machine_model.specs.declared.steps.Bounds.{Bounds}
 use Rattle.proof_shape.specs.Beneath.machine_model.specs.declared.steps.Step.{Step}
 use Rattle.proof_shape.specs.Beneath.machine_model.specs.States.{State, root_of}
 use Rattle.proof_shape.specs.Beneath.machine_model.specs.Times.{IsRun}
@@ -30,7 +30,7 @@ pub word_root : (lv : Ref → ℕ) (word : RootWord) → WordLevel lv word → l
 word_root lv (Plain r) w = w
 word_root lv (Offer offer) w = w.0
 
-module _ (limits : Limits) (states : ℕ → State) (steps : ℕ → Step) (last : ℕ) (run : IsRun limits states last) (takes : TakesSteps states steps last) where
+module _ (limits : Bounds) (states : ℕ → State) (steps : ℕ → Step) (last : ℕ) (run : IsRun limits states last) (takes : TakesSteps states steps last) where
   abbrev s : Sites
   s = sites_of states steps last
 

@@ -9,7 +9,7 @@ use Rattle.proof_shape.specs.Beneath.machine_model.specs.declared.operations.Ope
 use Rattle.proof_shape.specs.Beneath.machine_model.specs.declared.repairs.RenewLine.TheVariants as renew
 use Rattle.proof_shape.specs.Beneath.machine_model.specs.declared.lines.Line.{Line}
 use Rattle.proof_shape.specs.Beneath.machine_model.specs.declared.lines.Line.TheVariants as line
-use Rattle.proof_shape.specs.Beneath.machine_model.specs.declared.steps.Limits.{Limits}
+use Rattle.proof_shape.specs.Beneath.machine_model.specs.declared.steps.Bounds.{Bounds}
 use Rattle.proof_shape.specs.Beneath.machine_model.specs.declared.steps.Step.{Step}
 use Rattle.proof_shape.specs.Beneath.machine_model.specs.States.{State, first_state}
 use Rattle.proof_shape.specs.Beneath.machine_model.specs.Machine.{is_number}
@@ -59,7 +59,7 @@ paths_fit states steps (suc t) i =
     both true p q l m x y = x
     both false p q l m x y = y
 
-module _ (limits : Limits) (states : ℕ → State) (steps : ℕ → Step) (last : ℕ) (run : IsRun limits states last) (takes : TakesSteps states steps last) where
+module _ (limits : Bounds) (states : ℕ → State) (steps : ℕ → Step) (last : ℕ) (run : IsRun limits states last) (takes : TakesSteps states steps last) where
   abbrev pub s : Sites
   s = sites_of states steps last
 
@@ -110,7 +110,7 @@ module _ (limits : Limits) (states : ℕ → State) (steps : ℕ → Step) (last
         let (o, m) = takes t (omega arith) in
         let (levels, shapes) = levels_there limits states steps last run takes t (omega arith) in
         let same : (states t).limits ≡ limits = limits_at limits states last run t (omega arith) in
-        let hash = ap (λ (l : Limits). l.hash) same in
+        let hash = ap (λ (l : Bounds). l.hash) same in
         subst (λ k. HasSites k s (states (suc t))) hash
         (sites_after s (paths_fit states steps last) (first_main states last) (states t) I levels shapes
         (subst (λ k. HasSites k s (states t)) (sym hash) (sites_there t (omega arith))) (are_bare t (omega arith))

@@ -1,6 +1,6 @@
 -- The steps of a list that are taken lead from each state of its run to the next one.
 use Rattle.std.proofs.Common.{◌≡◌, ℕ, zero, suc, cond, ◌<◌, List, ◌∷◌, length, slice_index_or, Ok, Err, refl, ap, subst, sym, arith, []}
-use Rattle.proof_shape.specs.Beneath.machine_model.specs.declared.steps.Limits.{Limits}
+use Rattle.proof_shape.specs.Beneath.machine_model.specs.declared.steps.Bounds.{Bounds}
 use Rattle.proof_shape.specs.Beneath.machine_model.specs.declared.steps.Outcome.{Outcome}
 use Rattle.proof_shape.specs.Beneath.machine_model.specs.declared.steps.Step.{Step}
 use Rattle.proof_shape.specs.Beneath.machine_model.specs.declared.steps.Step.TheVariants as step
@@ -38,5 +38,5 @@ unfolding taken_from
 leads_along state [] = λ t h. absurd (omega arith)
 leads_along state (s ∷ steps) = leads_by state s steps (next state s) refl (moves state s) (leads_along (next_state state s) steps)
 
-pub takes_steps : (limits : Limits) (steps : List Step) → TakesSteps (states_of limits steps) (steps_of limits steps) (last_of limits steps)
+pub takes_steps : (limits : Bounds) (steps : List Step) → TakesSteps (states_of limits steps) (steps_of limits steps) (last_of limits steps)
 takes_steps limits steps = leads_along (first_state limits) steps

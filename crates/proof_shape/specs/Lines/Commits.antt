@@ -12,14 +12,12 @@ use Rattle.proof_shape.specs.Beneath.machine_model.specs.declared.reading.ReadLi
 use Rattle.proof_shape.specs.Beneath.machine_model.specs.declared.reading.SwapLine.{SwapLine}
 use Rattle.proof_shape.specs.Beneath.machine_model.specs.declared.reading.SwapLine.TheVariants.{Deciding}
 use Rattle.proof_shape.specs.Beneath.machine_model.specs.declared.lines.Line.TheVariants as line
-use Rattle.proof_shape.specs.Beneath.machine_model.specs.declared.steps.Limits.{Limits}
+use Rattle.proof_shape.specs.Beneath.machine_model.specs.declared.steps.Bounds.{Bounds}
 use Rattle.proof_shape.specs.Beneath.machine_model.specs.declared.steps.Outcome.{Outcome}
 use Rattle.proof_shape.specs.Beneath.machine_model.specs.declared.steps.Step.{Step}
 use Rattle.proof_shape.specs.Beneath.machine_model.specs.declared.steps.Step.TheVariants as step
 use Rattle.proof_shape.specs.Beneath.machine_model.specs.Paths.{depth_of}
 use Rattle.proof_shape.specs.Beneath.machine_model.specs.States.{State, operation_of}
-use Rattle.proof_shape.specs.Beneath.machine_model.specs.Orders.{committed_now, place_of}
-use Rattle.proof_shape.specs.Beneath.machine_model.specs.Acting.{entered}
 use Rattle.proof_shape.specs.Beneath.machine_model.specs.Moves.{Moves}
 use Rattle.proof_shape.specs.Beneath.machine_model.specs.Grown.{node_under}
 use Rattle.proof_shape.specs.Beneath.proof_commits.specs.Laws.{IsInSwap}
@@ -29,6 +27,8 @@ use Rattle.proof_shape.specs.Beneath.proof_contents.specs.Runs.{counting_main}
 use Rattle.proof_shape.specs.Lines.Given.{GaveBelow, Was}
 use Rattle.proof_shape.specs.Lines.Climbing.{IsClimbed}
 use Rattle.proof_shape.specs.Lines.Knowing.{known_with, first_main, SwapsAt}
+use Rattle.proof_shape.specs.Beneath.machine_model.specs.Tellings.{committed_now, entrant_of, told_in}
+use Rattle.proof_shape.specs.Beneath.machine_model.specs.Records.{Record, place_of, entered, noted}
 
 -- by its generation, and a time, the main nodes of the indirections that an operation made, as far as they are told
 abbrev pub Firsts : Type 0
@@ -43,23 +43,23 @@ abbrev pub assigned_at : (ℕ → State) → ℕ → Firsts
 assigned_at states last start t i = if generation_of (node_under states last i) == start then counting_main states last t i else counting_main states last last i
 
 -- what the owner of a fresh node knows of it, just before step t, which commits it
-abbrev pub KnowsFresh : Limits → (ℕ → State) → ℕ → Firsts → (t actor start : ℕ) → Operation → Ref → Ref → Purpose → Type 0
-KnowsFresh limits states last firsts t actor start owner replaced fresh (purpose.Update path former) =
+abbrev pub KnowsFresh : Bounds → (ℕ → State) → (ℕ → Record) → ℕ → Firsts → (t actor start : ℕ) → Operation → Ref → Ref → Purpose → Type 0
+KnowsFresh limits states records last firsts t actor start owner replaced fresh (purpose.Update path former) =
     KnowsSwap (known_with limits states last (firsts start (suc t))) owner.call (depth_of path) replaced former fresh
-KnowsFresh limits states last firsts t actor start owner replaced fresh (purpose.Renew path) =
-    IsRepaired (node_under states last) (firsts start t) (GaveBelow states last t actor owner.id start) start replaced fresh
-KnowsFresh limits states last firsts t actor start owner replaced fresh purpose.Clean =
-    IsRepaired (node_under states last) (firsts start t) (GaveBelow states last t actor owner.id start) start replaced fresh
-KnowsFresh limits states last firsts t actor start owner replaced fresh (purpose.Climb c) =
+KnowsFresh limits states records last firsts t actor start owner replaced fresh (purpose.Renew path) =
+    IsRepaired (node_under states last) (firsts start t) (GaveBelow states records last t actor owner.id start) start replaced fresh
+KnowsFresh limits states records last firsts t actor start owner replaced fresh purpose.Clean =
+    IsRepaired (node_under states last) (firsts start t) (GaveBelow states records last t actor owner.id start) start replaced fresh
+KnowsFresh limits states records last firsts t actor start owner replaced fresh (purpose.Climb c) =
     IsClimbed (known_with limits states last (first_main states last)) (Was states last t) owner.call c replaced fresh
 
 -- the places that the commit of an owner's node brings
-abbrev pub places_for : State → Operation → ℕ → Purpose → List Place
-places_for state owner t (purpose.Update path former) = place_of state owner t false ∷ []
-places_for state owner t why = []
+abbrev pub places_for : Record → Operation → ℕ → Purpose → List Place
+places_for past owner t (purpose.Update path former) = place_of past (entrant_of owner) t false ∷ []
+places_for past owner t why = []
 
 -- Step t commits a fresh node: whoever takes it, just one running operation is in a SWAP of that node.
-pub record OwnCommit (limits : Limits) (states : ℕ → State) (last : ℕ) (firsts : Firsts) (t : ℕ) (s : Step) : Type 0 where
+pub record OwnCommit (limits : Bounds) (states : ℕ → State) (records : ℕ → Record) (last : ℕ) (firsts : Firsts) (t : ℕ) (s : Step) : Type 0 where
   pub indirection : Ref
   pub replaced : Ref
   pub fresh : Ref
@@ -87,9 +87,9 @@ pub record OwnCommit (limits : Limits) (states : ℕ → State) (last : ℕ) (fi
   pub alone : (k : ℕ) (operation : Operation) (i a : Ref) (l : SwapLine) → operation_of (states t) k ≡ Some operation → IsInSwap operation i a fresh l → k ≡ actor
   -- at the indirection for which its SWAP is
   pub placed : SwapsAt why indirection
-  pub knows : KnowsFresh limits states last firsts t actor start owner replaced fresh why
+  pub knows : KnowsFresh limits states records last firsts t actor start owner replaced fresh why
   -- the places that the step brings
-  pub enters : entered (states t) (Some fresh) ≡ places_for (states t) owner t why
+  pub enters : entered (records t) t (Some fresh) ≡ places_for (records t) owner t why
 
 -- the main node that a step commits, if it does
 pub data CommitsNone (state : State) : Step → Type 0 where
@@ -97,10 +97,12 @@ pub data CommitsNone (state : State) : Step → Type 0 where
   goes : (actor : ℕ) (operation : Operation) → operation_of state actor ≡ Some operation → committed_now state operation ≡ None → CommitsNone state (step.Go actor)
   sweeps : CommitsNone state step.Sweep
 
-pub data MainStep (limits : Limits) (states : ℕ → State) (last : ℕ) (firsts : Firsts) (t : ℕ) (s : Step) : Type 0 where
-  stays : CommitsNone (states t) s → ((i : Ref) → counting_main states last (suc t) i ≡ counting_main states last t i) → MainStep limits states last firsts t s
-  changes : OwnCommit limits states last firsts t s → MainStep limits states last firsts t s
+pub data MainStep (limits : Bounds) (states : ℕ → State) (records : ℕ → Record) (last : ℕ) (firsts : Firsts) (t : ℕ) (s : Step) : Type 0 where
+  stays : CommitsNone (states t) s → ((i : Ref) → counting_main states last (suc t) i ≡ counting_main states last t i) → MainStep limits states records last firsts t s
+  changes : OwnCommit limits states records last firsts t s → MainStep limits states records last firsts t s
 
 -- a step leaves all main nodes and commits nothing, or it commits one fresh node
-abbrev pub CommitsAt : Limits → (ℕ → State) → ℕ → Firsts → Type 0
-CommitsAt limits states last firsts = (t : ℕ) → t < last → (s : Step) (o : Outcome) → Moves (states t) s o (states (suc t)) → MainStep limits states last firsts t s
+abbrev pub CommitsAt : Bounds → (ℕ → State) → (ℕ → Record) → ℕ → Firsts → Type 0
+CommitsAt limits states records last firsts =
+    (t : ℕ) → t < last → (s : Step) (o : Outcome) → Moves (states t) s o (states (suc t)) → records (suc t) ≡ noted (records t) (states t).steps (told_in (states t) s) →
+    MainStep limits states records last firsts t s

@@ -13,6 +13,8 @@ use Rattle.proof_shape.specs.Beneath.machine_model.specs.States.{State, operatio
 use Rattle.proof_shape.specs.Beneath.machine_model.specs.Reading.{read_after, read_step}
 use Rattle.proof_shape.specs.Beneath.machine_model.specs.Operations.{read_of}
 use Rattle.proof_shape.specs.Beneath.machine_model.specs.Moves.{Moves}
+use Rattle.proof_shape.specs.Beneath.machine_model.specs.Records.{Record, noted}
+use Rattle.proof_shape.specs.Beneath.machine_model.specs.Tellings.{told_in}
 use Rattle.proof_shape.specs.Beneath.proof_commits.specs.Protocol.{Reads}
 use Rattle.proof_shape.specs.Beneath.proof_commits.specs.Stages.{stage_of}
 use Rattle.proof_shape.specs.Beneath.proof_commits.specs.Words.{words_of}
@@ -40,7 +42,7 @@ pub record Reading (states : ℕ → State) (t actor id from : ℕ) (i : Ref) (l
   pub counts : HasBegun began from line
 
 -- Before step t a READ of the actor's operation of this id gave this main node of the indirection.
-pub record Gave (states : ℕ → State) (last t actor id : ℕ) (i m : Ref) : Type 0 where
+pub record Gave (states : ℕ → State) (records : ℕ → Record) (last t actor id : ℕ) (i m : Ref) : Type 0 where
   -- the time at which it began
   pub began : ℕ
   pub first : IsReading (states began) actor id i read.Main
@@ -55,12 +57,12 @@ pub record Gave (states : ℕ → State) (last t actor id : ℕ) (i m : Ref) : T
   pub line : ReadLine
   pub gave : IsReading (states at) actor id i line
   pub gives : read_after (states at).heap gave.operation.access (word_at (states at) (handle_of gave.operation.call)) i line ≡ Gives m
-  pub is_moment : IsMoment (words_of states last (λ g. None)) i m from moment at
+  pub is_moment : IsMoment (words_of states records last (λ g. None)) i m from moment at
   pub is : counting_main states last (suc moment) i ≡ m
 
 -- A READ of a repair gave it, in the try in which the operation's root has this generation.
-pub record GaveBelow (states : ℕ → State) (last t actor id start : ℕ) (i m : Ref) : Type 0 where
-  pub gave : Gave states last t actor id i m
+pub record GaveBelow (states : ℕ → State) (records : ℕ → Record) (last t actor id start : ℕ) (i m : Ref) : Type 0 where
+  pub gave : Gave states records last t actor id i m
   -- its last step
   pub at : ℕ
   pub past : at < t
@@ -74,6 +76,7 @@ pub record GaveBelow (states : ℕ → State) (last t actor id start : ℕ) (i m
   pub reads : read_of operation.line ≡ Some read
   pub of : read.indirection ≡ i
   pub gives : read_step (states at) operation read ≡ Gives m
+  pub notes : records (suc at) ≡ noted (records at) (states at).steps (told_in (states at) (Go actor))
 
 -- before step t it was once the main node of the indirection
 abbrev pub Was : (ℕ → State) → ℕ → ℕ → Ref → Ref → Type 0

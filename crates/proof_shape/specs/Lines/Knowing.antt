@@ -6,7 +6,7 @@ use Rattle.proof_shape.specs.Beneath.machine_model.specs.declared.lines.Line.The
 use Rattle.proof_shape.specs.Beneath.machine_model.specs.declared.lines.Purpose.{Purpose}
 use Rattle.proof_shape.specs.Beneath.machine_model.specs.declared.lines.Purpose.TheVariants as purpose
 use Rattle.proof_shape.specs.Beneath.machine_model.specs.declared.operations.Operation.{Operation}
-use Rattle.proof_shape.specs.Beneath.machine_model.specs.declared.steps.Limits.{Limits}
+use Rattle.proof_shape.specs.Beneath.machine_model.specs.declared.steps.Bounds.{Bounds}
 use Rattle.proof_shape.specs.Beneath.machine_model.specs.States.{State, operation_of}
 use Rattle.proof_shape.specs.Beneath.machine_model.specs.Paths.{current, above}
 use Rattle.proof_shape.specs.Beneath.machine_model.specs.Grown.{node_under}
@@ -15,9 +15,10 @@ use Rattle.proof_shape.specs.Beneath.proof_contents.specs.Lines.Repairs.{KnowsRe
 use Rattle.proof_shape.specs.Beneath.proof_contents.specs.Runs.{counting_main}
 use Rattle.proof_shape.specs.Lines.Given.{GaveBelow, Was}
 use Rattle.proof_shape.specs.Lines.Climbing.{KnowsClimbing}
+use Rattle.proof_shape.specs.Beneath.machine_model.specs.Records.{Record}
 
 -- the nodes of a run, where indirections have these main nodes
-abbrev pub known_with : Limits → (ℕ → State) → ℕ → (Ref → Ref) → Known
+abbrev pub known_with : Bounds → (ℕ → State) → ℕ → (Ref → Ref) → Known
 known_with limits states last first = record { kind = limits.hash; node = node_under states last; first = first }
 
 -- the main node with which an indirection is made: that at time 0, as it looks from there
@@ -30,18 +31,18 @@ OfEachAt states last P =
     (t : ℕ) → t ≤ last → (actor : ℕ) (operation : Operation) → operation_of (states t) actor ≡ Some operation → P t actor operation
 
 -- of lines that go down to a key, build a change of it, and swap it in
-abbrev pub KnowsAt : Limits → (ℕ → State) → ℕ → Type 0
+abbrev pub KnowsAt : Bounds → (ℕ → State) → ℕ → Type 0
 KnowsAt limits states last =
     OfEachAt states last (λ t actor operation. KnowsLine (known_with limits states last (first_main states last)) operation.call operation.line)
 
 -- of lines that renew and clean
-abbrev pub RepairsAt : (ℕ → State) → ℕ → Type 0
-RepairsAt states last =
+abbrev pub RepairsAt : (ℕ → State) → (ℕ → Record) → ℕ → Type 0
+RepairsAt states records last =
     OfEachAt states last (λ t actor operation. (start : ℕ) → operation.generation ≡ Some start →
-    KnowsRepair (node_under states last) (first_main states last) (GaveBelow states last t actor operation.id start) start operation.line)
+    KnowsRepair (node_under states last) (first_main states last) (GaveBelow states records last t actor operation.id start) start operation.line)
 
 -- of lines that climb
-abbrev pub ClimbsAt : Limits → (ℕ → State) → ℕ → Type 0
+abbrev pub ClimbsAt : Bounds → (ℕ → State) → ℕ → Type 0
 ClimbsAt limits states last =
     OfEachAt states last (λ t actor operation. KnowsClimbing (known_with limits states last (first_main states last)) (Was states last t) operation.call operation.line)
 

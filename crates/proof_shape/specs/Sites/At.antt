@@ -13,7 +13,7 @@ use Rattle.proof_shape.specs.Beneath.machine_model.specs.declared.repairs.CleanL
 use Rattle.proof_shape.specs.Beneath.machine_model.specs.declared.repairs.CleanLine.TheVariants as clean
 use Rattle.proof_shape.specs.Beneath.machine_model.specs.declared.repairs.ClimbLine.{ClimbLine}
 use Rattle.proof_shape.specs.Beneath.machine_model.specs.declared.repairs.ClimbLine.TheVariants as climb
-use Rattle.proof_shape.specs.Beneath.machine_model.specs.declared.steps.Limits.{Limits}
+use Rattle.proof_shape.specs.Beneath.machine_model.specs.declared.steps.Bounds.{Bounds}
 use Rattle.proof_shape.specs.Beneath.machine_model.specs.declared.steps.Outcome.{Outcome}
 use Rattle.proof_shape.specs.Beneath.machine_model.specs.declared.steps.Step.{Step}
 use Rattle.proof_shape.specs.Beneath.machine_model.specs.declared.reading.Swap.{Swap}
@@ -43,7 +43,7 @@ StepsFit steps last = (t : ℕ) → t < last → FitsKey (steps t)
 -- ---- lines
 
 -- what the line of each running operation has stands at its level, and on the way to its key
-abbrev pub LinesHaveSites : Limits → (ℕ → State) → (ℕ → Step) → ℕ → Type 0
+abbrev pub LinesHaveSites : Bounds → (ℕ → State) → (ℕ → Step) → ℕ → Type 0
 LinesHaveSites limits states steps last =
     (t : ℕ) → t ≤ last → (actor : ℕ) (operation : Operation) → operation_of (states t) actor ≡ Some operation →
     LineLevel (level_until states steps last) operation.line × LineSite limits.hash (sites_of states steps last) (hash_of limits.hash (key_of operation.call)) operation.line
@@ -81,7 +81,7 @@ way_of (line.Climb l) = way_of_climb l
 way_of l = []
 
 -- the d-th of them has depth d, and leads to the hash of the operation's key; there are 14 at most
-abbrev pub WaysHaveSites : Limits → (ℕ → State) → (ℕ → Step) → ℕ → Type 0
+abbrev pub WaysHaveSites : Bounds → (ℕ → State) → (ℕ → Step) → ℕ → Type 0
 WaysHaveSites limits states steps last =
     (t : ℕ) → t ≤ last → (actor : ℕ) (operation : Operation) → operation_of (states t) actor ≡ Some operation →
     (length (way_of operation.line) ≤ 14)
@@ -90,7 +90,7 @@ WaysHaveSites limits states steps last =
     (is_indirection (node_under states last i) ≡ true) × (depth_of_run states steps last i ≡ d) × (path_of_run states steps last i ≡ path_to (hash_of limits.hash (key_of operation.call)) d))
 
 -- a change of a key is swapped in where its path ends
-abbrev pub UpdatesHaveSites : Limits → (ℕ → State) → (ℕ → Step) → ℕ → Type 0
+abbrev pub UpdatesHaveSites : Bounds → (ℕ → State) → (ℕ → Step) → ℕ → Type 0
 UpdatesHaveSites limits states steps last =
     (t : ℕ) → t ≤ last → (actor : ℕ) (operation : Operation) → operation_of (states t) actor ≡ Some operation → (path : List Ref) (former : Option ℕ) (w : Swap) →
     operation.line ≡ line.Swap (purpose.Update path former) w →

@@ -9,7 +9,7 @@ use Rattle.proof_shape.specs.Beneath.machine_model.specs.declared.steps.Step.{St
 use Rattle.proof_shape.specs.Beneath.machine_model.specs.declared.steps.Step.TheVariants as step
 use Rattle.proof_shape.specs.Beneath.machine_model.specs.Paths.{hash_in}
 use Rattle.proof_shape.specs.Beneath.machine_model.specs.States.{State, operation_of}
-use Rattle.proof_shape.specs.Beneath.machine_model.specs.declared.steps.Limits.{Limits}
+use Rattle.proof_shape.specs.Beneath.machine_model.specs.declared.steps.Bounds.{Bounds}
 use Rattle.proof_shape.specs.Beneath.machine_model.specs.Machine.{is_number, taken_steps}
 use Rattle.proof_shape.specs.Beneath.machine_model.specs.Times.{states_of, last_of}
 use Rattle.proof_shape.specs.Beneath.machine_model.specs.Renewing.{next_entry}
@@ -62,12 +62,12 @@ path_of_run states steps last r = if is_indirection (node_under states last r) t
 -- ---- of a list of steps
 
 -- the step at each time of those that are taken
-abbrev pub steps_of : Limits → List Step → ℕ → Step
+abbrev pub steps_of : Bounds → List Step → ℕ → Step
 steps_of limits steps t = slice_index_or (taken_steps limits steps) t step.Sweep
 
 -- the level of a reference and the part of a hash that leads to it, after these steps
-abbrev pub level_of : Limits → List Step → Ref → ℕ
+abbrev pub level_of : Bounds → List Step → Ref → ℕ
 level_of limits steps = level_until (states_of limits steps) (steps_of limits steps) (last_of limits steps)
 
-abbrev pub path_of : Limits → List Step → Ref → ℕ
+abbrev pub path_of : Bounds → List Step → Ref → ℕ
 path_of limits steps = path_until (states_of limits steps) (steps_of limits steps) (last_of limits steps)

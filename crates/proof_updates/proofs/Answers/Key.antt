@@ -19,7 +19,7 @@ use Rattle.proof_updates.specs.Beneath.machine_model.specs.declared.operations.O
 use Rattle.proof_updates.specs.Beneath.machine_model.specs.declared.reading.After.{After}
 use Rattle.proof_updates.specs.Beneath.machine_model.specs.declared.reading.After.TheVariants.{Goes, Gives}
 use Rattle.proof_updates.specs.Beneath.machine_model.specs.declared.reading.Read.{Read}
-use Rattle.proof_updates.specs.Beneath.machine_model.specs.declared.steps.Limits.{Limits}
+use Rattle.proof_updates.specs.Beneath.machine_model.specs.declared.steps.Bounds.{Bounds}
 use Rattle.proof_updates.specs.Beneath.machine_model.specs.Calls.{key_of}
 use Rattle.proof_updates.specs.Beneath.machine_model.specs.Paths.{current, above, depth_of, is_below_root}
 use Rattle.proof_updates.specs.Beneath.machine_model.specs.Reading.{read_step, reading}
@@ -49,6 +49,7 @@ use Rattle.proof_shape.proofs.Lines.Placed.{is_keyed}
 use Rattle.proof_shape.proofs.Runs.Seen.{listed_main, sees, single_seen}
 use Rattle.proof_shape.proofs.Lines.Key.{same_known, claims, looks}
 use Rattle.proof_updates.proofs.Routes.Known.{IsAt, KeyRoute, looks_at, route_end}
+use Rattle.proof_updates.specs.Beneath.machine_model.specs.Records.{moment_at}
 
 -- the answer is what the call gives, and it changes nothing
 abbrev pub AnswersSo : Trie → Access → ℕ → ℕ → Call → Reply → Type 0
@@ -79,28 +80,31 @@ reached_depth trie ok g q depth i (below_is above_depth above below reached led)
     ∙ ap suc at
 
 -- where its main node was given, and is no tomb if it is to be changed
-module _ (trie : Trie) (ok : IsTrie trie) (state : State) (operation : Operation) (first : Ref → Ref) (same_hash : state.limits.hash ≡ trie.kind) (g t : ℕ) (within : t ≤ trie.last)
+module _ (trie : Trie) (ok : IsTrie trie) (state : State) (operation : Operation) (first : Ref → Ref) (same_hash : state.limits.hash ≡ trie.kind) (g t moment : ℕ) (within : t ≤ trie.last)
     (keyed : IsKeyed operation.call) (fits : key_of operation.call < 2 ^ 64) where
-  pub answering : (access : Access) (p : List Ref) (main : Ref) → IsAt trie access g (key_of operation.call) t operation.moment p main →
+  pub answering : (access : Access) (p : List Ref) (main : Ref) → IsAt trie access g (key_of operation.call) t moment p main →
       (access ≡ Writable → (single : Ref) → trie.node main ≢ Tomb single) → (access ≡ ReadOnly → IsGet operation.call) →
-      Answering state operation trie.node first (λ answer. AnswersSo trie access g operation.moment operation.call answer) (depth_of p) main
+      Answering state operation trie.node first (λ answer. AnswersSo trie access g moment operation.call answer) (depth_of p) main
   answering Writable p main at stands gets =
-      let end = route_end trie Writable g (key_of operation.call) (suc operation.moment) p at.route in
+      let end = route_end trie Writable g (key_of operation.call) (suc moment) p at.route in
       let past = at.past in
       writable_answers trie ok state operation first same_hash (depth_of p) (current p) main
-      (sym (on-depth trie ok end.0 g (key_of operation.call) (length p - 1) (current p) (omega (arith, end.1)) end.2)) (suc operation.moment) g
-      (looks_at trie ok g (key_of operation.call) operation.moment (omega arith) p main at.route at.given) (stands refl) keyed fits
+      (sym (on-depth trie ok end.0 g (key_of operation.call) (length p - 1) (current p) (omega (arith, end.1)) end.2)) (suc moment) g
+      (looks_at trie ok g (key_of operation.call) moment (omega arith) p main at.route at.given) (stands refl) keyed fits
   answering ReadOnly p main at stands gets =
-      let end = route_end trie ReadOnly g (key_of operation.call) (suc operation.moment) p at.route in
+      let end = route_end trie ReadOnly g (key_of operation.call) (suc moment) p at.route in
       let deep = reached_depth trie ok g (key_of operation.call) (length p - 1) (current p) end in
       read_only_answers trie ok state operation first same_hash (depth_of p) (current p) main (sym deep) g (gets refl)
       (subst (λ d. IsReached trie g (key_of operation.call) d (current p)) (sym deep) end) at.given
 
-module _ (limits : Limits) (states : ℕ → State) (last : ℕ) (depth path : Ref → ℕ) (run : IsRun limits states last) (ok : IsTrie (trie_of limits states last depth path))
-    (t : ℕ) (lt : t < last) (actor : ℕ) (operation : Operation) (go : GoesAt states t actor operation) (g : ℕ) (keyed : IsKeyed operation.call) (fits : key_of operation.call < 2 ^ 64)
+module _ (limits : Bounds) (states : ℕ → State) (last : ℕ) (depth path : Ref → ℕ) (run : IsRun limits states last) (ok : IsTrie (trie_of limits states last depth path))
+    (t : ℕ) (lt : t < last) (actor : ℕ) (operation : Operation) (go : GoesAt states run.records t actor operation) (g : ℕ) (keyed : IsKeyed operation.call) (fits : key_of operation.call < 2 ^ 64)
     (gets : operation.access ≡ ReadOnly → IsGet operation.call) where
   abbrev trie : Trie
   trie = trie_of limits states last depth path
+
+  abbrev moment : ℕ
+  moment = (moment_at (run.records t) actor).moment
 
   abbrev node : Ref → Node
   node = node_under states last
@@ -109,18 +113,18 @@ module _ (limits : Limits) (states : ℕ → State) (last : ℕ) (depth path : R
   first = first_main states last
 
   abbrev Right : Reply → Type 0
-  Right answer = AnswersSo trie operation.access g operation.moment operation.call answer
+  Right answer = AnswersSo trie operation.access g moment operation.call answer
 
   abbrev pub Ends : Line → Type 0
   Ends l = EndsRight (states t) operation (node_under states last) (first_main states last)
-      (λ answer. AnswersSo (trie_of limits states last depth path) operation.access g operation.moment operation.call answer) l
+      (λ answer. AnswersSo (trie_of limits states last depth path) operation.access g (moment_at (run.records t) actor).moment operation.call answer) l
 
   same_hash : (states t).limits.hash ≡ trie.kind
-  same_hash = ap (λ (l : Limits). l.hash) (limits_at limits states last run t (omega arith))
+  same_hash = ap (λ (l : Bounds). l.hash) (limits_at limits states last run t (omega arith))
 
-  rights : (p : List Ref) (main : Ref) → IsAt trie operation.access g (key_of operation.call) t operation.moment p main → (operation.access ≡ Writable → (single : Ref) → node main ≢ Tomb single) →
+  rights : (p : List Ref) (main : Ref) → IsAt trie operation.access g (key_of operation.call) t moment p main → (operation.access ≡ Writable → (single : Ref) → node main ≢ Tomb single) →
       Answering (states t) operation node first Right (depth_of p) main
-  rights p main at stands = answering trie ok (states t) operation first same_hash g t (omega arith) keyed fits operation.access p main at stands gets
+  rights p main at stands = answering trie ok (states t) operation first same_hash g t moment (omega arith) keyed fits operation.access p main at stands gets
 
   -- a branch or a list is no tomb
   no_tomb : (main : Ref) (n : Node) → node main ≡ n → ((single : Ref) → n ≢ Tomb single) → operation.access ≡ Writable → (single : Ref) → node main ≢ Tomb single
@@ -142,7 +146,7 @@ module _ (limits : Limits) (states : ℕ → State) (last : ℕ) (depth path : R
 
   -- ---- line by line
 
-  main_right : (p : List Ref) (main : Ref) → operation.line ≡ line.Key (key.Main p main) → IsAt trie operation.access g (key_of operation.call) t operation.moment p main →
+  main_right : (p : List Ref) (main : Ref) → operation.line ≡ line.Key (key.Main p main) → IsAt trie operation.access g (key_of operation.call) t moment p main →
       Ends (key_after_main (states t) operation p main (node_at (states t).heap main))
   main_right p main e at = by_node (node main) refl
     where
@@ -166,7 +170,7 @@ module _ (limits : Limits) (states : ℕ → State) (last : ℕ) (depth path : R
       by_node (Indirection h w) is = ends (no_tomb main (Indirection h w) is (λ single bad. let wrong : Indirection h w ≡ Tomb single = bad in cc))
       by_node (Single k v) is = ends (no_tomb main (Single k v) is (λ single bad. let wrong : Single k v ≡ Tomb single = bad in cc))
 
-  entry_right : (p : List Ref) (main : Ref) (position : ℕ) → operation.line ≡ line.Key (key.Entry p main position) → IsAt trie operation.access g (key_of operation.call) t operation.moment p main →
+  entry_right : (p : List Ref) (main : Ref) (position : ℕ) → operation.line ≡ line.Key (key.Entry p main position) → IsAt trie operation.access g (key_of operation.call) t moment p main →
       KnowsKey (known_with limits states last (first_main states last)) operation.call (key.Entry p main position) →
       Ends (key_after_entry (states t) operation p main position (node_at (states t).heap (entry_at (states t).heap main position)))
   entry_right p main position e at (b, es, f) =
@@ -178,7 +182,7 @@ module _ (limits : Limits) (states : ℕ → State) (last : ℕ) (depth path : R
       (subst (λ (k : Known). IsFlagged k (depth_of p) (key_of operation.call) main position b es) (sym (same_known limits states last run t lt actor operation go)) f)
       (node_at (states t).heap (entry_at (states t).heap main position)) refl
 
-  listed_right : (p : List Ref) (main : Ref) (position : ℕ) → operation.line ≡ line.Key (key.Listed p main position) → IsAt trie operation.access g (key_of operation.call) t operation.moment p main →
+  listed_right : (p : List Ref) (main : Ref) (position : ℕ) → operation.line ≡ line.Key (key.Listed p main position) → IsAt trie operation.access g (key_of operation.call) t moment p main →
       KnowsKey (known_with limits states last (first_main states last)) operation.call (key.Listed p main position) →
       Ends (after_listed (states t) operation p main position (node_at (states t).heap (entry_at (states t).heap main position)))
   listed_right p main position e at = by_known
@@ -208,7 +212,7 @@ module _ (limits : Limits) (states : ℕ → State) (last : ℕ) (depth path : R
           tomb_ends (states t) operation node first Right main seen p (rights p main at (λ w. absurd (not_tombed s is w))) position s single is at_first get
           (node_at (states t).heap (entry_at (states t).heap main position)) refl
 
-  pub key_right : (l : KeyLine) → operation.line ≡ line.Key l → KeyRoute trie operation.access g (key_of operation.call) t operation.read_at operation.moment l →
+  pub key_right : (l : KeyLine) → operation.line ≡ line.Key l → KeyRoute trie operation.access g (key_of operation.call) t (moment_at (run.records t) actor).read_at moment l →
       KnowsKey (known_with limits states last (first_main states last)) operation.call l → Ends (key_after (states t) operation l)
   key_right (key.Read p r) e h knows = by_read (read_step (states t) operation r)
     where

@@ -10,11 +10,10 @@ use Rattle.proof_updates.specs.Beneath.slot_arena.specs.Heaps.{node_at, generati
 use Rattle.proof_updates.specs.Beneath.machine_model.specs.declared.operations.Operation.{Operation}
 use Rattle.proof_updates.specs.Beneath.machine_model.specs.declared.roots.Root.{Root}
 use Rattle.proof_updates.specs.Beneath.machine_model.specs.declared.roots.RootWord.TheVariants.{Plain}
-use Rattle.proof_updates.specs.Beneath.machine_model.specs.declared.steps.Limits.{Limits}
+use Rattle.proof_updates.specs.Beneath.machine_model.specs.declared.steps.Bounds.{Bounds}
 use Rattle.proof_updates.specs.Beneath.machine_model.specs.Calls.{handle_of, is_close}
 use Rattle.proof_updates.specs.Beneath.machine_model.specs.States.{State, root_at, root_of, word_of, word_at}
-use Rattle.proof_updates.specs.Beneath.machine_model.specs.Moves.{Moves}
-use Rattle.proof_updates.specs.Beneath.machine_model.specs.Times.{turns}
+use Rattle.proof_updates.specs.Beneath.machine_model.specs.Times.{turns, noted_turn}
 use Rattle.proof_updates.specs.Beneath.machine_model.specs.Times.{IsRun, Turn}
 use Rattle.proof_updates.specs.Beneath.machine_model.specs.Grown.{node_under}
 use Rattle.proof_updates.specs.Beneath.proof_memory.specs.Laws.{IsInUse}
@@ -44,11 +43,11 @@ stands_on state handle access g e = by_root (root_at state handle) refl e
         let same : (root.access, generation_at state.heap (root_of root.word)) ≡ (access, g) = same_Some _ _ e in
         record { root = root; is_open = is; kind = ap (λ q. q.0) same; its = ap (λ q. q.1) same }
 
-module _ (limits : Limits) (states : ℕ → State) (last : ℕ) (run : IsRun limits states last) where
+module _ (limits : Bounds) (states : ℕ → State) (last : ℕ) (run : IsRun limits states last) where
   -- a root that stands behind a step stood there before it
   pub stood_before : (t k : ℕ) → t < last → (operation : Operation) → Runs (states t) k operation → is_close operation.call ≡ false → operation.access ≡ ReadOnly → (g : ℕ) →
       standing (states (suc t)) (handle_of operation.call) ≡ Some (ReadOnly, g) → standing (states t) (handle_of operation.call) ≡ Some (ReadOnly, g)
-  stood_before t k lt operation runs no_close read_only g e = by_turn (states (suc t)) refl (run.turn t lt)
+  stood_before t k lt operation runs no_close read_only g e = by_turn (run.turn t lt) (run.recorded t lt)
     where
       was : (root : Root) × (root_at (states t) (handle_of operation.call) ≡ Some root) × (root.access ≡ operation.access)
       was = (ordered_at limits states last run t (omega arith)).handles.on_open k operation runs no_close
@@ -60,10 +59,11 @@ module _ (limits : Limits) (states : ℕ → State) (last : ℕ) (run : IsRun li
       stood same =
           ap (standing_of (states t).heap) was.1 ∙ ap (λ a. Some (a, generation_at (states t).heap (root_of (was.0).word))) (was.2 ∙ read_only) ∙ ap (λ n. Some (ReadOnly, n)) same
 
-      by_turn : (after : State) → states (suc t) ≡ after → Turn (states t) after → standing (states t) (handle_of operation.call) ≡ Some (ReadOnly, g)
-      by_turn after is (turns s o m) =
-          stood (sym (read_only_stays (states t) (safe_at limits states last run t (omega arith)) (ordered_at limits states last run t (omega arith)) s o (states (suc t))
-          (subst (λ q. Moves (states t) s o q) (sym is) m) (handle_of operation.call) was.0 was.1 (was.2 ∙ read_only) now.root now.is_open) ∙ now.its)
+      by_turn : (turn : Turn (states t) (states (suc t))) → run.records (suc t) ≡ noted_turn turn (run.records t) → standing (states t) (handle_of operation.call) ≡ Some (ReadOnly, g)
+      by_turn (turns s o m) notes =
+          stood (sym (read_only_stays (states t) (run.records t) (run.records (suc t)) (safe_at limits states last run t (omega arith))
+          (ordered_at limits states last run t (omega arith)) s o (states (suc t)) m notes
+          (handle_of operation.call) was.0 was.1 (was.2 ∙ read_only) now.root now.is_open) ∙ now.its)
 
   -- an indirection, that of its generation
   pub record IsRoot (t handle g : ℕ) : Type 0 where
@@ -86,7 +86,7 @@ module _ (limits : Limits) (states : ℕ → State) (last : ℕ) (run : IsRun li
       is_root = ap (root_of_generation states last) (sym on.its) ∙ root_is limits states last run t handle on.root within on.is_open ∙ ap root_of (sym word_is)
 
       plain : on.root.word ≡ Plain (root_of on.root.word)
-      plain = read_only_plain (states t) (safe_at limits states last run t within) (ordered_at limits states last run t within) handle on.root on.is_open on.kind
+      plain = read_only_plain (states t) (run.records t) (safe_at limits states last run t within) (ordered_at limits states last run t within) handle on.root on.is_open on.kind
 
       used : Holds (IsInUse (states t).heap) (states t).heap (Is (root_of on.root.word) AnIndirection)
       used = (subst (λ w. AllHold (IsInUse (states t).heap) (states t).heap (word_wants w)) plain ((safe_at limits states last run t within).words handle on.root on.is_open)).0

@@ -1,7 +1,6 @@
 -- What an operation answers that has no place is right.
 use Rattle.std.proofs.Common.{◌≡◌, ◌≢◌, ℕ, suc, ◌<◌, ◌≤◌, ◌^◌, Bool, true, false, true≢false, ◌∷◌, inl, None, refl, sym, ap, subst, ◌∙◌, arith, []}
 use Rattle.std.proofs.lemmas.Option.{none-some}
-use Rattle.proof_updates.specs.Beneath.history.specs.Histories.{begun}
 use Rattle.proof_updates.specs.Beneath.history.specs.declared.calls.Access.{Access}
 use Rattle.proof_updates.specs.Beneath.history.specs.declared.calls.Access.TheVariants.{Writable, ReadOnly}
 use Rattle.proof_updates.specs.Beneath.history.specs.declared.calls.Call.{Call}
@@ -14,19 +13,18 @@ use Rattle.proof_updates.specs.Beneath.machine_model.specs.declared.lines.Purpos
 use Rattle.proof_updates.specs.Beneath.machine_model.specs.declared.lines.Line.{Line}
 use Rattle.proof_updates.specs.Beneath.machine_model.specs.declared.lines.Line.TheVariants as line
 use Rattle.proof_updates.specs.Beneath.machine_model.specs.declared.operations.Operation.{Operation}
-use Rattle.proof_updates.specs.Beneath.machine_model.specs.declared.steps.Limits.{Limits}
+use Rattle.proof_updates.specs.Beneath.machine_model.specs.declared.steps.Bounds.{Bounds}
 use Rattle.proof_updates.specs.Beneath.machine_model.specs.declared.steps.Outcome.{Outcome}
 use Rattle.proof_updates.specs.Beneath.machine_model.specs.declared.steps.Step.{Step}
 use Rattle.proof_updates.specs.Beneath.machine_model.specs.declared.steps.Step.TheVariants as step
 use Rattle.proof_updates.specs.Beneath.machine_model.specs.Calls.{key_of, is_close, needs_read_only}
 use Rattle.proof_updates.specs.Beneath.machine_model.specs.States.{State}
 use Rattle.proof_updates.specs.Beneath.machine_model.specs.Operations.{first_line}
-use Rattle.proof_updates.specs.Beneath.machine_model.specs.Orders.{is_placed}
 use Rattle.proof_updates.specs.Beneath.machine_model.specs.Counting.{settled}
 use Rattle.proof_updates.specs.Beneath.machine_model.specs.Machine.{begin_denial, with_begin}
 use Rattle.proof_updates.specs.Beneath.machine_model.specs.Moves.{Begins}
 use Rattle.proof_updates.specs.Beneath.machine_model.specs.Moves.{Moves, begun_operation}
-use Rattle.proof_updates.specs.Beneath.machine_model.specs.Times.{turns}
+use Rattle.proof_updates.specs.Beneath.machine_model.specs.Times.{turns, noted_turn}
 use Rattle.proof_updates.specs.Beneath.machine_model.specs.Times.{IsRun, Turn}
 use Rattle.proof_updates.specs.Beneath.proof_contents.specs.Tries.{Trie, content}
 use Rattle.proof_updates.specs.Beneath.proof_contents.specs.Steps.{IsTrie}
@@ -46,6 +44,11 @@ use Rattle.proof_updates.proofs.Tries.EachOperation.{each_operation}
 use Rattle.proof_updates.proofs.Answers.ReaderRoots.{stood_before}
 use Rattle.proof_updates.proofs.Placed.Swap.{none_next}
 use Rattle.proof_updates.specs.Beneath.proof_commits.proofs.Lines.Reads.{only_end}
+use Rattle.proof_updates.specs.Beneath.machine_model.specs.Records.{is_placed, Record, noted, moment_at}
+use Rattle.proof_updates.specs.Beneath.proof_order.specs.Facts.{Notes}
+use Rattle.proof_updates.specs.Beneath.machine_model.specs.Tellings.{told_in}
+use Rattle.proof_updates.proofs.Answers.Given.{moment_of}
+use Rattle.proof_updates.specs.Beneath.machine_model.specs.declared.records.Moment.{Moment}
 
 -- ---- a begin
 
@@ -58,27 +61,28 @@ after_begin : (state : State) (actor : ℕ) (call : Call) (o : Outcome) (after :
 after_begin state actor call o after (Begins d) = refl
 
 -- a close has its place at once
-close_places : (state : State) (actor : ℕ) (call : Call) → is_close call ≡ true → is_placed (settled state (with_begin state actor call (begun_operation state call))) (begun state.events) ≡ true
-close_places state actor (Close handle) e =
-    is_placed_so (settled state (with_begin state actor (Close handle) (begun_operation state (Close handle)))) (on_time state.steps false (begun state.events))
-    (among_right state.places (on_time state.steps false (begun state.events) ∷ []) _ (inl refl)) (begun state.events) refl
-close_places state actor call e = absurd (true≢false (sym e))
+close_places : (state : State) (past : Record) (actor : ℕ) (call : Call) → is_close call ≡ true → is_placed (noted past state.steps (told_in state (step.Begin actor call))) state.begun ≡ true
+close_places state past actor (Close handle) e =
+    is_placed_so (noted past state.steps (told_in state (step.Begin actor (Close handle)))) (on_time state.steps false state.begun)
+    (among_right past.places (on_time state.steps false state.begun ∷ []) _ (inl refl)) state.begun refl
+close_places state past actor call e = absurd (true≢false (sym e))
 
-module _ (limits : Limits) (states : ℕ → State) (last : ℕ) (depth path : Ref → ℕ) (run : IsRun limits states last) (ok : IsTrie (trie_of limits states last depth path))
+module _ (limits : Bounds) (states : ℕ → State) (last : ℕ) (depth path : Ref → ℕ) (run : IsRun limits states last) (ok : IsTrie (trie_of limits states last depth path))
     (fits : (t : ℕ) → t ≤ last → (k : ℕ) (operation : Operation) → Runs (states t) k operation → key_of operation.call < 2 ^ 64) where
   abbrev trie : Trie
   trie = trie_of limits states last depth path
 
-  answering_begins : (t k : ℕ) → t < last → (call : Call) (o : Outcome) → Moves (states t) (step.Begin (suc k) call) o (states (suc t)) → begin_denial (states t) (suc k) call ≡ None →
-      IsAnswering states trie (suc t) k (begun_operation (states t) call)
-  answering_begins t k lt call o m d = record {
-    closes = λ e. subst (λ (q : State). is_placed q (begun (states t).events) ≡ true) (sym (after_begin (states t) (suc k) call o (states (suc t)) m)) (close_places (states t) (suc k) call e);
+  answering_begins : (t k : ℕ) → t < last → (call : Call) (o : Outcome) → Moves (states t) (step.Begin (suc k) call) o (states (suc t)) →
+      begin_denial (states t) (suc k) call ≡ None → Notes states run.records t (step.Begin (suc k) call) →
+      IsAnswering states run.records trie (suc t) k (begun_operation (states t) call)
+  answering_begins t k lt call o m d notes = record {
+    closes = λ e. subst (λ (q : Record). is_placed q (states t).begun ≡ true) (sym notes) (close_places (states t) (run.records t) (suc k) call e);
     behind = λ e. first_behind call e (begun_reads (states t) (suc k) call d);
     its = λ e read_only g none h stands. absurd (none-some g none);
   }
     where
       first_behind : (x : Call) → is_close x ≡ false → (needs_read_only x ≡ true → (begun_operation (states t) call).access ≡ ReadOnly) →
-          Behind states (suc t) (begun (states t).events) (RightAt states trie (suc t) (begun_operation (states t) call).access None 0 call)
+          Behind states run.records (suc t) (states t).begun (RightAt states trie (suc t) (begun_operation (states t) call).access None (moment_at (run.records (suc t)) (suc k)).moment call)
           (WalksAt states trie (suc t) (begun_operation (states t) call).access x) (first_line x)
       first_behind (Entries h) e reads = (reads refl, refl, λ g stands. tt)
       first_behind (Count h) e reads = (reads refl, refl, λ g stands. tt)
@@ -88,32 +92,34 @@ module _ (limits : Limits) (states : ℕ → State) (last : ℕ) (depth path : R
   -- ---- while others move
 
   module _ (t k : ℕ) (lt : t < last) (operation : Operation) (runs : Runs (states t) k operation) (s : Step) (o : Outcome) (m : Moves (states t) s o (states (suc t)))
-      (before : IsAnswering states (trie_of limits states last depth path) t k operation) where
-    keeps_place : is_placed (states t) operation.id ≡ true → is_placed (states (suc t)) operation.id ≡ true
-    keeps_place is = still_placed (states t) s o (states (suc t)) m operation.id is
+      (notes : Notes states run.records t s) (same : moment_at (run.records (suc t)) (suc k) ≡ moment_at (run.records t) (suc k))
+      (before : IsAnswering states run.records (trie_of limits states last depth path) t k operation) where
+    keeps_place : is_placed (run.records t) operation.id ≡ true → is_placed (run.records (suc t)) operation.id ≡ true
+    keeps_place is = subst (λ q. is_placed q operation.id ≡ true) (sym notes) (still_placed (states t) (run.records t) s o (states (suc t)) m operation.id is)
 
     module _ (no_close : is_close operation.call ≡ false) where
-      right_later : (answer : Reply) → RightAt states trie t operation.access operation.generation operation.moment operation.call answer →
-          RightAt states trie (suc t) operation.access operation.generation operation.moment operation.call answer
+      right_later : (answer : Reply) → RightAt states trie t operation.access operation.generation (moment_of limits states last run t k).moment operation.call answer →
+          RightAt states trie (suc t) operation.access operation.generation (moment_of limits states last run t k).moment operation.call answer
       right_later answer = by_access operation.access refl
         where
-          by_access : (a : Access) → operation.access ≡ a → RightAt states trie t a operation.generation operation.moment operation.call answer →
-              RightAt states trie (suc t) a operation.generation operation.moment operation.call answer
+          by_access : (a : Access) → operation.access ≡ a → RightAt states trie t a operation.generation (moment_of limits states last run t k).moment operation.call answer →
+              RightAt states trie (suc t) a operation.generation (moment_of limits states last run t k).moment operation.call answer
           by_access Writable is h = h
           by_access ReadOnly is h = λ g e. h g (stood_before limits states last run t k lt operation runs no_close is g e)
 
       line_later : (l : Line) → operation.line ≡ l →
-          Behind states t operation.id (RightAt states trie t operation.access operation.generation operation.moment operation.call) (WalksAt states trie t operation.access operation.call) l →
-          Behind states (suc t) operation.id (RightAt states trie (suc t) operation.access operation.generation operation.moment operation.call)
+          Behind states run.records t operation.id (RightAt states trie t operation.access operation.generation (moment_of limits states last run t k).moment operation.call)
+          (WalksAt states trie t operation.access operation.call) l →
+          Behind states run.records (suc t) operation.id (RightAt states trie (suc t) operation.access operation.generation (moment_of limits states last run t k).moment operation.call)
           (WalksAt states trie (suc t) operation.access operation.call) l
-      line_later (line.Swap (purpose.Update path former) x) e h = none_next limits states last run t k lt operation runs s o m path former x e h
+      line_later (line.Swap (purpose.Update path former) x) e h = none_next limits states last run t k lt operation runs s o m notes path former x e h
       line_later (line.Swap (purpose.Renew path) x) e h = tt
       line_later (line.Swap purpose.Clean x) e h = tt
       line_later (line.Swap (purpose.Climb c) x) e h = keeps_place h
       line_later (line.Climb l) e h = keeps_place h
       line_later (line.End answer) e h =
-          later_behind states t (suc t) operation.id (RightAt states trie t operation.access operation.generation operation.moment operation.call)
-          (RightAt states trie (suc t) operation.access operation.generation operation.moment operation.call) keeps_place right_later answer h
+          later_behind run.records t (suc t) operation.id (RightAt states trie t operation.access operation.generation (moment_of limits states last run t k).moment operation.call)
+          (RightAt states trie (suc t) operation.access operation.generation (moment_of limits states last run t k).moment operation.call) keeps_place right_later answer h
       line_later (line.Walk l) e (read_only, walks, knows) = (read_only, walks, λ g e'. knows g (stood_before limits states last run t k lt operation runs no_close read_only g e'))
       line_later (line.Root l) e h = tt
       line_later (line.Key l) e h = tt
@@ -123,24 +129,27 @@ module _ (limits : Limits) (states : ℕ → State) (last : ℕ) (depth path : R
       line_later (line.Copy l) e h = tt
       line_later line.Impossible e h = tt
 
-    answering_rests : IsAnswering states (trie_of limits states last depth path) (suc t) k operation
+    answering_rests : IsAnswering states run.records (trie_of limits states last depth path) (suc t) k operation
     answering_rests = record {
       closes = λ e. keeps_place (before.closes e);
-      behind = λ e. line_later e operation.line refl (before.behind e);
+      behind = λ e.
+          subst (λ (n : Moment). Behind states run.records (suc t) operation.id (RightAt states trie (suc t) operation.access operation.generation n.moment operation.call)
+          (WalksAt states trie (suc t) operation.access operation.call) operation.line) (sym same) (line_later e operation.line refl (before.behind e));
       its = λ e read_only g generation h stands. before.its e read_only g generation h (stood_before limits states last run t k lt operation runs e read_only h stands);
     }
 
   -- ---- along the run
 
-  rests : (t k : ℕ) → t < last → (operation : Operation) → Runs (states t) k operation → IsAnswering states trie t k operation → IsAnswering states trie (suc t) k operation
-  rests t k lt operation runs before = by_turn (states (suc t)) refl (run.turn t lt)
+  rests : (t k : ℕ) → t < last → (operation : Operation) → Runs (states t) k operation → moment_at (run.records (suc t)) (suc k) ≡ moment_at (run.records t) (suc k) →
+      IsAnswering states run.records trie t k operation → IsAnswering states run.records trie (suc t) k operation
+  rests t k lt operation runs same before = by_turn (run.turn t lt) (run.recorded t lt)
     where
-      by_turn : (after : State) → states (suc t) ≡ after → Turn (states t) after → IsAnswering states trie (suc t) k operation
-      by_turn after is (turns s o m) = answering_rests t k lt operation runs s o (subst (λ q. Moves (states t) s o q) (sym is) m) before
+      by_turn : (turn : Turn (states t) (states (suc t))) → run.records (suc t) ≡ noted_turn turn (run.records t) → IsAnswering states run.records trie (suc t) k operation
+      by_turn (turns s o m) notes = answering_rests t k lt operation runs s o m notes same before
 
-  pub answering_at : (t : ℕ) → t ≤ last → (k : ℕ) (operation : Operation) → Runs (states t) k operation → IsAnswering states (trie_of limits states last depth path) t k operation
+  pub answering_at : (t : ℕ) → t ≤ last → (k : ℕ) (operation : Operation) → Runs (states t) k operation → IsAnswering states run.records (trie_of limits states last depth path) t k operation
   answering_at =
-      each_operation limits states last run (λ t k operation. IsAnswering states trie t k operation)
+      each_operation limits states last run (λ t k operation. IsAnswering states run.records trie t k operation)
       (λ t k operation b h. record { closes = h.closes; behind = h.behind; its = h.its }) answering_begins rests
       (λ t k lt operation own h. answering_goes limits states last depth path run ok fits t k lt operation own h)
 
@@ -150,46 +159,48 @@ module _ (limits : Limits) (states : ℕ → State) (last : ℕ) (depth path : R
     within : t ≤ last
     within = omega arith
 
-    since : Since states t k operation
+    since : Since states run.records t k operation
     since = run_since limits states last run t k operation within runs
 
-    replied : is_close operation.call ≡ false → RightAt states trie t operation.access operation.generation operation.moment operation.call answer →
-        Replied limits states last (content trie) operation answer
+    replied : is_close operation.call ≡ false → RightAt states trie t operation.access operation.generation (moment_of limits states last run t k).moment operation.call answer →
+        Replied limits states run.records last (content trie) operation (moment_of limits states last run t k).moment answer
     replied no_close h = by_access operation.access refl h
       where
-        moment : IsWithin states since.at t operation.moment
+        moment : IsWithin run.records since.at t (moment_of limits states last run t k).moment
         moment = (since.reads no_close).moment (ap has_read e)
 
-        by_access : (a : Access) → operation.access ≡ a → RightAt states trie t a operation.generation operation.moment operation.call answer →
-            Replied limits states last (content trie) operation answer
+        by_access : (a : Access) → operation.access ≡ a → RightAt states trie t a operation.generation (moment_of limits states last run t k).moment operation.call answer →
+            Replied limits states run.records last (content trie) operation (moment_of limits states last run t k).moment answer
         by_access Writable is (g, generation, right) =
             on_writable g is generation (rooted_at_moments limits states last run t k operation g within runs is generation (ap has_read e)) moment.closes_none right
         by_access ReadOnly is right =
             let stands = read_only_stands limits states last run t k operation within runs is no_close since in
-            on_read_only stands.0 is (stands.1 (suc operation.moment) (omega (arith, moment.behind)) (omega (arith, moment.past)))
+            on_read_only stands.0 is (stands.1 (suc (moment_of limits states last run t k).moment) (omega (arith, moment.behind)) (omega (arith, moment.past)))
             (right stands.0 (stands.1 t since.past (omega arith)))
 
-    no_close_unplaced : is_placed (states t) operation.id ≡ false → is_close operation.call ≡ false
+    no_close_unplaced : is_placed (run.records t) operation.id ≡ false → is_close operation.call ≡ false
     no_close_unplaced unplaced = by_test (is_close operation.call) refl
       where
         by_test : (b : Bool) → is_close operation.call ≡ b → is_close operation.call ≡ false
         by_test false is = is
         by_test true is = absurd (true≢false (sym ((answering_at t within k operation runs).closes is) ∙ unplaced))
 
-    right_reply : answer ≢ reply.NoSlots → is_placed (states t) operation.id ≡ false → Replied limits states last (content trie) operation answer
+    right_reply : answer ≢ reply.NoSlots → is_placed (run.records t) operation.id ≡ false →
+        Replied limits states run.records last (content trie) operation (moment_of limits states last run t k).moment answer
     right_reply other unplaced =
         by_ending
-        (subst (λ l. Behind states t operation.id (RightAt states trie t operation.access operation.generation operation.moment operation.call)
+        (subst (λ l. Behind states run.records t operation.id (RightAt states trie t operation.access operation.generation (moment_of limits states last run t k).moment operation.call)
         (WalksAt states trie t operation.access operation.call) l) e
         ((answering_at t within k operation runs).behind (no_close_unplaced unplaced)))
       where
-        by_ending : EndsSo states t operation.id (RightAt states trie t operation.access operation.generation operation.moment operation.call) answer →
-            Replied limits states last (content trie) operation answer
+        by_ending : EndsSo run.records t operation.id (RightAt states trie t operation.access operation.generation (moment_of limits states last run t k).moment operation.call) answer →
+            Replied limits states run.records last (content trie) operation (moment_of limits states last run t k).moment answer
         by_ending (refused is) = absurd (other is)
         by_ending (has_place is) = absurd (true≢false (sym is ∙ unplaced))
         by_ending (is_right h) = replied (no_close_unplaced unplaced) h
 
-  pub replies_right : RepliesRight limits states last (trie_of limits states last depth path)
-  replies_right t actor operation answer o lt m is does other unplaced =
+  pub replies_right : RepliesRight limits states run.records last (trie_of limits states last depth path)
+  replies_right t actor operation answer o lt m notes is does other unplaced =
       let place = place_of_actor (states t) actor operation is in
-      right_reply t place.0 lt operation place.2 answer (only_end (states t) operation operation.line answer does) other unplaced
+      subst (λ j. Replied limits states run.records last (content trie) operation (moment_at (run.records t) j).moment answer) (sym place.1)
+      (right_reply t place.0 lt operation place.2 answer (only_end (states t) operation operation.line answer does) other unplaced)

@@ -15,7 +15,7 @@ use Rattle.proof_updates.specs.Beneath.machine_model.specs.declared.walking.Walk
 use Rattle.proof_updates.specs.Beneath.machine_model.specs.declared.walking.WalkLine.TheVariants as walk
 use Rattle.proof_updates.specs.Beneath.machine_model.specs.declared.lines.Line.{Line}
 use Rattle.proof_updates.specs.Beneath.machine_model.specs.declared.lines.Line.TheVariants as line
-use Rattle.proof_updates.specs.Beneath.machine_model.specs.declared.steps.Limits.{Limits}
+use Rattle.proof_updates.specs.Beneath.machine_model.specs.declared.steps.Bounds.{Bounds}
 use Rattle.proof_updates.specs.Beneath.machine_model.specs.Calls.{handle_of, needs_read_only}
 use Rattle.proof_updates.specs.Beneath.machine_model.specs.States.{State, word_at, root_of}
 use Rattle.proof_updates.specs.Beneath.machine_model.specs.Operations.{read_of}
@@ -41,17 +41,19 @@ use Rattle.proof_shape.proofs.Runs.EachAt.{GoesAt}
 use Rattle.proof_shape.proofs.Runs.Seen.{main_seen, single_seen}
 use Rattle.proof_shape.proofs.Lines.Key.{claims, looks}
 use Rattle.proof_updates.specs.Beneath.proof_generations.specs.Falling.{GivesAt}
-use Rattle.proof_updates.proofs.Tries.EachOperation.{OwnStep}
+use Rattle.proof_updates.proofs.Tries.EachOperation.{OwnStep, own_notes}
 use Rattle.proof_updates.proofs.Answers.Given.{given_at, own_after}
 use Rattle.proof_updates.proofs.Answers.Key.{AnswersSo}
 use Rattle.proof_updates.proofs.Answers.ReaderRoots.{IsRoot, root_stands}
 use Rattle.proof_shape.proofs.Runs.Nodes.{link_known}
 use Rattle.proof_updates.proofs.Answers.WalkSteps.{below, below_main, walked_right, KnowsWalk}
 use Rattle.proof_updates.specs.Beneath.proof_generations.proofs.Falling.Final.{given_for_ever}
+use Rattle.proof_updates.specs.Beneath.machine_model.specs.Records.{Record}
 
 -- a step of an operation that goes on, in the words of the lines
-pub goes_at : (states : ℕ → State) (t k : ℕ) (operation : Operation) → OwnStep states t k operation → GoesAt states t (suc k) operation
-goes_at states t k operation own = record { o = own.outcome; moves = own.moves; runs = own.runs; goes = own.goes; after = own_after states t k operation own }
+pub goes_at : (states : ℕ → State) (records : ℕ → Record) (t k : ℕ) (operation : Operation) → OwnStep states records t k operation → GoesAt states records t (suc k) operation
+goes_at states records t k operation own =
+    record { o = own.outcome; moves = own.moves; runs = own.runs; goes = own.goes; after = own_after states records t k operation own; noted = own.noted }
 
 -- what is read is an indirection
 read_link : (S : Ref → Type 0) (heap : Heap) (i : Ref) (l : ReadLine) → AllHold S heap (read_wants i l) → Holds S heap (Is i AnIndirection)
@@ -62,8 +64,8 @@ read_link S heap i (read.Abort m p offer) h = h.0
 read_link S heap i (read.Decide m p told) h = h.0
 read_link S heap i (read.Restore m p) h = h.0
 
-module _ (limits : Limits) (states : ℕ → State) (last : ℕ) (depth path : Ref → ℕ) (run : IsRun limits states last) (ok : IsTrie (trie_of limits states last depth path))
-    (t k : ℕ) (lt : t < last) (operation : Operation) (own : OwnStep states t k operation)
+module _ (limits : Bounds) (states : ℕ → State) (last : ℕ) (depth path : Ref → ℕ) (run : IsRun limits states last) (ok : IsTrie (trie_of limits states last depth path))
+    (t k : ℕ) (lt : t < last) (operation : Operation) (own : OwnStep states run.records t k operation)
     (read_only : operation.access ≡ ReadOnly) (walks : needs_read_only operation.call ≡ true) (g mu : ℕ) (stands : standing (states t) (handle_of operation.call) ≡ Some (ReadOnly, g)) where
   abbrev trie : Trie
   trie = trie_of limits states last depth path
@@ -74,8 +76,8 @@ module _ (limits : Limits) (states : ℕ → State) (last : ℕ) (depth path : R
   abbrev Right : Reply → Type 0
   Right answer = AnswersSo (trie_of limits states last depth path) ReadOnly g mu operation.call answer
 
-  go : GoesAt states t (suc k) operation
-  go = goes_at states t k operation own
+  go : GoesAt states run.records t (suc k) operation
+  go = goes_at states run.records t k operation own
 
   root : IsRoot limits states last run t (handle_of operation.call) g
   root = root_stands limits states last run t (handle_of operation.call) g (omega arith) stands
@@ -91,7 +93,7 @@ module _ (limits : Limits) (states : ℕ → State) (last : ℕ) (depth path : R
   module _ (r : Read) (todo : List Ref) (taken : Pairs) (e : operation.line ≡ line.Walk (walk.Read r todo taken)) where
     read_final : (main : Ref) → read_step (states t) operation r ≡ Gives main → trie.main last r.indirection ≡ main
     read_final main gives =
-        let at : GivesAt states t (suc k) operation r.indirection main = record {
+        let at : GivesAt states run.records t (suc k) operation r.indirection main = record {
           outcome = own.outcome;
           moves = own.moves;
           runs = own.runs;
@@ -100,6 +102,7 @@ module _ (limits : Limits) (states : ℕ → State) (last : ℕ) (depth path : R
           reads = ap read_of e;
           of = refl;
           gives = gives;
+          notes = own_notes states run.records t k operation own;
         } in
         let past = (given_at limits states last run t k lt operation own r.indirection r.line (ap stage_of e) main
         (given_read r.indirection (read_after (states t).heap operation.access (word_at (states t) (handle_of operation.call)) r.indirection r.line) main gives)).past in

@@ -9,7 +9,7 @@ use Rattle.proof_updates.specs.Beneath.machine_model.specs.declared.operations.O
 use Rattle.proof_updates.specs.Beneath.machine_model.specs.declared.reading.Swap.{Swap}
 use Rattle.proof_updates.specs.Beneath.machine_model.specs.declared.reading.SwapLine.TheVariants.{Deciding}
 use Rattle.proof_updates.specs.Beneath.machine_model.specs.declared.roots.Descriptor.{Descriptor}
-use Rattle.proof_updates.specs.Beneath.machine_model.specs.declared.steps.Limits.{Limits}
+use Rattle.proof_updates.specs.Beneath.machine_model.specs.declared.steps.Bounds.{Bounds}
 use Rattle.proof_updates.specs.Beneath.machine_model.specs.declared.steps.Step.{Step}
 use Rattle.proof_updates.specs.Beneath.machine_model.specs.declared.steps.Step.TheVariants as step
 use Rattle.proof_updates.specs.Beneath.machine_model.specs.States.{State, operation_of}
@@ -17,10 +17,11 @@ use Rattle.proof_order.specs.Facts.{CarriesOut, committed_of, committed_by_step}
 use Rattle.proof_order.proofs.Views.Changes.{complete_commits}
 use Rattle.proof_shape.specs.Lines.Commits.{OwnCommit, CommitsNone, begins, goes, sweeps, assigned_at}
 use Rattle.proof_updates.specs.Touching.{CommitsUpdate, CommitsRepair}
+use Rattle.proof_updates.specs.Beneath.machine_model.specs.Records.{Record}
 
-module _ (limits : Limits) (states : ℕ → State) (last : ℕ) (t : ℕ) (s : Step) where
+module _ (limits : Bounds) (states : ℕ → State) (records : ℕ → Record) (last : ℕ) (t : ℕ) (s : Step) where
   abbrev Own : Type 0
-  Own = OwnCommit limits states last (assigned_at states last) t s
+  Own = OwnCommit limits states records last (assigned_at states last) t s
 
   none_committed : CommitsNone (states t) s → committed_by_step (states t) s ≡ None
   none_committed none = by_step s none

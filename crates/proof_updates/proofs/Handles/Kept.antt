@@ -5,7 +5,7 @@ use Rattle.std.specs.FinMap.{entries}
 use Rattle.proof_updates.specs.Beneath.slot_arena.specs.declared.refs.Ref.{Ref}
 use Rattle.proof_updates.specs.Beneath.machine_model.specs.declared.lines.Purpose.TheVariants as purpose
 use Rattle.proof_updates.specs.Beneath.machine_model.specs.declared.roots.Root.{Root}
-use Rattle.proof_updates.specs.Beneath.machine_model.specs.declared.steps.Limits.{Limits}
+use Rattle.proof_updates.specs.Beneath.machine_model.specs.declared.steps.Bounds.{Bounds}
 use Rattle.proof_updates.specs.Beneath.machine_model.specs.declared.steps.Outcome.{Outcome}
 use Rattle.proof_updates.specs.Beneath.machine_model.specs.declared.steps.Step.{Step}
 use Rattle.proof_updates.specs.Beneath.machine_model.specs.Contents.{content_at}
@@ -31,23 +31,24 @@ use Rattle.proof_updates.proofs.Handles.Reaching.{reach_from}
 use Rattle.proof_updates.proofs.Handles.Showing.{root_deep, root_link, content_shown}
 use Rattle.proof_updates.proofs.Handles.Values.{value_below, nothing_below, repair_below}
 use Rattle.proof_updates.proofs.Handles.Ways.{itself, missed_below}
+use Rattle.proof_updates.specs.Beneath.proof_order.specs.Facts.{Notes}
 
-module _ (limits : Limits) (states : ℕ → State) (steps : ℕ → Step) (t : ℕ) (run : IsRun limits states (suc t)) (takes : TakesSteps states steps (suc t)) (keys : StepsFit steps (suc t))
-    (s : Step) (o : Outcome) (m : Moves (states t) s o (states (suc t))) where
+module _ (limits : Bounds) (states : ℕ → State) (steps : ℕ → Step) (t : ℕ) (run : IsRun limits states (suc t)) (takes : TakesSteps states steps (suc t)) (keys : StepsFit steps (suc t))
+    (s : Step) (o : Outcome) (m : Moves (states t) s o (states (suc t))) (notes : Notes states run.records t s) where
   abbrev pub trie : Trie
   trie = trie_of_run limits states steps (suc t)
 
   abbrev pub Own : Type 0
-  Own = OwnCommit limits states (suc t) (assigned_at states (suc t)) t s
+  Own = OwnCommit limits states run.records (suc t) (assigned_at states (suc t)) t s
 
   pub ok : IsTrie (trie_of_run limits states steps (suc t))
   ok = whole.is_trie limits states steps (suc t) run takes keys
 
-  all : CommitsAt limits states (suc t) (assigned_at states (suc t))
+  all : CommitsAt limits states run.records (suc t) (assigned_at states (suc t))
   all = fresh_commits_at limits states (suc t) run
 
-  pub main_step : MainStep limits states (suc t) (assigned_at states (suc t)) t s
-  main_step = all t (omega arith) s o m
+  pub main_step : MainStep limits states run.records (suc t) (assigned_at states (suc t)) t s
+  main_step = all t (omega arith) s o m notes
 
   shape : HasShape (trie_of_run limits states steps (suc t))
   shape = runs_have_shape limits states steps (suc t) run takes keys
@@ -74,7 +75,7 @@ module _ (limits : Limits) (states : ℕ → State) (steps : ℕ → Step) (t : 
             key most_levels 0 r link.1 link.0 deep itself link.2
         by_own own (inr repair) = repair_below trie ok t refl own.indirection own.others repair r deep key
 
-        by_step : MainStep limits states (suc t) (assigned_at states (suc t)) t s → value_below trie (suc t) r key ≡ value_below trie t r key
+        by_step : MainStep limits states run.records (suc t) (assigned_at states (suc t)) t s → value_below trie (suc t) r key ≡ value_below trie t r key
         by_step (stays none same) = nothing_below trie ok t refl same r key
         by_step (changes own) =
             by_own own

@@ -1,11 +1,11 @@
 -- The laws, for each step that is taken after a list of steps.
-use Rattle.std.proofs.Common.{◌≡◌, ℕ, suc, cond, List, ◌∷◌, ◌++◌, length, Ok, sym, ap, subst, ◌∙◌, arith, []}
+use Rattle.std.proofs.Common.{refl, ◌≡◌, ℕ, suc, cond, List, ◌∷◌, ◌++◌, length, Ok, sym, ap, subst, ◌∙◌, arith, [], ◌<◌, slice_get, Some}
 use Rattle.std.proofs.lemmas.List.{length-append}
-use Rattle.proof_updates.specs.Beneath.machine_model.specs.declared.steps.Limits.{Limits}
+use Rattle.proof_updates.specs.Beneath.machine_model.specs.declared.steps.Bounds.{Bounds}
 use Rattle.proof_updates.specs.Beneath.machine_model.specs.declared.steps.Outcome.{Outcome}
 use Rattle.proof_updates.specs.Beneath.machine_model.specs.declared.steps.Step.{Step}
 use Rattle.proof_updates.specs.Beneath.machine_model.specs.Keys.{KeysFit}
-use Rattle.proof_updates.specs.Beneath.machine_model.specs.Machine.{AreLimits, next, state_after, run, taken_from, taken_steps, is_taken_step}
+use Rattle.proof_updates.specs.Beneath.machine_model.specs.Machine.{AreBounds, next, state_after, run, taken_from, taken_steps, is_taken_step}
 use Rattle.proof_updates.specs.Beneath.machine_model.specs.States.{State, first_state}
 use Rattle.proof_updates.specs.Beneath.machine_model.proofs.Along.{run_push}
 use Rattle.proof_updates.specs.Beneath.machine_model.proofs.Moves.{moved}
@@ -19,8 +19,10 @@ use Rattle.proof_shape.proofs.Sites.Stepped.{takes_steps}
 use Rattle.proof_updates.specs.Laws.Handles.{OfEachStep, UntouchedStay, UpdatesChange, RepairsStay, ClearsEmpty, ClosesTake, OpenedCopy}
 use Rattle.proof_updates.proofs.Handles.OfRuns.{OfLastSteps, OneUpdate}
 use Rattle.proof_updates.proofs.Handles.OfRuns as of_runs
+use Rattle.proof_updates.specs.Beneath.machine_model.proofs.Numbered.{step_noted}
+use Rattle.proof_updates.specs.Beneath.history.proofs.Places.{at_push}
 
-module _ (limits : Limits) (steps : List Step) (s : Step) (o : Outcome) (after : State) (taken : next (run limits steps) s ≡ Ok (o, after)) where
+module _ (limits : Bounds) (steps : List Step) (s : Step) (o : Outcome) (after : State) (taken : next (run limits steps) s ≡ Ok (o, after)) where
   abbrev t : ℕ
   t = last_of limits steps
 
@@ -41,17 +43,36 @@ module _ (limits : Limits) (steps : List Step) (s : Step) (o : Outcome) (after :
   after_is : states_of limits (steps ++ s ∷ []) (suc (last_of limits steps)) ≡ after
   after_is = ap (states_of limits (steps ++ s ∷ [])) (sym last_is) ∙ run_ends limits (steps ++ s ∷ []) ∙ run_push (first_state limits) steps s ∙ ap (state_after (run limits steps)) taken
 
-  pub of_step : (Law : Limits → State → Step → State → Type 0) → AreLimits limits → KeysFit (steps ++ s ∷ []) → OfLastSteps Law → Law limits (run limits steps) s after
+  -- the run up to behind the step
+  its_run : AreBounds limits → IsRun limits (states_of limits (steps ++ s ∷ [])) (suc (last_of limits steps))
+  its_run ok =
+      let r = run_is limits (steps ++ s ∷ []) ok in
+      let within : (u : ℕ) → u < suc (last_of limits steps) → u < last_of limits (steps ++ s ∷ []) = λ u h. omega (arith, h, last_is) in
+      record {
+        limits_ok = r.limits_ok;
+        first = r.first;
+        turn = λ u h. r.turn u (within u h);
+        records = r.records;
+        nothing_recorded = r.nothing_recorded;
+        recorded = λ u h. r.recorded u (within u h);
+      }
+
+  -- the step stands last among those that are taken
+  its_step : slice_get (taken_steps limits (steps ++ s ∷ [])) (last_of limits steps) ≡ Some s
+  its_step = ap (λ l. slice_get l (last_of limits steps)) one_more ∙ at_push (taken_steps limits steps) s (last_of limits steps) refl
+
+  pub of_step : (Law : Bounds → State → Step → State → Type 0) → AreBounds limits → KeysFit (steps ++ s ∷ []) → OfLastSteps Law → Law limits (run limits steps) s after
+  unfolding its_run
   of_step Law ok fit holds =
       let states = states_of limits (steps ++ s ∷ []) in
       let m = subst (λ a. Moves (states t) s o a) (sym after_is) (subst (λ b. Moves b s o after) (sym before_is) (moved (run limits steps) s o after taken)) in
       subst (λ a. Law limits (run limits steps) s a) after_is
       (subst (λ b. Law limits b s (states (suc t))) before_is
-      (holds limits states (steps_of limits (steps ++ s ∷ [])) t (subst (IsRun limits states) last_is (run_is limits (steps ++ s ∷ []) ok))
+      (holds limits states (steps_of limits (steps ++ s ∷ [])) t (its_run ok)
       (subst (TakesSteps states (steps_of limits (steps ++ s ∷ []))) last_is (takes_steps limits (steps ++ s ∷ [])))
-      (subst (StepsFit (steps_of limits (steps ++ s ∷ []))) last_is (keys_fit limits (steps ++ s ∷ []) fit)) s o m))
+      (subst (StepsFit (steps_of limits (steps ++ s ∷ []))) last_is (keys_fit limits (steps ++ s ∷ []) fit)) s o m (step_noted limits (steps ++ s ∷ []) t s its_step)))
 
-of_each_step : (Law : Limits → State → Step → State → Type 0) → OfLastSteps Law → OfEachStep Law
+of_each_step : (Law : Bounds → State → Step → State → Type 0) → OfLastSteps Law → OfEachStep Law
 of_each_step Law holds limits steps s o after ok fit taken = of_step limits steps s o after taken Law ok fit holds
 
 pub untouched_stay : OfEachStep UntouchedStay

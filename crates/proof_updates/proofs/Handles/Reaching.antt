@@ -4,7 +4,7 @@ use Rattle.std.proofs.lemmas.Option.{same_Some}
 use Rattle.proof_updates.specs.Beneath.slot_arena.specs.declared.refs.Ref.{Ref}
 use Rattle.proof_updates.specs.Beneath.slot_arena.specs.Heaps.{node_at, logical_main}
 use Rattle.proof_updates.specs.Beneath.machine_model.specs.declared.roots.Root.{Root}
-use Rattle.proof_updates.specs.Beneath.machine_model.specs.declared.steps.Limits.{Limits}
+use Rattle.proof_updates.specs.Beneath.machine_model.specs.declared.steps.Bounds.{Bounds}
 use Rattle.proof_updates.specs.Beneath.machine_model.specs.declared.steps.Step.{Step}
 use Rattle.proof_updates.specs.Beneath.machine_model.specs.States.{State, root_at, root_of}
 use Rattle.proof_updates.specs.Beneath.machine_model.specs.Grown.{node_under}
@@ -18,7 +18,7 @@ use Rattle.proof_updates.specs.Touching.{Reaches, its_root, entry_below}
 use Rattle.proof_updates.proofs.Handles.Showing.{link_same, main_used, entries_same, entry_used, root_used}
 use Rattle.proof_updates.proofs.Handles.Ways.{From, itself, through}
 
-module _ (limits : Limits) (states : ℕ → State) (steps : ℕ → Step) (last : ℕ) (run : IsRun limits states last) (takes : TakesSteps states steps last) (keys : StepsFit steps last)
+module _ (limits : Bounds) (states : ℕ → State) (steps : ℕ → Step) (last : ℕ) (run : IsRun limits states last) (takes : TakesSteps states steps last) (keys : StepsFit steps last)
     (t : ℕ) (within : t ≤ last) (handle : ℕ) (root : Root) (at : root_at (states t) handle ≡ Some root) where
   pub reach_used : (r : Ref) → Reaches (states t) handle r → IsInUse (states t).heap r
   reach_used r (its_root other is) = root_used limits states steps last run takes keys t within handle other is

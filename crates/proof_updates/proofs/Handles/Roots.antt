@@ -11,7 +11,7 @@ use Rattle.proof_updates.specs.Beneath.slot_arena.specs.declared.refs.Ref.{Ref}
 use Rattle.proof_updates.specs.Beneath.machine_model.specs.declared.roots.Root.{Root}
 use Rattle.proof_updates.specs.Beneath.machine_model.specs.declared.roots.RootWord.TheVariants.{Plain}
 use Rattle.proof_updates.specs.Beneath.machine_model.specs.declared.roots.Descriptor.{Descriptor}
-use Rattle.proof_updates.specs.Beneath.machine_model.specs.declared.steps.Limits.{Limits}
+use Rattle.proof_updates.specs.Beneath.machine_model.specs.declared.steps.Bounds.{Bounds}
 use Rattle.proof_updates.specs.Beneath.machine_model.specs.declared.steps.Outcome.{Outcome}
 use Rattle.proof_updates.specs.Beneath.machine_model.specs.declared.steps.Step.{Step}
 use Rattle.proof_updates.specs.Beneath.machine_model.specs.declared.steps.Step.TheVariants as step
@@ -32,6 +32,9 @@ use Rattle.proof_order.proofs.Offers.Standing.{offers_at}
 use Rattle.proof_order.specs.Openings.{IsSwap}
 use Rattle.proof_order.proofs.Openings.Carried as Carried
 use Rattle.proof_order.proofs.Openings.SwapState.{swapped, unopened, offerer, offers}
+use Rattle.proof_updates.specs.Beneath.proof_order.specs.Facts.{Notes}
+use Rattle.proof_updates.specs.Beneath.machine_model.specs.Records.{noted}
+use Rattle.proof_updates.specs.Beneath.machine_model.specs.Tellings.{told_in}
 
 -- the handle is open over this root, and of this kind
 pub record StandsOver (state : State) (handle : ℕ) (access : Access) (r : Ref) : Type 0 where
@@ -85,12 +88,13 @@ module _ (state after : State) (handle : ℕ) (offer : Descriptor) (roots : afte
 
 -- ---- a step of a run
 
-module _ (limits : Limits) (states : ℕ → State) (last : ℕ) (run : IsRun limits states last) (t : ℕ) (lt : t < last) (s : Step) (o : Outcome) (m : Moves (states t) s o (states (suc t))) where
-  pub swap_of : (handle : ℕ) (offer : Descriptor) → CarriesOut (states t) s handle offer → IsSwap states last t handle offer
-  swap_of handle offer carries = record { taken = lt; step = s; outcome = o; moves = m; carries = carries }
+module _ (limits : Bounds) (states : ℕ → State) (last : ℕ) (run : IsRun limits states last) (t : ℕ) (lt : t < last) (s : Step) (o : Outcome)
+    (m : Moves (states t) s o (states (suc t))) (notes : Notes states run.records t s) where
+  pub swap_of : (handle : ℕ) (offer : Descriptor) → CarriesOut (states t) s handle offer → IsSwap states run.records last t handle offer
+  swap_of handle offer carries = record { taken = lt; step = s; outcome = o; moves = m; notes = notes; carries = carries }
 
-  changed : Changes (states t) s (states (suc t))
-  changed = changes (states t) s o (states (suc t)) m (honest (states t) (offers_at limits states last run t (omega arith)))
+  changed : Changes (states t) (run.records t) s (states (suc t)) (noted (run.records t) (states t).steps (told_in (states t) s))
+  changed = changes (states t) (run.records t) s o (states (suc t)) m (honest (states t) (offers_at limits states last run t (omega arith)))
 
   -- ---- of a handle that was open
 
@@ -109,7 +113,7 @@ module _ (limits : Limits) (states : ℕ → State) (last : ℕ) (run : IsRun li
   pub handle_step : (handle : ℕ) (root : Root) → root_at (states t) handle ≡ Some root → HandleStep handle root
   handle_step handle root is = by changed
     where
-      by : Changes (states t) s (states (suc t)) → HandleStep handle root
+      by : Changes (states t) (run.records t) s (states (suc t)) (noted (run.records t) (states t).steps (told_in (states t) s)) → HandleStep handle root
       by (quiet places closings same) = handle_keeps handle root is (same handle)
       by (ends actor operation answer go runs ends_it none places closings same) = handle_keeps handle root is (same handle)
       by (closes actor closed was go open_then none places closings gone others) = by_handle (ℕ_discrete handle closed)
@@ -119,7 +123,7 @@ module _ (limits : Limits) (states : ℕ → State) (last : ℕ) (run : IsRun li
           by_handle (no apart) = handle_keeps handle root is (others handle apart)
       by (swaps on offer carries none places closings roots heap) = by_handle (ℕ_discrete handle on)
         where
-          swap : IsSwap states last t on offer
+          swap : IsSwap states run.records last t on offer
           swap = swap_of on offer carries
 
           free : (n : ℕ) → offer.opens ≡ Some n → root_at (states t) n ≡ None
@@ -171,7 +175,7 @@ module _ (limits : Limits) (states : ℕ → State) (last : ℕ) (run : IsRun li
       not_kept : footing (states (suc t)) handle ≡ footing (states t) handle → ⊥
       not_kept e = none-some (root.access, root_of root.word) (ap footing_of (sym shut) ∙ sym e ∙ ap footing_of now)
 
-      by : Changes (states t) s (states (suc t)) → IsOpened handle
+      by : Changes (states t) (run.records t) s (states (suc t)) (noted (run.records t) (states t).steps (told_in (states t) s)) → IsOpened handle
       by (quiet places closings same) = absurd (not_kept (same handle))
       by (ends actor operation answer go runs ends_it none places closings same) = absurd (not_kept (same handle))
       by (closes actor closed was go open_then none places closings gone others) = by_handle (ℕ_discrete handle closed)
@@ -181,7 +185,7 @@ module _ (limits : Limits) (states : ℕ → State) (last : ℕ) (run : IsRun li
           by_handle (no apart) = absurd (not_kept (others handle apart))
       by (swaps on offer carries none places closings roots heap) = by_number offer.opens refl
         where
-          swap : IsSwap states last t on offer
+          swap : IsSwap states run.records last t on offer
           swap = swap_of on offer carries
 
           apart : handle ≡ on → ⊥

@@ -7,7 +7,7 @@ use Rattle.proof_updates.specs.Beneath.slot_arena.specs.declared.nodes.Node.{Nod
 use Rattle.proof_updates.specs.Beneath.slot_arena.specs.declared.nodes.Node.TheVariants.{Indirection, Branch, Single, Tomb, List as Listed}
 use Rattle.proof_updates.specs.Beneath.slot_arena.specs.Heaps.{Heap, node_at, node_of, logical_main, entries_of, refs_of_node, refs_of_prev, refs_of_slot}
 use Rattle.proof_updates.specs.Beneath.machine_model.specs.declared.roots.Root.{Root}
-use Rattle.proof_updates.specs.Beneath.machine_model.specs.declared.steps.Limits.{Limits}
+use Rattle.proof_updates.specs.Beneath.machine_model.specs.declared.steps.Bounds.{Bounds}
 use Rattle.proof_updates.specs.Beneath.machine_model.specs.declared.steps.Step.{Step}
 use Rattle.proof_updates.specs.Beneath.machine_model.specs.Contents.{content_at, pairs_at, pairs_below}
 use Rattle.proof_updates.specs.Beneath.machine_model.specs.Pairs.{by_key}
@@ -57,7 +57,7 @@ bare_pairs_at below heap r (Single k v) = refl
 bare_pairs_at below heap r (Tomb s) = refl
 bare_pairs_at below heap r (Listed ss) = refl
 
-module _ (limits : Limits) (states : ℕ → State) (steps : ℕ → Step) (last : ℕ) (run : IsRun limits states last) (takes : TakesSteps states steps last) (keys : StepsFit steps last)
+module _ (limits : Bounds) (states : ℕ → State) (steps : ℕ → Step) (last : ℕ) (run : IsRun limits states last) (takes : TakesSteps states steps last) (keys : StepsFit steps last)
     (t : ℕ) (within : t ≤ last) where
   abbrev trie : Trie
   trie = trie_of_run limits states steps last

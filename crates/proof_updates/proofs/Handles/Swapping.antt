@@ -9,7 +9,7 @@ use Rattle.proof_updates.specs.Beneath.history.specs.declared.calls.Call.TheVari
 use Rattle.proof_updates.specs.Beneath.slot_arena.specs.declared.refs.Ref.{Ref}
 use Rattle.proof_updates.specs.Beneath.machine_model.specs.declared.roots.Descriptor.{Descriptor}
 use Rattle.proof_updates.specs.Beneath.machine_model.specs.declared.roots.Root.{Root}
-use Rattle.proof_updates.specs.Beneath.machine_model.specs.declared.steps.Limits.{Limits}
+use Rattle.proof_updates.specs.Beneath.machine_model.specs.declared.steps.Bounds.{Bounds}
 use Rattle.proof_updates.specs.Beneath.machine_model.specs.declared.steps.Outcome.{Outcome}
 use Rattle.proof_updates.specs.Beneath.machine_model.specs.declared.steps.Step.{Step}
 use Rattle.proof_updates.specs.Beneath.machine_model.specs.Acting.{opened_root}
@@ -37,6 +37,7 @@ use Rattle.proof_updates.proofs.Handles.Kept.{trie, values_stay, content_later}
 use Rattle.proof_updates.proofs.Handles.Roots.{swap_of, new_root}
 use Rattle.proof_updates.proofs.Handles.Showing.{content_shown}
 use Rattle.proof_updates.proofs.Handles.Values.{value_below}
+use Rattle.proof_updates.specs.Beneath.proof_order.specs.Facts.{Notes}
 
 nothing_listed : (pairs : List (ℕ × ℕ)) → length pairs ≡ 0 → pairs ≡ []
 nothing_listed [] e = refl
@@ -50,13 +51,13 @@ no_values : (keys : List ℕ) (f : ℕ → Option ℕ) → ((key : ℕ) → f ke
 no_values [] f none = refl
 no_values (key ∷ keys) f none = ap (λ o. put_value key o (map_of keys f)) (none key) ∙ no_values keys f none
 
-module _ (limits : Limits) (states : ℕ → State) (steps : ℕ → Step) (t : ℕ) (run : IsRun limits states (suc t)) (takes : TakesSteps states steps (suc t)) (keys : StepsFit steps (suc t))
-    (s : Step) (o : Outcome) (m : Moves (states t) s o (states (suc t))) (on : ℕ) (offer : Descriptor) (carries : CarriesOut (states t) s on offer) where
+module _ (limits : Bounds) (states : ℕ → State) (steps : ℕ → Step) (t : ℕ) (run : IsRun limits states (suc t)) (takes : TakesSteps states steps (suc t)) (keys : StepsFit steps (suc t))
+    (s : Step) (o : Outcome) (m : Moves (states t) s o (states (suc t))) (notes : Notes states run.records t s) (on : ℕ) (offer : Descriptor) (carries : CarriesOut (states t) s on offer) where
   abbrev T : Trie
-  T = trie limits states steps t run takes keys s o m
+  T = trie limits states steps t run takes keys s o m notes
 
-  abbrev swap : IsSwap states (suc t) t on offer
-  swap = swap_of limits states (suc t) run t (omega arith) s o m on offer carries
+  abbrev swap : IsSwap states run.records (suc t) t on offer
+  swap = swap_of limits states (suc t) run t (omega arith) s o m notes on offer carries
 
   abbrev old : Carried.IsOffered (states t) on offer
   old = Carried.root limits states (suc t) run t on offer swap
@@ -91,8 +92,8 @@ module _ (limits : Limits) (states : ℕ → State) (steps : ℕ → Step) (t : 
   -- the old root keeps its values
   old_stays : (key : ℕ) → value_below T (suc t) (root_of old.root.word) key ≡ value_below T t (root_of old.root.word) key
   old_stays =
-      values_stay limits states steps t run takes keys s o m on old.root old.is_open
-      (λ own path former e reach. carries_nothing limits states (suc t) t s on offer carries own)
+      values_stay limits states steps t run takes keys s o m notes on old.root old.is_open
+      (λ own path former e reach. carries_nothing limits states run.records (suc t) t s on offer carries own)
 
   one_main : (a b : Ref) (key : ℕ) → counting_main states (suc t) (suc t) a ≡ counting_main states (suc t) (suc t) b → value_below T (suc t) a key ≡ value_below T (suc t) b key
   one_main a b key same =
@@ -109,7 +110,7 @@ module _ (limits : Limits) (states : ℕ → State) (steps : ℕ → Step) (t : 
   pub copies : (r : Ref) → counting_main states (suc t) (suc t) r ≡ offer.expected → (handle : ℕ) (now : Root) → root_at (states (suc t)) handle ≡ Some now → root_of now.word ≡ r →
       content_at (states (suc t)) handle ≡ content_at (states t) on
   copies r main handle now at over =
-      content_later limits states steps t run takes keys s o m on old.root old.is_open handle now at
+      content_later limits states steps t run takes keys s o m notes on old.root old.is_open handle now at
       (λ key. ap (λ q. value_below T (suc t) q key) over ∙ over_old r main key)
 
   -- ---- by the call
@@ -122,7 +123,7 @@ module _ (limits : Limits) (states : ℕ → State) (steps : ℕ → Step) (t : 
   pub cleared : (call : Call) → Brings states (suc t) t on offer call → (handle : ℕ) → call ≡ Clear handle → HandleHolds (states (suc t)) handle Writable []
   cleared call (clears opens new empty) handle e =
       let same : on ≡ handle = cc e in
-      let stands = new_root limits states (suc t) run t (omega arith) s o m on offer carries in
+      let stands = new_root limits states (suc t) run t (omega arith) s o m notes on offer carries in
       subst (λ h. HandleHolds (states (suc t)) h Writable []) same (record {
         root = stands.root;
         is_open = stands.is_open;

@@ -10,7 +10,7 @@ use Rattle.proof_updates.specs.Beneath.history.specs.Changes.{change_in}
 use Rattle.proof_updates.specs.Beneath.history.specs.Worlds.{KeyMap}
 use Rattle.proof_updates.specs.Beneath.slot_arena.specs.declared.refs.Ref.{Ref}
 use Rattle.proof_updates.specs.Beneath.machine_model.specs.declared.roots.Root.{Root}
-use Rattle.proof_updates.specs.Beneath.machine_model.specs.declared.steps.Limits.{Limits}
+use Rattle.proof_updates.specs.Beneath.machine_model.specs.declared.steps.Bounds.{Bounds}
 use Rattle.proof_updates.specs.Beneath.machine_model.specs.declared.steps.Outcome.{Outcome}
 use Rattle.proof_updates.specs.Beneath.machine_model.specs.declared.steps.Step.{Step}
 use Rattle.proof_updates.specs.Beneath.machine_model.specs.Calls.{changed_reply}
@@ -40,6 +40,7 @@ use Rattle.proof_updates.proofs.Handles.Showing.{root_deep, root_led, link_same,
 use Rattle.proof_updates.proofs.Handles.Updated.{update_below}
 use Rattle.proof_updates.proofs.Handles.Values.{value_below}
 use Rattle.proof_updates.proofs.Handles.Ways.{From}
+use Rattle.proof_updates.specs.Beneath.proof_order.specs.Facts.{Notes}
 
 gets_ask_nothing : (h k : ℕ) (former now : Option ℕ) → Asks (Get h k) former now → ⊥
 gets_ask_nothing h k former now (to_insert e) = let wrong : ⊥ = cc e in wrong
@@ -51,13 +52,13 @@ acts_changes : (hash : ℕ → ℕ) (call : Call) (former now : Option ℕ) (m :
 acts_changes hash (Get h k) former now m asks = absurd (gets_ask_nothing h k former now asks)
 acts_changes hash call former now m asks = refl
 
-module _ (limits : Limits) (states : ℕ → State) (steps : ℕ → Step) (t : ℕ) (run : IsRun limits states (suc t)) (takes : TakesSteps states steps (suc t)) (keys : StepsFit steps (suc t))
-    (s : Step) (o : Outcome) (m : Moves (states t) s o (states (suc t))) where
+module _ (limits : Bounds) (states : ℕ → State) (steps : ℕ → Step) (t : ℕ) (run : IsRun limits states (suc t)) (takes : TakesSteps states steps (suc t)) (keys : StepsFit steps (suc t))
+    (s : Step) (o : Outcome) (m : Moves (states t) s o (states (suc t))) (notes : Notes states run.records t s) where
   abbrev T : Trie
-  T = trie limits states steps t run takes keys s o m
+  T = trie limits states steps t run takes keys s o m notes
 
   abbrev Mine : Type 0
-  Mine = Own limits states steps t run takes keys s o m
+  Mine = Own limits states steps t run takes keys s o m notes
 
   -- the owner's indirection is one
   link : (own : Mine) → is_indirection (node_under states (suc t) own.indirection) ≡ true
@@ -79,7 +80,7 @@ module _ (limits : Limits) (states : ℕ → State) (steps : ℕ → Step) (t : 
     abbrev r : Ref
     r = root_of root.word
 
-    own_acts : (own : Mine) → IsOwn limits states (suc t) t s own i call former →
+    own_acts : (own : Mine) → IsOwn limits states run.records (suc t) t s own i call former →
         change_in (hash_of limits.hash) call (map_of T.keys (value_below T t r)) ≡ Some (changed_reply call former, map_of T.keys (value_below T (suc t) r))
     own_acts own w =
         subst (λ c. change_in (hash_of limits.hash) c before ≡ Some (changed_reply c former, after)) w.call_is
@@ -100,7 +101,7 @@ module _ (limits : Limits) (states : ℕ → State) (steps : ℕ → Step) (t : 
         acted : act_in (hash_of limits.hash) Writable own.owner.call before ≡ Some (changed_reply own.owner.call former, after)
         acted =
             let node = indirection_is (node_under states (suc t) own.indirection) (link own) in
-            update_below T t refl r (ok limits states steps t run takes keys s o m) (bare_runs_have_shape limits states steps (suc t) run takes keys)
+            update_below T t refl r (ok limits states steps t run takes keys s o m notes) (bare_runs_have_shape limits states steps (suc t) run takes keys)
             (root_deep limits states steps (suc t) run takes keys t (omega arith) handle root at) (root_led limits states steps (suc t) run takes keys t (omega arith) handle root at)
             own.start own.owner.call former u node.1 node.0 (ap (node_under states (suc t)) (its ∙ sym w.indirection_is) ∙ node.2)
             (subst (λ j. From T t r j) (sym its) (from_reach limits states steps (suc t) run takes keys t (omega arith) handle root at i reach))
@@ -108,18 +109,18 @@ module _ (limits : Limits) (states : ℕ → State) (steps : ℕ → Step) (t : 
     -- the handle keeps its root, and its pairs are those that the call makes of the earlier ones
     pub update_changes : CommitsUpdate (states t) s i call former →
         (later : List (ℕ × ℕ)) × HandleHolds (states (suc t)) handle root.access later × Turns (hash_of limits.hash) call former (entries (map_of T.keys (value_below T t r))) later
-    update_changes u = by_step (main_step limits states steps t run takes keys s o m)
+    update_changes u = by_step (main_step limits states steps t run takes keys s o m notes)
       where
-        by_root : (own : Mine) → HandleStep limits states (suc t) run t (omega arith) s o m handle root → StandsOver (states (suc t)) handle root.access r
+        by_root : (own : Mine) → HandleStep limits states (suc t) run t (omega arith) s o m notes handle root → StandsOver (states (suc t)) handle root.access r
         by_root own (keeps stands) = stands
-        by_root own (changes_root offer carries old stands) = absurd (carries_nothing limits states (suc t) t s handle offer carries own)
+        by_root own (changes_root offer carries old stands) = absurd (carries_nothing limits states run.records (suc t) t s handle offer carries own)
         by_root own (is_closed actor e gone) = absurd (let both = sym e ∙ own.takes in let wrong : ⊥ = cc both in wrong)
 
-        by_step : MainStep limits states (suc t) (assigned_at states (suc t)) t s →
+        by_step : MainStep limits states run.records (suc t) (assigned_at states (suc t)) t s →
             (later : List (ℕ × ℕ)) × HandleHolds (states (suc t)) handle root.access later × Turns (hash_of limits.hash) call former (entries (map_of T.keys (value_below T t r))) later
-        by_step (stays none same) = absurd (no_update limits states (suc t) t s none i call former u)
+        by_step (stays none same) = absurd (no_update limits states run.records (suc t) t s none i call former u)
         by_step (changes own) =
-            let stands = by_root own (handle_step limits states (suc t) run t (omega arith) s o m handle root at) in (
+            let stands = by_root own (handle_step limits states (suc t) run t (omega arith) s o m notes handle root at) in (
               entries (map_of T.keys (value_below T (suc t) r)),
               record {
                 root = stands.root;
@@ -133,6 +134,6 @@ module _ (limits : Limits) (states : ℕ → State) (steps : ℕ → Step) (t : 
                 after = map_of T.keys (value_below T (suc t) r);
                 begins = refl;
                 ends = refl;
-                changes = own_acts own (owned limits states (suc t) t s own i call former u);
+                changes = own_acts own (owned limits states run.records (suc t) t s own i call former u);
               },
             )

@@ -38,26 +38,26 @@ use Rattle.proof_updates.specs.Beneath.machine_model.specs.Copying.{copy_after}
 use Rattle.proof_updates.specs.Beneath.machine_model.specs.Finding.{key_after_read, key_after_main, key_after_entry, after_listed, after_sibling, key_after}
 use Rattle.proof_updates.specs.Beneath.machine_model.specs.Renewing.{renew_after}
 use Rattle.proof_updates.specs.Beneath.machine_model.specs.Operations.{line_after, after_update, swapped}
-use Rattle.proof_updates.specs.Beneath.machine_model.specs.Orders.{is_placed}
 use Rattle.proof_updates.specs.Beneath.machine_model.specs.Grown.{prev_word}
 use Rattle.proof_order.specs.Phases.{IsPublished}
+use Rattle.proof_updates.specs.Beneath.machine_model.specs.Records.{is_placed, Record}
 
 -- ---- what an answer may be
 
-pub data EndsSo (states : ℕ → State) (t id : ℕ) (Right : Reply → Type 0) (answer : Reply) : Type 0 where
-  refused : answer ≡ reply.NoSlots → EndsSo states t id Right answer
-  has_place : is_placed (states t) id ≡ true → EndsSo states t id Right answer
-  is_right : Right answer → EndsSo states t id Right answer
+pub data EndsSo (records : ℕ → Record) (t id : ℕ) (Right : Reply → Type 0) (answer : Reply) : Type 0 where
+  refused : answer ≡ reply.NoSlots → EndsSo records t id Right answer
+  has_place : is_placed (records t) id ≡ true → EndsSo records t id Right answer
+  is_right : Right answer → EndsSo records t id Right answer
 
 -- of the line of an operation with this id; Walks says what a line of a walk knows
-abbrev pub Behind : (ℕ → State) → ℕ → ℕ → (Reply → Type 0) → (WalkLine → Type 0) → Line → Type 0
-Behind states t id Right Walks (line.Swap (purpose.Update path former) s) = IsPublished s.line → prev_word states t s.fresh ≡ prev.None → is_placed (states t) id ≡ true
-Behind states t id Right Walks (line.Swap (purpose.Climb c) s) = is_placed (states t) id ≡ true
-Behind states t id Right Walks (line.Swap why s) = Unit {0}
-Behind states t id Right Walks (line.Climb l) = is_placed (states t) id ≡ true
-Behind states t id Right Walks (line.End answer) = EndsSo states t id Right answer
-Behind states t id Right Walks (line.Walk l) = Walks l
-Behind states t id Right Walks l = Unit {0}
+abbrev pub Behind : (ℕ → State) → (ℕ → Record) → ℕ → ℕ → (Reply → Type 0) → (WalkLine → Type 0) → Line → Type 0
+Behind states records t id Right Walks (line.Swap (purpose.Update path former) s) = IsPublished s.line → prev_word states t s.fresh ≡ prev.None → is_placed (records t) id ≡ true
+Behind states records t id Right Walks (line.Swap (purpose.Climb c) s) = is_placed (records t) id ≡ true
+Behind states records t id Right Walks (line.Swap why s) = Unit {0}
+Behind states records t id Right Walks (line.Climb l) = is_placed (records t) id ≡ true
+Behind states records t id Right Walks (line.End answer) = EndsSo records t id Right answer
+Behind states records t id Right Walks (line.Walk l) = Walks l
+Behind states records t id Right Walks l = Unit {0}
 
 -- ---- kinds of lines
 
@@ -162,7 +162,7 @@ climbed_climbs operation c n done = grind arith
 
 -- ---- what is behind such lines
 
-module _ (states : ℕ → State) (t id : ℕ) (Right : Reply → Type 0) (Walks : WalkLine → Type 0) where
+module _ (states : ℕ → State) (records : ℕ → Record) (t id : ℕ) (Right : Reply → Type 0) (Walks : WalkLine → Type 0) where
   refusal : (answer : Reply) → is_refusal answer ≡ true → answer ≡ reply.NoSlots
   refusal answer e = grind arith
 
@@ -171,7 +171,7 @@ module _ (states : ℕ → State) (t id : ℕ) (Right : Reply → Type 0) (Walks
   unpublished (swap.Deciding l) e h = true≢false (sym e)
   unpublished swap.Check e h = true≢false (sym e)
 
-  pub plain_behind : (l : Line) → is_plain l ≡ true → Behind states t id Right Walks l
+  pub plain_behind : (l : Line) → is_plain l ≡ true → Behind states records t id Right Walks l
   plain_behind (line.Swap (purpose.Update path former) s) e = λ published none. absurd (unpublished s.line e published)
   plain_behind (line.Swap (purpose.Renew path) s) e = tt
   plain_behind (line.Swap purpose.Clean s) e = tt
@@ -187,7 +187,7 @@ module _ (states : ℕ → State) (t id : ℕ) (Right : Reply → Type 0) (Walks
   plain_behind (line.Walk l) e = absurd (true≢false (sym e))
   plain_behind line.Impossible e = tt
 
-  pub climbing_behind : (l : Line) → is_climbing l ≡ true → is_placed (states t) id ≡ true → Behind states t id Right Walks l
+  pub climbing_behind : (l : Line) → is_climbing l ≡ true → is_placed (records t) id ≡ true → Behind states records t id Right Walks l
   climbing_behind (line.Swap (purpose.Climb c) s) e is = is
   climbing_behind (line.Swap (purpose.Update path former) s) e is = absurd (true≢false (sym e))
   climbing_behind (line.Swap (purpose.Renew path) s) e is = absurd (true≢false (sym e))
@@ -208,7 +208,7 @@ module _ (states : ℕ → State) (t id : ℕ) (Right : Reply → Type 0) (Walks
   IfEnds (line.End answer) = Right answer
   IfEnds l = Unit {0}
 
-  pub still_behind : (l : Line) → is_still l ≡ true → IfEnds l → Behind states t id Right Walks l
+  pub still_behind : (l : Line) → is_still l ≡ true → IfEnds l → Behind states records t id Right Walks l
   still_behind (line.Swap why s) e h = absurd (true≢false (sym e))
   still_behind (line.Climb l) e h = absurd (true≢false (sym e))
   still_behind (line.End answer) e h = is_right h
@@ -222,8 +222,8 @@ module _ (states : ℕ → State) (t id : ℕ) (Right : Reply → Type 0) (Walks
   still_behind line.Impossible e h = tt
 
 -- later
-pub later_behind : (states : ℕ → State) (t u id : ℕ) (Right Right' : Reply → Type 0) → (is_placed (states t) id ≡ true → is_placed (states u) id ≡ true) →
-    ((answer : Reply) → Right answer → Right' answer) → (answer : Reply) → EndsSo states t id Right answer → EndsSo states u id Right' answer
-later_behind states t u id Right Right' more same answer (refused e) = refused e
-later_behind states t u id Right Right' more same answer (has_place is) = has_place (more is)
-later_behind states t u id Right Right' more same answer (is_right h) = is_right (same answer h)
+pub later_behind : (records : ℕ → Record) (t u id : ℕ) (Right Right' : Reply → Type 0) → (is_placed (records t) id ≡ true → is_placed (records u) id ≡ true) →
+    ((answer : Reply) → Right answer → Right' answer) → (answer : Reply) → EndsSo records t id Right answer → EndsSo records u id Right' answer
+later_behind records t u id Right Right' more same answer (refused e) = refused e
+later_behind records t u id Right Right' more same answer (has_place is) = has_place (more is)
+later_behind records t u id Right Right' more same answer (is_right h) = is_right (same answer h)

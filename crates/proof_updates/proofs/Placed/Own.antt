@@ -8,11 +8,10 @@ use Rattle.proof_updates.specs.Beneath.machine_model.specs.declared.lines.Line.T
 use Rattle.proof_updates.specs.Beneath.machine_model.specs.declared.operations.Operation.{Operation}
 use Rattle.proof_updates.specs.Beneath.machine_model.specs.declared.reading.ReadLine.{ReadLine}
 use Rattle.proof_updates.specs.Beneath.machine_model.specs.declared.reading.SwapLine.TheVariants as swap
-use Rattle.proof_updates.specs.Beneath.machine_model.specs.declared.steps.Limits.{Limits}
+use Rattle.proof_updates.specs.Beneath.machine_model.specs.declared.steps.Bounds.{Bounds}
 use Rattle.proof_updates.specs.Beneath.machine_model.specs.declared.steps.Outcome.{Outcome}
 use Rattle.proof_updates.specs.Beneath.machine_model.specs.declared.steps.Step.{Step}
 use Rattle.proof_updates.specs.Beneath.machine_model.specs.States.{State, operation_of}
-use Rattle.proof_updates.specs.Beneath.machine_model.specs.Orders.{is_placed, place_of, closing_for}
 use Rattle.proof_updates.specs.Beneath.machine_model.specs.Moves.{Moves}
 use Rattle.proof_updates.specs.Beneath.machine_model.specs.Times.{IsRun}
 use Rattle.proof_updates.specs.Beneath.proof_commits.specs.Protocol.{Decides, CommitsNode, Protocol}
@@ -36,30 +35,38 @@ use Rattle.proof_shape.proofs.Commits.Was.{main_linked, commit_is}
 use Rattle.proof_updates.proofs.Tries.Facts.{own_enters}
 use Rattle.proof_updates.specs.Beneath.proof_commits.proofs.Known.Acts.{known_run}
 use Rattle.proof_shape.proofs.Held.Commits.{fresh_commits_at}
+use Rattle.proof_updates.specs.Beneath.machine_model.specs.Records.{is_placed, place_of, closing_for, noted}
+use Rattle.proof_updates.specs.Beneath.proof_order.specs.Facts.{Notes}
+use Rattle.proof_updates.specs.Beneath.machine_model.specs.Tellings.{entrant_of, told_in}
 
 -- whom a step enters among others has a place behind it
-entered_placed : (limits : Limits) (states : ℕ → State) (last : ℕ) → IsRun limits states last → (t : ℕ) → t < last → (s : Step) (o : Outcome) → Moves (states t) s o (states (suc t)) →
-    (operation : Operation) → entered_by_step (states t) s ≡ place_of (states t) operation t false ∷ [] → is_placed (states (suc t)) operation.id ≡ true
-entered_placed limits states last run t lt s o m operation enters = by_changes (changes (states t) s o (states (suc t)) m (honest (states t) (offers_at limits states last run t (omega arith))))
+entered_placed : (limits : Bounds) (states : ℕ → State) (last : ℕ) (run : IsRun limits states last) → (t : ℕ) → t < last → (s : Step) (o : Outcome) →
+    Moves (states t) s o (states (suc t)) → Notes states run.records t s →
+    (operation : Operation) → entered_by_step (run.records t) (states t) s ≡ place_of (run.records t) (entrant_of operation) t false ∷ [] → is_placed (run.records (suc t)) operation.id ≡ true
+entered_placed limits states last run t lt s o m notes operation enters =
+    subst (λ q. is_placed q operation.id ≡ true) (sym notes)
+    (by_changes (changes (states t) (run.records t) s o (states (suc t)) m (honest (states t) (offers_at limits states last run t (omega arith)))))
   where
-    not_none : entered_by_step (states t) s ≡ [] → ⊥
-    not_none none = let bad : [] ≡ place_of (states t) operation t false ∷ [] = sym none ∙ enters in cc
+    not_none : entered_by_step (run.records t) (states t) s ≡ [] → ⊥
+    not_none none = let bad : [] ≡ place_of (run.records t) (entrant_of operation) t false ∷ [] = sym none ∙ enters in cc
 
-    by_changes : Changes (states t) s (states (suc t)) → is_placed (states (suc t)) operation.id ≡ true
+    by_changes : Changes (states t) (run.records t) s (states (suc t)) (noted (run.records t) (states t).steps (told_in (states t) s)) →
+        is_placed (noted (run.records t) (states t).steps (told_in (states t) s)) operation.id ≡ true
     by_changes (quiet places closings footing) =
-        is_placed_so (states (suc t)) (place_of (states t) operation t false)
-        (subst (λ l. Among (place_of (states t) operation t false) l) (sym (places ∙ ap (λ l. (states t).places ++ l) enters))
-        (among_right (states t).places (place_of (states t) operation t false ∷ []) _ (inl refl)))
-        operation.id (place_says (closing_for (states t) operation operation.access) t operation.id false).2
+        is_placed_so (noted (run.records t) (states t).steps (told_in (states t) s)) (place_of (run.records t) (entrant_of operation) t false)
+        (subst (λ l. Among (place_of (run.records t) (entrant_of operation) t false) l) (sym (places ∙ ap (λ l. (run.records t).places ++ l) enters))
+        (among_right (run.records t).places (place_of (run.records t) (entrant_of operation) t false ∷ []) _ (inl refl)))
+        operation.id (place_says (closing_for (run.records t) operation.generation operation.access) t operation.id false).2
     by_changes (ends actor ending answer is runs does none places closings footing) = absurd (not_none none)
     by_changes (closes actor handle root is found none places closings gone footing) = absurd (not_none none)
     by_changes (swaps handle offer carries none places closings roots heap) = absurd (not_none none)
 
-module _ (limits : Limits) (states : ℕ → State) (last : ℕ) (run : IsRun limits states last) where
+module _ (limits : Bounds) (states : ℕ → State) (last : ℕ) (run : IsRun limits states last) where
   abbrev p : Protocol
   p = protocol limits states last (known_run limits states last run)
 
-  module _ (t k : ℕ) (lt : t < last) (s : Step) (o : Outcome) (m : Moves (states t) s o (states (suc t))) (operation : Operation) (runs : Runs (states t) k operation)
+  module _ (t k : ℕ) (lt : t < last) (s : Step) (o : Outcome) (m : Moves (states t) s o (states (suc t)))
+      (notes : Notes states run.records t s) (operation : Operation) (runs : Runs (states t) k operation)
       (path : _) (former : _) (i a f : Ref) (l : ReadLine)
       (at : operation.line ≡ line.Swap (purpose.Update path former) (record { indirection = i; replaced = a; fresh = f; line = swap.Deciding l })) where
     stage_is : p.words.stage t (suc k) ≡ Decides i a f l
@@ -80,10 +87,11 @@ module _ (limits : Limits) (states : ℕ → State) (last : ℕ) (run : IsRun li
           let decided = main_decided p.words t (sound_at p t (omega arith)).words i link in
           none≢pending decided.none (ap (p.words.prev t) (sym (main_linked limits states last run t i link) ∙ same) ∙ commit.was)
 
-      enters : entered_by_step (states t) s ≡ place_of (states t) operation t false ∷ []
-      enters = by_step (fresh_commits_at limits states last run t lt s o m)
+      enters : entered_by_step (run.records t) (states t) s ≡ place_of (run.records t) (entrant_of operation) t false ∷ []
+      enters = by_step (fresh_commits_at limits states last run t lt s o m notes)
         where
-          by_step : MainStep limits states last (assigned_at states last) t s → entered_by_step (states t) s ≡ place_of (states t) operation t false ∷ []
+          by_step : MainStep limits states run.records last (assigned_at states last) t s →
+              entered_by_step (run.records t) (states t) s ≡ place_of (run.records t) (entrant_of operation) t false ∷ []
           by_step (stays none same) = absurd (was_no_main (sym (same i) ∙ becomes_main))
           by_step (changes_main own) = by_test (i == own.indirection) refl
             where
@@ -102,11 +110,12 @@ module _ (limits : Limits) (states : ℕ → State) (last : ℕ) (run : IsRun li
                   sym own.swaps ∙ ap (λ (x : Operation). x.line) (owner same) ∙ at in
                   cc
 
-              by_test : (b : Bool) → (i == own.indirection) ≡ b → entered_by_step (states t) s ≡ place_of (states t) operation t false ∷ []
+              by_test : (b : Bool) → (i == own.indirection) ≡ b → entered_by_step (run.records t) (states t) s ≡ place_of (run.records t) (entrant_of operation) t false ∷ []
               by_test true e =
                   let same : own.fresh ≡ f = sym own.after ∙ ap (counting_main states last (suc t)) (sym (eqb-true i own.indirection e)) ∙ becomes_main in
-                  own_enters limits states last t s own ∙ ap (λ w. places_for (states t) own.owner t w) (why same) ∙ ap (λ x. place_of (states t) x t false ∷ []) (owner same)
+                  own_enters limits states last run t (omega (arith, lt)) s own ∙ ap (λ w. places_for (run.records t) own.owner t w) (why same)
+                  ∙ ap (λ x. place_of (run.records t) (entrant_of x) t false ∷ []) (owner same)
               by_test false e = absurd (was_no_main (sym (own.others i (differ i own.indirection e)) ∙ becomes_main))
 
-      pub commit_places : is_placed (states (suc t)) operation.id ≡ true
-      commit_places = entered_placed limits states last run t lt s o m operation enters
+      pub commit_places : is_placed (run.records (suc t)) operation.id ≡ true
+      commit_places = entered_placed limits states last run t lt s o m notes operation enters

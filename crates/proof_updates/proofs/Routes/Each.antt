@@ -20,14 +20,13 @@ use Rattle.proof_updates.specs.Beneath.machine_model.specs.declared.operations.O
 use Rattle.proof_updates.specs.Beneath.machine_model.specs.declared.reading.After.{After}
 use Rattle.proof_updates.specs.Beneath.machine_model.specs.declared.reading.After.TheVariants.{Goes, Gives}
 use Rattle.proof_updates.specs.Beneath.machine_model.specs.declared.reading.Read.{Read}
-use Rattle.proof_updates.specs.Beneath.machine_model.specs.declared.steps.Limits.{Limits}
+use Rattle.proof_updates.specs.Beneath.machine_model.specs.declared.steps.Bounds.{Bounds}
 use Rattle.proof_updates.specs.Beneath.machine_model.specs.Calls.{key_of, handle_of}
 use Rattle.proof_updates.specs.Beneath.machine_model.specs.States.{State, word_at, root_at, root_of, word_of}
 use Rattle.proof_updates.specs.Beneath.machine_model.specs.Paths.{current, is_start}
-use Rattle.proof_updates.specs.Beneath.machine_model.specs.Reading.{read_action, read_after, read_step}
+use Rattle.proof_updates.specs.Beneath.machine_model.specs.Reading.{read_after, read_step}
 use Rattle.proof_updates.specs.Beneath.machine_model.specs.Finding.{passes as passes_by, is_passable, key_after_read, key_after}
 use Rattle.proof_updates.specs.Beneath.machine_model.specs.Operations.{line_action, read_of, line_after, after_root, from_root, generation_from, given_root}
-use Rattle.proof_updates.specs.Beneath.machine_model.specs.Orders.{counted_from, read_at_after, moment_after, moment_from}
 use Rattle.proof_updates.specs.Beneath.machine_model.proofs.Times.{steps_at}
 use Rattle.proof_updates.specs.Beneath.machine_model.specs.Times.{IsRun}
 use Rattle.proof_updates.specs.Beneath.machine_model.specs.declared.finding.KeyLine.{KeyLine}
@@ -47,7 +46,6 @@ use Rattle.proof_updates.specs.Beneath.proof_memory.proofs.Safety.AtEachTime.{sa
 use Rattle.proof_updates.specs.Beneath.proof_commits.specs.Laws.{IsNoSwap}
 use Rattle.proof_updates.specs.Beneath.proof_commits.specs.Protocol.{counts_at}
 use Rattle.proof_updates.specs.Beneath.proof_commits.specs.Stages.{stage_of}
-use Rattle.proof_updates.specs.Beneath.proof_commits.proofs.Lines.Reads.{read_counts}
 use Rattle.proof_updates.specs.Beneath.proof_commits.proofs.Course.OfLists.{given_read}
 use Rattle.proof_updates.specs.Beneath.proof_contents.specs.Nodes.Looking.{Absent, Below, look_at}
 use Rattle.proof_updates.specs.Beneath.proof_contents.specs.Nodes.Changing.{look}
@@ -68,15 +66,17 @@ use Rattle.proof_shape.specs.Lines.Knowing.{known_with, first_main}
 use Rattle.proof_shape.proofs.Lines.Knows.{knows_at}
 use Rattle.proof_shape.proofs.Runs.Nodes.{link_known, node_known}
 use Rattle.proof_order.proofs.Openings.ClosedRoots.{root_is}
-use Rattle.proof_updates.proofs.Tries.EachOperation.{OwnStep, each_operation}
-use Rattle.proof_updates.proofs.Answers.Given.{GivenAt, given_at}
+use Rattle.proof_updates.proofs.Tries.EachOperation.{OwnStep, each_operation, own_notes}
+use Rattle.proof_updates.proofs.Answers.Given.{GivenAt, given_at, moment_of, own_counts, quiet_moment}
 use Rattle.proof_updates.proofs.Routes.Times.{counts_since, since_next, later}
 use Rattle.proof_updates.proofs.Routes.Known.{IsGiven, IsOf, since, KeyRoute, LineRoute, route_later, IsAt, route_root}
 use Rattle.proof_updates.proofs.Routes.Key.{main_on, entry_on, listed_on, sibling_on}
 use Rattle.proof_updates.proofs.Routes.Lines.{clean_on, climb_on, copy_on, walk_on, build_on, renew_on, swap_on}
+use Rattle.proof_updates.specs.Beneath.machine_model.specs.declared.records.Moment.{Moment}
 
 -- a SWAP's path is no matter of moments
-swap_route : (trie : Trie) (access : Access) (g q t b mu c nu : ℕ) (why : Purpose) (s : Swap) → LineRoute trie access g q t b mu (line.Swap why s) → LineRoute trie access g q t c nu (line.Swap why s)
+swap_route : (trie : Trie) (access : Access) (g q t b mu c nu : ℕ) (why : Purpose) (s : Swap) → LineRoute trie access g q t b mu (line.Swap why s) →
+    LineRoute trie access g q t c nu (line.Swap why s)
 swap_route trie access g q t b mu c nu (purpose.Update p former) s h = h
 swap_route trie access g q t b mu c nu (purpose.Renew p) s h = h
 swap_route trie access g q t b mu c nu purpose.Clean s h = tt
@@ -84,11 +84,11 @@ swap_route trie access g q t b mu c nu (purpose.Climb x) s h = tt
 
 -- ---- its own step
 
-module _ (limits : Limits) (states : ℕ → State) (last : ℕ) (depth path : Ref → ℕ) (run : IsRun limits states last) (ok : IsTrie (trie_of limits states last depth path)) where
+module _ (limits : Bounds) (states : ℕ → State) (last : ℕ) (depth path : Ref → ℕ) (run : IsRun limits states last) (ok : IsTrie (trie_of limits states last depth path)) where
   abbrev trie : Trie
   trie = trie_of limits states last depth path
 
-  module _ (t k : ℕ) (lt : t < last) (operation : Operation) (own : OwnStep states t k operation) (g : ℕ) where
+  module _ (t k : ℕ) (lt : t < last) (operation : Operation) (own : OwnStep states run.records t k operation) (g : ℕ) where
     abbrev state : State
     state = states t
 
@@ -99,10 +99,13 @@ module _ (limits : Limits) (states : ℕ → State) (last : ℕ) (depth path : R
     Q = key_of operation.call
 
     abbrev ra : ℕ
-    ra = read_at_after state operation
+    ra = (moment_of limits states last run (suc t) k).read_at
 
     abbrev mu : ℕ
-    mu = moment_after state operation
+    mu = (moment_of limits states last run (suc t) k).moment
+
+    abbrev was : Moment
+    was = moment_of limits states last run t k
 
     abbrev On : Line → Type 0
     On l = LineRoute trie A g Q (suc t) ra mu l
@@ -112,27 +115,26 @@ module _ (limits : Limits) (states : ℕ → State) (last : ℕ) (depth path : R
 
     -- ---- a READ of the path's end
 
-    module _ (p : List Ref) (r : Read) (e : operation.line ≡ line.Key (key.Read p r)) (h : KeyRoute trie A g Q t operation.read_at operation.moment (key.Read p r)) where
-      early : operation.read_at ≤ t
+    module _ (p : List Ref) (r : Read) (e : operation.line ≡ line.Key (key.Read p r)) (h : KeyRoute trie A g Q t was.read_at was.moment (key.Read p r)) where
+      early : was.read_at ≤ t
       early =
           let past = ((past_at limits states last run t within).operations k operation own.runs).0 in
           let count = steps_at limits states last run t within in
           omega arith
 
-      counted : ra ≡ counts_at r.line t operation.read_at
+      counted : ra ≡ counts_at r.line t was.read_at
       counted =
-          ap (λ x. counted_from (line_action state operation x) state.steps operation.read_at) e
-          ∙ ap (λ n. counted_from (read_action r.indirection r.line) n operation.read_at) (steps_at limits states last run t within) ∙ read_counts r.indirection r.line t operation.read_at
+          own_counts limits states last run t k lt operation own r.indirection r.line (ap stage_of e)
 
-      bounds : (since t operation.read_at r.line ≤ ra) × (ra ≤ t)
-      bounds = let c = counts_since r.line t operation.read_at early in (omega (arith, c.0, counted), omega (arith, c.1, counted))
+      bounds : (since t was.read_at r.line ≤ ra) × (ra ≤ t)
+      bounds = let c = counts_since r.line t was.read_at early in (omega (arith, c.0, counted), omega (arith, c.1, counted))
 
-      given : (m : Ref) → read_step state operation r ≡ Gives m → GivenAt limits states last run t operation r.indirection m
+      given : (m : Ref) → read_step state operation r ≡ Gives m → GivenAt limits states last run t k r.indirection m
       given m gives =
           given_at limits states last run t k lt operation own r.indirection r.line (ap stage_of e) m
           (given_read r.indirection (read_after state.heap operation.access (word_at state (handle_of operation.call)) r.indirection r.line) m gives)
 
-      gives_at : (m : Ref) → read_step state operation r ≡ Gives m → GivesAt states t (suc k) operation r.indirection m
+      gives_at : (m : Ref) → read_step state operation r ≡ Gives m → GivesAt states run.records t (suc k) operation r.indirection m
       gives_at m gives = record {
         outcome = own.outcome;
         moves = own.moves;
@@ -142,6 +144,7 @@ module _ (limits : Limits) (states : ℕ → State) (last : ℕ) (depth path : R
         reads = ap read_of e;
         of = refl;
         gives = gives;
+        notes = own_notes states run.records t k operation own;
       }
 
       is_given : (m : Ref) → read_step state operation r ≡ Gives m → IsGiven trie A mu (current p) m
@@ -155,7 +158,7 @@ module _ (limits : Limits) (states : ℕ → State) (last : ℕ) (depth path : R
       read_on : (after : After Read Ref) → read_step state operation r ≡ after → On (key_after_read p after)
       read_on (Goes next) e' =
           let b = bounds in (
-            route_later trie A g Q (since t operation.read_at r.line) (since (suc t) ra next.line) p (since_next next.line t ra (since t operation.read_at r.line) b.0 b.1) h.0,
+            route_later trie A g Q (since t was.read_at r.line) (since (suc t) ra next.line) p (since_next next.line t ra (since t was.read_at r.line) b.0 b.1) h.0,
             read_stays state operation r next e' ∙ h.1,
           )
       read_on (Gives m) e' =
@@ -163,7 +166,7 @@ module _ (limits : Limits) (states : ℕ → State) (last : ℕ) (depth path : R
           let at = given m e' in
           record {
             past = omega (arith, at.past);
-            route = route_later trie A g Q (since t operation.read_at r.line) (suc mu) p (omega (arith, b.0, at.from)) h.0;
+            route = route_later trie A g Q (since t was.read_at r.line) (suc mu) p (omega (arith, b.0, at.from)) h.0;
             given = is_given m e';
           }
 
@@ -259,35 +262,35 @@ module _ (limits : Limits) (states : ℕ → State) (last : ℕ) (depth path : R
     -- ---- KEY
 
     -- the moment stays where no READ is
-    same_moment : (l : Line) → operation.line ≡ l → read_of l ≡ None → operation.moment ≡ moment_after state operation
-    same_moment l e none = sym (ap (λ x. moment_from state operation (read_of x)) e ∙ ap (moment_from state operation) none)
+    same_moment : (l : Line) → operation.line ≡ l → read_of l ≡ None → was.moment ≡ mu
+    same_moment l e none = quiet_moment limits states last run t k lt operation own (ap read_of e ∙ none)
 
-    at_next : (l : Line) → operation.line ≡ l → read_of l ≡ None → (p : List Ref) (main : Ref) → IsAt trie operation.access g (key_of operation.call) t operation.moment p main →
-        IsAt trie operation.access g (key_of operation.call) (suc t) (moment_after state operation) p main
+    at_next : (l : Line) → operation.line ≡ l → read_of l ≡ None → (p : List Ref) (main : Ref) → IsAt trie operation.access g (key_of operation.call) t was.moment p main →
+        IsAt trie operation.access g (key_of operation.call) (suc t) mu p main
     at_next l e none p main at =
         subst (λ mu. IsAt trie operation.access g (key_of operation.call) (suc t) mu p main) (same_moment l e none) (record { past = omega (arith, at.past); route = at.route; given = at.given })
 
-    key_on : (l : KeyLine) → operation.line ≡ line.Key l → operation.generation ≡ Some g → KeyRoute trie operation.access g (key_of operation.call) t operation.read_at operation.moment l →
+    key_on : (l : KeyLine) → operation.line ≡ line.Key l → operation.generation ≡ Some g → KeyRoute trie operation.access g (key_of operation.call) t was.read_at was.moment l →
         On (key_after state operation l)
     key_on (key.Read p r) e begun h = read_on p r e h (read_step state operation r) refl
     key_on (key.Main p main) e begun h =
-        main_on trie ok g state operation t (read_at_after state operation) (moment_after state operation) lt p main (at_next (line.Key (key.Main p main)) e refl p main h) (node_at state.heap main)
+        main_on trie ok g state operation t ra mu lt p main (at_next (line.Key (key.Main p main)) e refl p main h) (node_at state.heap main)
     key_on (key.Entry p main position) e begun h =
-        entry_on trie ok g state operation t (read_at_after state operation) (moment_after state operation) lt p main (at_next (line.Key (key.Entry p main position)) e refl p main h) position
+        entry_on trie ok g state operation t ra mu lt p main (at_next (line.Key (key.Entry p main position)) e refl p main h) position
         (node_at state.heap (entry_at state.heap main position))
         (λ generation w is passes. leads_there p main position e generation w is passes begun)
     key_on (key.Listed p main position) e begun h =
-        listed_on trie ok g state operation t (read_at_after state operation) (moment_after state operation) lt p main (at_next (line.Key (key.Listed p main position)) e refl p main h) position
+        listed_on trie ok g state operation t ra mu lt p main (at_next (line.Key (key.Listed p main position)) e refl p main h) position
         (node_at state.heap (entry_at state.heap main position))
     key_on (key.Sibling p main position former) e begun h =
-        sibling_on trie ok g state operation t (read_at_after state operation) (moment_after state operation) lt p main
+        sibling_on trie ok g state operation t ra mu lt p main
         (at_next (line.Key (key.Sibling p main position former)) e refl p main h) position former
         (entry_at state.heap main (1 - position)) (node_at state.heap (entry_at state.heap main (1 - position)))
 
     -- ---- all lines
 
     line_on : (l : Line) → operation.line ≡ l → generation_from state operation l ≡ Some g → (operation.generation ≡ Some g →
-        LineRoute trie operation.access g (key_of operation.call) t operation.read_at operation.moment l) →
+        LineRoute trie operation.access g (key_of operation.call) t was.read_at was.moment l) →
         On (line_after state operation l)
     line_on (line.Root l) e begun h = root_on l e (root_after state.heap operation.access (word_at state (handle_of operation.call)) l) refl begun
     line_on (line.Key l) e begun h = key_on l e begun (h begun)
@@ -295,9 +298,9 @@ module _ (limits : Limits) (states : ℕ → State) (last : ℕ) (depth path : R
         build_on trie operation.access g (key_of operation.call) t _ _ state operation l
         (route_later trie operation.access g (key_of operation.call) t (suc t) _ (omega arith) (h begun))
     line_on (line.Swap why s) e begun h =
-        swap_on trie operation.access g (key_of operation.call) t (read_at_after state operation) (moment_after state operation) state operation why s
+        swap_on trie operation.access g (key_of operation.call) t ra mu state operation why s
         (swap_after state.heap operation.access (word_at state (handle_of operation.call)) s)
-        (swap_route trie operation.access g (key_of operation.call) t operation.read_at operation.moment (read_at_after state operation) (moment_after state operation) why s (h begun))
+        (swap_route trie operation.access g (key_of operation.call) t was.read_at was.moment ra mu why s (h begun))
     line_on (line.Renew l) e begun h =
         renew_on trie operation.access g (key_of operation.call) t _ _ state operation l
         (route_later trie operation.access g (key_of operation.call) t (suc t) _ (omega arith) (h begun))
@@ -312,10 +315,13 @@ module _ (limits : Limits) (states : ℕ → State) (last : ℕ) (depth path : R
 
   abbrev pub HasRoute : ℕ → ℕ → Operation → Type 0
   HasRoute t k operation =
-      (g : ℕ) → operation.generation ≡ Some g → LineRoute trie operation.access g (key_of operation.call) t operation.read_at operation.moment operation.line
+      (g : ℕ) → operation.generation ≡ Some g → LineRoute trie operation.access g (key_of operation.call) t (moment_of limits states last run t k).read_at
+      (moment_of limits states last run t k).moment operation.line
 
   pub has_route : (t : ℕ) → t ≤ last → (k : ℕ) (operation : Operation) → Runs (states t) k operation → HasRoute t k operation
   has_route =
-      each_operation limits states last run HasRoute (λ t k operation b h. h) (λ t k lt call o m d g e. absurd (none-some g e))
-      (λ t k lt operation runs h g e. later trie operation.access g (key_of operation.call) t operation.read_at operation.moment operation.line (h g e))
+      each_operation limits states last run HasRoute (λ t k operation b h. h) (λ t k lt call o m d notes g e. absurd (none-some g e))
+      (λ t k lt operation runs same h g e.
+      subst (λ (n : Moment). LineRoute trie operation.access g (key_of operation.call) (suc t) n.read_at n.moment operation.line) (sym same)
+      (later trie operation.access g (key_of operation.call) t (moment_of limits states last run t k).read_at (moment_of limits states last run t k).moment operation.line (h g e)))
       (λ t k lt operation own h g e. line_on t k lt operation own g operation.line refl e (h g))

@@ -9,7 +9,7 @@ use Rattle.proof_updates.specs.Beneath.machine_model.specs.declared.lines.Purpos
 use Rattle.proof_updates.specs.Beneath.machine_model.specs.declared.operations.Operation.{Operation}
 use Rattle.proof_updates.specs.Beneath.machine_model.specs.declared.reading.SwapLine.TheVariants as swap
 use Rattle.proof_updates.specs.Beneath.machine_model.specs.declared.reading.SwapLine.TheVariants.{Deciding}
-use Rattle.proof_updates.specs.Beneath.machine_model.specs.declared.steps.Limits.{Limits}
+use Rattle.proof_updates.specs.Beneath.machine_model.specs.declared.steps.Bounds.{Bounds}
 use Rattle.proof_updates.specs.Beneath.machine_model.specs.declared.steps.Step.{Step}
 use Rattle.proof_updates.specs.Beneath.machine_model.specs.Calls.{key_of}
 use Rattle.proof_updates.specs.Beneath.machine_model.specs.States.{State}
@@ -43,9 +43,9 @@ below_no_swap (line.Renew l) b = tt
 below_no_swap (line.Clean l) b = tt
 below_no_swap line.Impossible b = tt
 
-module _ (limits : Limits) (states : ℕ → State) (last : ℕ) (run : IsRun limits states last) where
+module _ (limits : Bounds) (states : ℕ → State) (last : ℕ) (run : IsRun limits states last) where
   -- what a repair's READ gave was given
-  was_given : (t actor id start : ℕ) (i m : Ref) → t ≤ last → GaveBelow states last t actor id start i m → WasGiven states last start t i m
+  was_given : (t actor id start : ℕ) (i m : Ref) → t ≤ last → GaveBelow states run.records last t actor id start i m → WasGiven states last start t i m
   was_given t actor id start i m within g =
       let given = repairs_are_given limits states last run g.at (omega (arith, g.past, within)) actor g.operation start i m (record {
         outcome = g.outcome;
@@ -56,22 +56,25 @@ module _ (limits : Limits) (states : ℕ → State) (last : ℕ) (run : IsRun li
         reads = g.reads;
         of = g.of;
         gives = g.gives;
+        notes = g.notes;
       }) g.its g.below in
       ((given.0.0, omega (arith, given.0.1, g.past), given.0.2), given.1)
 
-  pub repairs_are_known : RepairsAreKnown limits states last
+  pub repairs_are_known : RepairsAreKnown limits states run.records last
   repairs_are_known t s within own repairing = by own.why repairing own.knows
     where
-      more : (i m : Ref) → GaveBelow states last t own.actor own.owner.id own.start i m → WasGiven states last own.start t i m
+      more : (i m : Ref) → GaveBelow states run.records last t own.actor own.owner.id own.start i m → WasGiven states last own.start t i m
       more i m g = was_given t own.actor own.owner.id own.start i m (omega (arith, within)) g
 
-      by : (why : Purpose) → IsRepairing why → KnowsFresh limits states last (assigned_at states last) t own.actor own.start own.owner own.replaced own.fresh why →
+      by : (why : Purpose) → IsRepairing why → KnowsFresh limits states run.records last (assigned_at states last) t own.actor own.start own.owner own.replaced own.fresh why →
           IsRepaired (node_under states last) (assigned_at states last own.start t) (WasGiven states last own.start t) own.start own.replaced own.fresh
       by (purpose.Renew path) r k =
-          repair_more (node_under states last) (assigned_at states last own.start t) (GaveBelow states last t own.actor own.owner.id own.start) (WasGiven states last own.start t) more own.start
+          repair_more (node_under states last) (assigned_at states last own.start t) (GaveBelow states run.records last t own.actor own.owner.id own.start)
+          (WasGiven states last own.start t) more own.start
           (line.Swap (purpose.Renew path) (record { indirection = own.indirection; replaced = own.replaced; fresh = own.fresh; line = swap.Check })) k
       by purpose.Clean r k =
-          repair_more (node_under states last) (assigned_at states last own.start t) (GaveBelow states last t own.actor own.owner.id own.start) (WasGiven states last own.start t) more own.start
+          repair_more (node_under states last) (assigned_at states last own.start t) (GaveBelow states run.records last t own.actor own.owner.id own.start)
+          (WasGiven states last own.start t) more own.start
           (line.Swap purpose.Clean (record { indirection = own.indirection; replaced = own.replaced; fresh = own.fresh; line = swap.Check })) k
       by (purpose.Update path former) r k = absurd r
       by (purpose.Climb c) r k = absurd r
@@ -79,7 +82,7 @@ module _ (limits : Limits) (states : ℕ → State) (last : ℕ) (run : IsRun li
   -- ---- sites
 
   module _ (steps : ℕ → Step) (takes : TakesSteps states steps last) (keys : StepsFit steps last) where
-    pub sites_of_updates : SitesOfUpdates limits states last (depth_of_run states steps last)
+    pub sites_of_updates : SitesOfUpdates limits states run.records last (depth_of_run states steps last)
     sites_of_updates t s within own path former why =
         let site = updates_have_sites limits states steps last run takes keys t (omega (arith, within)) own.actor own.owner own.runs path former
         (record { indirection = own.indirection; replaced = own.replaced; fresh = own.fresh; line = Deciding own.deciding })

@@ -1,5 +1,5 @@
 -- What the order takes of contents: a step that commits no own update leaves them all, and one that does leads one of them on.
-use Rattle.std.proofs.Common.{◌≡◌, ◌≢◌, ℕ, suc, ◌<◌, ◌≤◌, ◌^◌, ◌⊎◌, inl, inr, List, ◌∷◌, Option, Some, refl, sym, ap, subst₂, ◌∙◌, []}
+use Rattle.std.proofs.Common.{◌≡◌, ◌≢◌, ℕ, suc, ◌<◌, ◌≤◌, ◌^◌, ◌⊎◌, inl, inr, List, ◌∷◌, Option, Some, refl, sym, ap, subst₂, ◌∙◌, [], arith}
 use Rattle.std.proofs.lemmas.Option.{same_Some}
 use Rattle.proof_updates.specs.Beneath.ctrie_base.specs.Hashes.{hash_of}
 use Rattle.proof_updates.specs.Beneath.history.specs.declared.calls.Access.TheVariants.{Writable}
@@ -9,11 +9,10 @@ use Rattle.proof_updates.specs.Beneath.machine_model.specs.declared.lines.Purpos
 use Rattle.proof_updates.specs.Beneath.machine_model.specs.declared.lines.Line.TheVariants as line
 use Rattle.proof_updates.specs.Beneath.machine_model.specs.declared.operations.Operation.{Operation}
 use Rattle.proof_updates.specs.Beneath.machine_model.specs.declared.reading.SwapLine.TheVariants as swap
-use Rattle.proof_updates.specs.Beneath.machine_model.specs.declared.steps.Limits.{Limits}
+use Rattle.proof_updates.specs.Beneath.machine_model.specs.declared.steps.Bounds.{Bounds}
 use Rattle.proof_updates.specs.Beneath.machine_model.specs.declared.steps.Step.{Step}
 use Rattle.proof_updates.specs.Beneath.machine_model.specs.Calls.{key_of, changed_reply}
 use Rattle.proof_updates.specs.Beneath.machine_model.specs.States.{State, operation_of}
-use Rattle.proof_updates.specs.Beneath.machine_model.specs.Acting.{entered}
 use Rattle.proof_updates.specs.Beneath.machine_model.specs.Times.{IsRun}
 use Rattle.proof_updates.specs.Beneath.proof_generations.specs.Running.{Runs}
 use Rattle.proof_updates.specs.Beneath.proof_contents.specs.Tries.{Trie, generation, node_in, content}
@@ -31,30 +30,33 @@ use Rattle.proof_updates.proofs.Tries.Does.{own_does}
 use Rattle.proof_updates.proofs.Tries.Updates.{trie_ok, updates_act}
 use Rattle.proof_updates.proofs.Handles.Committing.{own_committed}
 use Rattle.proof_shape.proofs.Held.Commits.{fresh_commits_at}
+use Rattle.proof_updates.specs.Beneath.machine_model.specs.Records.{entered}
+use Rattle.proof_updates.specs.Beneath.machine_model.proofs.Times.{steps_at}
 
-module _ (limits : Limits) (states : ℕ → State) (last : ℕ) (t : ℕ) (s : Step) where
+module _ (limits : Bounds) (states : ℕ → State) (last : ℕ) (run : IsRun limits states last) (t : ℕ) (within : t ≤ last) (s : Step) where
   abbrev Own : Type 0
-  Own = OwnCommit limits states last (assigned_at states last) t s
+  Own = OwnCommit limits states run.records last (assigned_at states last) t s
 
-  none_enters : CommitsNone (states t) s → entered_by_step (states t) s ≡ []
+  none_enters : CommitsNone (states t) s → entered_by_step (run.records t) (states t) s ≡ []
   none_enters none = by_step s none
     where
-      by_step : (x : Step) → CommitsNone (states t) x → entered_by_step (states t) x ≡ []
+      by_step : (x : Step) → CommitsNone (states t) x → entered_by_step (run.records t) (states t) x ≡ []
       by_step x (begins actor call) = refl
-      by_step x (goes actor operation runs nothing) = ap (entered (states t)) (ap (committed_of (states t)) runs ∙ nothing)
+      by_step x (goes actor operation runs nothing) = ap (entered (run.records t) (states t).steps) (ap (committed_of (states t)) runs ∙ nothing)
       by_step x sweeps = refl
 
-  pub own_enters : (own : Own) → entered_by_step (states t) s ≡ places_for (states t) own.owner t own.why
-  own_enters own = ap (entered (states t)) (own_committed limits states last t s own) ∙ own.enters
+  pub own_enters : (own : Own) → entered_by_step (run.records t) (states t) s ≡ places_for (run.records t) own.owner t own.why
+  own_enters own = ap (entered (run.records t) (states t).steps) (own_committed limits states run.records last t s own)
+      ∙ ap (λ n. entered (run.records t) n (Some own.fresh)) (steps_at limits states last run t within) ∙ own.enters
 
-  nobody_enters : (own : Own) → entered_by_step (states t) s ≡ [] → (p : List Ref) (former : Option ℕ) → own.why ≡ purpose.Update p former → ⊥
-  nobody_enters own none p former e = by_places (sym none ∙ own_enters own ∙ ap (places_for (states t) own.owner t) e)
+  nobody_enters : (own : Own) → entered_by_step (run.records t) (states t) s ≡ [] → (p : List Ref) (former : Option ℕ) → own.why ≡ purpose.Update p former → ⊥
+  nobody_enters own none p former e = by_places (sym none ∙ own_enters own ∙ ap (places_for (run.records t) own.owner t) e)
     where
       by_places : {place : Place} → [] ≡ place ∷ [] → ⊥
       by_places bad = cc
 
-module _ (limits : Limits) (states : ℕ → State) (last : ℕ) (depth path : Ref → ℕ) (run : IsRun limits states last)
-    (sites : SitesOfUpdates limits states last depth)
+module _ (limits : Bounds) (states : ℕ → State) (last : ℕ) (depth path : Ref → ℕ) (run : IsRun limits states last)
+    (sites : SitesOfUpdates limits states run.records last depth)
     (shape : HasShape (trie_of limits states last depth path)) where
   abbrev trie : Trie
   trie = trie_of limits states last depth path
@@ -63,22 +65,22 @@ module _ (limits : Limits) (states : ℕ → State) (last : ℕ) (depth path : R
   ok = trie_ok limits states last depth path run sites shape
 
   -- a step that commits no own update
-  pub steps_keep : StepsKeep states last (trie_of limits states last depth path)
-  steps_keep t s o lt m none g = by_step (fresh_commits_at limits states last run t lt s o m)
+  pub steps_keep : StepsKeep states run.records last (trie_of limits states last depth path)
+  steps_keep t s o lt m notes none g = by_step (fresh_commits_at limits states last run t lt s o m notes)
     where
-      by_step : MainStep limits states last (assigned_at states last) t s → content trie g (suc t) ≡ content trie g t
+      by_step : MainStep limits states run.records last (assigned_at states last) t s → content trie g (suc t) ≡ content trie g t
       by_step (stays nothing same) = nothing_still trie ok t g lt same
       by_step (changes own) = by_kind (own_does limits states last depth path run sites t s lt own)
         where
           by_kind : ((p : List Ref) × (former : Option ℕ) × (own.why ≡ purpose.Update p former))
               ⊎ IsRepair trie (generation trie own.indirection) t (node_in trie t own.indirection) (node_in trie (suc t) own.indirection) → content trie g (suc t) ≡ content trie g t
-          by_kind (inl (p, former, e)) = absurd (nobody_enters limits states last t s own none p former e)
+          by_kind (inl (p, former, e)) = absurd (nobody_enters limits states last run t (omega (arith, lt)) s own none p former e)
           by_kind (inr r) = repair_still trie ok t g own.indirection lt own.others r
 
   module _ (fits : (t : ℕ) → t ≤ last → (k : ℕ) (operation : Operation) → Runs (states t) k operation → key_of operation.call < 2 ^ 64) where
-    module _ (t : ℕ) (s : Step) (lt : t < last) (u : OwnUpdate states last t s) (own : OwnCommit limits states last (assigned_at states last) t s) where
+    module _ (t : ℕ) (s : Step) (lt : t < last) (u : OwnUpdate states run.records last t s) (own : OwnCommit limits states run.records last (assigned_at states last) t s) where
       same_fresh : u.its.fresh ≡ own.fresh
-      same_fresh = same_Some _ _ (sym u.commits ∙ own_committed limits states last t s own)
+      same_fresh = same_Some _ _ (sym u.commits ∙ own_committed limits states run.records last t s own)
 
       same_actor : suc u.k ≡ own.actor
       same_actor =
@@ -100,7 +102,7 @@ module _ (limits : Limits) (states : ℕ → State) (last : ℕ) (depth path : R
           sym own.swaps ∙ ap (λ (x : Operation). x.line) same_owner ∙ u.at in
           cc
 
-      update_is : entered_by_step (states t) s ≢ [] → Update limits states last (content trie) t (entered_by_step (states t) s)
+      update_is : entered_by_step (run.records t) (states t) s ≢ [] → Update limits states run.records last (content trie) t (entered_by_step (run.records t) (states t) s)
       update_is some =
           let act = updates_act limits states last depth path run sites shape fits t s lt own u.path u.former same_why in
           record {
@@ -121,9 +123,9 @@ module _ (limits : Limits) (states : ℕ → State) (last : ℕ) (depth path : R
           }
 
     -- a step that commits one
-    pub updates_follow : UpdatesFollow limits states last (trie_of limits states last depth path)
-    updates_follow t s o lt m some = by_step (fresh_commits_at limits states last run t lt s o m)
+    pub updates_follow : UpdatesFollow limits states run.records last (trie_of limits states last depth path)
+    updates_follow t s o lt m notes some = by_step (fresh_commits_at limits states last run t lt s o m notes)
       where
-        by_step : MainStep limits states last (assigned_at states last) t s → Update limits states last (content trie) t (entered_by_step (states t) s)
-        by_step (stays nothing same) = absurd (some (none_enters limits states last t s nothing))
-        by_step (changes own) = update_is t s lt (own_updates_enter limits states last run t s o lt m some) own some
+        by_step : MainStep limits states run.records last (assigned_at states last) t s → Update limits states run.records last (content trie) t (entered_by_step (run.records t) (states t) s)
+        by_step (stays nothing same) = absurd (some (none_enters limits states last run t (omega (arith, lt)) s nothing))
+        by_step (changes own) = update_is t s lt (own_updates_enter limits states last run t s o lt m notes some) own some

@@ -2,7 +2,7 @@
 use Rattle.std.specs.Prelude.{ℕ, ◌<◌, ◌≤◌, ◌^◌}
 use Rattle.proof_updates.specs.Beneath.slot_arena.specs.declared.refs.Ref.{Ref}
 use Rattle.proof_updates.specs.Beneath.machine_model.specs.declared.operations.Operation.{Operation}
-use Rattle.proof_updates.specs.Beneath.machine_model.specs.declared.steps.Limits.{Limits}
+use Rattle.proof_updates.specs.Beneath.machine_model.specs.declared.steps.Bounds.{Bounds}
 use Rattle.proof_updates.specs.Beneath.machine_model.specs.declared.steps.Step.{Step}
 use Rattle.proof_updates.specs.Beneath.machine_model.specs.Calls.{key_of}
 use Rattle.proof_updates.specs.Beneath.machine_model.specs.States.{State}
@@ -22,14 +22,14 @@ use Rattle.proof_updates.proofs.Tries.Facts as facts
 use Rattle.proof_updates.proofs.Routes.Paths as paths
 use Rattle.proof_updates.proofs.Answers.Replies as replies
 
-module _ (limits : Limits) (states : ℕ → State) (steps : ℕ → Step) (last : ℕ) (run : IsRun limits states last) (takes : TakesSteps states steps last) (keys : StepsFit steps last) where
+module _ (limits : Bounds) (states : ℕ → State) (steps : ℕ → Step) (last : ℕ) (run : IsRun limits states last) (takes : TakesSteps states steps last) (keys : StepsFit steps last) where
   abbrev depth : Ref → ℕ
   depth = depth_of_run states steps last
 
   abbrev path : Ref → ℕ
   path = path_of_run states steps last
 
-  sites : SitesOfUpdates limits states last (depth_of_run states steps last)
+  sites : SitesOfUpdates limits states run.records last (depth_of_run states steps last)
   sites = sites_of_updates limits states last run steps takes keys
 
   shape : HasShape (trie_of_run limits states steps last)
@@ -45,17 +45,17 @@ module _ (limits : Limits) (states : ℕ → State) (steps : ℕ → Step) (last
   pub paths_lie : law.PathsLie states last (trie_of_run limits states steps last)
   paths_lie = paths.paths_lie limits states last depth path run is_trie
 
-  pub keys_look : law.KeysLook states last (trie_of_run limits states steps last)
+  pub keys_look : law.KeysLook states run.records last (trie_of_run limits states steps last)
   keys_look = paths.keys_look limits states last depth path run is_trie
 
-  pub updates_at : law.UpdatesAt limits states last (trie_of_run limits states steps last)
+  pub updates_at : law.UpdatesAt limits states run.records last (trie_of_run limits states steps last)
   updates_at = updates.updates_at limits states last depth path run sites shape fits
 
-  pub steps_keep : law.StepsKeep states last (trie_of_run limits states steps last)
+  pub steps_keep : law.StepsKeep states run.records last (trie_of_run limits states steps last)
   steps_keep = facts.steps_keep limits states last depth path run sites shape
 
-  pub updates_follow : law.UpdatesFollow limits states last (trie_of_run limits states steps last)
+  pub updates_follow : law.UpdatesFollow limits states run.records last (trie_of_run limits states steps last)
   updates_follow = facts.updates_follow limits states last depth path run sites shape fits
 
-  pub replies_right : law.RepliesRight limits states last (trie_of_run limits states steps last)
+  pub replies_right : law.RepliesRight limits states run.records last (trie_of_run limits states steps last)
   replies_right = replies.replies_right limits states last depth path run is_trie fits

@@ -7,7 +7,7 @@ use Rattle.proof_updates.specs.Beneath.machine_model.specs.declared.lines.Line.T
 use Rattle.proof_updates.specs.Beneath.machine_model.specs.declared.operations.Operation.{Operation}
 use Rattle.proof_updates.specs.Beneath.machine_model.specs.declared.reading.Swap.{Swap}
 use Rattle.proof_updates.specs.Beneath.machine_model.specs.declared.reading.SwapLine.TheVariants as swap
-use Rattle.proof_updates.specs.Beneath.machine_model.specs.declared.steps.Limits.{Limits}
+use Rattle.proof_updates.specs.Beneath.machine_model.specs.declared.steps.Bounds.{Bounds}
 use Rattle.proof_updates.specs.Beneath.machine_model.specs.declared.steps.Step.{Step}
 use Rattle.proof_updates.specs.Beneath.machine_model.specs.Calls.{key_of}
 use Rattle.proof_updates.specs.Beneath.machine_model.specs.Paths.{current}
@@ -28,11 +28,12 @@ use Rattle.proof_updates.specs.Updates.{UpdatesAt, UpdatesAct}
 use Rattle.proof_updates.proofs.Tries.Does.{start_is, made, steps_do}
 use Rattle.proof_updates.proofs.Routes.Known.{Route, LineRoute, route_end}
 use Rattle.proof_updates.proofs.Routes.Each.{has_route}
+use Rattle.proof_updates.proofs.Answers.Given.{moment_of}
 
 -- ---- own updates
 
-module _ (limits : Limits) (states : ℕ → State) (last : ℕ) (depth path : Ref → ℕ) (run : IsRun limits states last)
-    (sites : SitesOfUpdates limits states last depth)
+module _ (limits : Bounds) (states : ℕ → State) (last : ℕ) (depth path : Ref → ℕ) (run : IsRun limits states last)
+    (sites : SitesOfUpdates limits states run.records last depth)
     (shape : HasShape (trie_of limits states last depth path)) where
   abbrev trie : Trie
   trie = trie_of limits states last depth path
@@ -49,7 +50,8 @@ module _ (limits : Limits) (states : ℕ → State) (last : ℕ) (depth path : R
   }
 
   module _ (fits : (t : ℕ) → t ≤ last → (k : ℕ) (operation : Operation) → Runs (states t) k operation → key_of operation.call < 2 ^ 64) where
-    module _ (t : ℕ) (s : Step) (lt : t < last) (own : OwnCommit limits states last (assigned_at states last) t s) (p : List Ref) (former : Option ℕ) (e : own.why ≡ purpose.Update p former) where
+    module _ (t : ℕ) (s : Step) (lt : t < last) (own : OwnCommit limits states run.records last (assigned_at states last) t s) (p : List Ref) (former : Option ℕ)
+        (e : own.why ≡ purpose.Update p former) where
       place : (k : ℕ) × (own.actor ≡ suc k) × Runs (states t) k own.owner
       place = place_of_actor (states t) own.actor own.owner own.runs
 
@@ -60,8 +62,10 @@ module _ (limits : Limits) (states : ℕ → State) (last : ℕ) (depth path : R
       route =
           let h = has_route limits states last depth path run trie_ok t (omega arith) place.0 own.owner place.2 own.start own.generation in
           subst (λ a. Route trie a own.start (key_of own.owner.call) t p) own.writable
-          (subst (λ why. LineRoute trie own.owner.access own.start (key_of own.owner.call) t own.owner.read_at own.owner.moment (line.Swap why its)) e
-          (subst (λ l. LineRoute trie own.owner.access own.start (key_of own.owner.call) t own.owner.read_at own.owner.moment l) own.swaps h))
+          (subst (λ why. LineRoute trie own.owner.access own.start (key_of own.owner.call) t (moment_of limits states last run t place.0).read_at
+          (moment_of limits states last run t place.0).moment (line.Swap why its)) e
+          (subst (λ l. LineRoute trie own.owner.access own.start (key_of own.owner.call) t (moment_of limits states last run t place.0).read_at
+          (moment_of limits states last run t place.0).moment l) own.swaps h))
 
       at : own.indirection ≡ current p
       at = subst (λ why. SwapsAt why own.indirection) e own.placed
@@ -78,7 +82,7 @@ module _ (limits : Limits) (states : ℕ → State) (last : ℕ) (depth path : R
 
       pub update_at : Updates trie t own.start own.owner.call former
       update_at =
-          let known = subst (λ why. KnowsFresh limits states last (assigned_at states last) t own.actor own.start own.owner own.replaced own.fresh why) e own.knows in
+          let known = subst (λ why. KnowsFresh limits states run.records last (assigned_at states last) t own.actor own.start own.owner own.replaced own.fresh why) e own.knows in
           let u = made limits states last depth path run sites t s lt own p former e known in
           record {
             indirection = own.indirection;
@@ -93,10 +97,10 @@ module _ (limits : Limits) (states : ℕ → State) (last : ℕ) (depth path : R
             fits = fits t (omega arith) place.0 own.owner place.2;
           }
 
-    pub updates_at : UpdatesAt limits states last (trie_of limits states last depth path)
+    pub updates_at : UpdatesAt limits states run.records last (trie_of limits states last depth path)
     updates_at t s lt own p former e = update_at t s lt own p former e
 
-    pub updates_act : UpdatesAct limits states last (trie_of limits states last depth path)
+    pub updates_act : UpdatesAct limits states run.records last (trie_of limits states last depth path)
     updates_act t s lt own p former e =
         let u = update_at t s lt own p former e in (
           update_acts trie trie_ok t own.start own.owner.call former lt u,

@@ -10,21 +10,21 @@ use Rattle.proof_updates.specs.Beneath.history.specs.Worlds.{KeyMap}
 use Rattle.proof_updates.specs.Beneath.history.specs.Changes.{change_in}
 use Rattle.proof_updates.specs.Beneath.slot_arena.specs.declared.refs.Ref.{Ref}
 use Rattle.proof_updates.specs.Beneath.machine_model.specs.declared.roots.Root.{Root}
-use Rattle.proof_updates.specs.Beneath.machine_model.specs.declared.steps.Limits.{Limits}
+use Rattle.proof_updates.specs.Beneath.machine_model.specs.declared.steps.Bounds.{Bounds}
 use Rattle.proof_updates.specs.Beneath.machine_model.specs.declared.steps.Outcome.{Outcome}
 use Rattle.proof_updates.specs.Beneath.machine_model.specs.declared.steps.Step.{Step}
 use Rattle.proof_updates.specs.Beneath.machine_model.specs.declared.steps.Step.TheVariants as step
 use Rattle.proof_updates.specs.Beneath.machine_model.specs.Calls.{changed_reply}
 use Rattle.proof_updates.specs.Beneath.machine_model.specs.Contents.{content_at}
 use Rattle.proof_updates.specs.Beneath.machine_model.specs.Keys.{KeysFit}
-use Rattle.proof_updates.specs.Beneath.machine_model.specs.Machine.{AreLimits, next, run}
+use Rattle.proof_updates.specs.Beneath.machine_model.specs.Machine.{AreBounds, next, run}
 use Rattle.proof_updates.specs.Beneath.machine_model.specs.States.{State, root_at}
 use Rattle.proof_updates.specs.Touching.{Reaches, CommitsUpdate, CommitsRepair, CarriesOutCall, Touches}
 
 -- of the states before and after each step that is taken
-abbrev pub OfEachStep : (Limits → State → Step → State → Type 0) → Type 0
+abbrev pub OfEachStep : (Bounds → State → Step → State → Type 0) → Type 0
 OfEachStep Law =
-    (limits : Limits) (steps : List Step) (s : Step) (outcome : Outcome) (after : State) → AreLimits limits → KeysFit (steps ++ s ∷ []) →
+    (limits : Bounds) (steps : List Step) (s : Step) (outcome : Outcome) (after : State) → AreBounds limits → KeysFit (steps ++ s ∷ []) →
     next (run limits steps) s ≡ Ok (outcome, after) → Law limits (run limits steps) s after
 
 -- the handle is open, of this kind, and these are the pairs of its map, by rising key
@@ -43,31 +43,31 @@ pub record Turns (hash : ℕ → ℕ) (call : Call) (former : Option ℕ) (earli
   pub changes : change_in hash call before ≡ Some (changed_reply call former, after)
 
 -- a handle that the step doesn't touch stays open, of its kind, and keeps its content
-abbrev pub UntouchedStay : Limits → State → Step → State → Type 0
+abbrev pub UntouchedStay : Bounds → State → Step → State → Type 0
 UntouchedStay limits before s after =
     (handle : ℕ) (access : Access) (pairs : List (ℕ × ℕ)) → HandleHolds before handle access pairs → ¬ Touches before s handle → HandleHolds after handle access pairs
 
 -- the commit of an operation's own update does that call's change to the content of each handle that reaches its indirection
-abbrev pub UpdatesChange : Limits → State → Step → State → Type 0
+abbrev pub UpdatesChange : Bounds → State → Step → State → Type 0
 UpdatesChange limits before s after =
     (handle : ℕ) (access : Access) (pairs : List (ℕ × ℕ)) (i : Ref) (call : Call) (former : Option ℕ) → HandleHolds before handle access pairs → CommitsUpdate before s i call former →
     Reaches before handle i → (later : List (ℕ × ℕ)) × HandleHolds after handle access later × Turns (hash_of limits.hash) call former pairs later
 
 -- the commit of a node made by renewing, cleaning or climbing leaves all handles and their contents alone
-abbrev pub RepairsStay : Limits → State → Step → State → Type 0
+abbrev pub RepairsStay : Bounds → State → Step → State → Type 0
 RepairsStay limits before s after =
     (handle : ℕ) (access : Access) (pairs : List (ℕ × ℕ)) → HandleHolds before handle access pairs → CommitsRepair before s → HandleHolds after handle access pairs
 
 -- a clear that is carried out leaves its handle empty
-abbrev pub ClearsEmpty : Limits → State → Step → State → Type 0
+abbrev pub ClearsEmpty : Bounds → State → Step → State → Type 0
 ClearsEmpty limits before s after = (handle : ℕ) (opens : Option ℕ) → CarriesOutCall before s (Clear handle) opens → HandleHolds after handle Writable []
 
 -- a close takes its handle away
-abbrev pub ClosesTake : Limits → State → Step → State → Type 0
+abbrev pub ClosesTake : Bounds → State → Step → State → Type 0
 ClosesTake limits before s after = (actor handle : ℕ) → s ≡ step.Begin actor (Close handle) → root_at after handle ≡ None
 
 -- a handle that a step opens was copied by a snapshot, and is writable, or by a freeze, and is read-only; its content is that of the handle copied
-abbrev pub OpenedCopy : Limits → State → Step → State → Type 0
+abbrev pub OpenedCopy : Bounds → State → Step → State → Type 0
 OpenedCopy limits before s after =
     (handle : ℕ) (root : Root) → root_at before handle ≡ None → root_at after handle ≡ Some root →
     (copied : ℕ) × ((CarriesOutCall before s (Snapshot copied) (Some handle) × HandleHolds after handle Writable (content_at before copied))

@@ -1,4 +1,4 @@
-use Rattle.proof_commits.proofs.Course.OfLists.{moment_is_first as law}
+use Rattle.proof_commits.proofs.Course.AlongLists.{moment_is_first as law}
 use Rattle.proof_commits.proofs.laws.moment_is_first.Goals as goal
 
 pub returns : goal.returns

@@ -4,7 +4,8 @@ use Rattle.proof_counterexamples.specs.Beneath.slot_arena.specs.Heaps.{stored, n
 use Rattle.proof_counterexamples.specs.Beneath.slot_arena.specs.Counts.{count_of}
 use Rattle.proof_counterexamples.specs.Beneath.places.specs.Places.{ids_by_place}
 use Rattle.machine_model.specs.States.{first_state}
-use Rattle.machine_model.specs.Machine.{taken_below, least_from, next, run, run_from}
+use Rattle.machine_model.specs.Machine.{taken_below, least_from, next}
+use Rattle.machine_model.specs.Records.{record_from, record_of}
 use Rattle.machine_model.specs.Runs.{sized}
 use Rattle.proof_counterexamples.specs.Orders.{with_late_reads_at_the_end}
 use Rattle.proof_counterexamples.specs.Runs.{late_get}
@@ -12,5 +13,5 @@ use Rattle.proof_counterexamples.proofs.Refuting.{begun_as, ended_as, is_refuted
 use Rattle.proof_counterexamples.proofs.laws.late_read_at_the_end.Goals as goal
 
 pub returns : goal.returns
-unfolding taken_below least_from next run_from first_state stored node_at prev_at with_main with_prev taken freed count_of ids_by_place ones ones_in begun_as ended_as is_refuted
-returns c = (refl, refl, refused with_late_reads_at_the_end (run (sized 64 2) late_get) refl)
+unfolding taken_below least_from next record_from first_state stored node_at prev_at with_main with_prev taken freed count_of ids_by_place ones ones_in begun_as ended_as is_refuted
+returns c = (refl, refl, refused with_late_reads_at_the_end (sized 64 2) (record_of (sized 64 2) late_get) refl)

@@ -4,14 +4,14 @@ use Rattle.proof_counterexamples.specs.Beneath.slot_arena.specs.Heaps.{stored, n
 use Rattle.proof_counterexamples.specs.Beneath.slot_arena.specs.Counts.{count_of}
 use Rattle.proof_counterexamples.specs.Beneath.places.specs.Places.{ids_by_place}
 use Rattle.machine_model.specs.States.{first_state}
-use Rattle.machine_model.specs.Orders.{order_of}
+use Rattle.machine_model.specs.Records.{order_of}
 use Rattle.machine_model.specs.Machine.{taken_below, least_from, next}
 use Rattle.machine_model.specs.Runs.{sized}
-use Rattle.proof_counterexamples.specs.Machines.{run_of, machine_from, by_the_new_root}
+use Rattle.proof_counterexamples.specs.Machines.{record_by, machine_from, by_the_new_root}
 use Rattle.proof_counterexamples.specs.Runs.{late_removal}
 use Rattle.proof_counterexamples.proofs.Refuting.{begun_as, ended_as, is_refuted, refused}
 use Rattle.proof_counterexamples.proofs.laws.late_remove_by_the_new_root.Goals as goal
 
 pub returns : goal.returns
 unfolding taken_below least_from next machine_from first_state stored node_at prev_at with_main with_prev taken freed count_of ids_by_place ones ones_in begun_as ended_as is_refuted
-returns c = (refl, refl, refused order_of (run_of by_the_new_root (sized 64 2) late_removal) refl)
+returns c = (refl, refl, refused order_of (sized 64 2) (record_by by_the_new_root (sized 64 2) late_removal) refl)

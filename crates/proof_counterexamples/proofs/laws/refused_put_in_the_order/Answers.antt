@@ -4,7 +4,8 @@ use Rattle.proof_counterexamples.specs.Beneath.slot_arena.specs.Heaps.{stored, n
 use Rattle.proof_counterexamples.specs.Beneath.slot_arena.specs.Counts.{count_of}
 use Rattle.proof_counterexamples.specs.Beneath.places.specs.Places.{ids_by_place}
 use Rattle.machine_model.specs.States.{first_state}
-use Rattle.machine_model.specs.Machine.{taken_below, least_from, next, run, run_from}
+use Rattle.machine_model.specs.Machine.{taken_below, least_from, next}
+use Rattle.machine_model.specs.Records.{record_from, record_of}
 use Rattle.machine_model.specs.Runs.{sized}
 use Rattle.proof_counterexamples.specs.Orders.{with_refused}
 use Rattle.proof_counterexamples.specs.Runs.{refused_put}
@@ -12,5 +13,5 @@ use Rattle.proof_counterexamples.proofs.Refuting.{refused_by}
 use Rattle.proof_counterexamples.proofs.laws.refused_put_in_the_order.Goals as goal
 
 pub returns : goal.returns
-unfolding taken_below least_from next run_from first_state stored node_at prev_at with_main with_prev taken freed count_of ids_by_place ones ones_in
-returns c = (refl, refl, refused_by with_refused (run (sized 5 1) refused_put) 1 1 3 refl refl)
+unfolding taken_below least_from next record_from first_state stored node_at prev_at with_main with_prev taken freed count_of ids_by_place ones ones_in
+returns c = (refl, refl, refused_by with_refused (sized 5 1) (record_of (sized 5 1) refused_put) 1 1 3 refl refl)

@@ -12,7 +12,7 @@ use Rattle.proof_obstruction_free.specs.Beneath.machine_model.specs.declared.bui
 use Rattle.proof_obstruction_free.specs.Beneath.machine_model.specs.declared.finding.KeyLine.TheVariants as key
 use Rattle.proof_obstruction_free.specs.Beneath.machine_model.specs.declared.lines.Line.TheVariants as line
 use Rattle.proof_obstruction_free.specs.Beneath.machine_model.specs.declared.lines.Purpose.TheVariants as purpose
-use Rattle.proof_obstruction_free.specs.Beneath.machine_model.specs.declared.steps.Limits.{Limits}
+use Rattle.proof_obstruction_free.specs.Beneath.machine_model.specs.declared.steps.Bounds.{Bounds}
 use Rattle.proof_obstruction_free.specs.Beneath.machine_model.specs.Calls.{key_of}
 use Rattle.proof_obstruction_free.specs.Beneath.machine_model.specs.Finding.{absent, key_after_main}
 use Rattle.proof_obstruction_free.specs.Beneath.machine_model.specs.Paths.{current, depth_of, flag_in}
@@ -86,7 +86,7 @@ module _
         -- the flag is that of the call's key
         flag_is : flag_in (a.states t) now.operation path ≡ flag_at a (depth_of path)
         flag_is =
-            ap (λ (l : Limits). flag_of (hash_of l.hash (key_of now.operation.call)) (depth_of path)) (limits_at a.limits a.states a.last a.run t now.until)
+            ap (λ (l : Bounds). flag_of (hash_of l.hash (key_of now.operation.call)) (depth_of path)) (limits_at a.limits a.states a.last a.run t now.until)
             ∙ ap (λ k. flag_of (hash_of a.limits.hash (key_of k)) (depth_of path)) now.call
 
         -- an indirection at the key's place would lead on

@@ -1,4 +1,4 @@
-use Rattle.proof_commits.proofs.Course.OfLists.{late_once as law}
+use Rattle.proof_commits.proofs.Course.AlongLists.{late_once as law}
 use Rattle.proof_generations.proofs.Falling.KnownRoots.{roots_of_runs}
 use Rattle.proof_generations.proofs.laws.falling.late_once.Goals as goal
 
