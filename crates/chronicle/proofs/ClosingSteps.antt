@@ -1,28 +1,16 @@
 -- The steps by generation, when a generation is drawn or closed.
-use Rattle.std.proofs.Common.{◌≡◌, ℕ, zero, suc, ◌==◌, ◌<◌, Bool, true, false, cond, List, [], ◌∷◌, ◌++◌, length, map}
+use Rattle.std.proofs.Common.{◌≡◌, ℕ, ◌==◌, ◌<◌, Bool, true, false, cond, List, [], ◌∷◌, ◌++◌, length, map}
 use Rattle.std.proofs.Common.{All, set, get_or, find, Option, Some, None, MatchOption, ◌≢◌, refl, sym, ap, ◌∙◌, subst, eq-eqb, eqb-true}
 use Rattle.std.proofs.lemmas.Option.{none-some}
 use Rattle.std.proofs.lemmas.Bool.{false≢true}
 use Rattle.std.proofs.lemmas.List.Elements.{All-map}
 use Rattle.std.proofs.lemmas.List.{get_or-set_same, get_or-set_other}
-use Rattle.machine_model.specs.declared.heaps.Closing.{Closing}
-use Rattle.machine_model.specs.States.{step_of}
+use Rattle.machine_model.specs.declared.records.Closing.{Closing}
+use Rattle.machine_model.specs.Records.{step_of}
 use Rattle.chronicle.specs.Closed.{closing_step, AreFound}
 
--- one generation, which is open
-pub none_closed : AreFound (None ∷ []) []
-none_closed zero = refl
-none_closed (suc n) = refl
-
--- past the end none stands
-get_push : (steps : List (Option ℕ)) (g : ℕ) → get_or (steps ++ None ∷ []) g None ≡ get_or steps g None
-get_push [] zero = refl
-get_push [] (suc g) = refl
-get_push (s ∷ steps) zero = refl
-get_push (s ∷ steps) (suc g) = get_push steps g
-
-pub found_drawn : (steps : List (Option ℕ)) (closings : List Closing) → AreFound steps closings → AreFound (steps ++ None ∷ []) closings
-found_drawn steps closings h g = get_push steps g ∙ h g
+pub none_closed : AreFound [] []
+none_closed generation = refl
 
 pub found_at : (steps : List (Option ℕ)) (closings : List Closing) (g : ℕ) → AreFound steps closings → get_or steps g None ≡ closing_step closings g
 found_at steps closings g h = h g

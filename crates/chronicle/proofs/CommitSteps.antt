@@ -1,27 +1,15 @@
 -- What is kept of each slot, when a main node is committed.
-use Rattle.std.proofs.Common.{◌≡◌, ◌≢◌, ℕ, zero, suc, ◌==◌, ◌<◌, ◌≤◌, Bool, true, false, cond, List, [], ◌∷◌, ◌++◌}
-use Rattle.std.proofs.Common.{length, set, find, All, take, replicate, if◌then◌else◌, Some, None, refl, sym, ap, ◌∙◌, subst, arith, eq-eqb, eqb-true}
+use Rattle.std.proofs.Common.{◌≡◌, ℕ, zero, suc, ◌==◌, ◌<◌, ◌≤◌, Bool, true, false, cond, List, [], ◌∷◌, ◌++◌}
+use Rattle.std.proofs.Common.{length, set, find, All, replicate, if◌then◌else◌, Some, None, refl, sym, ap, ◌∙◌, subst, arith, eq-eqb, eqb-true}
 use Rattle.std.proofs.lemmas.Bool.{false≢true}
-use Rattle.std.proofs.lemmas.List.{get_or-set_same, get_or-set_other, take_all}
-use Rattle.std.proofs.lemmas.List.Elements.{All-push, All-cons, All-nil, All-head, All-tail, All-weaker}
+use Rattle.std.proofs.lemmas.List.{get_or-set_same, get_or-set_other}
+use Rattle.std.proofs.lemmas.List.Elements.{All-push, All-pop, All-nil, All-head, All-tail}
 use Rattle.slot_arena.specs.declared.refs.Ref.{Ref}
 use Rattle.slot_arena.specs.Refs.{slot_of}
-use Rattle.machine_model.specs.declared.heaps.Commit.{Commit}
-use Rattle.machine_model.specs.States.{step_of_commit}
-use Rattle.chronicle.specs.Committed.{commit_step, kept_of, no_commit, IsNewest, AreLatest}
-
--- ---- all of a list
-
-All-front : (P : Commit → Type 0) (xs ys : List Commit) → All P (xs ++ ys) → All P xs
-All-front P [] ys h = All-nil P
-All-front P (x ∷ xs) ys h = All-cons P x xs (All-head P x (xs ++ ys) h) (All-front P xs ys (All-tail P x (xs ++ ys) h))
-
-All-last : (P : Commit → Type 0) (xs : List Commit) (x : Commit) → All P (xs ++ x ∷ []) → P x
-All-last P [] x h = All-head P x [] h
-All-last P (y ∷ xs) x h = All-last P xs x (All-tail P y (xs ++ x ∷ []) h)
-
-All-both : {P Q R : Commit → Type 0} (xs : List Commit) → All P xs → All Q xs → ((x : Commit) → P x → Q x → R x) → All R xs
-All-both xs p q f k d within = f _ (p k d within) (q k d within)
+use Rattle.machine_model.specs.declared.records.Commit.{Commit}
+use Rattle.machine_model.specs.Records.{step_of_commit}
+use Rattle.chronicle.specs.Committed.{commit_step, kept_of, no_commit, step_for, IsNewestCommitted, AreLatest}
+use Rattle.chronicle.proofs.Slots.{alike, get_or-replicate_same, newer_if_other, newer_isnt_there, other_slot}
 
 -- ---- a commit behind the others
 
@@ -58,168 +46,75 @@ step_other (x ∷ commits) m q s e = by (x.main == q) (step_other commits m q s 
     by true rest = refl
     by false rest = rest
 
--- none of them is found
-step_none : (commits : List Commit) (m : Ref) → All (λ commit. commit.main ≢ m) commits → commit_step commits m ≡ 0
-step_none [] m apart = refl
-step_none (x ∷ commits) m apart = by (x.main == m) refl (step_none commits m (All-tail (λ (c : Commit). c.main ≢ m) x commits apart))
-  where
-    by : (b : Bool) → (x.main == m) ≡ b → commit_step commits m ≡ 0 → step_of_commit (cond b (Some x) (find (λ c. c.main == m) commits)) ≡ 0
-    by true e rest = absurd (All-head (λ (c : Commit). c.main ≢ m) x commits apart (eqb-true x.main m e))
-    by false e rest = rest
-
 -- ---- what is kept
 
-none_kept : (slot : ℕ) → kept_of [] slot ≡ no_commit
-none_kept zero = refl
-none_kept (suc n) = refl
-
-pub none_latest : AreLatest [] []
-none_latest = record {
-  is = λ main e. sym (ap (λ (c : Commit). c.step) (none_kept (slot_of main)));
-  most = All-nil (λ (c : Commit). c.main ≤ (kept_of [] (slot_of c.main)).main);
-  least = λ slot bound all. omega (arith, ap (λ (c : Commit). c.main) (none_kept slot));
+pub none_latest : (slots : ℕ) → AreLatest (replicate slots no_commit) []
+none_latest slots = record {
+  says = λ main newest. ap (λ c. step_for c main) (get_or-replicate_same slots (slot_of main) no_commit) ∙ nothing main;
   begun = All-nil (λ (c : Commit). 0 < c.step);
 }
-
--- with more slots, of which nothing is kept
-kept_longer : (latest : List Commit) (n slot : ℕ) → kept_of (latest ++ replicate n no_commit) slot ≡ kept_of latest slot
-kept_longer [] n slot = by n slot ∙ sym (none_kept slot)
   where
-    by : (n slot : ℕ) → kept_of (replicate n no_commit) slot ≡ no_commit
-    by zero zero = refl
-    by zero (suc slot) = refl
-    by (suc n) zero = refl
-    by (suc n) (suc slot) = by n slot
-kept_longer (c ∷ latest) n zero = refl
-kept_longer (c ∷ latest) n (suc slot) = kept_longer latest n slot
+    nothing : (main : Ref) → step_for no_commit main ≡ 0
+    nothing main = alike (0 == main) 0
 
-latest_same : (latest after commits : List Commit) → ((slot : ℕ) → kept_of after slot ≡ kept_of latest slot) → AreLatest latest commits → AreLatest after commits
-latest_same latest after commits same h = record {
-  is = λ main e. h.is main (ap (λ (c : Commit). c.main) (sym (same (slot_of main))) ∙ e) ∙ ap (λ (c : Commit). c.step) (sym (same (slot_of main)));
-  most = All-weaker (λ (c : Commit). c.main ≤ (kept_of latest (slot_of c.main)).main) (λ (c : Commit). c.main ≤ (kept_of after (slot_of c.main)).main)
-      (λ c le. omega (arith, le, ap (λ (x : Commit). x.main) (same (slot_of c.main)))) commits h.most;
-  least = λ slot bound all. omega (arith, h.least slot bound all, ap (λ (x : Commit). x.main) (same slot));
-  begun = h.begun;
-}
-
-pub latest_longer : (latest after commits : List Commit) (n k : ℕ) (none : Commit) → length latest ≤ n → none ≡ no_commit → after ≡ take n latest ++ replicate k none → AreLatest latest commits →
-    AreLatest after commits
-latest_longer latest after commits n k none le empty is h =
-    let whole : after ≡ latest ++ replicate k no_commit = is ∙ ap (λ l. l ++ replicate k none) (take_all n latest le) ∙ ap (λ c. latest ++ replicate k c) empty in
-    latest_same latest after commits (λ slot. ap (λ l. kept_of l slot) whole ∙ kept_longer latest k slot) h
-
--- what is kept says when a node was committed
-pub latest_says : (latest commits : List Commit) (m : Ref) → AreLatest latest commits → IsNewest commits m →
-    (if (kept_of latest (slot_of m)).main == m then (kept_of latest (slot_of m)).step else 0) ≡ commit_step commits m
-latest_says latest commits m h newest = by ((kept_of latest (slot_of m)).main == m) refl
-  where
-    most : ℕ
-    most = (kept_of latest (slot_of m)).main
-
-    apart : (most == m) ≡ false → (c : Commit) → c.main ≤ (kept_of latest (slot_of c.main)).main → c.main ≢ m
-    apart e c le same =
-        let up : m ≤ most = subst (λ r. r ≤ (kept_of latest (slot_of r)).main) same le in
-        let down : most ≤ m = h.least (slot_of m) m newest in
-        let is : most ≡ m = omega (arith, up, down) in
-        absurd (false≢true (sym e ∙ eq-eqb most m is))
-
-    by : (b : Bool) → (most == m) ≡ b → cond b (kept_of latest (slot_of m)).step 0 ≡ commit_step commits m
-    by true e = sym (h.is m (eqb-true most m e))
-    by false e = sym (step_none commits m (All-weaker (λ (c : Commit). c.main ≤ (kept_of latest (slot_of c.main)).main) (λ (c : Commit). c.main ≢ m) (apart e) commits h.most))
-
--- ---- a commit more
-
--- of a node that wasn't committed
-latest_first : (latest commits : List Commit) (m : Ref) (s : ℕ) → AreLatest latest commits → IsNewest commits m → 0 < s → slot_of m < length latest → commit_step commits m ≡ 0 →
-    AreLatest (set latest (slot_of m) (record { main = m; step = s })) (commits ++ record { main = m; step = s } ∷ [])
-latest_first latest commits m s h newest begun within none = record {
-  is = λ q. is_by q (slot_of q == slot_of m) refl;
-  most = All-push (λ (c : Commit). c.main ≤ (kept_of after (slot_of c.main)).main) commits now
-      (All-both commits h.most newest (λ c le new. most_by c le new (slot_of c.main == slot_of m) refl)) (omega (arith, ap (λ (c : Commit). c.main) here));
-  least = λ slot bound all. least_by slot bound all (slot == slot_of m) refl;
-  begun = All-push (λ (c : Commit). 0 < c.step) commits now h.begun begun;
-}
-  where
-    now : Commit
-    now = record { main = m; step = s }
-
-    after : List Commit
-    after = set latest (slot_of m) now
-
-    here : kept_of after (slot_of m) ≡ now
-    here = get_or-set_same latest (slot_of m) now no_commit within
-
-    there : (slot : ℕ) → (slot == slot_of m) ≡ false → kept_of after slot ≡ kept_of latest slot
-    there slot e = get_or-set_other latest (slot_of m) slot now no_commit (λ same. false≢true (sym e ∙ eq-eqb slot (slot_of m) same))
-
-    is_by : (q : Ref) (b : Bool) → (slot_of q == slot_of m) ≡ b → (kept_of after (slot_of q)).main ≡ q → commit_step (commits ++ now ∷ []) q ≡ (kept_of after (slot_of q)).step
-    is_by q true e at =
-        let kept : kept_of after (slot_of q) ≡ now = ap (kept_of after) (eqb-true (slot_of q) (slot_of m) e) ∙ here in
-        let same : m ≡ q = ap (λ (c : Commit). c.main) (sym kept) ∙ at in
-        subst (λ r. commit_step (commits ++ now ∷ []) r ≡ s) same (step_first commits m s h.begun none) ∙ ap (λ (c : Commit). c.step) (sym kept)
-    is_by q false e at =
-        let apart : (m == q) ≡ false = by_test (m == q) refl in
-        step_other commits m q s apart
-        ∙ h.is q (ap (λ (c : Commit). c.main) (sym (there (slot_of q) e)) ∙ at)
-        ∙ ap (λ (c : Commit). c.step) (sym (there (slot_of q) e))
-      where
-        by_test : (b : Bool) → (m == q) ≡ b → b ≡ false
-        by_test true is = absurd (false≢true (sym e ∙ eq-eqb (slot_of q) (slot_of m) (ap slot_of (sym (eqb-true m q is)))))
-        by_test false is = refl
-
-    most_by : (c : Commit) → c.main ≤ (kept_of latest (slot_of c.main)).main → (slot_of c.main ≡ slot_of m → c.main ≤ m) → (b : Bool) → (slot_of c.main == slot_of m) ≡ b →
-        c.main ≤ (kept_of after (slot_of c.main)).main
-    most_by c le new true e =
-        let same = eqb-true (slot_of c.main) (slot_of m) e in
-        omega (arith, new same, ap (λ (x : Commit). x.main) (ap (kept_of after) same ∙ here))
-    most_by c le new false e = omega (arith, le, ap (λ (x : Commit). x.main) (there (slot_of c.main) e))
-
-    least_by : (slot bound : ℕ) → All (λ commit. slot_of commit.main ≡ slot → commit.main ≤ bound) (commits ++ now ∷ []) → (b : Bool) → (slot == slot_of m) ≡ b → (kept_of after slot).main ≤ bound
-    least_by slot bound all true e =
-        let same = eqb-true slot (slot_of m) e in
-        omega (arith, All-last (λ (c : Commit). slot_of c.main ≡ slot → c.main ≤ bound) commits now all (sym same), ap (λ (x : Commit). x.main) (ap (kept_of after) same ∙ here))
-    least_by slot bound all false e =
-        omega (arith, h.least slot bound (All-front (λ (c : Commit). slot_of c.main ≡ slot → c.main ≤ bound) commits (now ∷ []) all), ap (λ (x : Commit). x.main) (there slot e))
-
--- of one that was
-latest_again : (latest commits : List Commit) (m : Ref) (s : ℕ) → AreLatest latest commits → IsNewest commits m → 0 < s → 0 < commit_step commits m →
-    AreLatest latest (commits ++ record { main = m; step = s } ∷ [])
-latest_again latest commits m s h newest begun some = record {
-  is = λ q at. is_by q at (m == q) refl;
-  most = All-push (λ (c : Commit). c.main ≤ (kept_of latest (slot_of c.main)).main) commits now h.most (omega (arith, kept));
-  least = λ slot bound all. h.least slot bound (All-front (λ (c : Commit). slot_of c.main ≡ slot → c.main ≤ bound) commits (now ∷ []) all);
-  begun = All-push (λ (c : Commit). 0 < c.step) commits now h.begun begun;
-}
-  where
-    now : Commit
-    now = record { main = m; step = s }
-
-    kept : (kept_of latest (slot_of m)).main ≡ m
-    kept = by ((kept_of latest (slot_of m)).main == m) refl (latest_says latest commits m h newest)
-      where
-        by : (b : Bool) → ((kept_of latest (slot_of m)).main == m) ≡ b → cond b (kept_of latest (slot_of m)).step 0 ≡ commit_step commits m → (kept_of latest (slot_of m)).main ≡ m
-        by true e says = eqb-true (kept_of latest (slot_of m)).main m e
-        by false e says = absurd (omega (arith, says, some))
-
-    is_by : (q : Ref) → (kept_of latest (slot_of q)).main ≡ q → (b : Bool) → (m == q) ≡ b → commit_step (commits ++ now ∷ []) q ≡ (kept_of latest (slot_of q)).step
-    is_by q at true e =
-        step_kept commits (now ∷ []) q (subst (λ r. 0 < commit_step commits r) (eqb-true m q e) some) ∙ h.is q at
-    is_by q at false e = step_other commits m q s e ∙ h.is q at
-
--- of any
-pub latest_noted : (latest after commits : List Commit) (m : Ref) (s committed : ℕ) → AreLatest latest commits → IsNewest commits m → 0 < s → slot_of m < length latest →
+-- a commit more
+pub latest_noted : (latest after commits : List Commit) (m : Ref) (s committed : ℕ) → AreLatest latest commits → IsNewestCommitted commits m → 0 < s → slot_of m < length latest →
     committed ≡ commit_step commits m → after ≡ (if committed == 0 then set latest (slot_of m) (record { main = m; step = s }) else latest) →
     AreLatest after (commits ++ record { main = m; step = s } ∷ [])
-latest_noted latest after commits m s committed h newest begun within told is = by (committed == 0) refl is
+latest_noted latest after commits m s committed h newest begun within told is = record {
+  says = λ q newest_now. by q newest_now (m == q) refl;
+  begun = All-push (λ (c : Commit). 0 < c.step) commits now h.begun begun;
+}
   where
+    now : Commit
+    now = record { main = m; step = s }
+
     above : (n : ℕ) → (n == 0) ≡ false → 0 < n
     above zero e = absurd (false≢true (sym e ∙ eq-eqb 0 0 refl))
     above (suc n) e = omega arith
 
-    by : (b : Bool) → (committed == 0) ≡ b → after ≡ cond b (set latest (slot_of m) (record { main = m; step = s })) latest → AreLatest after (commits ++ record { main = m; step = s } ∷ [])
-    by true e now =
-        subst (λ l. AreLatest l (commits ++ record { main = m; step = s } ∷ [])) (sym now)
-        (latest_first latest commits m s h newest begun within (sym told ∙ eqb-true committed 0 e))
-    by false e now =
-        subst (λ l. AreLatest l (commits ++ record { main = m; step = s } ∷ [])) (sym now)
-        (latest_again latest commits m s h newest begun (omega (arith, told, above committed e)))
+    -- of the node itself
+    itself : (b : Bool) → (committed == 0) ≡ b → after ≡ cond b (set latest (slot_of m) now) latest → step_for (kept_of after (slot_of m)) m ≡ commit_step (commits ++ now ∷ []) m
+    itself true e now_is =
+        ap (λ l. step_for (kept_of l (slot_of m)) m) now_is
+        ∙ ap (λ c. step_for c m) (get_or-set_same latest (slot_of m) now no_commit within)
+        ∙ ap (λ b. cond b s 0) (eq-eqb m m refl)
+        ∙ sym (step_first commits m s h.begun (sym told ∙ eqb-true committed 0 e))
+    itself false e now_is =
+        ap (λ l. step_for (kept_of l (slot_of m)) m) now_is
+        ∙ h.says m newest
+        ∙ sym (step_kept commits (now ∷ []) m (omega (arith, told, above committed e)))
+
+    -- of another of its slot, which is newer
+    newer : (q : Ref) → IsNewestCommitted commits q → slot_of m ≡ slot_of q → m < q → (m == q) ≡ false → (b : Bool) → (committed == 0) ≡ b → after ≡ cond b (set latest (slot_of m) now) latest →
+        step_for (kept_of after (slot_of q)) q ≡ commit_step commits q
+    newer q front slots less apart true e now_is =
+        ap (λ l. step_for (kept_of l (slot_of q)) q) now_is
+        ∙ ap (λ i. step_for (kept_of (set latest (slot_of m) now) i) q) (sym slots)
+        ∙ ap (λ c. step_for c q) (get_or-set_same latest (slot_of m) now no_commit within)
+        ∙ ap (λ b. cond b s 0) apart
+        ∙ sym (ap step_of_commit (newer_isnt_there (λ (c : Commit). c.main) commits m q newest slots less))
+    newer q front slots less apart false e now_is = ap (λ l. step_for (kept_of l (slot_of q)) q) now_is ∙ h.says q front
+
+    -- of one of another slot
+    there : (q : Ref) → IsNewestCommitted commits q → (slot_of q == slot_of m) ≡ false → (b : Bool) → (committed == 0) ≡ b → after ≡ cond b (set latest (slot_of m) now) latest →
+        step_for (kept_of after (slot_of q)) q ≡ commit_step commits q
+    there q front apart true e now_is =
+        ap (λ l. step_for (kept_of l (slot_of q)) q) now_is
+        ∙ ap (λ c. step_for c q) (get_or-set_other latest (slot_of m) (slot_of q) now no_commit (other_slot m q apart))
+        ∙ h.says q front
+    there q front apart false e now_is = ap (λ l. step_for (kept_of l (slot_of q)) q) now_is ∙ h.says q front
+
+    parts : (q : Ref) → IsNewestCommitted (commits ++ now ∷ []) q → IsNewestCommitted commits q × (slot_of m ≡ slot_of q → m ≤ q)
+    parts q = All-pop (λ (c : Commit). slot_of c.main ≡ slot_of q → c.main ≤ q) (commits ++ now ∷ []) commits (Some now) refl
+
+    another : (q : Ref) → IsNewestCommitted (commits ++ now ∷ []) q → (m == q) ≡ false → (b : Bool) → (slot_of q == slot_of m) ≡ b → step_for (kept_of after (slot_of q)) q ≡ commit_step commits q
+    another q newest_now apart true slots =
+        let same = sym (eqb-true (slot_of q) (slot_of m) slots) in
+        newer q (parts q newest_now).0 same (newer_if_other m q ((parts q newest_now).1 same) apart) apart (committed == 0) refl is
+    another q newest_now apart false slots = there q (parts q newest_now).0 slots (committed == 0) refl is
+
+    by : (q : Ref) → IsNewestCommitted (commits ++ now ∷ []) q → (b : Bool) → (m == q) ≡ b → step_for (kept_of after (slot_of q)) q ≡ commit_step (commits ++ now ∷ []) q
+    by q newest_now true e =
+        subst (λ r. step_for (kept_of after (slot_of r)) r ≡ commit_step (commits ++ now ∷ []) r) (eqb-true m q e) (itself (committed == 0) refl is)
+    by q newest_now false e = another q newest_now e (slot_of q == slot_of m) refl ∙ sym (step_other commits m q s e)

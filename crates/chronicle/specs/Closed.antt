@@ -1,9 +1,9 @@
 -- When generations were closed.
 use Rattle.std.specs.Prelude.{◌≡◌, ℕ, ◌==◌, List, Option, None, find, slice_index_or}
-use Rattle.machine_model.specs.declared.heaps.Closing.{Closing}
-use Rattle.machine_model.specs.States.{step_of}
+use Rattle.machine_model.specs.declared.records.Closing.{Closing}
+use Rattle.machine_model.specs.Records.{step_of}
 
--- what a caller sees: the closings as they came, how many generations were drawn, and for how many more there is room
+-- what a caller sees: the closings as they came, of how many generations a closing is kept, and for how many more there is memory
 pub record Closed : Type 0 where
   pub closings : List Closing
   pub generations : ℕ

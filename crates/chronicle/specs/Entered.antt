@@ -4,11 +4,12 @@ use Rattle.std.specs.List.{list_any}
 use Rattle.places.specs.declared.place.Place.{Place}
 
 -- what a caller sees: the places in the order in which they came, the steps of the closings, of how many ids there is a mark, and for how
--- many places and closings there is room
+-- many ids, places and closings there is memory
 pub record Entered : Type 0 where
   pub places : List Place
   pub closings : List ℕ
   pub ids : ℕ
+  pub room_to_begin : ℕ
   pub room_to_add : ℕ
   pub room_to_close : ℕ
 

@@ -1,4 +1,5 @@
 pub mod Closed
 pub mod Committed
+pub mod Published
 pub mod Entered
-pub mod Told
+pub mod Chronicled

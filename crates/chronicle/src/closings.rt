@@ -1,6 +1,6 @@
 //! The steps in which generations were closed.
 
-ghost use Rattle.std.specs.Prelude.{◌≡◌, ◌+◌, ◌<◌, ◌≤◌, ◌++◌, ◌∷◌, [], None, Some, IfOk, OnOk, MatchOption, slice_index_or, slice_set, vec_len, vec_capacity};
+ghost use Rattle.std.specs.Prelude.{◌≡◌, ℕ, ◌+◌, ◌<◌, ◌≤◌, ◌++◌, ◌∷◌, [], None, Some, OnOk, MatchOption, length, slice_index_or, slice_set, vec_len, vec_capacity};
 ghost use Rattle.chronicle.specs.Closed.{closing_step};
 
 use ctrie_base::Trace;
@@ -33,26 +33,23 @@ impl Model for Closings {
 }
 
 impl Closings {
-    /// One generation, which is open.
+    /// Nothing was closed. It takes no memory.
     #[tactic(auto, using(crate::proofs::ClosingSteps::none_closed))]
-    pub fn new(alloc: Global) -> Result<Closings, AllocError>
-        ensures closings { IfOk result (λ made. made.closings ≡ []) }
-        ensures generations { IfOk result (λ made. made.generations ≡ 1) }
+    pub fn new(alloc: Global) -> Closings
+        ensures closings { result.closings ≡ [] }
     {
-        Ok(Closings {
-            steps: vec![in alloc; None; 1]?,
+        Closings {
+            steps: Vec::new(alloc),
             listed: Trace::new(),
-        })
+        }
     }
 
-    /// Makes room for one generation more. After an error nothing has changed.
-    pub fn room(&mut self) -> Result<(), AllocError>
+    /// Makes room for the closings of so many generations. After an error nothing that is seen but room has changed.
+    pub fn room_for(&mut self, generations: u64) -> Result<(), AllocError>
         ensures closings { self.new.closings ≡ self.old.closings }
-        ensures generations { self.new.generations ≡ self.old.generations }
-        ensures room { OnOk result (0 < self.new.room) }
-        ensures more { self.old.room ≤ self.new.room }
+        ensures generations { OnOk result (generations ≤ self.new.generations) }
     {
-        self.steps.reserve(1)
+        lengthen(&mut self.steps, generations as usize)
     }
 
     /// Makes room for so many generations more, in memory that is written here. After an error nothing but room has changed.
@@ -64,28 +61,18 @@ impl Closings {
         touch_room(&mut self.steps, count, None)
     }
 
-    /// One generation more, which is open.
-    #[tactic(auto, using(crate::proofs::ClosingSteps::found_drawn))]
-    pub fn draw(&mut self)
-        requires { 0 < self.old.room }
-        ensures closings { self.new.closings ≡ self.old.closings }
-        ensures generations { self.new.generations ≡ self.old.generations + 1 }
-    {
-        self.steps.push_reserved(None);
-    }
-
     /// A generation is closed in this step. If it was closed before, that stands.
     pub fn close(&mut self, generation: u64, step: u64)
         requires { generation < self.old.generations }
         ensures closings { self.new.closings ≡ self.old.closings ++ record { generation = generation; step = step } ∷ [] }
         ensures generations { self.new.generations ≡ self.old.generations }
-        ensures room { self.new.room ≡ self.old.room }
     {
         close_once(&mut self.steps, generation as usize, step);
         self.listed = self.listed.with_last(&Closing { generation, step });
     }
 
-    /// How many generations were drawn.
+    /// Of how many generations a closing is kept.
+    #[inline(always)]
     pub fn generations(&self) -> u64
         ensures { result ≡ self.now.generations }
     {
@@ -101,12 +88,24 @@ impl Closings {
     }
 }
 
+/// At least so many steps, of which the new ones are none.
+fn lengthen(steps: &mut Vec<Option<u64>>, count: usize) -> Result<(), AllocError>
+    ensures same { (other : ℕ) → slice_index_or steps.new.items other None ≡ slice_index_or steps.old.items other None }
+    ensures length { OnOk result (count ≤ length steps.new.items) }
+{
+    if steps.len() < count {
+        // The last one alone, so that memory grows by more than is asked for.
+        steps.resize(count - 1, None)?;
+        steps.push(None)?;
+    }
+    Ok(())
+}
+
 /// Sets the step of a generation, unless one stands there.
 fn close_once(steps: &mut Vec<Option<u64>>, generation: usize, step: u64)
     requires { generation < vec_len steps.old }
     ensures items { MatchOption (slice_index_or steps.old.items generation None) (steps.new.items ≡ slice_set steps.old.items generation (Some step))
         (λ was. steps.new.items ≡ steps.old.items) }
-    ensures capacity { vec_capacity steps.new ≡ vec_capacity steps.old }
 {
     if steps[generation].is_none() {
         steps[generation] = Some(step);

@@ -1,8 +1,8 @@
 //! The steps in which main nodes were committed.
 
-ghost use Rattle.std.specs.Prelude.{◌≡◌, ◌+◌, ◌<◌, ◌≤◌, ◌++◌, ◌∷◌, [], ◌==◌, OnOk, replicate, slice_set, vec_len, if◌then◌else◌};
+ghost use Rattle.std.specs.Prelude.{◌≡◌, ◌<◌, ◌++◌, ◌∷◌, [], ◌==◌, IfOk, slice_set, vec_len, if◌then◌else◌};
 ghost use Rattle.slot_arena.specs.Refs.{slot_of};
-ghost use Rattle.chronicle.specs.Committed.{IsNewest, commit_step, kept_of, no_commit};
+ghost use Rattle.chronicle.specs.Committed.{IsNewestCommitted, commit_step, kept_of, no_commit, step_for};
 
 use ctrie_base::Trace;
 use machine_model::Commit;
@@ -31,33 +31,22 @@ impl Model for Commits {
 }
 
 impl Commits {
-    /// No main node was committed. It takes no memory.
+    /// No main node was committed; there is room for those of so many slots.
     #[tactic(auto, using(crate::proofs::CommitSteps::none_latest))]
-    pub fn new(alloc: Global) -> Commits
-        ensures { result.commits ≡ [] }
+    pub fn new(alloc: Global, slots: u32) -> Result<Commits, AllocError>
+        ensures commits { IfOk result (λ made. made.commits ≡ []) }
+        ensures slots { IfOk result (λ made. made.slots ≡ slots) }
     {
-        Commits {
-            latest: Vec::new(alloc),
+        Ok(Commits {
+            latest: vec![in alloc; none(); slots as usize]?,
             listed: Trace::new(),
-        }
-    }
-
-    /// Makes room for the commit of this main node. After an error nothing that is seen has changed.
-    pub fn room_for(&mut self, main: Ref) -> Result<(), AllocError>
-        ensures commits { self.new.commits ≡ self.old.commits }
-        ensures room { OnOk result (slot_of main < self.new.slots) }
-    {
-        let slots = main.slot() as usize + 1;
-        if self.latest.len() < slots {
-            self.latest.resize(slots, none())?;
-        }
-        Ok(())
+        })
     }
 
     /// The main node is committed in this step. If it was committed before, that stands.
     pub fn note(&mut self, main: Ref, step: u64)
         requires room { slot_of main < self.old.slots }
-        requires newest { IsNewest self.old.commits main }
+        requires newest { IsNewestCommitted self.old.commits main }
         requires begun { 0 < step }
         ensures commits { self.new.commits ≡ self.old.commits ++ record { main = main; step = step } ∷ [] }
         ensures slots { self.new.slots ≡ self.old.slots }
@@ -69,7 +58,7 @@ impl Commits {
 
     /// The step in which the main node was committed; 0 where it never was.
     pub fn committed_at(&self, main: Ref) -> u64
-        requires { IsNewest self.now.commits main }
+        requires { IsNewestCommitted self.now.commits main }
         ensures { result ≡ commit_step self.now.commits main }
     {
         step_of(kept_of(self.latest.as_slice(), main.slot()), main)
@@ -98,7 +87,7 @@ fn kept_of(latest: &[Commit], slot: u16) -> Commit
 
 /// The step of the commit, if it is of this main node, else 0.
 fn step_of(commit: Commit, main: Ref) -> u64
-    ensures { result ≡ (if commit.main == main then commit.step else 0) }
+    ensures { result ≡ step_for commit main }
 {
     if commit.main == main { commit.step } else { 0 }
 }

@@ -1,20 +1,26 @@
-//! When things happened that decide where operations stand in the legal order: the step of each main node's commit, the
-//! step that closed a generation, and the places. Each question is answered without a search.
+//! The record of a machine: the history, and what places operations in the legal order. It is told what each step tells,
+//! and each question is answered without a search.
 //!
 //! | Module | What | Kept |
 //! |---|---|---|
-//! | `closings` | the step that closed a generation | by the generation's number |
 //! | `commits` | the step in which a main node was committed | by the node's slot, while it names the node |
+//! | `publications` | whose change a main node is that was to be swapped in | by the node's slot, while it names the node |
+//! | `closings` | the step that closed a generation | by the generation's number |
 //! | `ordered` | the places, and who has one | in segments (`places`); by the operation's id |
-//! | `chronicle` | closings and places together: a closing is both a generation's and the end of a segment | |
+//! | `moments` | what is known of the READs of an actor's operation | by the actor |
+//! | `placing` | the place of an operation, computed from its moment and the closing of its generation | |
+//! | `chronicle` | all of it together, with the history | |
 //!
-//! What the definition keeps for ever of commits and closings stands in lists that clauses alone see.
+//! What the definition keeps for ever of commits, publications and closings stands in lists that clauses alone see.
 #![tactic(auto)]
 
 mod chronicle;
 mod closings;
 mod commits;
+mod moments;
 mod ordered;
+mod placing;
+mod publications;
+mod room;
 
 pub use chronicle::Chronicle;
-pub use commits::Commits;

@@ -1,13 +1,13 @@
 //! Who stands in the legal order.
 
-ghost use Rattle.std.specs.Prelude.{◌≡◌, ℕ, ◌+◌, ◌<◌, ◌≤◌, ◌++◌, ◌∷◌, [], ◌==◌, All, IfOk, OnOk, IsOkUnless, length, slice_index_or, slice_set, vec_len, false, true};
+ghost use Rattle.std.specs.Prelude.{◌≡◌, ◌+◌, ◌<◌, ◌≤◌, ◌++◌, ◌∷◌, [], ◌==◌, All, IfOk, IfSome, OnOk, IsOkUnless, length, option_to_list, slice_index_or, slice_set, vec_len, false, true};
 ghost use Rattle.std.specs.List.{list_any};
 ghost use Rattle.ctrie_base.specs.declared.refusals.Refusal.TheVariants.{Memory};
 ghost use Rattle.places.specs.Places.{ids_by_place};
 
 use ctrie_base::{Refusal, Ticks};
 use places::{Place, Places, touch_room};
-use std::alloc::{AllocError, Global};
+use std::alloc::Global;
 use std::marker::Model;
 
 /// The places of operations in the order, and of each id whether it has one.
@@ -19,7 +19,7 @@ pub struct Ordered {
 }
 
 impl Model for Ordered {
-    ghost use Rattle.std.specs.Prelude.{◌≡◌, length};
+    ghost use Rattle.std.specs.Prelude.{◌≡◌, ◌-◌, length, vec_len, vec_capacity};
     ghost use Rattle.chronicle.specs.Entered.{Entered, AreMarked};
 
     ghost Value = { Entered };
@@ -28,6 +28,7 @@ impl Model for Ordered {
       places = o.places.places;
       closings = o.places.closings;
       ids = length o.placed.items;
+      room_to_begin = vec_capacity o.placed - vec_len o.placed;
       room_to_add = o.places.room_to_add;
       room_to_close = o.places.room_to_close;
     } };
@@ -41,6 +42,7 @@ impl Ordered {
     pub fn new(alloc: Global) -> Ordered
         ensures places { result.places ≡ [] }
         ensures closings { result.closings ≡ [] }
+        ensures ids { result.ids ≡ 0 }
     {
         Ordered {
             places: Places::new(alloc),
@@ -48,27 +50,28 @@ impl Ordered {
         }
     }
 
-    /// Makes room for one closing, and for one place of the operation with this id. After an error nothing but room
-    /// has changed.
-    pub fn room_for(&mut self, id: u64) -> Result<(), Refusal>
+    /// Makes room for one id, one closing and one place. After an error nothing but room has changed.
+    pub fn room(&mut self) -> Result<(), Refusal>
         ensures only_memory { IsOkUnless result Memory }
         ensures places { self.new.places ≡ self.old.places }
         ensures closings { self.new.closings ≡ self.old.closings }
+        ensures ids { self.new.ids ≡ self.old.ids }
+        ensures to_begin { OnOk result (0 < self.new.room_to_begin) }
         ensures to_add { OnOk result (0 < self.new.room_to_add) }
         ensures to_close { OnOk result (0 < self.new.room_to_close) }
-        ensures of_id { OnOk result (id < self.new.ids) }
     {
-        self.places.room()?;
-        self.know(id as usize)?;
-        Ok(())
+        self.placed.reserve(1)?;
+        self.places.room()
     }
 
-    /// Makes room for so many closings, and for so many places of operations that are still to begin, in memory that is
-    /// written here. After an error nothing but room has changed.
+    /// Makes room for so many ids, closings and places, in memory that is written here. After an error nothing but room
+    /// has changed.
     pub fn reserve(&mut self, count: usize) -> Result<(), Refusal>
         ensures only_memory { IsOkUnless result Memory }
         ensures places { self.new.places ≡ self.old.places }
         ensures closings { self.new.closings ≡ self.old.closings }
+        ensures ids { self.new.ids ≡ self.old.ids }
+        ensures to_begin { OnOk result (count ≤ self.new.room_to_begin) }
         ensures to_add { OnOk result (count ≤ self.new.room_to_add) }
         ensures to_close { OnOk result (count ≤ self.new.room_to_close) }
     {
@@ -76,15 +79,15 @@ impl Ordered {
         self.places.reserve(count)
     }
 
-    /// Makes room for the mark of this id.
-    fn know(&mut self, id: usize) -> Result<(), AllocError>
+    /// One id more, which has no place.
+    pub fn begin(&mut self)
+        requires { 0 < self.old.room_to_begin }
         ensures places { self.new.places ≡ self.old.places }
         ensures closings { self.new.closings ≡ self.old.closings }
-        ensures to_add { self.new.room_to_add ≡ self.old.room_to_add }
-        ensures to_close { self.new.room_to_close ≡ self.old.room_to_close }
-        ensures of_id { OnOk result (id < self.new.ids) }
+        ensures ids { self.new.ids ≡ self.old.ids + 1 }
+        ensures room_to_add { self.new.room_to_add ≡ self.old.room_to_add }
     {
-        mark_up_to(&mut self.placed, id)
+        self.placed.push_reserved(false);
     }
 
     /// A generation is closed at this step.
@@ -106,9 +109,23 @@ impl Ordered {
         requires of_id { at.id < self.old.ids }
         ensures places { self.new.places ≡ self.old.places ++ at ∷ [] }
         ensures closings { self.new.closings ≡ self.old.closings }
+        ensures ids { self.new.ids ≡ self.old.ids }
     {
         mark(&mut self.placed, at.id as usize);
         self.places.add(at);
+    }
+
+    /// Adds the place, if there is one.
+    pub fn add_if(&mut self, place: Option<Place>)
+        requires room { 0 < self.old.room_to_add }
+        requires of_id { IfSome place (λ at. at.id < self.old.ids) }
+        ensures places { self.new.places ≡ self.old.places ++ option_to_list place }
+        ensures closings { self.new.closings ≡ self.old.closings }
+        ensures ids { self.new.ids ≡ self.old.ids }
+    {
+        if let Some(at) = place {
+            self.add(at);
+        }
     }
 
     /// Whether the operation with this id has a place.
@@ -132,18 +149,6 @@ impl Ordered {
     {
         self.places.ticks()
     }
-}
-
-/// Makes room for the mark of this id, which has none.
-fn mark_up_to(placed: &mut Vec<bool>, id: usize) -> Result<(), AllocError>
-    ensures same { (other : ℕ) → slice_index_or placed.new.items other false ≡ slice_index_or placed.old.items other false }
-    ensures known { OnOk result (id < length placed.new.items) }
-{
-    if placed.len() <= id {
-        placed.resize(id, false)?;
-        placed.push(false)?;
-    }
-    Ok(())
 }
 
 /// Marks this id.

@@ -1,5 +1,5 @@
 -- A CLEAN of the code as the definition's, and what a step of it comes to.
-use Rattle.std.specs.Prelude.{◌≡◌, ℕ, List, Option}
+use Rattle.std.specs.Prelude.{◌≡◌, ◌<◌, ℕ, List, length, Option}
 use Rattle.ctrie_base.specs.declared.kinds.Kind.TheVariants as kind
 use Rattle.contract.specs.Beneath.history.specs.declared.replies.Reply.TheVariants as reply
 use Rattle.slot_arena.specs.declared.refs.Ref.{Ref}
@@ -17,6 +17,7 @@ use Rattle.contract.specs.Beneath.gcas.specs.declared.swap.Swap.{Swap}
 use Rattle.contract.specs.Beneath.gcas.specs.Reads.{read_of, CanReadOn}
 use Rattle.contract.specs.Beneath.gcas.specs.Swaps.{swap_of, CanSwapOn}
 use Rattle.trie_parts.specs.Here.{at_heap, no_state}
+use Rattle.trie_parts.specs.declared.work.Work.{Work}
 use Rattle.trie_parts.specs.Steps.{CanMake}
 use Rattle.contract.specs.declared.clean.Clean.{Clean}
 use Rattle.contract.specs.declared.clean.CleanAt.{CleanAt}
@@ -37,7 +38,7 @@ clean_line_at path s told main done at.Swap = line.Swap purpose.Clean (swap_of s
 
 -- the definition's line of a cleaning below the end of this path, whose READ and SWAP were told this of the root's generation
 abbrev pub clean_line : List Ref → Swap → Option ℕ → Clean → Line
-clean_line path s told c = clean_line_at path s told c.main c.done c.place
+clean_line path s told c = clean_line_at path s told c.main c.done.items c.at
 
 -- the definition's line after a cleaning that came to this
 abbrev pub line_behind : Outcome → Line
@@ -51,17 +52,18 @@ GoesOn l after (More k) = (k ≡ kind.Look) × (l ≡ after)
 GoesOn l after AskRoot = ⊥
 GoesOn l after (Done k outcome) = (k ≡ kind.Look) × (l ≡ line_behind outcome)
 
--- ---- what it asks of the heap
+-- ---- what it asks
 
-abbrev pub CanCleanAt : Heap → List Ref → Swap → Ref → List Ref → CleanAt → Type 0
-CanCleanAt heap path s main done at.Read = CanReadOn heap s.read
-CanCleanAt heap path s main done at.Main = Unit {0}
-CanCleanAt heap path s main done at.Entry = Unit {0}
-CanCleanAt heap path s main done at.Child = CanReadOn heap s.read
-CanCleanAt heap path s main done (at.Tomb child) = Unit {0}
-CanCleanAt heap path s main done at.Contracted = CanMake heap (cleaned (at_heap no_state heap Low) path main done)
-CanCleanAt heap path s main done at.Swap = CanSwapOn heap s
+abbrev pub CanCleanAt : Heap → List Ref → Work → Ref → List Ref → CleanAt → Type 0
+CanCleanAt heap path w main done at.Read = CanReadOn heap w.swap.read
+CanCleanAt heap path w main done at.Main = Unit {0}
+CanCleanAt heap path w main done at.Entry = length done < 32
+CanCleanAt heap path w main done at.Child = CanReadOn heap w.swap.read
+CanCleanAt heap path w main done (at.Tomb child) = length done < 32
+CanCleanAt heap path w main done at.Contracted = CanMake heap w.private (cleaned (at_heap no_state heap Low) path main done)
+CanCleanAt heap path w main done at.Swap = CanSwapOn heap w.swap
 
--- what a READ or SWAP is going to change, and what the new node is to refer to, is in use, and of its kind
-abbrev pub CanClean : Heap → List Ref → Swap → Clean → Type 0
-CanClean heap path s c = CanCleanAt heap path s c.main c.done c.place
+-- what a READ or SWAP is going to change, and what the new node is to refer to, is in use, and of its kind; what makes a node, or puts an entry to those that are done, has
+-- room for it
+abbrev pub CanClean : Heap → List Ref → Work → Clean → Type 0
+CanClean heap path w c = CanCleanAt heap path w c.main c.done.items c.at

@@ -19,6 +19,7 @@ use Rattle.contract.specs.Beneath.gcas.specs.Reads.{read_of, CanReadOn}
 use Rattle.contract.specs.Beneath.gcas.specs.Swaps.{swap_of, CanSwapOn}
 use Rattle.trie_parts.specs.declared.calls.Task.{Task}
 use Rattle.trie_parts.specs.Here.{at_heap, no_state, no_operation}
+use Rattle.trie_parts.specs.declared.work.Work.{Work}
 use Rattle.trie_parts.specs.Steps.{CanMake}
 use Rattle.trie_parts.specs.Tasks.{for_task}
 use Rattle.contract.specs.declared.climb.Climb.{Climb}
@@ -41,7 +42,7 @@ climb_line_at s told c at.Swap = line.Swap (purpose.Climb c) (swap_of s told)
 
 -- the definition's line of a climb from the end of this path, whose READ and SWAP were told this of the root's generation
 abbrev pub climb_line : List Ref → Swap → Option ℕ → Climb → Line
-climb_line path s told c = climb_line_at s told (climb_of path c) c.place
+climb_line path s told c = climb_line_at s told (climb_of path c) c.at
 
 -- the definition's line after a climb that came to this
 abbrev pub line_behind : Operation → Defined → Outcome → Line
@@ -50,18 +51,19 @@ line_behind operation c Climbed = climbed operation c.former
 line_behind operation c Lost = line.Climb (climb.Root c root.Read)
 line_behind operation c Impossible = impossible
 
--- ---- what it asks of the heap
+-- ---- what it asks
 
 abbrev pub IsBranch : Node → Type 0
 IsBranch (Branch bitmap entries) = Unit {0}
 IsBranch node = ⊥
 
-abbrev pub CanClimbAt : Heap → Task → Swap → Defined → ClimbAt → Type 0
-CanClimbAt heap task s c at.Read = CanReadOn heap s.read
-CanClimbAt heap task s c (at.Main main) = Unit {0}
-CanClimbAt heap task s c (at.Contracted main) = CanMake heap (climbed_node (at_heap no_state heap task.hashes) (for_task task Writable no_operation) c main)
-CanClimbAt heap task s c at.Swap = CanSwapOn heap s
+abbrev pub CanClimbAt : Heap → Task → Work → Defined → ClimbAt → Type 0
+CanClimbAt heap task w c at.Read = CanReadOn heap w.swap.read
+CanClimbAt heap task w c (at.Main main) = Unit {0}
+CanClimbAt heap task w c (at.Contracted main) =
+    CanMake heap w.private (climbed_node (at_heap no_state heap task.hashes) (for_task task Writable no_operation) c main)
+CanClimbAt heap task w c at.Swap = CanSwapOn heap w.swap
 
--- what a READ or SWAP is going to change, and what the new node is to refer to, is in use, and of its kind
-abbrev pub CanClimb : Heap → Task → List Ref → Swap → Climb → Type 0
-CanClimb heap task path s c = CanClimbAt heap task s (climb_of path c) c.place
+-- what a READ or SWAP is going to change, and what the new node is to refer to, is in use, and of its kind; what makes a node has room for it
+abbrev pub CanClimb : Heap → Task → List Ref → Work → Climb → Type 0
+CanClimb heap task path w c = CanClimbAt heap task w (climb_of path c) c.at

@@ -1,5 +1,4 @@
 pub mod Beneath
 pub mod Cleaning
 pub mod Climbing
-pub mod Entries
 pub mod Renewing

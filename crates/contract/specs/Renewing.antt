@@ -1,5 +1,5 @@
 -- A RENEW of the code as the definition's, and what a step of it comes to.
-use Rattle.std.specs.Prelude.{ℕ, nat_lt, List, length, Option, if◌then◌else◌}
+use Rattle.std.specs.Prelude.{ℕ, ◌<◌, nat_lt, List, length, Option, if◌then◌else◌}
 use Rattle.contract.specs.Beneath.history.specs.declared.replies.Reply.TheVariants as reply
 use Rattle.slot_arena.specs.declared.refs.Ref.{Ref}
 use Rattle.slot_arena.specs.declared.nodes.Node.TheVariants.{Indirection}
@@ -16,6 +16,7 @@ use Rattle.contract.specs.Beneath.machine_model.specs.Reading.{reading}
 use Rattle.contract.specs.Beneath.gcas.specs.declared.swap.Swap.{Swap}
 use Rattle.contract.specs.Beneath.gcas.specs.Reads.{read_of, CanReadOn}
 use Rattle.contract.specs.Beneath.gcas.specs.Swaps.{swap_of, CanSwapOn}
+use Rattle.trie_parts.specs.declared.work.Work.{Work}
 use Rattle.trie_parts.specs.Steps.{CanMake}
 use Rattle.contract.specs.declared.renew.Renew.{Renew}
 use Rattle.contract.specs.declared.renew.RenewAt.{RenewAt}
@@ -34,7 +35,7 @@ renew_line_at path s told main done at.Swap = line.Swap (purpose.Renew path) (sw
 
 -- the definition's line of a renewing of the node at the end of this path, whose READ and SWAP were told this of the root's generation
 abbrev pub renew_line : List Ref → Swap → Option ℕ → Renew → Line
-renew_line path s told r = renew_line_at path s told r.main r.done r.place
+renew_line path s told r = renew_line_at path s told r.main r.done.items r.at
 
 -- the line of the next entry behind those that are done, of a branch of so many; where all are done, that of the new branch
 abbrev pub next_of : ℕ → List Ref → Ref → List Ref → Line
@@ -47,15 +48,16 @@ line_behind path Lost = new_try
 line_behind path NoSlots = line.End reply.NoSlots
 line_behind path Impossible = impossible
 
--- ---- what it asks of the heap
+-- ---- what it asks
 
-abbrev pub CanRenewAt : Heap → Swap → Ref → List Ref → RenewAt → Type 0
-CanRenewAt heap s main done at.Entry = Unit {0}
-CanRenewAt heap s main done at.Read = CanReadOn heap s.read
-CanRenewAt heap s main done (at.Link child) = CanMake heap (Indirection 0 child)
-CanRenewAt heap s main done at.Branch = CanMake heap (renewed (bitmap_of (node_at heap main)) done)
-CanRenewAt heap s main done at.Swap = CanSwapOn heap s
+abbrev pub CanRenewAt : Heap → Work → Ref → List Ref → RenewAt → Type 0
+CanRenewAt heap w main done at.Entry = length done < 32
+CanRenewAt heap w main done at.Read = CanReadOn heap w.swap.read
+CanRenewAt heap w main done (at.Link child) = CanMake heap w.private (Indirection 0 child) × (length done < 32)
+CanRenewAt heap w main done at.Branch = CanMake heap w.private (renewed (bitmap_of (node_at heap main)) done)
+CanRenewAt heap w main done at.Swap = CanSwapOn heap w.swap
 
--- what a READ or SWAP is going to change, and what the new node is to refer to, is in use, and of its kind
-abbrev pub CanRenew : Heap → Swap → Renew → Type 0
-CanRenew heap s r = CanRenewAt heap s r.main r.done r.place
+-- what a READ or SWAP is going to change, and what the new node is to refer to, is in use, and of its kind; what makes a node, or puts an entry to those that are done, has
+-- room for it
+abbrev pub CanRenew : Heap → Work → Renew → Type 0
+CanRenew heap w r = CanRenewAt heap w r.main r.done.items r.at

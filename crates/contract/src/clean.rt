@@ -1,6 +1,6 @@
 //! CLEAN: below an indirection tombs give way to their singles.
 
-ghost use Rattle.std.specs.Prelude.{◌≡◌, [], ◌∷◌, ◌++◌, ℕ, List, Option, None, is_some, IfOk, IfErr, OnOk, OnErr};
+ghost use Rattle.std.specs.Prelude.{◌≡◌, [], ◌∷◌, ◌++◌, ◌<◌, ℕ, List, length, Option, None, is_some};
 ghost use Rattle.ctrie_base.specs.declared.hashes.HashKind.{HashKind};
 ghost use Rattle.ctrie_base.specs.declared.hashes.HashKind.TheVariants.{Low};
 ghost use Rattle.slot_arena.specs.Heaps.{node_at};
@@ -9,6 +9,7 @@ ghost use Rattle.contract.specs.Beneath.machine_model.specs.Cleaning.{clean_next
 ghost use Rattle.contract.specs.Beneath.machine_model.specs.Operations.{kind_of, line_action, read_of as reading_of};
 ghost use Rattle.contract.specs.Beneath.machine_model.specs.Reading.{reading};
 ghost use Rattle.contract.specs.Beneath.machine_model.specs.States.{State};
+ghost use Rattle.contract.specs.Beneath.machine_model.specs.Tellings.{published_by};
 ghost use Rattle.contract.specs.Beneath.machine_model.specs.declared.lines.Line.TheVariants as line;
 ghost use Rattle.contract.specs.Beneath.machine_model.specs.declared.lines.Purpose.TheVariants as purpose;
 ghost use Rattle.contract.specs.Beneath.machine_model.specs.declared.operations.Operation.{Operation};
@@ -24,14 +25,12 @@ ghost use Rattle.trie_parts.specs.Tasks.{for_task};
 ghost use Rattle.trie_parts.specs.declared.calls.Task.{Task as ATask};
 ghost use Rattle.contract.specs.Cleaning.{clean_line, line_behind, CanClean, CanCleanAt, GoesOn};
 
-use crate::entries::Entries;
-use ctrie_base::{Kind, Refusal};
+use ctrie_base::Kind;
 use epochs::Heap;
 use slot_arena::{Node, Ref};
-use std::alloc::Global;
 use trie_parts::{
-    Next, Swap, Task, Work, bitmap_at, contracted, current, entries_at, entry_at, is_below_root,
-    is_single_at, node_at,
+    Entries, Next, Publication, Swap, Task, Work, bitmap_at, contracted, current, entries_at,
+    entry_at, is_below_root, is_single_at, node_at,
 };
 
 /// Where a cleaning stands.
@@ -71,18 +70,18 @@ pub struct Clean {
     main: Ref,
     /// Its new entries so far.
     done: Entries,
-    place: CleanAt,
+    at: CleanAt,
 }
 
 impl Clean {
-    /// One that has still to begin. It takes no memory.
-    pub fn new(alloc: Global) -> Clean
-        ensures { result ≡ record { main = 0; done = []; place = CleanAt.Read } }
+    /// One that has still to begin.
+    pub fn new() -> Clean
+        ensures { result ≡ record { main = 0; done = record { items = [] }; at = CleanAt.Read } }
     {
         Clean {
             main: Ref::default(),
-            done: Entries::new(alloc),
-            place: CleanAt::Read,
+            done: Entries::new(),
+            at: CleanAt::Read,
         }
     }
 
@@ -91,7 +90,7 @@ impl Clean {
         ensures line { (path : List ARef) → clean_line path work.new.swap None self.new ≡ line.Clean (clean.Read path (reading indirection)) }
         ensures same { (work.new.swap.read.access ≡ work.old.swap.read.access) × (work.new.private ≡ work.old.private) }
     {
-        self.place = CleanAt::Read;
+        self.at = CleanAt::Read;
         work.swap.read.begin(indirection);
     }
 
@@ -99,10 +98,21 @@ impl Clean {
     pub fn is_reading(&self, swap: &Swap) -> bool
         ensures { (path : List ARef) (told : Option ℕ) → result ≡ is_some (reading_of (clean_line path swap.now told self.now)) }
     {
-        match &self.place {
+        match &self.at {
             CleanAt::Read | CleanAt::Child => true,
             CleanAt::Main | CleanAt::Entry | CleanAt::Tomb { .. } | CleanAt::Contracted => false,
             CleanAt::Swap => swap.is_reading(),
+        }
+    }
+
+    /// The main node that its next step is to swap in, if it is such a step: the change of no operation.
+    pub fn published(&self, swap: &Swap) -> Option<Publication>
+        ensures { (operation : Operation) (path : List ARef) (told : Option ℕ) → result ≡ published_by operation (clean_line path swap.now told self.now) }
+    {
+        match &self.at {
+            CleanAt::Read | CleanAt::Main | CleanAt::Entry | CleanAt::Child => None,
+            CleanAt::Tomb { .. } | CleanAt::Contracted => None,
+            CleanAt::Swap => swap.published(None),
         }
     }
 
@@ -110,7 +120,7 @@ impl Clean {
     pub fn next_kind(&self, swap: &Swap, root_seen: Option<u64>) -> Kind
         ensures { (state : State) (operation : Operation) (path : List ARef) → result ≡ kind_of (line_action state operation (clean_line path swap.now root_seen self.now)) }
     {
-        match &self.place {
+        match &self.at {
             CleanAt::Read | CleanAt::Child => swap.read.next_kind(root_seen),
             CleanAt::Main | CleanAt::Entry | CleanAt::Tomb { .. } => Kind::Look,
             CleanAt::Contracted => Kind::Make,
@@ -119,7 +129,7 @@ impl Clean {
     }
 
     /// Takes its next step, below the end of this path, unless it has to be told the generation of the root
-    /// first. After an error, which is want of memory, nothing has changed.
+    /// first.
     pub fn step(
         &mut self,
         work: &mut Work,
@@ -127,31 +137,29 @@ impl Clean {
         task: Task,
         path: &[Ref],
         root_seen: Option<u64>,
-    ) -> Result<Next<Cleaned>, Refusal>
-        requires can { CanClean heap.old.heap path.now work.old.swap self.old }
+    ) -> Next<Cleaned>
+        requires can { CanClean heap.old.heap path.now work.old self.old }
         requires held { AreHeld work.old.private heap.old }
-        ensures follows { IfOk result (λ next. (state : State) (operation : Operation) →
+        ensures follows { (state : State) (operation : Operation) →
             StepsOn (at_heap state heap.old.heap task.hashes) (for_task task work.old.swap.read.access operation) (clean_line path.now work.old.swap root_seen self.old)
-            (clean_line path.now work.new.swap None self.new) work.new.swap.read.at line_behind next) }
-        ensures acts { OnOk result ((state : State) (operation : Operation) →
+            (clean_line path.now work.new.swap None self.new) work.new.swap.read.at line_behind result }
+        ensures acts { (state : State) (operation : Operation) →
             Acts heap.old work.old.private (line_action (at_heap state heap.old.heap task.hashes) (for_task task work.old.swap.read.access operation)
-            (clean_line path.now work.old.swap root_seen self.old)) heap.new work.new.private) }
+            (clean_line path.now work.old.swap root_seen self.old)) heap.new work.new.private }
         ensures same { work.new.swap.read.access ≡ work.old.swap.read.access }
-        ensures err { OnErr result ((self.new ≡ self.old) × (work.new ≡ work.old) × (heap.new ≡ heap.old)) }
-        ensures only_memory { IfErr result (λ refusal. refusal ≡ Refusal.Memory) }
-        ensures asks { IfOk result (λ next. IsAskingRoot next → (self.new ≡ self.old) × (work.new ≡ work.old) × (heap.new ≡ heap.old)) }
+        ensures asks { IsAskingRoot result → (self.new ≡ self.old) × (work.new ≡ work.old) × (heap.new ≡ heap.old) }
     {
-        match &self.place {
-            CleanAt::Read => Ok(self.read(work, heap, root_seen)),
-            CleanAt::Main => Ok(self.look(heap)),
+        match &self.at {
+            CleanAt::Read => self.read(work, heap, root_seen),
+            CleanAt::Main => self.look(heap),
             CleanAt::Entry => self.look_at_entry(work, heap),
-            CleanAt::Child => Ok(self.read_child(work, heap, root_seen)),
+            CleanAt::Child => self.read_child(work, heap, root_seen),
             CleanAt::Tomb { child } => {
                 let child = *child;
                 self.look_at_child(heap, child)
             }
             CleanAt::Contracted => self.contract(work, heap, path),
-            CleanAt::Swap => Ok(self.swap(work, heap, root_seen)),
+            CleanAt::Swap => self.swap(work, heap, root_seen),
         }
     }
 
@@ -164,15 +172,15 @@ impl Clean {
         ensures acts { (state : State) (operation : Operation) (path : List ARef) →
             Acts heap.old work.old.private (line_action state operation (line.Clean (clean.Read path (read_of work.old.swap.read root_seen)))) heap.new work.new.private }
         ensures same { work.new.swap.read.access ≡ work.old.swap.read.access }
-        ensures asks { IsAskingRoot result → (self.new ≡ record self.old { place = CleanAt.Read }) × (work.new ≡ work.old) × (heap.new ≡ heap.old) }
+        ensures asks { IsAskingRoot result → (self.new ≡ record self.old { at = CleanAt.Read }) × (work.new ≡ work.old) × (heap.new ≡ heap.old) }
     {
-        self.place = CleanAt::Read;
+        self.at = CleanAt::Read;
         match work.read(heap, root_seen) {
             Next::More(kind) => Next::More(kind),
             Next::AskRoot => Next::AskRoot,
             Next::Done(kind, main) => {
                 self.main = main;
-                self.place = CleanAt::Main;
+                self.at = CleanAt::Main;
                 Next::More(kind)
             }
         }
@@ -204,53 +212,51 @@ impl Clean {
     /// After a look: to the next entry or, where all are done, to the new main node, if an entry changed.
     fn go_on(&mut self, heap: &Heap) -> Next<Cleaned>
         ensures follows { (state : State) (hashes : HashKind) (path : List ARef) (s : ASwap) →
-            GoesOn (clean_next (at_heap state heap.now.heap hashes) path self.old.main self.old.done) (clean_line path s None self.new) result }
+            GoesOn (clean_next (at_heap state heap.now.heap hashes) path self.old.main self.old.done.items) (clean_line path s None self.new) result }
         ensures taken { IsAskingRoot result → ⊥ }
     {
         let entries = entries_at(heap, self.main);
-        if self.done.as_slice().len() < entries.len() {
-            self.place = CleanAt::Entry;
+        if self.done.len() < entries.len() {
+            self.at = CleanAt::Entry;
             return Next::More(Kind::Look);
         }
         if self.done.as_slice() == entries {
             return Next::Done(Kind::Look, Cleaned::Cleaned);
         }
-        self.place = CleanAt::Contracted;
+        self.at = CleanAt::Contracted;
         Next::More(Kind::Look)
     }
 
     /// Looks at the next entry: an indirection is read, a single is kept.
-    fn look_at_entry(&mut self, work: &mut Work, heap: &Heap) -> Result<Next<Cleaned>, Refusal>
-        ensures follows { IfOk result (λ next. (state : State) (hashes : HashKind) (operation : Operation) (path : List ARef) →
-            StepsOn (at_heap state heap.now.heap hashes) operation (line.Clean (clean.Entry path self.old.main self.old.done)) (clean_line path work.new.swap None self.new)
-            work.new.swap.read.at line_behind next) }
+    fn look_at_entry(&mut self, work: &mut Work, heap: &Heap) -> Next<Cleaned>
+        requires { length self.old.done.items < 32 }
+        ensures follows { (state : State) (hashes : HashKind) (operation : Operation) (path : List ARef) →
+            StepsOn (at_heap state heap.now.heap hashes) operation (line.Clean (clean.Entry path self.old.main self.old.done.items)) (clean_line path work.new.swap None self.new)
+            work.new.swap.read.at line_behind result }
         ensures same { (work.new.swap.read.access ≡ work.old.swap.read.access) × (work.new.private ≡ work.old.private) }
-        ensures err { OnErr result ((self.new ≡ self.old) × (work.new ≡ work.old)) }
-        ensures only_memory { IfErr result (λ refusal. refusal ≡ Refusal.Memory) }
-        ensures taken { IfOk result (λ next. IsAskingRoot next → ⊥) }
+        ensures taken { IsAskingRoot result → ⊥ }
     {
-        let entry = entry_at(heap, self.main, self.done.as_slice().len());
+        let entry = entry_at(heap, self.main, self.done.len());
         match node_at(heap, entry) {
             Some(Node::Indirection { .. }) => {
                 work.swap.read.begin(entry);
-                self.place = CleanAt::Child;
-                Ok(Next::More(Kind::Look))
+                self.at = CleanAt::Child;
+                Next::More(Kind::Look)
             }
             Some(Node::Single { .. }) => self.put(heap, entry),
-            _ => Ok(Next::Done(Kind::Look, Cleaned::Impossible)),
+            _ => Next::Done(Kind::Look, Cleaned::Impossible),
         }
     }
 
     /// One entry more is done, by a look.
-    fn put(&mut self, heap: &Heap, entry: Ref) -> Result<Next<Cleaned>, Refusal>
-        ensures follows { IfOk result (λ next. (state : State) (hashes : HashKind) (path : List ARef) (s : ASwap) →
-            GoesOn (clean_next (at_heap state heap.now.heap hashes) path self.old.main (self.old.done ++ entry ∷ [])) (clean_line path s None self.new) next) }
-        ensures err { OnErr result (self.new ≡ self.old) }
-        ensures only_memory { IfErr result (λ refusal. refusal ≡ Refusal.Memory) }
-        ensures taken { IfOk result (λ next. IsAskingRoot next → ⊥) }
+    fn put(&mut self, heap: &Heap, entry: Ref) -> Next<Cleaned>
+        requires { length self.old.done.items < 32 }
+        ensures follows { (state : State) (hashes : HashKind) (path : List ARef) (s : ASwap) →
+            GoesOn (clean_next (at_heap state heap.now.heap hashes) path self.old.main (self.old.done.items ++ entry ∷ [])) (clean_line path s None self.new) result }
+        ensures taken { IsAskingRoot result → ⊥ }
     {
-        self.done.push(entry)?;
-        Ok(self.go_on(heap))
+        self.done.push(entry);
+        self.go_on(heap)
     }
 
     /// Takes a step of the entry's READ.
@@ -263,65 +269,57 @@ impl Clean {
         requires { CanReadOn heap.old.heap work.old.swap.read }
         ensures follows { (state : State) (operation : Operation) (path : List ARef) (task : ATask) →
             StepsOn (at_heap state heap.old.heap task.hashes) (for_task task work.old.swap.read.access operation)
-            (line.Clean (clean.Child path self.old.main self.old.done (read_of work.old.swap.read root_seen))) (clean_line path work.new.swap None self.new)
+            (line.Clean (clean.Child path self.old.main self.old.done.items (read_of work.old.swap.read root_seen))) (clean_line path work.new.swap None self.new)
             work.new.swap.read.at line_behind result }
         ensures acts { (state : State) (operation : Operation) (path : List ARef) →
-            Acts heap.old work.old.private (line_action state operation (line.Clean (clean.Child path self.old.main self.old.done (read_of work.old.swap.read root_seen))))
+            Acts heap.old work.old.private (line_action state operation (line.Clean (clean.Child path self.old.main self.old.done.items (read_of work.old.swap.read root_seen))))
             heap.new work.new.private }
         ensures same { work.new.swap.read.access ≡ work.old.swap.read.access }
-        ensures asks { IsAskingRoot result → (self.new ≡ record self.old { place = CleanAt.Child }) × (work.new ≡ work.old) × (heap.new ≡ heap.old) }
+        ensures asks { IsAskingRoot result → (self.new ≡ record self.old { at = CleanAt.Child }) × (work.new ≡ work.old) × (heap.new ≡ heap.old) }
     {
-        self.place = CleanAt::Child;
+        self.at = CleanAt::Child;
         match work.read(heap, root_seen) {
             Next::More(kind) => Next::More(kind),
             Next::AskRoot => Next::AskRoot,
             Next::Done(kind, child) => {
-                self.place = CleanAt::Tomb { child };
+                self.at = CleanAt::Tomb { child };
                 Next::More(kind)
             }
         }
     }
 
     /// Looks at the main node of an entry: a tomb's single takes the entry's place, any other entry is kept.
-    fn look_at_child(&mut self, heap: &Heap, child: Ref) -> Result<Next<Cleaned>, Refusal>
-        ensures follows { IfOk result (λ next. (state : State) (hashes : HashKind) (operation : Operation) (path : List ARef) (s : ASwap) (place : ReadAt) →
-            StepsOn (at_heap state heap.now.heap hashes) operation (line.Clean (clean.Tomb path self.old.main self.old.done child)) (clean_line path s None self.new) place
-            line_behind next) }
-        ensures err { OnErr result (self.new ≡ self.old) }
-        ensures only_memory { IfErr result (λ refusal. refusal ≡ Refusal.Memory) }
-        ensures taken { IfOk result (λ next. IsAskingRoot next → ⊥) }
+    fn look_at_child(&mut self, heap: &Heap, child: Ref) -> Next<Cleaned>
+        requires { length self.old.done.items < 32 }
+        ensures follows { (state : State) (hashes : HashKind) (operation : Operation) (path : List ARef) (s : ASwap) (place : ReadAt) →
+            StepsOn (at_heap state heap.now.heap hashes) operation (line.Clean (clean.Tomb path self.old.main self.old.done.items child)) (clean_line path s None self.new) place
+            line_behind result }
+        ensures taken { IsAskingRoot result → ⊥ }
     {
         let entry = kept(heap, self.main, self.done.as_slice(), child);
         self.put(heap, entry)
     }
 
     /// Makes the new main node.
-    fn contract(
-        &mut self,
-        work: &mut Work,
-        heap: &mut Heap,
-        path: &[Ref],
-    ) -> Result<Next<Cleaned>, Refusal>
-        requires can { CanCleanAt heap.old.heap path.now work.old.swap self.old.main self.old.done CleanAt.Contracted }
+    fn contract(&mut self, work: &mut Work, heap: &mut Heap, path: &[Ref]) -> Next<Cleaned>
+        requires can { CanCleanAt heap.old.heap path.now work.old self.old.main self.old.done.items CleanAt.Contracted }
         requires held { AreHeld work.old.private heap.old }
-        ensures follows { IfOk result (λ next. (state : State) (operation : Operation) (hashes : HashKind) →
-            StepsOn (at_heap state heap.old.heap hashes) operation (line.Clean (clean.Contracted path.now self.old.main self.old.done))
-            (clean_line path.now work.new.swap None self.new) work.new.swap.read.at line_behind next) }
-        ensures acts { OnOk result ((state : State) (operation : Operation) (hashes : HashKind) →
-            Acts heap.old work.old.private (line_action (at_heap state heap.old.heap hashes) operation (line.Clean (clean.Contracted path.now self.old.main self.old.done)))
-            heap.new work.new.private) }
+        ensures follows { (state : State) (operation : Operation) (hashes : HashKind) →
+            StepsOn (at_heap state heap.old.heap hashes) operation (line.Clean (clean.Contracted path.now self.old.main self.old.done.items))
+            (clean_line path.now work.new.swap None self.new) work.new.swap.read.at line_behind result }
+        ensures acts { (state : State) (operation : Operation) (hashes : HashKind) →
+            Acts heap.old work.old.private (line_action (at_heap state heap.old.heap hashes) operation (line.Clean (clean.Contracted path.now self.old.main self.old.done.items)))
+            heap.new work.new.private }
         ensures same { work.new.swap.read.access ≡ work.old.swap.read.access }
-        ensures err { OnErr result ((self.new ≡ self.old) × (work.new ≡ work.old) × (heap.new ≡ heap.old)) }
-        ensures only_memory { IfErr result (λ refusal. refusal ≡ Refusal.Memory) }
-        ensures taken { IfOk result (λ next. IsAskingRoot next → ⊥) }
+        ensures taken { IsAskingRoot result → ⊥ }
     {
         let node = cleaned_node(heap, path, self.main, self.done.as_slice());
-        match work.make(heap, node)? {
-            None => Ok(Next::Done(Kind::Make, Cleaned::NoSlots)),
+        match work.private.make(heap, node) {
+            None => Next::Done(Kind::Make, Cleaned::NoSlots),
             Some(made) => {
                 work.swap.begin(current(path), self.main, made);
-                self.place = CleanAt::Swap;
-                Ok(Next::More(Kind::Make))
+                self.at = CleanAt::Swap;
+                Next::More(Kind::Make)
             }
         }
     }
@@ -336,9 +334,9 @@ impl Clean {
         ensures acts { (state : State) (operation : Operation) →
             Acts heap.old work.old.private (line_action state operation (line.Swap purpose.Clean (swap_of work.old.swap root_seen))) heap.new work.new.private }
         ensures same { work.new.swap.read.access ≡ work.old.swap.read.access }
-        ensures asks { IsAskingRoot result → (self.new ≡ record self.old { place = CleanAt.Swap }) × (work.new ≡ work.old) × (heap.new ≡ heap.old) }
+        ensures asks { IsAskingRoot result → (self.new ≡ record self.old { at = CleanAt.Swap }) × (work.new ≡ work.old) × (heap.new ≡ heap.old) }
     {
-        self.place = CleanAt::Swap;
+        self.at = CleanAt::Swap;
         match work.swap(heap, root_seen) {
             Next::More(kind) => Next::More(kind),
             Next::AskRoot => Next::AskRoot,

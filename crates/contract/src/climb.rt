@@ -1,6 +1,6 @@
 //! CLIMB: after a removal that left a tomb, the tomb gives way to its single in the parent.
 
-ghost use Rattle.std.specs.Prelude.{◌≡◌, ℕ, List, Option, None, is_some, IfOk, IfErr, OnOk, OnErr};
+ghost use Rattle.std.specs.Prelude.{◌≡◌, ℕ, List, Option, None, is_some};
 ghost use Rattle.contract.specs.Beneath.history.specs.declared.calls.Access.TheVariants.{Writable};
 ghost use Rattle.contract.specs.Beneath.history.specs.declared.calls.Access.{Access};
 ghost use Rattle.slot_arena.specs.declared.refs.Ref.{Ref as ARef};
@@ -15,6 +15,7 @@ ghost use Rattle.contract.specs.Beneath.machine_model.specs.Paths.{above, curren
 ghost use Rattle.contract.specs.Beneath.machine_model.specs.declared.actions.Action.TheVariants as act;
 ghost use Rattle.contract.specs.Beneath.machine_model.specs.Reading.{reading};
 ghost use Rattle.contract.specs.Beneath.machine_model.specs.States.{State};
+ghost use Rattle.contract.specs.Beneath.machine_model.specs.Tellings.{published_by};
 ghost use Rattle.contract.specs.Beneath.machine_model.specs.declared.lines.Line.TheVariants as line;
 ghost use Rattle.contract.specs.Beneath.machine_model.specs.declared.lines.Purpose.TheVariants as purpose;
 ghost use Rattle.contract.specs.Beneath.machine_model.specs.declared.operations.Operation.{Operation};
@@ -30,13 +31,13 @@ ghost use Rattle.trie_parts.specs.Tasks.{call_of, for_task};
 ghost use Rattle.trie_parts.specs.declared.calls.Task.{Task as ATask};
 ghost use Rattle.contract.specs.Climbing.{climb_of, climb_line, line_behind, CanClimb, CanClimbAt, IsBranch};
 
-use ctrie_base::{Kind, Refusal};
+use ctrie_base::Kind;
 use epochs::Heap;
 use nodes::{has_flag, position_of};
 use slot_arena::{Node, Ref};
 use trie_parts::{
-    Next, Swap, Task, Work, above, bitmap_at, contracted_at, current, entry_at, is_below_root,
-    node_at,
+    Next, Publication, Swap, Task, Work, above, bitmap_at, contracted_at, current, entry_at,
+    is_below_root, node_at,
 };
 
 /// Where a climb stands.
@@ -72,7 +73,7 @@ pub struct Climb {
     pub single: Ref,
     /// The value that the removed key had.
     pub former: Option<u64>,
-    pub place: ClimbAt,
+    pub at: ClimbAt,
 }
 
 impl Climb {
@@ -87,7 +88,7 @@ impl Climb {
         Climb {
             single,
             former,
-            place: ClimbAt::Read,
+            at: ClimbAt::Read,
         }
     }
 
@@ -95,10 +96,20 @@ impl Climb {
     pub fn is_reading(&self, swap: &Swap) -> bool
         ensures { (path : List ARef) (told : Option ℕ) → result ≡ is_some (reading_of (climb_line path swap.now told self.now)) }
     {
-        match &self.place {
+        match &self.at {
             ClimbAt::Read => true,
             ClimbAt::Main { .. } | ClimbAt::Contracted { .. } => false,
             ClimbAt::Swap => swap.is_reading(),
+        }
+    }
+
+    /// The main node that its next step is to swap in, if it is such a step: the change of no operation.
+    pub fn published(&self, swap: &Swap) -> Option<Publication>
+        ensures { (operation : Operation) (path : List ARef) (told : Option ℕ) → result ≡ published_by operation (climb_line path swap.now told self.now) }
+    {
+        match &self.at {
+            ClimbAt::Read | ClimbAt::Main { .. } | ClimbAt::Contracted { .. } => None,
+            ClimbAt::Swap => swap.published(None),
         }
     }
 
@@ -106,7 +117,7 @@ impl Climb {
     pub fn next_kind(&self, swap: &Swap, root_seen: Option<u64>) -> Kind
         ensures { (state : State) (operation : Operation) (path : List ARef) → result ≡ kind_of (line_action state operation (climb_line path swap.now root_seen self.now)) }
     {
-        match &self.place {
+        match &self.at {
             ClimbAt::Read => swap.read.next_kind(root_seen),
             ClimbAt::Main { .. } => Kind::Look,
             ClimbAt::Contracted { .. } => Kind::Make,
@@ -115,7 +126,6 @@ impl Climb {
     }
 
     /// Takes its next step, from the end of this path, unless it has to be told the generation of the root first.
-    /// After an error, which is want of memory, nothing has changed.
     pub fn step(
         &mut self,
         work: &mut Work,
@@ -123,33 +133,31 @@ impl Climb {
         task: Task,
         path: &[Ref],
         root_seen: Option<u64>,
-    ) -> Result<Next<Climbed>, Refusal>
-        requires can { CanClimb heap.old.heap task path.now work.old.swap self.old }
+    ) -> Next<Climbed>
+        requires can { CanClimb heap.old.heap task path.now work.old self.old }
         requires held { AreHeld work.old.private heap.old }
-        ensures follows { IfOk result (λ next. (state : State) (operation : Operation) →
+        ensures follows { (state : State) (operation : Operation) →
             StepsOn (at_heap state heap.old.heap task.hashes) (for_task task work.old.swap.read.access operation) (climb_line path.now work.old.swap root_seen self.old)
             (climb_line path.now work.new.swap None self.new) work.new.swap.read.at
-            (line_behind (for_task task work.old.swap.read.access operation) (climb_of path.now self.old)) next) }
-        ensures acts { OnOk result ((state : State) (operation : Operation) →
+            (line_behind (for_task task work.old.swap.read.access operation) (climb_of path.now self.old)) result }
+        ensures acts { (state : State) (operation : Operation) →
             Acts heap.old work.old.private (line_action (at_heap state heap.old.heap task.hashes) (for_task task work.old.swap.read.access operation)
-            (climb_line path.now work.old.swap root_seen self.old)) heap.new work.new.private) }
+            (climb_line path.now work.old.swap root_seen self.old)) heap.new work.new.private }
         ensures same { (self.new.single ≡ self.old.single) × (self.new.former ≡ self.old.former) × (work.new.swap.read.access ≡ work.old.swap.read.access) }
-        ensures err { OnErr result ((self.new ≡ self.old) × (work.new ≡ work.old) × (heap.new ≡ heap.old)) }
-        ensures only_memory { IfErr result (λ refusal. refusal ≡ Refusal.Memory) }
-        ensures asks { IfOk result (λ next. IsAskingRoot next → (self.new ≡ self.old) × (work.new ≡ work.old) × (heap.new ≡ heap.old)) }
-        ensures last { IfOk result (λ next. IsLast next → reading_of (climb_line path.now work.old.swap root_seen self.old) ≡ None) }
+        ensures asks { IsAskingRoot result → (self.new ≡ self.old) × (work.new ≡ work.old) × (heap.new ≡ heap.old) }
+        ensures last { IsLast result → reading_of (climb_line path.now work.old.swap root_seen self.old) ≡ None }
     {
-        match &self.place {
-            ClimbAt::Read => Ok(self.read(work, heap, root_seen)),
+        match &self.at {
+            ClimbAt::Read => self.read(work, heap, root_seen),
             ClimbAt::Main { main } => {
                 let main = *main;
-                Ok(self.look(heap, task, path, main))
+                self.look(heap, task, path, main)
             }
             ClimbAt::Contracted { main } => {
                 let main = *main;
                 self.contract(work, heap, task, path, main)
             }
-            ClimbAt::Swap => Ok(self.swap(work, heap, root_seen)),
+            ClimbAt::Swap => self.swap(work, heap, root_seen),
         }
     }
 
@@ -164,15 +172,15 @@ impl Climb {
             Acts heap.old work.old.private (line_action state operation (line.Climb (climb.Read (climb_of path self.old) (read_of work.old.swap.read root_seen)))) heap.new
             work.new.private }
         ensures same { (self.new.single ≡ self.old.single) × (self.new.former ≡ self.old.former) × (work.new.swap.read.access ≡ work.old.swap.read.access) }
-        ensures asks { IsAskingRoot result → (self.new ≡ record self.old { place = ClimbAt.Read }) × (work.new ≡ work.old) × (heap.new ≡ heap.old) }
+        ensures asks { IsAskingRoot result → (self.new ≡ record self.old { at = ClimbAt.Read }) × (work.new ≡ work.old) × (heap.new ≡ heap.old) }
         ensures last { IsLast result → ⊥ }
     {
-        self.place = ClimbAt::Read;
+        self.at = ClimbAt::Read;
         match work.read(heap, root_seen) {
             Next::More(kind) => Next::More(kind),
             Next::AskRoot => Next::AskRoot,
             Next::Done(kind, main) => {
-                self.place = ClimbAt::Main { main };
+                self.at = ClimbAt::Main { main };
                 Next::More(kind)
             }
         }
@@ -207,7 +215,7 @@ impl Climb {
         ensures taken { IsAskingRoot result → ⊥ }
     {
         if holds_it(heap, task, path, main) {
-            self.place = ClimbAt::Contracted { main };
+            self.at = ClimbAt::Contracted { main };
             Next::More(Kind::Look)
         } else {
             Next::Done(Kind::Look, Climbed::Climbed)
@@ -222,28 +230,26 @@ impl Climb {
         task: Task,
         path: &[Ref],
         main: Ref,
-    ) -> Result<Next<Climbed>, Refusal>
-        requires can { CanClimbAt heap.old.heap task work.old.swap (climb_of path.now self.old) (ClimbAt.Contracted main) }
+    ) -> Next<Climbed>
+        requires can { CanClimbAt heap.old.heap task work.old (climb_of path.now self.old) (ClimbAt.Contracted main) }
         requires held { AreHeld work.old.private heap.old }
-        ensures follows { IfOk result (λ next. (state : State) (operation : Operation) →
+        ensures follows { (state : State) (operation : Operation) →
             StepsOn (at_heap state heap.old.heap task.hashes) (for_task task work.old.swap.read.access operation)
             (line.Climb (climb.Contracted (climb_of path.now self.old) main)) (climb_line path.now work.new.swap None self.new) work.new.swap.read.at
-            (line_behind (for_task task work.old.swap.read.access operation) (climb_of path.now self.old)) next) }
-        ensures acts { OnOk result (Acts heap.old work.old.private
+            (line_behind (for_task task work.old.swap.read.access operation) (climb_of path.now self.old)) result }
+        ensures acts { Acts heap.old work.old.private
             (act.Make (climbed_node (at_heap no_state heap.old.heap task.hashes) (for_task task Writable no_operation) (climb_of path.now self.old) main)) heap.new
-            work.new.private) }
+            work.new.private }
         ensures same { (self.new.single ≡ self.old.single) × (self.new.former ≡ self.old.former) × (work.new.swap.read.access ≡ work.old.swap.read.access) }
-        ensures err { OnErr result ((self.new ≡ self.old) × (work.new ≡ work.old) × (heap.new ≡ heap.old)) }
-        ensures only_memory { IfErr result (λ refusal. refusal ≡ Refusal.Memory) }
-        ensures taken { IfOk result (λ next. IsAskingRoot next → ⊥) }
+        ensures taken { IsAskingRoot result → ⊥ }
     {
         let node = climbed_node(heap, task, path, self.single, main);
-        match work.make(heap, node)? {
-            None => Ok(Next::Done(Kind::Make, Climbed::Climbed)),
+        match work.private.make(heap, node) {
+            None => Next::Done(Kind::Make, Climbed::Climbed),
             Some(made) => {
                 work.swap.begin(current(above(path)), main, made);
-                self.place = ClimbAt::Swap;
-                Ok(Next::More(Kind::Make))
+                self.at = ClimbAt::Swap;
+                Next::More(Kind::Make)
             }
         }
     }
@@ -260,10 +266,10 @@ impl Climb {
             Acts heap.old work.old.private (line_action state operation (line.Swap (purpose.Climb (climb_of path self.old)) (swap_of work.old.swap root_seen))) heap.new
             work.new.private }
         ensures same { (self.new.single ≡ self.old.single) × (self.new.former ≡ self.old.former) × (work.new.swap.read.access ≡ work.old.swap.read.access) }
-        ensures asks { IsAskingRoot result → (self.new ≡ record self.old { place = ClimbAt.Swap }) × (work.new ≡ work.old) × (heap.new ≡ heap.old) }
+        ensures asks { IsAskingRoot result → (self.new ≡ record self.old { at = ClimbAt.Swap }) × (work.new ≡ work.old) × (heap.new ≡ heap.old) }
         ensures last { IsLast result → swapping_read work.old.swap.read.indirection (swap_of work.old.swap root_seen).line ≡ None }
     {
-        self.place = ClimbAt::Swap;
+        self.at = ClimbAt::Swap;
         let climbed = climbed_by(heap, work.swap.fresh, self.single);
         match work.swap(heap, root_seen) {
             Next::More(kind) => Next::More(kind),

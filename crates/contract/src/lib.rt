@@ -14,7 +14,6 @@
 
 mod clean;
 mod climb;
-mod entries;
 mod renew;
 
 pub use clean::{Clean, CleanAt, Cleaned};

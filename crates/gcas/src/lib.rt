@@ -21,7 +21,7 @@ mod swap;
 
 pub use laws::acts_on_heap;
 pub use looks::generation_at;
-pub use machine_model::{Change, Descriptor, Root, RootWord, Site};
+pub use machine_model::{Change, Descriptor, Entrant, Publication, Root, RootWord, Site};
 pub use next::Next;
 pub use read::{Read, ReadAt};
 pub use swap::{Swap, SwapAt};

@@ -2,6 +2,7 @@
 
 ghost use Rattle.std.specs.Prelude.{◌≡◌, ℕ, Option, None, is_some};
 ghost use Rattle.machine_model.specs.Swapping.{swap_action};
+ghost use Rattle.machine_model.specs.Tellings.{published_at};
 ghost use Rattle.gcas.specs.Acted.{acted_heap};
 ghost use Rattle.gcas.specs.Kept.{KeepsBeside};
 ghost use Rattle.gcas.specs.Reads.{CanReadOn, IsAskingRoot, line_of};
@@ -11,7 +12,7 @@ ghost use Rattle.machine_model.specs.Operations.{kind_of, swapping_read};
 use crate::next::Next;
 use crate::read::{Read, ReadAt};
 use ctrie_base::Kind;
-use machine_model::{Access, Heap, Prev, Ref};
+use machine_model::{Access, Entrant, Heap, Prev, Publication, Ref};
 
 /// Where a SWAP stands.
 #[derive(Clone, Copy)]
@@ -62,6 +63,19 @@ impl Swap {
         ensures { (told : Option ℕ) → result ≡ is_some (swapping_read self.now.read.indirection (swap_of self.now told).line) }
     {
         matches!(&self.at, SwapAt::Deciding)
+    }
+
+    /// The main node that its next step is to swap in, if it is such a step, as the change of this operation or of none.
+    pub fn published(&self, changer: Option<Entrant>) -> Option<Publication>
+        ensures { (told : Option ℕ) → result ≡ published_at changer self.now.fresh (swap_of self.now told).line }
+    {
+        match &self.at {
+            SwapAt::Publish => Some(Publication {
+                main: self.fresh,
+                changer,
+            }),
+            SwapAt::Deciding | SwapAt::Check => None,
+        }
     }
 
     /// The kind of its next step, where it was told this of the root's generation.

@@ -11,9 +11,9 @@ use Rattle.key_change.specs.Beneath.machine_model.specs.Operations.{after_update
 use Rattle.key_change.specs.Beneath.machine_model.specs.States.{State}
 use Rattle.key_change.specs.Beneath.gcas.specs.declared.next.Next.{Next}
 use Rattle.key_change.specs.Beneath.gcas.specs.declared.read.ReadAt.{ReadAt}
-use Rattle.key_change.specs.Beneath.gcas.specs.declared.swap.Swap.{Swap}
 use Rattle.key_change.specs.Beneath.gcas.specs.Swaps.{CanSwapOn}
 use Rattle.trie_parts.specs.declared.calls.Task.{Task}
+use Rattle.trie_parts.specs.declared.work.Work.{Work}
 use Rattle.trie_parts.specs.Steps.{CanMake, StepsOn}
 use Rattle.key_change.specs.declared.change.Change.{Change}
 use Rattle.key_change.specs.declared.change.ChangeAt.{ChangeAt}
@@ -35,13 +35,13 @@ line_behind state operation path fresh Impossible = impossible
 abbrev pub ChangesOn : State → Operation → List Ref → Ref → Line → Line → ReadAt → Next Tried → Type 0
 ChangesOn state operation path fresh before after place next = StepsOn state operation before after place (line_behind state operation path fresh) next
 
--- ---- what it asks of the heap
+-- ---- what it asks
 
-abbrev pub CanChangeAt : Heap → Task → List Ref → Swap → Ref → ChangeAt → Type 0
-CanChangeAt heap task path s main (at.Sibling position former) = Unit {0}
-CanChangeAt heap task path s main (at.Build building) = CanMake heap (built heap task (build_line path main building))
-CanChangeAt heap task path s main (at.Swap former) = CanSwapOn heap s
+abbrev pub CanChangeAt : Heap → Task → List Ref → Work → Ref → ChangeAt → Type 0
+CanChangeAt heap task path w main (at.Sibling position former) = Unit {0}
+CanChangeAt heap task path w main (at.Build building) = CanMake heap w.private (built heap task (build_line path main building))
+CanChangeAt heap task path w main (at.Swap former) = CanSwapOn heap w.swap
 
--- what the node is to refer to, or what the SWAP is going to change, is in use, and of its kind
-abbrev pub CanChange : Heap → Task → List Ref → Swap → Change → Type 0
-CanChange heap task path s change = CanChangeAt heap task path s change.main change.at
+-- what the node is to refer to, or what the SWAP is going to change, is in use, and of its kind; what makes a node has room for it
+abbrev pub CanChange : Heap → Task → List Ref → Work → Change → Type 0
+CanChange heap task path w change = CanChangeAt heap task path w change.main change.at

@@ -1,13 +1,13 @@
 //! A try, step by step.
 
-ghost use Rattle.std.specs.Prelude.{◌≡◌, ◌+◌, ◌<◌, ◌^◌, ℕ, List, Option, None, is_some, IfOk, IfErr, OnOk, OnErr};
+ghost use Rattle.std.specs.Prelude.{◌≡◌, ℕ, List, Option, None, is_some};
 ghost use Rattle.key_change.specs.Beneath.machine_model.specs.declared.operations.Operation.{Operation};
 ghost use Rattle.key_change.specs.Beneath.machine_model.specs.declared.lines.Line.TheVariants as line;
-ghost use Rattle.key_change.specs.Beneath.machine_model.specs.Acting.{swaps_in};
 ghost use Rattle.key_change.specs.Beneath.machine_model.specs.Building.{build_after_made};
 ghost use Rattle.key_change.specs.Beneath.machine_model.specs.Operations.{kind_of, line_action, read_of, swapping_read};
 ghost use Rattle.key_change.specs.Beneath.machine_model.specs.States.{State};
 ghost use Rattle.key_change.specs.Beneath.machine_model.specs.Swapping.{swap_action};
+ghost use Rattle.key_change.specs.Beneath.machine_model.specs.Tellings.{published_by};
 ghost use Rattle.key_change.specs.Beneath.machine_model.specs.declared.actions.Action.TheVariants as act;
 ghost use Rattle.key_change.specs.Beneath.machine_model.specs.declared.finding.KeyLine.TheVariants as key;
 ghost use Rattle.key_change.specs.Beneath.machine_model.specs.declared.lines.Purpose.TheVariants as purpose;
@@ -27,10 +27,12 @@ ghost use Rattle.key_change.specs.Lines.{line_of};
 ghost use Rattle.key_change.specs.Steps.{ChangesOn, CanChange, CanChangeAt};
 
 use crate::building::{Building, after_link, after_single, built, depth_ahead};
-use ctrie_base::{Kind, Refusal};
+use ctrie_base::Kind;
 use epochs::Heap;
 use slot_arena::{Node, Ref};
-use trie_parts::{Change as NodeChange, Next, Swap, Task, Work, current, entry_at, node_at};
+use trie_parts::{
+    Change as NodeChange, Entrant, Next, Publication, Swap, Task, Work, current, entry_at, node_at,
+};
 
 /// Where a try stands. `former` is the key's value before the change.
 #[derive(Clone, Copy)]
@@ -86,18 +88,19 @@ impl Change {
         }
     }
 
-    /// Whether its next step is one of a SWAP that puts this main node in the place of another.
-    pub fn swaps_in(&self, swap: &Swap, main: Ref) -> bool
-        ensures { (path : List ARef) (told : Option ℕ) → result ≡ swaps_in main (line_of path swap.now told self.now) }
+    /// The main node that its next step is to swap in, if it is such a step: the change of this operation.
+    pub fn published(&self, swap: &Swap, changer: Entrant) -> Option<Publication>
+        ensures { (operation : Operation) (path : List ARef) (told : Option ℕ) → result
+            ≡ published_by (record operation { id = changer.id; access = changer.access; generation = changer.generation }) (line_of path swap.now told self.now) }
     {
         match &self.at {
-            ChangeAt::Sibling { .. } | ChangeAt::Build(_) => false,
-            ChangeAt::Swap { .. } => swap.fresh == main,
+            ChangeAt::Sibling { .. } | ChangeAt::Build(_) => None,
+            ChangeAt::Swap { .. } => swap.published(Some(changer)),
         }
     }
 
     /// Takes the next step of the try, for a call that has come to the end of this path, unless it has to be
-    /// told the generation of the root first. After an error, which is want of memory, nothing has changed.
+    /// told the generation of the root first.
     pub fn step(
         &mut self,
         work: &mut Work,
@@ -105,25 +108,23 @@ impl Change {
         task: Task,
         path: &[Ref],
         root_seen: Option<u64>,
-    ) -> Result<Next<Tried>, Refusal>
-        requires can { CanChange heap.old.heap task path.now work.old.swap self.old }
+    ) -> Next<Tried>
+        requires can { CanChange heap.old.heap task path.now work.old self.old }
         requires held { AreHeld work.old.private heap.old }
-        ensures follows { IfOk result (λ next. (state : State) (operation : Operation) →
+        ensures follows { (state : State) (operation : Operation) →
             ChangesOn (at_heap state heap.old.heap task.hashes) (for_task task work.old.swap.read.access operation) path.now work.old.swap.fresh
-            (line_of path.now work.old.swap root_seen self.old) (line_of path.now work.new.swap None self.new) work.new.swap.read.at next) }
-        ensures acts { OnOk result ((state : State) (operation : Operation) →
+            (line_of path.now work.old.swap root_seen self.old) (line_of path.now work.new.swap None self.new) work.new.swap.read.at result }
+        ensures acts { (state : State) (operation : Operation) →
             Acts heap.old work.old.private (line_action (at_heap state heap.old.heap task.hashes) (for_task task work.old.swap.read.access operation)
-            (line_of path.now work.old.swap root_seen self.old)) heap.new work.new.private) }
+            (line_of path.now work.old.swap root_seen self.old)) heap.new work.new.private }
         ensures same { (self.new.main ≡ self.old.main) × (work.new.swap.read.access ≡ work.old.swap.read.access) }
-        ensures err { OnErr result ((self.new ≡ self.old) × (work.new ≡ work.old) × (heap.new ≡ heap.old)) }
-        ensures only_memory { IfErr result (λ refusal. refusal ≡ Refusal.Memory) }
-        ensures asks { IfOk result (λ next. IsAskingRoot next → (self.new ≡ self.old) × (work.new ≡ work.old) × (heap.new ≡ heap.old)) }
-        ensures last { IfOk result (λ next. IsLast next → read_of (line_of path.now work.old.swap root_seen self.old) ≡ None) }
+        ensures asks { IsAskingRoot result → (self.new ≡ self.old) × (work.new ≡ work.old) × (heap.new ≡ heap.old) }
+        ensures last { IsLast result → read_of (line_of path.now work.old.swap root_seen self.old) ≡ None }
     {
         match &self.at {
             ChangeAt::Sibling { position, former } => {
                 let (position, former) = (*position, *former);
-                Ok(self.look(heap, position, former))
+                self.look(heap, position, former)
             }
             ChangeAt::Build(building) => {
                 let building = *building;
@@ -131,7 +132,7 @@ impl Change {
             }
             ChangeAt::Swap { former } => {
                 let former = *former;
-                Ok(self.swap(work, heap, root_seen, former))
+                self.swap(work, heap, root_seen, former)
             }
         }
     }
@@ -166,25 +167,23 @@ impl Change {
         task: Task,
         path: &[Ref],
         building: &Building,
-    ) -> Result<Next<Tried>, Refusal>
-        requires can { CanChangeAt heap.old.heap task path.now work.old.swap self.old.main (ChangeAt.Build building.now) }
+    ) -> Next<Tried>
+        requires can { CanChangeAt heap.old.heap task path.now work.old self.old.main (ChangeAt.Build building.now) }
         requires held { AreHeld work.old.private heap.old }
-        ensures follows { IfOk result (λ next. (state : State) (operation : Operation) →
+        ensures follows { (state : State) (operation : Operation) →
             ChangesOn (at_heap state heap.old.heap task.hashes) (for_task task work.old.swap.read.access operation) path.now work.old.swap.fresh
-            (line.Build (build_line path.now self.old.main building.now)) (line_of path.now work.new.swap None self.new) work.new.swap.read.at next) }
-        ensures acts { OnOk result (Acts heap.old work.old.private (act.Make (built heap.old.heap task (build_line path.now self.old.main building.now))) heap.new work.new.private) }
+            (line.Build (build_line path.now self.old.main building.now)) (line_of path.now work.new.swap None self.new) work.new.swap.read.at result }
+        ensures acts { Acts heap.old work.old.private (act.Make (built heap.old.heap task (build_line path.now self.old.main building.now))) heap.new work.new.private }
         ensures same { (self.new.main ≡ self.old.main) × (work.new.swap.read.access ≡ work.old.swap.read.access) }
-        ensures err { OnErr result ((self.new ≡ self.old) × (work.new ≡ work.old) × (heap.new ≡ heap.old)) }
-        ensures only_memory { IfErr result (λ refusal. refusal ≡ Refusal.Memory) }
-        ensures taken { IfOk result (λ next. IsAskingRoot next → ⊥) }
+        ensures taken { IsAskingRoot result → ⊥ }
     {
         let depth = depth_ahead(heap, task, path, self.main, building);
         let node = built(heap, task, path, self.main, building);
-        match work.make(heap, node)? {
-            None => Ok(Next::Done(Kind::Make, Tried::NoSlots)),
+        match work.private.make(heap, node) {
+            None => Next::Done(Kind::Make, Tried::NoSlots),
             Some(made) => {
                 self.go_on(work, path, building, depth, made);
-                Ok(Next::More(Kind::Make))
+                Next::More(Kind::Make)
             }
         }
     }

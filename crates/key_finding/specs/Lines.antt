@@ -18,19 +18,25 @@ use Rattle.key_finding.specs.Beneath.machine_model.specs.States.{State}
 use Rattle.key_finding.specs.Beneath.gcas.specs.declared.swap.Swap.{Swap}
 use Rattle.key_change.specs.Lines.{line_at}
 use Rattle.key_finding.specs.declared.found.Found.{Found}
-use Rattle.key_finding.specs.declared.found.Found.TheVariants.{Entry, Listed, Down, Renew, Clean, Change, End, Impossible}
+use Rattle.key_finding.specs.declared.found.Found.TheVariants.{Entry, Listed, Renew, Clean, Change, End, Impossible}
+use Rattle.key_finding.specs.declared.found.Entered.{Entered}
+use Rattle.key_finding.specs.declared.found.Entered.TheVariants.{Down, Here}
 use Rattle.key_finding.specs.Replies.{reply_of}
 
 -- the definition's line to which this leads, from this main node at the end of this path
 abbrev pub line_found : State → List Ref → Swap → Ref → Found → Line
 line_found state path s main (Entry position) = line.Key (key.Entry path main position)
 line_found state path s main (Listed position) = line.Key (key.Listed path main position)
-line_found state path s main (Down below) = going_down path below
 line_found state path s main Renew = renew_next state path main []
 line_found state path s main Clean = line.Clean (clean.Read (above path) (reading (current (above path))))
 line_found state path s main (Change at) = line_at path s None main at
 line_found state path s main (End answer) = line.End (reply_of answer)
 line_found state path s main Impossible = impossible
+
+-- the same after a look at an entry of that branch
+abbrev pub line_entered : State → List Ref → Swap → Ref → Entered → Line
+line_entered state path s main (Down below) = going_down path below
+line_entered state path s main (Here found) = line_found state path s main found
 
 -- where the key is absent: the call makes its single for this site, or answers
 abbrev pub absent_for : Call → List Ref → Ref → Site → Line

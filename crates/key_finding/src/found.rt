@@ -4,15 +4,13 @@ use crate::calls::KeyReply;
 use key_change::ChangeAt;
 use slot_arena::Ref;
 
-/// What comes after a look at a main node or at one of its entries.
+/// What comes after a look at a main node, or at one of its entries that doesn't lead further down.
 #[derive(Clone, Copy)]
 pub enum Found {
     /// Looks at the branch's entry at this position.
     Entry { position: usize },
     /// Looks at the single at this position of a list, or at a tomb's.
     Listed { position: usize },
-    /// Reads this indirection, one further down.
-    Down { below: Ref },
     /// Renews the branch: an indirection in it is of another generation than the root.
     Renew,
     /// Cleans the parent: a tomb stands here.
@@ -23,4 +21,13 @@ pub enum Found {
     End(KeyReply),
     /// A node is of another kind than the program takes it for. No machine comes here.
     Impossible,
+}
+
+/// What comes after a look at an entry of a branch.
+#[derive(Clone, Copy)]
+pub enum Entered {
+    /// Reads this indirection, one further down.
+    Down { below: Ref },
+    /// The call stays with the main node.
+    Here(Found),
 }

@@ -15,6 +15,6 @@ mod found;
 mod looks;
 
 pub use calls::{KeyReply, changed_reply};
-pub use found::Found;
+pub use found::{Entered, Found};
 pub use key_change::{Change, ChangeAt, Tried};
 pub use looks::{after_entry, after_listed, after_main};

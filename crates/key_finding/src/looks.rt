@@ -22,10 +22,10 @@ ghost use Rattle.key_finding.specs.Beneath.machine_model.specs.declared.operatio
 ghost use Rattle.key_finding.specs.Beneath.gcas.specs.declared.swap.Swap.{Swap};
 ghost use Rattle.trie_parts.specs.Here.{at_heap};
 ghost use Rattle.trie_parts.specs.Tasks.{call_of, for_task};
-ghost use Rattle.key_finding.specs.Lines.{line_found, absent_for};
+ghost use Rattle.key_finding.specs.Lines.{line_entered, line_found, absent_for};
 
 use crate::calls::{KeyReply, Todo, absent_reply, inserts, when_found};
-use crate::found::Found;
+use crate::found::{Entered, Found};
 use epochs::Heap;
 use history::Access;
 use key_change::{Building, ChangeAt};
@@ -98,9 +98,9 @@ pub fn after_entry(
     path: &[Ref],
     main: Ref,
     position: usize,
-) -> Found
+) -> Entered
     ensures { (state : State) (operation : Operation) (s : Swap) →
-        line_found (at_heap state heap.now.heap task.hashes) path.now s main result ≡ key_after_entry (at_heap state heap.now.heap task.hashes)
+        line_entered (at_heap state heap.now.heap task.hashes) path.now s main result ≡ key_after_entry (at_heap state heap.now.heap task.hashes)
         (for_task task access operation) path.now main position (node_at heap.now.heap (entry_at heap.now.heap main position)) }
 {
     let entry = entry_at(heap, main, position);
@@ -113,24 +113,24 @@ pub fn after_entry(
         ),
         Some(Node::Single { key, value }) => {
             if *key == task.call.key() {
-                return found(heap, task.call, path, main, position, *value);
+                return Entered::Here(found(heap, task.call, path, main, position, *value));
             }
-            absent(task.call, Site::Beside { position })
+            Entered::Here(absent(task.call, Site::Beside { position }))
         }
-        _ => Found::Impossible,
+        _ => Entered::Here(Found::Impossible),
     }
 }
 
 /// At an indirection of this generation: a writable operation goes through those of its root's generation
 /// alone.
 #[inline(always)]
-fn at_indirection(task: Task, access: Access, generation: u64, below: Ref) -> Found
+fn at_indirection(task: Task, access: Access, generation: u64, below: Ref) -> Entered
     ensures { (state : State) (operation : Operation) (path : List ARef) (main : ARef) (s : Swap) →
-        line_found state path s main result ≡ (if is_passable (for_task task access operation) generation then going_down path below else renew_next state path main []) }
+        line_entered state path s main result ≡ (if is_passable (for_task task access operation) generation then going_down path below else renew_next state path main []) }
 {
     match access {
-        Access::Writable if !task.is_start(generation) => Found::Renew,
-        Access::Writable | Access::ReadOnly => Found::Down { below },
+        Access::Writable if !task.is_start(generation) => Entered::Here(Found::Renew),
+        Access::Writable | Access::ReadOnly => Entered::Down { below },
     }
 }
 

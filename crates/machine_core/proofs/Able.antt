@@ -1,5 +1,5 @@
 -- An operation's programs can take its next step.
-use Rattle.std.proofs.Common.{arith, ◌≡◌, ℕ, ◌+◌, ◌-◌, ◌<◌, ◌^◌, Some, None, sym, ap, subst, ◌∙◌}
+use Rattle.std.proofs.Common.{arith, length, ◌≡◌, ℕ, ◌+◌, ◌-◌, ◌<◌, ◌^◌, Some, None, sym, ap, subst, ◌∙◌}
 use Rattle.history.specs.declared.calls.Call.{Call}
 use Rattle.slot_arena.specs.Arenas.{IsLive}
 use Rattle.epochs.specs.Memories.{Memory}
@@ -29,18 +29,19 @@ use Rattle.machine_core.specs.Beneath.root_asking.proofs.Embedding.{each_embeds}
 use Rattle.machine_core.specs.Beneath.operate.specs.Steps.{operation_for as as_key}
 use Rattle.machine_core.specs.Beneath.snapshot.specs.Copies.{IsReadyBeside}
 use Rattle.running.specs.declared.job.Program.{Program}
-use Rattle.running.specs.declared.job.Program.TheVariants.{Key, Snap, Entries, Count, Close}
+use Rattle.running.specs.declared.job.Program.TheVariants.{Key, Copy, Walk, Close}
 use Rattle.running.specs.declared.programs.Programs.{Programs}
 use Rattle.running.specs.declared.programs.Stage.{Stage}
-use Rattle.running.specs.declared.programs.Stage.TheVariants.{Runs, Answered, Swapped, Listed, Counted, Impossible}
+use Rattle.running.specs.declared.programs.Stage.TheVariants.{Runs, Answered, Swapped, Walked, Impossible}
 use Rattle.running.specs.Places.{IsBegun, IsSound, IsWaiting, ReadsIn, ReadsOn, asking_line, line_for, met_at, program_line, stage_line}
 use Rattle.running.specs.Steps.{CanProgram, CanStage, CanStep, at_scene, scene}
 use Rattle.running.proofs.Asks.{Asks, asked, asks, key_handle}
 use Rattle.running.proofs.Lasting.{tells}
 use Rattle.machine_core.specs.declared.parts.UnderWay.{UnderWay}
 use Rattle.machine_core.specs.Seen.{operation_at}
+use Rattle.proof_records.specs.Laws.{LineHasRoom, MakesNode}
 use Rattle.machine_core.proofs.Claims.{Lives, read_claims, root_live}
-use Rattle.machine_core.proofs.Conditions.{Finds, IsLineOf, can_key, can_snap, can_walk, met, told}
+use Rattle.machine_core.proofs.Conditions.{Finds, IsLineOf, can_key, can_copy, can_walk, met, told}
 
 -- ---- the line of a program that runs
 
@@ -78,35 +79,33 @@ own_call table p u call begun =
 
 module _ (state : State) (memory : Memory) (table : Table) (generation : ℕ) (p : Programs) (u : UnderWay) (ready : IsReady memory table.roots 8) where
   can_program : (program : Program) (l : Line) → Within p program l → IsBegun program p → ReadsOn program p →
-      Finds memory.heap (There state memory table generation p) (Own table p u program) l → CanProgram (scene memory table generation p) program
+      Finds memory.heap p.key.work.private (There state memory table generation p) (Own table p u program) l → CanProgram (scene memory table generation p) program
   can_program (Key call) l w begun reads finds =
-      can_key memory table (record state { roots = table.roots }) (Own table p u (Key call)) ready p.key w.here w.stands p.key.place reads
-      (subst (λ (o : Operation). Finds memory.heap (There state memory table generation p) o (with_read w.here (program_line p None (Key call)))) (sym (own_call table p u call begun))
-      (subst (Finds memory.heap (There state memory table generation p) (Own table p u (Key call))) w.is finds))
-  can_program (Snap call) l w begun reads finds =
-      can_snap memory table (There state memory table generation p) (Own table p u (Snap call)) ready p.key.work.swap.read w.here w.stands p.snap.root generation p.snap.at reads
-      (subst (Finds memory.heap (There state memory table generation p) (Own table p u (Snap call))) w.is finds)
-  can_program Entries l w begun reads finds =
-      can_walk memory table (There state memory table generation p) (Own table p u Entries) ready p.key.work.swap.read w.here w.stands p.entries.walk.todo p.entries.walk.pairs p.entries.walk.at
-      (subst (Finds memory.heap (There state memory table generation p) (Own table p u Entries)) w.is finds)
-  can_program Count l w begun reads finds =
-      can_walk memory table (There state memory table generation p) (Own table p u Count) ready p.key.work.swap.read w.here w.stands p.count.walk.todo p.count.walk.pairs p.count.walk.at
-      (subst (Finds memory.heap (There state memory table generation p) (Own table p u Count)) w.is finds)
+      can_key memory table (record state { roots = table.roots }) (Own table p u (Key call)) ready p.key w.here w.stands p.key.at reads
+      (subst (λ (o : Operation). Finds memory.heap p.key.work.private (There state memory table generation p) o (with_read w.here (program_line p None (Key call))))
+      (sym (own_call table p u call begun))
+      (subst (Finds memory.heap p.key.work.private (There state memory table generation p) (Own table p u (Key call))) w.is finds))
+  can_program (Copy call) l w begun reads finds =
+      can_copy memory table p.key.work (There state memory table generation p) (Own table p u (Copy call)) ready w.here w.stands p.copy.root generation p.copy.at reads
+      (subst (Finds memory.heap p.key.work.private (There state memory table generation p) (Own table p u (Copy call))) w.is finds)
+  can_program (Walk call) l w begun reads finds =
+      can_walk memory table p.key.work.private (There state memory table generation p) (Own table p u (Walk call)) ready p.key.work.swap.read w.here w.stands p.walk.todo.items p.walk.pairs.items
+      p.walk.at (subst (Finds memory.heap p.key.work.private (There state memory table generation p) (Own table p u (Walk call))) w.is finds)
   can_program Close l w begun reads finds = tt
 
   can_stage : (program : Program) (stage : Stage) → IsBegun program p → IsWaiting p.asking (stage_line p None program stage) → ReadsIn stage program p →
-      Finds memory.heap (There state memory table generation p) (Own table p u program) (asking_line p program stage p.asking) → CanStage (scene memory table generation p) program stage
+      Finds memory.heap p.key.work.private (There state memory table generation p) (Own table p u program) (asking_line p program stage p.asking) →
+      CanStage (scene memory table generation p) program stage
   can_stage program Runs begun waits reads finds = can_program program (asking_line p program Runs p.asking) (within p program p.asking waits) begun reads finds
   can_stage program (Answered answer) begun waits reads finds = tt
   can_stage program (Swapped answer) begun waits reads finds = tt
-  can_stage program Listed begun waits reads finds = tt
-  can_stage program Counted begun waits reads finds = tt
+  can_stage program (Walked call) begun waits reads finds = tt
   can_stage program Impossible begun waits reads finds = tt
 
   -- ---- ABORT in its place
 
   takes_back : (program : Program) (offer : Descriptor) → IsAskingLine (program_line p None program) →
-      Finds memory.heap (There state memory table generation p) (Own table p u program) (asking_line p program Runs (Met offer)) → CanAbortOn memory table (abort_of (Met offer))
+      Finds memory.heap p.key.work.private (There state memory table generation p) (Own table p u program) (asking_line p program Runs (Met offer)) → CanAbortOn memory table (abort_of (Met offer))
   takes_back program offer asking finds =
       let l : Line = program_line p None program in
       let h : Asks p.key.work.swap.read l = asks p program asking in
@@ -117,14 +116,13 @@ module _ (state : State) (memory : Memory) (table : Table) (generation : ℕ) (p
       )
 
   can_abort : (program : Program) (stage : Stage) (asking : Asking) → IsWaiting asking (stage_line p None program stage) →
-      Finds memory.heap (There state memory table generation p) (Own table p u program) (asking_line p program stage asking) → CanAbortOn memory table (abort_of asking)
+      Finds memory.heap p.key.work.private (There state memory table generation p) (Own table p u program) (asking_line p program stage asking) → CanAbortOn memory table (abort_of asking)
   can_abort program stage Unasked waits finds = tt
   can_abort program stage (Told g) waits finds = tt
   can_abort program Runs (Met offer) waits finds = takes_back program offer waits finds
   can_abort program (Answered answer) (Met offer) waits finds = absurd waits
   can_abort program (Swapped answer) (Met offer) waits finds = absurd waits
-  can_abort program Listed (Met offer) waits finds = absurd waits
-  can_abort program Counted (Met offer) waits finds = absurd waits
+  can_abort program (Walked call) (Met offer) waits finds = absurd waits
   can_abort program Impossible (Met offer) waits finds = absurd waits
 
 -- ---- all
@@ -134,14 +132,21 @@ pub can_step : (state : State) (memory : Memory) (table : Table) (generation : �
     let there = at_scene state (scene memory table generation p) in
     let operation = operation_at table p u in
     Lives memory.heap (line_wants there.limits.hash operation.call operation.access operation.line) → Lives memory.heap (action_wants (action_of there operation)) →
-    IsSound u.program p → IsReadyBeside memory table.roots p.key.work.private → memory.heap.births + 1 < 2 ^ 48 → p.snap.attempt < 2 ^ 64 - 1 → generation < 2 ^ 64 - 1 →
+    LineHasRoom operation.line → (MakesNode (action_of there operation) → length operation.private < 33) →
+    IsSound u.program p → IsReadyBeside memory table.roots p.key.work.private → memory.heap.births + 1 < 2 ^ 48 → p.copy.attempt < 2 ^ 64 - 1 → generation < 2 ^ 64 - 1 →
     CanStep (scene memory table generation p) u.program
-can_step state memory table generation p u line action sound ready births attempts generations =
+can_step state memory table generation p u line action room makes sound ready births attempts generations =
     let there : State = at_scene state (scene memory table generation p) in
     let operation : Operation = operation_at table p u in
     let root_ready : IsReady memory table.roots 8 = record { held = λ r. omega (arith, ready.held r); room = ready.room } in
-    let finds : Finds memory.heap there operation (line_for u.program p) =
-    record { reads = λ r is. read_claims (IsLive memory.heap) memory.heap r there.limits.hash operation.call operation.access (line_for u.program p) is line; does = action; births = births } in
+    let finds : Finds memory.heap p.key.work.private there operation (line_for u.program p) =
+    record {
+      reads = λ r is. read_claims (IsLive memory.heap) memory.heap r there.limits.hash operation.call operation.access (line_for u.program p) is line;
+      does = action;
+      births = births;
+      room = room;
+      makes = makes;
+    } in
     record {
       runs = can_stage state memory table generation p u root_ready u.program p.stage sound.begun sound.waits sound.reads finds;
       abort = can_abort state memory table generation p u root_ready u.program p.stage p.asking sound.waits finds;

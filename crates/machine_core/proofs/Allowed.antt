@@ -1,16 +1,13 @@
 -- In a run, an operation's programs can take its next step.
-use Rattle.std.proofs.Common.{arith, ◌≡◌, ℕ, ◌-◌, List, Option, Some, refl, sym, ap, subst, ◌∙◌}
-use Rattle.std.specs.Prelude.{option_and_then, slice_get, slice_set, IfOk, OnErr, Result, Ok, Err}
+use Rattle.std.proofs.Common.{arith, ◌≡◌, ℕ, ◌-◌, ◌<◌, length, Option, Some, sym, ap, subst, ◌∙◌}
+use Rattle.std.specs.Prelude.{option_and_then, slice_get}
 use Rattle.std.proofs.lemmas.Option.{same_Some}
 use Rattle.ctrie_base.specs.declared.hashes.HashKind.{HashKind}
 use Rattle.slot_arena.specs.Arenas.{IsLive}
 use Rattle.slot_arena.specs.Heaps.{node_at}
-use Rattle.slot_arena.specs.Times.{times}
-use Rattle.epochs.specs.Memories.{Memory}
 use Rattle.machine_model.specs.declared.operations.Operation.{Operation}
 use Rattle.machine_model.specs.Machine.{run}
 use Rattle.machine_model.proofs.Along.{limits_along}
-use Rattle.machine_model.specs.Grown.{standing}
 use Rattle.machine_model.specs.Operations.{action_of}
 use Rattle.machine_model.specs.States.{State, operation_of}
 use Rattle.machine_core.specs.Beneath.proof_memory.specs.Laws.{IsInUse}
@@ -19,19 +16,20 @@ use Rattle.machine_core.specs.Beneath.proof_memory.proofs.Claims.Uses.{all_carri
 use Rattle.machine_core.specs.Beneath.proof_memory.proofs.Holding.Lives.{in_use_lives}
 use Rattle.machine_core.specs.Beneath.proof_memory.proofs.Safety.AtEachTime.{safe_along}
 use Rattle.machine_core.specs.Beneath.proof_memory.proofs.Safety.AtTimes.{line_finds_in}
-use Rattle.running.specs.Places.{IsSound}
 use Rattle.running.specs.Steps.{CanStep, at_scene, scene}
 use Rattle.machine_core.specs.declared.parts.Actor.{Actor}
 use Rattle.machine_core.specs.declared.parts.Parts.{Parts}
 use Rattle.machine_core.specs.declared.parts.UnderWay.{UnderWay}
-use Rattle.machine_core.specs.Bounds.{IsBounded, IsOfRun}
-use Rattle.machine_core.specs.Keeping.{IsKept, IsSeated, Replaces}
+use Rattle.machine_core.specs.Bounds.{IsBounded}
+use Rattle.proof_straight.specs.Resting.{IsOfRun}
+use Rattle.machine_core.specs.Keeping.{IsKept, IsSeated}
 use Rattle.machine_core.specs.Seen.{actor_of, operation_at, operation_seen, seen, under_way_of}
 use Rattle.machine_core.proofs.Able.{can_step}
 use Rattle.machine_core.proofs.Bounded.{bounded}
 use Rattle.machine_core.proofs.Claims.{Lives}
-use Rattle.machine_core.proofs.Held.{claims, few_held}
-use Rattle.machine_core.proofs.Kept.{Seat, kept_alike, operation_there, seat_of, found_operation}
+use Rattle.proof_records.specs.Laws.{MakesNode}
+use Rattle.machine_core.proofs.Held.{claims, few_held, room_left}
+use Rattle.machine_core.proofs.Kept.{Seat, operation_there, seat_of, found_operation}
 use Rattle.machine_core.proofs.Tied.{operation_stands, private_held}
 
 -- what a running operation's line takes its references for
@@ -66,6 +64,8 @@ can_there parts actor u h kept seat =
     can_step (seen parts) parts.heap parts.table parts.generations seat.found.programs u
     (subst (λ (s : State). Lives parts.heap.heap (line_wants s.limits.hash operation.call operation.access operation.line)) (sym there) (line_claims (seen parts) actor operation h found))
     (subst (λ (s : State). Lives parts.heap.heap (action_wants (action_of s operation))) (sym there) (claims (seen parts) actor operation h found))
+    (room_left (seen parts) actor operation h found).0
+    (subst (λ (s : State). MakesNode (action_of s operation) → length operation.private < 33) (sym there) (room_left (seen parts) actor operation h found).1)
     (seated.sound u seat.runs)
     (record {
       held = λ r. private_held parts.heap parts.table.roots (seen parts).actors actor operation kept.tied at r;
@@ -82,60 +82,6 @@ module _ (parts : Parts) (actor : ℕ) (u : UnderWay) (h : IsOfRun (seen parts))
       let seat = seat_of parts actor u runs in
       let same : seat.found ≡ found = same_Some seat.found found (sym seat.at ∙ at) in
       subst (λ (a : Actor). CanStep (scene parts.heap parts.table parts.generations a.programs) u.program) same (can_there parts actor u h kept seat)
-
-  pub sound : IsSound u.program found.programs
-  sound =
-      let seat = seat_of parts actor u runs in
-      let same : seat.found ≡ found = same_Some seat.found found (sym seat.at ∙ at) in
-      subst (λ (a : Actor). IsSound u.program a.programs) same ((kept.seats (actor - 1) seat.found seat.at).sound u seat.runs)
-
--- what comes of an error comes of what comes of it
-pub on_error : {A E : Type 0} (r : Result A E) (P Q : Type 0) → (P → Q) → OnErr r P → OnErr r Q
-on_error (Ok value) P Q then e = tt
-on_error (Err refusal) P Q then e = then e
-
--- the actor gave way to what its step made of it
-pub replaces : {A E : Type 0} (r : Result A E) (actors : List Actor) (i : ℕ) (was is : Actor) → slice_get actors i ≡ Some was → (P : A → Actor → Actor → Type 0) →
-    IfOk r (λ taken. P taken was is) → IfOk r (λ taken. Replaces actors i (P taken) (slice_set actors i is))
-replaces (Ok taken) actors i was is found P does = record { was = was; is = is; found = found; set = refl; does = does }
-replaces (Err refusal) actors i was is found P does = tt
-
--- the same, of whatever it has under way
-pub replaces_all : {A E : Type 0} (r : Result A E) (actors : List Actor) (i : ℕ) (was is : Actor) → slice_get actors i ≡ Some was → (P : UnderWay → A → Actor → Actor → Type 0) →
-    IfOk r (λ taken. (u : UnderWay) → was.under_way ≡ Some u → P u taken was is) →
-    IfOk r (λ taken. (found : Actor) (u : UnderWay) → slice_get actors i ≡ Some found → found.under_way ≡ Some u → Replaces actors i (P u taken) (slice_set actors i is))
-replaces_all (Ok taken) actors i was is found P does = λ other u at runs.
-    record {
-      was = was;
-      is = is;
-      found = found;
-      set = refl;
-      does = does u (ap (λ (a : Actor). a.under_way) (same_Some was other (sym found ∙ at)) ∙ runs);
-    }
-replaces_all (Err refusal) actors i was is found P does = tt
-
--- where nothing has changed all is kept
-pub unchanged : (before after : Parts) → after.limits ≡ before.limits → after.handles ≡ before.handles → after.journal ≡ before.journal →
-    after.begun ≡ before.begun → after.commits ≡ before.commits →
-    (after.actors.items ≡ before.actors.items) × (after.table ≡ before.table) × (after.generations ≡ before.generations) × (after.heap ≡ before.heap) → IsKept before → IsKept after
-unchanged before after limits handles journal begun_are commits same kept =
-    kept_alike before after
-    (record {
-      limits = limits;
-      table = same.1;
-      actors = same.0;
-      handles = handles;
-      outside = λ r. ap (λ (m : Memory). times r m.outside) same.3;
-      pins = ap (λ (m : Memory). m.pins) same.3;
-      stood = λ main slot e. subst (λ (m : Memory). standing m.heap main ≡ Some slot) same.3 e;
-      owners = ap (λ (m : Memory). m.owners) same.3;
-      drawn = ap (λ j. j.chronicle.generations) journal;
-      generations = same.2;
-      begun_are = begun_are;
-      events = ap (λ j. j.events.items) journal;
-      slots = ap (λ c. c.slots) commits;
-    })
-    kept
 
 -- what the owner of this number runs
 pub owner_runs : (parts : Parts) (n owner : ℕ) (found : Option Actor) → actor_of parts n ≡ found → n ≡ owner → operation_of (seen parts) owner ≡ option_and_then (operation_seen parts.table) found

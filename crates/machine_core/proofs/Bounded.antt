@@ -1,17 +1,12 @@
 -- The numbers of a machine are bounded along each run.
-use Rattle.std.proofs.Common.{◌≡◌, ℕ, ◌+◌, ◌≤◌, false, cond, List, [], ◌∷◌, ◌++◌, Option, Some, None, Result, Ok, Err, refl, sym, ap, ◌∙◌, subst, arith, leb-false, map}
-use Rattle.std.proofs.lemmas.List.Sums.{sum_by-append}
-use Rattle.ctrie_base.specs.declared.refusals.Refusal.{Refusal}
+use Rattle.std.proofs.Common.{◌≡◌, ℕ, ◌+◌, ◌≤◌, false, List, [], ◌∷◌, ◌++◌, Option, Some, None, Ok, refl, sym, ap, ◌∙◌, subst, arith, leb-false, map}
 use Rattle.history.specs.declared.calls.Call.{Call}
-use Rattle.history.specs.declared.events.Event.{Event}
-use Rattle.history.specs.declared.events.Event.TheVariants.{End}
-use Rattle.history.specs.Histories.{is_begin, begun}
 use Rattle.slot_arena.specs.declared.refs.Ref.{Ref}
 use Rattle.slot_arena.specs.declared.nodes.Node.{Node}
 use Rattle.machine_model.specs.declared.actions.Action.{Action}
 use Rattle.machine_model.specs.declared.actions.Action.TheVariants as act
 use Rattle.machine_model.specs.declared.operations.Operation.{Operation}
-use Rattle.machine_model.specs.declared.steps.Limits.{Limits}
+use Rattle.machine_model.specs.declared.steps.Bounds.{Bounds}
 use Rattle.machine_model.specs.declared.steps.Outcome.{Outcome}
 use Rattle.machine_model.specs.declared.steps.Step.{Step}
 use Rattle.machine_model.specs.declared.steps.Step.TheVariants as step
@@ -19,18 +14,17 @@ use Rattle.machine_model.specs.Calls.{handle_of}
 use Rattle.slot_arena.specs.Heaps.{Heap, empty_branch, with_main, taken, take_from, freed}
 use Rattle.slot_arena.specs.Refs.{ref_to}
 use Rattle.slot_arena.specs.declared.nodes.Node.TheVariants.{Indirection}
-use Rattle.machine_model.specs.States.{State, empty_heap, first_state, step_limit}
+use Rattle.machine_model.specs.States.{State, empty_heap, first_state}
 use Rattle.machine_model.specs.Operations.{action_of}
 use Rattle.slot_arena.specs.declared.nodes.Prev.TheVariants as prev
 use Rattle.epochs.specs.Sweeping.{Reclaimer, ripe, sweep_by}
 use Rattle.machine_model.specs.Acting.{acted, new_root_taken, attempt_after, operation_after}
-use Rattle.machine_model.specs.Machine.{next, next_state, state_after, is_spent, begin_denial, go_denial, with_begin, pin_of, reclaimer_of, run, run_from, AreLimits}
+use Rattle.machine_model.specs.Machine.{next, next_state, state_after, is_spent, begin_denial, go_denial, with_begin, pin_of, reclaimer_of, run, run_from, AreBounds}
 use Rattle.machine_model.proofs.Along.{along, run_push, kept_by_moves}
 use Rattle.machine_model.proofs.Actors.{mark_one, mark_only, marks_by, marks_in}
 use Rattle.machine_model.proofs.EachOperation.{OfEach, of_each_along, of_running}
-use Rattle.machine_model.proofs.Frames.{acted_framed, begin_events, limits_kept, steps_counted}
+use Rattle.machine_model.proofs.Frames.{acted_framed, limits_kept, steps_counted}
 use Rattle.machine_model.proofs.HeapMoves.{HeapMoves, Stays, Takes, Publishes, Restores, Commit, Fail, Frees, heap_moves}
-use Rattle.machine_model.proofs.Moves.{moved}
 use Rattle.machine_model.specs.Moves.{Begins, Goes, Ends, Sweeps}
 use Rattle.machine_model.specs.Moves.{Moves, begun_operation}
 use Rattle.machine_model.proofs.Slots.{sound_along}
@@ -38,7 +32,10 @@ use Rattle.machine_core.specs.Beneath.proof_memory.proofs.Heap.Effects.{births_p
 use Rattle.machine_core.specs.Beneath.proof_memory.proofs.Heap.Under.{main_births}
 use Rattle.machine_core.specs.Beneath.proof_memory.proofs.Safety.Steps.{gone_epoch}
 use Rattle.machine_core.specs.Beneath.proof_generations.proofs.Counter.Drawn.{aborted_generations, completed_generations, offered_generations}
-use Rattle.machine_core.specs.Bounds.{IsOfRun, IsBounded, Applies}
+use Rattle.machine_core.specs.Bounds.{IsBounded}
+use Rattle.machine_model.specs.Keys.{FitsKey}
+use Rattle.std.proofs.lemmas.List.Elements.{All-nil, All-push}
+use Rattle.proof_straight.specs.Resting.{IsOfRun}
 
 -- ---- steps
 
@@ -58,8 +55,9 @@ unspent state s o after (Ends {actor} d is a) = go_unspent state actor d
 unspent state s o after (Sweeps spent) = spent
 
 -- then one step more is within the limit
-steps_after : (state : State) (s : Step) (o : Outcome) (after : State) → Moves state s o after → after.steps ≤ step_limit
-steps_after state s o after m = omega (arith, leb-false, unspent state s o after m, steps_counted state s o after m)
+steps_after : (state : State) (s : Step) (o : Outcome) (after : State) → Moves state s o after → after.steps ≤ after.limits.steps
+steps_after state s o after m =
+    omega (arith, leb-false, unspent state s o after m, steps_counted state s o after m, ap (λ (l : Bounds). l.steps) (limits_kept state s o after m))
 
 -- ---- births
 
@@ -128,29 +126,18 @@ epoch_after state s o after (Sweeps spent) = sweep_epoch (map pin_of state.actor
 
 -- ---- begins
 
--- an event more
-pub begun_push : (events : List Event) (e : Event) → begun (events ++ e ∷ []) ≡ begun events + cond (is_begin e) 1 0
-begun_push events e =
-    sum_by-append (λ x. cond (is_begin x) 1 0) events (e ∷ []) ∙ ap (λ n. begun events + n) (let one : 0 + cond (is_begin e) 1 0 ≡ cond (is_begin e) 1 0 = omega arith in one)
-
 -- whether a step begins an operation
 abbrev pub one_if_begin : Step → ℕ
 one_if_begin (step.Begin actor call) = 1
 one_if_begin (step.Go actor) = 0
 one_if_begin step.Sweep = 0
 
-pub none_begins : (s : Step) → ((actor : ℕ) (call : Call) → s ≡ step.Begin actor call → ⊥) → one_if_begin s ≡ 0
-none_begins (step.Begin actor call) h = absurd (h actor call refl)
-none_begins (step.Go actor) h = refl
-none_begins step.Sweep h = refl
-
 -- a begin is one more, and nothing else is
-pub begins_after : (state : State) (s : Step) (o : Outcome) (after : State) → Moves state s o after → begun after.events ≡ begun state.events + one_if_begin s
-begins_after state s o after (Begins {actor} {call} d) =
-    ap begun (begin_events state actor call (begun_operation state call)) ∙ begun_push state.events _
+begins_after : (state : State) (s : Step) (o : Outcome) (after : State) → Moves state s o after → after.begun ≡ state.begun + one_if_begin s
+begins_after state s o after (Begins {actor} {call} d) = omega arith
 begins_after state s o after (Goes {actor} {operation} d is a g) =
-    ap begun ((acted_framed _ (handle_of operation.call) (action_of state operation)).events) ∙ (let none : begun state.events ≡ begun state.events + 0 = omega arith in none)
-begins_after state s o after (Ends {actor} {operation} {answer} d is a) = begun_push state.events (End operation.id answer)
+    (acted_framed _ (handle_of operation.call) (action_of state operation)).begun ∙ (let none : state.begun ≡ state.begun + 0 = omega arith in none)
+begins_after state s o after (Ends d is a) = omega arith
 begins_after state s o after (Sweeps spent) = omega arith
 
 -- at most one
@@ -175,7 +162,7 @@ attempt_most attempt (act.Offer offer) = omega arith
 attempt_most attempt action = omega arith
 
 -- along each run
-few_attempts : (limits : Limits) (steps : List Step) → OfEach FewAttempts (run limits steps)
+few_attempts : (limits : Bounds) (steps : List Step) → OfEach FewAttempts (run limits steps)
 few_attempts limits =
     of_each_along limits FewAttempts
     (λ steps actor call d. omega arith)
@@ -192,16 +179,16 @@ few_attempts limits =
 -- ---- all of them
 
 -- what each step keeps
-record Grows (limits : Limits) (state : State) : Type 0 where
+record Grows (limits : Bounds) (state : State) : Type 0 where
   limits_same : state.limits ≡ limits
-  steps : state.steps ≤ step_limit
+  steps : state.steps ≤ limits.steps
   births : state.heap.births ≤ state.steps + 2
   generations : state.generations ≤ state.steps + 1
   epoch : state.epoch ≤ state.steps
-  begins : begun state.events ≤ state.steps
+  begins : state.begun ≤ state.steps
 
 -- at first
-grows_at_first : (limits : Limits) → Grows limits (first_state limits)
+grows_at_first : (limits : Bounds) → Grows limits (first_state limits)
 unfolding first_state
 grows_at_first limits = record {
   limits_same = refl;
@@ -214,13 +201,13 @@ grows_at_first limits = record {
 }
 
 -- after a step
-grows_after : (limits : Limits) (state : State) (s : Step) (o : Outcome) (after : State) → Moves state s o after → Grows limits state → Grows limits after
+grows_after : (limits : Bounds) (state : State) (s : Step) (o : Outcome) (after : State) → Moves state s o after → Grows limits state → Grows limits after
 grows_after limits state s o after m h =
     let counted = steps_counted state s o after m in
     let same = limits_kept state s o after m in
     record {
       limits_same = same ∙ h.limits_same;
-      steps = steps_after state s o after m;
+      steps = omega (arith, steps_after state s o after m, ap (λ (l : Bounds). l.steps) (same ∙ h.limits_same));
       births = omega (arith, heap_births state.heap (ripe state.epoch state.limbo) after.heap (heap_moves state s o after m), h.births, counted);
       generations = omega (arith, generations_after state s o after m, h.generations, counted);
       epoch = omega (arith, epoch_after state s o after m, h.epoch, counted);
@@ -228,17 +215,17 @@ grows_after limits state s o after m h =
     }
 
 -- along each run
-grows_along : (limits : Limits) (steps : List Step) → Grows limits (run limits steps)
+grows_along : (limits : Bounds) (steps : List Step) → Grows limits (run limits steps)
 grows_along limits = along limits (Grows limits) (grows_at_first limits) (λ steps s o after m h. grows_after limits (run limits steps) s o after m h)
 
 -- after each run the numbers are bounded
-bounded_along : (limits : Limits) → AreLimits limits → (steps : List Step) → IsBounded (run limits steps)
+bounded_along : (limits : Bounds) → AreBounds limits → (steps : List Step) → IsBounded (run limits steps)
 bounded_along limits ok steps =
     let h = grows_along limits steps in
     let sound = sound_along limits ok steps in
     record {
       slots = omega (arith, sound.heap.size, ok.1);
-      steps = h.steps;
+      steps = omega (arith, h.steps, ok.4);
       births = h.births;
       generations = h.generations;
       epoch = h.epoch;
@@ -257,33 +244,26 @@ limits_on : (state : State) (s : Step) → (next_state state s).limits ≡ state
 limits_on state s = kept_by_moves (λ x. x.limits ≡ state.limits) state s refl (λ o after m. limits_kept state s o after m)
 
 -- what a step leads to is a state of a run
-run_on : (state : State) (s : Step) → IsOfRun state → IsOfRun (next_state state s)
-run_on state s h =
+run_on : (state : State) (s : Step) → FitsKey s → IsOfRun state → IsOfRun (next_state state s)
+run_on state s fits h =
     let same = limits_on state s in
     record {
       steps = h.steps ++ s ∷ [];
       is = ap (λ x. next_state x s) h.is ∙ sym (run_push (first_state state.limits) h.steps s) ∙ ap (λ l. run l (h.steps ++ s ∷ [])) (sym same);
-      limits = subst (λ l. AreLimits l) (sym same) h.limits;
+      limits = subst (λ l. AreBounds l) (sym same) h.limits;
+      keys = All-push FitsKey h.steps s h.keys fits;
     }
 
--- so is what a step comes to, be it taken or refused
-pub applied_run : (before after : State) (s : Step) (r : Result Outcome Refusal) → Applies r before (next before s) after → IsOfRun before → IsOfRun after
-applied_run before after s (Ok o) e h = subst IsOfRun (ap (λ a. state_after before a) e) (run_on before s h)
-applied_run before after s (Err why) e h = subst IsOfRun (sym (e.0)) h
+-- so is what a step that is taken comes to
+pub taken_run : (before after : State) (s : Step) (o : Outcome) → next before s ≡ Ok (o, after) → FitsKey s → IsOfRun before → IsOfRun after
+taken_run before after s o e fits h = subst IsOfRun (ap (λ a. state_after before a) e) (run_on before s fits h)
 
--- how many have begun after a step that is taken
-pub applied_begun : (before after : State) (s : Step) (o : Outcome) → Applies (Ok o) before (next before s) after →
-    begun after.events ≡ begun before.events + one_if_begin s
-applied_begun before after s o e = begins_after before s o after (moved before s o after e)
-
--- the first state is one of a run, and nothing has begun
-pub first_run : (limits : Limits) (state : State) → AreLimits limits → state ≡ first_state limits → IsOfRun state × (0 ≡ begun state.events)
+-- the first state is one of a run
+pub first_run : (limits : Bounds) (state : State) → AreBounds limits → state ≡ first_state limits → IsOfRun state
 unfolding first_state run_from
-first_run limits state ok e = (
-  record {
-    steps = [];
-    is = e ∙ ap first_state (sym (ap (λ x. x.limits) e));
-    limits = subst (λ l. AreLimits l) (sym (ap (λ x. x.limits) e)) ok;
-  },
-  sym (ap (λ x. begun x.events) e),
-)
+first_run limits state ok e = record {
+  steps = [];
+  is = e ∙ ap first_state (sym (ap (λ x. x.limits) e));
+  limits = subst (λ l. AreBounds l) (sym (ap (λ x. x.limits) e)) ok;
+  keys = All-nil FitsKey;
+}

@@ -17,7 +17,9 @@ use Rattle.machine_core.specs.Beneath.proof_memory.specs.Wants.{AllHold, action_
 use Rattle.machine_core.specs.Beneath.proof_memory.proofs.Holding.Lives.{lines_live}
 use Rattle.machine_core.specs.Beneath.proof_memory.proofs.Holding.Privates.{privates_once}
 use Rattle.machine_core.specs.Beneath.proof_memory.proofs.Holding.Sizes.{sizes_stay}
-use Rattle.machine_core.specs.Bounds.{IsOfRun}
+use Rattle.proof_records.specs.Laws.{LineHasRoom, MakesNode}
+use Rattle.proof_records.proofs.Rooms.{lists_have_room}
+use Rattle.proof_straight.specs.Resting.{IsOfRun}
 use Rattle.machine_core.specs.Beneath.rdcss_root.specs.Holding.{IsReady}
 use Rattle.machine_core.specs.Ties.{IsTied, StandsAt}
 use Rattle.machine_core.proofs.Tying.{times_most, root_few}
@@ -29,6 +31,13 @@ pub claims : (state : State) (actor : ℕ) (operation : Operation) → IsOfRun s
 claims state actor operation h found =
     subst (λ (s : State). operation_of s actor ≡ Some operation → AllHold (IsLive s.heap) s.heap (action_wants (action_of s operation))) (sym h.is)
     (λ e. lines_live state.limits h.steps actor operation h.limits e) found
+
+-- there is room for what its next step adds
+pub room_left : (state : State) (actor : ℕ) (operation : Operation) → IsOfRun state → operation_of state actor ≡ Some operation →
+    LineHasRoom operation.line × (MakesNode (action_of state operation) → length operation.private < 33)
+room_left state actor operation h found =
+    subst (λ (s : State). operation_of s actor ≡ Some operation → LineHasRoom operation.line × (MakesNode (action_of s operation) → length operation.private < 33)) (sym h.is)
+    (λ e. lists_have_room state.limits h.steps actor operation h.limits e) found
 
 pub sizes : (state : State) → IsOfRun state → (length state.roots ≡ handle_limit) × (length state.actors ≡ state.limits.actors)
 sizes state h =

@@ -14,20 +14,19 @@ use Rattle.machine_model.specs.Counting.{refs_of_operation}
 use Rattle.machine_model.specs.Machine.{pin_of}
 use Rattle.machine_model.specs.Operations.{action_of}
 use Rattle.machine_core.specs.Beneath.rdcss_root.specs.Tables.{Table, word_in}
-use Rattle.running.specs.Carried.{carried_by}
+use Rattle.running.specs.Carried.{carried_offer}
 use Rattle.running.proofs.Offers.{marked_at, marks_by, unmarked}
 use Rattle.running.specs.Taking.{Taken}
 use Rattle.running.specs.Places.{IsSound}
 use Rattle.machine_core.specs.declared.parts.Actor.{Actor}
 use Rattle.machine_core.specs.declared.parts.Parts.{Parts}
 use Rattle.machine_core.specs.declared.parts.UnderWay.{UnderWay}
-use Rattle.machine_core.specs.Bounds.{IsOfRun}
-use Rattle.machine_core.specs.Going.{moved}
+use Rattle.proof_straight.specs.Resting.{IsOfRun}
 use Rattle.machine_core.specs.Keeping.{AreSeated, IsKept, IsSeated}
 use Rattle.machine_core.specs.Seen.{actors_seen, operation_at, operation_seen, seen}
 use Rattle.machine_core.specs.Ties.{IsTied, private_refs}
 use Rattle.machine_core.proofs.Kept.{operation_there, replaced_seated}
-use Rattle.machine_core.proofs.Noted.{changes}
+use Rattle.machine_core.proofs.Gone.{changes}
 use Rattle.machine_core.proofs.Tied.{operation_stands}
 use Rattle.machine_core.proofs.Took.{Took}
 use Rattle.machine_core.specs.Beneath.rdcss_root.proofs.Rewriting.{times_set}
@@ -71,30 +70,29 @@ marked_length marks offerer (Some offer) = length-set marks offerer true
 
 -- ---- a step
 
-module _ (before : Parts) (actor : ℕ) (u next : UnderWay) (taken : Taken) (now : Parts) (t : Took before actor u next taken now) (run : IsOfRun (seen before)) (kept : IsKept before)
-    (is : next ≡ moved before.commits.commits before.steps taken u) where
+module _ (before : Parts) (actor : ℕ) (u : UnderWay) (taken : Taken) (now : Parts) (t : Took before actor u taken now) (run : IsOfRun (seen before)) (kept : IsKept before) where
   seated : IsSeated before.limits.hash (actor - 1) t.seat.found
   seated = kept.seats (actor - 1) t.seat.found t.seat.at
 
   pub seats_now : AreSeated before.limits.hash now.actors.items
   seats_now =
       replaced_seated before.limits.hash before.actors.items now.actors.items (actor - 1) (λ was x. Unit {0})
-      (record { was = t.seat.found; is = record { programs = t.programs; under_way = Some next }; found = t.seat.at; set = t.set; does = tt })
+      (record { was = t.seat.found; is = record { programs = t.programs; under_way = Some u }; found = t.seat.at; set = t.set; does = tt })
       kept.seats
       (record {
         hashes_are = t.does.hashes ∙ seated.hashes_are;
-        number = λ v e. ap (λ (w : UnderWay). w.job.actor) (sym (same_Some next v e)) ∙ ap (λ (w : UnderWay). w.job.actor) is ∙ seated.number u t.seat.runs;
-        sound = λ v e. subst (λ (w : UnderWay). IsSound w.program t.programs) (sym is ∙ same_Some next v e) t.does.sound;
-        idle = λ e. absurd (none-some next (sym e));
+        number = λ v e. ap (λ (w : UnderWay). w.job.actor) (sym (same_Some u v e)) ∙ seated.number u t.seat.runs;
+        sound = λ v e. subst (λ (w : UnderWay). IsSound w.program t.programs) (same_Some u v e) t.does.sound;
+        idle = λ e. absurd (none-some u (sym e));
       })
 
   pub tied_now : IsTied now.heap (seen now).roots (seen now).actors
   tied_now =
       let own : Operation = operation_at before.table t.seat.found.programs u in
-      let new : Operation = operation_at before.table t.programs next in
-      let behind : Actor = record { programs = t.programs; under_way = Some next } in
+      let new : Operation = operation_at before.table t.programs u in
+      let behind : Actor = record { programs = t.programs; under_way = Some u } in
       let at = operation_stands (seen before) actor own (operation_there before actor u t.seat) in
-      let acts = (changes before actor u next taken now t run kept is).acts in
+      let acts = (changes before actor u taken now t run kept).acts in
       let seen_so : actors_seen before.table now.actors.items ≡ set (seen before).actors (actor - 1) (Some new) =
       ap (actors_seen before.table) t.set ∙ map-set (operation_seen before.table) before.actors.items (actor - 1) behind in
       record {
@@ -108,7 +106,7 @@ module _ (before : Parts) (actor : ℕ) (u next : UnderWay) (taken : Taken) (now
           ap (λ o. times r (refs_of_operation o)) at.is,
         );
         pins = acts.epochs.3 ∙ kept.tied.pins
-            ∙ sym (map-set_same pin_of (seen before).actors (actor - 1) (Some new) None (ap (λ (w : UnderWay). Some w.epoch) is ∙ sym (ap pin_of at.is)))
+            ∙ sym (map-set_same pin_of (seen before).actors (actor - 1) (Some new) None (sym (ap pin_of at.is)))
             ∙ ap (map pin_of) (sym seen_so) ∙ epochs_any before.table now.table now.actors.items;
       }
 
@@ -116,7 +114,7 @@ module _ (before : Parts) (actor : ℕ) (u next : UnderWay) (taken : Taken) (now
   pub marks_now : length now.table.marks ≡ length before.table.marks
   marks_now =
       let action : Action = action_of (seen before) (operation_at before.table t.seat.found.programs u) in
-      ap (λ (x : Table). length x.marks) (changes before actor u next taken now t run kept is).table
+      ap (λ (x : Table). length x.marks) (changes before actor u taken now t run kept).table
       ∙ ap length (marks_by before.table u.job.handle u.job.actor action).marks
-      ∙ marked_length (unmarked before.table.marks u.job.actor action) (slice_index_or before.table.offerers u.job.handle 0) (carried_by (word_in before.table u.job.handle) action)
+      ∙ marked_length (unmarked before.table.marks u.job.actor action) (slice_index_or before.table.offerers u.job.handle 0) (carried_offer (word_in before.table u.job.handle) action)
       ∙ unmarked_length before.table.marks u.job.actor action

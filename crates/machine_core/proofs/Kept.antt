@@ -4,13 +4,10 @@ use Rattle.std.specs.Prelude.{false, is_some, option_and_then, option_map, slice
 use Rattle.std.proofs.lemmas.Option.{none-some, slice_get-get_or}
 use Rattle.ctrie_base.specs.declared.hashes.HashKind.{HashKind}
 use Rattle.handle_table.specs.Numbers.{Numbers}
-use Rattle.history.specs.Histories.{begun}
 use Rattle.history.proofs.Places.{at_set_cases}
 use Rattle.slot_arena.specs.declared.refs.Ref.{Ref}
-use Rattle.slot_arena.specs.declared.nodes.Slot.{Slot}
 use Rattle.slot_arena.specs.Times.{times}
 use Rattle.machine_model.specs.declared.roots.RootWord.TheVariants.{Offer}
-use Rattle.machine_model.specs.Grown.{standing}
 use Rattle.machine_model.specs.Machine.{is_running, pin_of}
 use Rattle.machine_model.specs.States.{operation_of}
 use Rattle.machine_core.specs.Beneath.rdcss_root.specs.Holding.{root_refs}
@@ -18,14 +15,13 @@ use Rattle.machine_core.specs.Beneath.rdcss_root.specs.Tables.{Table, word_in}
 use Rattle.running.specs.declared.programs.Programs.{Programs}
 use Rattle.running.specs.Places.{IsSound}
 use Rattle.machine_core.specs.declared.parts.Actor.{Actor}
-use Rattle.machine_core.specs.declared.parts.Journal.{Journal}
 use Rattle.machine_core.specs.declared.parts.Parts.{Parts}
 use Rattle.machine_core.specs.declared.parts.UnderWay.{UnderWay}
 use Rattle.machine_core.specs.Keeping.{AreSeated, IsKept, IsNoted, IsSeated, Replaces}
 use Rattle.machine_core.specs.Numbering.{KnowsNumbers}
 use Rattle.machine_core.specs.Seen.{actor_of, actors_seen, operation_at, operation_seen, seen, under_way_of}
 use Rattle.machine_core.specs.Ties.{private_refs}
-use Rattle.machine_core.proofs.Knows.{offerers_over, owners_over, runs_same}
+use Rattle.machine_core.proofs.Knows.{offerers_over, runs_same}
 use Rattle.machine_core.proofs.Mapped.{found_mapped, map_replaced}
 use Rattle.machine_core.proofs.Numbering.{known_same}
 
@@ -39,13 +35,6 @@ pub record Alike (before after : Parts) : Type 0 where
   pub handles : after.handles ≡ before.handles
   pub outside : (r : Ref) → times r after.heap.outside ≡ times r before.heap.outside
   pub pins : after.heap.pins ≡ before.heap.pins
-  pub stood : (main : Ref) (slot : Slot) → standing after.heap.heap main ≡ Some slot → standing before.heap.heap main ≡ Some slot
-  pub owners : after.heap.owners ≡ before.heap.owners
-  pub drawn : after.journal.chronicle.generations ≡ before.journal.chronicle.generations
-  pub generations : after.generations ≡ before.generations
-  pub begun_are : after.begun ≡ before.begun
-  pub events : after.journal.events.items ≡ before.journal.events.items
-  pub slots : after.commits.slots ≡ before.commits.slots
 
 actors_alike : (before after : Parts) → Alike before after → (seen after).actors ≡ (seen before).actors
 actors_alike before after a = ap (λ t. actors_seen t after.actors.items) a.table ∙ ap (actors_seen before.table) a.actors
@@ -64,32 +53,8 @@ kept_alike before after a h =
       offerers = offerers_over before.table after.table (seen before) (seen after) (ap (λ (t : Table). t.offerers) a.table)
           (λ handle offer stands. subst (λ (t : Table). word_in t handle ≡ Offer offer) a.table stands)
           (λ handle offer stands actor operation found is. sym (runs_same (seen before) (seen after) actors actor) ∙ found) h.offerers;
-      owners = owners_over before.heap after.heap (seen before) (seen after) a.owners a.stood
-          (λ actor operation found. inl (sym (runs_same (seen before) (seen after) actors actor) ∙ found)) h.owners;
       numbers = subst (λ (n : Numbers). KnowsNumbers n (seen after)) (sym a.handles) (known_same before.handles (seen before) (seen after) roots actors h.numbers);
-      generations = a.drawn ∙ h.generations ∙ sym a.generations;
-      begun_are = a.begun_are ∙ h.begun_are ∙ ap begun (sym a.events);
-      slots = omega (arith, h.slots, a.slots, ap (λ l. l.slots) a.limits);
     }
-
--- what is kept of operations got more room
-pub kept_journal : (before : Parts) (journal : Journal) → journal.chronicle.generations ≡ before.journal.chronicle.generations → journal.events.items ≡ before.journal.events.items →
-    IsKept before → IsKept (record before { journal = journal })
-kept_journal before journal drawn events = kept_alike before (record before { journal = journal }) (record {
-  limits = refl;
-  table = refl;
-  actors = refl;
-  handles = refl;
-  outside = λ r. refl;
-  pins = refl;
-  stood = λ main slot e. e;
-  owners = refl;
-  drawn = drawn;
-  generations = refl;
-  begun_are = refl;
-  events = events;
-  slots = refl;
-})
 
 -- ---- an actor's place
 

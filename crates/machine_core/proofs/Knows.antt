@@ -1,37 +1,22 @@
--- What is known of offers and of pending nodes stays known.
+-- What is known of offers stays known.
 use Rattle.std.proofs.Common.{◌≡◌, ℕ, zero, suc, ◌<◌, ◌⊎◌, inl, inr, List, [], ◌∷◌, set, get_or, Option, Some, None, refl, sym, ap, ◌∙◌, subst, arith}
 use Rattle.std.proofs.lemmas.Bool.{cases_eq}
 use Rattle.std.proofs.lemmas.List.{get_or-set_other}
 use Rattle.std.proofs.lemmas.Option.{none-some}
-use Rattle.history.specs.declared.calls.Call.{Call}
-use Rattle.history.specs.declared.calls.Call.TheVariants.{Get, Put, PutIfAbsent, Replace, ReplaceIf, Remove, RemoveIf, Clear, Snapshot, Freeze, Close, Entries, Count}
-use Rattle.history.specs.Histories.{begun}
-use Rattle.slot_arena.specs.declared.refs.Ref.{Ref}
-use Rattle.slot_arena.specs.declared.nodes.Slot.{Slot}
-use Rattle.slot_arena.specs.Refs.{slot_of}
-use Rattle.epochs.specs.Memories.{Memory}
-use Rattle.machine_model.specs.declared.lines.Line.TheVariants as line
-use Rattle.machine_model.specs.declared.lines.Purpose.{Purpose}
 use Rattle.machine_model.specs.declared.operations.Operation.{Operation}
-use Rattle.machine_model.specs.declared.reading.Swap.{Swap}
-use Rattle.machine_model.specs.declared.reading.SwapLine.{SwapLine}
 use Rattle.machine_model.specs.declared.roots.Descriptor.{Descriptor}
 use Rattle.machine_model.specs.declared.roots.Root.{Root}
 use Rattle.machine_model.specs.declared.roots.RootWord.TheVariants.{Offer}
-use Rattle.machine_model.specs.Grown.{standing}
-use Rattle.machine_model.specs.Operations.{first_line}
 use Rattle.machine_model.specs.States.{State, operation_of, word_at, word_of}
 use Rattle.machine_model.specs.Machine.{run}
 use Rattle.machine_model.proofs.Found.{found_elsewhere, found_here}
-use Rattle.machine_model.proofs.Grown.{prev_standing}
 use Rattle.machine_core.specs.Beneath.proof_generations.proofs.Roots.OfLists.{has_handles_along}
 use Rattle.machine_core.specs.Beneath.proof_generations.proofs.Offers.Standing.{own_numbers}
-use Rattle.machine_core.specs.Beneath.proof_commits.specs.Laws.{IsInSwap}
 use Rattle.proof_records.specs.Laws.{HaveIds}
 use Rattle.proof_records.proofs.Given.{ids_apart}
 use Rattle.machine_core.specs.Beneath.rdcss_root.specs.Tables.{Table, with_root_in, word_in}
-use Rattle.machine_core.specs.Bounds.{IsOfRun}
-use Rattle.machine_core.specs.Keeping.{KnowsOfferers, KnowsOwners}
+use Rattle.proof_straight.specs.Resting.{IsOfRun}
+use Rattle.machine_core.specs.Keeping.{KnowsOfferers}
 
 -- ---- who runs
 
@@ -79,50 +64,15 @@ closed_word table closed handle offer e = by (cases_eq handle closed)
 
 -- ids that were given are below the number of begins
 pub ids : (state : State) → IsOfRun state → HaveIds state
-ids state h = subst HaveIds (sym h.is) (ids_apart state.limits h.steps h.limits)
+ids state h = subst HaveIds (sym h.is) (ids_apart state.limits h.steps)
 
 -- so is that of who made an offer that stands
-pub offer_given : (state : State) → IsOfRun state → (handle : ℕ) (offer : Descriptor) → word_at state handle ≡ Offer offer → offer.operation < begun state.events
-offer_given state h handle offer stands = subst (λ (s : State). word_at s handle ≡ Offer offer → offer.operation < begun s.events) (sym h.is) along stands
+pub offer_given : (state : State) → IsOfRun state → (handle : ℕ) (offer : Descriptor) → word_at state handle ≡ Offer offer → offer.operation < state.begun
+offer_given state h handle offer stands = subst (λ (s : State). word_at s handle ≡ Offer offer → offer.operation < s.begun) (sym h.is) along stands
   where
-    along : word_at (run state.limits h.steps) handle ≡ Offer offer → offer.operation < begun (run state.limits h.steps).events
+    along : word_at (run state.limits h.steps) handle ≡ Offer offer → offer.operation < (run state.limits h.steps).begun
     along word =
         let I = (has_handles_along state.limits h.steps).0 in
         let b = I.offers handle offer word in
         let mine = own_numbers b.owner offer (I.own b.k b.owner b.runs) b.completes in
-        omega (arith, mine.its, (ids_apart state.limits h.steps h.limits).given (suc b.k) b.owner b.runs)
-
--- ---- pending nodes
-
--- the operation is in no SWAP
-abbrev pub IsInNoSwap : Operation → Type 0
-IsInNoSwap operation = (at before main : Ref) (l : SwapLine) → IsInSwap operation at before main l → ⊥
-
-pub owners_over : (memory now : Memory) (before after : State) → now.owners ≡ memory.owners →
-    ((main : Ref) (slot : Slot) → standing now.heap main ≡ Some slot → standing memory.heap main ≡ Some slot) →
-    ((actor : ℕ) (operation : Operation) → operation_of after actor ≡ Some operation → (operation_of before actor ≡ Some operation) ⊎ IsInNoSwap operation) →
-    KnowsOwners memory before → KnowsOwners now after
-owners_over memory now before after same stood runs knows main replaced used pending actor operation at under l found swaps = by (runs actor operation found)
-  where
-    by : ((operation_of before actor ≡ Some operation) ⊎ IsInNoSwap operation) → get_or now.owners (slot_of main) 0 ≡ actor
-    by (inr none) = absurd (none at under main l swaps)
-    by (inl ran) =
-        let was = stood main used.0 used.1 in
-        let pended = prev_standing memory.heap main used.0 was ∙ sym (prev_standing now.heap main used.0 used.1) ∙ pending in
-        ap (λ os. get_or os (slot_of main) 0) same ∙ knows main replaced (used.0, was) pended actor operation at under l ran swaps
-
--- no operation begins in one
-pub first_no_swap : (call : Call) (why : Purpose) (s : Swap) → first_line call ≡ line.Swap why s → ⊥
-first_no_swap (Get h k) why s e = cc
-first_no_swap (Put h k v) why s e = cc
-first_no_swap (PutIfAbsent h k v) why s e = cc
-first_no_swap (Replace h k v) why s e = cc
-first_no_swap (ReplaceIf h k a b) why s e = cc
-first_no_swap (Remove h k) why s e = cc
-first_no_swap (RemoveIf h k v) why s e = cc
-first_no_swap (Clear h) why s e = cc
-first_no_swap (Snapshot h) why s e = cc
-first_no_swap (Freeze h) why s e = cc
-first_no_swap (Close h) why s e = cc
-first_no_swap (Entries h) why s e = cc
-first_no_swap (Count h) why s e = cc
+        omega (arith, mine.its, (ids_apart state.limits h.steps).given (suc b.k) b.owner b.runs)

@@ -1,36 +1,31 @@
 -- What an end leaves: the state is the definition's, and all that is kept is kept.
-use Rattle.std.proofs.Common.{◌≡◌, ℕ, ◌+◌, ◌-◌, ◌<◌, ◌≤◌, [], ◌∷◌, ◌++◌, set, Option, Some, None, refl, sym, ap, ◌∙◌, subst, arith, inl, inr}
-use Rattle.std.specs.Prelude.{MatchOption, option_map, slice_get}
+use Rattle.std.proofs.Common.{◌≡◌, ℕ, ◌+◌, ◌-◌, ◌≤◌, set, Some, None, refl, sym, ap, ◌∙◌, subst, arith, inl, inr}
+use Rattle.std.specs.Prelude.{option_map, slice_get}
 use Rattle.std.proofs.lemmas.Option.{none-some, same_Some}
 use Rattle.ctrie_base.specs.declared.hashes.HashKind.{HashKind}
 use Rattle.handle_table.specs.Numbers.{Numbers}
-use Rattle.history.specs.declared.events.Event.TheVariants.{End}
-use Rattle.history.specs.declared.replies.Reply.{Reply}
-use Rattle.history.specs.Histories.{begun}
 use Rattle.slot_arena.specs.declared.refs.Ref.{Ref}
-use Rattle.slot_arena.specs.Heaps.{Heap}
 use Rattle.slot_arena.specs.Times.{times}
 use Rattle.epochs.specs.Memories.{Memory}
-use Rattle.places.specs.declared.place.Place.{Place}
 use Rattle.machine_model.specs.declared.operations.Operation.{Operation}
 use Rattle.machine_model.specs.declared.roots.RootWord.TheVariants.{Offer}
-use Rattle.machine_model.specs.Acting.{ended, entered_at_end}
-use Rattle.machine_model.specs.Grown.{standing}
+use Rattle.machine_model.specs.Acting.{ended}
 use Rattle.machine_model.specs.Machine.{reserved_by}
 use Rattle.machine_model.specs.States.{operation_of}
 use Rattle.machine_core.specs.Beneath.rdcss_root.specs.Tables.{Table, word_in}
+use Rattle.machine_core.specs.Beneath.trie_parts.specs.Holding.{AreHeld}
+use Rattle.running.specs.declared.programs.Programs.{Programs}
 use Rattle.machine_core.specs.declared.parts.Actor.{Actor}
 use Rattle.machine_core.specs.declared.parts.Parts.{Parts}
 use Rattle.machine_core.specs.declared.parts.UnderWay.{UnderWay}
 use Rattle.machine_core.specs.Beginnings.{Leaves}
-use Rattle.machine_core.specs.Bounds.{IsOfRun}
+use Rattle.proof_straight.specs.Resting.{IsOfRun}
 use Rattle.machine_core.specs.Keeping.{AreSeated, IsKept, IsNoted, IsSeated, Replaces}
 use Rattle.machine_core.specs.Numbering.{KnowsNumbers, ended_on}
 use Rattle.machine_core.specs.Seen.{actors_seen, operation_at, seen, under_way_of}
 use Rattle.machine_core.specs.Ties.{IsTied}
-use Rattle.machine_core.proofs.Bounded.{begun_push}
 use Rattle.machine_core.proofs.Kept.{seat_of, operation_there, replaced_seated, replaced_seen}
-use Rattle.machine_core.proofs.Knows.{ids, offerers_over, owners_over, runs_set}
+use Rattle.machine_core.proofs.Knows.{offerers_over, runs_set}
 use Rattle.machine_core.proofs.Reserved.{known_ended}
 use Rattle.machine_core.proofs.Tied.{ended_tied, operation_stands, private_held}
 use Rattle.running.proofs.Asks.{handle_named}
@@ -45,24 +40,12 @@ held_there parts actor u e h found here r =
     let same : found ≡ seat.found = same_Some found seat.found (sym here ∙ seat.at) in
     omega (arith, private_held parts.heap parts.table.roots (seen parts).actors actor operation h.tied at r, ap (λ (x : Actor). times r x.programs.key.work.private) same)
 
--- the operation's id is that of what is under way
-pub id_there : (parts : Parts) (actor : ℕ) (u : UnderWay) → under_way_of parts actor ≡ Some u → (operation : Operation) → operation_of (seen parts) actor ≡ Some operation → operation.id ≡ u.job.id
-id_there parts actor u e operation found =
-    let seat = seat_of parts actor u e in
-    ap (λ o. o.id) (same_Some operation (operation_at parts.table seat.found.programs u) (sym found ∙ operation_there parts actor u seat))
-
--- and was given
-pub id_given : (parts : Parts) (actor : ℕ) (u : UnderWay) → IsOfRun (seen parts) → IsKept parts → under_way_of parts actor ≡ Some u → u.job.id < parts.begun
-id_given parts actor u run h e =
-    let seat = seat_of parts actor u e in
-    omega (arith, (ids (seen parts) run).given actor (operation_at parts.table seat.found.programs u) (operation_there parts actor u seat), h.begun_are)
-
-pub id_below : (place : Option Place) (id most : ℕ) → MatchOption place Unit (λ at. at.id ≡ id) → id < most → MatchOption place Unit (λ at. at.id < most)
-id_below None id most is less = tt
-id_below (Some at) id most is less = omega (arith, is, less)
+-- once the reply was taken out it is held still
+pub held_still : (before after : Programs) (memory : Memory) → after ≡ record before { walk = after.walk } → AreHeld before.key.work.private memory → AreHeld after.key.work.private memory
+held_still before after memory same held r = omega (arith, held r, ap (λ (p : Programs). times r p.key.work.private) same)
 
 -- the parts after the end of the actor's operation
-pub record EndsAt (before after : Parts) (actor : ℕ) (u : UnderWay) (answer : Reply) : Type 0 where
+pub record EndsAt (before after : Parts) (actor : ℕ) (u : UnderWay) : Type 0 where
   pub limits : after.limits ≡ before.limits
   pub table : after.table ≡ before.table
   pub middle : Memory
@@ -73,32 +56,21 @@ pub record EndsAt (before after : Parts) (actor : ℕ) (u : UnderWay) (answer : 
   pub limbo : after.heap.limbo ≡ before.heap.limbo
   pub epoch : after.heap.epoch ≡ before.heap.epoch
   pub cursor : after.heap.cursor ≡ before.heap.cursor
-  pub owners : after.heap.owners ≡ before.heap.owners
   pub generations : after.generations ≡ before.generations
-  pub commits : after.commits ≡ before.commits
-  pub closings : after.journal.chronicle.closings ≡ before.journal.chronicle.closings
-  pub places : (operation : Operation) → operation_of (seen before) actor ≡ Some operation →
-      after.journal.chronicle.places ≡ before.journal.chronicle.places ++ entered_at_end (seen before) operation answer
   pub numbers : after.handles ≡ ended_on before.handles u.job.handle (reserved_by (Some (operation_at before.table left.was.programs u)))
-  pub drawn : after.journal.chronicle.generations ≡ before.journal.chronicle.generations
-  pub events : after.journal.events.items ≡ before.journal.events.items ++ End u.job.id answer ∷ []
+  pub begun : after.begun ≡ before.begun
   pub steps : after.steps ≡ before.steps
-  pub begun_are : after.begun ≡ before.begun
 
-module _ (before after : Parts) (actor : ℕ) (u : UnderWay) (answer : Reply) (a : EndsAt before after actor u answer) where
+module _ (before after : Parts) (actor : ℕ) (u : UnderWay) (a : EndsAt before after actor u) where
   actors_left : (seen after).actors ≡ set (seen before).actors (actor - 1) None
   actors_left =
       ap (λ t. actors_seen t after.actors.items) a.table
       ∙ replaced_seen before.table before.table before.actors.items after.actors.items (actor - 1) (Leaves before.heap a.middle) a.left (λ j other apart at. refl)
       ∙ ap (λ o. set (actors_seen before.table before.actors.items) (actor - 1) (option_map (operation_at before.table a.left.is.programs) o)) a.left.does.under_way
 
-  by_fields : (operation : Operation) → operation_of (seen before) actor ≡ Some operation → operation.id ≡ u.job.id → seen after ≡ ended (seen before) actor operation answer
-  by_fields operation found id =
-      rw (actors_left, a.limits, a.heap, a.limbo, a.epoch, a.cursor, a.generations, a.table, a.commits, a.closings, a.places operation found, a.events, a.steps, id) refl
-
   -- the state is the definition's
-  pub seen_ended : under_way_of before actor ≡ Some u → (operation : Operation) → operation_of (seen before) actor ≡ Some operation → seen after ≡ ended (seen before) actor operation answer
-  seen_ended e operation found = by_fields operation found (id_there before actor u e operation found)
+  pub seen_ended : seen after ≡ ended (seen before) actor
+  seen_ended = rw (actors_left, a.limits, a.heap, a.limbo, a.epoch, a.cursor, a.generations, a.table, a.begun, a.steps) refl
 
   seated : IsKept before → IsSeated before.limits.hash (actor - 1) a.left.is
   seated h = record {
@@ -128,15 +100,9 @@ module _ (before after : Parts) (actor : ℕ) (u : UnderWay) (answer : Reply) (a
         noted = subst (λ (t : Table). IsNoted t after.limits.actors) (sym a.table) (subst (λ l. IsNoted before.table l.actors) (sym a.limits) h.noted);
         offerers = offerers_over before.table after.table (seen before) (seen after) (ap (λ (t : Table). t.offerers) a.table)
             (λ handle offer stands. subst (λ (t : Table). word_in t handle ≡ Offer offer) a.table stands) (λ handle offer stands other o found is. runs other o found) h.offerers;
-        owners = owners_over before.heap after.heap (seen before) (seen after) a.owners (λ main slot e. subst (λ (x : Heap). standing x main ≡ Some slot) a.heap e)
-            (λ other o found. inl (runs other o found)) h.owners;
-        numbers = subst (KnowsNumbers after.handles) (sym (seen_ended e operation (operation_there before actor u seat)))
-            (subst (λ (n : Numbers). KnowsNumbers n (ended (seen before) actor operation answer))
+        numbers = subst (KnowsNumbers after.handles) (sym seen_ended)
+            (subst (λ (n : Numbers). KnowsNumbers n (ended (seen before) actor))
             (sym (a.numbers ∙ ap (λ (x : Actor). ended_on before.handles u.job.handle (reserved_by (Some (operation_at before.table x.programs u)))) same
             ∙ ap (λ n. ended_on before.handles n (reserved_by (Some operation))) (sym (handle_named u.job.handle u.program))))
-            (known_ended before.handles (seen before) actor operation answer run at h.numbers));
-        generations = a.drawn ∙ h.generations ∙ sym a.generations;
-        begun_are = a.begun_are ∙ h.begun_are ∙ (let more : begun before.journal.events.items ≡ begun after.journal.events.items =
-            omega (arith, begun_push before.journal.events.items (End u.job.id answer), ap begun a.events) in more);
-        slots = omega (arith, h.slots, ap (λ c. c.slots) a.commits, ap (λ l. l.slots) a.limits);
+            (known_ended before.handles (seen before) actor operation run at h.numbers));
       }

@@ -14,7 +14,7 @@ use Rattle.machine_model.specs.States.{State, word_at}
 use Rattle.machine_model.specs.Swapping.{is_carried_out}
 use Rattle.machine_model.proofs.Actors.{after_marks, marks_of}
 use Rattle.machine_core.specs.Beneath.rdcss_root.specs.Tables.{Table}
-use Rattle.running.specs.Carried.{carried_by}
+use Rattle.running.specs.Carried.{carried_offer}
 use Rattle.running.proofs.Offers.{marked_at, unmarked}
 use Rattle.machine_core.specs.declared.parts.Actor.{Actor}
 use Rattle.machine_core.specs.declared.parts.UnderWay.{UnderWay}
@@ -24,7 +24,7 @@ use Rattle.machine_core.proofs.Mapped.{map_alike, map_replaced}
 
 -- the action marks the operation whose offer it carries out
 pub marks_carried : (state : State) (handle : ℕ) (action : Action) →
-    marks_of state handle action ≡ option_map (λ (offer : Descriptor). offer.operation) (carried_by (word_at state handle) action)
+    marks_of state handle action ≡ option_map (λ (offer : Descriptor). offer.operation) (carried_offer (word_at state handle) action)
 marks_carried state handle (act.Complete offer main) = by (is_carried_out (word_at state handle) offer main)
   where
     by : (b : Bool) → (if b then Some offer.operation else None) ≡ option_map (λ (offer : Descriptor). offer.operation) (if b then Some offer else None)

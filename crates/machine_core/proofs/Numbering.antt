@@ -14,7 +14,7 @@ use Rattle.machine_model.specs.States.{State, operation_of, root_at}
 use Rattle.machine_model.proofs.Actors.{after_marks, gone_actors, marks_by}
 use Rattle.machine_model.proofs.Found.{found_within}
 use Rattle.proof_records.proofs.Numbers.{numbers_stay, reserves}
-use Rattle.machine_core.specs.Bounds.{IsOfRun}
+use Rattle.proof_straight.specs.Resting.{IsOfRun}
 use Rattle.machine_core.specs.Numbering.{KnowsNumbers}
 
 -- ---- lists of operations

@@ -28,15 +28,14 @@ use Rattle.running.specs.Taking.{Taken}
 use Rattle.machine_core.specs.declared.parts.Actor.{Actor}
 use Rattle.machine_core.specs.declared.parts.Parts.{Parts}
 use Rattle.machine_core.specs.declared.parts.UnderWay.{UnderWay}
-use Rattle.machine_core.specs.Bounds.{IsOfRun}
-use Rattle.machine_core.specs.Going.{moved}
+use Rattle.proof_straight.specs.Resting.{IsOfRun}
 use Rattle.machine_core.specs.Keeping.{IsKept, KnowsOfferers}
 use Rattle.machine_core.specs.Seen.{operation_at, operation_seen, seen}
 use Rattle.machine_core.proofs.Held.{sizes}
 use Rattle.machine_core.proofs.Kept.{operation_there, operation_under_way}
 use Rattle.machine_core.proofs.Knows.{ids}
 use Rattle.machine_core.proofs.Mapped.{found_mapped}
-use Rattle.machine_core.proofs.Noted.{changes, number_is}
+use Rattle.machine_core.proofs.Gone.{changes, number_is}
 use Rattle.machine_core.proofs.Took.{Took}
 
 -- ---- in the table
@@ -141,21 +140,20 @@ id_of table x operation e = by x.under_way refl
 
 -- ---- a step that was taken
 
-module _ (before : Parts) (actor : ℕ) (u next : UnderWay) (taken : Taken) (now : Parts) (t : Took before actor u next taken now) (run : IsOfRun (seen before)) (kept : IsKept before)
-    (is : next ≡ moved before.commits.commits before.steps taken u) where
+module _ (before : Parts) (actor : ℕ) (u : UnderWay) (taken : Taken) (now : Parts) (t : Took before actor u taken now) (run : IsOfRun (seen before)) (kept : IsKept before) where
   -- an actor with this index who stands there behind the step
   ran_at : (m : ℕ) (x : Actor) (operation : Operation) → slice_get now.actors.items m ≡ Some x → operation_seen now.table x ≡ Some operation →
       (was : Operation) × (operation_of (seen before) (suc m) ≡ Some was) × (operation.id ≡ was.id)
   ran_at m x operation at e =
       let (v, runs, id) = id_of now.table x operation e in
       let counts = t.seat.counts in
-      elim (at_set_cases before.actors.items (actor - 1) m (record { programs = t.programs; under_way = Some next }) x (ap (λ xs. slice_get xs m) (sym t.set) ∙ at)) [
+      elim (at_set_cases before.actors.items (actor - 1) m (record { programs = t.programs; under_way = Some u }) x (ap (λ xs. slice_get xs m) (sym t.set) ∙ at)) [
         | inl here ↦
-            let same : v ≡ next = same_Some v next (sym runs ∙ ap (λ (a : Actor). a.under_way) (sym here.1)) in
+            let same : v ≡ u = same_Some v u (sym runs ∙ ap (λ (a : Actor). a.under_way) (sym here.1)) in
             let number : suc m ≡ actor = omega (arith, here.0, counts) in (
               operation_at before.table t.seat.found.programs u,
               ap (operation_of (seen before)) number ∙ operation_there before actor u t.seat,
-              id ∙ ap (λ (w : UnderWay). w.job.id) (same ∙ is),
+              id ∙ ap (λ (w : UnderWay). w.job.id) same,
             )
         | inr apart ↦
             let there : slice_get before.actors.items (suc m - 1) ≡ Some x = ap (slice_get before.actors.items) (let less : suc m - 1 ≡ m = omega arith in less) ∙ apart.1 in (
@@ -181,14 +179,14 @@ module _ (before : Parts) (actor : ℕ) (u next : UnderWay) (taken : Taken) (now
   action = action_of (seen before) own
 
   offerers_are : now.table.offerers ≡ offerers_after before.table u.job.handle u.job.actor action
-  offerers_are = ap (λ (x : Table). x.offerers) (changes before actor u next taken now t run kept is).table ∙ offerers_by before.table u.job.handle u.job.actor action
+  offerers_are = ap (λ (x : Table). x.offerers) (changes before actor u taken now t run kept).table ∙ offerers_by before.table u.job.handle u.job.actor action
 
   -- each offer that stands is one that stood, or the one that this step made
   from : (handle : ℕ) (offer : Descriptor) → word_in now.table handle ≡ Offer offer → OfferFrom before.table.roots u.job.handle action handle offer
   from handle offer stands =
       offer_from (seen before) u.job.handle handle offer action
       (ap (λ rs. word_of (get_or rs handle None))
-      ((acts_by (seen before) u.job.handle action).roots before.table u.job.actor refl ∙ ap (λ (x : Table). x.roots) (sym (changes before actor u next taken now t run kept is).table))
+      ((acts_by (seen before) u.job.handle action).roots before.table u.job.actor refl ∙ ap (λ (x : Table). x.roots) (sym (changes before actor u taken now t run kept).table))
       ∙ stands)
 
   pub offerers_now : KnowsOfferers now.table (seen now)
@@ -203,7 +201,7 @@ module _ (before : Parts) (actor : ℕ) (u next : UnderWay) (taken : Taken) (now
           known_still before.table u.job.handle u.job.actor action handle offer word ∙ kept.offerers handle offer word n who.0 who.1 (sym who.2 ∙ same)
       by (put offers here plain) =
           let acts : now.table ≡ acted_table before.table u.job.handle u.job.actor (act.Offer offer) =
-          (changes before actor u next taken now t run kept is).table ∙ ap (acted_table before.table u.job.handle u.job.actor) offers in
+          (changes before actor u taken now t run kept).table ∙ ap (acted_table before.table u.job.handle u.job.actor) offers in
           let within = offered_within before.table u.job.handle u.job.actor offer plain (ap (word_in (acted_table before.table u.job.handle u.job.actor (act.Offer offer))) (sym here)
           ∙ ap (λ (x : Table). word_in x handle) (sym acts) ∙ stands) in
           let made : offer.operation ≡ own.id = own_id (seen before) run actor own offer (operation_there before actor u t.seat) offers in
@@ -211,7 +209,7 @@ module _ (before : Parts) (actor : ℕ) (u next : UnderWay) (taken : Taken) (now
           ∙ ap (λ (b : Bool). slice_index_or (if b then slice_set before.table.offerers u.job.handle u.job.actor else before.table.offerers) handle 0) plain
           ∙ ap (λ h. slice_index_or (slice_set before.table.offerers u.job.handle u.job.actor) h 0) here
           ∙ get_or-set_same before.table.offerers u.job.handle u.job.actor 0 (omega (arith, within, (sizes (seen before) run).0, kept.noted.offerers))
-          ∙ number_is before actor u next taken now t run kept is
+          ∙ number_is before actor u taken now t run kept
           ∙ (ids (seen before) run).distinct actor n own who.0 (operation_there before actor u t.seat) who.1 (sym made ∙ sym same ∙ who.2)
 
   -- the table knows as many handles as before

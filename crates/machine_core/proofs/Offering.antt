@@ -18,18 +18,17 @@ use Rattle.machine_core.specs.Beneath.proof_generations.proofs.Roots.OfLists.{ha
 use Rattle.machine_core.specs.Beneath.proof_generations.proofs.Offers.Standing.{own_numbers}
 use Rattle.machine_core.specs.Beneath.rdcss_root.specs.Tables.{word_in}
 use Rattle.running.specs.Taking.{Taken}
-use Rattle.running.specs.Carried.{carried_by}
+use Rattle.running.specs.Carried.{carried_offer}
 use Rattle.running.proofs.Offers.{unmarked}
 use Rattle.machine_core.specs.declared.parts.Actor.{Actor}
 use Rattle.machine_core.specs.declared.parts.Parts.{Parts}
 use Rattle.machine_core.specs.declared.parts.UnderWay.{UnderWay}
-use Rattle.machine_core.specs.Bounds.{IsOfRun}
-use Rattle.machine_core.specs.Going.{moved}
+use Rattle.proof_straight.specs.Resting.{IsOfRun}
 use Rattle.machine_core.specs.Keeping.{IsKept}
 use Rattle.machine_core.specs.Seen.{operation_at, seen}
 use Rattle.machine_core.proofs.Held.{sizes}
 use Rattle.machine_core.proofs.Kept.{operation_there, operation_under_way}
-use Rattle.machine_core.proofs.Noted.{KnowsOffered, handle_is, number_is}
+use Rattle.machine_core.proofs.Gone.{KnowsOffered, handle_is, number_is}
 use Rattle.machine_core.proofs.Tied.{operation_stands}
 use Rattle.machine_core.proofs.Took.{Took}
 
@@ -47,7 +46,7 @@ stood_by : (word : RootWord) (offer : Descriptor) (main : Ref) → is_carried_ou
 stood_by (Plain root) offer main carried = absurd (false≢true carried)
 stood_by (Offer other) offer main carried = (other, refl, grind (arith, carried))
 
-pub carries : (word : RootWord) (action : Action) (offer : Descriptor) → carried_by word action ≡ Some offer → Carries word action offer
+pub carries : (word : RootWord) (action : Action) (offer : Descriptor) → carried_offer word action ≡ Some offer → Carries word action offer
 carries word (act.Complete own main) offer e = by (is_carried_out word own main) refl e
   where
     by : (b : Bool) → is_carried_out word own main ≡ b → (if b then Some own else None) ≡ Some offer → Carries word (act.Complete own main) offer
@@ -79,8 +78,7 @@ offerer_runs state h handle offer stands =
         let b = I.offers handle offer word in
         (b.k, b.owner, b.runs, sym (own_numbers b.owner offer (I.own b.k b.owner b.runs) b.completes).its)
 
-module _ (before : Parts) (actor : ℕ) (u next : UnderWay) (taken : Taken) (now : Parts) (t : Took before actor u next taken now) (run : IsOfRun (seen before)) (kept : IsKept before)
-    (is : next ≡ moved before.commits.commits before.steps taken u) where
+module _ (before : Parts) (actor : ℕ) (u : UnderWay) (taken : Taken) (now : Parts) (t : Took before actor u taken now) (run : IsOfRun (seen before)) (kept : IsKept before) where
   -- whoever runs made the offer or has another number
   made_by : (handle : ℕ) (other : Descriptor) (id : ℕ) → word_in before.table handle ≡ Offer other → other.operation ≡ id → (n : ℕ) (o : Operation) → operation_of (seen before) n ≡ Some o →
       (o.id ≡ id → slice_index_or before.table.offerers handle 0 ≡ n) × (slice_index_or before.table.offerers handle 0 ≡ n → o.id ≡ id)
@@ -93,23 +91,23 @@ module _ (before : Parts) (actor : ℕ) (u next : UnderWay) (taken : Taken) (now
             ap (λ (x : Operation). x.id) (same_Some o who.1 (sym runs ∙ here)) ∙ who.3 ∙ same,
       )
 
-  pub knows_offered : KnowsOffered before actor u next taken now t run kept is
+  pub knows_offered : KnowsOffered before actor u taken now t run kept
   knows_offered offer e =
       let own : Operation = operation_at before.table t.seat.found.programs u in
       let c = carries _ _ offer e in
-      let handle = handle_is before actor u next taken now t run kept is in
+      let handle = handle_is before actor u taken now t run kept in
       let stands : word_in before.table u.job.handle ≡ Offer c.other = ap (word_in before.table) (sym handle) ∙ c.stands in
-      let number = number_is before actor u next taken now t run kept is in
+      let number = number_is before actor u taken now t run kept in
       let who = offerer_runs (seen before) run u.job.handle c.other stands in
       let offerer : slice_index_or before.table.offerers u.job.handle 0 ≡ suc who.0 = kept.offerers u.job.handle c.other stands (suc who.0) who.1 who.2 who.3 in
       let within = (operation_stands (seen before) (suc who.0) who.1 who.2).within in
       let runs_own = operation_there before actor u t.seat in (
         subst (λ (a : Action). slice_index_or before.table.offerers u.job.handle 0 < length (unmarked before.table.marks u.job.actor a)) (sym c.is)
             (omega (arith, offerer, within, (sizes (seen before) run).1, kept.noted.marks)),
-        λ i x v at runs. elim (at_set_cases before.actors.items (actor - 1) i (record { programs = t.programs; under_way = Some next }) x at) [
+        λ i x v at runs. elim (at_set_cases before.actors.items (actor - 1) i (record { programs = t.programs; under_way = Some u }) x at) [
           | inl here ↦
-              let same : v ≡ next = same_Some v next (sym runs ∙ ap (λ (a : Actor). a.under_way) (sym here.1)) in
-              let job : v.job ≡ u.job = ap (λ (w : UnderWay). w.job) (same ∙ is) in
+              let same : v ≡ u = same_Some v u (sym runs ∙ ap (λ (a : Actor). a.under_way) (sym here.1)) in
+              let job : v.job ≡ u.job = ap (λ (w : UnderWay). w.job) same in
               let both = made_by u.job.handle c.other offer.operation stands c.same actor own runs_own in (
                 λ e'. both.0 (ap (λ j. j.id) (sym job) ∙ e') ∙ sym number ∙ ap (λ j. j.actor) (sym job),
                 λ e'. ap (λ j. j.id) job ∙ both.1 (e' ∙ ap (λ j. j.actor) job ∙ number),

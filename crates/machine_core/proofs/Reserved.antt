@@ -7,7 +7,6 @@ use Rattle.std.proofs.lemmas.List.{get_or-replicate, get_or-set_same, get_or-set
 use Rattle.std.proofs.lemmas.List.Sums.{count_by-le-length, sum_by-cons}
 use Rattle.std.proofs.lemmas.Option.{none-some, same_Some}
 use Rattle.history.specs.declared.calls.Call.{Call}
-use Rattle.history.specs.declared.replies.Reply.{Reply}
 use Rattle.handle_table.specs.Numbers.{Numbers, is_taken_in, no_numbers, running_on, with_running, with_taken}
 use Rattle.machine_model.specs.declared.operations.Operation.{Operation}
 use Rattle.machine_model.specs.declared.roots.Root.{Root}
@@ -16,14 +15,14 @@ use Rattle.machine_model.specs.Calls.{handle_of, is_close}
 use Rattle.machine_model.specs.Machine.{begin_denial, handle_closed, is_number, is_taken, names, reserved_by, with_begin}
 use Rattle.machine_model.specs.Moves.{begun_operation}
 use Rattle.machine_model.specs.States.{State, first_state, root_at}
-use Rattle.machine_model.specs.declared.steps.Limits.{Limits}
+use Rattle.machine_model.specs.declared.steps.Bounds.{Bounds}
 use Rattle.machine_model.proofs.Actors.{begin_actors}
 use Rattle.machine_model.proofs.Found.{found_elsewhere, found_here, found_within}
 use Rattle.machine_core.specs.Beneath.proof_generations.proofs.Handles.Operations.{HasHandles}
 use Rattle.machine_core.specs.Beneath.proof_generations.proofs.Roots.OfLists.{has_handles_along}
 use Rattle.machine_core.specs.Beneath.proof_memory.proofs.Safety.Base.{closed_root, handle_given}
 use Rattle.proof_records.proofs.Numbers.{reserved_somewhere, reserves, reserves_so}
-use Rattle.machine_core.specs.Bounds.{IsOfRun}
+use Rattle.proof_straight.specs.Resting.{IsOfRun}
 use Rattle.machine_core.specs.Numbering.{KnowsNumbers, begun_on, closes, ended_on, given_back, reserved}
 use Rattle.machine_core.specs.Ties.{StandsAt}
 use Rattle.machine_core.proofs.Held.{begin_stands, sizes}
@@ -123,7 +122,7 @@ module _ (numbers : Numbers) (state : State) (actor : ℕ) (call : Call) (h : Is
       (ap (set state.actors (actor - 1)) (sym stands.is) ∙ set-get_or state.actors (actor - 1) None)
 
   abbrev closed : State
-  closed = handle_closed state call operation.id
+  closed = handle_closed state call
 
   closed_own : is_close call ≡ true → root_at closed (handle_of call) ≡ None
   closed_own is =
@@ -135,7 +134,7 @@ module _ (numbers : Numbers) (state : State) (actor : ℕ) (call : Call) (h : Is
       is_taken_in (given_back numbers (cond b (Some (handle_of call)) None)) handle ≡ (is_some (root_at closed handle) || list_any (reserves handle) state.actors)
   closed_by false is handle within =
       known.taken handle within
-      ∙ ap (λ o. is_some o || list_any (reserves handle) state.actors) (sym (closed_root state call operation.id handle (λ e same. true≢false (sym e ∙ is))))
+      ∙ ap (λ o. is_some o || list_any (reserves handle) state.actors) (sym (closed_root state call handle (λ e same. true≢false (sym e ∙ is))))
   closed_by true is handle within = elim (cases_eq handle (handle_of call)) [
     | inl same ↦
         subst (λ n. is_taken_in (given_back numbers (Some (handle_of call))) n ≡ (is_some (root_at closed n) || list_any (reserves n) state.actors)) (sym same)
@@ -143,7 +142,7 @@ module _ (numbers : Numbers) (state : State) (actor : ℕ) (call : Call) (h : Is
         ∙ sym (ap (λ o. is_some o || list_any (reserves (handle_of call)) state.actors) (closed_own is) ∙ unreserved state h (handle_of call) root.0 root.1))
     | inr other ↦
         given_other numbers (handle_of call) handle other ∙ known.taken handle within
-        ∙ ap (λ o. is_some o || list_any (reserves handle) state.actors) (sym (closed_root state call operation.id handle (λ e same. other same)))
+        ∙ ap (λ o. is_some o || list_any (reserves handle) state.actors) (sym (closed_root state call handle (λ e same. other same)))
   ]
 
   abbrev run_one : Numbers
@@ -186,7 +185,7 @@ module _ (numbers : Numbers) (state : State) (actor : ℕ) (call : Call) (h : Is
 
 -- ---- the end of an operation
 
-module _ (numbers : Numbers) (state : State) (actor : ℕ) (operation : Operation) (answer : Reply) (h : IsOfRun state) (at : StandsAt state.actors actor (Some operation))
+module _ (numbers : Numbers) (state : State) (actor : ℕ) (operation : Operation) (h : IsOfRun state) (at : StandsAt state.actors actor (Some operation))
     (known : KnowsNumbers numbers state) where
   abbrev left : List (Option Operation)
   left = set state.actors (actor - 1) None
@@ -258,7 +257,7 @@ module _ (numbers : Numbers) (state : State) (actor : ℕ) (operation : Operatio
       own_within known.running (omega (arith, own_more))
       (λ other. omega (arith, one_less handle, ap {B = ℕ} (λ b. cond b 1 0) (ne_eqb (handle_of operation.call) handle (λ e. other (sym e)))))
 
-  pub known_ended : KnowsNumbers (ended_on numbers (handle_of operation.call) (reserved_by (Some operation))) (ended state actor operation answer)
+  pub known_ended : KnowsNumbers (ended_on numbers (handle_of operation.call) (reserved_by (Some operation))) (ended state actor)
   known_ended = record {
     many = (
       given_many run_less (reserved_by (Some operation)) ∙ known.many.0,
@@ -271,7 +270,7 @@ module _ (numbers : Numbers) (state : State) (actor : ℕ) (operation : Operatio
 
 -- ---- at first
 
-pub known_first : (limits : Limits) → KnowsNumbers (with_taken no_numbers 0 true) (first_state limits)
+pub known_first : (limits : Bounds) → KnowsNumbers (with_taken no_numbers 0 true) (first_state limits)
 unfolding first_state
 known_first limits = record {
   many = (length-set (replicate 256 false) 0 true, length-replicate {A = ℕ} 256 0);

@@ -9,7 +9,6 @@ use Rattle.std.proofs.lemmas.Option.{get_or_from_slice_get, none-some, slice_get
 use Rattle.ctrie_base.specs.declared.hashes.HashKind.{HashKind}
 use Rattle.handle_table.specs.Numbers.{Numbers, no_numbers, with_taken}
 use Rattle.history.specs.declared.calls.Access.TheVariants.{Writable}
-use Rattle.history.specs.Histories.{begun}
 use Rattle.slot_arena.specs.declared.refs.Ref.{Ref}
 use Rattle.slot_arena.specs.declared.nodes.Slot.{Slot}
 use Rattle.slot_arena.specs.Refs.{ref_to}
@@ -22,7 +21,7 @@ use Rattle.epochs.specs.Limbo.{is_zero, is_in, limbo_after, by_birth}
 use Rattle.machine_model.specs.declared.operations.Operation.{Operation}
 use Rattle.machine_model.specs.declared.roots.Root.{Root}
 use Rattle.machine_model.specs.declared.roots.RootWord.TheVariants.{Plain}
-use Rattle.machine_model.specs.declared.steps.Limits.{Limits}
+use Rattle.machine_model.specs.declared.steps.Bounds.{Bounds}
 use Rattle.machine_model.specs.Counting.{refs_of_root, refs_of_operation}
 use Rattle.machine_model.specs.Machine.{pin_of}
 use Rattle.machine_model.specs.States.{State, empty_heap, first_heap, first_state, operation_of}
@@ -168,7 +167,7 @@ abbrev pub first_root : Option Root
 first_root = Some (record { access = Writable; word = Plain (ref_to 2 1) })
 
 -- the parts of a machine at first
-pub record AreFirst (limits : Limits) (parts : Parts) : Type 0 where
+pub record AreFirst (limits : Bounds) (parts : Parts) : Type 0 where
   pub limits_are : parts.limits ≡ limits
   pub heap : parts.heap.heap ≡ first_heap limits.slots
   pub limbo : parts.heap.limbo ≡ []
@@ -180,24 +179,18 @@ pub record AreFirst (limits : Limits) (parts : Parts) : Type 0 where
   pub table : parts.table ≡ with_root_in (new_table limits.actors) 0 first_root
   pub actors : AreIdle limits.hash limits.actors parts.actors.items
   pub handles : parts.handles ≡ with_taken no_numbers 0 true
-  pub commits : parts.commits.commits ≡ []
-  pub closings : parts.journal.chronicle.closings ≡ []
-  pub places : parts.journal.chronicle.places ≡ []
-  pub drawn : parts.journal.chronicle.generations ≡ 1
-  pub events : parts.journal.events.items ≡ []
   pub steps : parts.steps ≡ 0
-  pub begun_are : parts.begun ≡ 0
-  pub slots : limits.slots ≤ parts.commits.slots
+  pub begun : parts.begun ≡ 0
 
-none_at_first : (limits : Limits) (parts : Parts) → AreFirst limits parts → (seen parts).actors ≡ replicate limits.actors None
+none_at_first : (limits : Bounds) (parts : Parts) → AreFirst limits parts → (seen parts).actors ≡ replicate limits.actors None
 none_at_first limits parts h = none_seen parts.table limits.hash parts.actors.items h.actors.idle ∙ ap (λ n. replicate n None) h.actors.many
 
-pub seen_first : (limits : Limits) (parts : Parts) → AreFirst limits parts → seen parts ≡ first_state limits
+pub seen_first : (limits : Bounds) (parts : Parts) → AreFirst limits parts → seen parts ≡ first_state limits
 unfolding first_state
 seen_first limits parts h =
-    rw (none_at_first limits parts h, h.limits_are, h.heap, h.limbo, h.epoch, h.cursor, h.generations, h.table, h.commits, h.closings, h.places, h.events, h.steps) refl
+    rw (none_at_first limits parts h, h.limits_are, h.heap, h.limbo, h.epoch, h.cursor, h.generations, h.table, h.begun, h.steps) refl
 
-pub kept_first : (limits : Limits) (parts : Parts) → AreFirst limits parts → IsKept parts
+pub kept_first : (limits : Bounds) (parts : Parts) → AreFirst limits parts → IsKept parts
 kept_first limits parts h =
     let none = none_at_first limits parts h in
     record {
@@ -212,17 +205,13 @@ kept_first limits parts h =
         );
         pins = h.pins ∙ sym (none_pinned limits.actors) ∙ ap (map pin_of) (sym none);
       };
-      seats = subst (λ (x : Limits). AreSeated x.hash parts.actors.items) (sym h.limits_are) (seated_at_first limits.hash limits.actors parts.actors.items h.actors);
+      seats = subst (λ (x : Bounds). AreSeated x.hash parts.actors.items) (sym h.limits_are) (seated_at_first limits.hash limits.actors parts.actors.items h.actors);
       noted = record {
-        marks = ap (λ (t : Table). length t.marks) h.table ∙ length-replicate (limits.actors + 1) false ∙ ap (λ (x : Limits). x.actors + 1) (sym h.limits_are);
+        marks = ap (λ (t : Table). length t.marks) h.table ∙ length-replicate (limits.actors + 1) false ∙ ap (λ (x : Bounds). x.actors + 1) (sym h.limits_are);
         offerers = ap (λ (t : Table). length t.offerers) h.table ∙ length-replicate {A = ℕ} 256 0;
         carried = ap (λ (t : Table). t.carried) h.table;
       };
       offerers = λ handle offer stands actor operation found same. absurd (nobody_runs (seen parts) limits.actors actor operation none found);
-      owners = λ main replaced used pending actor operation at before l found swaps. absurd (nobody_runs (seen parts) limits.actors actor operation none found);
       numbers = subst (λ (n : Numbers). KnowsNumbers n (seen parts)) (sym h.handles)
           (subst (KnowsNumbers (with_taken no_numbers 0 true)) (sym (seen_first limits parts h)) (known_first limits));
-      generations = h.drawn ∙ sym h.generations;
-      begun_are = h.begun_are ∙ sym (ap begun h.events);
-      slots = omega (arith, h.slots, ap (λ (x : Limits). x.slots) h.limits_are);
     }

@@ -1,11 +1,9 @@
 -- What steps come to.
 use Rattle.std.proofs.Common.{◌≡◌, ℕ, ◌+◌, ◌-◌, slice_set, inl, inr, true, false, if◌then◌else◌, Option, Some, None, IfErr, IfOk, OnErr, Result, Ok, Err, refl, sym, ap, ◌∙◌, arith, Bool}
 use Rattle.std.proofs.lemmas.Option.{none-some, same_Some}
-use Rattle.ctrie_base.specs.declared.kinds.Kind.{Kind}
 use Rattle.ctrie_base.specs.declared.refusals.Refusal.{Refusal}
 use Rattle.ctrie_base.specs.declared.refusals.Refusal.TheVariants as refuse
 use Rattle.history.specs.declared.calls.Call.{Call}
-use Rattle.history.specs.Histories.{begun}
 use Rattle.machine_model.specs.declared.actions.Action.{Action}
 use Rattle.machine_model.specs.declared.actions.Action.TheVariants as act
 use Rattle.machine_model.specs.declared.operations.Operation.{Operation}
@@ -22,8 +20,12 @@ use Rattle.machine_model.specs.Counting.{outside, settled}
 use Rattle.machine_model.specs.Machine.{next, begin_denial, begin_unless, with_begin, go_denial, go_unless, go_on, went, is_spent, swept, settled_after, is_taken_step, denial_of}
 use Rattle.machine_model.proofs.Frames.{acted_framed}
 use Rattle.machine_model.specs.Moves.{begun_operation}
-use Rattle.machine_core.specs.Bounds.{Applies, Leads}
-use Rattle.machine_core.specs.Walking.{walked}
+use Rattle.machine_core.specs.Bounds.{Answers, Applies, Leads, Walks}
+use Rattle.machine_core.specs.Told.{TellsBegin, stepped}
+use Rattle.machine_core.specs.declared.telling.Begun.{Begun}
+use Rattle.machine_core.specs.declared.telling.Stepped.{Stepped}
+use Rattle.machine_model.specs.declared.records.Told.{Told}
+use Rattle.machine_model.specs.declared.records.Told.TheVariants as told
 
 -- ---- denied steps
 
@@ -39,14 +41,17 @@ denied state (step.Begin actor call) why e = ap (λ d. begin_unless state actor 
 denied state (step.Go actor) why e = ap (λ d. go_unless state actor d) e
 denied state step.Sweep why e = sweep_denied state (is_spent state) why e
 
--- a denied step applies as such
-pub refused : (state : State) (s : Step) (why : Refusal) → denial_of state s ≡ Some why → Applies (Err why) state (next state s) state
-refused state s why e = (refl, inl (denied state s why e))
+-- a denied step is refused as such
+pub refused : (state : State) (s : Step) (why : Refusal) → denial_of state s ≡ Some why → Answers (Err why) state (next state s) state
+refused state s why e = (refl, denied state s why e)
+
+pub refused_so : (state : State) (actor : ℕ) (why : Refusal) → go_denial state actor ≡ Some why → Applies (Err why) state actor (next state (step.Go actor)) state
+refused_so state actor why e = (refl, inl (denied state (step.Go actor) why e))
 
 -- ---- steps that aren't denied
 
 begin_answer : (state : State) (actor : ℕ) (call : Call) → begin_denial state actor call ≡ None →
-    next state (step.Begin actor call) ≡ Ok (outcome.Began (begun state.events), settled state (with_begin state actor call (begun_operation state call)))
+    next state (step.Begin actor call) ≡ Ok (outcome.Began (state.begun), settled state (with_begin state actor call (begun_operation state call)))
 unfolding next
 begin_answer state actor call e = ap (λ d. begin_unless state actor call d) e
 
@@ -82,16 +87,12 @@ allowed state (step.Begin actor call) d = ap is_taken_step (begin_answer state a
 allowed state (step.Go actor) d = let (operation, found) = running state actor d in ap is_taken_step (go_answer state actor operation d found)
 allowed state step.Sweep d = ap is_taken_step (sweep_answer state (sweep_unspent state d))
 
--- a step that isn't denied applies, be it taken or not
-pub applies_so : (before after : State) (s : Step) (r : Result Outcome Refusal) → denial_of before s ≡ None → IfOk r (λ o. next before s ≡ Ok (o, after)) → OnErr r (after ≡ before) →
-    IfErr r (λ why. why ≡ refuse.Memory) → Applies r before (next before s) after
-applies_so before after s (Ok o) d taken same memory = taken
-applies_so before after s (Err why) d taken same memory = (same, inr (memory, allowed before s d))
-
-pub applies_walked : (before after : State) (s : Step) (r : Result Kind Refusal) → denial_of before s ≡ None → IfOk r (λ k. next before s ≡ Ok (outcome.Went k, after)) → OnErr r (after ≡ before) →
-    IfErr r (λ why. why ≡ refuse.Memory) → Applies (walked r) before (next before s) after
-applies_walked before after s (Ok k) d taken same memory = applies_so before after s (Ok (outcome.Went k)) d taken same memory
-applies_walked before after s (Err why) d taken same memory = applies_so before after s (Err why) d taken same memory
+-- a step of an operation that isn't denied applies, be it taken or not
+pub applies_stepped : (before after : State) (actor : ℕ) (r : Result Stepped Refusal) → go_denial before actor ≡ None →
+    IfOk r (λ taken. next before (step.Go actor) ≡ Ok (outcome.Went taken.kind, after)) → OnErr r (after ≡ before) → IfErr r (λ why. why ≡ refuse.Memory) →
+    OnErr r (Walks (operation_of before actor)) → Applies (stepped r) before actor (next before (step.Go actor)) after
+applies_stepped before after actor (Ok taken) d answers same memory walks = answers
+applies_stepped before after actor (Err why) d answers same memory walks = (same, inr (memory, allowed before (step.Go actor) d, walks))
 
 -- ---- what they lead to
 
@@ -105,7 +106,7 @@ pub begin_actors : (state : State) (actor : ℕ) (call : Call) (operation : Oper
 begin_actors state actor call operation = grind arith
 
 -- a begin that isn't denied
-pub begin_leads : (state after : State) (actor : ℕ) (call : Call) (id : ℕ) → begin_denial state actor call ≡ None → id ≡ begun state.events →
+pub begin_leads : (state after : State) (actor : ℕ) (call : Call) (id : ℕ) → begin_denial state actor call ≡ None → id ≡ state.begun →
     after ≡ with_begin state actor call (begun_operation state call) → Leads state (step.Begin actor call) (outcome.Began id) after
 begin_leads state after actor call id d e is =
     let left = begin_leaves state actor call (begun_operation state call) in
@@ -115,6 +116,14 @@ begin_leads state after actor call id d e is =
       limbo = ap (λ x. x.limbo) is ∙ left.0;
       steps = ap (λ x. x.steps) is ∙ left.1;
     }
+
+-- a begin tells the id that it gives
+pub begun_id : (state : State) (actor : ℕ) (call : Call) (b : Begun) → TellsBegin state actor call b → b.id ≡ state.begun
+begun_id state actor call b tells = sym (ap id_told tells)
+  where
+    id_told : Told → ℕ
+    id_told (told.Began id who what opens) = id
+    id_told t = 0
 
 -- what a step that goes on leaves
 record Leaves (before after : State) : Type 0 where
@@ -155,11 +164,6 @@ settled_same before middle limbo steps =
 
 -- a step that led there applies
 pub leads_taken : (before middle after : State) (s : Step) (o : Outcome) → Leads before s o middle → after ≡ settled middle middle →
-    Applies (Ok o) before (next before s) after
+    next before s ≡ Ok (o, after)
 leads_taken before middle after s o h e =
     h.answer ∙ ap (λ x. Ok (o, x)) (settled_same before middle h.limbo h.steps ∙ sym e)
-
--- what follows of an outcome follows where there is one
-pub if_ok : {T E : Type 0} (r : Result T E) (P Q : T → Type 0) → ((x : T) → P x → Q x) → IfOk r P → IfOk r Q
-if_ok (Ok x) P Q f h = f x h
-if_ok (Err e) P Q f h = tt

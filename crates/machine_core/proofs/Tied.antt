@@ -1,7 +1,6 @@
 -- What a step leaves tied: the references that the heap holds are those of root words and private lists.
-use Rattle.std.proofs.Common.{◌≡◌, ℕ, zero, suc, ◌+◌, ◌-◌, ◌≤◌, true, List, [], length, set, get_or, is_some, Option, Some, None, refl, sym, ap, ◌∙◌, arith}
+use Rattle.std.proofs.Common.{◌≡◌, ℕ, zero, suc, ◌+◌, ◌-◌, ◌≤◌, List, [], length, set, get_or, Option, Some, None, refl, sym, ap, ◌∙◌, arith}
 use Rattle.std.proofs.lemmas.List.{map-set, length-map}
-use Rattle.std.proofs.lemmas.Bool.{false≢true}
 use Rattle.std.proofs.lemmas.Option.{none-some}
 use Rattle.slot_arena.specs.declared.refs.Ref.{Ref}
 use Rattle.slot_arena.specs.Times.{times}
@@ -65,20 +64,3 @@ begun_tied before after roots now actors actor operation at tied moves none pins
 pub pins_within : (memory : Memory) (roots : List (Option Root)) (actors : List (Option Operation)) (actor : ℕ) (found : Option Operation) → IsTied memory roots actors →
     StandsAt actors actor found → (1 ≤ actor) × (actor ≤ length memory.pins)
 pins_within memory roots actors actor found tied at = (at.counts, omega (arith, at.within, at.counts, ap length tied.pins, length-map actors pin_of))
-
-running_by : (state : State) (actor : ℕ) (found : Option Operation) → operation_of state actor ≡ found → is_some found ≡ true → (operation : Operation) × (operation_of state actor ≡ Some operation)
-running_by state actor None e some = absurd (false≢true some)
-running_by state actor (Some operation) e some = (operation, e)
-
--- an actor that runs an operation
-pub running_at : (state : State) (actor : ℕ) → is_some (operation_of state actor) ≡ true → (operation : Operation) × (operation_of state actor ≡ Some operation)
-running_at state actor some = running_by state actor (operation_of state actor) refl some
-
--- ---- what leaves all tied
-
-pub tied_same : (before after : Memory) (roots : List (Option Root)) (actors : List (Option Operation)) → after.outside ≡ before.outside → after.pins ≡ before.pins →
-    IsTied before roots actors → IsTied after roots actors
-tied_same before after roots actors outside pins tied = record {
-  held = λ r. ap (times r) outside ∙ tied.held r;
-  pins = pins ∙ tied.pins;
-}

@@ -10,7 +10,7 @@ use Rattle.machine_model.specs.States.{operation_of}
 use Rattle.machine_model.specs.declared.operations.Operation.{Operation}
 use Rattle.machine_model.proofs.Actors.{actor_by}
 use Rattle.machine_core.specs.declared.parts.Parts.{Parts}
-use Rattle.machine_core.specs.Bounds.{IsOfRun}
+use Rattle.proof_straight.specs.Resting.{IsOfRun}
 use Rattle.machine_core.specs.Seen.{actor_of, operation_seen, seen}
 use Rattle.machine_core.specs.Walking.{goes_on}
 use Rattle.machine_core.proofs.Allowed.{owner_runs}

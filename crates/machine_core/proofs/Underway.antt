@@ -1,6 +1,6 @@
 -- What an actor has under way whose next step isn't denied.
 use Rattle.std.proofs.Common.{arith, ◌≡◌, ℕ, ◌-◌, ◌<◌, Option, Some, None, length, refl, sym, ap, ◌∙◌}
-use Rattle.std.specs.Prelude.{true, not, is_some, option_and_then, option_map, slice_get}
+use Rattle.std.specs.Prelude.{true, false, not, is_some, IsSome, option_and_then, option_map, slice_get}
 use Rattle.std.proofs.lemmas.Option.{none-some, same_Some, slice_get_within}
 use Rattle.history.specs.declared.replies.Reply.{Reply}
 use Rattle.machine_model.specs.Machine.{go_denial, next_kind}
@@ -10,7 +10,7 @@ use Rattle.running.specs.Steps.{CanStep, scene}
 use Rattle.machine_core.specs.declared.parts.Actor.{Actor}
 use Rattle.machine_core.specs.declared.parts.Parts.{Parts}
 use Rattle.machine_core.specs.declared.parts.UnderWay.{UnderWay}
-use Rattle.machine_core.specs.Bounds.{IsOfRun}
+use Rattle.proof_straight.specs.Resting.{IsOfRun}
 use Rattle.machine_core.specs.Beneath.operate.specs.Places.{answer_of}
 use Rattle.machine_core.specs.Keeping.{IsKept}
 use Rattle.machine_core.specs.Seen.{actor_of, operation_at, operation_seen, seen, under_way_of}
@@ -57,6 +57,17 @@ pub can_of : (parts : Parts) (actor : ℕ) → IsOfRun (seen parts) → IsKept p
     slice_get parts.actors.items (actor - 1) ≡ Some found → found.under_way ≡ Some u → CanStep (scene parts.heap parts.table parts.generations found.programs) u.program
 can_of parts actor run kept allowed found u at runs = can parts actor u run kept (is_under_way parts actor allowed found u at runs) found at
 
+-- whether it goes on is whether it tells no reply
+onward : (parts : Parts) (actor : ℕ) (u : UnderWay) → under_way_of parts actor ≡ Some u → (found : Actor) → actor_of parts actor ≡ Some found →
+    not (is_some (answer_of (line_for u.program found.programs))) ≡ goes_on (next_kind (seen parts) actor)
+onward parts actor u runs found at =
+    let seat = seat_of parts actor u runs in
+    let same = same_Some seat.found found (sym (actor_there parts actor u seat) ∙ at) in
+    let own = operation_at parts.table found.programs u in
+    let held : found.under_way ≡ Some u = ap (λ (a : Actor). a.under_way) (sym same) ∙ seat.runs in
+    line_onward (seen parts) own own.line ∙ ap (λ o. onward_of (seen parts) (option_map (operation_at parts.table found.programs) o)) (sym held)
+    ∙ onward_there parts actor (Some found) (sym at)
+
 no_answer : (answer : Option Reply) → not (is_some answer) ≡ true → answer ≡ None
 no_answer None e = refl
 no_answer (Some reply) e = absurd (grind (arith, e))
@@ -64,11 +75,13 @@ no_answer (Some reply) e = absurd (grind (arith, e))
 -- where it goes on it tells no reply
 pub tells_none : (parts : Parts) (actor : ℕ) → goes_on (next_kind (seen parts) actor) ≡ true → (u : UnderWay) → under_way_of parts actor ≡ Some u →
     (found : Actor) → actor_of parts actor ≡ Some found → answer_of (line_for u.program found.programs) ≡ None
-tells_none parts actor on u runs found at =
-    let seat = seat_of parts actor u runs in
-    let same = same_Some seat.found found (sym (actor_there parts actor u seat) ∙ at) in
-    let own = operation_at parts.table found.programs u in
-    let held : found.under_way ≡ Some u = ap (λ (a : Actor). a.under_way) (sym same) ∙ seat.runs in
-    no_answer (answer_of (line_for u.program found.programs))
-    (line_onward (seen parts) own own.line ∙ ap (λ o. onward_of (seen parts) (option_map (operation_at parts.table found.programs) o)) (sym held)
-    ∙ onward_there parts actor (Some found) (sym at) ∙ on)
+tells_none parts actor on u runs found at = no_answer (answer_of (line_for u.program found.programs)) (onward parts actor u runs found at ∙ on)
+
+some_answer : (answer : Option Reply) → not (is_some answer) ≡ false → IsSome answer
+some_answer None e = absurd (grind (arith, e))
+some_answer (Some reply) e = refl
+
+-- where it ends it tells one
+pub tells_some : (parts : Parts) (actor : ℕ) → goes_on (next_kind (seen parts) actor) ≡ false → (u : UnderWay) → under_way_of parts actor ≡ Some u →
+    (found : Actor) → actor_of parts actor ≡ Some found → IsSome (answer_of (line_for u.program found.programs))
+tells_some parts actor over u runs found at = some_answer (answer_of (line_for u.program found.programs)) (onward parts actor u runs found at ∙ over)

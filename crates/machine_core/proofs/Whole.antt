@@ -1,160 +1,62 @@
--- A step of an operation that isn't its end, with all that is noted of it.
-use Rattle.std.proofs.Common.{arith, ◌≡◌, ℕ, ◌-◌, ◌<◌, All, List, length, Some, None, refl, sym, ap, subst, ◌∙◌}
-use Rattle.std.specs.Prelude.{IfOk, MatchOption, Result, Ok, Err, slice_get}
-use Rattle.ctrie_base.specs.declared.refusals.Refusal.{Refusal}
-use Rattle.machine_model.specs.declared.steps.Outcome.{Outcome}
-use Rattle.std.proofs.lemmas.List.{length-set}
-use Rattle.std.proofs.lemmas.Option.{none-some, same_Some, slice_get_within}
+-- What a step of an operation that goes on behind it, and its end, come to in all: the state, what is told, and what is kept.
+use Rattle.std.proofs.Common.{arith, ◌≡◌, ℕ, ◌+◌, ◌-◌, Some, None, refl, sym, ap, subst, ◌∙◌}
+use Rattle.std.specs.Prelude.{option_map}
+use Rattle.std.proofs.lemmas.Option.{none-some, same_Some}
+use Rattle.ctrie_base.specs.declared.kinds.Kind.{Kind}
+use Rattle.handle_table.specs.Numbers.{Numbers}
 use Rattle.history.specs.declared.replies.Reply.{Reply}
-use Rattle.history.proofs.Places.{at_set}
-use Rattle.places.specs.declared.place.Place.{Place}
-use Rattle.slot_arena.specs.Arenas.{IsLive}
-use Rattle.slot_arena.specs.Refs.{slot_of}
-use Rattle.slot_arena.specs.declared.refs.Ref.{Ref}
 use Rattle.machine_model.specs.declared.actions.Action.{Action}
 use Rattle.machine_model.specs.declared.actions.Action.TheVariants as act
 use Rattle.machine_model.specs.declared.lines.Line.{Line}
 use Rattle.machine_model.specs.declared.lines.Line.TheVariants as line
 use Rattle.machine_model.specs.declared.operations.Operation.{Operation}
+use Rattle.machine_model.specs.declared.records.Entrant.{Entrant}
+use Rattle.machine_model.specs.declared.records.Told.TheVariants as told
+use Rattle.machine_model.specs.declared.steps.Bounds.{Bounds}
 use Rattle.machine_model.specs.declared.steps.Outcome.TheVariants as outcome
+use Rattle.machine_model.specs.Acting.{ended, gone}
+use Rattle.machine_model.specs.Calls.{handle_of}
 use Rattle.machine_model.specs.Machine.{go_denial, went}
 use Rattle.machine_model.specs.Moves.{GoesOn}
 use Rattle.machine_model.specs.Operations.{action_of, kind_of, line_action}
-use Rattle.machine_model.specs.Acting.{gone}
-use Rattle.machine_model.specs.States.{State, operation_of}
-use Rattle.ctrie_base.specs.declared.kinds.Kind.{Kind}
-use Rattle.chronicle.specs.Committed.{IsNewest}
-use Rattle.chronicle.specs.Told.{Told}
+use Rattle.machine_model.specs.States.{State, operation_of, word_at}
+use Rattle.machine_model.specs.Tellings.{entrant_of, progress_of, published_by, told_by, told_of}
 use Rattle.machine_core.specs.Beneath.operate.specs.Places.{answer_of}
+use Rattle.machine_core.specs.Beneath.rdcss_root.specs.Tables.{Table}
+use Rattle.running.specs.Carried.{carried_of, carried_offer}
 use Rattle.running.specs.Places.{line_for}
-use Rattle.running.specs.Steps.{Takes, at_scene, scene}
 use Rattle.running.specs.Taking.{Taken}
-use Rattle.machine_core.specs.declared.parts.Actor.{Actor}
+use Rattle.running.proofs.Progress.{progress_is}
+use Rattle.running.specs.Steps.{scene}
+use Rattle.machine_model.specs.declared.roots.RootWord.{RootWord}
+use Rattle.machine_core.specs.Going.{CarriesUnless}
+use Rattle.machine_core.proofs.Allowed.{there_is}
 use Rattle.machine_core.specs.declared.parts.Parts.{Parts}
 use Rattle.machine_core.specs.declared.parts.UnderWay.{UnderWay}
-use Rattle.machine_core.specs.Going.{CanNote, HasUnderWay, Midway, NotesCommit, NotesKind, Steps, entered_for, moved}
-use Rattle.machine_core.specs.Bounds.{IsOfRun}
-use Rattle.machine_core.specs.Keeping.{IsKept, Replaces}
-use Rattle.machine_core.specs.Seen.{actor_of, operation_at, seen, under_way_of}
-use Rattle.machine_core.proofs.Allowed.{there_is}
-use Rattle.machine_core.proofs.Asked.{begun_now, can_note, ids_main, live_main, newest_main, room_main}
-use Rattle.machine_core.proofs.Fits.{newest_given}
-use Rattle.machine_core.proofs.Kept.{Seat, kept_alike, operation_there, seat_of}
-use Rattle.machine_core.proofs.Noted.{NotedSo, gone_seen}
-use Rattle.machine_core.proofs.Notings.{noted_commit, noted_kind}
+use Rattle.machine_core.specs.declared.telling.Ended.{Ended}
+use Rattle.machine_core.specs.declared.telling.Stepped.{Stepped}
+use Rattle.proof_straight.specs.Resting.{IsOfRun}
+use Rattle.machine_core.specs.Keeping.{AreSeated, IsKept}
+use Rattle.machine_core.specs.Numbering.{KnowsNumbers}
+use Rattle.machine_core.specs.Seen.{operation_at, seen}
+use Rattle.machine_core.specs.Told.{TellsEnd, TellsStep}
+use Rattle.machine_core.proofs.Gone.{carried_is, gone_seen, takes}
+use Rattle.machine_core.proofs.Keeps.{marks_now, seats_now, tied_now}
+use Rattle.machine_core.proofs.Kept.{operation_there}
+use Rattle.machine_core.proofs.Numbering.{known_gone}
+use Rattle.machine_core.proofs.Offerers.{offerers_length, offerers_now}
 use Rattle.machine_core.proofs.Offering.{knows_offered}
 use Rattle.machine_core.proofs.Onward.{only_end}
-use Rattle.machine_core.proofs.Took.{Took, actor_there, took}
+use Rattle.machine_core.proofs.Took.{Took}
 
-module _ (actor : ℕ) (u : UnderWay) (fresh : Ref) (taken : Taken) (middle : Parts) (m : Midway actor u fresh taken middle) (next : UnderWay) (now : Parts)
-    (moves : next ≡ moved middle.commits.commits middle.steps taken u) (puts : Replaces middle.actors.items (actor - 1) (HasUnderWay next) now.actors.items)
-    (rest : now ≡ record middle { actors = now.actors }) where
-  pub took_so : Took m.before actor u next taken now
-  took_so = took m.before middle now actor u next taken m.runs m.steps puts rest
-
-  pub moves_so : next ≡ moved m.before.commits.commits m.before.steps taken u
-  moves_so = moves ∙ ap (λ (x : Parts). moved x.commits.commits x.steps taken u) m.steps.rest
-
-  by_notes : (after : Parts) → NotedSo m.before actor u next taken now took_so m.run m.kept moves_so after →
-      (operation : Operation) → operation_of (seen m.before) actor ≡ Some operation → gone (seen m.before) actor operation ≡ seen after
-  by_notes after noted operation found =
-      let t = took_so in
-      let same = same_Some operation (operation_at m.before.table t.seat.found.programs u) (sym found ∙ operation_there m.before actor u t.seat) in
-      ap (gone (seen m.before) actor) same
-      ∙ gone_seen m.before actor u next taken now took_so m.run m.kept moves_so after (knows_offered m.before actor u next taken now took_so m.run m.kept moves_so) noted
-
-  pub whole_commit : (main : Ref) (after : Parts) → taken.committed ≡ Some main → NotesCommit now main after →
-      (operation : Operation) → operation_of (seen m.before) actor ≡ Some operation → gone (seen m.before) actor operation ≡ seen after
-  whole_commit main after committed notes = by_notes after (noted_commit m.before actor u next taken now took_so m.run m.kept moves_so main after committed notes)
-
-  pub whole_kind : (after : Parts) → taken.committed ≡ None → NotesKind taken.kind taken.counts now actor fresh after →
-      (operation : Operation) → operation_of (seen m.before) actor ≡ Some operation → gone (seen m.before) actor operation ≡ seen after
-  whole_kind after none notes = by_notes after (noted_kind m.before actor u next taken now took_so m.run m.kept moves_so fresh after none notes)
-
-  pub fresh_same : fresh ≡ took_so.seat.found.programs.key.work.swap.fresh
-  fresh_same = m.fresh_is took_so.seat.found (actor_there m.before actor u took_so.seat)
-
-  -- ---- what the notes ask
-
-  pub asks_live : (main : Ref) → taken.committed ≡ Some main → IsLive now.heap.heap main
-  asks_live = live_main m.before actor u next taken now took_so m.run m.kept moves_so
-
-  pub asks_room : (main : Ref) → taken.committed ≡ Some main → slot_of main < now.commits.slots
-  asks_room = room_main m.before actor u next taken now took_so m.run m.kept moves_so
-
-  pub asks_newest : (main : Ref) → taken.committed ≡ Some main → IsNewest now.commits.commits main
-  asks_newest = newest_main m.before actor u next taken now took_so m.run m.kept moves_so
-
-  pub asks_begun : 0 < now.steps
-  asks_begun = begun_now m.before actor u next taken now took_so m.run m.kept moves_so
-
-  pub asks_ids : (main : Ref) → taken.committed ≡ Some main → middle.begun < now.journal.chronicle.ids → All (λ (p : Place). p.id < now.journal.chronicle.ids) (entered_for now main)
-  asks_ids main commits less =
-      ids_main m.before actor u next taken now took_so m.run m.kept moves_so main commits now.journal.chronicle.ids (omega (arith, less, ap (λ (x : Parts). x.begun) m.steps.rest))
-
-  pub asks_kind : middle.begun < now.journal.chronicle.ids → 0 < now.journal.chronicle.room_to_draw → 0 < now.journal.chronicle.room_to_add →
-      0 < now.journal.chronicle.room_to_close → CanNote now fresh taken
-  asks_kind less = can_note m.before actor u next taken now took_so m.run m.kept moves_so fresh fresh_same (omega (arith, less, ap (λ (x : Parts). x.begun) m.steps.rest))
-
--- ---- before anything is noted
-
-module _ (actor : ℕ) (u : UnderWay) (fresh : Ref) (taken : Taken) (middle : Parts) (m : Midway actor u fresh taken middle) where
-  takes_there : (seat : Seat m.before actor u) →
-      Takes (seen m.before) (operation_at m.before.table seat.found.programs u) (line_for u.program seat.found.programs) taken (line_for u.program m.steps.actors.is.programs)
-  takes_there seat =
-      let r = m.steps.actors in
-      let was : r.was ≡ seat.found = same_Some r.was seat.found (sym r.found ∙ seat.at) in
-      let own : Operation = operation_at m.before.table seat.found.programs u in
-      subst (λ (s : State). Takes s own (line_for u.program seat.found.programs) taken (line_for u.program r.is.programs))
-      (there_is m.before (actor - 1) seat.found (m.kept.seats (actor - 1) seat.found seat.at))
-      (subst
-      (λ (a : Actor). Takes (at_scene (seen m.before) (scene m.before.heap m.before.table m.before.generations a.programs)) (operation_at m.before.table a.programs u)
-      (line_for u.program a.programs) taken (line_for u.program r.is.programs))
-      was (r.does.does.takes (seen m.before) (operation_at m.before.table r.was.programs u)))
-
-  pub kind_there : (operation : Operation) → operation_of (seen m.before) actor ≡ Some operation → kind_of (action_of (seen m.before) operation) ≡ taken.kind
-  kind_there operation found =
-      let seat = seat_of m.before actor u m.runs in
-      let same = same_Some operation (operation_at m.before.table seat.found.programs u) (sym found ∙ operation_there m.before actor u seat) in
-      ap (λ o. kind_of (action_of (seen m.before) o)) same ∙ (takes_there seat).kind
-
-  pub newest_there : MatchOption taken.given (Unit {0}) (IsNewest middle.commits.commits)
-  newest_there =
-      let seat = seat_of m.before actor u m.runs in
-      subst (λ (x : Parts). MatchOption taken.given (Unit {0}) (IsNewest x.commits.commits)) (sym m.steps.rest)
-      (newest_given (seen m.before) m.run actor (operation_at m.before.table seat.found.programs u) (operation_there m.before actor u seat) taken.given (takes_there seat).given)
-
-  pub within_there : actor - 1 < length middle.actors.items
-  within_there =
-      let r = m.steps.actors in
-      omega (arith, slice_get_within m.before.actors.items (actor - 1) r.was r.found, ap length r.set, length-set m.before.actors.items (actor - 1) r.is)
-
-  -- what stands at the actor's place, and that the operation is under way still
-  stands_there : slice_get middle.actors.items (actor - 1) ≡ Some m.steps.actors.is
-  stands_there =
-      let r = m.steps.actors in
-      ap (λ xs. slice_get xs (actor - 1)) r.set ∙ at_set m.before.actors.items (actor - 1) r.is (slice_get_within m.before.actors.items (actor - 1) r.was r.found)
-
-  runs_there : m.steps.actors.is.under_way ≡ Some u
-  runs_there =
-      let r = m.steps.actors in
-      let seat = seat_of m.before actor u m.runs in
-      let was : r.was ≡ seat.found = same_Some r.was seat.found (sym r.found ∙ seat.at) in
-      r.does.under_way ∙ ap (λ (a : Actor). a.under_way) was ∙ seat.runs
-
-  pub follows_there : (actors : List Actor) → ((found : Actor) (v : UnderWay) → slice_get middle.actors.items (actor - 1) ≡ Some found → found.under_way ≡ Some v →
-      Replaces middle.actors.items (actor - 1) (HasUnderWay (moved middle.commits.commits middle.steps taken v)) actors) →
-      Replaces middle.actors.items (actor - 1) (HasUnderWay (moved middle.commits.commits middle.steps taken u)) actors
-  follows_there actors follows = follows m.steps.actors.is u stands_there runs_there
-
--- ---- ends and others
+-- ---- what goes on, and what ends
 
 went_by : (state : State) (actor : ℕ) (operation : Operation) (action : Action) → ((answer : Reply) → action ≡ act.End answer → ⊥) →
     went state actor operation action ≡ (outcome.Went (kind_of action), gone state actor operation)
 went_by state actor operation (act.End answer) other = absurd (other answer refl)
 went_by state actor operation action other = refl
 
-pub went_on : (state : State) (actor : ℕ) (operation : Operation) → answer_of operation.line ≡ None →
+went_on : (state : State) (actor : ℕ) (operation : Operation) → answer_of operation.line ≡ None →
     went state actor operation (action_of state operation) ≡ (outcome.Went (kind_of (action_of state operation)), gone state actor operation)
 went_on state actor operation none =
     went_by state actor operation (action_of state operation) (λ answer e. none-some answer (sym none ∙ ap answer_of (only_end state operation operation.line answer e)))
@@ -172,78 +74,104 @@ pub ends_so : (state : State) (operation : Operation) (l : Line) (answer : Reply
 ends_so state operation (line.End own) answer e = ap act.End (same_Some own answer e)
 ends_so state operation l answer e = absurd (grind (arith, e))
 
--- ---- with room for what a step adds to the order
+told_going : (state : State) (actor : ℕ) (operation : Operation) (action : Action) → ((answer : Reply) → action ≡ act.End answer → ⊥) →
+    told_by state actor operation action ≡ told.Went actor (progress_of state operation)
+told_going state actor operation (act.End answer) other = absurd (other answer refl)
+told_going state actor operation action other = refl
 
-pub seen_roomed : (old : Parts) (chronicle : Told) → chronicle.closings ≡ old.journal.chronicle.closings → chronicle.places ≡ old.journal.chronicle.places →
-    seen (record old { journal = record old.journal { chronicle = chronicle } }) ≡ seen old
-seen_roomed old chronicle closings places =
-    ap (λ xs. record (seen old) { closings = xs; places = chronicle.places }) closings ∙ ap (λ xs. record (seen old) { places = xs }) places
+unless : (table : Table) (word : RootWord) (action : Action) → table.carried ≡ carried_offer word action → CarriesUnless (kind_of action) table
+unless table word (act.Abort offer) is = tt
+unless table word (act.Offer offer) is = tt
+unless table word (act.Complete offer main) is = tt
+unless table word action is = is
 
-pub midway_roomed : (old : Parts) (chronicle : Told) (actor : ℕ) (u : UnderWay) (fresh : Ref) (taken : Taken) (after : Parts) → chronicle.closings ≡ old.journal.chronicle.closings →
-    chronicle.places ≡ old.journal.chronicle.places → chronicle.generations ≡ old.journal.chronicle.generations → IsOfRun (seen old) → IsKept old →
-    go_denial (seen old) actor ≡ None → under_way_of old actor ≡ Some u → ((found : Actor) → actor_of old actor ≡ Some found → answer_of (line_for u.program found.programs) ≡ None) →
-    Steps (record old { journal = record old.journal { chronicle = chronicle } }) actor u taken after →
-    ((found : Actor) → actor_of old actor ≡ Some found → fresh ≡ found.programs.key.work.swap.fresh) → Midway actor u fresh taken after
-midway_roomed old chronicle actor u fresh taken after closings places generations run kept allowed runs goes_on steps fresh_is = record {
-  before = record old { journal = record old.journal { chronicle = chronicle } };
-  run = subst IsOfRun (sym (seen_roomed old chronicle closings places)) run;
-  kept = kept_alike old (record old { journal = record old.journal { chronicle = chronicle } })
-      (record {
-        limits = refl;
-        table = refl;
-        actors = refl;
-        handles = refl;
-        outside = λ r. refl;
-        pins = refl;
-        stood = λ main slot e. e;
-        owners = refl;
-        drawn = generations;
-        generations = refl;
-        begun_are = refl;
-        events = refl;
-        slots = refl;
-      })
-      kept;
-  allowed = allowed;
-  runs = runs;
-  goes_on = goes_on;
-  steps = steps;
-  fresh_is = fresh_is;
-}
+-- ---- a step
 
-pub roomed_before : (old : Parts) (chronicle : Told) (actor : ℕ) (u : UnderWay) (fresh : Ref) (taken : Taken) (after : Parts) (closings : chronicle.closings ≡ old.journal.chronicle.closings)
-    (places : chronicle.places ≡ old.journal.chronicle.places) (generations : chronicle.generations ≡ old.journal.chronicle.generations) (run : IsOfRun (seen old)) (kept : IsKept old)
-    (allowed : go_denial (seen old) actor ≡ None) (runs : under_way_of old actor ≡ Some u)
-    (goes_on : (found : Actor) → actor_of old actor ≡ Some found → answer_of (line_for u.program found.programs) ≡ None)
-    (steps : Steps (record old { journal = record old.journal { chronicle = chronicle } }) actor u taken after)
-    (fresh_is : (found : Actor) → actor_of old actor ≡ Some found → fresh ≡ found.programs.key.work.swap.fresh) →
-    seen (midway_roomed old chronicle actor u fresh taken after closings places generations run kept allowed runs goes_on steps fresh_is).before ≡ seen old
-unfolding midway_roomed
-roomed_before old chronicle actor u fresh taken after closings places generations run kept allowed runs goes_on steps fresh_is = seen_roomed old chronicle closings places
+module _ (before : Parts) (actor : ℕ) (u : UnderWay) (taken : Taken) (now : Parts) (t : Took before actor u taken now) (run : IsOfRun (seen before)) (kept : IsKept before)
+    (allowed : go_denial (seen before) actor ≡ None) (goes_on : answer_of (line_for u.program t.seat.found.programs) ≡ None) where
+  abbrev own : Operation
+  own = operation_at before.table t.seat.found.programs u
 
-pub whole_step : (old : Parts) (actor : ℕ) (u : UnderWay) (fresh : Ref) (taken : Taken) (after final : Parts) (m : Midway actor u fresh taken after) (k : Kind) → seen m.before ≡ seen old →
-    k ≡ taken.kind →
-    ((operation : Operation) → operation_of (seen m.before) actor ≡ Some operation → gone (seen m.before) actor operation ≡ seen final) →
-    under_way_of old actor ≡ Some u → ((found : Actor) → actor_of old actor ≡ Some found → answer_of (line_for u.program found.programs) ≡ None) →
-    (operation : Operation) → operation_of (seen old) actor ≡ Some operation → went (seen old) actor operation (action_of (seen old) operation) ≡ (outcome.Went k, seen final)
-whole_step old actor u fresh taken after final m k same kinds goes runs none operation found =
-    let seat = seat_of old actor u runs in
-    let own = same_Some operation (operation_at old.table seat.found.programs u) (sym found ∙ operation_there old actor u seat) in
-    let there : operation_of (seen m.before) actor ≡ Some operation = ap (λ (s : State). operation_of s actor) same ∙ found in
-    let kind_is = ap (λ (s : State). kind_of (action_of s operation)) (sym same) ∙ kind_there actor u fresh taken after m operation there ∙ sym kinds in
-    let gone_is = ap (λ (s : State). gone s actor operation) (sym same) ∙ goes operation there in
-    went_on (seen old) actor operation (ap (λ (o : Operation). answer_of o.line) own ∙ none seat.found (actor_there old actor u seat))
-    ∙ ap (λ (x : Kind). (outcome.Went x, gone (seen old) actor operation)) kind_is ∙ ap (λ (s : State). (outcome.Went k, s)) gone_is
+  -- of what was carried out nothing is kept
+  abbrev pub Behind : Parts
+  Behind = record now { table = record now.table { carried = None } }
 
--- an end is the step of an operation whose line tells this reply
-pub ends_step : (r : Result Outcome Refusal) (old final : Parts) (actor : ℕ) (u : UnderWay) (reply : Reply) → under_way_of old actor ≡ Some u →
-    ((found : Actor) → actor_of old actor ≡ Some found → Some reply ≡ answer_of (line_for u.program found.programs)) →
-    IfOk r (λ o. (operation : Operation) → operation_of (seen old) actor ≡ Some operation → went (seen old) actor operation (act.End reply) ≡ (o, seen final)) →
-    IfOk r (λ o. (operation : Operation) → operation_of (seen old) actor ≡ Some operation → went (seen old) actor operation (action_of (seen old) operation) ≡ (o, seen final))
-ends_step (Err refusal) old final actor u reply runs told ends = tt
-ends_step (Ok o) old final actor u reply runs told ends =
-    λ operation found.
-    let seat = seat_of old actor u runs in
-    let own = same_Some operation (operation_at old.table seat.found.programs u) (sym found ∙ operation_there old actor u seat) in
-    let line_is = ap (λ (x : Operation). answer_of x.line) own ∙ sym (told seat.found (actor_there old actor u seat)) in
-    ap (went (seen old) actor operation) (ends_so (seen old) operation operation.line reply line_is) ∙ ends operation found
+  there : operation_of (seen before) actor ≡ Some own
+  there = operation_there before actor u t.seat
+
+  gone_now : gone (seen before) actor own ≡ seen now
+  gone_now = gone_seen before actor u taken now t run kept (knows_offered before actor u taken now t run kept)
+
+  same_own : (operation : Operation) → operation_of (seen before) actor ≡ Some operation → operation ≡ own
+  same_own operation found = same_Some operation own (sym found ∙ there)
+
+  pub goes : (k : Kind) → k ≡ taken.kind → (operation : Operation) → operation_of (seen before) actor ≡ Some operation →
+      went (seen before) actor operation (action_of (seen before) operation) ≡ (outcome.Went k, seen Behind)
+  goes k kinds operation found =
+      ap (λ (o : Operation). went (seen before) actor o (action_of (seen before) o)) (same_own operation found)
+      ∙ went_on (seen before) actor own goes_on
+      ∙ ap (λ (x : Kind). (outcome.Went x, gone (seen before) actor own)) ((takes before actor u taken now t run kept).kind ∙ sym kinds)
+      ∙ ap (λ (s : State). (outcome.Went k, s)) gone_now
+
+  -- ---- what is told
+
+  pub tells : (step : Stepped) → step.progress.committed ≡ taken.committed → step.progress.given ≡ taken.given → step.progress.counts ≡ taken.counts →
+      ((operation : Operation) → operation_of (seen before) actor ≡ Some operation → step.progress.published ≡ published_by operation operation.line) →
+      step.progress.carried ≡ option_map (carried_of now.heap.heap) now.table.carried → TellsStep (seen before) actor step
+  tells step committed given counts published carried =
+      let p = t.seat.found.programs in
+      let progress : step.progress ≡ progress_of (seen before) own =
+      subst (λ (s : State). step.progress ≡ progress_of s own) (there_is before (actor - 1) t.seat.found (kept.seats (actor - 1) t.seat.found t.seat.at))
+      (progress_is u.job u.program (scene before.heap before.table before.generations p) (scene now.heap now.table now.generations t.programs) taken t.does kept.noted.carried (seen before)
+      own step.progress committed given counts (published own there) carried) in
+      ap (told_of (seen before) actor) there
+      ∙ told_going (seen before) actor own (action_of (seen before) own) (λ answer e. none-some answer (sym goes_on ∙ ap answer_of (only_end (seen before) own own.line answer e)))
+      ∙ ap (told.Went actor) (sym progress)
+
+  -- a step of another kind than a swap of the root carries nothing out
+  pub carries_nothing : CarriesUnless taken.kind now.table
+  carries_nothing =
+      subst (λ (k : Kind). CarriesUnless k now.table) (takes before actor u taken now t run kept).kind
+      (unless now.table (word_at (seen before) (handle_of own.call)) (action_of (seen before) own) (carried_is before actor u taken now t run kept))
+
+  -- ---- what is kept
+
+  numbers_gone : KnowsNumbers now.handles (gone (seen before) actor own)
+  numbers_gone =
+      subst (λ (n : Numbers). KnowsNumbers n (gone (seen before) actor own)) (sym (ap (λ (x : Parts). x.handles) t.rest))
+      (known_gone before.handles (seen before) actor own run allowed there (no_end (seen before) own goes_on) kept.numbers)
+
+  pub kept_gone : IsKept Behind
+  kept_gone =
+      let tied = tied_now before actor u taken now t run kept in
+      let limits : now.limits ≡ before.limits = ap (λ (x : Parts). x.limits) t.rest in
+      record {
+        tied = record { held = tied.held; pins = tied.pins };
+        seats = subst (λ (l : Bounds). AreSeated l.hash now.actors.items) (sym limits) (seats_now before actor u taken now t run kept);
+        noted = record {
+          marks = marks_now before actor u taken now t run kept ∙ kept.noted.marks ∙ ap (λ (l : Bounds). l.actors + 1) (sym limits);
+          offerers = offerers_length before actor u taken now t run kept ∙ kept.noted.offerers;
+          carried = refl;
+        };
+        offerers = offerers_now before actor u taken now t run kept;
+        numbers = subst (KnowsNumbers now.handles) gone_now numbers_gone;
+      }
+
+-- ---- an end
+
+module _ (before after : Parts) (actor : ℕ) (own : Operation) (there : operation_of (seen before) actor ≡ Some own) (end : Ended) (tells_reply : answer_of own.line ≡ Some end.reply)
+    (entrant : end.entrant ≡ entrant_of own) (is : seen after ≡ ended (seen before) actor) where
+  action_ends : action_of (seen before) own ≡ act.End end.reply
+  action_ends = ends_so (seen before) own own.line end.reply tells_reply
+
+  pub ends : (operation : Operation) → operation_of (seen before) actor ≡ Some operation →
+      went (seen before) actor operation (action_of (seen before) operation) ≡ (outcome.Ended end.entrant.id end.reply, seen after)
+  ends operation found =
+      ap (λ (o : Operation). went (seen before) actor o (action_of (seen before) o)) (same_Some operation own (sym found ∙ there))
+      ∙ ap (went (seen before) actor own) action_ends
+      ∙ ap (λ (e : Entrant). (outcome.Ended e.id end.reply, ended (seen before) actor)) (sym entrant)
+      ∙ ap (λ (s : State). (outcome.Ended end.entrant.id end.reply, s)) (sym is)
+
+  pub end_told : TellsEnd (seen before) actor end
+  end_told =
+      ap (told_of (seen before) actor) there ∙ ap (told_by (seen before) actor own) action_ends ∙ ap (λ (e : Entrant). told.Ended actor e end.reply) (sym entrant)

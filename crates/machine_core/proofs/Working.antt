@@ -1,10 +1,7 @@
 -- How little the parts of a step note and look at, and what that makes of the whole step.
-use Rattle.std.proofs.Common.{arith, ◌≡◌, ℕ, ◌+◌, ◌-◌, ◌*◌, ◌≤◌, ◌^◌, Bool, true, false, List, [], length, drop, Option, Some, None, refl, sym, ap, subst, ◌∙◌}
+use Rattle.std.proofs.Common.{arith, ◌≡◌, ℕ, ◌+◌, ◌-◌, ◌*◌, ◌≤◌, ◌^◌, List, [], length, drop, Option, Some, None, refl, sym, ap, subst, ◌∙◌}
 use Rattle.std.specs.Prelude.{slice_get}
 use Rattle.std.proofs.lemmas.Option.{same_Some}
-use Rattle.ctrie_base.specs.declared.kinds.Kind.{Kind}
-use Rattle.ctrie_base.specs.declared.kinds.Kind.TheVariants as kind
-use Rattle.slot_arena.specs.declared.refs.Ref.{Ref}
 use Rattle.slot_arena.specs.Ticking.{TakesUpTo}
 use Rattle.epochs.specs.declared.limbo.Swept.{Swept}
 use Rattle.epochs.specs.declared.limbo.Swept.TheVariants as swept
@@ -21,8 +18,8 @@ use Rattle.machine_core.specs.declared.parts.Actor.{Actor}
 use Rattle.machine_core.specs.declared.parts.Parts.{Parts}
 use Rattle.machine_core.specs.declared.parts.UnderWay.{UnderWay}
 use Rattle.machine_core.specs.Beginnings.{Leaves}
-use Rattle.machine_core.specs.Bounds.{IsOfRun}
-use Rattle.machine_core.specs.Going.{NotesCommit, NotesKind, Steps}
+use Rattle.proof_straight.specs.Resting.{IsOfRun}
+use Rattle.machine_core.specs.Going.{Steps}
 use Rattle.machine_core.specs.Keeping.{Replaces}
 use Rattle.machine_core.specs.Seen.{operation_at, seen, under_way_of}
 use Rattle.machine_core.specs.Work.{ActsLittle, NotesUpTo, WorksLittle, WorksUpTo, crossing, held_by, ticks_of_a_step, worked}
@@ -35,13 +32,6 @@ use Rattle.machine_core.proofs.Kept.{operation_there, seat_of}
 -- limbo, notes and ticks are as before
 pub still : (before after : Memory) → after.limbo ≡ before.limbo → after.noted ≡ before.noted → after.ticks ≡ before.ticks → NotesUpTo 0 0 before after
 still before after limbo noted ticks = record { limbo = limbo; few = omega (arith, ap length noted); ticks = (omega (arith, ticks), omega (arith, ticks)) }
-
-pub still_after : (most looks : ℕ) (before middle after : Memory) → NotesUpTo most looks before middle → NotesUpTo 0 0 middle after → NotesUpTo most looks before after
-still_after most looks before middle after little same = record {
-  limbo = same.limbo ∙ little.limbo;
-  few = omega (arith, same.few, little.few);
-  ticks = (omega (arith, same.ticks.0, little.ticks.0), omega (arith, same.ticks.1, little.ticks.1));
-}
 
 -- how many the actor's operation holds
 held_there : (parts : Parts) (actor : ℕ) (u : UnderWay) → under_way_of parts actor ≡ Some u → (i : ℕ) (P : Actor → Actor → Type 0) (after : List Actor) → i ≡ actor - 1 →
@@ -67,23 +57,6 @@ steps_little before after actor u taken runs steps =
     let held = held_there before actor u runs (actor - 1) _ _ refl steps.actors in
     let acts = (steps.actors.does.does.changes (seen before) (operation_at before.table seat.found.programs u)).acts in
     record { limbo = acts.epochs.0; few = omega (arith, acts.few, held); ticks = (acts.ticks.0, omega (arith, acts.ticks.1, held)) }
-
-same_little : (before after : Parts) → after.heap ≡ before.heap → NotesUpTo 0 0 before.heap after.heap
-same_little before after same =
-    still before.heap after.heap (ap (λ (m : Memory). m.limbo) same) (ap (λ (m : Memory). m.noted) same) (ap (λ (m : Memory). m.ticks) same)
-
--- what is noted of it
-pub commit_little : (before : Parts) (main : Ref) (after : Parts) → NotesCommit before main after → NotesUpTo 0 0 before.heap after.heap
-commit_little before main after notes = same_little before after (ap (λ (p : Parts). p.heap) notes.rest)
-
-pub kind_little : (k : Kind) (counts : Bool) (before : Parts) (actor : ℕ) (fresh : Ref) (after : Parts) → NotesKind k counts before actor fresh after → NotesUpTo 0 0 before.heap after.heap
-kind_little kind.SwapMain false before actor fresh after notes =
-    let same = ap (λ (p : Parts). p.heap) notes.0 in
-    still before.heap after.heap (ap (λ (m : Memory). m.limbo) same) (ap (λ (m : Memory). m.noted) same) (ap (λ (m : Memory). m.ticks) same)
-kind_little kind.SwapMain true before actor fresh after notes = same_little before after (ap (λ (p : Parts). p.heap) notes)
-kind_little kind.SwapRoot counts before actor fresh after notes = same_little before after (ap (λ (p : Parts). p.heap) notes.rest)
-kind_little kind.Make counts before actor fresh after notes = same_little before after (ap (λ (p : Parts). p.heap) notes.rest)
-kind_little k counts before actor fresh after notes = same_little before after (ap (λ (p : Parts). p.heap) notes)
 
 -- an end
 pub left_little : (before : Parts) (actor : ℕ) (u : UnderWay) (middle after : Memory) (actors : List Actor) → under_way_of before actor ≡ Some u →

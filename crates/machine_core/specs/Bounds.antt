@@ -1,36 +1,46 @@
 -- What bounds the numbers of a machine, and what a step that may lack memory comes to.
-use Rattle.std.specs.Prelude.{◌≡◌, ℕ, ◌+◌, ◌≤◌, ◌⊎◌, true, List, length, Some, Result, Ok, Err}
+use Rattle.std.specs.Prelude.{◌≡◌, ℕ, ◌+◌, ◌≤◌, ◌⊎◌, true, length, Option, Some, None, Result, Ok, Err}
 use Rattle.ctrie_base.specs.declared.refusals.Refusal.{Refusal}
 use Rattle.ctrie_base.specs.declared.refusals.Refusal.TheVariants as refuse
-use Rattle.history.specs.Histories.{begun}
 use Rattle.machine_model.specs.declared.operations.Operation.{Operation}
+use Rattle.machine_model.specs.declared.steps.Bounds.{Bounds}
 use Rattle.machine_model.specs.declared.steps.Outcome.{Outcome}
 use Rattle.machine_model.specs.declared.steps.Step.{Step}
-use Rattle.machine_model.specs.States.{State, step_limit, operation_of}
+use Rattle.machine_model.specs.Calls.{needs_read_only}
+use Rattle.machine_model.specs.States.{State, operation_of}
 use Rattle.machine_model.specs.Counting.{settled}
-use Rattle.machine_model.specs.Machine.{Answer, next, run, is_taken_step, AreLimits}
+use Rattle.machine_model.specs.Machine.{Answer, next, is_taken_step, longest_life, AreBounds}
 
--- a run of these steps leads to the state, and its limits are in range
-pub record IsOfRun (state : State) : Type 0 where
-  pub steps : List Step
-  pub is : state ≡ run state.limits steps
-  pub limits : AreLimits state.limits
-
--- no number outgrows its type: most grow by at most 1 in each step, of which there are at most 2^40
+-- no number outgrows its type: most grow by at most 1 in each step, of which there are at most 2^47
 pub record IsBounded (state : State) : Type 0 where
   pub slots : length state.heap.slots ≤ 65536
-  pub steps : state.steps ≤ step_limit
+  pub steps : state.steps ≤ longest_life
   pub births : state.heap.births ≤ state.steps + 2
   pub generations : state.generations ≤ state.steps + 1
   pub epoch : state.epoch ≤ state.steps
   pub attempts : (actor : ℕ) (operation : Operation) → operation_of state actor ≡ Some operation → operation.attempt ≤ state.steps
-  pub begins : begun state.events ≤ state.steps
+  pub begins : state.begun ≤ state.steps
 
--- What a step comes to, by what the definition answers. Where it is taken, its outcome and the state are those. Where it is
--- refused nothing has changed, and the refusal is that of the definition, or memory was lacking for a step that isn't denied.
-abbrev pub Applies : Result Outcome Refusal → State → Answer → State → Type 0
-Applies (Ok outcome) before answer after = answer ≡ Ok (outcome, after)
-Applies (Err refusal) before answer after = (after ≡ before) × ((answer ≡ Err refusal) ⊎ ((refusal ≡ refuse.Memory) × (is_taken_step answer ≡ true)))
+-- the bounds are out of range, or memory was lacking for bounds in range
+abbrev pub RefusesBounds : Bounds → Refusal → Type 0
+RefusesBounds bounds refusal = ((¬ AreBounds bounds) × (refusal ≡ refuse.BadLimits)) ⊎ (AreBounds bounds × (refusal ≡ refuse.Memory))
+
+-- What a step comes to, by what the definition answers: where it is taken, its outcome and the state are those; where it is
+-- refused nothing has changed, and the refusal is that of the definition.
+abbrev pub Answers : Result Outcome Refusal → State → Answer → State → Type 0
+Answers (Ok outcome) before answer after = answer ≡ Ok (outcome, after)
+Answers (Err refusal) before answer after = (after ≡ before) × (answer ≡ Err refusal)
+
+-- the actor runs an operation that answers a list, or the number of its elements
+abbrev pub Walks : Option Operation → Type 0
+Walks None = ⊥
+Walks (Some operation) = needs_read_only operation.call ≡ true
+
+-- The same of the actor's step, which may lack memory besides: it isn't denied then, and its operation is one that walks over all pairs.
+abbrev pub Applies : Result Outcome Refusal → State → ℕ → Answer → State → Type 0
+Applies (Ok outcome) before actor answer after = answer ≡ Ok (outcome, after)
+Applies (Err refusal) before actor answer after =
+    (after ≡ before) × ((answer ≡ Err refusal) ⊎ ((refusal ≡ refuse.Memory) × (is_taken_step answer ≡ true) × Walks (operation_of before actor)))
 
 -- The step comes to this outcome, and after leads to what the definition answers once limbo is brought up to date and the
 -- step is counted.

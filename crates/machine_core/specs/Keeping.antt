@@ -1,24 +1,16 @@
 -- What the parts of a machine keep, beside the state that they hold, between steps and in the midst of one.
-use Rattle.std.specs.Prelude.{◌≡◌, ℕ, ◌+◌, ◌≤◌, List, [], length, slice_get, slice_index, slice_set, slice_index_or, Some, None}
+use Rattle.std.specs.Prelude.{◌≡◌, ℕ, ◌+◌, List, [], length, slice_get, slice_set, slice_index_or, Some, None}
 use Rattle.ctrie_base.specs.declared.hashes.HashKind.{HashKind}
-use Rattle.history.specs.Histories.{begun}
-use Rattle.slot_arena.specs.declared.refs.Ref.{Ref}
-use Rattle.slot_arena.specs.declared.nodes.Prev.TheVariants as prev
-use Rattle.slot_arena.specs.Heaps.{prev_at}
-use Rattle.slot_arena.specs.Refs.{slot_of}
-use Rattle.epochs.specs.Memories.{Memory}
 use Rattle.machine_model.specs.declared.operations.Operation.{Operation}
-use Rattle.machine_model.specs.declared.reading.SwapLine.{SwapLine}
 use Rattle.machine_model.specs.declared.roots.Descriptor.{Descriptor}
 use Rattle.machine_model.specs.declared.roots.RootWord.TheVariants.{Offer}
 use Rattle.machine_model.specs.States.{State, handle_limit, operation_of}
 use Rattle.machine_core.specs.Beneath.rdcss_root.specs.Tables.{Table, word_in}
 use Rattle.running.specs.Places.{IsSound}
-use Rattle.machine_core.specs.Beneath.proof_commits.specs.Laws.{IsInSwap}
-use Rattle.machine_core.specs.Beneath.proof_memory.specs.Laws.{IsInUse}
 use Rattle.machine_core.specs.declared.parts.Actor.{Actor}
 use Rattle.machine_core.specs.declared.parts.Parts.{Parts}
 use Rattle.machine_core.specs.declared.parts.UnderWay.{UnderWay}
+use Rattle.proof_straight.specs.Resting.{IsOfRun}
 use Rattle.machine_core.specs.Numbering.{KnowsNumbers}
 use Rattle.machine_core.specs.Seen.{seen}
 use Rattle.machine_core.specs.Ties.{IsTied}
@@ -52,19 +44,11 @@ KnowsOfferers table state =
     (handle : ℕ) (offer : Descriptor) → word_in table handle ≡ Offer offer → (actor : ℕ) (operation : Operation) →
     operation_of state actor ≡ Some operation → operation.id ≡ offer.operation → slice_index_or table.offerers handle 0 ≡ actor
 
--- the table is one of a machine with so many actors, and no offer was carried out of which no note was taken
+-- the table is one of a machine with so many actors, and no offer was carried out of which nothing was told
 pub record IsNoted (table : Table) (actors : ℕ) : Type 0 where
   pub marks : length table.marks ≡ actors + 1
   pub offerers : length table.offerers ≡ handle_limit
   pub carried : table.carried ≡ None
-
--- ---- pending nodes
-
--- beside a pending node stands the actor who swapped it in
-abbrev pub KnowsOwners : Memory → State → Type 0
-KnowsOwners memory state =
-    (main replaced : Ref) → IsInUse memory.heap main → prev_at memory.heap main ≡ prev.Pending replaced → (actor : ℕ) (operation : Operation) (at before : Ref) (l : SwapLine) →
-    operation_of state actor ≡ Some operation → IsInSwap operation at before main l → slice_index memory.owners (slot_of main) ≡ actor
 
 -- ---- all
 
@@ -73,9 +57,10 @@ pub record IsKept (parts : Parts) : Type 0 where
   pub seats : AreSeated parts.limits.hash parts.actors.items
   pub noted : IsNoted parts.table parts.limits.actors
   pub offerers : KnowsOfferers parts.table (seen parts)
-  pub owners : KnowsOwners parts.heap (seen parts)
   pub numbers : KnowsNumbers parts.handles (seen parts)
-  pub generations : parts.journal.chronicle.generations ≡ parts.generations
-  pub begun_are : parts.begun ≡ begun parts.journal.events.items
-  -- the commit of each node can be noted
-  pub slots : parts.limits.slots ≤ parts.commits.slots
+
+-- the parts of a core between two steps: a run leads to their state, all is kept, and nothing is left to settle
+pub record IsCore (parts : Parts) : Type 0 where
+  pub run : IsOfRun (seen parts)
+  pub kept : IsKept parts
+  pub settled : parts.heap.noted ≡ []

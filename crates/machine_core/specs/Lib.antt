@@ -1,12 +1,14 @@
-pub mod Beneath
 pub mod Beginnings
+pub mod Beneath
 pub mod Bounds
 pub mod Finding
 pub mod Going
 pub mod Keeping
 pub mod Numbering
+pub mod Rooming
 pub mod Seen
 pub mod Starting
 pub mod Ties
+pub mod Told
 pub mod Walking
 pub mod Work

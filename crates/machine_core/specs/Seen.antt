@@ -18,11 +18,9 @@ operation_at table p u = record {
   epoch = u.epoch;
   private = p.key.work.private;
   opens = u.job.opens;
-  attempt = p.snap.attempt;
+  attempt = p.copy.attempt;
   is_marked = slice_index_or table.marks u.job.actor false;
   generation = generation_in u.program p;
-  read_at = u.read_at;
-  moment = u.moment;
   line = line_for u.program p;
 }
 
@@ -44,10 +42,7 @@ seen parts = record {
   cursor = parts.heap.cursor;
   roots = parts.table.roots;
   actors = actors_seen parts.table parts.actors.items;
-  commits = parts.commits.commits;
-  closings = parts.journal.chronicle.closings;
-  places = parts.journal.chronicle.places;
-  events = parts.journal.events.items;
+  begun = parts.begun;
   steps = parts.steps;
 }
 

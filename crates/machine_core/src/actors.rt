@@ -1,6 +1,7 @@
 //! Actors, and what they run.
 
-ghost use Rattle.std.specs.Prelude.{◌≡◌, is_some, option_map, Some};
+ghost use Rattle.std.specs.Prelude.{◌≡◌, is_some, option_and_then, option_map, Some, IfOk, IsOkUnless};
+ghost use Rattle.ctrie_base.specs.declared.refusals.Refusal.TheVariants.{Memory};
 ghost use Rattle.std.specs.List.{list_any};
 ghost use Rattle.machine_model.specs.Machine.{is_actor, is_busy, next_kind};
 ghost use Rattle.machine_model.specs.Operations.{action_of, kind_of};
@@ -10,10 +11,14 @@ ghost use Rattle.running.specs.Places.{IsSound};
 ghost use Rattle.machine_core.specs.declared.parts.UnderWay.{UnderWay as AnUnderWay};
 ghost use Rattle.machine_core.specs.Keeping.{AreSeated};
 ghost use Rattle.machine_core.specs.Seen.{operation_seen, seen};
+ghost use Rattle.machine_core.specs.Told.{reply_in};
+ghost use Rattle.machine_core.specs.Beneath.operate.specs.Places.{answer_of};
 
 use crate::parts::{Actor, Parts};
-use ctrie_base::Kind;
+use ctrie_base::{Kind, Refusal};
+use history::Reply;
 use running::Roots;
+use std::alloc::AllocError;
 
 /// Whether the actor is one of the machine's.
 pub fn is_actor(parts: &Parts, actor: u8) -> bool
@@ -41,6 +46,27 @@ fn kind_for(actor: &Actor) -> Option<Kind>
     match actor.under_way {
         None => None,
         Some(under_way) => Some(actor.programs.next_kind(under_way.program)),
+    }
+}
+
+/// A copy of the reply with which the actor's operation ends by its next step, if it does. `Memory` is the only refusal.
+pub fn copied_reply(parts: &Parts, actor: u8) -> Result<Option<Reply>, Refusal>
+    ensures reply { IfOk result (λ reply. reply ≡ reply_in (seen parts.now) actor) }
+    ensures only_memory { IsOkUnless result Memory }
+{
+    match parts.actor(actor) {
+        None => Ok(None),
+        Some(found) => Ok(copied_of(found)?),
+    }
+}
+
+/// The same of this actor.
+fn copied_of(actor: &Actor) -> Result<Option<Reply>, AllocError>
+    ensures { (table : Table) → IfOk result (λ reply. reply ≡ option_and_then (λ operation. answer_of operation.line) (operation_seen table actor.now)) }
+{
+    match actor.under_way {
+        None => Ok(None),
+        Some(under_way) => actor.programs.copy_reply(under_way.program),
     }
 }
 

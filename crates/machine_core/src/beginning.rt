@@ -1,26 +1,26 @@
 //! How an operation begins.
 
-ghost use Rattle.std.specs.Prelude.{◌≡◌, ◌<◌, ℕ, length, vec_len, vec_capacity, unwrap_or, Some, None, if◌then◌else◌};
+ghost use Rattle.std.specs.Prelude.{◌≡◌, ℕ, unwrap_or, Some, None, if◌then◌else◌};
 ghost use Rattle.machine_model.specs.States.{root_at};
 ghost use Rattle.machine_model.specs.Calls.{handle_of, opens_handle};
-ghost use Rattle.machine_model.specs.Machine.{access_of, begin_denial, new_operation, handle_closed, with_begin, least_free};
+ghost use Rattle.machine_model.specs.Machine.{access_of, begin_denial, begun_operation, handle_closed, with_begin, least_free};
 ghost use Rattle.machine_core.specs.Beneath.rdcss_root.specs.Holding.{IsReady, Moves};
 ghost use Rattle.machine_core.specs.Beneath.rdcss_root.specs.Tables.{word_in};
 ghost use Rattle.machine_model.specs.declared.roots.Descriptor.{Descriptor};
 ghost use Rattle.machine_model.specs.declared.roots.RootWord.TheVariants.{Offer};
 ghost use Rattle.running.specs.Places.{call_for};
 ghost use Rattle.machine_core.specs.Beginnings.{Begins};
-ghost use Rattle.machine_core.specs.Bounds.{IsOfRun};
-ghost use Rattle.machine_core.specs.Keeping.{IsKept, Replaces};
+ghost use Rattle.machine_core.specs.Keeping.{IsCore, IsKept};
 ghost use Rattle.machine_core.specs.Numbering.{KnowsNumbers};
 ghost use Rattle.machine_core.specs.Seen.{seen};
+ghost use Rattle.machine_core.specs.Told.{TellsBegin};
 ghost use Rattle.machine_core.specs.Work.{NotesUpTo};
 
 use crate::calls::{is_close, opens_handle, program_of};
 use crate::handles::{least_free, note_begin};
 use crate::parts::{Actor, Parts, UnderWay};
-use crate::placing::on_time;
-use history::{Access, Call, Event};
+use crate::telling::Begun;
+use history::{Access, Call};
 use running::Job;
 
 /// The access of an open handle.
@@ -48,7 +48,6 @@ fn new_under_way(parts: &Parts, actor: u8, call: Call) -> UnderWay
     ensures job { result.job ≡ record { id = parts.now.begun; actor = actor; handle = handle_of call; opens = if opens_handle call then Some (least_free (seen parts.now)) else None } }
     ensures call { call_for (handle_of call) result.program ≡ call }
     ensures epoch { result.epoch ≡ parts.now.heap.epoch }
-    ensures moment { (result.read_at ≡ 0) × (result.moment ≡ 0) }
 {
     UnderWay {
         job: Job {
@@ -59,73 +58,53 @@ fn new_under_way(parts: &Parts, actor: u8, call: Call) -> UnderWay
         },
         program: program_of(call),
         epoch: parts.heap.epoch(),
-        read_at: 0,
-        moment: 0,
     }
 }
 
-/// A close takes the handle away as it begins, and enters the order there.
+/// A close takes the handle away as it begins.
 #[tactic(auto, using(crate::proofs::Knows::closed_word))]
 fn close_handle(parts: &mut Parts, call: Call)
-    requires to_add { 0 < parts.old.journal.chronicle.room_to_add }
-    requires of_id { parts.old.begun < parts.old.journal.chronicle.ids }
     requires ready { IsReady parts.old.heap parts.old.table.roots 4 }
-    ensures closed { seen parts.new ≡ handle_closed (seen parts.old) call parts.old.begun }
-    ensures same { parts.new ≡ record parts.old { heap = parts.new.heap; table = record parts.old.table { roots = parts.new.table.roots }; journal = parts.new.journal } }
+    ensures closed { seen parts.new ≡ handle_closed (seen parts.old) call }
+    ensures same { parts.new ≡ record parts.old { heap = parts.new.heap; table = record parts.old.table { roots = parts.new.table.roots } } }
     ensures moves { Moves parts.old.heap parts.new.heap parts.old.table.roots parts.new.table.roots 4 }
     ensures words { (handle : ℕ) → (offer : Descriptor) → word_in parts.new.table handle ≡ Offer offer → word_in parts.old.table handle ≡ Offer offer }
-    ensures events { parts.new.journal.events ≡ parts.old.journal.events }
-    ensures generations { parts.new.journal.chronicle.generations ≡ parts.old.journal.chronicle.generations }
 {
     if is_close(call) {
         parts.table.put(&mut parts.heap, call.handle(), None);
-        let place = on_time(parts.steps, false, parts.begun);
-        parts.journal.chronicle.add(place);
     }
 }
 
-/// The actor begins this operation.
-fn set_out(actor: &mut Actor, under_way: UnderWay, access: Access)
-    ensures { Begins under_way access actor.old actor.new }
-{
-    actor.programs.begin(under_way.program, access);
-    actor.under_way = Some(under_way);
+impl Actor {
+    /// Begins this operation.
+    fn set_out(&mut self, under_way: UnderWay, access: Access)
+        ensures { Begins under_way access self.old self.new }
+    {
+        self.programs.begin(under_way.program, access);
+        self.under_way = Some(under_way);
+    }
 }
 
-/// The actor with this index begins this operation.
-fn seat(actors: &mut Vec<Actor>, index: usize, under_way: UnderWay, access: Access)
-    requires { index < length actors.old.items }
-    ensures { Replaces actors.old.items index (Begins under_way access) actors.new.items }
-{
-    set_out(&mut actors[index], under_way, access);
-}
-
-/// Lets the operation begin: the actor runs it, and records the epoch. There is room for what a begin adds to
-/// the order and to the history.
-pub fn begin_operation(parts: &mut Parts, actor: u8, call: Call)
-    requires run { IsOfRun (seen parts.old) }
-    requires kept { IsKept parts.old }
+/// Lets the operation begin: the actor runs it, and records the epoch.
+pub fn begin_operation(parts: &mut Parts, actor: u8, call: Call) -> Begun
+    requires core { IsCore parts.old }
     requires allowed { begin_denial (seen parts.old) actor call ≡ None }
-    requires to_add { 0 < parts.old.journal.chronicle.room_to_add }
-    requires of_id { parts.old.begun < parts.old.journal.chronicle.ids }
-    requires events { vec_len parts.old.journal.events < vec_capacity parts.old.journal.events }
-    ensures begun { seen parts.new ≡ with_begin (seen parts.old) actor call
-        (new_operation (seen parts.old) call (unwrap_or (access_of (root_at (seen parts.old) (handle_of call))) Access.Writable)) }
+    ensures begun { seen parts.new ≡ with_begin (seen parts.old) actor call (begun_operation (seen parts.old) call) }
+    ensures tells { TellsBegin (seen parts.old) actor call result }
     ensures kept { IsKept parts.new }
     ensures work { NotesUpTo 8 8 parts.old.heap parts.new.heap }
 {
     let access = access_for(parts, call);
     let under_way = new_under_way(parts, actor, call);
     close_handle(parts, call);
-    parts.journal.events.push_reserved(Event::Begin {
-        id: under_way.job.id,
-        actor,
-        call,
-        opens: under_way.job.opens,
-    });
     parts.heap.pin(actor);
     parts.table.unmark(actor);
-    seat(&mut parts.actors, actor as usize - 1, under_way, access);
+    let index = actor as usize - 1;
+    parts.actors[index].set_out(under_way, access);
     note_begin(&mut parts.handles, call, under_way.job.opens);
     parts.begun += 1;
+    Begun {
+        id: under_way.job.id,
+        opens: under_way.job.opens,
+    }
 }

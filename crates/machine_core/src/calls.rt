@@ -1,11 +1,11 @@
 //! What calls name, and their programs.
 
-ghost use Rattle.std.specs.Prelude.{◌≡◌};
+ghost use Rattle.std.specs.Prelude.{◌≡◌, ◌<◌, ◌^◌};
 ghost use Rattle.machine_model.specs.Calls.{handle_of, key_of, needs_writable, needs_read_only, opens_handle, is_close};
 ghost use Rattle.running.specs.Places.{call_for};
 
 use history::Call;
-use running::{KeyCall, Program, SnapCall};
+use running::{CopyCall, KeyCall, Program, WalkCall};
 
 /// The call without the handle.
 pub fn program_of(call: Call) -> Program
@@ -26,17 +26,17 @@ pub fn program_of(call: Call) -> Program
             key,
             expected: value,
         }),
-        Call::Clear { .. } => Program::Snap(SnapCall::Clear),
-        Call::Snapshot { .. } => Program::Snap(SnapCall::Snapshot),
-        Call::Freeze { .. } => Program::Snap(SnapCall::Freeze),
+        Call::Clear { .. } => Program::Copy(CopyCall::Clear),
+        Call::Snapshot { .. } => Program::Copy(CopyCall::Snapshot),
+        Call::Freeze { .. } => Program::Copy(CopyCall::Freeze),
         Call::Close { .. } => Program::Close,
-        Call::Entries { .. } => Program::Entries,
-        Call::Count { .. } => Program::Count,
+        Call::Entries { .. } => Program::Walk(WalkCall::Entries),
+        Call::Count { .. } => Program::Walk(WalkCall::Count),
     }
 }
 
 /// The key of a call on one key.
-pub fn key_of(call: Call) -> u64
+fn key_of(call: Call) -> u64
     ensures { result ≡ key_of call }
 {
     match call {
@@ -49,6 +49,14 @@ pub fn key_of(call: Call) -> u64
         | Call::RemoveIf { key, .. } => key,
         _ => 0,
     }
+}
+
+/// A law: the key of a call has 64 bits, since it is one of the program's. It does nothing.
+#[inline(always)]
+pub fn key_fits(call: Call)
+    ensures { key_of call < 2 ^ 64 }
+{
+    let _ = key_of(call);
 }
 
 /// Whether the call needs a writable handle: it may change the map, or it copies it.

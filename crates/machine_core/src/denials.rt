@@ -3,7 +3,7 @@
 ghost use Rattle.std.specs.Prelude.{◌≡◌, true};
 ghost use Rattle.machine_model.specs.Machine.{is_spent, is_access, begin_denial, go_denial, denial_of, next_kind};
 ghost use Rattle.machine_model.specs.declared.steps.Step.TheVariants as steps;
-ghost use Rattle.machine_core.specs.Bounds.{IsOfRun};
+ghost use Rattle.proof_straight.specs.Resting.{IsOfRun};
 ghost use Rattle.machine_core.specs.Numbering.{KnowsNumbers};
 ghost use Rattle.machine_core.specs.Seen.{seen};
 ghost use Rattle.machine_core.specs.Walking.{goes_on};
@@ -17,14 +17,11 @@ use handle_table::HANDLE_LIMIT;
 use history::{Access, Call};
 use machine_model::Step;
 
-/// How many steps a machine takes.
-const STEP_LIMIT: u64 = 1 << 40;
-
 /// Whether the machine has taken all its steps.
 fn is_spent(parts: &Parts) -> bool
     ensures { result ≡ is_spent (seen parts.now) }
 {
-    STEP_LIMIT <= parts.steps
+    parts.limits.steps <= parts.steps
 }
 
 /// Whether a handle is open with this access.

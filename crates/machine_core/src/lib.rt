@@ -1,14 +1,15 @@
-//! The machine's state on the heap that counts references, and one step of it: `Core::apply` computes what the
-//! definition's `next` (`machine_model`, `Machine`) says. An operation stays in its place and is changed there, by
-//! its programs (`running`); what they don't know of it stands beside them (`UnderWay`).
+//! The machine's state on the heap that counts references, and its steps: what `Core::{begin, walk, end, sweep}` do is what
+//! the definition's `next` (`machine_model`, `Machine`) says, and what they tell is what its `told_in` (`Tellings`) says. An
+//! operation stays in its place and is changed there, by its programs (`running`); what they don't know of it stands beside
+//! them (`UnderWay`). Nothing is recorded of what was done.
 //!
 //! | Module | What | Of the definition |
 //! |---|---|---|
 //! | `parts` | all that a machine remembers | `States` |
-//! | `beginning`, `going`, `noting`, `finishing`, `sweeping` | a begin, a step of an operation, its end, a step of the sweep | `Machine`, `Acting` |
+//! | `beginning`, `going`, `ending`, `sweeping` | a begin, a step of an operation, its end, a step of the sweep | `Machine`, `Acting` |
+//! | `telling` | what steps tell | `Tellings` |
 //! | `stepping`, `denials`, `settling` | denials first, then the step, then limbo | `Machine`, `Counting` |
-//! | `placing` | the places in the order | `Orders` |
-//! | `room`, `reserving` | memory for what a step adds, or many | none: the definition knows no memory |
+//! | `rooming` | memory for what a walk meets | none: the definition knows no memory |
 #![tactic(auto)]
 
 mod actors;
@@ -16,23 +17,21 @@ mod beginning;
 mod calls;
 mod contents;
 mod denials;
+mod ending;
 mod finding;
-mod finishing;
 mod going;
 mod handles;
 mod machine;
 mod mains;
-mod noting;
 mod parts;
-mod placing;
-mod reserving;
-mod room;
+mod rooming;
 mod settling;
 mod starting;
 mod stepping;
 mod sweeping;
+mod telling;
 
-pub use calls::key_of;
+pub use calls::key_fits;
 pub use machine::Core;
-pub use places::touch_room;
-pub use proof_records::one_place_a_step;
+pub use proof_records::{one_place_a_step, tellings_fit};
+pub use telling::{Begun, Ended, Stepped};

@@ -1,31 +1,33 @@
 //! The core as one value.
 
-ghost use Rattle.std.specs.Prelude.{◌≡◌, true, length, option_map, None, Some, IsSome, IfOk, IfErr, OnErr, OnOk, IsOkUnless};
+ghost use Rattle.std.specs.Prelude.{◌≡◌, false, true, length, option_map, None, Some, IsSome, IfOk, IfErr, IsOkUnless, OnErr, OnOk};
 ghost use Rattle.slot_arena.specs.Heaps.{in_use};
 ghost use Rattle.machine_model.specs.declared.steps.Step.TheVariants as steps;
 ghost use Rattle.machine_model.specs.States.{first_state, root_at};
-ghost use Rattle.machine_model.specs.Orders.{order_of};
 ghost use Rattle.machine_model.specs.Contents.{content_at};
-ghost use Rattle.machine_model.specs.Machine.{next, is_running, is_busy, next_kind, runs_on, denial_of, is_access, access_of, handles_taken, AreLimits};
-ghost use Rattle.machine_core.specs.Bounds.{Applies};
+ghost use Rattle.machine_model.specs.Machine.{next, is_running, is_busy, next_kind, runs_on, denial_of, is_access, access_of, handles_taken, AreBounds};
+ghost use Rattle.machine_model.specs.Refusing.{RefusesContent};
+ghost use Rattle.machine_core.specs.Bounds.{Answers, Applies, RefusesBounds};
+ghost use Rattle.proof_straight.specs.Resting.{IsOfRun};
 ghost use Rattle.machine_core.specs.Finding.{found_along};
-ghost use Rattle.machine_core.specs.Walking.{goes_on, walked};
+ghost use Rattle.machine_core.specs.Told.{began, ended, reply_in, stepped, TellsBegin, TellsEnd, TellsStep};
+ghost use Rattle.machine_core.specs.Walking.{goes_on};
 ghost use Rattle.machine_core.specs.Work.{WorksLittle};
-ghost use Rattle.machine_model.specs.Refusing.{RefusesLimits, RefusesContent};
 
-use crate::actors::{is_busy, next_kind};
+use crate::actors::{copied_reply, is_busy, next_kind};
 use crate::contents::content_of;
-use crate::denials::{denial_of, is_access};
+use crate::denials::{begin_denial, denial_of, go_denial, is_access, sweep_denial, walk_denial};
 use crate::finding::value_of;
 use crate::going::goes_on;
 use crate::handles::{handles_taken, runs_on};
 use crate::parts::Parts;
-use crate::reserving::reserve;
-use crate::starting::{are_limits, first_parts};
-use crate::stepping::{take_step, walk};
+use crate::starting::{are_bounds, first_parts};
+use crate::stepping::{take_begin, take_end, take_walk};
+use crate::sweeping::sweep_once;
+use crate::telling::{Begun, Ended, Stepped};
 use ctrie_base::{Kind, Refusal, Ticks};
-use history::{Access, Event, Pairs};
-use machine_model::{Limits, Outcome, Step};
+use history::{Access, Call, Pairs, Reply};
+use machine_model::{Bounds, Outcome, Step};
 use std::alloc::Global;
 use std::marker::Model;
 
@@ -42,53 +44,43 @@ impl Drop for Core {
 }
 
 impl Model for Core {
-    ghost use Rattle.std.specs.Prelude.{◌≡◌, []};
-    ghost use Rattle.machine_core.specs.Bounds.{IsOfRun};
-    ghost use Rattle.machine_core.specs.Keeping.{IsKept};
-    ghost use Rattle.machine_core.specs.Seen.{seen};
+    ghost use Rattle.machine_core.specs.Keeping.{IsCore};
     ghost use Rattle.machine_core.specs.Work.{Worked, worked};
 
     ghost Value = { Worked };
 
     ghost view = { λ c. worked c.parts };
 
-    ghost invariant = { λ c. IsOfRun (seen c.parts) × IsKept c.parts × (c.parts.heap.noted ≡ []) };
+    ghost invariant = { λ c. IsCore c.parts };
 }
 
 impl Core {
-    /// A machine that has taken no step. The limits are checked first: `BadLimits` where one is out of
-    /// range; any other refusal is `Memory`.
-    pub fn new(alloc: Global, limits: Limits) -> Result<Core, Refusal>
-        ensures made { IfOk result (λ core. core.state ≡ first_state limits) }
-        ensures refused { IfErr result (λ refusal. RefusesLimits limits refusal) }
-        ensures in_range { OnOk result (AreLimits limits) }
+    /// A machine that has taken no step. The bounds are checked first: `BadLimits` where one is out of
+    /// range; any other refusal is `Memory`. It is all the memory that a machine takes, but for what its walks answer.
+    pub fn new(alloc: Global, bounds: Bounds) -> Result<Core, Refusal>
+        ensures made { IfOk result (λ core. core.state ≡ first_state bounds) }
+        ensures refused { IfErr result (λ refusal. RefusesBounds bounds refusal) }
+        ensures in_range { OnOk result (AreBounds bounds) }
     {
-        if !are_limits(limits) {
+        if !are_bounds(bounds) {
             return Err(Refusal::BadLimits);
         }
-        let parts = first_parts(alloc, limits)?;
+        let parts = first_parts(alloc, bounds)?;
         Ok(Core { parts })
     }
 
-    /// Makes room in the record for so many steps more, in memory that is written here: the first touch of fresh memory
-    /// costs more than a step. Nothing has changed then; `Memory` is the only refusal.
-    pub fn reserve(&mut self, steps: usize) -> Result<(), Refusal>
-        ensures same { self.new ≡ self.old }
-        ensures only_memory { IsOkUnless result Refusal.Memory }
-    {
-        reserve(&mut self.parts, steps)
-    }
-
-    /// Takes a step, or refuses it. After a refusal nothing has changed; `Memory` is the only one that the
-    /// definition doesn't give, and comes only where it gives none. It looks at the slots that the step is
-    /// about, and at no other: its work is bounded, however many slots, actors and handles there are.
-    #[inline(always)]
-    pub fn apply(&mut self, step: Step) -> Result<Outcome, Refusal>
-        ensures applies { Applies result self.old.state (next self.old.state step) self.new.state }
+    /// Begins an operation, or refuses to; the refusal is the definition's, and nothing has changed then. Each step looks at
+    /// the slots that it is about, and at no other: its work is bounded, however many slots, actors and handles there are.
+    pub fn begin(&mut self, actor: u8, call: Call) -> Result<Begun, Refusal>
+        ensures answers { Answers (began result) self.old.state (next self.old.state (steps.Begin actor call)) self.new.state }
+        ensures tells { IfOk result (λ begun. TellsBegin self.old.state actor call begun) }
         ensures work { OnOk result (WorksLittle self.old self.new) }
         ensures same { OnErr result (self.new ≡ self.old) }
     {
-        take_step(&mut self.parts, step)
+        match begin_denial(&self.parts, actor, call) {
+            Some(refusal) => Err(refusal),
+            None => Ok(take_begin(&mut self.parts, actor, call)),
+        }
     }
 
     /// Whether the actor's operation goes on behind its next step: it runs one, and that isn't its end.
@@ -99,31 +91,54 @@ impl Core {
         goes_on(&self.parts, actor)
     }
 
-    /// Takes a step of the actor's operation that isn't its end, or refuses it: as `apply` does, but what comes of it
-    /// is told by the step's kind alone.
+    /// Takes a step of the actor's operation that isn't its end, or refuses it. After a refusal nothing has changed. `Memory`
+    /// is the only one that the definition doesn't give: it comes only where the operation is a walk over all pairs.
     #[inline(always)]
-    pub fn walk(&mut self, actor: u8) -> Result<Kind, Refusal>
+    pub fn walk(&mut self, actor: u8) -> Result<Stepped, Refusal>
         requires { goes_on (next_kind self.old.state actor) ≡ true }
-        ensures applies { Applies (walked result) self.old.state (next self.old.state (steps.Go actor)) self.new.state }
+        ensures applies { Applies (stepped result) self.old.state actor (next self.old.state (steps.Go actor)) self.new.state }
+        ensures tells { IfOk result (λ stepped. TellsStep self.old.state actor stepped) }
         ensures work { OnOk result (WorksLittle self.old self.new) }
         ensures same { OnErr result (self.new ≡ self.old) }
     {
-        walk(&mut self.parts, actor)
+        match walk_denial(&self.parts, actor) {
+            Some(refusal) => Err(refusal),
+            None => take_walk(&mut self.parts, actor),
+        }
     }
 
-    /// Why the step is denied, where it is. `apply` answers the same.
+    /// Ends the actor's operation, where its next step is its end, or refuses to; the refusal is the definition's, and nothing
+    /// has changed then.
+    pub fn end(&mut self, actor: u8) -> Result<Ended, Refusal>
+        requires { goes_on (next_kind self.old.state actor) ≡ false }
+        ensures answers { Answers (ended result) self.old.state (next self.old.state (steps.Go actor)) self.new.state }
+        ensures tells { IfOk result (λ ended. TellsEnd self.old.state actor ended) }
+        ensures work { OnOk result (WorksLittle self.old self.new) }
+        ensures same { OnErr result (self.new ≡ self.old) }
+    {
+        match go_denial(&self.parts, actor) {
+            Some(refusal) => Err(refusal),
+            None => Ok(take_end(&mut self.parts, actor)),
+        }
+    }
+
+    /// Takes a step of the sweep, or refuses it; the refusal is the definition's, and nothing has changed then.
+    pub fn sweep(&mut self) -> Result<Outcome, Refusal>
+        ensures answers { Answers result self.old.state (next self.old.state steps.Sweep) self.new.state }
+        ensures work { OnOk result (WorksLittle self.old self.new) }
+        ensures same { OnErr result (self.new ≡ self.old) }
+    {
+        match sweep_denial(&self.parts) {
+            Some(refusal) => Err(refusal),
+            None => Ok(sweep_once(&mut self.parts)),
+        }
+    }
+
+    /// Why the step is denied, where it is.
     pub fn denial(&self, step: Step) -> Option<Refusal>
         ensures { result ≡ denial_of self.now.state step }
     {
         denial_of(&self.parts, step)
-    }
-
-    /// The order: the ids of operations by rising place. `Memory` is the only refusal.
-    pub fn order(&self) -> Result<Vec<u64>, Refusal>
-        ensures exact { IfOk result (λ order. order.items ≡ order_of self.now.state) }
-        ensures only_memory { IsOkUnless result Refusal.Memory }
-    {
-        self.parts.journal.chronicle.order()
     }
 
     /// What the map of an open handle holds, by rising key. `NoHandle` exactly where the handle isn't open;
@@ -137,13 +152,6 @@ impl Core {
             return Err(Refusal::NoHandle);
         }
         Ok(content_of(&self.parts, handle)?)
-    }
-
-    /// How often a place in the order was written or moved: once for each.
-    pub fn ticks(&self) -> &Ticks
-        ensures { result.now.count ≡ length self.now.state.places }
-    {
-        self.parts.journal.chronicle.ticks()
     }
 
     /// How much work was done: how often a link, a flag, a count, a note or an entry of a list of the heap was looked at.
@@ -166,13 +174,6 @@ impl Core {
         Ok(value_of(&self.parts, handle, key))
     }
 
-    /// The history.
-    pub fn events(&self) -> &[Event]
-        ensures { result.now ≡ self.now.state.events }
-    {
-        self.parts.journal.events.as_slice()
-    }
-
     /// The kind of the next step of the actor's operation, if it runs one.
     pub fn next_kind(&self, actor: u8) -> Option<Kind>
         ensures { result ≡ next_kind self.now.state actor }
@@ -180,13 +181,12 @@ impl Core {
         next_kind(&self.parts, actor)
     }
 
-    /// The history, handed out. It takes no memory.
-    pub fn into_events(self) -> Vec<Event>
-        ensures { result.items ≡ self.state.events }
+    /// A copy of the reply with which the actor's operation ends by its next step, if it does. `Memory` is the only refusal.
+    pub fn copy_reply(&self, actor: u8) -> Result<Option<Reply>, Refusal>
+        ensures reply { IfOk result (λ reply. reply ≡ reply_in self.now.state actor) }
+        ensures only_memory { IsOkUnless result Refusal.Memory }
     {
-        let Core { parts } = self;
-        let journal = parts.journal;
-        journal.events
+        copied_reply(&self.parts, actor)
     }
 
     /// Whether the actor runs an operation.
@@ -255,6 +255,13 @@ impl Core {
         self.parts.heap.epoch()
     }
 
+    /// How many generations were drawn.
+    pub fn generations(&self) -> u64
+        ensures { result ≡ self.now.state.generations }
+    {
+        self.parts.generations
+    }
+
     /// How many steps were taken.
     pub fn steps_taken(&self) -> u64
         ensures { result ≡ self.now.state.steps }
@@ -262,9 +269,10 @@ impl Core {
         self.parts.steps
     }
 
-    /// The limits.
-    pub fn limits(&self) -> Limits
-        ensures { result ≡ self.now.state.limits }
+    /// The bounds, which are in range: a run of steps leads to the state.
+    pub fn limits(&self) -> Bounds
+        ensures limits { result ≡ self.now.state.limits }
+        ensures of_run { IsOfRun self.now.state }
     {
         self.parts.limits
     }

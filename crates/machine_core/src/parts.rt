@@ -5,11 +5,10 @@ ghost use Rattle.machine_model.specs.States.{key_hash, root_at, word_at};
 ghost use Rattle.machine_model.specs.Machine.{access_of, is_running};
 ghost use Rattle.machine_core.specs.Seen.{actor_of, seen};
 
-use chronicle::{Chronicle, Commits};
 use epochs::Heap;
 use handle_table::Handles;
-use history::{Access, Event};
-use machine_model::{Limits, RootWord};
+use history::Access;
+use machine_model::{Bounds, RootWord};
 use running::{Job, Program, Programs, Roots};
 use std::alloc::Global;
 
@@ -20,10 +19,6 @@ pub struct UnderWay {
     pub program: Program,
     /// The epoch at its begin.
     pub epoch: u64,
-    /// The step of the last read or swap of a main word by a READ.
-    pub read_at: u64,
-    /// The first step from there on at which what its last READ gave was the logical main node.
-    pub moment: u64,
 }
 
 /// An actor. Its programs stay in their place from one operation to the next.
@@ -42,19 +37,10 @@ impl Drop for Actor {
     }
 }
 
-/// What is kept of operations that may have ended.
-#[derive(Drop)]
-pub struct Journal {
-    /// The steps in which generations were closed, and the places of operations in the order.
-    pub chronicle: Chronicle,
-    /// The history.
-    pub events: Vec<Event>,
-}
-
 /// All that a machine remembers.
 #[derive(Drop)]
 pub struct Parts {
-    pub limits: Limits,
+    pub limits: Bounds,
     /// The slots, with limbo, epochs, and the actors' records of them.
     pub heap: Heap,
     /// The next generation to be drawn.
@@ -64,9 +50,6 @@ pub struct Parts {
     pub actors: Vec<Actor>,
     /// Which handle numbers are taken, and how many operations run on each.
     pub handles: Handles,
-    /// The steps in which main nodes were committed.
-    pub commits: Commits,
-    pub journal: Journal,
     /// How many steps were taken.
     pub steps: u64,
     /// How many operations have begun: the id of the next one.

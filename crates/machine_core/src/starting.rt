@@ -1,36 +1,42 @@
 //! How a machine starts.
 
-ghost use Rattle.std.specs.Prelude.{◌≡◌, ◌≤◌, ◌↔◌, ℕ, IsTrue, [], ◌∷◌, replicate, None, Some, true, IfOk, OnOk, IsOkUnless};
-ghost use Rattle.slot_arena.specs.Arenas.{AreSlots, IsLive};
+ghost use Rattle.std.specs.Prelude.{◌≡◌, ◌↔◌, ℕ, IsTrue, [], ◌∷◌, replicate, None, Some, true, IfOk, OnOk, IsOkUnless};
+ghost use Rattle.slot_arena.specs.Arenas.{IsLive};
 ghost use Rattle.slot_arena.specs.Refs.{ref_to};
 ghost use Rattle.slot_arena.specs.Times.{times};
 ghost use Rattle.epochs.specs.Limbo.{limbo_after};
 ghost use Rattle.epochs.specs.Memories.{AreSizes};
 ghost use Rattle.handle_table.specs.Numbers.{no_numbers, with_taken};
 ghost use Rattle.machine_model.specs.States.{first_heap, first_state};
-ghost use Rattle.machine_model.specs.Machine.{AreLimits};
+ghost use Rattle.machine_model.specs.Machine.{AreBounds};
 ghost use Rattle.machine_core.specs.Beneath.rdcss_root.specs.Tables.{new_table, with_root_in};
 ghost use Rattle.machine_core.specs.Keeping.{IsKept};
 ghost use Rattle.machine_core.specs.Seen.{seen};
 ghost use Rattle.machine_core.specs.Starting.{AreIdle, IsIdle};
 
-use crate::parts::{Actor, Journal, Parts};
+use crate::parts::{Actor, Parts};
 use arrayvec::ArrayVec;
-use chronicle::{Chronicle, Commits};
 use ctrie_base::{HashKind, Refusal};
 use epochs::Heap;
 use handle_table::Handles;
 use history::Access;
-use machine_model::{Limits, Root, RootWord};
+use machine_model::{Bounds, Root, RootWord};
 use running::{Programs, Roots};
 use slot_arena::{Node, Ref};
 use std::alloc::{AllocError, Global};
 
-/// Whether the limits are in range.
-pub fn are_limits(limits: Limits) -> bool
-    ensures { IsTrue result ↔ AreLimits limits }
+/// How many steps a machine takes at most that lives long.
+const LONGEST_LIFE: u64 = 1 << 47;
+
+/// Whether the bounds are in range.
+pub fn are_bounds(bounds: Bounds) -> bool
+    ensures { IsTrue result ↔ AreBounds bounds }
 {
-    2 <= limits.slots && limits.slots <= 65_536 && 1 <= limits.actors && limits.actors <= 64
+    2 <= bounds.slots
+        && bounds.slots <= 65_536
+        && 1 <= bounds.actors
+        && bounds.actors <= 64
+        && bounds.steps <= LONGEST_LIFE
 }
 
 /// A heap of so many slots, of which the first two have an empty branch and over it the root of handle 0,
@@ -100,68 +106,47 @@ fn first_handles(alloc: Global) -> Result<Handles, AllocError>
     Ok(handles)
 }
 
-/// An actor who runs nothing.
-fn idle_actor(alloc: Global, hashes: HashKind) -> Result<Actor, Refusal>
-    ensures idle { IfOk result (IsIdle hashes) }
-    ensures only_memory { IsOkUnless result Refusal.Memory }
+/// An actor who runs nothing. It takes no memory.
+fn idle_actor(alloc: Global, hashes: HashKind) -> Actor
+    ensures { IsIdle hashes result }
 {
-    Ok(Actor {
-        programs: Programs::new(alloc, hashes)?,
+    Actor {
+        programs: Programs::new(alloc, hashes),
         under_way: None,
-    })
+    }
 }
 
 /// So many of them.
-fn idle_actors(alloc: Global, hashes: HashKind, actors: u8) -> Result<Vec<Actor>, Refusal>
-    ensures idle { IfOk result (λ idle. AreIdle hashes actors idle.items) }
-    ensures only_memory { IsOkUnless result Refusal.Memory }
+fn idle_actors(alloc: Global, hashes: HashKind, actors: u8) -> Result<Vec<Actor>, AllocError>
+    ensures { IfOk result (λ idle. AreIdle hashes actors idle.items) }
 {
     let mut idle = Vec::new(alloc);
     for _ in 0..actors {
-        let actor = idle_actor(alloc, hashes)?;
-        idle.push(actor)?;
+        idle.push(idle_actor(alloc, hashes))?;
     }
     Ok(idle)
 }
 
-/// No commits, with room for those of so many slots.
-fn first_commits(alloc: Global, slots: u32) -> Result<Commits, AllocError>
-    requires { AreSlots slots }
-    ensures commits { IfOk result (λ commits. commits.commits ≡ []) }
-    ensures slots { IfOk result (λ commits. slots ≤ commits.slots) }
-{
-    let mut commits = Commits::new(alloc);
-    commits.room_for(Ref::new(1, (slots - 1) as u16))?;
-    Ok(commits)
-}
-
 /// The first state, with nothing left to settle.
 #[tactic(auto, unfolding(machine_model::specs::States::first_state))]
-pub fn first_parts(alloc: Global, limits: Limits) -> Result<Parts, Refusal>
-    requires { AreLimits limits }
-    ensures first { IfOk result (λ parts. seen parts ≡ first_state limits) }
+pub fn first_parts(alloc: Global, bounds: Bounds) -> Result<Parts, Refusal>
+    requires { AreBounds bounds }
+    ensures first { IfOk result (λ parts. seen parts ≡ first_state bounds) }
     ensures kept { IfOk result (λ parts. IsKept parts) }
     ensures noted { IfOk result (λ parts. parts.heap.noted ≡ []) }
     ensures only_memory { IsOkUnless result Refusal.Memory }
 {
-    let mut heap = first_memory(alloc, limits.slots, limits.actors)?;
-    let table = first_table(alloc, &mut heap, limits.actors)?;
-    let actors = idle_actors(alloc, limits.hash, limits.actors)?;
+    let mut heap = first_memory(alloc, bounds.slots, bounds.actors)?;
+    let table = first_table(alloc, &mut heap, bounds.actors)?;
+    let actors = idle_actors(alloc, bounds.hash, bounds.actors)?;
     let handles = first_handles(alloc)?;
-    let chronicle = Chronicle::new(alloc)?;
-    let commits = first_commits(alloc, limits.slots)?;
     Ok(Parts {
-        limits,
+        limits: bounds,
         heap,
         generations: 1,
         table,
         actors,
         handles,
-        commits,
-        journal: Journal {
-            chronicle,
-            events: Vec::new(alloc),
-        },
         steps: 0,
         begun: 0,
         alloc,

@@ -1,10 +1,9 @@
 //! A step of the sweep: it frees a slot, or reads an actor's epoch, or lets the epoch grow.
 
-ghost use Rattle.std.specs.Prelude.{◌≡◌, ◌<◌, ◌^◌, [], Ok, false};
+ghost use Rattle.std.specs.Prelude.{◌≡◌, Ok, false};
 ghost use Rattle.machine_model.specs.declared.steps.Step.TheVariants as steps;
 ghost use Rattle.machine_model.specs.Machine.{is_spent, next};
-ghost use Rattle.machine_core.specs.Bounds.{IsOfRun};
-ghost use Rattle.machine_core.specs.Keeping.{IsKept};
+ghost use Rattle.machine_core.specs.Keeping.{IsCore};
 ghost use Rattle.machine_core.specs.Seen.{seen};
 ghost use Rattle.machine_core.specs.Work.{worked, WorksLittle};
 
@@ -14,12 +13,9 @@ use machine_model::Outcome;
 /// A step of the sweep, where the machine isn't spent, with what every step does at its end.
 pub fn sweep_once(parts: &mut Parts) -> Outcome
     requires unspent { is_spent (seen parts.old) ≡ false }
-    requires run { IsOfRun (seen parts.old) }
-    requires kept { IsKept parts.old }
-    requires noted { parts.old.heap.noted ≡ [] }
+    requires core { IsCore parts.old }
     ensures swept { next (seen parts.old) steps.Sweep ≡ Ok (result, seen parts.new) }
-    ensures kept { IsKept parts.new }
-    ensures noted { parts.new.heap.noted ≡ [] }
+    ensures core { IsCore parts.new }
     ensures work { WorksLittle (worked parts.old) (worked parts.new) }
 {
     let swept = parts.heap.sweep();

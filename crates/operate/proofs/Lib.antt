@@ -1,6 +1,5 @@
 -- What to cite from above: what a call is told, asks and does, wherever it stands (Wherever).
 pub mod Anew
 pub mod Going
-pub mod Replacing
 pub mod Rooting
 pub mod Wherever

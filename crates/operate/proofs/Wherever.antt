@@ -40,9 +40,9 @@ tells_below op told (at.Main main) = refl
 tells_below op told (at.Entry main position) = refl
 tells_below op told (at.Listed main position) = refl
 tells_below op told at.Change = (changes op.path op.work.swap op.change.main op.change.at).tells told
-tells_below op told at.Renew = (renews op.path op.work.swap op.renew.main op.renew.done op.renew.place).tells told
-tells_below op told at.Clean = (cleans (above op.path) op.work.swap op.clean.main op.clean.done op.clean.place).tells told
-tells_below op told at.Climb = (climbs op.work.swap (climb_of op.path op.climb) op.climb.place).tells told
+tells_below op told at.Renew = (renews op.path op.work.swap op.renew.main op.renew.done.items op.renew.at).tells told
+tells_below op told at.Clean = (cleans (above op.path) op.work.swap op.clean.main op.clean.done.items op.clean.at).tells told
+tells_below op told at.Climb = (climbs op.work.swap (climb_of op.path op.climb) op.climb.at).tells told
 tells_below op told at.End = refl
 tells_below op told at.Impossible = refl
 
@@ -52,9 +52,9 @@ untold_below op generation (at.Main main) asks = asks
 untold_below op generation (at.Entry main position) asks = asks
 untold_below op generation (at.Listed main position) asks = asks
 untold_below op generation at.Change asks = (changes op.path op.work.swap op.change.main op.change.at).untold generation asks
-untold_below op generation at.Renew asks = (renews op.path op.work.swap op.renew.main op.renew.done op.renew.place).untold generation asks
-untold_below op generation at.Clean asks = (cleans (above op.path) op.work.swap op.clean.main op.clean.done op.clean.place).untold generation asks
-untold_below op generation at.Climb asks = (climbs op.work.swap (climb_of op.path op.climb) op.climb.place).untold generation asks
+untold_below op generation at.Renew asks = (renews op.path op.work.swap op.renew.main op.renew.done.items op.renew.at).untold generation asks
+untold_below op generation at.Clean asks = (cleans (above op.path) op.work.swap op.clean.main op.clean.done.items op.clean.at).untold generation asks
+untold_below op generation at.Climb asks = (climbs op.work.swap (climb_of op.path op.climb) op.climb.at).untold generation asks
 untold_below op generation at.End asks = asks
 untold_below op generation at.Impossible asks = asks
 
@@ -64,9 +64,9 @@ calm_below state operation op told (at.Main main) = looks _
 calm_below state operation op told (at.Entry main position) = looks _
 calm_below state operation op told (at.Listed main position) = looks _
 calm_below state operation op told at.Change = (changes op.path op.work.swap op.change.main op.change.at).calm state operation told
-calm_below state operation op told at.Renew = (renews op.path op.work.swap op.renew.main op.renew.done op.renew.place).calm state operation told
-calm_below state operation op told at.Clean = (cleans (above op.path) op.work.swap op.clean.main op.clean.done op.clean.place).calm state operation told
-calm_below state operation op told at.Climb = (climbs op.work.swap (climb_of op.path op.climb) op.climb.place).calm state operation told
+calm_below state operation op told at.Renew = (renews op.path op.work.swap op.renew.main op.renew.done.items op.renew.at).calm state operation told
+calm_below state operation op told at.Clean = (cleans (above op.path) op.work.swap op.clean.main op.clean.done.items op.clean.at).calm state operation told
+calm_below state operation op told at.Climb = (climbs op.work.swap (climb_of op.path op.climb) op.climb.at).calm state operation told
 calm_below state operation op told at.End = ends (reply_of op.reply)
 calm_below state operation op told at.Impossible = reads_root
 
@@ -122,7 +122,7 @@ tells_at op told key.RootAgain = tells_again (climb_of op.path op.climb) op.work
 tells_at op told (key.Down place) = tells_below op told place
 
 pub tells : TellsKey
-tells op told = tells_at op told op.place
+tells op told = tells_at op told op.at
 
 untold_at : (op : KeyOp) (generation : ℕ) (place : KeyAt) → IsAskingLine (key_line_at op (Some generation) place) → ⊥
 untold_at op generation key.Root asks = untold_root op.work.swap.read generation op.root asks
@@ -131,7 +131,7 @@ untold_at op generation (key.Down place) asks = untold_below op generation place
 
 pub untold : AsksUntold
 untold op None asks = refl
-untold op (Some generation) asks = absurd (untold_at op generation op.place asks)
+untold op (Some generation) asks = absurd (untold_at op generation op.at asks)
 
 acts_at : (state : State) (operation : Operation) (roots : Table) (handle : ℕ) (op : KeyOp) (told : Option ℕ) (place : KeyAt) →
     IsOfKey roots handle (table_at roots handle op.root place) (line_action state operation (key_line_at op told place))
@@ -144,4 +144,4 @@ acts_at state operation roots handle op told (key.Down place) =
     record { words = λ actor. calm.words roots handle actor; tries = calm.tries; beside = calm.beside }
 
 pub acts : ActsOfKey
-acts state operation roots handle op told = acts_at state operation roots handle op told op.place
+acts state operation roots handle op told = acts_at state operation roots handle op told op.at

@@ -44,7 +44,7 @@ key_line_at op told (Down place) = below_line op told place
 
 -- the definition's line of a call whose READ was told this of the root's generation
 abbrev pub key_line : KeyOp → Option ℕ → Line
-key_line op told = key_line_at op told op.place
+key_line op told = key_line_at op told op.at
 
 -- the definition's line after a change was committed, of a main node that is a tomb of this single, if it is one
 abbrev pub changed_line : Operation → List Ref → Option ℕ → Option Ref → Line

@@ -1,5 +1,5 @@
 -- What a step of a call on one key comes to, does and asks.
-use Rattle.std.specs.Prelude.{◌≡◌, ℕ, List, Option, None}
+use Rattle.std.specs.Prelude.{◌≡◌, ◌<◌, ℕ, List, length, Option, None}
 use Rattle.ctrie_base.specs.declared.kinds.Kind.{Kind}
 use Rattle.slot_arena.specs.declared.refs.Ref.{Ref}
 use Rattle.slot_arena.specs.Heaps.{Heap}
@@ -94,19 +94,19 @@ table_at table handle r op.RootAgain = rooted_at table handle r
 table_at table handle r (op.Down place) = table
 
 abbrev pub table_after : Table → ℕ → KeyOp → Table
-table_after table handle o = table_at table handle o.root o.place
+table_after table handle o = table_at table handle o.root o.at
 
 -- ---- what it asks of the heap and of the root words
 
 abbrev pub CanBelow : Heap → KeyOp → BelowAt → Type 0
 CanBelow heap o at.Read = CanReadOn heap o.work.swap.read
 CanBelow heap o (at.Main main) = Unit {0}
-CanBelow heap o (at.Entry main position) = Unit {0}
+CanBelow heap o (at.Entry main position) = length o.path < 14
 CanBelow heap o (at.Listed main position) = Unit {0}
-CanBelow heap o at.Change = CanChange heap o.task o.path o.work.swap o.change
-CanBelow heap o at.Renew = CanRenew heap o.work.swap o.renew
-CanBelow heap o at.Clean = CanClean heap (above o.path) o.work.swap o.clean
-CanBelow heap o at.Climb = CanClimb heap o.task o.path o.work.swap o.climb
+CanBelow heap o at.Change = CanChange heap o.task o.path o.work o.change
+CanBelow heap o at.Renew = CanRenew heap o.work o.renew
+CanBelow heap o at.Clean = CanClean heap (above o.path) o.work o.clean
+CanBelow heap o at.Climb = CanClimb heap o.task o.path o.work o.climb
 CanBelow heap o at.End = Unit {0}
 CanBelow heap o at.Impossible = Unit {0}
 
@@ -115,9 +115,9 @@ CanKeyAt memory table o op.Root = CanRootOn memory table o.root o.work.swap.read
 CanKeyAt memory table o op.RootAgain = CanRootOn memory table o.root o.work.swap.read
 CanKeyAt memory table o (op.Down place) = CanBelow memory.heap o place
 
--- what is going to be changed, or referred to, is in use, and of its kind
+-- what is going to be changed, or referred to, is in use, and of its kind; what makes a node, goes one further down, or puts an entry to those that are done, has room for it
 abbrev pub CanKey : Memory → Table → KeyOp → Type 0
-CanKey memory table o = CanKeyAt memory table o o.place
+CanKey memory table o = CanKeyAt memory table o o.at
 
 -- where ROOT completes an offer its READ is that of the root which is to be swapped
 abbrev pub ReadsAt : ReadRoot → Read → KeyAt → Type 0
@@ -126,4 +126,4 @@ ReadsAt r read op.RootAgain = ReadsItsRoot r read
 ReadsAt r read (op.Down place) = Unit {0}
 
 abbrev pub ReadsKey : KeyOp → Type 0
-ReadsKey o = ReadsAt o.root o.work.swap.read o.place
+ReadsKey o = ReadsAt o.root o.work.swap.read o.at

@@ -1,6 +1,6 @@
 //! The steps of a call on one key below its root.
 
-ghost use Rattle.std.specs.Prelude.{◌≡◌, ℕ, List, Option, None, IfOk, IfErr, OnOk, OnErr};
+ghost use Rattle.std.specs.Prelude.{◌≡◌, ◌<◌, ℕ, List, length, Option, None};
 ghost use Rattle.ctrie_base.specs.declared.hashes.HashKind.{HashKind};
 ghost use Rattle.slot_arena.specs.Heaps.{node_at};
 ghost use Rattle.slot_arena.specs.declared.refs.Ref.{Ref as ARef};
@@ -19,15 +19,15 @@ ghost use Rattle.trie_parts.specs.Holding.{AreHeld};
 ghost use Rattle.operate.specs.Beneath.key_change.specs.Lines.{line_of as change_line};
 ghost use Rattle.operate.specs.Beneath.key_change.specs.Steps.{CanChange, line_behind as line_tried};
 ghost use Rattle.key_finding.specs.Lines.{line_found};
-ghost use Rattle.operate.specs.Apart.{told};
+ghost use Rattle.operate.specs.Apart.{next_of};
 ghost use Rattle.operate.specs.Places.{key_line, changed_line, former_of};
 ghost use Rattle.operate.specs.Steps.{CommitsNoMore, KeySteps, KeyActs, ReadsKey, operation_for};
 
 use crate::key_op::{BelowAt, KeyAt, KeyOp};
 use crate::went::Went;
-use ctrie_base::{Kind, Refusal};
+use ctrie_base::Kind;
 use epochs::Heap;
-use key_finding::{Change, Found, KeyReply, Tried, after_entry, after_listed, after_main};
+use key_finding::{Change, Entered, Found, KeyReply, Tried, after_entry, after_listed, after_main};
 use slot_arena::{Node, Ref};
 use trie_parts::{Next, above, current, node_at};
 
@@ -35,7 +35,7 @@ impl KeyOp {
     /// Takes a step of the current indirection's READ.
     #[inline(always)]
     pub(crate) fn read(&mut self, heap: &mut Heap, root_seen: Option<u64>) -> Next<KeyReply>
-        requires at { self.old.place ≡ KeyAt.Down BelowAt.Read }
+        requires at { self.old.at ≡ KeyAt.Down BelowAt.Read }
         requires can { CanReadOn heap.old.heap self.old.work.swap.read }
         ensures follows { KeySteps heap.old.heap self.old (line.Key (key.Read self.old.path (read_of self.old.work.swap.read root_seen))) self.new result }
         ensures acts { KeyActs heap.old self.old (line.Key (key.Read self.old.path (read_of self.old.work.swap.read root_seen))) heap.new self.new.work.private }
@@ -47,7 +47,7 @@ impl KeyOp {
             Next::More(kind) => Next::More(kind),
             Next::AskRoot => Next::AskRoot,
             Next::Done(kind, main) => {
-                self.place = KeyAt::Down(BelowAt::Main { main });
+                self.at = KeyAt::Down(BelowAt::Main { main });
                 Next::More(kind)
             }
         }
@@ -55,13 +55,10 @@ impl KeyOp {
 
     /// Looks at the main node.
     #[inline(always)]
-    pub(crate) fn look_at_main(&mut self, heap: &Heap, main: Ref) -> Result<Next<KeyReply>, Refusal>
-        ensures follows { IfOk result (λ next. KeySteps heap.now.heap self.old (line.Key (key.Main self.old.path main)) self.new next) }
+    pub(crate) fn look_at_main(&mut self, heap: &Heap, main: Ref)
+        ensures follows { KeySteps heap.now.heap self.old (line.Key (key.Main self.old.path main)) self.new (Next.More Kind.Look) }
         ensures same { (self.new.task ≡ self.old.task) × (self.new.work.private ≡ self.old.work.private) × (self.new.work.swap.read.access ≡ self.old.work.swap.read.access) }
-        ensures taken { IfOk result (λ next. IsAskingRoot next → ⊥) }
-        ensures err { OnErr result (self.new ≡ self.old) }
-        ensures only_memory { IfErr result (λ refusal. refusal ≡ Refusal.Memory) }
-        ensures stands { OnOk result (ReadsKey self.new) }
+        ensures stands { ReadsKey self.new }
     {
         let found = after_main(
             heap,
@@ -70,26 +67,18 @@ impl KeyOp {
             self.path.as_slice(),
             main,
         );
-        self.follow(heap, main, found)?;
-        Ok(Next::More(Kind::Look))
+        self.follow(heap, main, found);
     }
 
     /// Looks at a branch's entry.
     #[inline(always)]
-    pub(crate) fn look_at_entry(
-        &mut self,
-        heap: &Heap,
-        main: Ref,
-        position: usize,
-    ) -> Result<Next<KeyReply>, Refusal>
-        ensures follows { IfOk result (λ next. KeySteps heap.now.heap self.old (line.Key (key.Entry self.old.path main position)) self.new next) }
+    pub(crate) fn look_at_entry(&mut self, heap: &Heap, main: Ref, position: usize)
+        requires { length self.old.path < 14 }
+        ensures follows { KeySteps heap.now.heap self.old (line.Key (key.Entry self.old.path main position)) self.new (Next.More Kind.Look) }
         ensures same { (self.new.task ≡ self.old.task) × (self.new.work.private ≡ self.old.work.private) × (self.new.work.swap.read.access ≡ self.old.work.swap.read.access) }
-        ensures taken { IfOk result (λ next. IsAskingRoot next → ⊥) }
-        ensures err { OnErr result (self.new ≡ self.old) }
-        ensures only_memory { IfErr result (λ refusal. refusal ≡ Refusal.Memory) }
-        ensures stands { OnOk result (ReadsKey self.new) }
+        ensures stands { ReadsKey self.new }
     {
-        let found = after_entry(
+        let entered = after_entry(
             heap,
             self.task,
             self.work.swap.read.access,
@@ -97,19 +86,18 @@ impl KeyOp {
             main,
             position,
         );
-        self.follow(heap, main, found)?;
-        Ok(Next::More(Kind::Look))
+        match entered {
+            Entered::Down { below } => self.go_down(below),
+            Entered::Here(found) => self.follow(heap, main, found),
+        }
     }
 
     /// Looks at a single of a list, or at a tomb's.
     #[inline(never)]
-    pub(crate) fn look_at_single(&mut self, heap: &Heap, main: Ref, position: usize) -> Went
-        ensures follows { IfOk (told result) (λ next. KeySteps heap.now.heap self.old (line.Key (key.Listed self.old.path main position)) self.new next) }
+    pub(crate) fn look_at_single(&mut self, heap: &Heap, main: Ref, position: usize)
+        ensures follows { KeySteps heap.now.heap self.old (line.Key (key.Listed self.old.path main position)) self.new (Next.More Kind.Look) }
         ensures same { (self.new.task ≡ self.old.task) × (self.new.work.private ≡ self.old.work.private) × (self.new.work.swap.read.access ≡ self.old.work.swap.read.access) }
-        ensures taken { IfOk (told result) (λ next. IsAskingRoot next → ⊥) }
-        ensures err { OnErr (told result) (self.new ≡ self.old) }
-        ensures only_memory { IfErr (told result) (λ refusal. refusal ≡ Refusal.Memory) }
-        ensures stands { OnOk (told result) (ReadsKey self.new) }
+        ensures stands { ReadsKey self.new }
     {
         let found = after_listed(
             heap,
@@ -119,68 +107,47 @@ impl KeyOp {
             main,
             position,
         );
-        match self.follow(heap, main, found) {
-            Ok(()) => Went::More(Kind::Look),
-            Err(refusal) => Went::Refused(refusal),
-        }
+        self.follow(heap, main, found);
     }
 
     /// Goes where a look at this main node leads.
     #[inline(always)]
-    fn follow(&mut self, heap: &Heap, main: Ref, found: Found) -> Result<(), Refusal>
-        ensures ok { OnOk result ((state : State) (hashes : HashKind) → key_line self.new None ≡ line_found (at_heap state heap.now.heap hashes) self.old.path self.old.work.swap main found) }
+    fn follow(&mut self, heap: &Heap, main: Ref, found: Found)
+        ensures line { (state : State) (hashes : HashKind) → key_line self.new None ≡ line_found (at_heap state heap.now.heap hashes) self.old.path self.old.work.swap main found }
         ensures same { (self.new.task ≡ self.old.task) × (self.new.work.private ≡ self.old.work.private) × (self.new.work.swap.read.access ≡ self.old.work.swap.read.access) }
-        ensures err { OnErr result (self.new ≡ self.old) }
-        ensures only_memory { IfErr result (λ refusal. refusal ≡ Refusal.Memory) }
-        ensures stands { OnOk result (ReadsKey self.new) }
+        ensures stands { ReadsKey self.new }
     {
         match found {
-            Found::Down { below } => self.go_down(below),
             Found::Renew => {
                 self.renew.begin(heap, main);
-                self.place = KeyAt::Down(BelowAt::Renew);
-                Ok(())
+                self.at = KeyAt::Down(BelowAt::Renew);
             }
-            Found::Clean => {
-                self.clean_parent();
-                Ok(())
-            }
+            Found::Clean => self.clean_parent(),
             Found::Entry { position } => {
-                self.place = KeyAt::Down(BelowAt::Entry { main, position });
-                Ok(())
+                self.at = KeyAt::Down(BelowAt::Entry { main, position });
             }
             Found::Listed { position } => {
-                self.place = KeyAt::Down(BelowAt::Listed { main, position });
-                Ok(())
+                self.at = KeyAt::Down(BelowAt::Listed { main, position });
             }
             Found::Change(at) => {
                 self.change = Change { main, at };
-                self.place = KeyAt::Down(BelowAt::Change);
-                Ok(())
+                self.at = KeyAt::Down(BelowAt::Change);
             }
-            Found::End(reply) => {
-                self.end_with(reply);
-                Ok(())
-            }
-            Found::Impossible => {
-                self.place = KeyAt::Down(BelowAt::Impossible);
-                Ok(())
-            }
+            Found::End(reply) => self.end_with(reply),
+            Found::Impossible => self.at = KeyAt::Down(BelowAt::Impossible),
         }
     }
 
     /// Reads the indirection below the current one next.
     #[inline(always)]
-    fn go_down(&mut self, below: Ref) -> Result<(), Refusal>
-        ensures ok { OnOk result (key_line self.new None ≡ going_down self.old.path below) }
+    fn go_down(&mut self, below: Ref)
+        requires { length self.old.path < 14 }
+        ensures line { key_line self.new None ≡ going_down self.old.path below }
         ensures same { (self.new.task ≡ self.old.task) × (self.new.work.private ≡ self.old.work.private) × (self.new.work.swap.read.access ≡ self.old.work.swap.read.access) }
-        ensures err { OnErr result (self.new ≡ self.old) }
-        ensures only_memory { IfErr result (λ refusal. refusal ≡ Refusal.Memory) }
-        ensures stands { OnOk result (ReadsKey self.new) }
+        ensures stands { ReadsKey self.new }
     {
-        self.path.push(below)?;
+        self.path.push(below);
         self.read_next(below);
-        Ok(())
     }
 
     /// Cleans the parent next.
@@ -191,22 +158,20 @@ impl KeyOp {
     {
         let parent = current(above(self.path.as_slice()));
         self.clean.begin(&mut self.work, parent);
-        self.place = KeyAt::Down(BelowAt::Clean);
+        self.at = KeyAt::Down(BelowAt::Clean);
     }
 
     /// Takes a step of a change.
     #[inline(never)]
     pub(crate) fn change(&mut self, heap: &mut Heap, root_seen: Option<u64>) -> Went
-        requires at { self.old.place ≡ KeyAt.Down BelowAt.Change }
-        requires can { CanChange heap.old.heap self.old.task self.old.path self.old.work.swap self.old.change }
+        requires at { self.old.at ≡ KeyAt.Down BelowAt.Change }
+        requires can { CanChange heap.old.heap self.old.task self.old.path self.old.work self.old.change }
         requires held { AreHeld self.old.work.private heap.old }
-        ensures follows { IfOk (told result) (λ next. KeySteps heap.old.heap self.old (change_line self.old.path self.old.work.swap root_seen self.old.change) self.new next) }
-        ensures acts { OnOk (told result) (KeyActs heap.old self.old (change_line self.old.path self.old.work.swap root_seen self.old.change) heap.new self.new.work.private) }
+        ensures follows { KeySteps heap.old.heap self.old (change_line self.old.path self.old.work.swap root_seen self.old.change) self.new (next_of result) }
+        ensures acts { KeyActs heap.old self.old (change_line self.old.path self.old.work.swap root_seen self.old.change) heap.new self.new.work.private }
         ensures same { (self.new.task ≡ self.old.task) × (self.new.work.swap.read.access ≡ self.old.work.swap.read.access) }
-        ensures asks { IfOk (told result) (λ next. IsAskingRoot next → (self.new ≡ self.old) × (heap.new ≡ heap.old)) }
-        ensures err { OnErr (told result) ((self.new ≡ self.old) × (heap.new ≡ heap.old)) }
-        ensures only_memory { IfErr (told result) (λ refusal. refusal ≡ Refusal.Memory) }
-        ensures stands { OnOk (told result) (ReadsKey self.new) }
+        ensures asks { IsAskingRoot (next_of result) → (self.new ≡ self.old) × (heap.new ≡ heap.old) }
+        ensures stands { ReadsKey self.new }
     {
         let tomb = tomb_at(heap, self.work.swap.fresh);
         match self.change.step(
@@ -216,13 +181,12 @@ impl KeyOp {
             self.path.as_slice(),
             root_seen,
         ) {
-            Ok(Next::More(kind)) => Went::More(kind),
-            Ok(Next::AskRoot) => Went::AskRoot,
-            Ok(Next::Done(kind, tried)) => {
+            Next::More(kind) => Went::More(kind),
+            Next::AskRoot => Went::AskRoot,
+            Next::Done(kind, tried) => {
                 self.after_try(tried, tomb);
                 Went::More(kind)
             }
-            Err(refusal) => Went::Refused(refusal),
         }
     }
 
@@ -243,7 +207,7 @@ impl KeyOp {
             },
             Tried::Lost => self.begin_try(),
             Tried::NoSlots => self.end_with(KeyReply::NoSlots),
-            Tried::Impossible => self.place = KeyAt::Down(BelowAt::Impossible),
+            Tried::Impossible => self.at = KeyAt::Down(BelowAt::Impossible),
         }
     }
 }

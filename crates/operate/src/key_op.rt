@@ -1,6 +1,6 @@
 //! A call on one key, step by step.
 
-ghost use Rattle.std.specs.Prelude.{◌≡◌, if◌then◌else◌, List, [], None, IfOk, IfErr, IsOk, OnOk, OnErr};
+ghost use Rattle.std.specs.Prelude.{◌≡◌, if◌then◌else◌, List, [], None};
 ghost use Rattle.slot_arena.specs.declared.refs.Ref.{Ref as ARef};
 ghost use Rattle.history.specs.declared.calls.Access.{Access as AnAccess};
 ghost use Rattle.operate.specs.Beneath.machine_model.specs.Climbing.{climbed, climbing};
@@ -15,20 +15,19 @@ ghost use Rattle.operate.specs.Beneath.rdcss_root.specs.Acts.{ActsInAll};
 ghost use Rattle.operate.specs.Beneath.rdcss_root.specs.Programs.{root_of, CanRootOn, rooted_at};
 ghost use Rattle.operate.specs.Beneath.rdcss_root.specs.Tables.{word_in};
 ghost use Rattle.contract.specs.Climbing.{climb_of};
-ghost use Rattle.operate.specs.Apart.{told};
+ghost use Rattle.operate.specs.Apart.{next_of};
 ghost use Rattle.operate.specs.Places.{key_line, key_line_at};
 ghost use Rattle.operate.specs.Steps.{RootSteps, RootActs, CommitsNoMore, KeepsGeneration, CanKey, ReadsKey, table_after};
 
 use crate::path::Path;
 use crate::went::Went;
 use contract::{Clean, Climb, ClimbAt, Renew};
-use ctrie_base::{HashKind, Kind, Refusal};
+use ctrie_base::{HashKind, Kind};
 use epochs::Heap;
 use history::Access;
 use key_finding::{Change, ChangeAt, KeyReply, changed_reply};
 use root_asking::{ReadRoot, Roots};
 use slot_arena::Ref;
-use std::alloc::Global;
 use trie_parts::{KeyCall, Next, Private, Swap, Task, Work, generation_at, is_below_root};
 
 /// Where a call stands below its root.
@@ -74,7 +73,7 @@ pub struct KeyOp {
     pub(crate) path: Path,
     /// An actor has one for the calls of all kinds.
     pub work: Work,
-    pub(crate) place: KeyAt,
+    pub(crate) at: KeyAt,
     /// Each program stays in its place, and is read only where the call stands in it: so a step moves little.
     pub(crate) root: ReadRoot,
     pub(crate) change: Change,
@@ -90,7 +89,7 @@ impl Drop for KeyOp {
             task: _,
             path: _,
             work: _,
-            place: _,
+            at: _,
             root: _,
             change: _,
             renew: _,
@@ -103,39 +102,37 @@ impl Drop for KeyOp {
 
 impl KeyOp {
     /// One that has still to begin.
-    pub fn new(alloc: Global, hashes: HashKind) -> Result<KeyOp, Refusal>
-        ensures hashes { IfOk result (λ op. op.task.hashes ≡ hashes) }
-        ensures private { IfOk result (λ op. op.work.private ≡ []) }
-        ensures only_memory { IfErr result (λ refusal. refusal ≡ Refusal.Memory) }
+    pub fn new(hashes: HashKind) -> KeyOp
+        ensures hashes { result.task.hashes ≡ hashes }
+        ensures private { result.work.private ≡ [] }
     {
-        let path = Path::new(alloc)?;
         let nowhere = Ref::default();
-        Ok(KeyOp {
+        KeyOp {
             task: Task {
                 call: KeyCall::Get { key: 0 },
                 hashes,
                 generation: None,
             },
-            path,
+            path: Path::new(),
             work: Work {
-                private: Private::new(alloc),
+                private: Private::new(),
                 swap: Swap::new(Access::ReadOnly, nowhere, nowhere, nowhere),
             },
-            place: KeyAt::Down(BelowAt::Impossible),
+            at: KeyAt::Down(BelowAt::Impossible),
             root: ReadRoot::Read,
             change: Change {
                 main: nowhere,
                 at: ChangeAt::Swap { former: None },
             },
-            renew: Renew::new(alloc),
-            clean: Clean::new(alloc),
+            renew: Renew::new(),
+            clean: Clean::new(),
             climb: Climb {
                 single: nowhere,
                 former: None,
-                place: ClimbAt::Read,
+                at: ClimbAt::Read,
             },
             reply: KeyReply::NoSlots,
-        })
+        }
     }
 
     /// Begins this call, on a handle of this kind.
@@ -159,7 +156,6 @@ impl KeyOp {
     }
 
     /// Takes the call's next step, on this handle, unless it has to be told the generation of the root first.
-    /// After an error, which is want of memory, nothing has changed.
     #[inline(always)]
     pub fn step(
         &mut self,
@@ -167,53 +163,54 @@ impl KeyOp {
         handle: u16,
         heap: &mut Heap,
         root_seen: Option<u64>,
-    ) -> Result<Next<KeyReply>, Refusal>
+    ) -> Next<KeyReply>
         requires can { CanKey heap.old roots.old self.old }
         requires held { AreHeld self.old.work.private heap.old }
-        ensures follows { IfOk result (λ next. RootSteps heap.old.heap (word_in roots.old handle) self.old (key_line self.old root_seen) self.new next) }
-        ensures acts { OnOk result (RootActs heap.old roots.old.roots self.old (key_line self.old root_seen) heap.new roots.new.roots self.new.work.private) }
-        ensures table { OnOk result (roots.new ≡ table_after roots.old handle self.old) }
-        ensures generation { IfOk result (λ next. KeepsGeneration heap.old.heap (word_in roots.old handle) self.old (key_line self.old root_seen) self.new.task next) }
-        ensures task { OnOk result (self.new.task ≡ record self.old.task { generation = self.new.task.generation }) }
+        ensures follows { RootSteps heap.old.heap (word_in roots.old handle) self.old (key_line self.old root_seen) self.new result }
+        ensures acts { RootActs heap.old roots.old.roots self.old (key_line self.old root_seen) heap.new roots.new.roots self.new.work.private }
+        ensures table { roots.new ≡ table_after roots.old handle self.old }
+        ensures generation { KeepsGeneration heap.old.heap (word_in roots.old handle) self.old (key_line self.old root_seen) self.new.task result }
+        ensures task { self.new.task ≡ record self.old.task { generation = self.new.task.generation } }
         ensures access { self.new.work.swap.read.access ≡ self.old.work.swap.read.access }
-        ensures stands { OnOk result (ReadsKey self.new) }
-        ensures asks { IfOk result (λ next. IsAskingRoot next → (self.new ≡ self.old) × (roots.new ≡ roots.old) × (heap.new ≡ heap.old)) }
-        ensures err { OnErr result ((self.new ≡ self.old) × (roots.new ≡ roots.old) × (heap.new ≡ heap.old)) }
-        ensures only_memory { IfErr result (λ refusal. refusal ≡ Refusal.Memory) }
+        ensures stands { ReadsKey self.new }
+        ensures asks { IsAskingRoot result → (self.new ≡ self.old) × (roots.new ≡ roots.old) × (heap.new ≡ heap.old) }
     {
-        match &self.place {
-            KeyAt::Root => self.find_root(roots, handle, heap, root_seen).told(),
-            KeyAt::RootAgain => self.find_root_again(roots, handle, heap, root_seen).told(),
+        match &self.at {
+            KeyAt::Root => self.find_root(roots, handle, heap, root_seen).next(),
+            KeyAt::RootAgain => self.find_root_again(roots, handle, heap, root_seen).next(),
             KeyAt::Down(at) => match at {
-                BelowAt::Read => Ok(self.read(heap, root_seen)),
+                BelowAt::Read => self.read(heap, root_seen),
                 BelowAt::Main { main } => {
                     let main = *main;
-                    self.look_at_main(heap, main)
+                    self.look_at_main(heap, main);
+                    Next::More(Kind::Look)
                 }
                 BelowAt::Entry { main, position } => {
                     let (main, position) = (*main, *position);
-                    self.look_at_entry(heap, main, position)
+                    self.look_at_entry(heap, main, position);
+                    Next::More(Kind::Look)
                 }
                 BelowAt::Listed { main, position } => {
                     let (main, position) = (*main, *position);
-                    self.look_at_single(heap, main, position).told()
+                    self.look_at_single(heap, main, position);
+                    Next::More(Kind::Look)
                 }
-                BelowAt::Change => self.change(heap, root_seen).told(),
-                BelowAt::Renew => self.renew(heap, root_seen).told(),
-                BelowAt::Clean => self.clean(heap, root_seen).told(),
-                BelowAt::Climb => self.climb(heap, root_seen).told(),
-                BelowAt::End => Ok(Next::Done(Kind::End, self.reply)),
-                BelowAt::Impossible => Ok(Next::More(Kind::ReadRoot)),
+                BelowAt::Change => self.change(heap, root_seen).next(),
+                BelowAt::Renew => self.renew(heap, root_seen).next(),
+                BelowAt::Clean => self.clean(heap, root_seen).next(),
+                BelowAt::Climb => self.climb(heap, root_seen).next(),
+                BelowAt::End => Next::Done(Kind::End, self.reply),
+                BelowAt::Impossible => Next::More(Kind::ReadRoot),
             },
         }
     }
 
     /// Begins a try: ROOT reads the root word next.
     pub(crate) fn begin_try(&mut self)
-        ensures { self.new ≡ record self.old { place = KeyAt.Root; root = ReadRoot.Read } }
+        ensures { self.new ≡ record self.old { at = KeyAt.Root; root = ReadRoot.Read } }
     {
         self.root = ReadRoot::Read;
-        self.place = KeyAt::Root;
+        self.at = KeyAt::Root;
     }
 
     /// Takes a step of ROOT at the beginning of a try.
@@ -225,17 +222,15 @@ impl KeyOp {
         heap: &mut Heap,
         root_seen: Option<u64>,
     ) -> Went
-        requires at { self.old.place ≡ KeyAt.Root }
+        requires at { self.old.at ≡ KeyAt.Root }
         requires can { CanRootOn heap.old roots.old self.old.root self.old.work.swap.read }
-        ensures follows { IfOk (told result) (λ next. RootSteps heap.old.heap (word_in roots.old handle) self.old (line.Root (root_of self.old.root self.old.work.swap.read root_seen)) self.new next) }
+        ensures follows { RootSteps heap.old.heap (word_in roots.old handle) self.old (line.Root (root_of self.old.root self.old.work.swap.read root_seen)) self.new (next_of result) }
         ensures acts { (private : List ARef) → ActsInAll heap.old roots.old.roots private (root_action (root_of self.old.root self.old.work.swap.read root_seen)) heap.new roots.new.roots private }
         ensures table { roots.new ≡ rooted_at roots.old handle self.old.root }
-        ensures generation { IfOk (told result) (λ next.
-            KeepsGeneration heap.old.heap (word_in roots.old handle) self.old (line.Root (root_of self.old.root self.old.work.swap.read root_seen)) self.new.task next) }
+        ensures generation { KeepsGeneration heap.old.heap (word_in roots.old handle) self.old (line.Root (root_of self.old.root self.old.work.swap.read root_seen)) self.new.task (next_of result) }
         ensures task { self.new.task ≡ record self.old.task { generation = self.new.task.generation } }
         ensures same { (self.new.work.private ≡ self.old.work.private) × (self.new.work.swap.read.access ≡ self.old.work.swap.read.access) }
-        ensures asks { IfOk (told result) (λ next. IsAskingRoot next → (self.new ≡ self.old) × (roots.new ≡ roots.old) × (heap.new ≡ heap.old)) }
-        ensures taken { IsOk (told result) }
+        ensures asks { IsAskingRoot (next_of result) → (self.new ≡ self.old) × (roots.new ≡ roots.old) × (heap.new ≡ heap.old) }
         ensures stands { ReadsKey self.new }
     {
         match self
@@ -256,12 +251,12 @@ impl KeyOp {
     /// Reads this indirection next.
     pub(crate) fn read_next(&mut self, indirection: Ref)
         ensures { self.new ≡ record self.old {
-          place = KeyAt.Down BelowAt.Read;
+          at = KeyAt.Down BelowAt.Read;
           work = record self.old.work { swap = record self.old.work.swap { read = begun self.old.work.swap.read.access indirection } };
         } }
     {
         self.work.swap.read.begin(indirection);
-        self.place = KeyAt::Down(BelowAt::Read);
+        self.at = KeyAt::Down(BelowAt::Read);
     }
 
     /// Takes a step of ROOT after a climb whose swap failed.
@@ -273,15 +268,14 @@ impl KeyOp {
         heap: &mut Heap,
         root_seen: Option<u64>,
     ) -> Went
-        requires at { self.old.place ≡ KeyAt.RootAgain }
+        requires at { self.old.at ≡ KeyAt.RootAgain }
         requires can { CanRootOn heap.old roots.old self.old.root self.old.work.swap.read }
-        ensures follows { IfOk (told result) (λ next. RootSteps heap.old.heap (word_in roots.old handle) self.old (key_line_at self.old root_seen KeyAt.RootAgain) self.new next) }
+        ensures follows { RootSteps heap.old.heap (word_in roots.old handle) self.old (key_line_at self.old root_seen KeyAt.RootAgain) self.new (next_of result) }
         ensures acts { (private : List ARef) → ActsInAll heap.old roots.old.roots private (root_action (root_of self.old.root self.old.work.swap.read root_seen)) heap.new roots.new.roots private }
         ensures table { roots.new ≡ rooted_at roots.old handle self.old.root }
         ensures same { (self.new.task ≡ self.old.task) × (self.new.work.private ≡ self.old.work.private) × (self.new.work.swap.read.access ≡ self.old.work.swap.read.access) }
-        ensures asks { IfOk (told result) (λ next. IsAskingRoot next → (self.new ≡ self.old)
-            × (roots.new ≡ roots.old) × (heap.new ≡ heap.old)) }
-        ensures taken { IsOk (told result) }
+        ensures asks { IsAskingRoot (next_of result) → (self.new ≡ self.old)
+            × (roots.new ≡ roots.old) × (heap.new ≡ heap.old) }
         ensures stands { ReadsKey self.new }
     {
         match self
@@ -317,7 +311,7 @@ impl KeyOp {
     /// The change stands, and is answered; the key had this value before.
     pub(crate) fn answer(&mut self, former: Option<u64>)
         ensures line { (access : AnAccess) (operation : Operation) → key_line self.new None ≡ climbed (for_task self.old.task access operation) former }
-        ensures same { self.new ≡ record self.old { place = self.new.place; reply = self.new.reply } }
+        ensures same { self.new ≡ record self.old { at = self.new.at; reply = self.new.reply } }
         ensures stands { ReadsKey self.new }
     {
         self.end_with(changed_reply(self.task.call, former));
@@ -325,10 +319,10 @@ impl KeyOp {
 
     /// Ends with this reply next.
     pub(crate) fn end_with(&mut self, reply: KeyReply)
-        ensures { self.new ≡ record self.old { place = KeyAt.Down BelowAt.End; reply = reply } }
+        ensures { self.new ≡ record self.old { at = KeyAt.Down BelowAt.End; reply = reply } }
     {
         self.reply = reply;
-        self.place = KeyAt::Down(BelowAt::End);
+        self.at = KeyAt::Down(BelowAt::End);
     }
 
     /// The path's last indirection is tombed, with this single: climbs, if it has a parent.
@@ -342,7 +336,7 @@ impl KeyOp {
         let path = self.path.as_slice();
         if is_below_root(path) {
             self.climb = Climb::begin(&mut self.work, path, single, former);
-            self.place = KeyAt::Down(BelowAt::Climb);
+            self.at = KeyAt::Down(BelowAt::Climb);
         } else {
             self.answer(former);
         }

@@ -1,19 +1,19 @@
 //! The path of an operation.
 
-ghost use Rattle.std.specs.Prelude.{◌≡◌, ◌<◌, ◌∷◌, ◌++◌, [], IfOk, IfErr, OnOk, OnErr, vec_capacity};
+ghost use Rattle.std.specs.Prelude.{◌≡◌, ◌<◌, ◌∷◌, ◌++◌, [], length};
 ghost use Rattle.operate.specs.Beneath.machine_model.specs.Paths.{above};
 
-use ctrie_base::Refusal;
+use arrayvec::ArrayVec;
 use slot_arena::Ref;
-use std::alloc::Global;
 use std::marker::Model;
-use trie_parts::keep;
 
-/// The indirections from the root down to the current one, kept in place. There is always room for the root.
+/// The most indirections of a path: a trie has so many levels.
+const MOST_LEVELS: usize = 14;
+
+/// The indirections from the root down to the current one, in place.
 #[derive(Drop)]
 pub(crate) struct Path {
-    items: Vec<Ref>,
-    ghost room: { 0 < vec_capacity items },
+    items: ArrayVec<Ref, MOST_LEVELS>,
 }
 
 impl Model for Path {
@@ -26,12 +26,12 @@ impl Model for Path {
 
 impl Path {
     /// An empty path.
-    pub(crate) fn new(alloc: Global) -> Result<Path, Refusal>
-        ensures path { IfOk result (λ path. path ≡ []) }
-        ensures only_memory { IfErr result (λ refusal. refusal ≡ Refusal.Memory) }
+    pub(crate) fn new() -> Path
+        ensures { result ≡ [] }
     {
-        let items = Vec::with_capacity(alloc, 16)?;
-        Ok(Path { items })
+        Path {
+            items: ArrayVec::new(),
+        }
     }
 
     /// The indirections as a slice.
@@ -46,17 +46,15 @@ impl Path {
         ensures { self.new ≡ root ∷ [] }
     {
         self.items.clear();
-        keep(&mut self.items, root);
+        self.items.push(root);
     }
 
-    /// One further down. After an error nothing has changed.
-    pub(crate) fn push(&mut self, below: Ref) -> Result<(), Refusal>
-        ensures ok { OnOk result (self.new ≡ self.old ++ below ∷ []) }
-        ensures err { OnErr result (self.new ≡ self.old) }
-        ensures only_memory { IfErr result (λ refusal. refusal ≡ Refusal.Memory) }
+    /// One further down.
+    pub(crate) fn push(&mut self, below: Ref)
+        requires { length self.old < 14 }
+        ensures { self.new ≡ self.old ++ below ∷ [] }
     {
-        self.items.push(below)?;
-        Ok(())
+        self.items.push(below);
     }
 
     /// One further up.

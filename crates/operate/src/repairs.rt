@@ -1,6 +1,6 @@
 //! The steps of the repairs that a call on one key does on its way: renewing, cleaning and climbing.
 
-ghost use Rattle.std.specs.Prelude.{◌≡◌, None, IfOk, IfErr, OnOk, OnErr};
+ghost use Rattle.std.specs.Prelude.{◌≡◌, None};
 ghost use Rattle.operate.specs.Beneath.machine_model.specs.Paths.{above, current};
 ghost use Rattle.history.specs.declared.calls.Access.{Access as AnAccess};
 ghost use Rattle.trie_parts.specs.Tasks.{for_task};
@@ -10,14 +10,13 @@ ghost use Rattle.trie_parts.specs.Holding.{AreHeld};
 ghost use Rattle.contract.specs.Cleaning.{clean_line, CanClean, line_behind as line_cleaned};
 ghost use Rattle.contract.specs.Climbing.{climb_line, climb_of, CanClimb, line_behind as line_climbed};
 ghost use Rattle.contract.specs.Renewing.{renew_line, CanRenew, line_behind as line_renewed};
-ghost use Rattle.operate.specs.Apart.{told};
+ghost use Rattle.operate.specs.Apart.{next_of};
 ghost use Rattle.operate.specs.Places.{key_line};
 ghost use Rattle.operate.specs.Steps.{CommitsNoMore, KeySteps, KeyActs, ReadsKey};
 
 use crate::key_op::{BelowAt, KeyAt, KeyOp};
 use crate::went::Went;
 use contract::{Cleaned, Climbed, Renewed};
-use ctrie_base::Refusal;
 use epochs::Heap;
 use key_finding::KeyReply;
 use root_asking::ReadRoot;
@@ -27,16 +26,14 @@ impl KeyOp {
     /// Takes a step of a renewing.
     #[inline(never)]
     pub(crate) fn renew(&mut self, heap: &mut Heap, root_seen: Option<u64>) -> Went
-        requires at { self.old.place ≡ KeyAt.Down BelowAt.Renew }
-        requires can { CanRenew heap.old.heap self.old.work.swap self.old.renew }
+        requires at { self.old.at ≡ KeyAt.Down BelowAt.Renew }
+        requires can { CanRenew heap.old.heap self.old.work self.old.renew }
         requires held { AreHeld self.old.work.private heap.old }
-        ensures follows { IfOk (told result) (λ next. KeySteps heap.old.heap self.old (renew_line self.old.path self.old.work.swap root_seen self.old.renew) self.new next) }
-        ensures acts { OnOk (told result) (KeyActs heap.old self.old (renew_line self.old.path self.old.work.swap root_seen self.old.renew) heap.new self.new.work.private) }
+        ensures follows { KeySteps heap.old.heap self.old (renew_line self.old.path self.old.work.swap root_seen self.old.renew) self.new (next_of result) }
+        ensures acts { KeyActs heap.old self.old (renew_line self.old.path self.old.work.swap root_seen self.old.renew) heap.new self.new.work.private }
         ensures same { (self.new.task ≡ self.old.task) × (self.new.work.swap.read.access ≡ self.old.work.swap.read.access) }
-        ensures asks { IfOk (told result) (λ next. IsAskingRoot next → (self.new ≡ self.old) × (heap.new ≡ heap.old)) }
-        ensures err { OnErr (told result) ((self.new ≡ self.old) × (heap.new ≡ heap.old)) }
-        ensures only_memory { IfErr (told result) (λ refusal. refusal ≡ Refusal.Memory) }
-        ensures stands { OnOk (told result) (ReadsKey self.new) }
+        ensures asks { IsAskingRoot (next_of result) → (self.new ≡ self.old) × (heap.new ≡ heap.old) }
+        ensures stands { ReadsKey self.new }
     {
         match self.renew.step(
             &mut self.work,
@@ -45,13 +42,12 @@ impl KeyOp {
             self.path.as_slice(),
             root_seen,
         ) {
-            Ok(Next::More(kind)) => Went::More(kind),
-            Ok(Next::AskRoot) => Went::AskRoot,
-            Ok(Next::Done(kind, renewed)) => {
+            Next::More(kind) => Went::More(kind),
+            Next::AskRoot => Went::AskRoot,
+            Next::Done(kind, renewed) => {
                 self.after_renewing(renewed);
                 Went::More(kind)
             }
-            Err(refusal) => Went::Refused(refusal),
         }
     }
 
@@ -69,36 +65,33 @@ impl KeyOp {
             }
             Renewed::Lost => self.begin_try(),
             Renewed::NoSlots => self.end_with(KeyReply::NoSlots),
-            Renewed::Impossible => self.place = KeyAt::Down(BelowAt::Impossible),
+            Renewed::Impossible => self.at = KeyAt::Down(BelowAt::Impossible),
         }
     }
 
     /// Takes a step of a cleaning.
     #[inline(never)]
     pub(crate) fn clean(&mut self, heap: &mut Heap, root_seen: Option<u64>) -> Went
-        requires at { self.old.place ≡ KeyAt.Down BelowAt.Clean }
-        requires can { CanClean heap.old.heap (above self.old.path) self.old.work.swap self.old.clean }
+        requires at { self.old.at ≡ KeyAt.Down BelowAt.Clean }
+        requires can { CanClean heap.old.heap (above self.old.path) self.old.work self.old.clean }
         requires held { AreHeld self.old.work.private heap.old }
-        ensures follows { IfOk (told result) (λ next. KeySteps heap.old.heap self.old (clean_line (above self.old.path) self.old.work.swap root_seen self.old.clean) self.new next) }
-        ensures acts { OnOk (told result) (KeyActs heap.old self.old (clean_line (above self.old.path) self.old.work.swap root_seen self.old.clean) heap.new self.new.work.private) }
+        ensures follows { KeySteps heap.old.heap self.old (clean_line (above self.old.path) self.old.work.swap root_seen self.old.clean) self.new (next_of result) }
+        ensures acts { KeyActs heap.old self.old (clean_line (above self.old.path) self.old.work.swap root_seen self.old.clean) heap.new self.new.work.private }
         ensures same { (self.new.task ≡ self.old.task) × (self.new.work.swap.read.access ≡ self.old.work.swap.read.access) }
-        ensures asks { IfOk (told result) (λ next. IsAskingRoot next → (self.new ≡ self.old) × (heap.new ≡ heap.old)) }
-        ensures err { OnErr (told result) ((self.new ≡ self.old) × (heap.new ≡ heap.old)) }
-        ensures only_memory { IfErr (told result) (λ refusal. refusal ≡ Refusal.Memory) }
-        ensures stands { OnOk (told result) (ReadsKey self.new) }
+        ensures asks { IsAskingRoot (next_of result) → (self.new ≡ self.old) × (heap.new ≡ heap.old) }
+        ensures stands { ReadsKey self.new }
     {
         let parents = above(self.path.as_slice());
         match self
             .clean
             .step(&mut self.work, heap, self.task, parents, root_seen)
         {
-            Ok(Next::More(kind)) => Went::More(kind),
-            Ok(Next::AskRoot) => Went::AskRoot,
-            Ok(Next::Done(kind, cleaned)) => {
+            Next::More(kind) => Went::More(kind),
+            Next::AskRoot => Went::AskRoot,
+            Next::Done(kind, cleaned) => {
                 self.after_cleaning(cleaned);
                 Went::More(kind)
             }
-            Err(refusal) => Went::Refused(refusal),
         }
     }
 
@@ -111,23 +104,21 @@ impl KeyOp {
         match cleaned {
             Cleaned::Cleaned => self.begin_try(),
             Cleaned::NoSlots => self.end_with(KeyReply::NoSlots),
-            Cleaned::Impossible => self.place = KeyAt::Down(BelowAt::Impossible),
+            Cleaned::Impossible => self.at = KeyAt::Down(BelowAt::Impossible),
         }
     }
 
     /// Takes a step of a climb.
     #[inline(never)]
     pub(crate) fn climb(&mut self, heap: &mut Heap, root_seen: Option<u64>) -> Went
-        requires at { self.old.place ≡ KeyAt.Down BelowAt.Climb }
-        requires can { CanClimb heap.old.heap self.old.task self.old.path self.old.work.swap self.old.climb }
+        requires at { self.old.at ≡ KeyAt.Down BelowAt.Climb }
+        requires can { CanClimb heap.old.heap self.old.task self.old.path self.old.work self.old.climb }
         requires held { AreHeld self.old.work.private heap.old }
-        ensures follows { IfOk (told result) (λ next. KeySteps heap.old.heap self.old (climb_line self.old.path self.old.work.swap root_seen self.old.climb) self.new next) }
-        ensures acts { OnOk (told result) (KeyActs heap.old self.old (climb_line self.old.path self.old.work.swap root_seen self.old.climb) heap.new self.new.work.private) }
+        ensures follows { KeySteps heap.old.heap self.old (climb_line self.old.path self.old.work.swap root_seen self.old.climb) self.new (next_of result) }
+        ensures acts { KeyActs heap.old self.old (climb_line self.old.path self.old.work.swap root_seen self.old.climb) heap.new self.new.work.private }
         ensures same { (self.new.task ≡ self.old.task) × (self.new.work.swap.read.access ≡ self.old.work.swap.read.access) }
-        ensures asks { IfOk (told result) (λ next. IsAskingRoot next → (self.new ≡ self.old) × (heap.new ≡ heap.old)) }
-        ensures err { OnErr (told result) ((self.new ≡ self.old) × (heap.new ≡ heap.old)) }
-        ensures only_memory { IfErr (told result) (λ refusal. refusal ≡ Refusal.Memory) }
-        ensures stands { OnOk (told result) (ReadsKey self.new) }
+        ensures asks { IsAskingRoot (next_of result) → (self.new ≡ self.old) × (heap.new ≡ heap.old) }
+        ensures stands { ReadsKey self.new }
     {
         match self.climb.step(
             &mut self.work,
@@ -136,13 +127,12 @@ impl KeyOp {
             self.path.as_slice(),
             root_seen,
         ) {
-            Ok(Next::More(kind)) => Went::More(kind),
-            Ok(Next::AskRoot) => Went::AskRoot,
-            Ok(Next::Done(kind, climbed)) => {
+            Next::More(kind) => Went::More(kind),
+            Next::AskRoot => Went::AskRoot,
+            Next::Done(kind, climbed) => {
                 self.after_climb(climbed);
                 Went::More(kind)
             }
-            Err(refusal) => Went::Refused(refusal),
         }
     }
 
@@ -162,9 +152,9 @@ impl KeyOp {
             Climbed::Climbed => self.answer(self.climb.former),
             Climbed::Lost => {
                 self.root = ReadRoot::Read;
-                self.place = KeyAt::RootAgain;
+                self.at = KeyAt::RootAgain;
             }
-            Climbed::Impossible => self.place = KeyAt::Down(BelowAt::Impossible),
+            Climbed::Impossible => self.at = KeyAt::Down(BelowAt::Impossible),
         }
     }
 }

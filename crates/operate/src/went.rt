@@ -1,9 +1,9 @@
 //! What came of a step that is taken apart from the others.
 
 ghost use Rattle.std.specs.Prelude.{◌≡◌};
-ghost use Rattle.operate.specs.Apart.{told};
+ghost use Rattle.operate.specs.Apart.{next_of};
 
-use ctrie_base::{Kind, Refusal};
+use ctrie_base::Kind;
 use key_finding::KeyReply;
 use trie_parts::Next;
 
@@ -15,20 +15,17 @@ pub(crate) enum Went {
     More(Kind),
     /// It took no step: it wants the generation of the root.
     AskRoot,
-    /// It was refused, and nothing has changed.
-    Refused(Refusal),
 }
 
 impl Went {
     /// The same, as `KeyOp::step` tells it.
     #[inline(always)]
-    pub(crate) fn told(self) -> Result<Next<KeyReply>, Refusal>
-        ensures { result ≡ told self }
+    pub(crate) fn next(self) -> Next<KeyReply>
+        ensures { result ≡ next_of self }
     {
         match self {
-            Went::More(kind) => Ok(Next::More(kind)),
-            Went::AskRoot => Ok(Next::AskRoot),
-            Went::Refused(refusal) => Err(refusal),
+            Went::More(kind) => Next::More(kind),
+            Went::AskRoot => Next::AskRoot,
         }
     }
 }

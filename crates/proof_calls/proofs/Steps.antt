@@ -13,7 +13,7 @@ use Rattle.proof_calls.specs.Beneath.machine_model.specs.declared.steps.Step.{St
 use Rattle.proof_calls.specs.Beneath.machine_model.specs.declared.steps.Step.TheVariants as step
 use Rattle.proof_calls.specs.Beneath.machine_model.specs.Machine.{run}
 use Rattle.proof_calls.specs.Beneath.machine_model.specs.Operations.{action_of, line_action, read_of}
-use Rattle.proof_calls.specs.Beneath.machine_model.specs.Orders.{committed_in}
+use Rattle.proof_calls.specs.Beneath.machine_model.specs.Tellings.{committed_in}
 use Rattle.proof_calls.specs.Beneath.machine_model.specs.Paths.{above}
 use Rattle.proof_calls.specs.Beneath.machine_model.specs.States.{State, operation_of}
 use Rattle.proof_calls.specs.Beneath.gcas.specs.Swaps.{swap_of}
@@ -75,9 +75,9 @@ record Swapping (op : KeyOp) (told : Option ℕ) (place : BelowAt) : Type 0 wher
 
 repairing : (op : KeyOp) (told : Option ℕ) (place : BelowAt) → SwapsRepaired op place → Swapping op told place
 repairing op told at.Renew e =
-    record { why = purpose.Renew op.path; stands = ap (renew_line_at op.path op.work.swap told op.renew.main op.renew.done) e; repairs = λ path former h. cc }
+    record { why = purpose.Renew op.path; stands = ap (renew_line_at op.path op.work.swap told op.renew.main op.renew.done.items) e; repairs = λ path former h. cc }
 repairing op told at.Clean e =
-    record { why = purpose.Clean; stands = ap (clean_line_at (above op.path) op.work.swap told op.clean.main op.clean.done) e; repairs = λ path former h. cc }
+    record { why = purpose.Clean; stands = ap (clean_line_at (above op.path) op.work.swap told op.clean.main op.clean.done.items) e; repairs = λ path former h. cc }
 repairing op told at.Climb e =
     record { why = purpose.Climb (climb_of op.path op.climb); stands = ap (climb_line_at op.work.swap told (climb_of op.path op.climb)) e; repairs = λ path former h. cc }
 repairing op told at.Read e = absurd e

@@ -6,7 +6,7 @@ use Rattle.proof_calls.specs.Beneath.machine_model.specs.declared.operations.Ope
 use Rattle.proof_calls.specs.Beneath.machine_model.specs.declared.steps.Step.{Step}
 use Rattle.proof_calls.specs.Beneath.machine_model.specs.declared.steps.Step.TheVariants as step
 use Rattle.proof_calls.specs.Beneath.machine_model.specs.Operations.{read_of}
-use Rattle.proof_calls.specs.Beneath.machine_model.specs.Orders.{committed_in}
+use Rattle.proof_calls.specs.Beneath.machine_model.specs.Tellings.{committed_in}
 use Rattle.proof_calls.specs.Beneath.machine_model.specs.States.{State, operation_of}
 use Rattle.proof_calls.specs.Beneath.gcas.specs.declared.read.Read.{Read}
 use Rattle.proof_calls.specs.Beneath.key_change.specs.declared.change.ChangeAt.TheVariants as change
@@ -17,9 +17,9 @@ use Rattle.operate.specs.declared.key_op.BelowAt.{BelowAt}
 use Rattle.operate.specs.declared.key_op.BelowAt.TheVariants as at
 use Rattle.operate.specs.declared.key_op.KeyOp.{KeyOp}
 use Rattle.operate.specs.Places.{below_line, key_line}
-use Rattle.snapshot.specs.declared.snap.Snap.{Snap}
+use Rattle.snapshot.specs.declared.copy_op.CopyOp.{CopyOp}
 use Rattle.snapshot.specs.declared.walk.Walk.{Walk}
-use Rattle.snapshot.specs.Copies.{snap_line}
+use Rattle.snapshot.specs.Copies.{copy_line}
 use Rattle.snapshot.specs.Walks.{walk_line}
 
 -- the step is the next one of this operation, which stands on this line
@@ -32,7 +32,7 @@ pub record StepsFrom (state : State) (s : Step) (l : Line) (operation : Operatio
 -- the step is the next one of a call, whose READ was told this of the root's generation
 pub data StepsCall (state : State) (s : Step) (operation : Operation) : Type 0 where
   of_key : (op : KeyOp) (told : Option ℕ) → StepsFrom state s (key_line op told) operation → StepsCall state s operation
-  of_snap : (snap : Snap) (read : Read) (told : Option ℕ) → StepsFrom state s (snap_line read told snap) operation → StepsCall state s operation
+  of_copy : (copy : CopyOp) (read : Read) (told : Option ℕ) → StepsFrom state s (copy_line read told copy) operation → StepsCall state s operation
   of_walk : (walk : Walk) (read : Read) (told : Option ℕ) → StepsFrom state s (walk_line read told walk) operation → StepsCall state s operation
 
 -- ---- below the root
@@ -47,9 +47,9 @@ committed state op told place = committed_in state (read_of (below_line op told 
 
 -- it swaps in a main node that it made to renew, to clean or to climb
 abbrev pub SwapsRepaired : KeyOp → BelowAt → Type 0
-SwapsRepaired op at.Renew = op.renew.place ≡ renew.Swap
-SwapsRepaired op at.Clean = op.clean.place ≡ clean.Swap
-SwapsRepaired op at.Climb = op.climb.place ≡ climb.Swap
+SwapsRepaired op at.Renew = op.renew.at ≡ renew.Swap
+SwapsRepaired op at.Clean = op.clean.at ≡ clean.Swap
+SwapsRepaired op at.Climb = op.climb.at ≡ climb.Swap
 SwapsRepaired op place = ⊥
 
 -- it swaps in a main node in which its key is changed, whose value was the former one

@@ -1,15 +1,19 @@
 -- What an operation is about to swap in.
-use Rattle.std.specs.Prelude.{◌≡◌, ℕ, Bool, false, Option, Some, None, refl}
+use Rattle.std.specs.Prelude.{◌≡◌, ℕ, Option, Some, None, refl}
 use Rattle.std.proofs.Common.{sym, ◌∙◌}
 use Rattle.slot_arena.specs.declared.refs.Ref.{Ref}
 use Rattle.running.specs.Beneath.machine_model.specs.declared.lines.Line.{Line}
 use Rattle.running.specs.Beneath.machine_model.specs.declared.lines.Line.TheVariants as line
-use Rattle.running.specs.Beneath.machine_model.specs.declared.lines.Purpose.TheVariants as purpose
+use Rattle.running.specs.Beneath.machine_model.specs.declared.operations.Operation.{Operation}
 use Rattle.running.specs.Beneath.machine_model.specs.declared.reading.ReadLine.{ReadLine}
-use Rattle.running.specs.Beneath.machine_model.specs.Acting.{swaps_in}
+use Rattle.running.specs.Beneath.machine_model.specs.declared.reading.SwapLine.{SwapLine}
+use Rattle.running.specs.Beneath.machine_model.specs.declared.reading.SwapLine.TheVariants as swap
+use Rattle.running.specs.Beneath.machine_model.specs.declared.records.Entrant.{Entrant}
+use Rattle.running.specs.Beneath.machine_model.specs.declared.records.Publication.{Publication}
+use Rattle.running.specs.Beneath.machine_model.specs.Tellings.{changer_for, published_at, published_by}
 use Rattle.running.specs.Beneath.root_asking.specs.declared.asking.Asking.{Asking}
 use Rattle.running.specs.Beneath.root_asking.specs.declared.asking.Asking.TheVariants.{Unasked, Met, Told}
-use Rattle.running.specs.Beneath.root_asking.specs.Inside.{with_read}
+use Rattle.running.specs.Beneath.root_asking.specs.Inside.{swapping_at, with_read}
 use Rattle.running.specs.declared.job.Program.{Program}
 use Rattle.running.specs.declared.programs.Programs.{Programs}
 use Rattle.running.specs.declared.programs.Stage.{Stage}
@@ -17,21 +21,24 @@ use Rattle.running.specs.Places.{asking_line, met_at, stage_line}
 use Rattle.running.proofs.Giving.{SwapsNone}
 
 -- a program that swaps no main node of its own swaps in none
-pub swaps_nothing : (main : Ref) (l : Line) → SwapsNone l → swaps_in main l ≡ false
-swaps_nothing main (line.Swap why s) own = absurd own
-swaps_nothing main l own = refl
+pub publishes_nothing : (operation : Operation) (l : Line) → SwapsNone l → published_by operation l ≡ None
+publishes_nothing operation (line.Swap why s) own = absurd own
+publishes_nothing operation l own = refl
 
 -- the line on which its READ stands doesn't matter to that
-same_swap : (here : ReadLine) (main : Ref) (l : Line) → swaps_in main (with_read here l) ≡ swaps_in main l
-same_swap here main (line.Swap (purpose.Update path former) s) = refl
-same_swap here main (line.Swap (purpose.Renew path) s) = refl
-same_swap here main (line.Swap purpose.Clean s) = refl
-same_swap here main (line.Swap (purpose.Climb c) s) = refl
-same_swap here main l = refl
+publishes_still : (here : ReadLine) (changer : Option Entrant) (main : Ref) (l : SwapLine) → published_at changer main (swapping_at here l) ≡ published_at changer main l
+publishes_still here changer main swap.Publish = refl
+publishes_still here changer main (swap.Deciding l) = refl
+publishes_still here changer main swap.Check = refl
+
+same_publication : (here : ReadLine) (operation : Operation) (l : Line) → published_by operation (with_read here l) ≡ published_by operation l
+same_publication here operation (line.Swap why s) = publishes_still here (changer_for operation why) s.fresh s.line
+same_publication here operation l = refl
 
 -- so it is whatever is asked
-pub swaps_so : (p : Programs) (program : Program) (stage : Stage) (asking : Asking) (main : Ref) (b : Bool) →
-    ((told : Option ℕ) → swaps_in main (stage_line p told program stage) ≡ b) → b ≡ swaps_in main (asking_line p program stage asking)
-swaps_so p program stage Unasked main b is = sym (is None)
-swaps_so p program stage (Met offer) main b is = sym (same_swap (met_at p.key.work.swap.read.at offer) main (stage_line p None program stage) ∙ is None)
-swaps_so p program stage (Told generation) main b is = sym (is (Some generation))
+pub publishes_so : (p : Programs) (program : Program) (stage : Stage) (asking : Asking) (operation : Operation) (published : Option Publication) →
+    ((told : Option ℕ) → published_by operation (stage_line p told program stage) ≡ published) → published ≡ published_by operation (asking_line p program stage asking)
+publishes_so p program stage Unasked operation published is = sym (is None)
+publishes_so p program stage (Met offer) operation published is =
+    sym (same_publication (met_at p.key.work.swap.read.at offer) operation (stage_line p None program stage) ∙ is None)
+publishes_so p program stage (Told generation) operation published is = sym (is (Some generation))

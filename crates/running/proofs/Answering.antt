@@ -10,12 +10,12 @@ use Rattle.running.specs.Beneath.gcas.specs.declared.read.Read.{Read}
 use Rattle.running.specs.Beneath.root_asking.specs.declared.asking.Asking.{Asking}
 use Rattle.running.specs.Beneath.root_asking.specs.declared.asking.Asking.TheVariants.{Unasked, Met, Told}
 use Rattle.running.specs.Beneath.root_asking.specs.Inside.{with_read}
-use Rattle.snapshot.specs.declared.snap.Making.TheVariants as making
-use Rattle.snapshot.specs.declared.snap.SnapAt.{SnapAt}
-use Rattle.snapshot.specs.declared.snap.SnapAt.TheVariants as at
+use Rattle.snapshot.specs.declared.copy_op.Making.TheVariants as making
+use Rattle.snapshot.specs.declared.copy_op.CopyAt.{CopyAt}
+use Rattle.snapshot.specs.declared.copy_op.CopyAt.TheVariants as at
 use Rattle.snapshot.specs.declared.walk.WalkAt.{WalkAt}
 use Rattle.snapshot.specs.declared.walk.WalkAt.TheVariants as walk
-use Rattle.snapshot.specs.Copies.{snap_line_at}
+use Rattle.snapshot.specs.Copies.{copy_line_at}
 use Rattle.snapshot.specs.Walks.{walk_line_at}
 use Rattle.running.specs.declared.job.Program.{Program}
 use Rattle.running.specs.declared.programs.Programs.{Programs}
@@ -37,15 +37,15 @@ same_answer here (line.Walk w) = refl
 same_answer here (line.End answer) = refl
 same_answer here line.Impossible = refl
 
-pub snap_goes_on : (r : Ref) (q : Read) (told : Option ℕ) (place : SnapAt) → answer_of (snap_line_at r q told place) ≡ None
-snap_goes_on r q told (at.Root l) = refl
-snap_goes_on r q told at.Read = refl
-snap_goes_on r q told (at.Make (making.Successor main)) = refl
-snap_goes_on r q told (at.Make (making.Second main successor)) = refl
-snap_goes_on r q told (at.Make (making.Empty main)) = refl
-snap_goes_on r q told (at.Make (making.Cleared main branch)) = refl
-snap_goes_on r q told (at.Offer offer) = refl
-snap_goes_on r q told (at.Complete c) = refl
+pub copy_goes_on : (r : Ref) (q : Read) (told : Option ℕ) (place : CopyAt) → answer_of (copy_line_at r q told place) ≡ None
+copy_goes_on r q told (at.Root l) = refl
+copy_goes_on r q told at.Read = refl
+copy_goes_on r q told (at.Make (making.Successor main)) = refl
+copy_goes_on r q told (at.Make (making.Second main successor)) = refl
+copy_goes_on r q told (at.Make (making.Empty main)) = refl
+copy_goes_on r q told (at.Make (making.Cleared main branch)) = refl
+copy_goes_on r q told (at.Offer offer) = refl
+copy_goes_on r q told (at.Complete c) = refl
 
 pub walk_goes_on : (q : Read) (told : Option ℕ) (todo : List Ref) (pairs : List (ℕ × ℕ)) (place : WalkAt) → answer_of (walk_line_at q told todo pairs place) ≡ None
 walk_goes_on q told todo pairs walk.Root = refl

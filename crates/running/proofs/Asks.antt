@@ -25,8 +25,8 @@ use Rattle.running.specs.Beneath.machine_model.specs.declared.roots.RootWord.The
 use Rattle.running.specs.Beneath.machine_model.specs.Acting.{attempt_after}
 use Rattle.running.specs.Beneath.machine_model.specs.Calls.{handle_of}
 use Rattle.running.specs.Beneath.machine_model.specs.Operations.{generation_from, given_root, kind_of, line_action, line_after, read_of, rooting_read}
-use Rattle.running.specs.Beneath.machine_model.specs.Orders.{committed_in, counted_from}
 use Rattle.running.specs.Beneath.machine_model.specs.States.{State, word_at}
+use Rattle.running.specs.Beneath.machine_model.specs.Tellings.{committed_in, counts_from, given_in}
 use Rattle.running.specs.Beneath.machine_model.specs.Swapping.{root_after}
 use Rattle.running.specs.Beneath.gcas.specs.declared.read.Read.{Read as Running}
 use Rattle.running.specs.Beneath.gcas.specs.declared.read.ReadAt.{ReadAt}
@@ -45,17 +45,18 @@ use Rattle.running.specs.Beneath.root_asking.specs.Asked.{AsksOn, IsUntold, abor
 use Rattle.running.specs.Beneath.root_asking.specs.Inside.{rooting_at, with_read}
 use Rattle.running.specs.Beneath.root_asking.proofs.Embedding.{each_embeds}
 use Rattle.snapshot.specs.Tasks.{drawn_by, with_generation}
+use Rattle.snapshot.specs.declared.tasks.WalkCall.TheVariants.{Entries, Count}
 use Rattle.running.specs.declared.job.Job.{Job}
 use Rattle.running.specs.declared.job.Program.{Program}
-use Rattle.running.specs.declared.job.Program.TheVariants.{Key, Snap, Entries, Count, Close}
+use Rattle.running.specs.declared.job.Program.TheVariants.{Key, Copy, Walk, Close}
 use Rattle.running.specs.declared.programs.Programs.{Programs}
 use Rattle.running.specs.declared.programs.Stage.TheVariants.{Runs}
 use Rattle.running.specs.Places.{IsBegun, IsWaiting, ReadsOn, generation_in, asking_line, call_for, met_at, program_line}
-use Rattle.running.specs.Steps.{Changes, Does, Scene, at_scene, given_in, operation_in}
+use Rattle.running.specs.Steps.{Changes, Does, Scene, at_scene, operation_in}
 use Rattle.running.proofs.Lasting.{tells}
 use Rattle.running.proofs.Giving.{asked_gives}
 use Rattle.running.specs.Beneath.root_asking.proofs.Aborting.{same_action}
-use Rattle.snapshot.specs.declared.tasks.SnapCall.TheVariants.{Snapshot, Freeze, Clear}
+use Rattle.snapshot.specs.declared.tasks.CopyCall.TheVariants.{Snapshot, Freeze, Clear}
 
 -- ---- that a program's READ asks
 
@@ -126,11 +127,11 @@ key_handle handle (RemoveIf k v) = refl
 -- a program's call is on its handle
 pub handle_named : (handle : ℕ) (program : Program) → handle_of (call_for handle program) ≡ handle
 handle_named handle (Key call) = key_handle handle call
-handle_named handle (Snap Snapshot) = refl
-handle_named handle (Snap Freeze) = refl
-handle_named handle (Snap Clear) = refl
-handle_named handle Entries = refl
-handle_named handle Count = refl
+handle_named handle (Copy Snapshot) = refl
+handle_named handle (Copy Freeze) = refl
+handle_named handle (Copy Clear) = refl
+handle_named handle (Walk Entries) = refl
+handle_named handle (Walk Count) = refl
 handle_named handle Close = refl
 
 commits_none : (state : State) (indirection main previous : Ref) (asking : Asking) → IsUntold asking → committed_in state (Some (asked_read indirection main previous asking)) ≡ None
@@ -140,7 +141,7 @@ commits_none state indirection main previous (Told generation) untold = absurd u
 
 gives_none : (state : State) (operation : Operation) (indirection main previous : Ref) (asking : Asking) → IsUntold asking →
     given_in state operation (Some (asked_read indirection main previous asking)) ≡ None
-gives_none state operation indirection main previous Unasked untold = asked_gives state.heap main previous (word_at state (handle_of operation.call))
+gives_none state operation indirection main previous Unasked untold = asked_gives state.heap indirection main previous (word_at state (handle_of operation.call))
 gives_none state operation indirection main previous (Met offer) untold = refl
 gives_none state operation indirection main previous (Told generation) untold = absurd untold
 
@@ -191,10 +192,10 @@ draws_none heap generation Unasked = (refl, refl)
 draws_none heap generation (Met offer) = (refl, refl)
 draws_none heap generation (Told g) = (refl, refl)
 
-counts_none : (asking : Asking) (step was : ℕ) → counted_from (ask_action asking) step was ≡ was
-counts_none Unasked step was = refl
-counts_none (Met offer) step was = refl
-counts_none (Told g) step was = refl
+counts_none : (asking : Asking) → counts_from (ask_action asking) ≡ false
+counts_none Unasked = refl
+counts_none (Met offer) = refl
+counts_none (Told g) = refl
 
 offers_none : (attempt : ℕ) (asking : Asking) → attempt_after attempt (ask_action asking) ≡ attempt
 offers_none attempt Unasked = refl
@@ -214,23 +215,20 @@ waits (Told g) l ask = ask
 -- where it stands matters neither to the generation that it was told nor to its call
 same_generation : (program : Program) (p : Programs) (asking : Asking) → generation_in program (record p { stage = Runs; asking = asking }) ≡ generation_in program p
 same_generation (Key call) p asking = refl
-same_generation (Snap call) p asking = refl
-same_generation Entries p asking = refl
-same_generation Count p asking = refl
+same_generation (Copy call) p asking = refl
+same_generation (Walk call) p asking = refl
 same_generation Close p asking = refl
 
 same_call : (program : Program) (p : Programs) (asking : Asking) → IsBegun program p → IsBegun program (record p { stage = Runs; asking = asking })
 same_call (Key call) p asking begun = begun
-same_call (Snap call) p asking begun = tt
-same_call Entries p asking begun = tt
-same_call Count p asking begun = tt
+same_call (Copy call) p asking begun = tt
+same_call (Walk call) p asking begun = tt
 same_call Close p asking begun = tt
 
 same_reads : (program : Program) (p : Programs) (asking : Asking) → ReadsOn program p → ReadsOn program (record p { stage = Runs; asking = asking })
 same_reads (Key call) p asking stands = stands
-same_reads (Snap call) p asking stands = stands
-same_reads Entries p asking stands = tt
-same_reads Count p asking stands = tt
+same_reads (Copy call) p asking stands = stands
+same_reads (Walk call) p asking stands = tt
 same_reads Close p asking stands = tt
 
 -- A step of ABORT in the place of one of the program.
@@ -253,7 +251,7 @@ steps job program before asking asking' memory' table' k ask untold begun stands
           (sym (draws_none before.memory.heap before.generation asking).1) acts;
       table = table ∙ table_so before.table job.handle job.actor asking untold;
       drawn = sym ((draws_none before.memory.heap before.generation asking).0);
-      attempt = sym (offers_none p.snap.attempt asking);
+      attempt = sym (offers_none p.copy.attempt asking);
     } in
     record {
       takes = λ state operation.
@@ -266,8 +264,7 @@ steps job program before asking asking' memory' table' k ask untold begun stands
             committed = ap (λ m. committed_in there (read_of m)) from ∙ ap (committed_in there) step.3
                 ∙ commits_none there h.indirection h.main h.previous asking untold;
             given = ap (λ m. given_in there o (read_of m)) from ∙ ap (given_in there o) step.3 ∙ gives_none there o h.indirection h.main h.previous asking untold;
-            counts = λ n was.
-                ap (λ m. counted_from (line_action there o m) n was) from ∙ ap (λ a. counted_from a n was) step.0 ∙ counts_none asking n was;
+            counts = ap (λ m. counts_from (line_action there o m)) from ∙ ap counts_from step.0 ∙ counts_none asking;
           };
       changes = λ state operation.
           let there : State = at_scene state before in

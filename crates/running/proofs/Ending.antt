@@ -11,8 +11,8 @@ use Rattle.running.specs.Beneath.machine_model.specs.declared.lines.Line.TheVari
 use Rattle.running.specs.Beneath.machine_model.specs.declared.operations.Operation.{Operation}
 use Rattle.running.specs.Beneath.machine_model.specs.declared.reading.ReadLine.{ReadLine}
 use Rattle.running.specs.Beneath.machine_model.specs.Operations.{generation_from, kind_of, line_action, line_after, read_of}
-use Rattle.running.specs.Beneath.machine_model.specs.Orders.{committed_in, counted_from}
 use Rattle.running.specs.Beneath.machine_model.specs.States.{State}
+use Rattle.running.specs.Beneath.machine_model.specs.Tellings.{committed_in, counts_from, given_in}
 use Rattle.running.specs.Beneath.root_asking.specs.declared.asking.Asking.{Asking}
 use Rattle.running.specs.Beneath.root_asking.specs.declared.asking.Asking.TheVariants.{Unasked, Met, Told}
 use Rattle.running.specs.Beneath.root_asking.specs.Inside.{with_read}
@@ -22,7 +22,7 @@ use Rattle.running.specs.declared.programs.Programs.{Programs}
 use Rattle.running.specs.declared.programs.Stage.{Stage}
 use Rattle.running.specs.declared.programs.Stage.TheVariants.{Impossible}
 use Rattle.running.specs.Places.{IsSound, asking_line, line_for, met_at, stage_line}
-use Rattle.running.specs.Steps.{Changes, Does, Scene, at_scene, given_in, operation_in}
+use Rattle.running.specs.Steps.{Changes, Does, Scene, at_scene, operation_in}
 
 -- it changes nothing
 abbrev IsIdle : Action → Type 0
@@ -78,7 +78,7 @@ record Rests (state : State) (operation : Operation) (l : Line) (k : Kind) (acti
   line_is : line_after state operation l ≡ l
   reads : read_of l ≡ None
   keeps : generation_from state operation l ≡ operation.generation
-  counts : (step was : ℕ) → counted_from action step was ≡ was
+  counts : counts_from action ≡ false
 
 rests : (job : Job) (program : Program) (scene : Scene) (l : Line) (k : Kind) (action : Action) → line_for program scene.programs ≡ l → IsSound program scene.programs →
     IsIdle action → ((state : State) (operation : Operation) → Rests state operation l k action) →
@@ -93,7 +93,7 @@ rests job program scene l k action from sound none each = record {
         line = ap (line_after there o) from ∙ step.line_is ∙ sym from;
         committed = ap (λ m. committed_in there (read_of m)) from ∙ ap (committed_in there) step.reads;
         given = ap (λ m. given_in there o (read_of m)) from ∙ ap (given_in there o) step.reads;
-        counts = λ n was. ap (λ m. counted_from (line_action there o m) n was) from ∙ ap (λ a. counted_from a n was) step.does ∙ step.counts n was;
+        counts = ap (λ m. counts_from (line_action there o m)) from ∙ ap counts_from step.does ∙ step.counts;
       };
   changes = λ state operation.
       let there : State = at_scene state scene in
@@ -116,7 +116,7 @@ ended job program scene stage answer at is sound =
     rests job program scene (line.End answer) kind.End (act.End answer)
     (ap (λ s. asking_line scene.programs program s scene.programs.asking) at
     ∙ stays scene.programs program stage scene.programs.asking (line.End answer) is (λ here. refl))
-    sound tt (λ state operation. record { does = refl; kind_is = refl; line_is = refl; reads = refl; keeps = refl; counts = λ step was. refl })
+    sound tt (λ state operation. record { does = refl; kind_is = refl; line_is = refl; reads = refl; keeps = refl; counts = refl })
 
 -- a step to which no machine comes
 pub stuck : (job : Job) (program : Program) (scene : Scene) → scene.programs.stage ≡ Impossible → IsSound program scene.programs →
@@ -125,4 +125,4 @@ stuck job program scene at sound =
     rests job program scene line.Impossible kind.ReadRoot act.ReadRoot
     (ap (λ s. asking_line scene.programs program s scene.programs.asking) at
     ∙ stays scene.programs program Impossible scene.programs.asking line.Impossible (λ told. refl) (λ here. refl))
-    sound tt (λ state operation. record { does = refl; kind_is = refl; line_is = refl; reads = refl; keeps = refl; counts = λ step was. refl })
+    sound tt (λ state operation. record { does = refl; kind_is = refl; line_is = refl; reads = refl; keeps = refl; counts = refl })

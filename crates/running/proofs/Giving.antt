@@ -1,5 +1,5 @@
 -- What an operation's READ gives and commits by a step, of a program that swaps no main node of its own.
-use Rattle.std.specs.Prelude.{◌≡◌, ℕ, Bool, false, ◌&&◌, is_some, Option, Some, None, refl, if◌then◌else◌}
+use Rattle.std.specs.Prelude.{◌≡◌, Bool, ◌&&◌, is_some, Option, Some, None, refl}
 use Rattle.std.proofs.Common.{sym, ap, ◌∙◌}
 use Rattle.std.proofs.lemmas.Option.{none-some}
 use Rattle.ctrie_base.specs.declared.kinds.Kind.{Kind}
@@ -23,16 +23,16 @@ use Rattle.running.specs.Beneath.machine_model.specs.declared.roots.RootWord.The
 use Rattle.running.specs.Beneath.machine_model.specs.declared.walking.WalkLine.TheVariants as walk
 use Rattle.running.specs.Beneath.machine_model.specs.Calls.{handle_of}
 use Rattle.running.specs.Beneath.machine_model.specs.Operations.{kind_of, line_action, read_of}
-use Rattle.running.specs.Beneath.machine_model.specs.Orders.{committed_in, counted_from}
-use Rattle.running.specs.Beneath.machine_model.specs.Reading.{after_ask, read_action, read_after}
+use Rattle.running.specs.Beneath.machine_model.specs.Reading.{after_ask, at_indirection, read_action, read_after}
 use Rattle.running.specs.Beneath.machine_model.specs.States.{State, word_at}
+use Rattle.running.specs.Beneath.machine_model.specs.Tellings.{committed_in, counts_from, given_by, given_in}
 use Rattle.running.specs.Beneath.gcas.specs.declared.read.ReadAt.{ReadAt}
 use Rattle.running.specs.Beneath.gcas.specs.declared.read.ReadAt.TheVariants as at
 use Rattle.running.specs.Beneath.gcas.specs.Reads.{ReadsAlong, come_to, committed_so, given_so}
 use Rattle.running.specs.Beneath.trie_parts.specs.Steps.{Leads}
 use Rattle.running.specs.Beneath.root_asking.proofs.Embedding.{each_embeds}
-use Rattle.snapshot.specs.Copies.{snap_action}
-use Rattle.running.specs.Steps.{Takes, given_by, given_in, taken_in, taken_so}
+use Rattle.snapshot.specs.Copies.{action_on}
+use Rattle.running.specs.Steps.{Takes, taken_in, taken_so}
 use Rattle.running.specs.Taking.{committed_if, counts_if, given_if, if_reading}
 use Rattle.running.proofs.Counting.{gives_nothing, in_read, outside}
 
@@ -80,34 +80,38 @@ no_read state operation l x own none = absurd own
 
 -- ---- inside of it
 
-come_gives : (access : Access) (place : ReadAt) → given_by (come_to access place) ≡ given_so place
-come_gives access at.Main = refl
-come_gives access (at.Prev main) = refl
-come_gives access (at.Decide main previous) = refl
-come_gives access (at.Restore main previous) = refl
-come_gives access (at.Given main) = refl
+come_gives : (indirection : Ref) (access : Access) (place : ReadAt) → given_by (at_indirection indirection (come_to access place)) ≡ given_so place
+come_gives indirection access at.Main = refl
+come_gives indirection access (at.Prev main) = refl
+come_gives indirection access (at.Decide main previous) = refl
+come_gives indirection access (at.Restore main previous) = refl
+come_gives indirection access (at.Given main) = refl
 
-pub asked_gives : (heap : Heap) (main previous : Ref) (word : RootWord) → given_by (after_ask heap main previous word) ≡ None
-asked_gives heap main previous (Plain r) = refl
-asked_gives heap main previous (Offer offer) = refl
+pub asked_gives : (heap : Heap) (indirection main previous : Ref) (word : RootWord) → given_by (at_indirection indirection (after_ask heap main previous word)) ≡ None
+asked_gives heap indirection main previous (Plain r) = refl
+asked_gives heap indirection main previous (Offer offer) = refl
 
--- what a READ gives by its step
-gives : (heap : Heap) (access : Access) (word : RootWord) (indirection : Ref) (l : ReadLine) (k : Kind) (place : ReadAt) →
-    kind_of (read_action indirection l) ≡ k → read_after heap access word indirection l ≡ come_to access place →
-    given_by (read_after heap access word indirection l) ≡ given_if k (given_so place)
-gives heap access word indirection read.Main k place same comes = ap given_by comes ∙ come_gives access place ∙ ap (λ q. given_if q (given_so place)) same
-gives heap access word indirection (read.Prev main) k place same comes = ap given_by comes ∙ come_gives access place ∙ ap (λ q. given_if q (given_so place)) same
-gives heap access word indirection (read.AskRoot main previous) k place same comes = asked_gives heap main previous word ∙ ap (λ q. given_if q (given_so place)) same
-gives heap access word indirection (read.Abort main previous offer) k place same comes = ap (λ q. given_if q (given_so place)) same
-gives heap access word indirection (read.Decide main previous told) k place same comes = ap given_by comes ∙ come_gives access place ∙ ap (λ q. given_if q (given_so place)) same
-gives heap access word indirection (read.Restore main previous) k place same comes = ap given_by comes ∙ come_gives access place ∙ ap (λ q. given_if q (given_so place)) same
+module _ (heap : Heap) (access : Access) (word : RootWord) (indirection : Ref) (k : Kind) (place : ReadAt) where
+  -- what a READ gives that comes to this place
+  comes_to : (l : ReadLine) → read_after heap access word indirection l ≡ come_to access place → given_by (at_indirection indirection (read_after heap access word indirection l)) ≡ given_so place
+  comes_to l comes = ap (λ x. given_by (at_indirection indirection x)) comes ∙ come_gives indirection access place
+
+  -- what a READ gives by its step
+  gives : (l : ReadLine) → kind_of (read_action indirection l) ≡ k → read_after heap access word indirection l ≡ come_to access place →
+      given_by (at_indirection indirection (read_after heap access word indirection l)) ≡ given_if k (given_so place)
+  gives read.Main same comes = comes_to read.Main comes ∙ ap (λ q. given_if q (given_so place)) same
+  gives (read.Prev main) same comes = comes_to (read.Prev main) comes ∙ ap (λ q. given_if q (given_so place)) same
+  gives (read.AskRoot main previous) same comes = asked_gives heap indirection main previous word ∙ ap (λ q. given_if q (given_so place)) same
+  gives (read.Abort main previous offer) same comes = ap (λ q. given_if q (given_so place)) same
+  gives (read.Decide main previous told) same comes = comes_to (read.Decide main previous told) comes ∙ ap (λ q. given_if q (given_so place)) same
+  gives (read.Restore main previous) same comes = comes_to (read.Restore main previous) comes ∙ ap (λ q. given_if q (given_so place)) same
 
 commits : (k : Kind) (place : ReadAt) → committed_so k place ≡ committed_if k (given_so place)
 commits kind.SwapPrev place = refl
 commits k place = refl
 
 -- what such a program does doesn't depend on the state, nor on the operation
-pub same_action : (state : State) (operation : Operation) (l : Line) → SwapsNone l → line_action state operation l ≡ snap_action l
+pub same_action : (state : State) (operation : Operation) (l : Line) → SwapsNone l → line_action state operation l ≡ action_on l
 same_action state operation (line.Root l) own = refl
 same_action state operation (line.Copy l) own = refl
 same_action state operation (line.Walk l) own = refl
@@ -117,30 +121,25 @@ same_action state operation l own = absurd own
 
 -- ---- whether it counts
 
-choose : (a b : Bool) (step was : ℕ) → a ≡ b → (if a then step else was) ≡ (if b then step else was)
-choose a b step was same = ap (λ (x : Bool). if x then step else was) same
-
-read_counts : (state : State) (operation : Operation) (l : Line) (r : Read) (step was : ℕ) → read_of l ≡ Some r →
-    counted_from (line_action state operation l) step was ≡ (if counts_if (kind_of (line_action state operation l)) then step else was)
-read_counts state operation l r step was is =
+read_counts : (state : State) (operation : Operation) (l : Line) (r : Read) → read_of l ≡ Some r →
+    counts_from (line_action state operation l) ≡ counts_if (kind_of (line_action state operation l))
+read_counts state operation l r is =
     let embeds = each_embeds l r is in
     let acts = sym (ap (λ m. line_action state operation m) embeds.here) ∙ embeds.embedded.acts state operation r.line in
-    ap (λ a. counted_from a step was) acts ∙ in_read r.indirection r.line step was
-    ∙ choose (counts_if (kind_of (read_action r.indirection r.line))) (counts_if (kind_of (line_action state operation l))) step was (ap (λ a. counts_if (kind_of a)) (sym acts))
+    ap counts_from acts ∙ in_read r.indirection r.line ∙ ap (λ a. counts_if (kind_of a)) (sym acts)
 
-reading_counts : (state : State) (operation : Operation) (l : Line) (k : Kind) (o : Option Read) (step was : ℕ) → read_of l ≡ o → kind_of (line_action state operation l) ≡ k →
-    counted_from (line_action state operation l) step was ≡ (if is_some o && counts_if k then step else was)
-reading_counts state operation l k None step was is same = outside state operation l step was is
-reading_counts state operation l k (Some r) step was is same =
-    read_counts state operation l r step was is ∙ choose (counts_if (kind_of (line_action state operation l))) (counts_if k) step was (ap counts_if same)
+reading_counts : (state : State) (operation : Operation) (l : Line) (k : Kind) (o : Option Read) → read_of l ≡ o → kind_of (line_action state operation l) ≡ k →
+    counts_from (line_action state operation l) ≡ (is_some o && counts_if k)
+reading_counts state operation l k None is same = outside state operation l is
+reading_counts state operation l k (Some r) is same = read_counts state operation l r is ∙ ap counts_if same
 
 -- of a program that swaps no main node of its own the kind tells
-own_counts : (state : State) (operation : Operation) (l : Line) (k : Kind) (o : Option Read) (step was : ℕ) → read_of l ≡ o → SwapsNone l →
-    kind_of (line_action state operation l) ≡ k → counted_from (line_action state operation l) step was ≡ (if counts_if k then step else was)
-own_counts state operation l k None step was is own same =
+own_counts : (state : State) (operation : Operation) (l : Line) (k : Kind) (o : Option Read) → read_of l ≡ o → SwapsNone l →
+    kind_of (line_action state operation l) ≡ k → counts_from (line_action state operation l) ≡ counts_if k
+own_counts state operation l k None is own same =
     let none = sym (ap (λ q. given_if q (Some no_ref)) same) ∙ no_read state operation l (Some no_ref) own is in
-    outside state operation l step was is ∙ choose false (counts_if k) step was (sym (gives_nothing k no_ref none))
-own_counts state operation l k (Some r) step was is own same = reading_counts state operation l k (Some r) step was is same
+    outside state operation l is ∙ sym (gives_nothing k no_ref none)
+own_counts state operation l k (Some r) is own same = reading_counts state operation l k (Some r) is same
 
 -- ---- a step
 
@@ -154,7 +153,7 @@ module _ (state : State) (operation : Operation) (l : Line) (k : Kind) (place : 
   read_gives r is same along =
       let embeds = each_embeds l r is in
       let acts = sym (embeds.embedded.acts state operation r.line) ∙ ap (λ m. line_action state operation m) embeds.here in
-      gives state.heap operation.access (word_at state (handle_of operation.call)) r.indirection r.line k place (ap kind_of acts ∙ same) (along.0 (word_at state (handle_of operation.call)))
+      gives state.heap operation.access (word_at state (handle_of operation.call)) r.indirection k place r.line (ap kind_of acts ∙ same) (along.0 (word_at state (handle_of operation.call)))
 
   given_by_read : (o : Option Read) → read_of l ≡ o → SwapsNone l → kind_of (line_action state operation l) ≡ k → ReadsAlong state.heap operation.access o k place →
       given_in state operation o ≡ given_if k (given_so place)
@@ -169,7 +168,7 @@ takes state operation before after k place own leads = record {
   line = leads.1;
   committed = committed_by_read state operation before k place (read_of before) leads.2;
   given = given_by_read state operation before k place (read_of before) refl own leads.0 leads.2;
-  counts = λ step was. own_counts state operation before k (read_of before) step was refl own leads.0;
+  counts = own_counts state operation before k (read_of before) refl own leads.0;
 }
 
 -- ---- a step of a program that may swap a main node of its own
@@ -187,6 +186,5 @@ takes_reading state operation before after k place reading reads leads = record 
   line = leads.1;
   committed = committed_by_read state operation before k place (read_of before) leads.2;
   given = reading_gives state operation before k place (read_of before) refl leads.0 leads.2 ∙ ap (λ b. if_reading b (given_if k (given_so place))) (sym reads);
-  counts = λ step was. reading_counts state operation before k (read_of before) step was refl leads.0
-      ∙ choose (is_some (read_of before) && counts_if k) (reading && counts_if k) step was (ap (λ b. b && counts_if k) (sym reads));
+  counts = reading_counts state operation before k (read_of before) refl leads.0 ∙ ap (λ b. b && counts_if k) (sym reads);
 }

@@ -18,6 +18,7 @@ use Rattle.running.specs.Beneath.machine_model.specs.Calls.{handle_of}
 use Rattle.running.specs.Beneath.machine_model.specs.Operations.{generation_from, line_action, read_of}
 use Rattle.running.specs.Beneath.machine_model.specs.Reading.{read_action}
 use Rattle.running.specs.Beneath.machine_model.specs.States.{State, word_at}
+use Rattle.running.specs.Beneath.machine_model.specs.Walking.{walked_reply}
 use Rattle.running.specs.Beneath.gcas.specs.declared.read.Read.{Read}
 use Rattle.running.specs.Beneath.gcas.specs.declared.read.ReadAt.{ReadAt}
 use Rattle.running.specs.Beneath.gcas.specs.declared.read.ReadAt.TheVariants as read
@@ -38,57 +39,58 @@ use Rattle.operate.specs.Places.{key_line}
 use Rattle.operate.specs.Reach.{IsOfKey, SwapsNoRoot}
 use Rattle.operate.specs.Steps.{operation_for as as_key, table_after}
 use Rattle.operate.proofs.Wherever.{acts as key_acts}
-use Rattle.snapshot.specs.declared.snap.Snap.{Snap as ASnap}
-use Rattle.snapshot.specs.declared.tasks.SnapCall.{SnapCall}
-use Rattle.snapshot.specs.declared.walk.Walk.{Walk}
+use Rattle.snapshot.specs.declared.copy_op.CopyOp.{CopyOp as ACopyOp}
+use Rattle.snapshot.specs.declared.tasks.CopyCall.{CopyCall}
+use Rattle.snapshot.specs.declared.tasks.WalkCall.{WalkCall}
+use Rattle.snapshot.specs.declared.tasks.WalkCall.TheVariants.{Entries, Count}
+use Rattle.snapshot.specs.declared.walk.Walk.{Walk as AWalk}
 use Rattle.snapshot.specs.declared.walk.WalkAt.{WalkAt}
 use Rattle.snapshot.specs.declared.walk.WalkAt.TheVariants as walk
-use Rattle.snapshot.specs.Copies.{snap_action, snap_line}
+use Rattle.snapshot.specs.Copies.{action_on, copy_line}
 use Rattle.snapshot.specs.Tasks.{at_roots, drawn_by, for_task, mark_of, with_generation}
-use Rattle.snapshot.specs.Walks.{on_call, walk_line, walk_line_at}
+use Rattle.snapshot.specs.Walks.{call_of as walk_call, on_call, walk_line, walk_line_at}
 use Rattle.running.specs.declared.job.Job.{Job}
-use Rattle.running.specs.declared.job.Program.{Program}
-use Rattle.running.specs.declared.job.Program.TheVariants.{Key, Snap}
+use Rattle.running.specs.declared.job.Program.TheVariants.{Key, Copy, Walk}
 use Rattle.running.specs.declared.programs.Programs.{Programs}
 use Rattle.running.specs.declared.programs.Stage.{Stage}
-use Rattle.running.specs.Places.{IsBegun, ReadsIn, call_for, generation_in, stage_line, task_for}
+use Rattle.running.specs.Places.{ReadsIn, stage_line, task_for}
 use Rattle.running.specs.Steps.{Changes, Does, Scene, at_scene, operation_in, taken_in, taken_so}
 use Rattle.running.proofs.Asks.{key_handle}
 use Rattle.running.proofs.Giving.{SwapsNone, same_action, takes, takes_reading}
-use Rattle.running.proofs.Lasting.{snap_swaps_none, walk_swaps_none}
+use Rattle.running.proofs.Lasting.{copy_swaps_none, walk_swaps_none}
 
 -- ---- a snapshot, a freeze or a clear
 
-pub snaps : (job : Job) (call : SnapCall) (told : Option ℕ) (before : Scene) (memory : Memory) (table : Table) (generation : ℕ) (work : Work) (snap : ASnap) (k : Kind) (stage : Stage) →
+pub copies : (job : Job) (call : CopyCall) (told : Option ℕ) (before : Scene) (memory : Memory) (table : Table) (generation : ℕ) (work : Work) (copy : ACopyOp) (k : Kind) (stage : Stage) →
     let p = before.programs in
-    let l = snap_line p.key.work.swap.read told p.snap in
+    let l = copy_line p.key.work.swap.read told p.copy in
     let task = task_for job call in
-    let after : Programs = record p { stage = stage; asking = Unasked; key = record p.key { work = work }; snap = snap } in
-    let as_task : Operation → Operation = λ operation. for_task task p.snap.attempt (mark_of before.table task) p.key.work.swap.read.access operation in
+    let after : Programs = record p { stage = stage; asking = Unasked; key = record p.key { work = work }; copy = copy } in
+    let as_task : Operation → Operation = λ operation. for_task task p.copy.attempt (mark_of before.table task) p.key.work.swap.read.access operation in
     ((state : State) (operation : Operation) →
-    Leads (at_roots state before.memory.heap before.table) (as_task operation) l k (stage_line after None (Snap call) stage) work.swap.read.at) →
-    ActsInAll before.memory before.table.roots p.key.work.private (with_generation before.generation (snap_action l)) memory table.roots work.private →
-    table ≡ acted_table before.table job.handle job.actor (snap_action l) →
-    generation ≡ drawn_by before.memory.heap before.generation (snap_action l) →
-    snap.attempt ≡ attempt_after p.snap.attempt (snap_action l) →
+    Leads (at_roots state before.memory.heap before.table) (as_task operation) l k (stage_line after None (Copy call) stage) work.swap.read.at) →
+    ActsInAll before.memory before.table.roots p.key.work.private (with_generation before.generation (action_on l)) memory table.roots work.private →
+    table ≡ acted_table before.table job.handle job.actor (action_on l) →
+    generation ≡ drawn_by before.memory.heap before.generation (action_on l) →
+    copy.attempt ≡ attempt_after p.copy.attempt (action_on l) →
     ((state : State) (operation : Operation) →
-    snap.generation ≡ generation_from (at_roots state before.memory.heap before.table) (record (as_task operation) { generation = p.snap.generation }) l) →
+    copy.generation ≡ generation_from (at_roots state before.memory.heap before.table) (record (as_task operation) { generation = p.copy.generation }) l) →
     work.swap.read.access ≡ p.key.work.swap.read.access →
-    ReadsIn stage (Snap call) after →
-    Does job (Snap call) l before (taken_so k work.swap.read.at) (record { memory = memory; table = table; generation = generation; programs = after })
-snaps job call told before memory table generation work snap k stage leads acts acted drawn attempt kept access stands =
+    ReadsIn stage (Copy call) after →
+    Does job (Copy call) l before (taken_so k work.swap.read.at) (record { memory = memory; table = table; generation = generation; programs = after })
+copies job call told before memory table generation work copy k stage leads acts acted drawn attempt kept access stands =
     let p : Programs = before.programs in
-    let l : Line = snap_line p.key.work.swap.read told p.snap in
-    let after : Scene = record { memory = memory; table = table; generation = generation; programs = record p { stage = stage; asking = Unasked; key = record p.key { work = work }; snap = snap } } in
-    let does : Changes job before (snap_action l) after = record { acts = acts; table = acted; drawn = drawn; attempt = attempt } in
-    let none : SwapsNone l = snap_swaps_none p.key.work.swap.read told p.snap in
+    let l : Line = copy_line p.key.work.swap.read told p.copy in
+    let after : Scene = record { memory = memory; table = table; generation = generation; programs = record p { stage = stage; asking = Unasked; key = record p.key { work = work }; copy = copy } } in
+    let does : Changes job before (action_on l) after = record { acts = acts; table = acted; drawn = drawn; attempt = attempt } in
+    let none : SwapsNone l = copy_swaps_none p.key.work.swap.read told p.copy in
     record {
       takes = λ state operation.
-          let o : Operation = operation_in job (Snap call) before operation in
+          let o : Operation = operation_in job (Copy call) before operation in
           takes (at_scene state before) o l _ k work.swap.read.at none (leads (at_scene state before) o);
       changes = λ state operation.
-          subst (λ (a : Action). Changes job before a after) (sym (same_action (at_scene state before) (operation_in job (Snap call) before operation) l none)) does;
-      generation = λ state operation. kept (at_scene state before) (operation_in job (Snap call) before operation);
+          subst (λ (a : Action). Changes job before a after) (sym (same_action (at_scene state before) (operation_in job (Copy call) before operation) l none)) does;
+      generation = λ state operation. kept (at_scene state before) (operation_in job (Copy call) before operation);
       access = access;
       hashes = refl;
       sound = record { begun = tt; waits = tt; reads = stands };
@@ -112,14 +114,14 @@ read_calm indirection Writable (Some g) (read.Decide main previous) = record { t
 read_calm indirection access told (read.Restore main previous) = record { table = λ t h a. refl; draws = λ h g. refl; plain = λ g. refl; offers = λ n. refl }
 read_calm indirection access told (read.Given main) = record { table = λ t h a. refl; draws = λ h g. refl; plain = λ g. refl; offers = λ n. refl }
 
-walk_calm_at : (q : Read) (told : Option ℕ) (todo : List Ref) (pairs : List (ℕ × ℕ)) (place : WalkAt) → Calm (snap_action (walk_line_at q told todo pairs place))
+walk_calm_at : (q : Read) (told : Option ℕ) (todo : List Ref) (pairs : List (ℕ × ℕ)) (place : WalkAt) → Calm (action_on (walk_line_at q told todo pairs place))
 walk_calm_at q told todo pairs walk.Root = record { table = λ t h a. refl; draws = λ h g. refl; plain = λ g. refl; offers = λ n. refl }
 walk_calm_at q told todo pairs walk.Read = read_calm q.indirection q.access told q.at
 walk_calm_at q told todo pairs (walk.Main main) = record { table = λ t h a. refl; draws = λ h g. refl; plain = λ g. refl; offers = λ n. refl }
 walk_calm_at q told todo pairs walk.Entry = record { table = λ t h a. refl; draws = λ h g. refl; plain = λ g. refl; offers = λ n. refl }
 
-pub walk_calm : (q : Read) (told : Option ℕ) (w : Walk) → Calm (snap_action (walk_line q told w))
-walk_calm q told w = walk_calm_at q told w.todo w.pairs w.at
+pub walk_calm : (q : Read) (told : Option ℕ) (w : AWalk) → Calm (action_on (walk_line q told w))
+walk_calm q told w = walk_calm_at q told w.todo.items w.pairs.items w.at
 
 walk_keeps : (state : State) (operation : Operation) (q : Read) (told : Option ℕ) (todo : List Ref) (pairs : List (ℕ × ℕ)) (place : WalkAt) →
     generation_from state operation (walk_line_at q told todo pairs place) ≡ operation.generation
@@ -128,45 +130,54 @@ walk_keeps state operation q told todo pairs walk.Read = refl
 walk_keeps state operation q told todo pairs (walk.Main main) = refl
 walk_keeps state operation q told todo pairs walk.Entry = refl
 
--- a step of the walk that this program has
-pub walks : (job : Job) (program : Program) (told : Option ℕ) (before : Scene) (memory : Memory) (w : Walk) (after : Programs) (k : Kind) →
+-- the reply to a walk is the same on each handle
+pub walked_same : (handle : ℕ) (call : WalkCall) (pairs : List (ℕ × ℕ)) → walked_reply (walk_call handle call) pairs ≡ walked_reply (walk_call 0 call) pairs
+walked_same handle Entries pairs = refl
+walked_same handle Count pairs = refl
+
+pub walks : (job : Job) (call : WalkCall) (told : Option ℕ) (before : Scene) (memory : Memory) (work : Work) (w : AWalk) (k : Kind) (stage : Stage) →
     let p = before.programs in
-    let l = walk_line p.key.work.swap.read told w in
+    let l = walk_line p.key.work.swap.read told p.walk in
+    let after : Programs = record p { stage = stage; asking = Unasked; key = record p.key { work = work }; walk = w } in
     ((state : State) (operation : Operation) →
-    Leads (at_roots state before.memory.heap before.table) (on_call (call_for job.handle program) p.key.work.swap.read.access operation) l k (stage_line after None program after.stage)
-    after.key.work.swap.read.at) →
-    Acts before.memory p.key.work.private (snap_action l) memory after.key.work.private →
-    after.key.work.swap.read.access ≡ p.key.work.swap.read.access → after.key.task ≡ p.key.task → after.asking ≡ Unasked → after.snap ≡ p.snap →
-    generation_in program p ≡ p.snap.generation → generation_in program after ≡ after.snap.generation → IsBegun program after →
-    ReadsIn after.stage program after →
-    Does job program l before (taken_so k after.key.work.swap.read.at) (record { memory = memory; table = before.table; generation = before.generation; programs = after })
-walks job program told before memory w after k leads acts access task unasked same mine mine' begun stands =
+    Leads (at_roots state before.memory.heap before.table) (on_call (walk_call job.handle call) p.key.work.swap.read.access operation) l k (stage_line after None (Walk call) stage)
+    work.swap.read.at) →
+    Acts before.memory p.key.work.private (action_on l) memory work.private →
+    work.swap.read.access ≡ p.key.work.swap.read.access →
+    ReadsIn stage (Walk call) after →
+    Does job (Walk call) l before (taken_so k work.swap.read.at) (record { memory = memory; table = before.table; generation = before.generation; programs = after })
+walks job call told before memory work w k stage leads acts access stands =
     let p : Programs = before.programs in
     let q : Read = p.key.work.swap.read in
-    let l : Line = walk_line q told w in
-    let calm : Calm (snap_action l) = walk_calm q told w in
-    let none : SwapsNone l = walk_swaps_none q told w in
-    let then : Scene = record { memory = memory; table = before.table; generation = before.generation; programs = after } in
-    let does : Changes job before (snap_action l) then =
+    let l : Line = walk_line q told p.walk in
+    let calm : Calm (action_on l) = walk_calm q told p.walk in
+    let none : SwapsNone l = walk_swaps_none q told p.walk in
+    let after : Scene =
     record {
-      acts = subst (λ (a : Action). ActsInAll before.memory before.table.roots p.key.work.private a memory before.table.roots after.key.work.private)
+      memory = memory;
+      table = before.table;
+      generation = before.generation;
+      programs = record p { stage = stage; asking = Unasked; key = record p.key { work = work }; walk = w };
+    } in
+    let does : Changes job before (action_on l) after =
+    record {
+      acts = subst (λ (a : Action). ActsInAll before.memory before.table.roots p.key.work.private a memory before.table.roots work.private)
           (sym (calm.plain before.generation)) (by_parts before.table.roots acts);
       table = sym (calm.table before.table job.handle job.actor);
       drawn = sym (calm.draws before.memory.heap before.generation);
-      attempt = ap (λ (s : ASnap). s.attempt) same ∙ sym (calm.offers p.snap.attempt);
+      attempt = sym (calm.offers p.copy.attempt);
     } in
     record {
       takes = λ state operation.
-          let o : Operation = operation_in job program before operation in
-          rw unasked (takes (at_scene state before) o l _ k after.key.work.swap.read.at none (leads (at_scene state before) o));
+          let o : Operation = operation_in job (Walk call) before operation in
+          takes (at_scene state before) o l _ k work.swap.read.at none (leads (at_scene state before) o);
       changes = λ state operation.
-          subst (λ (a : Action). Changes job before a then) (sym (same_action (at_scene state before) (operation_in job program before operation) l none)) does;
+          subst (λ (a : Action). Changes job before a after) (sym (same_action (at_scene state before) (operation_in job (Walk call) before operation) l none)) does;
       generation = λ state operation.
-          mine' ∙ ap (λ (s : ASnap). s.generation) same ∙ sym mine
-          ∙ sym (walk_keeps (at_scene state before) (operation_in job program before operation) q told w.todo w.pairs w.at);
+          sym (walk_keeps (at_scene state before) (operation_in job (Walk call) before operation) q told p.walk.todo.items p.walk.pairs.items p.walk.at);
       access = access;
-      hashes = ap (λ (t : Task). t.hashes) task;
-      sound = record { begun = begun; waits = rw unasked tt; reads = stands };
+      hashes = refl;
+      sound = record { begun = tt; waits = tt; reads = stands };
     }
 
 -- ---- a call on one key
@@ -229,7 +240,7 @@ keys job call told before memory table key reading k stage begun reads leads act
                 (key_operation job call before operation begun) (acts (at_scene state before) o));
             table = acted ∙ sym (of.words job.actor);
             drawn = sym plain.1;
-            attempt = sym (of.tries p.snap.attempt);
+            attempt = sym (of.tries p.copy.attempt);
           };
       generation = λ state operation.
           let o : Operation = operation_in job (Key call) before operation in

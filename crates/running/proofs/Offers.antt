@@ -1,13 +1,15 @@
 -- What an action makes of the offers in the table of root words, and of marks.
-use Rattle.std.specs.Prelude.{◌≡◌, ◌==◌, ◌&&◌, ℕ, Bool, true, false, List, Option, Some, None, refl, slice_index_or, slice_set, if◌then◌else◌}
+use Rattle.std.specs.Prelude.{◌≡◌, ◌==◌, ◌&&◌, ℕ, Bool, true, false, List, Option, Some, None, option_map, refl, slice_index_or, slice_set, if◌then◌else◌}
 use Rattle.running.specs.Beneath.machine_model.specs.declared.actions.Action.{Action}
 use Rattle.running.specs.Beneath.machine_model.specs.declared.actions.Action.TheVariants as act
 use Rattle.running.specs.Beneath.machine_model.specs.declared.roots.Descriptor.{Descriptor}
 use Rattle.running.specs.Beneath.machine_model.specs.declared.roots.RootWord.TheVariants.{Plain}
 use Rattle.running.specs.Beneath.machine_model.specs.Acting.{if_changed}
-use Rattle.running.specs.Beneath.machine_model.specs.Swapping.{is_plain, stands_in}
+use Rattle.running.specs.Beneath.machine_model.specs.States.{State, word_at}
+use Rattle.running.specs.Beneath.machine_model.specs.Swapping.{is_carried_out, is_plain, stands_in}
+use Rattle.running.specs.Beneath.machine_model.specs.Tellings.{carried_by}
 use Rattle.running.specs.Beneath.rdcss_root.specs.Tables.{Table, acted_table, carried_out_in, with_word_in, word_in}
-use Rattle.running.specs.Carried.{carried_by}
+use Rattle.running.specs.Carried.{carried_of, carried_offer}
 
 -- ---- marks
 
@@ -27,8 +29,8 @@ carried_or before (Some offer) = Some offer
 
 -- what the action makes of them, and of the offer of which no note was taken
 pub record MarksBy (before : Table) (handle actor : ℕ) (action : Action) (after : Table) : Type 0 where
-  pub marks : after.marks ≡ marked_at (unmarked before.marks actor action) (slice_index_or before.offerers handle 0) (carried_by (word_in before handle) action)
-  pub carried : after.carried ≡ carried_or before.carried (carried_by (word_in before handle) action)
+  pub marks : after.marks ≡ marked_at (unmarked before.marks actor action) (slice_index_or before.offerers handle 0) (carried_offer (word_in before handle) action)
+  pub carried : after.carried ≡ carried_or before.carried (carried_offer (word_in before handle) action)
 
 completes : (table : Table) (handle actor : ℕ) (offer : Descriptor) (b c : Bool) →
     let after = if_changed b (if c then carried_out_in table handle offer else with_word_in table handle (Plain offer.root)) table in
@@ -53,3 +55,16 @@ marks_by table handle actor (act.Complete offer main) =
     let left = completes table handle actor offer (stands_in (word_in table handle) offer) (main == offer.expected) in
     record { marks = left.0; carried = left.1 }
 marks_by table handle actor action = record { marks = refl; carried = refl }
+
+-- ---- what is told
+
+chosen : (state : State) (offer : Descriptor) (b : Bool) →
+    (if b then Some (carried_of state.heap offer) else None) ≡ option_map (carried_of state.heap) (if b then Some offer else None)
+chosen state offer true = refl
+chosen state offer false = refl
+
+-- of the offer that is carried out its root's generation and its operation are told
+pub carried_told : (state : State) (handle : ℕ) (action : Action) →
+    carried_by state handle action ≡ option_map (carried_of state.heap) (carried_offer (word_at state handle) action)
+carried_told state handle (act.Complete offer main) = chosen state offer (is_carried_out (word_at state handle) offer main)
+carried_told state handle action = refl

@@ -21,36 +21,35 @@ use Rattle.running.specs.Beneath.root_asking.specs.declared.asking.Asking.TheVar
 use Rattle.running.specs.Beneath.root_asking.specs.Inside.{with_read}
 use Rattle.operate.specs.Places.{key_line}
 use Rattle.operate.specs.Steps.{line_behind as line_answered, ReadsKey}
-use Rattle.snapshot.specs.declared.tasks.SnapCall.{SnapCall}
-use Rattle.snapshot.specs.declared.tasks.SnapTask.{SnapTask}
-use Rattle.snapshot.specs.Copies.{snap_line, line_behind, ReadsAt as SnapReadsAt}
-use Rattle.snapshot.specs.Tasks.{call_of as snap_call}
-use Rattle.snapshot.specs.Walks.{walk_line}
+use Rattle.snapshot.specs.declared.tasks.CopyCall.{CopyCall}
+use Rattle.snapshot.specs.declared.tasks.CopyTask.{CopyTask}
+use Rattle.snapshot.specs.Copies.{copy_line, line_behind, ReadsAt as CopyReadsAt}
+use Rattle.snapshot.specs.Tasks.{call_of as copy_call}
+use Rattle.snapshot.specs.Walks.{call_of as walk_call, walk_line}
 use Rattle.running.specs.declared.job.Job.{Job}
 use Rattle.running.specs.declared.job.Program.{Program}
-use Rattle.running.specs.declared.job.Program.TheVariants.{Key, Snap, Entries, Count, Close}
+use Rattle.running.specs.declared.job.Program.TheVariants.{Key, Copy, Walk, Close}
 use Rattle.running.specs.declared.programs.Programs.{Programs}
 use Rattle.running.specs.declared.programs.Stage.{Stage}
-use Rattle.running.specs.declared.programs.Stage.TheVariants.{Runs, Answered, Swapped, Listed, Counted, Impossible}
+use Rattle.running.specs.declared.programs.Stage.TheVariants.{Runs, Answered, Swapped, Walked, Impossible}
 
 -- ---- the call
 
 -- the call with this program on this handle
 abbrev pub call_for : ℕ → Program → Call
 call_for handle (Key call) = key_call handle call
-call_for handle (Snap call) = snap_call handle call
-call_for handle Entries = calls.Entries handle
-call_for handle Count = calls.Count handle
+call_for handle (Copy call) = copy_call handle call
+call_for handle (Walk call) = walk_call handle call
 call_for handle Close = calls.Close handle
 
 -- what a call that swaps the root goes by
-abbrev pub task_for : Job → SnapCall → SnapTask
+abbrev pub task_for : Job → CopyCall → CopyTask
 task_for job call = record { call = call; handle = job.handle; actor = job.actor; operation = job.id; opens = job.opens }
 
 -- the generation of the root that ROOT gave last
 abbrev pub generation_in : Program → Programs → Option ℕ
 generation_in (Key call) p = p.key.task.generation
-generation_in program p = p.snap.generation
+generation_in program p = p.copy.generation
 
 -- The operation, whatever else it has, of this job and program, whose programs stand so. Its mark is the actor's in the table of root words.
 abbrev pub operation_for : Job → Program → Table → Programs → Operation → Operation
@@ -60,7 +59,7 @@ operation_for job program table p operation =
       call = call_for job.handle program;
       access = p.key.work.swap.read.access;
       opens = job.opens;
-      attempt = p.snap.attempt;
+      attempt = p.copy.attempt;
       is_marked = slice_index_or table.marks job.actor false;
       generation = generation_in program p;
     }
@@ -70,17 +69,15 @@ operation_for job program table p operation =
 -- the line of a program that was told this of the root's generation
 abbrev pub program_line : Programs → Option ℕ → Program → Line
 program_line p told (Key call) = key_line p.key told
-program_line p told (Snap call) = snap_line p.key.work.swap.read told p.snap
-program_line p told Entries = walk_line p.key.work.swap.read told p.entries.walk
-program_line p told Count = walk_line p.key.work.swap.read told p.count.walk
+program_line p told (Copy call) = copy_line p.key.work.swap.read told p.copy
+program_line p told (Walk call) = walk_line p.key.work.swap.read told p.walk
 program_line p told Close = line.End reply.Closed
 
 abbrev pub stage_line : Programs → Option ℕ → Program → Stage → Line
 stage_line p told program Runs = program_line p told program
 stage_line p told program (Answered answer) = line_answered answer
 stage_line p told program (Swapped answer) = line_behind answer
-stage_line p told program Listed = line.End (walked_reply (calls.Entries 0) p.entries.walk.pairs)
-stage_line p told program Counted = line.End (walked_reply (calls.Count 0) p.count.walk.pairs)
+stage_line p told program (Walked call) = line.End (walked_reply (walk_call 0 call) p.walk.pairs.items)
 stage_line p told program Impossible = impossible
 
 -- a READ that has met this offer while it asked takes it back
@@ -116,7 +113,7 @@ IsNoKeyCall program = Unit {0}
 -- while an offer is completed the READ is one of its root
 abbrev pub ReadsOn : Program → Programs → Type 0
 ReadsOn (Key call) p = ReadsKey p.key
-ReadsOn (Snap call) p = SnapReadsAt p.snap.at p.key.work.swap.read
+ReadsOn (Copy call) p = CopyReadsAt p.copy.at p.key.work.swap.read
 ReadsOn program p = Unit {0}
 
 abbrev pub ReadsIn : Stage → Program → Programs → Type 0

@@ -1,22 +1,14 @@
 -- What a step of an operation comes to, does and asks.
-use Rattle.std.specs.Prelude.{◌≡◌, ℕ, Bool, false, ◌&&◌, ◌<◌, ◌-◌, ◌^◌, Option, Some, None, Result, Ok, Err, if◌then◌else◌}
+use Rattle.std.specs.Prelude.{◌≡◌, ℕ, Bool, false, ◌&&◌, ◌<◌, ◌-◌, ◌^◌, None}
 use Rattle.ctrie_base.specs.declared.kinds.Kind.{Kind}
-use Rattle.ctrie_base.specs.declared.refusals.Refusal.{Refusal}
-use Rattle.slot_arena.specs.declared.refs.Ref.{Ref}
 use Rattle.epochs.specs.Memories.{Memory}
 use Rattle.running.specs.Beneath.machine_model.specs.declared.actions.Action.{Action}
 use Rattle.running.specs.Beneath.machine_model.specs.declared.lines.Line.{Line}
 use Rattle.running.specs.Beneath.machine_model.specs.declared.operations.Operation.{Operation}
-use Rattle.running.specs.Beneath.machine_model.specs.declared.reading.After.{After}
-use Rattle.running.specs.Beneath.machine_model.specs.declared.reading.After.TheVariants.{Goes, Gives}
-use Rattle.running.specs.Beneath.machine_model.specs.declared.reading.Read.{Read}
-use Rattle.running.specs.Beneath.machine_model.specs.declared.reading.ReadLine.{ReadLine}
 use Rattle.running.specs.Beneath.machine_model.specs.Acting.{attempt_after}
-use Rattle.running.specs.Beneath.machine_model.specs.Calls.{handle_of}
 use Rattle.running.specs.Beneath.machine_model.specs.Operations.{kind_of, line_action, line_after, read_of, generation_from}
-use Rattle.running.specs.Beneath.machine_model.specs.Orders.{committed_in, counted_from}
-use Rattle.running.specs.Beneath.machine_model.specs.Reading.{read_after}
-use Rattle.running.specs.Beneath.machine_model.specs.States.{State, word_at}
+use Rattle.running.specs.Beneath.machine_model.specs.States.{State}
+use Rattle.running.specs.Beneath.machine_model.specs.Tellings.{committed_in, counts_from, given_in}
 use Rattle.running.specs.Beneath.gcas.specs.declared.read.ReadAt.{ReadAt}
 use Rattle.running.specs.Beneath.gcas.specs.Reads.{given_so}
 use Rattle.running.specs.Beneath.rdcss_root.specs.Acts.{ActsInAll}
@@ -24,17 +16,17 @@ use Rattle.running.specs.Beneath.rdcss_root.specs.Programs.{CanAbortOn}
 use Rattle.running.specs.Beneath.rdcss_root.specs.Tables.{Table, acted_table}
 use Rattle.running.specs.Beneath.root_asking.specs.Asked.{abort_of}
 use Rattle.operate.specs.Steps.{CanKey}
-use Rattle.snapshot.specs.Copies.{CanSnap, IsReadyBeside}
+use Rattle.snapshot.specs.Copies.{CanCopy, IsReadyBeside}
 use Rattle.snapshot.specs.Tasks.{drawn_by, with_generation}
-use Rattle.snapshot.specs.Walks.{CanWalk}
+use Rattle.snapshot.specs.Walks.{CanWalk, HasRoom}
 use Rattle.running.specs.declared.job.Job.{Job}
 use Rattle.running.specs.declared.job.Program.{Program}
-use Rattle.running.specs.declared.job.Program.TheVariants.{Key, Snap, Entries, Count, Close}
+use Rattle.running.specs.declared.job.Program.TheVariants.{Key, Copy, Walk, Close}
 use Rattle.running.specs.declared.programs.Programs.{Programs}
 use Rattle.running.specs.declared.programs.Stage.{Stage}
 use Rattle.running.specs.declared.programs.Stage.TheVariants.{Runs}
 use Rattle.running.specs.declared.ran.Ran.{Ran}
-use Rattle.running.specs.declared.ran.Ran.TheVariants.{Reading, Beside, Refused}
+use Rattle.running.specs.declared.ran.Ran.TheVariants.{Reading, Beside}
 use Rattle.running.specs.Places.{IsSound, generation_in, line_for, operation_for}
 use Rattle.running.specs.Taking.{Taken, committed_if, counts_if, given_if, if_reading}
 
@@ -53,20 +45,10 @@ taken_so k place = record { kind = k; committed = committed_if k (given_so place
 abbrev pub taken_beside : Kind → Taken
 taken_beside k = record { kind = k; committed = None; given = None; counts = false }
 
--- what is told in few words: the step, behind which the operation's READ stands here, or why it was refused
-abbrev pub outcome_of : Ran → ReadAt → Result Taken Refusal
-outcome_of (Reading k) place = Ok (taken_so k place)
-outcome_of (Beside k) place = Ok (taken_beside k)
-outcome_of (Refused refusal) place = Err refusal
-
-abbrev pub given_by : After ReadLine Ref → Option Ref
-given_by (Goes l) = None
-given_by (Gives main) = Some main
-
--- the main node that the operation's READ gives by its step, if it is in one and does
-abbrev pub given_in : State → Operation → Option Read → Option Ref
-given_in state operation None = None
-given_in state operation (Some r) = given_by (read_after state.heap operation.access (word_at state (handle_of operation.call)) r.indirection r.line)
+-- what is told in few words: the step, behind which the operation's READ stands here
+abbrev pub outcome_of : Ran → ReadAt → Taken
+outcome_of (Reading k) place = taken_so k place
+outcome_of (Beside k) place = taken_beside k
 
 -- A step of the definition from this line is this one, and leads to that line.
 pub record Takes (state : State) (operation : Operation) (before : Line) (taken : Taken) (after : Line) : Type 0 where
@@ -74,7 +56,7 @@ pub record Takes (state : State) (operation : Operation) (before : Line) (taken 
   pub line : line_after state operation before ≡ after
   pub committed : committed_in state (read_of before) ≡ taken.committed
   pub given : given_in state operation (read_of before) ≡ taken.given
-  pub counts : (step was : ℕ) → counted_from (line_action state operation before) step was ≡ (if taken.counts then step else was)
+  pub counts : counts_from (line_action state operation before) ≡ taken.counts
 
 -- ---- what it does
 
@@ -101,7 +83,7 @@ pub record Changes (job : Job) (before : Scene) (action : Action) (after : Scene
   pub acts : ActsInAll before.memory before.table.roots before.programs.key.work.private (with_generation before.generation action) after.memory after.table.roots after.programs.key.work.private
   pub table : after.table ≡ acted_table before.table job.handle job.actor action
   pub drawn : after.generation ≡ drawn_by before.memory.heap before.generation action
-  pub attempt : after.programs.snap.attempt ≡ attempt_after before.programs.snap.attempt action
+  pub attempt : after.programs.copy.attempt ≡ attempt_after before.programs.copy.attempt action
 
 -- The step from this line, of this job and program, was this one, and leads from one scene to another.
 pub record Does (job : Job) (program : Program) (l : Line) (before : Scene) (taken : Taken) (after : Scene) : Type 0 where
@@ -116,19 +98,23 @@ pub record Does (job : Job) (program : Program) (l : Line) (before : Scene) (tak
 
 abbrev pub CanProgram : Scene → Program → Type 0
 CanProgram scene (Key call) = CanKey scene.memory scene.table scene.programs.key
-CanProgram scene (Snap call) = CanSnap scene.memory scene.table scene.programs.key.work.swap.read scene.generation scene.programs.snap
-CanProgram scene Entries = CanWalk scene.memory.heap scene.programs.key.work.swap.read scene.programs.entries.walk
-CanProgram scene Count = CanWalk scene.memory.heap scene.programs.key.work.swap.read scene.programs.count.walk
+CanProgram scene (Copy call) = CanCopy scene.memory scene.table scene.programs.key.work scene.generation scene.programs.copy
+CanProgram scene (Walk call) = CanWalk scene.memory.heap scene.programs.key.work.swap.read scene.programs.walk
 CanProgram scene Close = Unit {0}
 
 abbrev pub CanStage : Scene → Program → Stage → Type 0
 CanStage scene program Runs = CanProgram scene program
 CanStage scene program stage = Unit {0}
 
--- what is going to be changed, or referred to, is in use, and of its kind, and what is held can be counted
+-- What is going to be changed, or referred to, is in use, and of its kind; what lies in place has room; and what is held can be counted.
 pub record CanStep (scene : Scene) (program : Program) : Type 0 where
   pub runs : CanStage scene program scene.programs.stage
   pub abort : CanAbortOn scene.memory scene.table (abort_of scene.programs.asking)
   pub ready : IsReadyBeside scene.memory scene.table.roots scene.programs.key.work.private
-  pub attempts : scene.programs.snap.attempt < 2 ^ 64 - 1
+  pub attempts : scene.programs.copy.attempt < 2 ^ 64 - 1
   pub generations : scene.generation < 2 ^ 64 - 1
+
+-- a walk has room in its lists
+abbrev pub RoomFor : Program → Programs → Type 0
+RoomFor (Walk call) p = HasRoom p.walk
+RoomFor program p = Unit {0}

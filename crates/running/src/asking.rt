@@ -33,7 +33,7 @@ impl Programs {
         requires begun { IsBegun program.now self.old }
         requires reads { ReadsOn program.now self.old }
         requires can { CanAbortOn heap.old roots.old (abort_of asking) }
-        ensures does { Does job.now program.now (asking_line self.old program.now Stage.Runs asking)
+        ensures { Does job.now program.now (asking_line self.old program.now Stage.Runs asking)
             (scene heap.old roots.old generation self.old) (taken_beside result) (scene heap.new roots.new generation self.new) }
     {
         let mut asking = asking;
@@ -58,7 +58,7 @@ impl Programs {
         requires begun { IsBegun program.now self.old }
         requires reads { ReadsOn program.now self.old }
         requires can { CanAbortOn heap.old roots.old (abort_of self.old.asking) }
-        ensures does { Does job.now program.now (asking_line self.old program.now Stage.Runs self.old.asking)
+        ensures { Does job.now program.now (asking_line self.old program.now Stage.Runs self.old.asking)
             (scene heap.old roots.old generation self.old) (taken_beside result) (scene heap.new roots.new generation self.new) }
     {
         let asking = self.asking;
@@ -78,7 +78,7 @@ impl Programs {
         requires asks { IsAskingLine (key_line self.old.key None) }
         requires begun { self.old.key.task.call ≡ call.now }
         requires reads { ReadsKey self.old.key }
-        ensures does { Does job.now (Program.Key call.now) (key_line self.old.key None)
+        ensures { Does job.now (Program.Key call.now) (key_line self.old.key None)
             (scene heap.old roots.old generation self.old) (taken_beside result) (scene heap.new roots.new generation self.new) }
     {
         let program = Program::Key(*call);

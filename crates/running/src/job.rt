@@ -4,7 +4,7 @@ ghost use Rattle.std.specs.Prelude.{◌≡◌};
 ghost use Rattle.running.specs.Places.{task_for};
 
 use operate::KeyCall;
-use snapshot::{SnapCall, SnapTask};
+use snapshot::{CopyCall, CopyTask, WalkCall};
 
 /// The program of a call.
 #[derive(Clone, Copy, Debug, PartialEq, Eq)]
@@ -12,11 +12,9 @@ pub enum Program {
     /// A call on one key.
     Key(KeyCall),
     /// A snapshot, a freeze or a clear.
-    Snap(SnapCall),
-    /// All pairs.
-    Entries,
-    /// The number of all pairs.
-    Count,
+    Copy(CopyCall),
+    /// A walk, for all pairs or for their number.
+    Walk(WalkCall),
     /// A close: it is done as it begins.
     Close,
 }
@@ -36,10 +34,10 @@ pub struct Job {
 
 impl Job {
     /// The same for a call that swaps the root.
-    pub(crate) fn swapping(self, call: SnapCall) -> SnapTask
+    pub(crate) fn swapping(self, call: CopyCall) -> CopyTask
         ensures { result ≡ task_for self call }
     {
-        SnapTask {
+        CopyTask {
             call,
             handle: self.handle,
             actor: self.actor,

@@ -20,5 +20,5 @@ mod walking;
 pub use job::{Job, Program};
 pub use operate::{KeyCall, entries_at, entry_at, flag_of, generation_at, node_at};
 pub use programs::{Programs, Stage};
-pub use snapshot::{Roots, SnapCall};
+pub use snapshot::{CopyCall, Roots, WalkCall};
 pub use taken::Taken;

@@ -1,6 +1,6 @@
 //! The programs of an actor's operations, changed in place.
 
-ghost use Rattle.std.specs.Prelude.{◌≡◌, ◌<◌, ◌≤◌, ◌+◌, ◌-◌, ◌^◌, ℕ, [], length, Option, None, Some, IfOk, IfErr, OnErr};
+ghost use Rattle.std.specs.Prelude.{◌≡◌, ◌<◌, ◌≤◌, ◌+◌, ◌-◌, ◌^◌, ℕ, [], length, Option, None, Some, IfErr, OnOk};
 ghost use Rattle.epochs.specs.Memories.{KeepsEpochs};
 ghost use Rattle.running.specs.Beneath.machine_model.specs.Operations.{first_line};
 ghost use Rattle.running.specs.Beneath.trie_parts.specs.Holding.{AreHeld, KeepsOthers};
@@ -10,7 +10,8 @@ ghost use Rattle.operate.specs.Places.{key_line};
 ghost use Rattle.operate.specs.Steps.{CanKey};
 ghost use Rattle.snapshot.specs.Copies.{IsReadyBeside};
 ghost use Rattle.running.specs.Places.{asking_line, call_for, generation_in, line_for, program_line, IsBegun, IsSound, IsWaiting, ReadsOn};
-ghost use Rattle.running.specs.Steps.{CanProgram, CanStep, Does, scene, taken_in};
+ghost use Rattle.running.specs.Steps.{CanProgram, CanStep, Does, RoomFor, scene, taken_in};
+ghost use Rattle.running.specs.declared.job.Program.{Program as AProgram};
 
 use crate::job::{Job, Program};
 use crate::taken::Taken;
@@ -18,7 +19,7 @@ use ctrie_base::{HashKind, Kind, Refusal};
 use epochs::Heap;
 use history::Access;
 use operate::{KeyCall, KeyOp, KeyReply};
-use snapshot::{Asking, Count, Entries, Next, Roots, Snap, SnapReply};
+use snapshot::{Asking, CopyOp, CopyReply, Next, Roots, Walk, WalkCall};
 use std::alloc::Global;
 
 /// How far an operation has come.
@@ -29,11 +30,9 @@ pub enum Stage {
     /// It was a call on one key, and has ended with this reply.
     Answered(KeyReply),
     /// It swapped the root, or found no free slot: it ends with this reply.
-    Swapped(SnapReply),
-    /// It met all pairs: it ends with these.
-    Listed,
-    /// It met all pairs: it ends with their number.
-    Counted,
+    Swapped(CopyReply),
+    /// It was this walk, and has met all pairs: it ends with these, or with their number.
+    Walked(WalkCall),
     /// A node is of another kind than the program takes it for. No machine comes here.
     Impossible,
 }
@@ -44,9 +43,9 @@ pub struct Programs {
     pub(crate) asking: Asking,
     /// The calls on one key; its READ and its private list are those of all.
     pub(crate) key: KeyOp,
-    pub(crate) snap: Snap,
-    pub(crate) entries: Entries,
-    pub(crate) count: Count,
+    pub(crate) copy: CopyOp,
+    /// The calls for all pairs, and for their number.
+    pub(crate) walk: Walk,
 }
 
 impl Drop for Programs {
@@ -55,35 +54,31 @@ impl Drop for Programs {
             stage: _,
             asking: _,
             key: _,
-            snap: _,
-            entries: _,
-            count: _,
+            copy: _,
+            walk: _,
         } = self;
     }
 }
 
 impl Programs {
-    /// None of them has begun.
-    pub fn new(alloc: Global, hashes: HashKind) -> Result<Programs, Refusal>
-        ensures hashes { IfOk result (λ programs. programs.key.task.hashes ≡ hashes) }
-        ensures private { IfOk result (λ programs. programs.key.work.private ≡ []) }
-        ensures only_memory { IfErr result (λ refusal. refusal ≡ Refusal.Memory) }
+    /// None of them has begun. It takes no memory.
+    pub fn new(alloc: Global, hashes: HashKind) -> Programs
+        ensures hashes { result.key.task.hashes ≡ hashes }
+        ensures private { result.key.work.private ≡ [] }
     {
-        let key = KeyOp::new(alloc, hashes)?;
-        Ok(Programs {
+        Programs {
             stage: Stage::Impossible,
             asking: Asking::Unasked,
-            key,
-            snap: Snap::new(),
-            entries: Entries::new(alloc),
-            count: Count::new(alloc),
-        })
+            key: KeyOp::new(hashes),
+            copy: CopyOp::new(),
+            walk: Walk::new(alloc),
+        }
     }
 
     /// Begins this one, on a handle of this kind.
     pub fn begin(&mut self, program: Program, access: Access)
         ensures line { (handle : ℕ) → line_for program self.new ≡ first_line (call_for handle program) }
-        ensures attempt { self.new.snap.attempt ≡ 0 }
+        ensures attempt { self.new.copy.attempt ≡ 0 }
         ensures generation { generation_in program self.new ≡ None }
         ensures hashes { self.new.key.task.hashes ≡ self.old.key.task.hashes }
         ensures access { self.new.key.work.swap.read.access ≡ access }
@@ -92,19 +87,15 @@ impl Programs {
     {
         self.run_on();
         self.key.work.swap.read.access = access;
-        self.snap.attempt = 0;
+        self.copy.attempt = 0;
         match program {
             Program::Key(call) => self.key.begin(access, call),
-            Program::Snap(_) => self.snap = Snap::new(),
-            Program::Entries => {
-                self.snap.generation = None;
-                self.entries.begin();
+            Program::Copy(_) => self.copy = CopyOp::new(),
+            Program::Walk(_) => {
+                self.copy.generation = None;
+                self.walk.begin();
             }
-            Program::Count => {
-                self.snap.generation = None;
-                self.count.begin();
-            }
-            Program::Close => self.snap.generation = None,
+            Program::Close => self.copy.generation = None,
         }
     }
 
@@ -122,7 +113,25 @@ impl Programs {
         self.key.work.private.give_up(heap);
     }
 
-    /// Takes the operation's next step. After an error, which is want of memory, nothing has changed.
+    /// Makes room for what the next step of a walk may put into its lists, and does nothing for any other program. After an
+    /// error, which is want of memory, nothing has changed but room.
+    #[inline(always)]
+    pub fn make_room(&mut self, program: &Program) -> Result<(), Refusal>
+        ensures lines { (program : AProgram) → line_for program self.new ≡ line_for program self.old }
+        ensures sound { (program : AProgram) → IsSound program self.old → IsSound program self.new }
+        ensures same { self.new ≡ record self.old { walk = self.new.walk } }
+        ensures room { OnOk result (RoomFor program.now self.new) }
+        ensures only_memory { IfErr result (λ refusal. refusal ≡ Refusal.Memory) }
+    {
+        match program {
+            Program::Walk(_) => self.walk.make_room(),
+            Program::Key(_) => Ok(()),
+            Program::Copy(_) => Ok(()),
+            Program::Close => Ok(()),
+        }
+    }
+
+    /// Takes the operation's next step. A walk asks for room in its lists, which `make_room` makes.
     #[inline(always)]
     pub fn step(
         &mut self,
@@ -131,89 +140,86 @@ impl Programs {
         roots: &mut Roots,
         generations: &mut u64,
         heap: &mut Heap,
-    ) -> Result<Taken, Refusal>
+    ) -> Taken
         requires can { CanStep (scene heap.old roots.old generations.old self.old) program.now }
+        requires room { RoomFor program.now self.old }
         requires sound { IsSound program.now self.old }
-        ensures does { IfOk result (λ taken. Does job.now program.now (line_for program.now self.old)
-            (scene heap.old roots.old generations.old self.old) taken (scene heap.new roots.new generations.new self.new)) }
-        ensures err { OnErr result ((self.new ≡ self.old) × (roots.new ≡ roots.old) × (generations.new ≡ generations.old) × (heap.new ≡ heap.old)) }
-        ensures only_memory { IfErr result (λ refusal. refusal ≡ Refusal.Memory) }
+        ensures { Does job.now program.now (line_for program.now self.old)
+            (scene heap.old roots.old generations.old self.old) result (scene heap.new roots.new generations.new self.new) }
     {
         match &self.stage {
-            Stage::Runs => self.go_on(job, program, roots, generations, heap),
-            Stage::Answered(_) => Ok(Taken::of_kind(Kind::End)),
-            Stage::Swapped(_) => Ok(Taken::of_kind(Kind::End)),
-            Stage::Listed => Ok(Taken::of_kind(Kind::End)),
-            Stage::Counted => Ok(Taken::of_kind(Kind::End)),
-            Stage::Impossible => Ok(Taken::of_kind(Kind::ReadRoot)),
+            Stage::Runs => self.step_running(job, program, roots, generations, heap),
+            Stage::Answered(_) => Taken::of_kind(Kind::End),
+            Stage::Swapped(_) => Taken::of_kind(Kind::End),
+            Stage::Walked(_) => Taken::of_kind(Kind::End),
+            Stage::Impossible => Taken::of_kind(Kind::ReadRoot),
         }
     }
 
-    /// Takes a step of the program, which runs, or one of ABORT in its place.
+    /// Takes a step of the program, which runs, or one of ABORT in its place. It is inlined whoever calls it, and how often: it
+    /// has most of a step's work.
     #[inline(always)]
-    fn go_on(
+    fn step_running(
         &mut self,
         job: &Job,
         program: &Program,
         roots: &mut Roots,
         generations: &mut u64,
         heap: &mut Heap,
-    ) -> Result<Taken, Refusal>
+    ) -> Taken
         requires runs { self.old.stage ≡ Stage.Runs }
         requires program { CanProgram (scene heap.old roots.old generations.old self.old) program.now }
+        requires room { RoomFor program.now self.old }
         requires abort { CanAbortOn heap.old roots.old (abort_of self.old.asking) }
         requires ready { IsReadyBeside heap.old roots.old.roots self.old.key.work.private }
-        requires attempts { self.old.snap.attempt < 2 ^ 64 - 1 }
+        requires attempts { self.old.copy.attempt < 2 ^ 64 - 1 }
         requires generations { generations.old < 2 ^ 64 - 1 }
         requires begun { IsBegun program.now self.old }
         requires sound { IsWaiting self.old.asking (program_line self.old None program.now) }
         requires reads { ReadsOn program.now self.old }
-        ensures does { IfOk result (λ taken. Does job.now program.now (asking_line self.old program.now Stage.Runs self.old.asking)
-            (scene heap.old roots.old generations.old self.old) taken (scene heap.new roots.new generations.new self.new)) }
-        ensures err { OnErr result ((self.new ≡ self.old) × (roots.new ≡ roots.old) × (generations.new ≡ generations.old) × (heap.new ≡ heap.old)) }
-        ensures only_memory { IfErr result (λ refusal. refusal ≡ Refusal.Memory) }
+        ensures { Does job.now program.now (asking_line self.old program.now Stage.Runs self.old.asking)
+            (scene heap.old roots.old generations.old self.old) result (scene heap.new roots.new generations.new self.new) }
     {
         match &self.asking {
-            Asking::Unasked => self.run(None, job, program, roots, generations, heap),
+            Asking::Unasked => self.step_program(None, job, program, roots, generations, heap),
             Asking::Told(generation) => {
-                let told = Some(*generation);
-                self.run(told, job, program, roots, generations, heap)
+                let root_seen = Some(*generation);
+                self.step_program(root_seen, job, program, roots, generations, heap)
             }
             Asking::Met(_) => {
                 let kind = self.ask_on(job, program, roots, *generations, heap);
-                Ok(Taken::of_kind(kind))
+                Taken::of_kind(kind)
             }
         }
     }
 
     /// Takes a step of the program, which runs, and was told this of the root's generation.
     #[inline(always)]
-    fn run(
+    fn step_program(
         &mut self,
-        told: Option<u64>,
+        root_seen: Option<u64>,
         job: &Job,
         program: &Program,
         roots: &mut Roots,
         generations: &mut u64,
         heap: &mut Heap,
-    ) -> Result<Taken, Refusal>
+    ) -> Taken
         requires runs { self.old.stage ≡ Stage.Runs }
-        requires untold { told ≡ None → self.old.asking ≡ Asking.Unasked }
+        requires untold { root_seen ≡ None → self.old.asking ≡ Asking.Unasked }
         requires program { CanProgram (scene heap.old roots.old generations.old self.old) program.now }
+        requires room { RoomFor program.now self.old }
         requires ready { IsReadyBeside heap.old roots.old.roots self.old.key.work.private }
-        requires attempts { self.old.snap.attempt < 2 ^ 64 - 1 }
+        requires attempts { self.old.copy.attempt < 2 ^ 64 - 1 }
         requires begun { IsBegun program.now self.old }
         requires reads { ReadsOn program.now self.old }
         requires generations { generations.old < 2 ^ 64 - 1 }
-        ensures does { IfOk result (λ taken. Does job.now program.now (program_line self.old told program.now)
-            (scene heap.old roots.old generations.old self.old) taken (scene heap.new roots.new generations.new self.new)) }
-        ensures err { OnErr result ((self.new ≡ self.old) × (roots.new ≡ roots.old) × (generations.new ≡ generations.old) × (heap.new ≡ heap.old)) }
-        ensures only_memory { IfErr result (λ refusal. refusal ≡ Refusal.Memory) }
+        ensures { Does job.now program.now (program_line self.old root_seen program.now)
+            (scene heap.old roots.old generations.old self.old) result (scene heap.new roots.new generations.new self.new) }
     {
         match program {
-            Program::Key(call) => self.change_key(call, told, job, roots, *generations, heap),
+            Program::Key(call) => self.step_key(call, root_seen, job, roots, *generations, heap),
             _ => {
-                let ran = self.run_beside(told, job, program, roots, generations, heap);
+                let ran = self.step_beside(root_seen, job, program, roots, generations, heap);
                 ran.taken(&self.key.work.swap.read.at)
             }
         }
@@ -221,34 +227,32 @@ impl Programs {
 
     /// Takes a step of a call on one key.
     #[inline(always)]
-    fn change_key(
+    fn step_key(
         &mut self,
         call: &KeyCall,
-        told: Option<u64>,
+        root_seen: Option<u64>,
         job: &Job,
         roots: &mut Roots,
         generation: u64,
         heap: &mut Heap,
-    ) -> Result<Taken, Refusal>
+    ) -> Taken
         requires runs { self.old.stage ≡ Stage.Runs }
-        requires untold { told ≡ None → self.old.asking ≡ Asking.Unasked }
+        requires untold { root_seen ≡ None → self.old.asking ≡ Asking.Unasked }
         requires can { CanKey heap.old roots.old self.old.key }
         requires ready { IsReadyBeside heap.old roots.old.roots self.old.key.work.private }
         requires begun { self.old.key.task.call ≡ call.now }
-        ensures does { IfOk result (λ taken. Does job.now (Program.Key call.now) (key_line self.old.key told)
-            (scene heap.old roots.old generation self.old) taken (scene heap.new roots.new generation self.new)) }
-        ensures err { OnErr result ((self.new ≡ self.old) × (roots.new ≡ roots.old) × (heap.new ≡ heap.old)) }
-        ensures only_memory { IfErr result (λ refusal. refusal ≡ Refusal.Memory) }
+        ensures { Does job.now (Program.Key call.now) (key_line self.old.key root_seen)
+            (scene heap.old roots.old generation self.old) result (scene heap.new roots.new generation self.new) }
     {
         let is_reading = self.key.is_reading();
-        match self.key.step(roots, job.handle, heap, told)? {
-            Next::More(kind) => Ok(self.go_by_key(told, is_reading, kind)),
+        match self.key.step(roots, job.handle, heap, root_seen) {
+            Next::More(kind) => self.go_by_key(root_seen, is_reading, kind),
             Next::AskRoot => {
                 let kind = self.ask_for_key(call, job, roots, generation, heap);
-                Ok(Taken::of_kind(kind))
+                Taken::of_kind(kind)
             }
             Next::Done(kind, reply) => {
-                Ok(self.come_by_key(Stage::Answered(reply), is_reading, kind))
+                self.come_by_key(Stage::Answered(reply), is_reading, kind)
             }
         }
     }
@@ -271,13 +275,13 @@ impl Programs {
     /// The call on one key took a step of this kind, was in a READ or not, and goes on. At most steps it was told nothing,
     /// and then nothing is written.
     #[inline(always)]
-    fn go_by_key(&mut self, told: Option<u64>, is_reading: bool, kind: Kind) -> Taken
+    fn go_by_key(&mut self, root_seen: Option<u64>, is_reading: bool, kind: Kind) -> Taken
         requires runs { self.old.stage ≡ Stage.Runs }
-        requires untold { told ≡ None → self.old.asking ≡ Asking.Unasked }
+        requires untold { root_seen ≡ None → self.old.asking ≡ Asking.Unasked }
         ensures same { self.new ≡ record self.old { stage = Stage.Runs; asking = Asking.Unasked } }
         ensures taken { result ≡ taken_in is_reading kind self.old.key.work.swap.read.at }
     {
-        if told.is_some() {
+        if root_seen.is_some() {
             self.asking = Asking::Unasked;
         }
         Taken::by_key(is_reading, kind, &self.key.work.swap.read.at)

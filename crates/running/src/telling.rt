@@ -1,37 +1,54 @@
 //! What the programs of an operation tell of it.
 
-ghost use Rattle.std.specs.Prelude.{◌≡◌, ℕ, Option, IfOk, IfErr, is_some};
+ghost use Rattle.std.specs.Prelude.{◌≡◌, ℕ, IfOk, Option, is_some};
 ghost use Rattle.running.specs.Beneath.key_finding.specs.Replies.{reply_of as key_reply};
 ghost use Rattle.operate.specs.Places.{answer_of};
 ghost use Rattle.snapshot.specs.Tasks.{reply_of};
-ghost use Rattle.running.specs.Beneath.machine_model.specs.Acting.{swaps_in};
 ghost use Rattle.running.specs.Beneath.machine_model.specs.Operations.{kind_of, line_action};
 ghost use Rattle.running.specs.Beneath.machine_model.specs.States.{State};
+ghost use Rattle.running.specs.Beneath.machine_model.specs.Tellings.{published_by};
 ghost use Rattle.running.specs.Beneath.machine_model.specs.declared.operations.Operation.{Operation};
-ghost use Rattle.running.specs.Places.{asking_line, generation_in, line_for, program_line, IsSound, IsWaiting};
+ghost use Rattle.running.specs.Beneath.rdcss_root.specs.Tables.{Table};
+ghost use Rattle.running.specs.Places.{asking_line, generation_in, line_for, operation_for, program_line, IsSound, IsWaiting};
 
-use crate::job::Program;
+use crate::job::{Job, Program};
 use crate::programs::{Programs, Stage};
-use ctrie_base::{Kind, Refusal};
+use ctrie_base::Kind;
 use history::{Access, Reply};
-use operate::KeyReply;
-use slot_arena::Ref;
-use snapshot::{Asking, SnapReply};
+use operate::{KeyReply, Publication};
+use snapshot::{Asking, CopyReply};
+use std::alloc::AllocError;
 
 impl Programs {
-    /// The reply with which the operation ends by its next step, if it does. An error says that memory was refused.
-    pub fn reply(&self, program: Program) -> Result<Option<Reply>, Refusal>
-        ensures reply { IfOk result (λ found. found ≡ answer_of (line_for program self.now)) }
-        ensures only_memory { IfErr result (λ refusal. refusal ≡ Refusal.Memory) }
+    /// The reply with which the operation ends by its next step, if it does. The pairs that a walk has met are handed out, and
+    /// not copied: so the operation has to end with them.
+    pub fn take_reply(&mut self, program: Program) -> Option<Reply>
+        ensures reply { result ≡ answer_of (line_for program self.old) }
+        ensures same { self.new ≡ record self.old { walk = self.new.walk } }
     {
         match &self.stage {
-            Stage::Runs => Ok(self.at_once(program)),
-            Stage::Answered(reply) => Ok(Some(key_reply(*reply))),
-            Stage::Swapped(reply) => Ok(Some(reply_of(*reply))),
-            Stage::Listed => Ok(Some(Reply::Pairs(self.entries.pairs()?))),
-            Stage::Counted => Ok(Some(Reply::Count(self.count.count()))),
-            Stage::Impossible => Ok(None),
+            Stage::Runs => self.at_once(program),
+            Stage::Answered(reply) => Some(key_reply(*reply)),
+            Stage::Swapped(reply) => Some(reply_of(*reply)),
+            Stage::Walked(call) => {
+                let call = *call;
+                Some(self.walk.take_reply(call))
+            }
+            Stage::Impossible => None,
         }
+    }
+
+    /// A copy of that reply, while the operation goes on. Only memory may be lacking.
+    pub fn copy_reply(&self, program: Program) -> Result<Option<Reply>, AllocError>
+        ensures { IfOk result (λ reply. reply ≡ answer_of (line_for program self.now)) }
+    {
+        Ok(match &self.stage {
+            Stage::Runs => self.at_once(program),
+            Stage::Answered(reply) => Some(key_reply(*reply)),
+            Stage::Swapped(reply) => Some(reply_of(*reply)),
+            Stage::Walked(call) => Some(self.walk.copy_reply(*call)?),
+            Stage::Impossible => None,
+        })
     }
 
     /// Whether the operation ends by its next step. Most often its program runs: that is asked first.
@@ -54,8 +71,7 @@ impl Programs {
             Stage::Runs => self.is_at_end(program),
             Stage::Answered(_) => true,
             Stage::Swapped(_) => true,
-            Stage::Listed => true,
-            Stage::Counted => true,
+            Stage::Walked(_) => true,
             Stage::Impossible => false,
         }
     }
@@ -79,9 +95,8 @@ impl Programs {
         match program {
             Program::Key(_) => self.key.reply().is_some(),
             Program::Close => true,
-            Program::Snap(_) => false,
-            Program::Entries => false,
-            Program::Count => false,
+            Program::Copy(_) => false,
+            Program::Walk(_) => false,
         }
     }
 
@@ -95,44 +110,39 @@ impl Programs {
                 None => None,
             },
             Program::Close => Some(Reply::Closed),
-            Program::Snap(_) => None,
-            Program::Entries => None,
-            Program::Count => None,
+            Program::Copy(_) => None,
+            Program::Walk(_) => None,
         }
     }
 
-    /// Whether the operation is about to put this main node in the place of another, for a change of its key.
-    #[tactic(auto, using(crate::proofs::Ahead::swaps_so, crate::proofs::Ahead::swaps_nothing))]
-    pub fn swaps_in(&self, program: Program, main: Ref) -> bool
-        ensures { result ≡ swaps_in main (line_for program self.now) }
+    /// The main node that the operation's next step is to swap in, if it is such a step, and the operation where that is the change
+    /// of its key. Another main node may come first: then the step swaps nothing.
+    #[tactic(auto, using(crate::proofs::Ahead::publishes_so, crate::proofs::Ahead::publishes_nothing))]
+    #[inline(always)]
+    pub fn published(&self, job: &Job, program: &Program) -> Option<Publication>
+        ensures { (table : Table) (operation : Operation) → result ≡ published_by (operation_for job.now program.now table self.now operation) (line_for program.now self.now) }
     {
         match &self.stage {
-            Stage::Runs => self.runs_to_swap(program, main),
-            Stage::Answered(_) => false,
-            Stage::Swapped(_) => false,
-            Stage::Listed => false,
-            Stage::Counted => false,
-            Stage::Impossible => false,
+            Stage::Runs => self.published_by_program(job, program),
+            Stage::Answered(_) => None,
+            Stage::Swapped(_) => None,
+            Stage::Walked(_) => None,
+            Stage::Impossible => None,
         }
     }
 
-    fn runs_to_swap(&self, program: Program, main: Ref) -> bool
-        ensures { (told : Option ℕ) → swaps_in main (program_line self.now told program) ≡ result }
+    /// The same, where its program runs.
+    #[inline(always)]
+    fn published_by_program(&self, job: &Job, program: &Program) -> Option<Publication>
+        ensures { (table : Table) (operation : Operation) (told : Option ℕ) →
+            published_by (operation_for job.now program.now table self.now operation) (program_line self.now told program.now) ≡ result }
     {
         match program {
-            Program::Key(_) => self.key.swaps_in(main),
-            Program::Snap(_) => false,
-            Program::Entries => false,
-            Program::Count => false,
-            Program::Close => false,
+            Program::Key(_) => self.key.published(job.id),
+            Program::Copy(_) => None,
+            Program::Walk(_) => None,
+            Program::Close => None,
         }
-    }
-
-    /// The main node that was, or is about to be, put in the place of another.
-    pub fn fresh(&self) -> Ref
-        ensures { result ≡ self.now.key.work.swap.fresh }
-    {
-        self.key.work.swap.fresh
     }
 
     /// The kind of the operation's next step.
@@ -144,8 +154,7 @@ impl Programs {
             Stage::Runs => self.running_kind(program),
             Stage::Answered(_) => Kind::End,
             Stage::Swapped(_) => Kind::End,
-            Stage::Listed => Kind::End,
-            Stage::Counted => Kind::End,
+            Stage::Walked(_) => Kind::End,
             Stage::Impossible => Kind::ReadRoot,
         }
     }
@@ -155,20 +164,19 @@ impl Programs {
         ensures { (state : State) (operation : Operation) → result ≡ kind_of (line_action state operation (asking_line self.now program Stage.Runs self.now.asking)) }
     {
         match &self.asking {
-            Asking::Unasked => self.kind_told(program, None),
-            Asking::Told(generation) => self.kind_told(program, Some(*generation)),
+            Asking::Unasked => self.kind_of_program(program, None),
+            Asking::Told(generation) => self.kind_of_program(program, Some(*generation)),
             Asking::Met(_) => Kind::SwapRoot,
         }
     }
 
-    fn kind_told(&self, program: Program, told: Option<u64>) -> Kind
-        ensures { (state : State) (operation : Operation) → result ≡ kind_of (line_action state operation (program_line self.now told program)) }
+    fn kind_of_program(&self, program: Program, root_seen: Option<u64>) -> Kind
+        ensures { (state : State) (operation : Operation) → result ≡ kind_of (line_action state operation (program_line self.now root_seen program)) }
     {
         match program {
-            Program::Key(_) => self.key.next_kind(told),
-            Program::Snap(_) => self.snap.next_kind(&self.key.work.swap.read, told),
-            Program::Entries => self.entries.next_kind(&self.key.work.swap.read, told),
-            Program::Count => self.count.next_kind(&self.key.work.swap.read, told),
+            Program::Key(_) => self.key.next_kind(root_seen),
+            Program::Copy(_) => self.copy.next_kind(&self.key.work.swap.read, root_seen),
+            Program::Walk(_) => self.walk.next_kind(&self.key.work.swap.read, root_seen),
             Program::Close => Kind::End,
         }
     }
@@ -186,10 +194,9 @@ impl Programs {
     {
         match program {
             Program::Key(_) => self.key.task.generation,
-            Program::Snap(_) => self.snap.generation,
-            Program::Entries => self.snap.generation,
-            Program::Count => self.snap.generation,
-            Program::Close => self.snap.generation,
+            Program::Copy(_) => self.copy.generation,
+            Program::Walk(_) => self.copy.generation,
+            Program::Close => self.copy.generation,
         }
     }
 }
@@ -207,12 +214,12 @@ fn key_reply(reply: KeyReply) -> Reply
 }
 
 /// The reply to a call that swaps the root.
-fn reply_of(reply: SnapReply) -> Reply
+fn reply_of(reply: CopyReply) -> Reply
     ensures { result ≡ reply_of reply }
 {
     match reply {
-        SnapReply::Opened(handle) => Reply::Opened(handle),
-        SnapReply::Cleared => Reply::Cleared,
-        SnapReply::NoSlots => Reply::NoSlots,
+        CopyReply::Opened(handle) => Reply::Opened(handle),
+        CopyReply::Cleared => Reply::Cleared,
+        CopyReply::NoSlots => Reply::NoSlots,
     }
 }

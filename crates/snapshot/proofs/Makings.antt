@@ -13,8 +13,8 @@ use Rattle.snapshot.specs.Beneath.machine_model.specs.declared.operations.Operat
 use Rattle.snapshot.specs.Beneath.machine_model.specs.Copying.{copy_action, copy_if_made, copy_after_made}
 use Rattle.snapshot.specs.Beneath.machine_model.specs.States.{State}
 use Rattle.trie_parts.specs.Steps.{Leads}
-use Rattle.snapshot.specs.declared.snap.Making.{Making}
-use Rattle.snapshot.specs.declared.snap.Making.TheVariants as making
+use Rattle.snapshot.specs.declared.copy_op.Making.{Making}
+use Rattle.snapshot.specs.declared.copy_op.Making.TheVariants as making
 use Rattle.snapshot.specs.Copies.{making_line, made_node}
 use Rattle.snapshot.specs.Tasks.{with_generation}
 

@@ -1,5 +1,5 @@
 -- Actions that draw no generation, with what they do to heap, private list and root words.
-use Rattle.std.specs.Prelude.{◌≡◌, ℕ, List, Option, Result, Ok, Err, OnOk, refl}
+use Rattle.std.specs.Prelude.{◌≡◌, ℕ, List, Option, refl}
 use Rattle.std.proofs.Common.{sym, subst}
 use Rattle.slot_arena.specs.declared.refs.Ref.{Ref}
 use Rattle.epochs.specs.Memories.{Memory}
@@ -20,7 +20,7 @@ use Rattle.snapshot.specs.Beneath.machine_model.specs.Swapping.{root_action, com
 use Rattle.trie_parts.specs.Holding.{Acts}
 use Rattle.snapshot.specs.Beneath.rdcss_root.specs.Acts.{ActsInAll}
 use Rattle.snapshot.specs.Beneath.rdcss_root.proofs.Together.{by_parts}
-use Rattle.snapshot.specs.declared.snap.Making.{Making}
+use Rattle.snapshot.specs.declared.copy_op.Making.{Making}
 use Rattle.snapshot.specs.Copies.{making_line, made_node}
 use Rattle.snapshot.specs.Tasks.{with_generation}
 use Rattle.snapshot.proofs.Makings.{makes}
@@ -61,8 +61,7 @@ pub of_read : {before after : Memory} {private private' : List Ref} (roots : Lis
 of_read roots generation indirection line acts = as_well (read_draws generation indirection line) refl (by_parts roots acts)
 
 -- a new root has the generation that is drawn
-pub of_making : {X E : Type 0} (before after : Memory) (private private' : List Ref) (r : Result X E) (roots : List (Option Root)) (generation : ℕ) (root : Ref) (m : Making) →
-    OnOk r (Acts before private (act.Make (made_node generation m)) after private') →
-    OnOk r (ActsInAll before roots private (with_generation generation (copy_action (making_line root m))) after roots private')
-of_making before after private private' (Ok x) roots generation root m acts = as_well (makes generation root m) refl (by_parts roots acts)
-of_making before after private private' (Err e) roots generation root m acts = tt
+pub of_making : {before after : Memory} {private private' : List Ref} (roots : List (Option Root)) (generation : ℕ) (root : Ref) (m : Making) →
+    Acts before private (act.Make (made_node generation m)) after private' →
+    ActsInAll before roots private (with_generation generation (copy_action (making_line root m))) after roots private'
+of_making roots generation root m acts = as_well (makes generation root m) refl (by_parts roots acts)

@@ -1,4 +1,4 @@
--- A SNAP or CLEAR of the code as the definition's, and what a step of it comes to.
+-- A COPY of the code as the definition's, and what a step of it comes to.
 use Rattle.std.specs.Prelude.{◌≡◌, ℕ, ◌+◌, ◌<◌, ◌≤◌, ◌^◌, List, Option}
 use Rattle.slot_arena.specs.declared.refs.Ref.{Ref}
 use Rattle.slot_arena.specs.declared.nodes.Node.{Node}
@@ -23,16 +23,17 @@ use Rattle.snapshot.specs.Beneath.gcas.specs.declared.next.Next.TheVariants.{Mor
 use Rattle.snapshot.specs.Beneath.gcas.specs.declared.read.Read.{Read}
 use Rattle.snapshot.specs.Beneath.gcas.specs.Reads.{read_of, CanReadOn}
 use Rattle.trie_parts.specs.Here.{no_state, no_operation}
+use Rattle.trie_parts.specs.declared.work.Work.{Work}
 use Rattle.trie_parts.specs.Steps.{CanMake}
 use Rattle.snapshot.specs.Beneath.rdcss_root.specs.Holding.{root_refs}
 use Rattle.snapshot.specs.Beneath.rdcss_root.specs.Programs.{root_of, complete_of, CanRootOn, CanCompleteOn, ReadsItsRoot, ReadsOffered}
 use Rattle.snapshot.specs.Beneath.rdcss_root.specs.Tables.{Table}
-use Rattle.snapshot.specs.declared.snap.Making.{Making}
-use Rattle.snapshot.specs.declared.snap.Making.TheVariants as making
-use Rattle.snapshot.specs.declared.snap.Snap.{Snap}
-use Rattle.snapshot.specs.declared.snap.SnapAt.{SnapAt}
-use Rattle.snapshot.specs.declared.snap.SnapAt.TheVariants as at
-use Rattle.snapshot.specs.declared.tasks.SnapReply.{SnapReply}
+use Rattle.snapshot.specs.declared.copy_op.Making.{Making}
+use Rattle.snapshot.specs.declared.copy_op.Making.TheVariants as making
+use Rattle.snapshot.specs.declared.copy_op.CopyOp.{CopyOp}
+use Rattle.snapshot.specs.declared.copy_op.CopyAt.{CopyAt}
+use Rattle.snapshot.specs.declared.copy_op.CopyAt.TheVariants as at
+use Rattle.snapshot.specs.declared.tasks.CopyReply.{CopyReply}
 use Rattle.snapshot.specs.Tasks.{reply_of}
 
 -- ---- where it stands
@@ -51,27 +52,27 @@ made_node generation (making.Second main successor) = Indirection generation mai
 made_node generation (making.Empty main) = empty_branch
 made_node generation (making.Cleared main branch) = Indirection generation branch
 
-abbrev pub snap_line_at : Ref → Read → Option ℕ → SnapAt → Line
-snap_line_at root r told (at.Root l) = line.Root (root_of l r told)
-snap_line_at root r told at.Read = line.Copy (copy.Read root (read_of r told))
-snap_line_at root r told (at.Make m) = line.Copy (making_line root m)
-snap_line_at root r told (at.Offer offer) = line.Copy (copy.Offer offer.descriptor)
-snap_line_at root r told (at.Complete c) = line.Copy (copy.Complete (complete_of c r told))
+abbrev pub copy_line_at : Ref → Read → Option ℕ → CopyAt → Line
+copy_line_at root r told (at.Root l) = line.Root (root_of l r told)
+copy_line_at root r told at.Read = line.Copy (copy.Read root (read_of r told))
+copy_line_at root r told (at.Make m) = line.Copy (making_line root m)
+copy_line_at root r told (at.Offer offer) = line.Copy (copy.Offer offer.descriptor)
+copy_line_at root r told (at.Complete c) = line.Copy (copy.Complete (complete_of c r told))
 
 -- the definition's line of a snapshot, freeze or clear whose READ was told this of the root's generation
-abbrev pub snap_line : Read → Option ℕ → Snap → Line
-snap_line r told s = snap_line_at s.root r told s.at
+abbrev pub copy_line : Read → Option ℕ → CopyOp → Line
+copy_line r told s = copy_line_at s.root r told s.at
 
 -- what its step does
-abbrev pub snap_action : Line → Action
-snap_action l = line_action no_state no_operation l
+abbrev pub action_on : Line → Action
+action_on l = line_action no_state no_operation l
 
 -- the definition's line after one that has answered this
-abbrev pub line_behind : SnapReply → Line
+abbrev pub line_behind : CopyReply → Line
 line_behind answer = line.End (reply_of answer)
 
 -- The generation of the root that ROOT gave last, before a step from this line and behind it.
-abbrev pub KeepsGeneration : State → Operation → Line → Option ℕ → Option ℕ → Next SnapReply → Type 0
+abbrev pub KeepsGeneration : State → Operation → Line → Option ℕ → Option ℕ → Next CopyReply → Type 0
 KeepsGeneration state operation l before after (More k) = after ≡ generation_from state (record operation { generation = before }) l
 KeepsGeneration state operation l before after AskRoot = after ≡ before
 KeepsGeneration state operation l before after (Done k answer) = after ≡ generation_from state (record operation { generation = before }) l
@@ -83,19 +84,19 @@ pub record IsReadyBeside (memory : Memory) (roots : List (Option Root)) (private
   pub held : (r : Ref) → times r private + times r (root_refs roots) ≤ times r memory.outside
   pub room : (r : Ref) → times r memory.outside + 8 < 2 ^ 31
 
-abbrev pub CanSnapAt : Memory → Table → Read → ℕ → SnapAt → Type 0
-CanSnapAt memory table r generation (at.Root l) = CanRootOn memory table l r
-CanSnapAt memory table r generation at.Read = CanReadOn memory.heap r
-CanSnapAt memory table r generation (at.Make m) = CanMake memory.heap (made_node generation m)
-CanSnapAt memory table r generation (at.Offer offer) = AreLive memory.heap (refs_of_word (Offer offer.descriptor))
-CanSnapAt memory table r generation (at.Complete c) = CanCompleteOn memory table c r
+abbrev pub CanCopyAt : Memory → Table → Work → ℕ → CopyAt → Type 0
+CanCopyAt memory table w generation (at.Root l) = CanRootOn memory table l w.swap.read
+CanCopyAt memory table w generation at.Read = CanReadOn memory.heap w.swap.read
+CanCopyAt memory table w generation (at.Make m) = CanMake memory.heap w.private (made_node generation m)
+CanCopyAt memory table w generation (at.Offer offer) = AreLive memory.heap (refs_of_word (Offer offer.descriptor))
+CanCopyAt memory table w generation (at.Complete c) = CanCompleteOn memory table c w.swap.read
 
--- what is going to be changed, or referred to, is in use, and of its kind; a new root is of this generation
-abbrev pub CanSnap : Memory → Table → Read → ℕ → Snap → Type 0
-CanSnap memory table r generation s = CanSnapAt memory table r generation s.at
+-- what is going to be changed, or referred to, is in use, and of its kind; what makes a node has room for it; a new root is of this generation
+abbrev pub CanCopy : Memory → Table → Work → ℕ → CopyOp → Type 0
+CanCopy memory table w generation s = CanCopyAt memory table w generation s.at
 
 -- where it completes an offer its READ is that of the root which is to be swapped
-abbrev pub ReadsAt : SnapAt → Read → Type 0
+abbrev pub ReadsAt : CopyAt → Read → Type 0
 ReadsAt (at.Root l) r = ReadsItsRoot l r
 ReadsAt at.Read r = Unit {0}
 ReadsAt (at.Make m) r = Unit {0}
@@ -103,7 +104,7 @@ ReadsAt (at.Offer offer) r = Unit {0}
 ReadsAt (at.Complete c) r = ReadsOffered c.at c.offer r
 
 -- so it stands behind a step, unless that was the last one
-abbrev pub ReadsFor : Next SnapReply → Snap → Read → Type 0
+abbrev pub ReadsFor : Next CopyReply → CopyOp → Read → Type 0
 ReadsFor (More k) s r = ReadsAt s.at r
 ReadsFor AskRoot s r = Unit {0}
 ReadsFor (Done k answer) s r = Unit {0}

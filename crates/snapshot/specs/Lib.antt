@@ -1,5 +1,6 @@
 pub mod Beneath
 pub mod Copies
+pub mod Growing
 pub mod Tasks
 pub mod Telling
 pub mod Walks

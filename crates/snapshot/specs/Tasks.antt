@@ -15,25 +15,25 @@ use Rattle.snapshot.specs.Beneath.machine_model.specs.Acting.{acted}
 use Rattle.snapshot.specs.Beneath.machine_model.specs.States.{State}
 use Rattle.snapshot.specs.Beneath.gcas.specs.Acted.{acted_heap}
 use Rattle.snapshot.specs.Beneath.rdcss_root.specs.Tables.{Table}
-use Rattle.snapshot.specs.declared.tasks.SnapCall.{SnapCall}
-use Rattle.snapshot.specs.declared.tasks.SnapCall.TheVariants.{Snapshot, Freeze, Clear}
-use Rattle.snapshot.specs.declared.tasks.SnapReply.{SnapReply}
-use Rattle.snapshot.specs.declared.tasks.SnapReply.TheVariants.{Opened, Cleared, NoSlots}
-use Rattle.snapshot.specs.declared.tasks.SnapTask.{SnapTask}
+use Rattle.snapshot.specs.declared.tasks.CopyCall.{CopyCall}
+use Rattle.snapshot.specs.declared.tasks.CopyCall.TheVariants.{Snapshot, Freeze, Clear}
+use Rattle.snapshot.specs.declared.tasks.CopyReply.{CopyReply}
+use Rattle.snapshot.specs.declared.tasks.CopyReply.TheVariants.{Opened, Cleared, NoSlots}
+use Rattle.snapshot.specs.declared.tasks.CopyTask.{CopyTask}
 
 -- the call on this handle
-abbrev pub call_of : ℕ → SnapCall → Call
+abbrev pub call_of : ℕ → CopyCall → Call
 call_of handle Snapshot = calls.Snapshot handle
 call_of handle Freeze = calls.Freeze handle
 call_of handle Clear = calls.Clear handle
 
-abbrev pub reply_of : SnapReply → Reply
+abbrev pub reply_of : CopyReply → Reply
 reply_of (Opened handle) = reply.Opened handle
 reply_of Cleared = reply.Cleared
 reply_of NoSlots = reply.NoSlots
 
 -- the operation, whatever else it has, of this task, that has offered so often and has this mark, on a handle of this kind
-abbrev pub for_task : SnapTask → ℕ → Bool → Access → Operation → Operation
+abbrev pub for_task : CopyTask → ℕ → Bool → Access → Operation → Operation
 for_task task attempt mark access operation =
     record operation { id = task.operation; call = call_of task.handle task.call; access = access; opens = task.opens; attempt = attempt; is_marked = mark }
 
@@ -42,7 +42,7 @@ abbrev pub at_roots : State → Heap → Table → State
 at_roots state heap table = record state { heap = heap; roots = table.roots }
 
 -- the mark of the actor who runs it
-abbrev pub mark_of : Table → SnapTask → Bool
+abbrev pub mark_of : Table → CopyTask → Bool
 mark_of table task = slice_index_or table.marks task.actor false
 
 -- ---- generations

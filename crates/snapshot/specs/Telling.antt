@@ -3,14 +3,14 @@ use Rattle.std.specs.Prelude.{◌≡◌, ℕ, Option, None}
 use Rattle.snapshot.specs.Beneath.gcas.specs.declared.read.Read.{Read}
 use Rattle.snapshot.specs.Beneath.gcas.specs.Reads.{line_of}
 use Rattle.root_asking.specs.Inside.{with_read}
-use Rattle.snapshot.specs.declared.snap.Snap.{Snap}
+use Rattle.snapshot.specs.declared.copy_op.CopyOp.{CopyOp}
 use Rattle.snapshot.specs.declared.walk.Walk.{Walk}
-use Rattle.snapshot.specs.Copies.{snap_line}
+use Rattle.snapshot.specs.Copies.{copy_line}
 use Rattle.snapshot.specs.Walks.{walk_line}
 
 -- a law: a snapshot, freeze or clear that was told this stands where it stood, but for its READ
-abbrev pub TellsSnap : Type 0
-TellsSnap = (r : Read) → (told : Option ℕ) → (s : Snap) → snap_line r told s ≡ with_read (line_of r told) (snap_line r None s)
+abbrev pub TellsCopy : Type 0
+TellsCopy = (r : Read) → (told : Option ℕ) → (s : CopyOp) → copy_line r told s ≡ with_read (line_of r told) (copy_line r None s)
 
 -- a law: so does a walk
 abbrev pub TellsWalk : Type 0

@@ -1,7 +1,7 @@
 //! Laws of generations: what actions draw, and what programs are told.
 
 ghost use Rattle.snapshot.specs.Tasks.{DrawsGenerations};
-ghost use Rattle.snapshot.specs.Telling.{TellsSnap, TellsWalk};
+ghost use Rattle.snapshot.specs.Telling.{TellsCopy, TellsWalk};
 
 /// A law: what an action does to the heap and to the next generation doesn't depend on what stands beside them in the
 /// machine's state.
@@ -10,8 +10,8 @@ pub fn draws_generations()
 {}
 
 /// A law: what a snapshot, freeze or clear is told of the root's generation comes to it by its READ alone.
-pub fn tells_snap()
-    ensures { TellsSnap }
+pub fn tells_copy()
+    ensures { TellsCopy }
 {}
 
 /// A law: so it is with a walk.

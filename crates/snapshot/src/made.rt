@@ -1,6 +1,6 @@
 //! What is made for the swap of a root: the new root, a snapshot's second one, and for a clear an empty branch.
 
-ghost use Rattle.std.specs.Prelude.{◌≡◌, ◌+◌, ◌-◌, ◌<◌, ◌^◌, None, Some, Bool, ℕ, IfOk, IfErr, OnOk, OnErr};
+ghost use Rattle.std.specs.Prelude.{◌≡◌, ◌+◌, ◌-◌, ◌<◌, ◌^◌, None, Some, Bool, ℕ};
 ghost use Rattle.slot_arena.specs.declared.refs.Ref.{Ref as ARef};
 ghost use Rattle.slot_arena.specs.Heaps.{Heap as Store, next_ref};
 ghost use Rattle.history.specs.declared.calls.Access.{Access as AnAccess};
@@ -14,18 +14,18 @@ ghost use Rattle.snapshot.specs.Beneath.gcas.specs.Reads.{IsAskingRoot};
 ghost use Rattle.trie_parts.specs.Holding.{Acts, AreHeld};
 ghost use Rattle.trie_parts.specs.Steps.{StepsOn, CanMake};
 ghost use Rattle.snapshot.specs.Beneath.rdcss_root.specs.Tables.{Table};
-ghost use Rattle.snapshot.specs.Copies.{snap_line, snap_line_at, ReadsAt, ReadsFor, making_line, made_node, line_behind};
+ghost use Rattle.snapshot.specs.Copies.{copy_line, copy_line_at, ReadsAt, ReadsFor, making_line, made_node, line_behind};
 ghost use Rattle.snapshot.specs.Tasks.{at_roots, call_of, for_task, drawn_by};
 
-use crate::snap::{Making, Snap, SnapAt};
-use crate::tasks::{SnapCall, SnapReply, SnapTask};
-use ctrie_base::{Kind, Refusal};
+use crate::copy_op::{CopyAt, CopyOp, Making};
+use crate::tasks::{CopyCall, CopyReply, CopyTask};
+use ctrie_base::Kind;
 use epochs::Heap;
 use root_asking::Offer;
 use slot_arena::{Node, Ref};
 use trie_parts::{Descriptor, Next, Work, renewed};
 
-impl Snap {
+impl CopyOp {
     /// Makes a node. A new root draws a generation.
     pub(crate) fn make(
         &mut self,
@@ -33,54 +33,52 @@ impl Snap {
         work: &mut Work,
         generations: &mut u64,
         heap: &mut Heap,
-        task: SnapTask,
-    ) -> Result<Next<SnapReply>, Refusal>
-        requires can { CanMake heap.old.heap (made_node generations.old making.now) }
+        task: CopyTask,
+    ) -> Next<CopyReply>
+        requires can { CanMake heap.old.heap work.old.private (made_node generations.old making.now) }
         requires held { AreHeld work.old.private heap.old }
         requires attempts { self.old.attempt < 2 ^ 64 - 1 }
         requires generations { generations.old < 2 ^ 64 - 1 }
-        ensures follows { IfOk result (λ next. (state : State) (operation : Operation) (table : Table) (access : AnAccess) (mark : Bool) →
+        ensures follows { (state : State) (operation : Operation) (table : Table) (access : AnAccess) (mark : Bool) →
             StepsOn (at_roots state heap.old.heap table) (for_task task self.old.attempt mark access operation) (line.Copy (making_line self.old.root making.now))
-            (snap_line work.new.swap.read None self.new) work.new.swap.read.at line_behind next) }
-        ensures acts { OnOk result (Acts heap.old work.old.private (act.Make (made_node generations.old making.now)) heap.new work.new.private) }
-        ensures drawn { OnOk result (generations.new ≡ drawn_by heap.old.heap generations.old (copy_action (making_line self.old.root making.now))) }
+            (copy_line work.new.swap.read None self.new) work.new.swap.read.at line_behind result }
+        ensures acts { Acts heap.old work.old.private (act.Make (made_node generations.old making.now)) heap.new work.new.private }
+        ensures drawn { generations.new ≡ drawn_by heap.old.heap generations.old (copy_action (making_line self.old.root making.now)) }
         ensures same { (self.new.attempt ≡ self.old.attempt) × (self.new.generation ≡ self.old.generation) × (work.new.swap ≡ work.old.swap) }
-        ensures taken { IfOk result (λ next. IsAskingRoot next → ⊥) }
-        ensures err { OnErr result ((self.new ≡ self.old) × (work.new ≡ work.old) × (generations.new ≡ generations.old) × (heap.new ≡ heap.old)) }
-        ensures only_memory { IfErr result (λ refusal. refusal ≡ Refusal.Memory) }
-        ensures stands { IfOk result (λ next. ReadsFor next self.new work.new.swap.read) }
+        ensures taken { IsAskingRoot result → ⊥ }
+        ensures stands { ReadsFor result self.new work.new.swap.read }
     {
-        match work.make(heap, node_of(making, *generations))? {
-            None => Ok(Next::Done(Kind::Make, SnapReply::NoSlots)),
+        match work.private.make(heap, node_of(making, *generations)) {
+            None => Next::Done(Kind::Make, CopyReply::NoSlots),
             Some(made) => {
                 draw(generations, making);
                 let at = self.after_made(making, task, made);
                 self.at = at;
-                Ok(Next::More(Kind::Make))
+                Next::More(Kind::Make)
             }
         }
     }
 
     /// Where the program stands behind the making of a node: a writable snapshot makes a second root.
-    fn after_made(&self, making: &Making, task: SnapTask, made: Ref) -> SnapAt
+    fn after_made(&self, making: &Making, task: CopyTask, made: Ref) -> CopyAt
         requires { self.now.attempt < 2 ^ 64 - 1 }
         ensures line { (operation : Operation) (access : AnAccess) (mark : Bool) (r : ARead) →
-            snap_line_at self.now.root r None result ≡ copy_after_made (for_task task self.now.attempt mark access operation) (making_line self.now.root making.now) made }
+            copy_line_at self.now.root r None result ≡ copy_after_made (for_task task self.now.attempt mark access operation) (making_line self.now.root making.now) made }
         ensures stands { (r : ARead) → ReadsAt result r }
     {
         match making {
             Making::Successor { main } => match task.call {
-                SnapCall::Snapshot => SnapAt::Make(Making::Second {
+                CopyCall::Snapshot => CopyAt::Make(Making::Second {
                     main: *main,
                     successor: made,
                 }),
-                SnapCall::Freeze => self.offering(task, *main, made, None),
-                SnapCall::Clear => self.offering(task, *main, made, None),
+                CopyCall::Freeze => self.offering(task, *main, made, None),
+                CopyCall::Clear => self.offering(task, *main, made, None),
             },
             Making::Second { main, successor } => {
                 self.offering(task, *main, *successor, Some(made))
             }
-            Making::Empty { main } => SnapAt::Make(Making::Cleared {
+            Making::Empty { main } => CopyAt::Make(Making::Cleared {
                 main: *main,
                 branch: made,
             }),
@@ -89,13 +87,13 @@ impl Snap {
     }
 
     /// The next offer: to put the successor in the place of the root, if that one still has this main node.
-    fn offering(&self, task: SnapTask, main: Ref, successor: Ref, second: Option<Ref>) -> SnapAt
+    fn offering(&self, task: CopyTask, main: Ref, successor: Ref, second: Option<Ref>) -> CopyAt
         requires { self.now.attempt < 2 ^ 64 - 1 }
         ensures stands { (r : ARead) → ReadsAt result r }
         ensures line { (operation : Operation) (access : AnAccess) (mark : Bool) (r : ARead) →
-            snap_line_at self.now.root r None result ≡ offering (for_task task self.now.attempt mark access operation) self.now.root main successor second }
+            copy_line_at self.now.root r None result ≡ offering (for_task task self.now.attempt mark access operation) self.now.root main successor second }
     {
-        SnapAt::Offer(Offer {
+        CopyAt::Offer(Offer {
             descriptor: Descriptor {
                 operation: task.operation,
                 attempt: self.attempt + 1,
@@ -110,12 +108,12 @@ impl Snap {
 }
 
 /// What is made first, over this main node of the root.
-pub(crate) fn first_making(call: SnapCall, main: Ref) -> Making
+pub(crate) fn first_making(call: CopyCall, main: Ref) -> Making
     ensures { (handle : ℕ) (root : ARef) → line.Copy (making_line root result) ≡ after_given (call_of handle call) root main }
 {
     match call {
-        SnapCall::Clear => Making::Empty { main },
-        SnapCall::Snapshot | SnapCall::Freeze => Making::Successor { main },
+        CopyCall::Clear => Making::Empty { main },
+        CopyCall::Snapshot | CopyCall::Freeze => Making::Successor { main },
     }
 }
 

@@ -1,67 +1,97 @@
 //! The pairs that a walk has met.
 
-ghost use Rattle.std.specs.Prelude.{◌≡◌, ◌++◌, ◌∷◌, [], length, IfOk, OnOk, OnErr};
+ghost use Rattle.std.specs.Prelude.{◌≡◌, ◌++◌, ◌∷◌, ◌<◌, [], length, IfOk, OnOk};
 ghost use Rattle.snapshot.specs.Beneath.machine_model.specs.Pairs.{by_key};
 
 use history::Pairs;
 use std::alloc::{AllocError, Global};
 use std::marker::Model;
+use std::mem;
 
 /// The pairs that a walk has met, as they came.
 #[derive(Drop)]
 pub struct Taken {
-    items: Vec<(u64, u64)>,
+    pairs: Vec<(u64, u64)>,
 }
 
 impl Model for Taken {
-    ghost use Rattle.std.specs.Prelude.{List, ℕ};
+    ghost use Rattle.std.specs.Prelude.{◌-◌, ℕ, vec_len, vec_capacity};
+    ghost use Rattle.snapshot.specs.Growing.{Growing};
 
-    ghost Value = { List (ℕ × ℕ) };
+    ghost Value = { Growing (ℕ × ℕ) };
 
-    ghost view = { λ t. t.items.items };
+    ghost view = { λ t. record { items = t.pairs.items; room = vec_capacity t.pairs - vec_len t.pairs } };
 }
 
 impl Taken {
     /// None. It takes no memory.
     pub(crate) fn new(alloc: Global) -> Taken
-        ensures { result ≡ [] }
+        ensures { result.items ≡ [] }
     {
         Taken {
-            items: Vec::new(alloc),
+            pairs: Vec::new(alloc),
         }
     }
 
     /// Leaves none of them.
     pub(crate) fn clear(&mut self)
-        ensures { self.new ≡ [] }
+        ensures { self.new.items ≡ [] }
     {
-        self.items.clear();
+        self.pairs.clear();
     }
 
-    /// One more. After an error, which is want of memory, nothing has changed.
-    pub(crate) fn push(&mut self, key: u64, value: u64) -> Result<(), AllocError>
-        ensures ok { OnOk result (self.new ≡ self.old ++ (key, value) ∷ []) }
-        ensures err { OnErr result (self.new ≡ self.old) }
+    /// Makes room for one more. After an error, which is want of memory, nothing has changed but room.
+    pub(crate) fn make_room(&mut self) -> Result<(), AllocError>
+        ensures same { self.new.items ≡ self.old.items }
+        ensures room { OnOk result (0 < self.new.room) }
     {
-        self.items.push((key, value))?;
-        Ok(())
+        self.pairs.reserve(1)
+    }
+
+    /// One more, for which there is room.
+    pub(crate) fn push(&mut self, key: u64, value: u64)
+        requires { 0 < self.old.room }
+        ensures { self.new.items ≡ self.old.items ++ (key, value) ∷ [] }
+    {
+        let _ = self.pairs.push((key, value));
     }
 
     /// How many they are.
     pub(crate) fn len(&self) -> usize
-        ensures { result ≡ length self.now }
+        ensures { result ≡ length self.now.items }
     {
-        self.items.len()
+        self.pairs.len()
     }
 
-    /// All of them, by rising key. An error says that memory was refused.
-    #[tactic(auto, using(crate::proofs::Sorting::sorted_by_key))]
-    pub(crate) fn by_key(&self) -> Result<Pairs, AllocError>
-        ensures { IfOk result (λ pairs. pairs ≡ by_key self.now) }
+    /// Hands all of them out, by rising key. It takes no memory.
+    pub(crate) fn take_by_key(&mut self) -> Pairs
+        ensures { result ≡ by_key self.old.items }
     {
-        let mut sorted = Vec::new(*self.items.allocator());
-        sorted.extend_from_slice(self.items.as_slice())?;
-        sorted.sort()?;
-        Ok(Pairs::from_vec(sorted))
+        let none = Vec::new(*self.pairs.allocator());
+        in_order(mem::replace(&mut self.pairs, none))
     }
+
+    /// A copy of all of them, by rising key. Only memory may be lacking.
+    pub(crate) fn copy_by_key(&self) -> Result<Pairs, AllocError>
+        ensures { IfOk result (λ pairs. pairs ≡ by_key self.now.items) }
+    {
+        Ok(in_order(self.copy()?))
+    }
+
+    /// A copy of them, as they came.
+    fn copy(&self) -> Result<Vec<(u64, u64)>, AllocError>
+        ensures { IfOk result (λ copy. copy.items ≡ self.now.items) }
+    {
+        let mut items = Vec::new(*self.pairs.allocator());
+        items.extend_from_slice(self.pairs.as_slice())?;
+        Ok(items)
+    }
+}
+
+/// The pairs by rising key.
+fn in_order(mut pairs: Vec<(u64, u64)>) -> Pairs
+    ensures { result ≡ by_key pairs.items }
+{
+    pairs.sort_unstable();
+    Pairs::from_vec(pairs)
 }

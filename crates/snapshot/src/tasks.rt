@@ -1,10 +1,8 @@
-//! The calls that swap the root, and what an operation of one goes by.
-
-ghost use Rattle.std.specs.Prelude.{◌≡◌, ℕ};
+//! The calls that take the map as a whole, and what an operation of one that swaps the root goes by.
 
 /// A call that swaps the root, without the handle.
 #[derive(Clone, Copy, Debug, PartialEq, Eq)]
-pub enum SnapCall {
+pub enum CopyCall {
     /// Opens a writable handle with the same content.
     Snapshot,
     /// Opens a read-only handle with the same content.
@@ -13,10 +11,19 @@ pub enum SnapCall {
     Clear,
 }
 
-/// What an operation of such a call goes by.
+/// A call that goes through all pairs of a read-only map, without the handle.
+#[derive(Clone, Copy, Debug, PartialEq, Eq)]
+pub enum WalkCall {
+    /// All pairs.
+    Entries,
+    /// Their number.
+    Count,
+}
+
+/// What an operation of a call that swaps the root goes by.
 #[derive(Clone, Copy)]
-pub struct SnapTask {
-    pub call: SnapCall,
+pub struct CopyTask {
+    pub call: CopyCall,
     /// The handle on which it was called.
     pub handle: u16,
     /// The actor who runs it.
@@ -29,7 +36,7 @@ pub struct SnapTask {
 
 /// The reply to such a call.
 #[derive(Clone, Copy, Debug, PartialEq, Eq)]
-pub enum SnapReply {
+pub enum CopyReply {
     /// This handle is open.
     Opened(u16),
     /// All keys are removed.

@@ -1,12 +1,13 @@
 //! The entries that a walk has still to look at.
 
-ghost use Rattle.std.specs.Prelude.{◌≡◌, ◌++◌, ◌≤◌, [], reverse, take, drop, length, OnOk, OnErr};
+ghost use Rattle.std.specs.Prelude.{◌≡◌, ◌++◌, ◌≤◌, [], reverse, take, drop, length, OnOk};
 ghost use Rattle.snapshot.specs.Beneath.machine_model.specs.Walking.{first_of, rest_of};
 ghost use Rattle.snapshot.specs.Walks.{is_none_left};
 
 use slot_arena::Ref;
 use std::alloc::{AllocError, Global};
 use std::marker::Model;
+use trie_parts::MOST_ENTRIES;
 
 /// The entries that are still to be looked at, the next one first.
 #[derive(Drop)]
@@ -16,17 +17,18 @@ pub struct Todo {
 }
 
 impl Model for Todo {
-    ghost use Rattle.std.specs.Prelude.{List, ℕ, reverse};
+    ghost use Rattle.std.specs.Prelude.{◌-◌, ℕ, reverse, vec_len, vec_capacity};
+    ghost use Rattle.snapshot.specs.Growing.{Growing};
 
-    ghost Value = { List ℕ };
+    ghost Value = { Growing ℕ };
 
-    ghost view = { λ t. reverse t.stack.items };
+    ghost view = { λ t. record { items = reverse t.stack.items; room = vec_capacity t.stack - vec_len t.stack } };
 }
 
 impl Todo {
     /// None. It takes no memory.
     pub(crate) fn new(alloc: Global) -> Todo
-        ensures { result ≡ [] }
+        ensures { result.items ≡ [] }
     {
         Todo {
             stack: Vec::new(alloc),
@@ -35,42 +37,49 @@ impl Todo {
 
     /// Leaves none of them.
     pub(crate) fn clear(&mut self)
-        ensures { self.new ≡ [] }
+        ensures { self.new.items ≡ [] }
     {
         self.stack.clear();
+    }
+
+    /// Makes room for the entries of a node. After an error, which is want of memory, nothing has changed but room.
+    pub(crate) fn make_room(&mut self) -> Result<(), AllocError>
+        ensures same { self.new.items ≡ self.old.items }
+        ensures room { OnOk result (32 ≤ self.new.room) }
+    {
+        self.stack.reserve(MOST_ENTRIES)
     }
 
     /// The next one, or the reference that names no slot.
     #[tactic(auto, using(crate::proofs::Stacks::first_is))]
     pub(crate) fn first(&self) -> Ref
-        ensures { result ≡ first_of self.now }
+        ensures { result ≡ first_of self.now.items }
     {
         self.stack.last().copied().unwrap_or(Ref::default())
     }
 
     /// Takes the next one away.
     pub(crate) fn drop_first(&mut self)
-        ensures { self.new ≡ rest_of self.old }
+        ensures { self.new.items ≡ rest_of self.old.items }
     {
         let _ = self.stack.pop();
     }
 
     /// Whether none is left.
     pub(crate) fn is_empty(&self) -> bool
-        ensures { result ≡ is_none_left self.now }
+        ensures { result ≡ is_none_left self.now.items }
     {
         self.stack.is_empty()
     }
 
-    /// Puts these before the others. After an error, which is want of memory, nothing has changed.
-    pub(crate) fn put_before(&mut self, entries: &[Ref]) -> Result<(), AllocError>
-        ensures ok { OnOk result (self.new ≡ entries.now ++ self.old) }
-        ensures err { OnErr result (self.new ≡ self.old) }
+    /// Puts these, for which there is room, before the others.
+    pub(crate) fn put_before(&mut self, entries: &[Ref])
+        requires { length entries.now ≤ self.old.room }
+        ensures { self.new.items ≡ entries.now ++ self.old.items }
     {
         let start = self.stack.len();
-        self.stack.extend_from_slice(entries)?;
+        let _ = self.stack.extend_from_slice(entries);
         reverse_from(&mut self.stack, start);
-        Ok(())
     }
 }
 

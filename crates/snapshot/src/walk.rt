@@ -1,6 +1,6 @@
 //! WALK: goes through all pairs, by depth first in the order of entries.
 
-ghost use Rattle.std.specs.Prelude.{◌≡◌, [], None, IfOk, IfErr, OnOk, OnErr};
+ghost use Rattle.std.specs.Prelude.{◌≡◌, ◌<◌, ◌≤◌, ℕ, None, IfErr, IfOk, OnOk};
 ghost use Rattle.slot_arena.specs.Heaps.{Heap as Store};
 ghost use Rattle.history.specs.declared.calls.Call.{Call};
 ghost use Rattle.snapshot.specs.Beneath.machine_model.specs.declared.lines.Line.TheVariants as line;
@@ -10,23 +10,25 @@ ghost use Rattle.snapshot.specs.Beneath.machine_model.specs.Calls.{handle_of};
 ghost use Rattle.snapshot.specs.Beneath.machine_model.specs.Operations.{kind_of};
 ghost use Rattle.snapshot.specs.Beneath.machine_model.specs.Reading.{read_action};
 ghost use Rattle.snapshot.specs.Beneath.machine_model.specs.States.{State, root_of};
-ghost use Rattle.snapshot.specs.Beneath.machine_model.specs.Walking.{walk_next};
+ghost use Rattle.snapshot.specs.Beneath.machine_model.specs.Walking.{walk_next, walked_reply};
 ghost use Rattle.snapshot.specs.Beneath.gcas.specs.declared.read.Read.{Read as ARead};
 ghost use Rattle.snapshot.specs.Beneath.gcas.specs.Reads.{read_of, line_of, CanReadOn, IsAskingRoot};
 ghost use Rattle.trie_parts.specs.Holding.{Acts};
 ghost use Rattle.trie_parts.specs.Steps.{StepsOn};
 ghost use Rattle.snapshot.specs.Beneath.rdcss_root.specs.Tables.{Table};
-ghost use Rattle.snapshot.specs.Copies.{snap_action};
+ghost use Rattle.snapshot.specs.Copies.{action_on};
 ghost use Rattle.snapshot.specs.Tasks.{at_roots};
-ghost use Rattle.snapshot.specs.Walks.{walk_line, behind_walk, on_call, CanWalk, NextIs};
+ghost use Rattle.snapshot.specs.Walks.{walk_line, behind_walk, call_of, on_call, CanWalk, HasRoom, IsAtBegin, KeepsWalk, NextIs};
 
 use crate::taken::Taken;
+use crate::tasks::WalkCall;
 use crate::todo::Todo;
 use ctrie_base::{Kind, Refusal};
 use epochs::Heap;
+use history::Reply;
 use root_asking::Roots;
 use slot_arena::{Node, Ref};
-use std::alloc::Global;
+use std::alloc::{AllocError, Global};
 use trie_parts::{Next, Read, RootWord, Work, entries_at, node_at};
 
 /// Where a walk stands.
@@ -51,7 +53,7 @@ pub enum Walked {
     Impossible,
 }
 
-/// A walk. Its READ is that of the work.
+/// A walk, for all pairs or for their number. Its READ is that of the work. An operation keeps one for all its calls.
 #[derive(Drop)]
 pub struct Walk {
     pub(crate) todo: Todo,
@@ -61,8 +63,8 @@ pub struct Walk {
 
 impl Walk {
     /// One at its beginning. It takes no memory.
-    pub(crate) fn new(alloc: Global) -> Walk
-        ensures { result ≡ record { todo = []; pairs = []; at = WalkAt.Root } }
+    pub fn new(alloc: Global) -> Walk
+        ensures { IsAtBegin result }
     {
         Walk {
             todo: Todo::new(alloc),
@@ -72,8 +74,8 @@ impl Walk {
     }
 
     /// Begins anew.
-    pub(crate) fn begin(&mut self)
-        ensures { self.new ≡ record { todo = []; pairs = []; at = WalkAt.Root } }
+    pub fn begin(&mut self)
+        ensures { IsAtBegin self.new }
     {
         self.todo.clear();
         self.pairs.clear();
@@ -81,8 +83,8 @@ impl Walk {
     }
 
     /// The kind of its next step, where its READ is this one and was told this of the root's generation.
-    pub(crate) fn next_kind(&self, read: &Read, root_seen: Option<u64>) -> Kind
-        ensures { result ≡ kind_of (snap_action (walk_line read.now root_seen self.now)) }
+    pub fn next_kind(&self, read: &Read, root_seen: Option<u64>) -> Kind
+        ensures { result ≡ kind_of (action_on (walk_line read.now root_seen self.now)) }
     {
         match &self.at {
             WalkAt::Root => Kind::ReadRoot,
@@ -91,28 +93,39 @@ impl Walk {
         }
     }
 
-    /// Takes its next step, unless it has to be told the generation of the root first.
-    pub(crate) fn step(
+    /// Makes room for what its next step may put into its lists. After an error, which is want of memory, nothing has changed
+    /// but room.
+    pub fn make_room(&mut self) -> Result<(), Refusal>
+        ensures same { KeepsWalk self.old self.new }
+        ensures room { OnOk result (HasRoom self.new) }
+        ensures only_memory { IfErr result (λ refusal. refusal ≡ Refusal.Memory) }
+    {
+        self.todo.make_room()?;
+        self.pairs.make_room()?;
+        Ok(())
+    }
+
+    /// Takes its next step, on this handle, unless it has to be told the generation of the root first.
+    pub fn step(
         &mut self,
         work: &mut Work,
         roots: &Roots,
         handle: u16,
         heap: &mut Heap,
         root_seen: Option<u64>,
-    ) -> Result<Next<Walked>, Refusal>
-        requires { CanWalk heap.old.heap work.old.swap.read self.old }
-        ensures follows { IfOk result (λ next. (state : State) (operation : Operation) (call : Call) → handle_of call ≡ handle →
+    ) -> Next<Walked>
+        requires can { CanWalk heap.old.heap work.old.swap.read self.old }
+        requires room { HasRoom self.old }
+        ensures follows { (state : State) (operation : Operation) (call : Call) → handle_of call ≡ handle →
             StepsOn (at_roots state heap.old.heap roots.now) (on_call call work.old.swap.read.access operation) (walk_line work.old.swap.read root_seen self.old)
-            (walk_line work.new.swap.read None self.new) work.new.swap.read.at (behind_walk call self.new.pairs) next) }
-        ensures acts { OnOk result (Acts heap.old work.old.private (snap_action (walk_line work.old.swap.read root_seen self.old)) heap.new work.new.private) }
+            (walk_line work.new.swap.read None self.new) work.new.swap.read.at (behind_walk call self.new.pairs.items) result }
+        ensures acts { Acts heap.old work.old.private (action_on (walk_line work.old.swap.read root_seen self.old)) heap.new work.new.private }
         ensures access { work.new.swap.read.access ≡ work.old.swap.read.access }
-        ensures asks { IfOk result (λ next. IsAskingRoot next → (self.new ≡ self.old) × (work.new ≡ work.old) × (heap.new ≡ heap.old)) }
-        ensures err { OnErr result ((self.new ≡ self.old) × (work.new ≡ work.old) × (heap.new ≡ heap.old)) }
-        ensures only_memory { IfErr result (λ refusal. refusal ≡ Refusal.Memory) }
+        ensures asks { IsAskingRoot result → (self.new ≡ self.old) × (work.new ≡ work.old) × (heap.new ≡ heap.old) }
     {
         match &self.at {
-            WalkAt::Root => Ok(self.open(work, roots, handle)),
-            WalkAt::Read => Ok(self.read(work, heap, root_seen)),
+            WalkAt::Root => self.open(work, roots, handle),
+            WalkAt::Read => self.read(work, heap, root_seen),
             WalkAt::Main { main } => {
                 let main = *main;
                 self.look(heap, main)
@@ -121,11 +134,31 @@ impl Walk {
         }
     }
 
+    /// The reply to this call, where it has met all pairs. These are handed out, and not copied: it takes no memory.
+    pub fn take_reply(&mut self, call: WalkCall) -> Reply
+        ensures { (handle : ℕ) → result ≡ walked_reply (call_of handle call) self.old.pairs.items }
+    {
+        match call {
+            WalkCall::Entries => Reply::Pairs(self.pairs.take_by_key()),
+            WalkCall::Count => Reply::Count(self.pairs.len() as u64),
+        }
+    }
+
+    /// The same reply, of copied pairs. Only memory may be lacking.
+    pub fn copy_reply(&self, call: WalkCall) -> Result<Reply, AllocError>
+        ensures { (handle : ℕ) → IfOk result (λ reply. reply ≡ walked_reply (call_of handle call) self.now.pairs.items) }
+    {
+        match call {
+            WalkCall::Entries => Ok(Reply::Pairs(self.pairs.copy_by_key()?)),
+            WalkCall::Count => Ok(Reply::Count(self.pairs.len() as u64)),
+        }
+    }
+
     /// Reads the root word: the root is read next.
     fn open(&mut self, work: &mut Work, roots: &Roots, handle: u16) -> Next<Walked>
         ensures follows { (state : State) (operation : Operation) (heap : Store) (call : Call) → handle_of call ≡ handle →
             StepsOn (at_roots state heap roots.now) (on_call call work.old.swap.read.access operation) (line.Walk walk.Root) (walk_line work.new.swap.read None self.new)
-            work.new.swap.read.at (behind_walk call self.new.pairs) result }
+            work.new.swap.read.at (behind_walk call self.new.pairs.items) result }
         ensures same { (work.new.swap.read.access ≡ work.old.swap.read.access) × (work.new.private ≡ work.old.private) }
         ensures taken { IsAskingRoot result → ⊥ }
     {
@@ -140,8 +173,8 @@ impl Walk {
         requires { CanReadOn heap.old.heap work.old.swap.read }
         ensures follows { (state : State) (operation : Operation) (table : Table) (call : Call) →
             StepsOn (at_roots state heap.old.heap table) (on_call call work.old.swap.read.access operation)
-            (line.Walk (walk.Read (read_of work.old.swap.read root_seen) self.old.todo self.old.pairs)) (walk_line work.new.swap.read None self.new) work.new.swap.read.at
-            (behind_walk call self.new.pairs) result }
+            (line.Walk (walk.Read (read_of work.old.swap.read root_seen) self.old.todo.items self.old.pairs.items)) (walk_line work.new.swap.read None self.new) work.new.swap.read.at
+            (behind_walk call self.new.pairs.items) result }
         ensures acts { Acts heap.old work.old.private (read_action work.old.swap.read.indirection (line_of work.old.swap.read root_seen)) heap.new work.new.private }
         ensures access { work.new.swap.read.access ≡ work.old.swap.read.access }
         ensures asks { IsAskingRoot result → (self.new ≡ record self.old { at = WalkAt.Read }) × (work.new ≡ work.old) × (heap.new ≡ heap.old) }
@@ -158,27 +191,25 @@ impl Walk {
     }
 
     /// Looks at a main node: its entries are the next ones.
-    fn look(&mut self, heap: &Heap, main: Ref) -> Result<Next<Walked>, Refusal>
-        ensures follows { IfOk result (λ next. (state : State) (operation : Operation) (table : Table) (call : Call) (r : ARead) →
-            StepsOn (at_roots state heap.now.heap table) (on_call call r.access operation) (line.Walk (walk.Main main self.old.todo self.old.pairs))
-            (walk_line r None self.new) r.at (behind_walk call self.new.pairs) next) }
-        ensures taken { IfOk result (λ next. IsAskingRoot next → ⊥) }
-        ensures err { OnErr result (self.new ≡ self.old) }
-        ensures only_memory { IfErr result (λ refusal. refusal ≡ Refusal.Memory) }
+    fn look(&mut self, heap: &Heap, main: Ref) -> Next<Walked>
+        requires { 32 ≤ self.old.todo.room }
+        ensures follows { (state : State) (operation : Operation) (table : Table) (call : Call) (r : ARead) →
+            StepsOn (at_roots state heap.now.heap table) (on_call call r.access operation) (line.Walk (walk.Main main self.old.todo.items self.old.pairs.items))
+            (walk_line r None self.new) r.at (behind_walk call self.new.pairs.items) result }
+        ensures taken { IsAskingRoot result → ⊥ }
     {
-        self.todo.put_before(entries_at(heap, main))?;
-        Ok(self.go_on())
+        self.todo.put_before(entries_at(heap, main));
+        self.go_on()
     }
 
     /// Looks at the next entry: a single is taken, an indirection is read.
-    fn take(&mut self, work: &mut Work, heap: &Heap) -> Result<Next<Walked>, Refusal>
-        ensures follows { IfOk result (λ next. (state : State) (operation : Operation) (table : Table) (call : Call) →
-            StepsOn (at_roots state heap.now.heap table) (on_call call work.old.swap.read.access operation) (line.Walk (walk.Entry self.old.todo self.old.pairs))
-            (walk_line work.new.swap.read None self.new) work.new.swap.read.at (behind_walk call self.new.pairs) next) }
+    fn take(&mut self, work: &mut Work, heap: &Heap) -> Next<Walked>
+        requires { 0 < self.old.pairs.room }
+        ensures follows { (state : State) (operation : Operation) (table : Table) (call : Call) →
+            StepsOn (at_roots state heap.now.heap table) (on_call call work.old.swap.read.access operation) (line.Walk (walk.Entry self.old.todo.items self.old.pairs.items))
+            (walk_line work.new.swap.read None self.new) work.new.swap.read.at (behind_walk call self.new.pairs.items) result }
         ensures same { (work.new.swap.read.access ≡ work.old.swap.read.access) × (work.new.private ≡ work.old.private) }
-        ensures taken { IfOk result (λ next. IsAskingRoot next → ⊥) }
-        ensures err { OnErr result ((self.new ≡ self.old) × (work.new ≡ work.old)) }
-        ensures only_memory { IfErr result (λ refusal. refusal ≡ Refusal.Memory) }
+        ensures taken { IsAskingRoot result → ⊥ }
     {
         let entry = self.todo.first();
         match node_at(heap, entry) {
@@ -186,20 +217,21 @@ impl Walk {
                 self.todo.drop_first();
                 work.swap.read.begin(entry);
                 self.at = WalkAt::Read;
-                Ok(Next::More(Kind::Look))
+                Next::More(Kind::Look)
             }
             Some(Node::Single { key, value }) => {
-                self.pairs.push(*key, *value)?;
+                self.pairs.push(*key, *value);
                 self.todo.drop_first();
-                Ok(self.go_on())
+                self.go_on()
             }
-            _ => Ok(Next::Done(Kind::Look, Walked::Impossible)),
+            _ => Next::Done(Kind::Look, Walked::Impossible),
         }
     }
 
     /// Goes on with the next entry, or ends where none is left.
     fn go_on(&mut self) -> Next<Walked>
-        ensures next { (operation : Operation) (r : ARead) → NextIs (walk_next operation self.old.todo self.old.pairs) (walk_line r None self.new) (behind_walk operation.call self.new.pairs) result }
+        ensures next { (operation : Operation) (r : ARead) →
+            NextIs (walk_next operation self.old.todo.items self.old.pairs.items) (walk_line r None self.new) (behind_walk operation.call self.new.pairs.items) result }
         ensures same { self.new ≡ record self.old { at = self.new.at } }
         ensures taken { IsAskingRoot result → ⊥ }
     {

@@ -4,15 +4,16 @@ use Rattle.ctrie_base.specs.declared.refusals.Refusal.{Refusal}
 use Rattle.ctrie_base.specs.declared.refusals.Refusal.TheVariants as refuse
 use Rattle.step_machine.specs.Beneath.slot_arena.specs.Refs.{birth_of}
 use Rattle.step_machine.specs.Beneath.slot_arena.specs.declared.refs.Ref.{Ref}
-use Rattle.machine_model.specs.declared.steps.Limits.{Limits}
+use Rattle.machine_model.specs.declared.steps.Bounds.{Bounds}
 use Rattle.machine_model.specs.declared.steps.Outcome.{Outcome}
 use Rattle.machine_model.specs.declared.steps.Step.{Step}
 use Rattle.machine_model.specs.Keys.{KeysFit}
-use Rattle.machine_model.specs.Machine.{AreLimits, next, run, state_after}
+use Rattle.machine_model.specs.Limits.{bounded}
+use Rattle.machine_model.specs.Machine.{AreBounds, next, run, state_after}
 use Rattle.machine_model.specs.States.{State, first_state}
 use Rattle.machine_model.proofs.Along.{run-append}
 use Rattle.machine_model.proofs.Moves.{moved}
-use Rattle.machine_core.specs.Beneath.proof_records.specs.Laws.{OnePlaceAStep}
+use Rattle.step_machine.specs.Beneath.proof_records.specs.Laws.{OnePlaceAStep}
 use Rattle.proof_memory.specs.Laws.{IsInUse, HeldInUse, StandingInUse, FreedLate}
 use Rattle.proof_memory.proofs.Heap.Later.{onward, births_later}
 use Rattle.proof_memory.proofs.Safety.AtEachTime.{safe_along}
@@ -20,7 +21,7 @@ use Rattle.proof_memory.proofs.Safety.States.{stood_or_made}
 use Rattle.proof_memory.proofs.Safety.Steps.{step_effect}
 use Rattle.step_machine.specs.Beneath.proof_updates.specs.Laws.Handles.{OfEachStep, UntouchedStay, UpdatesChange, RepairsStay, ClearsEmpty, ClosesTake, OpenedCopy}
 use Rattle.step_machine.specs.Contents.{ChangesContents}
-use Rattle.step_machine.specs.Machines.{Taken, state_of, with_step, Applied}
+use Rattle.step_machine.specs.Machines.{Taken, past_of, state_of, with_step, Applied}
 use Rattle.step_machine.specs.Memory.{Uses, UsesWhatItNames, FreesLate, DrawsNew}
 
 -- the step was taken, or the machine is as it was
@@ -32,19 +33,20 @@ outcome_of (Err why) before s after is = inr is.0
 
 -- ---- memory
 
-pub uses_what_it_names : HeldInUse → StandingInUse → (machine : Taken) → AreLimits machine.limits → UsesWhatItNames machine
+pub uses_what_it_names : HeldInUse → StandingInUse → (machine : Taken) → AreBounds (bounded machine.limits) → UsesWhatItNames machine
 uses_what_it_names held standing machine ok =
-    let there = standing machine.limits machine.steps ok in
-    record { got = held machine.limits machine.steps ok; roots = there.0; privates = there.1; slots = there.2 }
+    let there = standing (bounded machine.limits) machine.steps ok in
+    record { got = held (bounded machine.limits) machine.steps ok; roots = there.0; privates = there.1; slots = there.2 }
 
-pub frees_late : FreedLate → (result : Result Outcome Refusal) (before : Taken) (s : Step) (after : Taken) → AreLimits before.limits → Applied result before s after → FreesLate before s after
+pub frees_late : FreedLate → (result : Result Outcome Refusal) (before : Taken) (s : Step) (after : Taken) → AreBounds (bounded before.limits) → Applied result before s after →
+    FreesLate before s after
 frees_late law result before s after ok is r used freed = elim (outcome_of result before s after is) [
-  | inl taken ↦ law before.limits before.steps s r ok used (subst (λ state. ¬ IsInUse state.heap r) (sym (ap (state_after (state_of before)) taken.2)) freed)
+  | inl taken ↦ law (bounded before.limits) before.steps s r ok used (subst (λ state. ¬ IsInUse state.heap r) (sym (ap (state_after (state_of before)) taken.2)) freed)
   | inr same ↦ absurd (freed (subst (λ m. Uses m r) (sym same) used))
 ]
 
 -- what comes into use has the next birth
-next_birth : (limits : Limits) (steps : List Step) (s : Step) (o : Outcome) (after : State) → AreLimits limits → next (run limits steps) s ≡ Ok (o, after) → (r : Ref) →
+next_birth : (limits : Bounds) (steps : List Step) (s : Step) (o : Outcome) (after : State) → AreBounds limits → next (run limits steps) s ≡ Ok (o, after) → (r : Ref) →
     ¬ IsInUse (run limits steps).heap r → IsInUse after.heap r → birth_of r ≡ (run limits steps).heap.births + 1
 next_birth limits steps s o after ok e r unused (slot, found) =
     elim (stood_or_made _ _ _ _ _ _ (step_effect (run limits steps) (safe_along limits ok steps) s o after (moved (run limits steps) s o after e)).3 r slot found) [
@@ -53,46 +55,46 @@ next_birth limits steps s o after ok e r unused (slot, found) =
     ]
 
 -- and what was in use before an earlier one
-earlier_birth : (limits : Limits) (steps since : List Step) → AreLimits limits → (r : Ref) → IsInUse (run limits steps).heap r → birth_of r ≤ (run limits (steps ++ since)).heap.births
+earlier_birth : (limits : Bounds) (steps since : List Step) → AreBounds limits → (r : Ref) → IsInUse (run limits steps).heap r → birth_of r ≤ (run limits (steps ++ since)).heap.births
 earlier_birth limits steps since ok r (slot, found) =
     let I = safe_along limits ok steps in
     subst (λ (state : State). birth_of r ≤ state.heap.births) (sym (run-append (first_state limits) steps since))
     (onward (λ (state : State). birth_of r ≤ state.heap.births) (births_later (birth_of r)) since (run limits steps) I (I.births r slot found))
 
-pub draws_new : (result : Result Outcome Refusal) (before : Taken) (s : Step) (after : Taken) → AreLimits before.limits → Applied result before s after → DrawsNew before after
+pub draws_new : (result : Result Outcome Refusal) (before : Taken) (s : Step) (after : Taken) → AreBounds (bounded before.limits) → Applied result before s after → DrawsNew before after
 draws_new result before s after ok is r unused used steps since parts old = elim (outcome_of result before s after is) [
   | inl taken ↦
-      let new = next_birth before.limits before.steps s taken.0 (state_of after) ok taken.2 r unused used in
-      let low = subst (λ xs. birth_of r ≤ (run before.limits xs).heap.births) (sym parts) (earlier_birth before.limits steps since ok r old) in
+      let new = next_birth (bounded before.limits) before.steps s taken.0 (state_of after) ok taken.2 r unused used in
+      let low = subst (λ xs. birth_of r ≤ (run (bounded before.limits) xs).heap.births) (sym parts) (earlier_birth (bounded before.limits) steps since ok r old) in
       omega (arith, new, low)
   | inr same ↦ unused (subst (λ m. Uses m r) same used)
 ]
 
 -- ---- the order
 
-pub one_place_more : OnePlaceAStep → (result : Result Outcome Refusal) (before : Taken) (s : Step) (after : Taken) → AreLimits before.limits → Applied result before s after →
-    length (state_of after).places ≤ length (state_of before).places + 1
-one_place_more law result before s after ok is = elim (outcome_of result before s after is) [
-  | inl taken ↦ subst (λ (state : State). length state.places ≤ length (state_of before).places + 1) (ap (state_after (state_of before)) taken.2) (law before.limits before.steps s ok)
-  | inr same ↦ subst (λ (m : Taken). length (state_of m).places ≤ length (state_of before).places + 1) (sym same) (omega arith)
+pub one_place_more : OnePlaceAStep → (result : Result Outcome Refusal) (before : Taken) (s : Step) (after : Taken) → Applied result before s after →
+    length (past_of after).places ≤ length (past_of before).places + 1
+one_place_more law result before s after is = elim (outcome_of result before s after is) [
+  | inl taken ↦ subst (λ (m : Taken). length (past_of m).places ≤ length (past_of before).places + 1) (sym taken.1) (law (bounded before.limits) before.steps s)
+  | inr same ↦ subst (λ (m : Taken). length (past_of m).places ≤ length (past_of before).places + 1) (sym same) (omega arith)
 ]
 
 -- ---- contents
 
 pub changes_contents : OfEachStep UntouchedStay → OfEachStep UpdatesChange → OfEachStep RepairsStay → OfEachStep ClearsEmpty → OfEachStep ClosesTake → OfEachStep OpenedCopy →
-    (o : Outcome) (before : Taken) (s : Step) (after : Taken) → AreLimits before.limits → KeysFit after.steps → Applied (Ok o) before s after → ChangesContents before s after
+    (o : Outcome) (before : Taken) (s : Step) (after : Taken) → AreBounds (bounded before.limits) → KeysFit after.steps → Applied (Ok o) before s after → ChangesContents before s after
 changes_contents stay updates repairs clears closes opens o before s after ok keys is =
     let fit = subst (λ (m : Taken). KeysFit m.steps) is.0 keys in record {
-      stay = stay before.limits before.steps s o (state_of after) ok fit is.1;
-      updates = updates before.limits before.steps s o (state_of after) ok fit is.1;
-      repairs = repairs before.limits before.steps s o (state_of after) ok fit is.1;
-      clears = clears before.limits before.steps s o (state_of after) ok fit is.1;
-      closes = closes before.limits before.steps s o (state_of after) ok fit is.1;
-      opens = opens before.limits before.steps s o (state_of after) ok fit is.1;
+      stay = stay (bounded before.limits) before.steps s o (state_of after) ok fit is.1;
+      updates = updates (bounded before.limits) before.steps s o (state_of after) ok fit is.1;
+      repairs = repairs (bounded before.limits) before.steps s o (state_of after) ok fit is.1;
+      clears = clears (bounded before.limits) before.steps s o (state_of after) ok fit is.1;
+      closes = closes (bounded before.limits) before.steps s o (state_of after) ok fit is.1;
+      opens = opens (bounded before.limits) before.steps s o (state_of after) ok fit is.1;
     }
 
 pub if_changes : OfEachStep UntouchedStay → OfEachStep UpdatesChange → OfEachStep RepairsStay → OfEachStep ClearsEmpty → OfEachStep ClosesTake → OfEachStep OpenedCopy →
-    (result : Result Outcome Refusal) (before : Taken) (s : Step) (after : Taken) → AreLimits before.limits → KeysFit after.steps → Applied result before s after →
+    (result : Result Outcome Refusal) (before : Taken) (s : Step) (after : Taken) → AreBounds (bounded before.limits) → KeysFit after.steps → Applied result before s after →
     OnOk result (ChangesContents before s after)
 if_changes stay updates repairs clears closes opens (Ok o) before s after ok keys is = changes_contents stay updates repairs clears closes opens o before s after ok keys is
 if_changes stay updates repairs clears closes opens (Err why) before s after ok keys is = tt

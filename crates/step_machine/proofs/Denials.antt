@@ -65,7 +65,7 @@ unfolding next
 sweep_refused state true is e = let d = rw is at e in grind (arith, d)
 sweep_refused state false is e = let d = rw is at e in grind (arith, d)
 
-never_memory : (state : State) (s : Step) → next state s ≡ Err refuse.Memory → ⊥
+pub never_memory : (state : State) (s : Step) → next state s ≡ Err refuse.Memory → ⊥
 unfolding next
 never_memory state (step.Begin actor call) e = begin_refused state actor call (begin_denial state actor call) (not_for_memory state (step.Begin actor call)) e
 never_memory state (step.Go actor) e = go_refused state actor (go_denial state actor) (operation_of state actor) refl (not_for_memory state (step.Go actor)) e

@@ -11,7 +11,7 @@ use Rattle.history.specs.declared.replies.Reply.{Reply}
 use Rattle.history.specs.declared.replies.Reply.TheVariants.{Closed, NoSlots}
 use Rattle.machine_model.specs.Calls.{is_close}
 use Rattle.machine_model.specs.declared.operations.Operation.{Operation}
-use Rattle.machine_model.specs.declared.steps.Limits.{Limits}
+use Rattle.machine_model.specs.declared.steps.Bounds.{Bounds}
 use Rattle.machine_model.specs.declared.steps.Step.{Step}
 use Rattle.machine_model.specs.declared.steps.Step.TheVariants as step
 use Rattle.machine_model.specs.declared.steps.Outcome.{Outcome}
@@ -22,26 +22,28 @@ use Rattle.machine_model.specs.Acting.{ended as ended_state}
 use Rattle.machine_model.specs.Moves.{Moves, Begins, Goes, Ends, Sweeps, begun_operation}
 use Rattle.machine_model.specs.Counting.{settled}
 use Rattle.machine_model.specs.Going.{go_limit}
-use Rattle.machine_model.specs.Machine.{AreLimits, Answer, next, next_state, begin_denial, begin_unless, run, with_begin}
+use Rattle.machine_model.specs.Limits.{AreLimits, bounded}
+use Rattle.machine_model.specs.Machine.{Answer, next, next_state, begin_denial, begin_unless, run, with_begin}
+use Rattle.machine_model.specs.Records.{Record}
 use Rattle.machine_model.specs.States.{State, first_state, operation_of}
 use Rattle.step_machine.specs.Beneath.proof_commits.proofs.Known.StepsAt.{begin_own, end_own}
-use Rattle.machine_model.proofs.Along.{kept_by_moves, run_push}
+use Rattle.machine_model.proofs.Along.{kept_by_moves, limits_along, run_push}
 use Rattle.machine_model.proofs.Frames.{steps_counted}
 use Rattle.machine_model.proofs.HeapMoves.{begin_heap}
 use Rattle.step_machine.specs.Beneath.proof_order.proofs.Views.Unconditional.{books_of}
-use Rattle.step_machine.specs.Beneath.proof_order.proofs.History.Recalling.{begin_event}
 use Rattle.std.proofs.lemmas.List.Elements.{All-push}
 use Rattle.std.proofs.lemmas.Option.{none-some}
-use Rattle.step_machine.proofs.Telling.{answered_parts, begun_runs, denied_parts, stepped, unanswered}
+use Rattle.step_machine.proofs.Telling.{answered_parts, begun_runs, denied_parts, noted_step, stepped, unanswered}
 use Rattle.proof_obstruction_free.specs.Closes.{ClosesEnd}
 use Rattle.proof_obstruction_free.specs.Copies.{IsCopying}
 use Rattle.proof_obstruction_free.specs.Laws.{EachStepLeadsToItsEnd, EndsAt, GoesOnAt, IsOnKeyOrRoot, RunsAlone, alone_after, most_steps_alone}
 use Rattle.proof_obstruction_free.specs.Slots.{EnoughForCopies, EnoughForTries}
 use Rattle.proof_obstruction_free.proofs.Slots.AtBegin.{tries_first}
 use Rattle.machine_model.specs.Lines.{new_try}
-use Rattle.step_machine.specs.Machines.{Taken, state_of, with_step, Applied, IsTaken}
+use Rattle.step_machine.specs.Machines.{Taken, past_of, state_of, with_step, Applied, IsTaken}
 use Rattle.step_machine.specs.Callers.{after_go, going_on, Resumes, Completes, CompletesUnless}
 use Rattle.step_machine.specs.Ending.{EndsIfSure, EndsIn, IsAnswer, IsBounded, IsNearer, IsSure, enough_slots}
+use Rattle.step_machine.proofs.Bounds.{in_bounds}
 use Rattle.step_machine.proofs.Going.{goes, ends}
 
 -- one step more of the same
@@ -57,22 +59,22 @@ idle_by state s o after (Begins d) actor id answer is told = cc is
 idle_by state s o after (Sweeps d) actor id answer is told = cc is
 idle_by state s o after (Goes d found a g) actor id answer is told = cc told
 idle_by state s o after (Ends {actor = who} {operation} {answer = said} d found a) actor id answer is told =
-    let whose : who ≡ actor = cc is in subst (λ a. operation_of (settled state (ended_state state who operation said)) a ≡ None) whose (end_own state who operation said)
+    let whose : who ≡ actor = cc is in subst (λ a. operation_of (settled state (ended_state state who)) a ≡ None) whose (end_own state who operation said)
 
 pub idle_behind : (state : State) (actor id : ℕ) (answer : Reply) (after : State) → next state (step.Go actor) ≡ Ok (outcome.Ended id answer, after) → operation_of after actor ≡ None
 idle_behind state actor id answer after e = idle_by state (step.Go actor) _ after (moved state (step.Go actor) _ after e) actor id answer refl refl
 
 -- a call that is sure to end
-pub bounded : (call : Call) → IsBounded call → IsOnKeyOrRoot call ⊎ (is_close call ≡ true)
-bounded (Close h) b = inr refl
-bounded (Entries h) b = absurd b
-bounded (Count h) b = absurd b
-bounded call b = inl tt
+pub of_bounded : (call : Call) → IsBounded call → IsOnKeyOrRoot call ⊎ (is_close call ≡ true)
+of_bounded (Close h) b = inr refl
+of_bounded (Entries h) b = absurd b
+of_bounded (Count h) b = absurd b
+of_bounded call b = inl tt
 
 -- where so many slots are free as its call wants at most, an operation isn't refused for want of slots
 abbrev pub EnoughForCall : Type 0
 EnoughForCall =
-    (limits : Limits) (steps : List Step) (actor : ℕ) (operation : Operation) → RunsAlone limits steps actor operation → operation.line ≡ new_try →
+    (limits : Bounds) (steps : List Step) (actor : ℕ) (operation : Operation) → RunsAlone limits steps actor operation → operation.line ≡ new_try →
     enough_slots operation.call ≤ length (run limits steps).heap.free →
     (n id : ℕ) (answer : Reply) (after : State) → next (alone_after limits steps actor n) (step.Go actor) ≡ Ok (outcome.Ended id answer, after) → answer ≢ NoSlots
 
@@ -86,6 +88,10 @@ enough_for_call tries copies limits steps actor operation alone stands = by_call
     by_call (Freeze h) is few = copies limits steps actor operation alone (subst IsCopying (sym is) tt) stands few
     by_call (Close h) is few = absurd (subst IsOnKeyOrRoot is alone.call)
     by_call call is few = tries limits steps actor operation alone stands few
+
+-- the most steps that a machine takes are those of its bounds
+most_steps : (machine : Taken) → (state_of machine).limits.steps ≡ (bounded machine.limits).steps
+most_steps machine = ap (λ (l : Bounds). l.steps) (limits_along (bounded machine.limits) machine.steps)
 
 -- a step is counted, if it is taken
 step_within : (state : State) (s : Step) → (state.steps ≤ (next_state state s).steps) × ((next_state state s).steps ≤ state.steps + 1)
@@ -109,11 +115,11 @@ module _ (machine : Taken) (actor : ℕ) where
   steps_within zero = let same = ap (λ m. (state_of m).steps) begins in (omega (arith, same), omega (arith, same))
   steps_within (suc n) =
       let before = steps_within n in
-      let last = ap (λ m. (state_of m).steps) (one_more n) ∙ ap (λ (s : State). s.steps) (run_push (first_state machine.limits) (after n).steps (step.Go actor)) in
+      let last = ap (λ m. (state_of m).steps) (one_more n) ∙ ap (λ (s : State). s.steps) (run_push (first_state (bounded machine.limits)) (after n).steps (step.Go actor)) in
       let one = step_within (state_of (after n)) (step.Go actor) in (omega (arith, before.0, last, one.0), omega (arith, before.1, last, one.1))
 
   -- as long as each step goes on
-  going : (n : ℕ) → ((k : ℕ) → k < n → GoesOnAt machine.limits machine.steps actor k) → going_on n actor machine ≡ (Ok None, after n)
+  going : (n : ℕ) → ((k : ℕ) → k < n → GoesOnAt (bounded machine.limits) machine.steps actor k) → going_on n actor machine ≡ (Ok None, after n)
   unfolding going_on
   going zero on = ap (λ m. (Ok None, m)) (sym begins)
   going (suc n) on =
@@ -123,7 +129,8 @@ module _ (machine : Taken) (actor : ℕ) where
       (goes n actor (outcome.Went kind) machine (after n) (after (suc n)) (going n (λ k h. on k (omega (arith, h)))) (one_more n, step) (λ id answer e. cc e))
 
   -- behind so many of the steps that go on, so many are left up to the one that ends the operation
-  left : (m k n id : ℕ) → k + m ≡ n → ((j : ℕ) → j < n → GoesOnAt machine.limits machine.steps actor j) → EndsAt machine.limits machine.steps actor id n → EndsIn (suc m) actor (after k)
+  left : (m k n id : ℕ) → k + m ≡ n → ((j : ℕ) → j < n → GoesOnAt (bounded machine.limits) machine.steps actor j) → EndsAt (bounded machine.limits) machine.steps actor id n →
+      EndsIn (suc m) actor (after k)
   unfolding EndsIn
   left zero k n id sum on last =
       let at_end : k ≡ n = omega (arith, sum) in
@@ -170,33 +177,37 @@ module _ (machine : Taken) (actor : ℕ) where
 
   module _ (law : EachStepLeadsToItsEnd) (closes : ClosesEnd) (sizes : AreLimits machine.limits) (keys : KeysFit machine.steps) (operation : Operation)
       (runs : operation_of (state_of machine) actor ≡ Some operation) (sure : IsSure (state_of machine) operation.call most_steps_alone) where
+    -- as many steps are left by its bounds
+    steps_left : (state_of machine).steps + most_steps_alone ≤ (bounded machine.limits).steps
+    steps_left = let most = most_steps machine in omega (arith, most, sure.1)
+
     abbrev LeadsToEnd : Type 0
     LeadsToEnd =
-        (n : ℕ) × (n < most_steps_alone) × ((k : ℕ) → k < n → GoesOnAt machine.limits machine.steps actor k) × EndsAt machine.limits machine.steps actor operation.id n
+        (n : ℕ) × (n < most_steps_alone) × ((k : ℕ) → k < n → GoesOnAt (bounded machine.limits) machine.steps actor k) × EndsAt (bounded machine.limits) machine.steps actor operation.id n
 
-    alone_facts : IsOnKeyOrRoot operation.call → RunsAlone machine.limits machine.steps actor operation
-    alone_facts call = record { limits_ok = sizes; keys_fit = keys; runs = runs; call = call; left = sure.1 }
+    alone_facts : IsOnKeyOrRoot operation.call → RunsAlone (bounded machine.limits) machine.steps actor operation
+    alone_facts call = record { limits_ok = in_bounds machine.limits sizes; keys_fit = keys; runs = runs; call = call; left = steps_left }
 
     -- each of its steps goes on, and the last one ends it
     leads : IsOnKeyOrRoot operation.call ⊎ (is_close operation.call ≡ true) → LeadsToEnd
-    leads (inl call) = law machine.limits machine.steps actor operation (alone_facts call)
+    leads (inl call) = law (bounded machine.limits) machine.steps actor operation (alone_facts call)
     leads (inr closing) =
-        let ends_now = (closes machine.limits machine.steps actor operation runs closing (omega (arith, sure.1))).0 in
-        let last = alone_after machine.limits machine.steps actor 1 in
+        let ends_now = (closes (bounded machine.limits) machine.steps actor operation runs closing (omega (arith, steps_left))).0 in
+        let last = alone_after (bounded machine.limits) machine.steps actor 1 in
         let ends_here = subst (λ m. next (state_of m) (step.Go actor) ≡ Ok (outcome.Ended operation.id Closed, last)) (sym begins) ends_now in
         (0, omega arith, (λ k below. absurd (omega (arith, below))), (Closed, ends_here))
 
     -- the steps come to the end
     answered : (answer : Reply) × (last : Taken) × (going_on go_limit actor machine ≡ (Ok (Some answer), last))
     answered =
-        let (n, few, on, last) = leads (bounded operation.call sure.0) in
+        let (n, few, on, last) = leads (of_bounded operation.call sure.0) in
         let within : n < go_limit = omega (arith, few) in
         (last.0, after (suc n), ends n actor operation.id last.0 machine (after n) (after (suc n)) within (going n on) (one_more n, last.1))
 
     -- so does this one
     pub comes : (answer : Reply) (last : Taken) → going_on go_limit actor machine ≡ (Ok (Some answer), last) → Comes last
     comes answer to goes =
-        let (n, few, on, last) = leads (bounded operation.call sure.0) in
+        let (n, few, on, last) = leads (of_bounded operation.call sure.0) in
         let within : n < go_limit = omega (arith, few) in
         let led = ends n actor operation.id last.0 machine (after n) (after (suc n)) within (going n on) (one_more n, last.1) in
         record {
@@ -212,7 +223,7 @@ module _ (machine : Taken) (actor : ℕ) where
     -- and none of them is denied
     pub ends_in : (n : ℕ) × (n ≤ most_steps_alone) × EndsIn n actor machine
     ends_in =
-        let (n, few, on, last) = leads (bounded operation.call sure.0) in
+        let (n, few, on, last) = leads (of_bounded operation.call sure.0) in
         (suc n, omega (arith, few), subst (EndsIn (suc n) actor) begins (left n 0 n operation.id (omega arith) on last))
 
     -- where enough slots are free none of them is refused for want of slots
@@ -221,13 +232,14 @@ module _ (machine : Taken) (actor : ℕ) where
         going_on n actor machine ≡ (Ok (Some NoSlots), last) → ⊥
     not_refused spare stands free (inl call) n last goes =
         let (j, id, state, e) = told_at n 0 NoSlots last (subst (λ m. going_on n actor m ≡ (Ok (Some NoSlots), last)) (sym begins) goes) in
-        spare machine.limits machine.steps actor operation (alone_facts call) (stands call) free j id NoSlots state e refl
+        spare (bounded machine.limits) machine.steps actor operation (alone_facts call) (stands call) free j id NoSlots state e refl
     not_refused spare stands free (inr closing) n last goes =
-        closed_told n operation.id last (alone_after machine.limits machine.steps actor 1) (closes machine.limits machine.steps actor operation runs closing (omega (arith, sure.1))).0 goes
+        let ends_now = (closes (bounded machine.limits) machine.steps actor operation runs closing (omega (arith, steps_left))).0 in
+        closed_told n operation.id last (alone_after (bounded machine.limits) machine.steps actor 1) ends_now goes
 
     pub spared : EnoughForCall → (IsOnKeyOrRoot operation.call → operation.line ≡ new_try) → enough_slots operation.call ≤ length (state_of machine).heap.free → (n : ℕ) (last : Taken) →
         going_on n actor machine ≡ (Ok (Some NoSlots), last) → ⊥
-    spared spare stands free = not_refused spare stands free (bounded operation.call sure.0)
+    spared spare stands free = not_refused spare stands free (of_bounded operation.call sure.0)
 
     -- so that is what they come to
     pub must_be : (result : Result (Option Reply) Refusal) (to : Taken) → going_on go_limit actor machine ≡ (result, to) → (answer : Reply) × (result ≡ Ok (Some answer))
@@ -266,10 +278,10 @@ module _ (before : Taken) (actor : ℕ) (call : Call) (d : begin_denial (state_o
   pub begun_runs_on : operation_of (state_of middle) actor ≡ Some (begun_operation (state_of before) call)
   begun_runs_on =
       let (o, e) = begun_state (state_of before) actor call d in
-      let told = ap (λ (s : State). s.events) led_so ∙ begin_event (state_of before) (step.Begin actor call) o begun_so (moved (state_of before) (step.Begin actor call) o begun_so e) actor
-      call refl in
+      let told = ap (λ (r : Record). r.events) (noted_step before (step.Begin actor call) o begun_so e) in
       let (found, runs, same) =
-      begun_runs (state_of before) (state_of middle) actor call (begun_operation (state_of before) call).opens (books_of before.limits before.steps) (books_of middle.limits middle.steps) told in
+      begun_runs (state_of before) (state_of middle) (past_of before) (past_of middle) actor call (begun_operation (state_of before) call).opens
+      (books_of (bounded before.limits) before.steps) (books_of (bounded before.limits) middle.steps) told in
       elim (begin_own (state_of before) actor call (begun_operation (state_of before) call)) [
         | inl none ↦ absurd (none-some found (sym none ∙ ap (λ s. operation_of s actor) (sym led_so) ∙ runs))
         | inr own ↦ ap (λ s. operation_of s actor) led_so ∙ own
@@ -279,7 +291,7 @@ module _ (before : Taken) (actor : ℕ) (call : Call) (d : begin_denial (state_o
   pub sure_behind : (n : ℕ) → IsSure (state_of before) call (1 + n) → IsSure (state_of middle) (begun_operation (state_of before) call).call n
   sure_behind n sure =
       let later : (state_of middle).steps ≡ (state_of before).steps + 1 = ap (λ (s : State). s.steps) led_so in
-      (sure.0, omega (arith, later, sure.1))
+      let most = most_steps before in let still = most_steps middle in (sure.0, omega (arith, later, most, still, sure.1))
 
 module _ (law : EachStepLeadsToItsEnd) (closes : ClosesEnd) (before after : Taken) (actor : ℕ) (call : Call) (sizes : AreLimits before.limits) (keys : KeysFit before.steps)
     (fits : FitsKey (step.Begin actor call)) (sure : IsSure (state_of before) call (1 + most_steps_alone)) where

@@ -15,13 +15,15 @@ use Rattle.epochs.specs.Sweeping.{Reclaimer, advanced, is_passed, ripe, scanned,
 use Rattle.epochs.proofs.InUse.{live_in_use}
 use Rattle.epochs.proofs.Staying.{any_times}
 use Rattle.machine_model.specs.declared.operations.Operation.{Operation}
+use Rattle.machine_model.specs.declared.steps.Bounds.{Bounds}
 use Rattle.machine_model.specs.declared.steps.Limits.{Limits}
 use Rattle.machine_model.specs.declared.steps.Outcome.{Outcome}
 use Rattle.machine_model.specs.declared.steps.Step.{Step}
 use Rattle.machine_model.specs.declared.steps.Step.TheVariants as step
 use Rattle.machine_model.specs.Acting.{gone}
 use Rattle.machine_model.specs.Counting.{outside, settled}
-use Rattle.machine_model.specs.Machine.{AreLimits, is_busy, next, pin_of, reclaimer_of, run, swept_with}
+use Rattle.machine_model.specs.Limits.{bounded}
+use Rattle.machine_model.specs.Machine.{AreBounds, is_busy, next, pin_of, reclaimer_of, run, swept_with}
 use Rattle.machine_model.specs.Moves.{Moves, Begins, Ends, Goes, Sweeps, begun_operation}
 use Rattle.machine_model.specs.Operations.{action_of}
 use Rattle.machine_model.specs.Calls.{handle_of}
@@ -189,7 +191,7 @@ cursor_counts state s o after (Goes {actor} {operation} d is a g) h =
 cursor_counts state s o after (Ends d is a) h = h
 cursor_counts state s o after (Sweeps spent) h = swept_counts (map pin_of state.actors) (reclaimer_of state) (ripe state.epoch state.limbo) h
 
-counts_along : (limits : Limits) (steps : List Step) → 1 ≤ (run limits steps).cursor
+counts_along : (limits : Bounds) (steps : List Step) → 1 ≤ (run limits steps).cursor
 unfolding first_state
 counts_along limits = along limits (λ state. 1 ≤ state.cursor) (omega arith) (λ steps s o after m h. cursor_counts (run limits steps) s o after m h)
 
@@ -200,13 +202,13 @@ until machine = until_ripe machine.limits.actors (state_of machine).cursor (stat
 
 until_at_most : (machine : Taken) → until machine ≤ 2 * machine.limits.actors + 2
 until_at_most machine =
-    ripe_most machine.limits.actors (state_of machine).cursor (state_of machine).epoch (counts_along machine.limits machine.steps) (state_of machine).limbo
+    ripe_most machine.limits.actors (state_of machine).cursor (state_of machine).epoch (counts_along (bounded machine.limits) machine.steps) (state_of machine).limbo
 
 near_move : (state : State) → IsSafe state → length state.heap.slots ≤ 2 ^ 16 → LimboLies state → is_busy state ≡ false → (z : Zeroed) (limbo : List Zeroed) →
     state.limbo ≡ z ∷ limbo → (o : Outcome) (after : State) → Moves state step.Sweep o after → Nears (length (map pin_of state.actors)) state after × (is_busy after ≡ false)
 near_move state I small lies idle z limbo first o after (Sweeps spent) = (sweep_nears state I small lies idle z limbo first, idle)
 
-module _ (machine : Taken) (ok : AreLimits machine.limits) (idle : is_busy (state_of machine) ≡ false) (some : HasLimbo machine) (taken : IsTaken (state_of machine) step.Sweep) where
+module _ (machine : Taken) (ok : AreBounds (bounded machine.limits)) (idle : is_busy (state_of machine) ≡ false) (some : HasLimbo machine) (taken : IsTaken (state_of machine) step.Sweep) where
   abbrev later : State
   later = state_of (with_step machine step.Sweep)
 
@@ -214,10 +216,10 @@ module _ (machine : Taken) (ok : AreLimits machine.limits) (idle : is_busy (stat
   by_limbo [] e = absurd (some e)
   by_limbo (z ∷ limbo) e =
       let (o, so) = step_by machine (next (state_of machine) step.Sweep) refl taken in
-      let I = safe_along machine.limits ok machine.steps in
-      let actors : length (map pin_of (state_of machine).actors) ≡ machine.limits.actors = length-map _ _ ∙ (sizes_stay machine.limits machine.steps).1 in
+      let I = safe_along (bounded machine.limits) ok machine.steps in
+      let actors : length (map pin_of (state_of machine).actors) ≡ machine.limits.actors = length-map _ _ ∙ (sizes_stay (bounded machine.limits) machine.steps).1 in
       subst (λ n. Nears n (state_of machine) later × (is_busy later ≡ false)) actors
-      (near_move (state_of machine) I (let size = I.sound.heap.size in omega (arith, size, I.small)) (limbo_lies machine.limits machine.steps) idle z limbo e
+      (near_move (state_of machine) I (let size = I.sound.heap.size in omega (arith, size, I.small)) (limbo_lies (bounded machine.limits) machine.steps) idle z limbo e
       o later (moved (state_of machine) step.Sweep o later so.1))
 
   step_nears : Nears machine.limits.actors (state_of machine) later × (is_busy later ≡ false)
@@ -266,7 +268,7 @@ module _ (machine : Taken) (last : Taken) (counted : (state_of (with_step machin
       nearer_sum (rate machine * free_in machine) (rate machine * free_in last) (state_of machine).steps (state_of last).steps (until machine) (until middle) (until last) near
       (subst (λ n. (state_of last).steps + rate machine * n + until last ≤ (state_of machine).steps + 1 + rate machine * free_in last + until middle) same sums)
 
-pub led : (n : ℕ) (machine : Taken) → AreLimits machine.limits → is_busy (state_of machine) ≡ false → AreNeeded n machine → Led machine (swept n machine)
+pub led : (n : ℕ) (machine : Taken) → AreBounds (bounded machine.limits) → is_busy (state_of machine) ≡ false → AreNeeded n machine → Led machine (swept n machine)
 unfolding swept
 led zero machine ok idle needed = record { limits = refl; idle = idle; rises = le_same _; few = le_same _ }
 led (suc n) machine ok idle needed =
@@ -305,10 +307,11 @@ by_result : (result : Result (Unit {0}) Refusal) (before after : Taken) → Led 
 by_result (Ok done) before after h empty = led_to_empty before after h empty
 by_result (Err why) before after h broken = led_so_far before after h
 
-unless_busy : (busy : Bool) (result : Result (Unit {0}) Refusal) (before after : Taken) → AreLimits before.limits → is_busy (state_of before) ≡ busy → ReclaimsUnless busy result before after →
+unless_busy : (busy : Bool) (result : Result (Unit {0}) Refusal) (before after : Taken) → AreBounds (bounded before.limits) → is_busy (state_of before) ≡ busy →
+    ReclaimsUnless busy result before after →
     SweepsFew result before after
 unless_busy true result before after ok e (is, same) = rw is (subst (SweepsUpTo (2 * before.limits.actors + 2) before) (sym same) (more_sum _ _ _))
 unless_busy false result before after ok e (n, is, needed, until_so) = by_result result before after (subst (Led before) (sym is) (led n before ok e needed)) until_so
 
-pub sweeps_few : (result : Result (Unit {0}) Refusal) (before after : Taken) → AreLimits before.limits → Reclaims result before after → SweepsFew result before after
+pub sweeps_few : (result : Result (Unit {0}) Refusal) (before after : Taken) → AreBounds (bounded before.limits) → Reclaims result before after → SweepsFew result before after
 sweeps_few result before after ok r = unless_busy (is_busy (state_of before)) result before after ok refl r

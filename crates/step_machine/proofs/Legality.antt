@@ -13,28 +13,30 @@ use Rattle.history.specs.declared.calls.Access.TheVariants.{Writable}
 use Rattle.history.specs.declared.calls.Call.{Call}
 use Rattle.history.specs.declared.replies.Reply.{Reply}
 use Rattle.history.specs.declared.replies.Reply.TheVariants.{NoSlots}
-use Rattle.history.specs.Worlds.{HandleState, HandleMap}
+use Rattle.history.specs.Worlds.{HandleState}
 use Rattle.history.specs.Orders.{Explains}
 use Rattle.machine_model.specs.declared.roots.Root.{Root}
 use Rattle.machine_model.specs.declared.steps.Limits.{Limits}
 use Rattle.machine_model.specs.declared.steps.Outcome.{Outcome}
 use Rattle.machine_model.specs.declared.steps.Step.TheVariants as step
 use Rattle.machine_model.specs.States.{State, first_state, root_at}
-use Rattle.machine_model.specs.Orders.{order_of}
+use Rattle.machine_model.specs.Records.{order_of}
 use Rattle.machine_model.specs.Contents.{content_at}
 use Rattle.machine_model.specs.Keys.{FitsKey, KeysFit}
-use Rattle.machine_model.specs.Machine.{AreLimits, next, access_of, begin_denial, begin_unless, is_access, is_busy, run, state_after}
+use Rattle.machine_model.specs.Limits.{AreLimits, bounded}
+use Rattle.machine_model.specs.Machine.{next, access_of, begin_denial, begin_unless, is_access, is_busy, run, state_after}
 use Rattle.machine_model.specs.Going.{go_limit}
 use Rattle.machine_model.proofs.Along.{run_push}
 use Rattle.machine_model.specs.Refusing.{RefusesContent}
 use Rattle.step_machine.specs.Beneath.proof_order.specs.Laws.Orders.{Names, ShowsContents, IsExplained}
 use Rattle.proof_linearizable.proofs.Legal.{fit_in_front}
-use Rattle.proof_linearizable.specs.Laws.{AloneItActs, RanAlone, Does}
-use Rattle.step_machine.specs.Machines.{Taken, state_of, with_step}
+use Rattle.proof_linearizable.specs.Laws.{AloneItActs, RanAlone}
+use Rattle.step_machine.specs.Machines.{Taken, past_of, state_of, with_step}
 use Rattle.step_machine.specs.Callers.{going_on, Resumes, Completes, CompletesUnless}
 use Rattle.step_machine.specs.declared.records.Record.{Record}
 use Rattle.step_machine.specs.Records.{IsRecordOf}
 use Rattle.step_machine.specs.Legality.{IsLegalFor, IsLegalRecord, LeadsToContents, HasInOrder, InOrder, IsInOrder, writable_in, ActedAlone, RestsIfAnswered, WentAlone}
+use Rattle.step_machine.proofs.Bounds.{in_bounds}
 use Rattle.step_machine.proofs.Going.{HasMore, going-append, has_more}
 use Rattle.step_machine.proofs.Ending.{EnoughForCall, spared_behind}
 use Rattle.step_machine.specs.Ending.{IsSpared, IsSure, enough_slots}
@@ -43,15 +45,15 @@ use Rattle.proof_obstruction_free.specs.Laws.{EachStepLeadsToItsEnd, most_steps_
 use Rattle.step_machine.proofs.Resting.{OnlyRuns, leads_to_rest, only_at_rest, still_only, unanswered_at_rest}
 use Rattle.step_machine.proofs.Telling.{Tells, stepped, tells}
 
-module _ (machine : Taken) (explained : IsExplained machine.limits (state_of machine)) where
-  pub legal : (order : List ℕ) → order ≡ order_of (state_of machine) → IsLegalFor machine order
+module _ (machine : Taken) (explained : IsExplained (bounded machine.limits) (state_of machine) (past_of machine)) where
+  pub legal : (order : List ℕ) → order ≡ order_of (past_of machine) → IsLegalFor machine order
   legal order is = subst (IsLegalFor machine) (sym is) (explained.0, explained.1)
 
-  pub if_legal : (result : Result (Vec ℕ Global) Refusal) → IfOk result (λ order. order.items ≡ order_of (state_of machine)) → IfOk result (λ order. IsLegalFor machine order.items)
+  pub if_legal : (result : Result (Vec ℕ Global) Refusal) → IfOk result (λ order. order.items ≡ order_of (past_of machine)) → IfOk result (λ order. IsLegalFor machine order.items)
   if_legal (Ok order) is = legal order.items is
   if_legal (Err why) is = tt
 
-  pub if_leads : (result : Result (Vec ℕ Global) Refusal) → IfOk result (λ order. order.items ≡ order_of (state_of machine)) → IfOk result (λ order. LeadsToContents machine order.items)
+  pub if_leads : (result : Result (Vec ℕ Global) Refusal) → IfOk result (λ order. order.items ≡ order_of (past_of machine)) → IfOk result (λ order. LeadsToContents machine order.items)
   if_leads (Ok order) is = subst (LeadsToContents machine) (sym is) explained
   if_leads (Err why) is = tt
 
@@ -105,14 +107,16 @@ module _ (machine : Taken) (explained : IsExplained machine.limits (state_of mac
 
 -- ---- a record
 
-record_legal : (machine : Taken) → IsExplained machine.limits (state_of machine) → (made : Record) → IsRecordOf machine made → IsLegalRecord made
+record_legal : (machine : Taken) → IsExplained (bounded machine.limits) (state_of machine) (past_of machine) → (made : Record) → IsRecordOf machine made → IsLegalRecord made
 record_legal machine (world, explains, shows) made is =
-    let by_hash = subst (λ (sizes : Limits). Explains (hash_of sizes.hash) (state_of machine).events (order_of (state_of machine)) world) (sym is.sizes) explains in
-    let by_events = subst (λ events. Explains (hash_of made.limits.hash) events (order_of (state_of machine)) world) (sym is.history) by_hash in
+    let by_hash = subst (λ (sizes : Limits). Explains (hash_of sizes.hash) (past_of machine).events (order_of (past_of machine)) world) (sym is.sizes) explains in
+    let by_events = subst (λ events. Explains (hash_of made.limits.hash) events (order_of (past_of machine)) world) (sym is.history) by_hash in
     let by_order = subst (λ order. Explains (hash_of made.limits.hash) made.events.items order world) (sym is.order) by_events in
-    (world, by_order, subst (λ steps. ShowsContents world (run made.limits steps)) (sym is.path) (subst (λ (sizes : Limits). ShowsContents world (run sizes machine.steps)) (sym is.sizes) shows))
+    let by_sizes = subst (λ (sizes : Limits). ShowsContents world (run (bounded sizes) machine.steps)) (sym is.sizes) shows in
+    (world, by_order, subst (λ steps. ShowsContents world (run (bounded made.limits) steps)) (sym is.path) by_sizes)
 
-pub if_record_legal : {E : Type 0} (machine : Taken) → IsExplained machine.limits (state_of machine) → (result : Result Record E) → IfOk result (IsRecordOf machine) → IfOk result IsLegalRecord
+pub if_record_legal : {E : Type 0} (machine : Taken) → IsExplained (bounded machine.limits) (state_of machine) (past_of machine) → (result : Result Record E) → IfOk result (IsRecordOf machine) →
+    IfOk result IsLegalRecord
 if_record_legal machine explained (Ok made) is = record_legal machine explained made is
 if_record_legal machine explained (Err why) is = tt
 
@@ -135,7 +139,7 @@ module _ (before after : Taken) (actor : ℕ) (call : Call) (rest : is_busy (sta
   unfolding next
   not_denied n answer why d goes =
       let denied : next (state_of before) (step.Begin actor call) ≡ Err why = denied_begin (state_of before) actor call (begin_denial (state_of before) actor call) why d in
-      let same : state_of middle ≡ state_of before = run_push (first_state before.limits) before.steps (step.Begin actor call) ∙ ap (state_after (state_of before)) denied in
+      let same : state_of middle ≡ state_of before = run_push (first_state (bounded before.limits)) before.steps (step.Begin actor call) ∙ ap (state_after (state_of before)) denied in
       unanswered_at_rest n actor middle after answer (subst (λ s. is_busy s ≡ false) (sym same) rest) goes
 
   -- so it was taken
@@ -170,13 +174,13 @@ module _ (before after : Taken) (actor : ℕ) (call : Call) (rest : is_busy (sta
     acted_by : (answer : Reply) → Tells before after actor call answer → ActedAlone (Ok (Some answer)) before call after
     acted_by answer told =
         let led = told.led in
-        let same : state_of after ≡ run before.limits (before.steps ++ led.more) = ap (λ l. run l after.steps) led.limits ∙ ap (run before.limits) led.steps in
-        let alone : RanAlone (state_of before) (run before.limits (before.steps ++ led.more)) told.id actor call told.opens answer =
-        record { rest = rest; told = sym (ap (λ (s : State). s.events) same) ∙ led.events } in
-        let acts = law before.limits before.steps led.more told.id actor call told.opens answer (subst AreLimits led.limits sizes) (subst KeysFit led.steps keys) alone in
-        subst (λ s. (id : ℕ) × (opens : Option ℕ) × (world next : HandleMap) × ShowsContents world (state_of before) × ShowsContents next s
-        × Does (hash_of before.limits.hash) (state_of before) s id call opens answer world next) (sym same)
-        (told.id, told.opens, acts.0, acts.1, acts.2, acts.3, acts.4)
+        let longer : Taken = record { limits = before.limits; steps = before.steps ++ led.more } in
+        let same : after ≡ longer = ap (λ (l : Limits). record { limits = l; steps = after.steps }) led.limits ∙ ap (λ xs. record { limits = before.limits; steps = xs }) led.steps in
+        let alone : RanAlone (state_of before) (past_of before) (past_of longer) told.id actor call told.opens answer =
+        record { rest = rest; told = sym (ap (λ m. (past_of m).events) same) ∙ led.events } in
+        let in_range = in_bounds before.limits (subst AreLimits led.limits sizes) in
+        let acts = law (bounded before.limits) before.steps led.more told.id actor call told.opens answer in_range (subst KeysFit led.steps keys) alone in
+        subst (ActedAlone (Ok (Some answer)) before call) (sym same) (told.id, told.opens, acts.0, acts.1, acts.2, acts.3, acts.4)
 
     acted_behind : (n : ℕ) (answer : Reply) → going_on n actor middle ≡ (Ok (Some answer), after) → ActedAlone (Ok (Some answer)) before call after
     acted_behind n answer goes =
@@ -221,7 +225,8 @@ module _ (before machine after : Taken) (actor : ℕ) (call : Call) (went : Went
       (All-contains FitsKey (before.steps ++ step.Begin actor call ∷ []) (step.Begin actor call) fit (Contains-push before.steps (step.Begin actor call))) sure free d (went.1.0 + go_limit) after
       (goes_further before after actor call went.0 went.1.0 go_limit machine NoSlots went.1.1 goes)
 
-  pub spares_again : EachStepLeadsToItsEnd → ClosesEnd → EnoughForCall → AreLimits after.limits → KeysFit after.steps → (result : Result (Option Reply) Refusal) → Resumes result machine actor after →
+  pub spares_again : EachStepLeadsToItsEnd → ClosesEnd → EnoughForCall → AreLimits after.limits → KeysFit after.steps → (result : Result (Option Reply) Refusal) →
+      Resumes result machine actor after →
       IsSpared before call result
   spares_again law closes spare sizes keys result goes sure free is =
       spared_by law closes spare sizes keys sure free (subst (λ r. Resumes r machine actor after) is goes) (begin_denial (state_of before) actor call) refl

@@ -1,3 +1,5 @@
+pub mod Bounds
+pub mod Feeding
 pub mod Steps
 pub mod Denials
 pub mod Going

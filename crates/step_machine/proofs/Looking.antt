@@ -10,15 +10,16 @@ use Rattle.step_machine.specs.Beneath.proof_contents.specs.Nodes.Looking.{find_a
 use Rattle.machine_model.specs.declared.roots.Root.{Root}
 use Rattle.machine_model.specs.Contents.{content_at, most_levels}
 use Rattle.machine_model.specs.Keys.{KeysFit}
-use Rattle.machine_model.specs.Machine.{AreLimits}
+use Rattle.machine_model.specs.Limits.{bounded}
+use Rattle.machine_model.specs.Machine.{AreBounds}
 use Rattle.machine_model.specs.States.{root_at, root_of, word_at, word_of}
 use Rattle.machine_core.specs.Finding.{found_along}
 use Rattle.step_machine.specs.Beneath.proof_shape.specs.Agreeing.{LookingFinds}
 use Rattle.step_machine.specs.Machines.{Taken, state_of}
-use Rattle.machine_model.specs.declared.steps.Limits.{Limits}
+use Rattle.machine_model.specs.declared.steps.Bounds.{Bounds}
 use Rattle.machine_model.proofs.Along.{limits_along}
 
-module _ (law : LookingFinds) (machine : Taken) (ok : AreLimits machine.limits) (keys : KeysFit machine.steps) (handle key : ℕ) where
+module _ (law : LookingFinds) (machine : Taken) (ok : AreBounds (bounded machine.limits)) (keys : KeysFit machine.steps) (handle key : ℕ) where
   -- what is found there
   abbrev found : Option ℕ
   found = found_along (state_of machine) handle key
@@ -27,9 +28,9 @@ module _ (law : LookingFinds) (machine : Taken) (ok : AreLimits machine.limits) 
   by_root None at some = cc some
   by_root (Some root) at some =
       ap (λ h. find_at (node_at (state_of machine).heap) (logical_main (state_of machine).heap) (hash_of h) key most_levels 0 (root_of (word_at (state_of machine) handle)))
-      (ap (λ (l : Limits). l.hash) (limits_along machine.limits machine.steps))
+      (ap (λ (l : Bounds). l.hash) (limits_along (bounded machine.limits) machine.steps))
       ∙ ap (λ o. find_at (node_at (state_of machine).heap) (logical_main (state_of machine).heap) (hash_of machine.limits.hash) key most_levels 0 (root_of (word_of o))) at
-      ∙ sym (law machine.limits machine.steps handle root key ok keys at)
+      ∙ sym (law (bounded machine.limits) machine.steps handle root key ok keys at)
 
   pub if_found : (result : Result (Option ℕ) Refusal) → IfOk result (λ value. value ≡ found) → OnOk result (IsSome (root_at (state_of machine) handle)) →
       IfOk result (λ value. value ≡ map.find nat_cmp key (content_at (state_of machine) handle))

@@ -8,17 +8,23 @@ use Rattle.machine_model.specs.declared.steps.Step.{Step}
 use Rattle.machine_model.specs.declared.steps.Outcome.{Outcome}
 use Rattle.std.specs.Prelude.{length}
 use Rattle.step_machine.specs.Beneath.slot_arena.specs.Heaps.{in_use}
-use Rattle.machine_model.specs.Orders.{order_of}
+use Rattle.machine_model.specs.Records.{first_record, order_of, record_of}
+use Rattle.machine_model.specs.Limits.{bounded}
 use Rattle.machine_model.specs.States.{State, first_state}
 use Rattle.machine_model.specs.Machine.{next, next_state, run_from, run, is_taken_step, taken_from}
 use Rattle.machine_model.proofs.Taken.{run-taken}
-use Rattle.step_machine.specs.Machines.{Taken, fresh, state_of, with_step, Applied}
+use Rattle.machine_model.proofs.Recorded.{record-taken}
+use Rattle.step_machine.specs.Machines.{Taken, fresh, past_of, state_of, with_step, Applied}
 use Rattle.step_machine.specs.declared.records.Record.{Record}
 use Rattle.step_machine.specs.Records.{IsAfter, IsRecordOf, IsRecord}
 
 -- its state is that of the run
-pub run_kept : (limits : Limits) (steps : List Step) (machine : Taken) → IsAfter limits steps machine → state_of machine ≡ run limits steps
-run_kept limits steps machine kept = ap (λ m. state_of m) kept ∙ run-taken (first_state limits) steps
+pub run_kept : (limits : Limits) (steps : List Step) (machine : Taken) → IsAfter limits steps machine → state_of machine ≡ run (bounded limits) steps
+run_kept limits steps machine kept = ap (λ m. state_of m) kept ∙ run-taken (first_state (bounded limits)) steps
+
+-- and so is its record
+pub record_kept : (limits : Limits) (steps : List Step) (machine : Taken) → IsAfter limits steps machine → past_of machine ≡ record_of (bounded limits) steps
+record_kept limits steps machine kept = ap (λ m. past_of m) kept ∙ record-taken (first_state (bounded limits)) (first_record (bounded limits)) steps
 
 -- the last step is taken, or denied
 
@@ -50,7 +56,7 @@ pub kept_taken : (limits : Limits) (xs : List Step) (s : Step) (o : Outcome) (ma
     Applied (Ok o) machine s after → IsAfter limits (xs ++ s ∷ []) after
 kept_taken limits xs s o machine after kept step =
     step.0 ∙ ap (λ m. with_step m s) kept ∙ ap (λ ys. record { limits = limits; steps = ys })
-    (sym (taken_push (first_state limits) xs s o (state_of after) (subst (λ state. next state s ≡ Ok (o, state_of after)) (run_kept limits xs machine kept) step.1)))
+    (sym (taken_push (first_state (bounded limits)) xs s o (state_of after) (subst (λ state. next state s ≡ Ok (o, state_of after)) (run_kept limits xs machine kept) step.1)))
 
 -- a step that is denied
 pub kept_denied : (limits : Limits) (xs : List Step) (s : Step) (refusal : Refusal) (machine after : Taken) → IsAfter limits xs machine →
@@ -58,15 +64,15 @@ pub kept_denied : (limits : Limits) (xs : List Step) (s : Step) (refusal : Refus
 kept_denied limits xs s refuse.Memory machine after kept step other = absurd (other refl)
 kept_denied limits xs s refusal machine after kept step other =
     step.0 ∙ kept ∙ ap (λ ys. record { limits = limits; steps = ys })
-    (sym (denied_push (first_state limits) xs s refusal (subst (λ state. next state s ≡ Err refusal) (run_kept limits xs machine kept) step.1)))
+    (sym (denied_push (first_state (bounded limits)) xs s refusal (subst (λ state. next state s ≡ Err refusal) (run_kept limits xs machine kept) step.1)))
 
 -- the record of such a machine is that of the run
 pub recorded : (limits : Limits) (steps : List Step) (machine : Taken) (made : Record) → IsAfter limits steps machine → IsRecordOf machine made → IsRecord limits steps made
 recorded limits steps machine made after r = record {
   sizes = r.sizes ∙ ap (λ m. m.limits) after;
   path = r.path ∙ ap (λ m. m.steps) after;
-  history = r.history ∙ ap (λ state. state.events) (run_kept limits steps machine after);
-  order = r.order ∙ ap (λ state. order_of state) (run_kept limits steps machine after);
+  history = r.history ∙ ap (λ past. past.events) (record_kept limits steps machine after);
+  order = r.order ∙ ap (λ past. order_of past) (record_kept limits steps machine after);
   used = r.used ∙ ap (λ state. length (in_use state.heap)) (run_kept limits steps machine after);
   free = r.free ∙ ap (λ state. length state.heap.free) (run_kept limits steps machine after);
   limbo = r.limbo ∙ ap (λ state. length state.limbo) (run_kept limits steps machine after);

@@ -2,31 +2,25 @@
 use Rattle.std.specs.Prelude.{◌≡◌, List, [], ◌∷◌, ◌++◌, Ok}
 use Rattle.std.proofs.lemmas.List.Elements.{All-nil, All-push}
 use Rattle.std.proofs.Common.{refl, sym, ap, ◌∙◌, subst}
+use Rattle.machine_model.specs.declared.steps.Bounds.{Bounds}
 use Rattle.machine_model.specs.declared.steps.Limits.{Limits}
 use Rattle.machine_model.specs.declared.steps.Step.{Step}
 use Rattle.machine_model.specs.declared.steps.Outcome.{Outcome}
 use Rattle.machine_model.specs.States.{State, first_state}
-use Rattle.machine_model.specs.Machine.{AreLimits, next, run, run_from}
-use Rattle.machine_model.proofs.Moves.{moved}
+use Rattle.machine_model.specs.Limits.{AreLimits, bounded}
+use Rattle.machine_model.specs.Machine.{next, run, run_from}
+use Rattle.machine_model.specs.Records.{first_record, next_record, record_from, record_of}
 use Rattle.machine_model.proofs.Along.{run_push}
-use Rattle.machine_model.proofs.Frames.{limits_kept}
+use Rattle.machine_model.proofs.Recorded.{record_push}
 use Rattle.machine_model.specs.Keys.{FitsKey, KeysFit}
+use Rattle.chronicle.specs.Chronicled.{Chronicled}
 use Rattle.step_machine.specs.Machines.{IsTaken, AreTaken}
-
--- the sizes stay
-pub kept_limits : (before : State) (s : Step) (o : Outcome) (after : State) → next before s ≡ Ok (o, after) → after.limits ≡ before.limits
-kept_limits before s o after e = limits_kept before s o after (moved before s o after e)
+use Rattle.step_machine.specs.Taking.{HasTaken, TakesAndTells}
 
 -- the run with the step leads to the state after it
-run_with : (limits : Limits) (steps : List Step) (s : Step) (o : Outcome) (after : State) → next (run limits steps) s ≡ Ok (o, after) →
+pub run_with : (limits : Bounds) (steps : List Step) (s : Step) (o : Outcome) (after : State) → next (run limits steps) s ≡ Ok (o, after) →
     after ≡ run limits (steps ++ s ∷ [])
 run_with limits steps s o after e = sym (rw (run_push (first_state limits) steps s) (rw e refl))
-
-pub next_run : (before : State) (steps : List Step) (s : Step) (o : Outcome) (after : State) → before ≡ run before.limits steps → next before s ≡ Ok (o, after) →
-    after ≡ run after.limits (steps ++ s ∷ [])
-next_run before steps s o after led e =
-    subst (λ limits. after ≡ run limits (steps ++ s ∷ [])) (sym (kept_limits before s o after e))
-    (run_with before.limits steps s o after (subst (λ state. next state s ≡ Ok (o, after)) led e))
 
 -- where a list with one element more is cut, either that element stands behind the cut alone, or the list itself is cut there
 
@@ -49,18 +43,11 @@ cut_push (y ∷ xs) x (b ∷ before) at after e =
     subst (λ (z : _). Cut (y ∷ xs) x (z ∷ before) at after) same (longer y xs x before at after (cut_push xs x before at after rest))
 
 -- behind steps that the definition takes, one more that it takes
-taken_push : (limits : Limits) (steps : List Step) (s : Step) → AreTaken limits steps → IsTaken (run limits steps) s → AreTaken limits (steps ++ s ∷ [])
+taken_push : (limits : Limits) (steps : List Step) (s : Step) → AreTaken limits steps → IsTaken (run (bounded limits) steps) s → AreTaken limits (steps ++ s ∷ [])
 taken_push limits steps s all last before after step e = elim (cut_push steps s before step after e) [
-  | Last same is ↦ subst (λ (b : List Step). IsTaken (run limits b) step) same (subst (λ (x : Step). IsTaken (run limits steps) x) is last)
+  | Last same is ↦ subst (λ (b : List Step). IsTaken (run (bounded limits) b) step) same (subst (λ (x : Step). IsTaken (run (bounded limits) steps) x) is last)
   | Earlier rest same ↦ all before rest step same
 ]
-
-pub all_taken : (before : State) (steps : List Step) (s : Step) (o : Outcome) (after : State) → before ≡ run before.limits steps → AreTaken before.limits steps →
-    next before s ≡ Ok (o, after) → AreTaken after.limits (steps ++ s ∷ [])
-all_taken before steps s o after led all e =
-    let last : IsTaken before s = rw e refl in
-    subst (λ limits. AreTaken limits (steps ++ s ∷ [])) (sym (kept_limits before s o after e))
-    (taken_push before.limits steps s all (subst (λ state. IsTaken state s) led last))
 
 -- ---- keys
 
@@ -70,15 +57,29 @@ keys_with steps s all last = All-push FitsKey steps s all last
 
 -- ---- what holds of a machine holds of it with a step more
 
-pub holds_after : (before after : State) (steps items : List Step) (s : Step) (o : Outcome) → next before s ≡ Ok (o, after) → items ≡ steps ++ s ∷ [] →
-    before ≡ run before.limits steps → AreLimits before.limits → AreTaken before.limits steps → KeysFit steps → FitsKey s →
-    (after ≡ run after.limits items) × AreLimits after.limits × AreTaken after.limits items × KeysFit items
-holds_after before after steps items s o e is led sizes all keys last =
-    subst (λ xs. (after ≡ run after.limits xs) × AreLimits after.limits × AreTaken after.limits xs × KeysFit xs) (sym is)
-    (next_run before steps s o after led e, subst AreLimits (sym (kept_limits before s o after e)) sizes, all_taken before steps s o after led all e, keys_with steps s keys last)
+pub holds_after : (limits : Limits) (before after : State) (past now : Chronicled) (steps items : List Step) (s : Step) (o : Outcome) → HasTaken limits steps before past →
+    TakesAndTells (Ok o) before past s after now → items ≡ steps ++ s ∷ [] → FitsKey s → HasTaken limits items after now
+holds_after limits before after past now steps items s o h takes is key =
+    let answer : next (run (bounded limits) steps) s ≡ Ok (o, after) = subst (λ state. next state s ≡ Ok (o, after)) h.led takes.0 in
+    subst (λ xs. HasTaken limits xs after now) (sym is) (record {
+      led = run_with (bounded limits) steps s o after answer;
+      past = takes.1 ∙ ap (λ state. next_record state past.past s) h.led ∙ ap (λ r. next_record (run (bounded limits) steps) r s) h.past
+          ∙ sym (record_push (first_state (bounded limits)) (first_record (bounded limits)) steps s);
+      slots = takes.2 ∙ h.slots;
+      in_range = h.in_range;
+      taken = taken_push limits steps s h.taken (rw answer refl);
+      keys = keys_with steps s h.keys key;
+    })
+
+-- room for what is told is seen by nobody
+pub holds_roomy : (limits : Limits) (steps items : List Step) (state : State) (past now : Chronicled) → HasTaken limits steps state past → now.past ≡ past.past → now.slots ≡ past.slots →
+    items ≡ steps → HasTaken limits items state now
+holds_roomy limits steps items state past now h same slots is =
+    subst (λ xs. HasTaken limits xs state now) (sym is)
+    (record { led = h.led; past = same ∙ h.past; slots = slots ∙ h.slots; in_range = h.in_range; taken = h.taken; keys = h.keys })
 
 -- what one step more leaves and leads to
-pub ruleset one_more = (kept_limits, next_run, holds_after)
+pub ruleset one_more = (run_with, holds_after, holds_roomy)
 
 -- ---- it holds of a machine that has taken none
 
@@ -86,21 +87,22 @@ nothing_cut : {A : Type 0} (before : List A) (at : A) (after : List A) → [] �
 nothing_cut [] at after e = cc
 nothing_cut (b ∷ before) at after e = cc
 
-first_led : (limits : Limits) → first_state limits ≡ run limits []
+first_led : (limits : Bounds) → first_state limits ≡ run limits []
 unfolding run_from
 first_led limits = refl
 
-first_limits : (limits : Limits) → (first_state limits).limits ≡ limits
-unfolding first_state
-first_limits limits = refl
+first_told : (limits : Bounds) → first_record limits ≡ record_of limits []
+unfolding record_from
+first_told limits = refl
 
-pub holds_at_first : (limits : Limits) (state : State) (items : List Step) → state ≡ first_state limits → items ≡ [] → AreLimits limits →
-    (state ≡ run state.limits items) × AreLimits state.limits × AreTaken state.limits items × KeysFit items
-holds_at_first limits state items is none sizes =
-    let its = ap (λ (s : State). s.limits) is ∙ first_limits limits in
-    subst (λ xs. (state ≡ run state.limits xs) × AreLimits state.limits × AreTaken state.limits xs × KeysFit xs) (sym none) (
-      is ∙ first_led limits ∙ ap (λ (l : Limits). run l []) (sym its),
-      subst AreLimits (sym its) sizes,
-      λ before after step e. absurd (nothing_cut before step after e),
-      All-nil FitsKey,
-    )
+pub holds_at_first : (limits : Limits) (state : State) (kept : Chronicled) (items : List Step) → state ≡ first_state (bounded limits) → kept.past ≡ first_record (bounded limits) →
+    kept.slots ≡ limits.slots → items ≡ [] → AreLimits limits → HasTaken limits items state kept
+holds_at_first limits state kept items is past slots none ok =
+    subst (λ xs. HasTaken limits xs state kept) (sym none) (record {
+      led = is ∙ first_led (bounded limits);
+      past = past ∙ first_told (bounded limits);
+      slots = slots;
+      in_range = ok;
+      taken = λ before after step e. absurd (nothing_cut before step after e);
+      keys = All-nil FitsKey;
+    })

@@ -7,8 +7,13 @@ use Rattle.ctrie_base.specs.declared.refusals.Refusal.{Refusal}
 use Rattle.ctrie_base.specs.declared.refusals.Refusal.TheVariants as refuse
 use Rattle.machine_model.specs.declared.steps.Step.TheVariants.{Sweep}
 use Rattle.machine_model.specs.declared.steps.Outcome.{Outcome}
+use Rattle.machine_model.specs.declared.steps.Bounds.{Bounds}
+use Rattle.machine_model.specs.Limits.{bounded}
 use Rattle.machine_model.specs.States.{State}
 use Rattle.machine_model.specs.Machine.{Answer, next, denial_of, is_busy, is_spent, is_taken_step}
+use Rattle.machine_model.proofs.Along.{limits_along, run_push}
+use Rattle.machine_model.specs.States.{first_state}
+use Rattle.machine_model.specs.Machine.{state_after}
 use Rattle.machine_model.proofs.Moves.{moved}
 use Rattle.machine_model.proofs.Frames.{steps_counted}
 use Rattle.step_machine.specs.Machines.{Taken, state_of, with_step, IsTaken, Applied}
@@ -79,7 +84,7 @@ pub refused : (before machine after : Taken) (refusal : Refusal) (result : Resul
 refused before machine after refusal result idle so needed step is = rw is (refused_by before machine after refusal idle so needed step)
 
 -- each step is counted, and the machine has but so many
-counted : (state : State) (spent : Bool) (o : Outcome) (after : State) → is_spent state ≡ spent → next state Sweep ≡ Ok (o, after) → state.steps < 2 ^ 40
+counted : (state : State) (spent : Bool) (o : Outcome) (after : State) → is_spent state ≡ spent → next state Sweep ≡ Ok (o, after) → state.steps < state.limits.steps
 unfolding next
 counted state true o after e d = let d' = rw e at d in absurd (grind (arith, d'))
 counted state false o after e d = grind (arith, e)
@@ -89,7 +94,7 @@ pub nearer : (machine after : Taken) → Stepped (Ok tt) machine Sweep after →
 nearer machine after taken =
     let o = taken.0 in
     let step = taken.1 in (
-      counted (state_of machine) (is_spent (state_of machine)) o (state_of after) refl step.1,
+      omega (arith, counted (state_of machine) (is_spent (state_of machine)) o (state_of after) refl step.1, ap (λ (l : Bounds). l.steps) (limits_along (bounded machine.limits) machine.steps)),
       steps_counted (state_of machine) Sweep o (state_of after) (moved (state_of machine) Sweep o (state_of after) step.1),
     )
 

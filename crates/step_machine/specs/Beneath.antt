@@ -1,4 +1,6 @@
 -- What lies below this crate, named through the nearest crates alone: crates.txt lists only these, since the toolchain goes along each of its paths.
+pub use Rattle.machine_model as machine_model
+pub use Rattle.epochs as epochs
 pub use Rattle.proof_linearizable.specs.Beneath.slot_arena as slot_arena
 pub use Rattle.proof_linearizable.specs.Beneath.proof_contents as proof_contents
 pub use Rattle.proof_linearizable.specs.Beneath.proof_commits as proof_commits
@@ -7,3 +9,4 @@ pub use Rattle.proof_linearizable.specs.Beneath.proof_order as proof_order
 pub use Rattle.proof_linearizable.specs.Beneath.proof_shape as proof_shape
 pub use Rattle.proof_linearizable.specs.Beneath.proof_updates as proof_updates
 pub use Rattle.proof_obstruction_free as proof_obstruction_free
+pub use Rattle.machine_core.specs.Beneath.proof_records as proof_records

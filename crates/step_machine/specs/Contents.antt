@@ -1,5 +1,6 @@
 -- What a step does to the contents of the open handles.
 use Rattle.machine_model.specs.declared.steps.Step.{Step}
+use Rattle.machine_model.specs.Limits.{bounded}
 use Rattle.step_machine.specs.Beneath.proof_updates.specs.Laws.Handles.{UntouchedStay, UpdatesChange, RepairsStay, ClearsEmpty, ClosesTake, OpenedCopy}
 use Rattle.step_machine.specs.Machines.{Taken, state_of}
 
@@ -7,9 +8,9 @@ use Rattle.step_machine.specs.Machines.{Taken, state_of}
 -- reply, to each handle that reaches it, and commits of repaired nodes change nothing. A clear leaves its handle empty, a close takes it away, and a handle
 -- that is opened is a copy.
 pub record ChangesContents (before : Taken) (step : Step) (after : Taken) : Type 0 where
-  pub stay : UntouchedStay before.limits (state_of before) step (state_of after)
-  pub updates : UpdatesChange before.limits (state_of before) step (state_of after)
-  pub repairs : RepairsStay before.limits (state_of before) step (state_of after)
-  pub clears : ClearsEmpty before.limits (state_of before) step (state_of after)
-  pub closes : ClosesTake before.limits (state_of before) step (state_of after)
-  pub opens : OpenedCopy before.limits (state_of before) step (state_of after)
+  pub stay : UntouchedStay (bounded before.limits) (state_of before) step (state_of after)
+  pub updates : UpdatesChange (bounded before.limits) (state_of before) step (state_of after)
+  pub repairs : RepairsStay (bounded before.limits) (state_of before) step (state_of after)
+  pub clears : ClearsEmpty (bounded before.limits) (state_of before) step (state_of after)
+  pub closes : ClosesTake (bounded before.limits) (state_of before) step (state_of after)
+  pub opens : OpenedCopy (bounded before.limits) (state_of before) step (state_of after)

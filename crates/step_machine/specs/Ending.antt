@@ -10,7 +10,7 @@ use Rattle.machine_model.specs.declared.operations.Operation.{Operation}
 use Rattle.machine_model.specs.declared.steps.Step.{Step}
 use Rattle.machine_model.specs.declared.steps.Step.TheVariants.{Go}
 use Rattle.machine_model.specs.Machine.{begin_denial}
-use Rattle.machine_model.specs.States.{State, operation_of, step_limit}
+use Rattle.machine_model.specs.States.{State, operation_of}
 use Rattle.proof_obstruction_free.specs.Laws.{most_steps_alone}
 use Rattle.proof_obstruction_free.specs.Slots.{most_makes_alone, most_steps_of_copies}
 use Rattle.step_machine.specs.Machines.{Taken, state_of, with_step, IsTaken}
@@ -23,7 +23,7 @@ IsBounded call = Unit {0}
 
 -- such a call, while so many steps are left
 abbrev pub IsSure : State → Call → ℕ → Type 0
-IsSure state call steps = IsBounded call × (state.steps + steps ≤ step_limit)
+IsSure state call steps = IsBounded call × (state.steps + steps ≤ state.limits.steps)
 
 -- There is a reply, or a refusal: why the begin is denied, or want of memory. It isn't answered that the operation still runs.
 abbrev pub IsAnswer : Option Refusal → Result (Option Reply) Refusal → Type 0

@@ -9,32 +9,33 @@ use Rattle.history.specs.declared.replies.Reply.{Reply}
 use Rattle.history.specs.Worlds.{HandleState, HandleMap}
 use Rattle.history.specs.Orders.{Explains, IsLegal}
 use Rattle.machine_model.specs.declared.steps.Step.TheVariants.{Begin}
+use Rattle.machine_model.specs.Limits.{bounded}
 use Rattle.machine_model.specs.Machine.{run, is_access, is_busy}
-use Rattle.machine_model.specs.Orders.{order_of}
+use Rattle.machine_model.specs.Records.{order_of}
 use Rattle.machine_model.specs.States.{root_at}
 use Rattle.step_machine.specs.Beneath.proof_order.specs.Laws.Orders.{Names, ShowsContents}
 use Rattle.proof_linearizable.specs.Laws.{Does}
 use Rattle.step_machine.specs.declared.records.Record.{Record}
-use Rattle.step_machine.specs.Machines.{Taken, state_of, with_step}
+use Rattle.step_machine.specs.Machines.{Taken, past_of, state_of, with_step}
 use Rattle.step_machine.specs.Callers.{going_on}
 
 -- the order is legal for what the machine has recorded
 abbrev pub IsLegalFor : Taken → List ℕ → Type 0
-IsLegalFor machine order = IsLegal (hash_of machine.limits.hash) (state_of machine).events order
+IsLegalFor machine order = IsLegal (hash_of machine.limits.hash) (past_of machine).events order
 
 -- the order explains what the machine has recorded, and leads to a world with just the open handles, each of its kind and with its content
 abbrev pub LeadsToContents : Taken → List ℕ → Type 0
 LeadsToContents machine order =
-    (world : HandleMap) × Explains (hash_of machine.limits.hash) (state_of machine).events order world × ShowsContents world (state_of machine)
+    (world : HandleMap) × Explains (hash_of machine.limits.hash) (past_of machine).events order world × ShowsContents world (state_of machine)
 
 -- the order of a record is legal for its history, and leads to a world that shows the contents behind the last of its steps
 abbrev pub IsLegalRecord : Record → Type 0
 IsLegalRecord made =
-    (world : HandleMap) × Explains (hash_of made.limits.hash) made.events.items made.order.items world × ShowsContents world (run made.limits made.steps.items)
+    (world : HandleMap) × Explains (hash_of made.limits.hash) made.events.items made.order.items world × ShowsContents world (run (bounded made.limits) made.steps.items)
 
 -- this holds of the world to which the machine's order leads; there is no other one
 abbrev pub InOrder : Taken → (HandleMap → Type 0) → Type 0
-InOrder machine Fact = (world : HandleMap) × Explains (hash_of machine.limits.hash) (state_of machine).events (order_of (state_of machine)) world × Fact world
+InOrder machine Fact = (world : HandleMap) × Explains (hash_of machine.limits.hash) (past_of machine).events (order_of (past_of machine)) world × Fact world
 
 -- there the handle names a map of the machine's kind with these pairs, or nothing where it isn't open
 abbrev pub IsInOrder : Taken → ℕ → List (ℕ × ℕ) → Type 0
@@ -54,7 +55,7 @@ writable_in world handle = option_map (λ shown. is_access Writable (Some shown.
 abbrev pub ActedAlone : Result (Option Reply) Refusal → Taken → Call → Taken → Type 0
 ActedAlone (Ok (Some answer)) before call after =
     (id : ℕ) × (opens : Option ℕ) × (world next : HandleMap) × ShowsContents world (state_of before) × ShowsContents next (state_of after)
-    × Does (hash_of before.limits.hash) (state_of before) (state_of after) id call opens answer world next
+    × Does (hash_of before.limits.hash) (past_of before) (past_of after) id call opens answer world next
 ActedAlone result before call after = Unit {0}
 
 -- the call began where the earlier machine was at rest, and since then only its actor has taken steps, which haven't ended it

@@ -7,3 +7,4 @@ pub mod Legality
 pub mod Ending
 pub mod Memory
 pub mod Contents
+pub mod Taking

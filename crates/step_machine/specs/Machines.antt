@@ -7,7 +7,9 @@ use Rattle.machine_model.specs.declared.steps.Step.{Step}
 use Rattle.machine_model.specs.declared.steps.Step.TheVariants.{Go}
 use Rattle.machine_model.specs.declared.steps.Outcome.{Outcome}
 use Rattle.machine_model.specs.States.{State}
+use Rattle.machine_model.specs.Limits.{bounded}
 use Rattle.machine_model.specs.Machine.{next, denial_of, is_taken_step, run}
+use Rattle.machine_model.specs.Records.{Record, record_of}
 use Rattle.machine_model.specs.Laws.{FindsNoSlot}
 
 -- a machine: its limits, and the steps that it has taken
@@ -21,7 +23,11 @@ fresh limits = record { limits = limits; steps = [] }
 
 -- the state that its steps lead to
 abbrev pub state_of : Taken → State
-state_of machine = run machine.limits machine.steps
+state_of machine = run (bounded machine.limits) machine.steps
+
+-- what is recorded of them
+abbrev pub past_of : Taken → Record
+past_of machine = record_of (bounded machine.limits) machine.steps
 
 -- the definition takes the step in this state
 abbrev pub IsTaken : State → Step → Type 0
@@ -29,7 +35,7 @@ IsTaken state step = is_taken_step (next state step) ≡ true
 
 -- the definition takes each of the steps, in the state that those before it lead to
 abbrev pub AreTaken : Limits → List Step → Type 0
-AreTaken limits steps = (before after : List Step) (step : Step) → steps ≡ before ++ step ∷ after → IsTaken (run limits before) step
+AreTaken limits steps = (before after : List Step) (step : Step) → steps ≡ before ++ step ∷ after → IsTaken (run (bounded limits) before) step
 
 -- the machine with one step more
 abbrev pub with_step : Taken → Step → Taken
@@ -47,4 +53,4 @@ Applied (Err refusal) before step after = (after ≡ before) × (next (state_of 
 abbrev pub FoundNoSlot : Taken → ℕ → ℕ → Type 0
 FoundNoSlot machine actor id =
     (before between : List Step) × (machine.steps ≡ before ++ Go actor ∷ between) × ¬ Contains between (Go actor)
-    × FindsNoSlot (run machine.limits before) actor id
+    × FindsNoSlot (run (bounded machine.limits) before) actor id

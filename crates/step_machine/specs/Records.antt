@@ -3,21 +3,22 @@ use Rattle.std.specs.Prelude.{◌≡◌, List, length}
 use Rattle.machine_model.specs.declared.steps.Limits.{Limits}
 use Rattle.machine_model.specs.declared.steps.Step.{Step}
 use Rattle.step_machine.specs.Beneath.slot_arena.specs.Heaps.{in_use}
-use Rattle.machine_model.specs.Orders.{order_of}
+use Rattle.machine_model.specs.Limits.{bounded}
 use Rattle.machine_model.specs.Machine.{run, taken_steps}
-use Rattle.step_machine.specs.Machines.{Taken, state_of}
+use Rattle.machine_model.specs.Records.{order_of, record_of}
+use Rattle.step_machine.specs.Machines.{Taken, past_of, state_of}
 use Rattle.step_machine.specs.declared.records.Record.{Record}
 
 -- the machine has taken those of the steps that aren't denied
 abbrev pub IsAfter : Limits → List Step → Taken → Type 0
-IsAfter limits steps machine = machine ≡ record { limits = limits; steps = taken_steps limits steps }
+IsAfter limits steps machine = machine ≡ record { limits = limits; steps = taken_steps (bounded limits) steps }
 
 -- the record says what a machine has done
 pub record IsRecordOf (machine : Taken) (made : Record) : Type 0 where
   pub sizes : made.limits ≡ machine.limits
   pub path : made.steps.items ≡ machine.steps
-  pub history : made.events.items ≡ (state_of machine).events
-  pub order : made.order.items ≡ order_of (state_of machine)
+  pub history : made.events.items ≡ (past_of machine).events
+  pub order : made.order.items ≡ order_of (past_of machine)
   pub used : made.used ≡ length (in_use (state_of machine).heap)
   pub free : made.free ≡ length (state_of machine).heap.free
   pub limbo : made.limbo ≡ length (state_of machine).limbo
@@ -25,9 +26,9 @@ pub record IsRecordOf (machine : Taken) (made : Record) : Type 0 where
 -- the record of the run of these steps: those that were taken, the history, the order, and the last state's numbers
 pub record IsRecord (limits : Limits) (steps : List Step) (made : Record) : Type 0 where
   pub sizes : made.limits ≡ limits
-  pub path : made.steps.items ≡ taken_steps limits steps
-  pub history : made.events.items ≡ (run limits steps).events
-  pub order : made.order.items ≡ order_of (run limits steps)
-  pub used : made.used ≡ length (in_use (run limits steps).heap)
-  pub free : made.free ≡ length (run limits steps).heap.free
-  pub limbo : made.limbo ≡ length (run limits steps).limbo
+  pub path : made.steps.items ≡ taken_steps (bounded limits) steps
+  pub history : made.events.items ≡ (record_of (bounded limits) steps).events
+  pub order : made.order.items ≡ order_of (record_of (bounded limits) steps)
+  pub used : made.used ≡ length (in_use (run (bounded limits) steps).heap)
+  pub free : made.free ≡ length (run (bounded limits) steps).heap.free
+  pub limbo : made.limbo ≡ length (run (bounded limits) steps).limbo

@@ -120,7 +120,7 @@ impl Machine {
         ensures steps { Reclaims result self.old self.new }
         ensures few { SweepsFew result self.old self.new }
         ensures reached { OnOk result (UsesReached (state_of self.new)) }
-        ensures same { LooksSame (state_of self.old) (state_of self.new) }
+        ensures same { LooksSame self.old self.new }
     {
         let _ = self.limits();
         let result = self.sweep_all();

@@ -2,7 +2,8 @@
 
 ghost use Rattle.machine_model.specs.Keys.{FitsKey};
 ghost use Rattle.step_machine.specs.Beneath.proof_order.specs.Laws.Orders.{IsExplained};
-ghost use Rattle.step_machine.specs.Machines.{state_of};
+ghost use Rattle.machine_model.specs.Limits.{bounded};
+ghost use Rattle.step_machine.specs.Machines.{past_of, state_of};
 
 use crate::machine::Machine;
 use machine_model::Step;
@@ -11,7 +12,7 @@ impl Machine {
     /// The order that `order` gives is legal for the history that `events` gives, and leads to a world that has
     /// just the open handles, each of its kind and with its content. It does nothing.
     pub fn explained(&self)
-        ensures { IsExplained self.now.limits (state_of self.now) }
+        ensures { IsExplained (bounded self.now.limits) (state_of self.now) (past_of self.now) }
     {
         let _ = self.steps();
         let _ = self.limits();
@@ -23,7 +24,7 @@ impl Machine {
         ensures { FitsKey step }
     {
         if let Step::Begin { call, .. } = step {
-            let _ = machine_core::key_of(call);
+            machine_core::key_fits(call);
         }
     }
 }

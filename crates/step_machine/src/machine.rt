@@ -8,52 +8,63 @@ ghost use Rattle.history.specs.declared.calls.Access.TheVariants.{ReadOnly};
 ghost use Rattle.history.specs.declared.replies.Reply.TheVariants.{NoSlots};
 ghost use Rattle.machine_model.specs.declared.operations.Operation.{Operation};
 ghost use Rattle.machine_model.specs.States.{root_at, operation_of};
-ghost use Rattle.step_machine.specs.Beneath.slot_arena.specs.Heaps.{in_use};
-ghost use Rattle.machine_model.specs.Orders.{order_of};
+ghost use Rattle.machine_model.specs.Limits.{AreLimits, bounded};
+ghost use Rattle.machine_model.specs.Records.{order_of};
 ghost use Rattle.machine_model.specs.Contents.{content_at};
 ghost use Rattle.machine_core.specs.Finding.{found_along};
-ghost use Rattle.machine_core.specs.Walking.{goes_on, walked};
+ghost use Rattle.machine_core.specs.Walking.{goes_on};
 ghost use Rattle.machine_model.specs.Keys.{KeysFit};
-ghost use Rattle.machine_model.specs.Machine.{AreLimits, denial_of, is_running, is_busy, runs_on, next_kind, handles_taken, is_access, access_of};
+ghost use Rattle.machine_model.specs.Machine.{denial_of, is_running, is_busy, runs_on, next_kind, is_access, access_of};
 ghost use Rattle.machine_model.specs.Refusing.{RefusesLimits, RefusesContent};
-ghost use Rattle.step_machine.specs.Machines.{Taken, fresh, state_of, AreTaken, Applied, FoundNoSlot};
+ghost use Rattle.step_machine.specs.Machines.{Taken, fresh, past_of, state_of, AreTaken, Applied, FoundNoSlot};
 ghost use Rattle.step_machine.specs.Contents.{ChangesContents};
 ghost use Rattle.step_machine.specs.Ending.{EndsIfSure, IsNearer};
 ghost use Rattle.step_machine.specs.Legality.{IsLegalFor, LeadsToContents, HasInOrder, InOrder, IsInOrder, writable_in};
+ghost use Rattle.step_machine.specs.Taking.{walked};
 ghost use Rattle.step_machine.specs.Memory.{UsesWhatItNames, FreesLate, DrawsNew};
 
+use crate::rooming::{make_room, touch_room};
+use crate::taking::{take, walk};
+use chronicle::Chronicle;
 use ctrie_base::{Kind, Refusal, Ticks};
 use history::{Access, Event};
-use machine_core::{Core, touch_room};
-use machine_model::{Limits, Outcome, Step};
+use machine_core::Core;
+use machine_model::{Bounds, Limits, Outcome, Step};
 use std::alloc::Global;
 use std::marker::Model;
+
+/// How many steps a machine takes at most.
+const STEP_LIMIT: u64 = 1 << 40;
 
 /// A map that many actors change step by step, with all that was done to it. At first handle 0 is open,
 /// writable and empty, and no step was taken.
 pub struct Machine {
+    limits: Limits,
     body: Core,
+    kept: Chronicle,
     steps: Vec<Step>,
 }
 
 impl Drop for Machine {
     fn drop(self) {
-        let Machine { body: _, steps: _ } = self;
+        let Machine {
+            limits: _,
+            body: _,
+            kept: _,
+            steps: _,
+        } = self;
     }
 }
 
 impl Model for Machine {
-    ghost use Rattle.std.specs.Prelude.{◌≡◌};
-    ghost use Rattle.machine_model.specs.Machine.{AreLimits, run};
-    ghost use Rattle.machine_model.specs.Keys.{KeysFit};
-    ghost use Rattle.step_machine.specs.Machines.{Taken, AreTaken};
+    ghost use Rattle.step_machine.specs.Machines.{Taken};
+    ghost use Rattle.step_machine.specs.Taking.{HasTaken};
 
     ghost Value = { Taken };
 
-    ghost view = { λ m. record { limits = m.body.state.limits; steps = m.steps.items } };
+    ghost view = { λ m. record { limits = m.limits; steps = m.steps.items } };
 
-    ghost invariant = { λ m. (m.body.state ≡ run m.body.state.limits m.steps.items) × AreLimits m.body.state.limits
-        × AreTaken m.body.state.limits m.steps.items × KeysFit m.steps.items };
+    ghost invariant = { λ m. HasTaken m.limits m.steps.items m.body.state m.kept };
 }
 
 impl Machine {
@@ -66,7 +77,9 @@ impl Machine {
         ensures refused { IfErr result (λ refusal. RefusesLimits limits refusal) }
     {
         Ok(Machine {
-            body: Core::new(alloc, limits)?,
+            limits,
+            body: Core::new(alloc, bounds_of(limits))?,
+            kept: Chronicle::new(alloc, limits.slots, limits.actors)?,
             steps: Vec::new(alloc),
         })
     }
@@ -81,8 +94,8 @@ impl Machine {
         let Ok(count) = usize::try_from(steps) else {
             return Err(Refusal::Memory);
         };
-        touch_room(&mut self.steps, count, Step::Sweep)?;
-        self.body.reserve(count)
+        touch_room(&mut self.steps, count)?;
+        self.kept.reserve(count)
     }
 
     /// Takes a step. Where it is refused, for want of memory too, nothing has changed; `Memory` is answered
@@ -104,7 +117,7 @@ impl Machine {
         ensures contents { OnOk result (ChangesContents self.old step self.new) }
         ensures ends { (actor : ℕ) → EndsIfSure self.new actor }
         ensures nearer { OnOk result (IsNearer self.old step self.new) }
-        ensures ticks { length (state_of self.new).places ≤ length (state_of self.old).places + 1 }
+        ensures ticks { length (past_of self.new).places ≤ length (past_of self.old).places + 1 }
     {
         let _ = self.limits();
         let result = self.take_step(step);
@@ -126,11 +139,12 @@ impl Machine {
     fn take_step(&mut self, step: Step) -> Result<Outcome, Refusal>
         ensures { Applied result self.old step self.new }
     {
-        // The room is taken first, so that a step that was taken can be recorded.
-        if self.steps.reserve(1).is_err() {
+        // The room is made first, so that a step that was taken can be recorded.
+        if make_room(&mut self.steps, &mut self.kept, self.body.generations()).is_err() {
             return Err(self.wanting(step));
         }
-        let outcome = self.body.apply(step)?;
+        machine_core::tellings_fit();
+        let outcome = take(&mut self.body, &mut self.kept, step)?;
         self.steps.push_reserved(step);
         Machine::fits(step);
         Ok(outcome)
@@ -143,10 +157,11 @@ impl Machine {
         requires { goes_on (next_kind (state_of self.old) actor) ≡ true }
         ensures { Applied (walked result) self.old (Step.Go actor) self.new }
     {
-        if self.steps.reserve(1).is_err() {
+        if make_room(&mut self.steps, &mut self.kept, self.body.generations()).is_err() {
             return Err(self.wanting_to_go(actor));
         }
-        let kind = self.body.walk(actor)?;
+        machine_core::tellings_fit();
+        let kind = walk(&mut self.body, &mut self.kept, actor)?;
         self.steps.push_reserved(Step::Go { actor });
         Machine::fits(Step::Go { actor });
         Ok(kind)
@@ -187,11 +202,11 @@ impl Machine {
 
     /// All events so far, in order of time. The order that `order` gives is legal for them.
     pub fn events(&self) -> &[Event]
-        ensures events { result.now ≡ (state_of self.now).events }
-        ensures legal { IsLegalFor self.now (order_of (state_of self.now)) }
+        ensures events { result.now ≡ (past_of self.now).events }
+        ensures legal { IsLegalFor self.now (order_of (past_of self.now)) }
     {
         self.explained();
-        self.body.events()
+        self.kept.events()
     }
 
     /// The steps that were taken, in order of time. The definition takes each of them, in the state that
@@ -208,7 +223,7 @@ impl Machine {
     /// what `events` gives, and leads to a world that has just the open handles, each of its kind and with its
     /// content. Only `Memory` is refused.
     pub fn order(&self) -> Result<Vec<u64>, Refusal>
-        ensures order { IfOk result (λ order. order.items ≡ order_of (state_of self.now)) }
+        ensures order { IfOk result (λ order. order.items ≡ order_of (past_of self.now)) }
         ensures legal { IfOk result (λ order. IsLegalFor self.now order.items) }
         ensures leads { IfOk result (λ order. LeadsToContents self.now order.items) }
         ensures only_memory { IsOkUnless result Refusal.Memory }
@@ -219,10 +234,10 @@ impl Machine {
 
     /// The order, without what the laws say of it.
     fn ids_by_place(&self) -> Result<Vec<u64>, Refusal>
-        ensures order { IfOk result (λ order. order.items ≡ order_of (state_of self.now)) }
+        ensures order { IfOk result (λ order. order.items ≡ order_of (past_of self.now)) }
         ensures only_memory { IsOkUnless result Refusal.Memory }
     {
-        self.body.order()
+        self.kept.order()
     }
 
     /// The content of a handle's map, by rising key: in the world to which the order leads the handle names just
@@ -331,53 +346,16 @@ impl Machine {
 
     /// How often a place in the order was written or moved: once for each.
     pub fn ticks(&self) -> &Ticks
-        ensures { result.now.count ≡ length (state_of self.now).places }
+        ensures { result.now.count ≡ length (past_of self.now).places }
     {
-        self.body.ticks()
+        self.kept.ticks()
     }
 
-    /// How many handles are open or reserved, at most 256.
-    pub fn handles_taken(&self) -> u32
-        ensures { result ≡ handles_taken (state_of self.now) }
+    /// The state.
+    pub(crate) fn body(&self) -> &Core
+        ensures { result.now.state ≡ state_of self.now }
     {
-        self.body.handles_taken()
-    }
-
-    /// How many slots are free.
-    pub fn free_slots(&self) -> u32
-        ensures { result ≡ length (state_of self.now).heap.free }
-    {
-        self.body.free_slots()
-    }
-
-    /// How many slots are in use, those in limbo too. These and the free ones are all slots.
-    pub fn used(&self) -> u32
-        ensures used { result ≡ length (in_use (state_of self.now).heap) }
-        ensures sum { result + length (state_of self.now).heap.free ≡ self.now.limits.slots }
-    {
-        machine_model::slots_add_up();
-        self.body.used()
-    }
-
-    /// How many slots are in use but counted by nothing.
-    pub fn limbo_len(&self) -> u32
-        ensures { result ≡ length (state_of self.now).limbo }
-    {
-        self.body.limbo_len()
-    }
-
-    /// The present epoch, from 0.
-    pub fn epoch(&self) -> u64
-        ensures { result ≡ (state_of self.now).epoch }
-    {
-        self.body.epoch()
-    }
-
-    /// How many steps were taken, at most 2^40.
-    pub fn steps_taken(&self) -> u64
-        ensures { result ≡ (state_of self.now).steps }
-    {
-        self.body.steps_taken()
+        &self.body
     }
 
     /// The sizes of the machine, which are in range.
@@ -385,16 +363,33 @@ impl Machine {
         ensures limits { result ≡ self.now.limits }
         ensures in_range { AreLimits self.now.limits }
     {
-        self.body.limits()
+        self.limits
     }
 
     /// The steps and the history, handed out. It takes no memory.
     pub fn into_parts(self) -> (Vec<Step>, Vec<Event>)
         ensures steps { result.0.items ≡ self.steps }
         ensures taken { AreTaken self.limits self.steps }
-        ensures events { result.1.items ≡ (state_of self).events }
+        ensures events { result.1.items ≡ (past_of self).events }
     {
-        let Machine { body, steps } = self;
-        (steps, body.into_events())
+        let Machine {
+            limits: _,
+            body: _,
+            kept,
+            steps,
+        } = self;
+        (steps, kept.into_events())
+    }
+}
+
+/// What bounds a machine of these sizes.
+fn bounds_of(limits: Limits) -> Bounds
+    ensures { result ≡ bounded limits }
+{
+    Bounds {
+        slots: limits.slots,
+        actors: limits.actors,
+        hash: limits.hash,
+        steps: STEP_LIMIT,
     }
 }

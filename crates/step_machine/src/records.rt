@@ -1,7 +1,7 @@
 //! Runs of steps and their records.
 
 ghost use Rattle.std.specs.Prelude.{◌≡◌, IfOk, IfErr, OnOk};
-ghost use Rattle.machine_model.specs.Machine.{AreLimits};
+ghost use Rattle.machine_model.specs.Limits.{AreLimits};
 ghost use Rattle.machine_model.specs.Refusing.{RefusesLimits};
 ghost use Rattle.step_machine.specs.Machines.{AreTaken};
 ghost use Rattle.step_machine.specs.Records.{IsAfter, IsRecordOf, IsRecord};

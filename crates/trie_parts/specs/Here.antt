@@ -16,7 +16,7 @@ at_heap state heap hashes = record state { heap = heap; limits = record state.li
 -- a state and an operation with nothing in them, to which what is known is added
 abbrev pub no_state : State
 no_state = record {
-  limits = record { slots = 0; actors = 0; hash = Low };
+  limits = record { slots = 0; actors = 0; hash = Low; steps = 0 };
   heap = record { slots = []; free = []; births = 0 };
   generations = 0;
   limbo = [];
@@ -24,10 +24,7 @@ no_state = record {
   cursor = 0;
   roots = [];
   actors = [];
-  commits = [];
-  closings = [];
-  places = [];
-  events = [];
+  begun = 0;
   steps = 0;
 }
 
@@ -42,7 +39,5 @@ no_operation = record {
   attempt = 0;
   is_marked = false;
   generation = None;
-  read_at = 0;
-  moment = 0;
   line = Impossible;
 }

@@ -1,5 +1,5 @@
 -- What a step of a program of the map comes to.
-use Rattle.std.specs.Prelude.{◌≡◌, ◌+◌, ◌<◌, ◌^◌, Option, Some, None}
+use Rattle.std.specs.Prelude.{◌≡◌, ◌+◌, ◌<◌, ◌^◌, List, length, Option, Some, None}
 use Rattle.ctrie_base.specs.declared.kinds.Kind.{Kind}
 use Rattle.slot_arena.specs.declared.refs.Ref.{Ref}
 use Rattle.slot_arena.specs.declared.nodes.Node.{Node}
@@ -51,9 +51,9 @@ ReadsInside heap access before after (Done k main) =
     × ((word : RootWord) → at_indirection before.indirection (read_after heap access word before.indirection before.line) ≡ Gives main)
     × ReadsAlong heap access (Some before) k after.at
 
--- what a node that is made asks of the heap: that what it is to refer to is in use
-abbrev pub CanMake : Heap → Node → Type 0
-CanMake heap node = (heap.births + 1 < 2 ^ 48) × AreLive heap (refs_of_node node)
+-- what a node that is made asks: that what it is to refer to is in use, and that the private list isn't full
+abbrev pub CanMake : Heap → List Ref → Node → Type 0
+CanMake heap private node = (heap.births + 1 < 2 ^ 48) × AreLive heap (refs_of_node node) × (length private < 33)
 
 -- the step was the program's last one
 abbrev pub IsLast : {T : Type 0} → Next T → Type 0

@@ -7,8 +7,8 @@ use arrayvec::ArrayVec;
 use nodes::MOST_ENTRIES;
 use slot_arena::Ref;
 
-/// The entries of a branch, or the singles of a list.
-pub(crate) type Entries = ArrayVec<Ref, MOST_ENTRIES>;
+/// The entries of a branch, or the singles of a list, in place.
+pub type Entries = ArrayVec<Ref, MOST_ENTRIES>;
 
 /// These references as the entries of a node.
 pub(crate) fn entries_from(refs: &[Ref]) -> Entries

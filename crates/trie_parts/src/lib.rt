@@ -15,10 +15,14 @@ mod private;
 mod work;
 
 pub use calls::{KeyCall, Task};
-pub use gcas::{Change, Descriptor, Next, Read, ReadAt, Root, RootWord, Site, Swap, generation_at};
+pub use entries::Entries;
+pub use gcas::{
+    Change, Descriptor, Entrant, Next, Publication, Read, ReadAt, Root, RootWord, Site, Swap,
+    generation_at,
+};
 pub use looking::{bitmap_at, entries_at, entry_at, entry_count, is_single_at, key_at, node_at};
 pub use made::{changed_at, contracted, contracted_at, renewed};
-pub use nodes::{dual, flag_of, parting, rung};
+pub use nodes::{MOST_ENTRIES, dual, flag_of, parting, rung};
 pub use paths::{above, current, is_below_root};
-pub use private::{Private, keep, release_all};
+pub use private::{Private, release_all};
 pub use work::Work;

@@ -1,8 +1,8 @@
 //! What stands in the slots of a heap. A look-up goes by the slot alone; where nothing stands in it, it gives
 //! what the definition gives.
 
-ghost use Rattle.std.specs.Prelude.{◌≡◌, length, option_map, unwrap_or};
-ghost use Rattle.slot_arena.specs.Heaps.{node_at, node_of, entries_of, entry_at, bitmap_of, empty_branch};
+ghost use Rattle.std.specs.Prelude.{◌≡◌, ◌≤◌, length, option_map, unwrap_or};
+ghost use Rattle.slot_arena.specs.Heaps.{node_at, entries_of, entry_at, bitmap_of, empty_branch};
 ghost use Rattle.trie_parts.specs.Beneath.machine_model.specs.Building.{key_in};
 ghost use Rattle.trie_parts.specs.Beneath.machine_model.specs.Cleaning.{is_single};
 
@@ -22,7 +22,8 @@ pub fn node_at(heap: &Heap, at: Ref) -> Option<&Node>
 /// The entries of a main node: those of a branch, the singles of a list, the single of a tomb.
 #[inline(always)]
 pub fn entries_at(heap: &Heap, main: Ref) -> &[Ref]
-    ensures { result.now ≡ entries_of (node_at heap.now.heap main) }
+    ensures entries { result.now ≡ entries_of (node_at heap.now.heap main) }
+    ensures few { length result.now ≤ 32 }
 {
     match node_at(heap, main) {
         Some(Node::Branch { entries, .. }) => entries.as_slice(),

@@ -7,4 +7,4 @@ pub returns-in-None : goal.returns-in-None
 returns-in-None c = onward_there c.args.parts.now c.args.actor None c.in-None.ensures
 
 pub returns-in-Some : goal.returns-in-Some
-returns-in-Some c = c.has_steps.ensures (seen c.args.parts.now) c.args.parts.now.table ∙ onward_there c.args.parts.now c.args.actor (Some c.in-Some.found.now) c.in-Some.ensures
+returns-in-Some c = c.goes_on.ensures (seen c.args.parts.now) c.args.parts.now.table ∙ onward_there c.args.parts.now c.args.actor (Some c.in-Some.found.now) c.in-Some.ensures

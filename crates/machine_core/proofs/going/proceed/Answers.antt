@@ -1,56 +1,71 @@
-use Rattle.std.proofs.Common.{sym, subst, ◌<◌}
+use Rattle.std.proofs.Common.{sym, ap, ◌∙◌, ◌+◌, subst}
+use Rattle.machine_model.specs.declared.steps.Outcome.TheVariants as outcome
 use Rattle.machine_core.specs.declared.parts.Parts.{Parts}
+use Rattle.ctrie_base.specs.declared.kinds.Kind.{Kind}
+use Rattle.machine_core.specs.Going.{CarriesUnless}
+use Rattle.machine_core.specs.Keeping.{IsKept}
+use Rattle.machine_core.specs.Seen.{seen}
+use Rattle.machine_core.specs.Work.{NotesUpTo, held_by}
+use Rattle.machine_core.proofs.Took.{actor_there, took}
 use Rattle.machine_core.proofs.Underway.{at_work, tells_none}
-use Rattle.machine_core.proofs.Whole.{midway_roomed, roomed_before, whole_step}
-use Rattle.machine_core.proofs.Working.{still_after, steps_little}
+use Rattle.machine_core.proofs.Whole.{carries_nothing, goes, kept_gone, tells}
+use Rattle.machine_core.proofs.Working.{steps_little}
 use Rattle.machine_core.proofs.going.proceed.Goals as goal
 
-pub note-requires-clause-midway : goal.note-requires-clause-midway
-note-requires-clause-midway c =
-    let (u, runs) = at_work c.args.parts.now c.args.actor c.requires.allowed in
-    record {
-      under_way = u;
-      midway = midway_roomed c.args.parts.now c.room_for.new.self c.args.actor u c.fresh_of-fresh.result c.in_ok-taken.taken c.step.new.parts
-          c.room_for.ensures.closings c.room_for.ensures.places c.room_for.ensures.generations c.requires.run c.requires.kept c.requires.allowed runs
-          (tells_none c.args.parts.now c.args.actor c.requires.goes_on u runs) (c.in_ok-taken.ensures.steps u runs) c.fresh_of-fresh.ensures;
-    }
+pub returns-clause-goes : goal.returns-clause-goes
+returns-clause-goes c = λ operation found.
+    let parts = c.args.parts.now in
+    let now = c.step-taken.new.parts in
+    let (u, runs) = at_work parts c.args.actor c.requires.allowed in
+    let t = took parts now c.args.actor u c.step-taken.result runs (c.step-taken.ensures u runs) in
+    let none = tells_none parts c.args.actor c.requires.goes_on u runs t.seat.found (actor_there parts c.args.actor u t.seat) in
+    goes parts c.args.actor u c.step-taken.result now t c.requires.core.run c.requires.core.kept c.requires.allowed none c.kind-kind.result c.kind-kind.ensures operation found
+    ∙ ap (λ (p : Parts). (outcome.Went c.kind-kind.result, seen p)) (sym c.take_carried-carried.ensures.rest)
 
-pub returns-clause-ok : goal.returns-clause-ok
-returns-clause-ok c =
-    let (u, runs) = at_work c.args.parts.now c.args.actor c.requires.allowed in
-    let none = tells_none c.args.parts.now c.args.actor c.requires.goes_on u runs in
-    let m = midway_roomed c.args.parts.now c.room_for.new.self c.args.actor u c.fresh_of-fresh.result c.in_ok-taken.taken c.step.new.parts
-    c.room_for.ensures.closings c.room_for.ensures.places c.room_for.ensures.generations c.requires.run c.requires.kept c.requires.allowed runs none
-    (c.in_ok-taken.ensures.steps u runs) c.fresh_of-fresh.ensures in
-    whole_step c.args.parts.now c.args.actor u c.fresh_of-fresh.result c.in_ok-taken.taken c.step.new.parts c.note.new.parts m c.kind.result
-    (roomed_before c.args.parts.now c.room_for.new.self c.args.actor u c.fresh_of-fresh.result c.in_ok-taken.taken c.step.new.parts
-    c.room_for.ensures.closings c.room_for.ensures.places c.room_for.ensures.generations c.requires.run c.requires.kept c.requires.allowed runs none
-    (c.in_ok-taken.ensures.steps u runs) c.fresh_of-fresh.ensures)
-    c.kind.ensures (c.note.ensures.gone u m) runs none
+pub returns-clause-tells : goal.returns-clause-tells
+returns-clause-tells c =
+    let parts = c.args.parts.now in
+    let now = c.step-taken.new.parts in
+    let (u, runs) = at_work parts c.args.actor c.requires.allowed in
+    let t = took parts now c.args.actor u c.step-taken.result runs (c.step-taken.ensures u runs) in
+    let none = tells_none parts c.args.actor c.requires.goes_on u runs t.seat.found (actor_there parts c.args.actor u t.seat) in
+    tells parts c.args.actor u c.step-taken.result now t c.requires.core.run c.requires.core.kept c.requires.allowed none
+    (record {
+      kind = c.kind-kind.result;
+      progress = record {
+        committed = c.committed.result;
+        given = c.given.result;
+        counts = c.counts.result;
+        published = c.published-published.result;
+        carried = c.take_carried-carried.result;
+      };
+    })
+    c.committed.ensures c.given.ensures c.counts.ensures c.published-published.ensures c.take_carried-carried.ensures.told
 
-pub note-requires-clause-to_draw : goal.note-requires-clause-to_draw
-note-requires-clause-to_draw c =
-    let (u, runs) = at_work c.args.parts.now c.args.actor c.requires.allowed in
-    subst (λ (x : Parts). 0 < x.journal.chronicle.room_to_draw) (sym (c.in_ok-taken.ensures.steps u runs).rest) c.in_ok-room_for.ensures.to_draw
-
-pub note-requires-clause-to_add : goal.note-requires-clause-to_add
-note-requires-clause-to_add c =
-    let (u, runs) = at_work c.args.parts.now c.args.actor c.requires.allowed in
-    subst (λ (x : Parts). 0 < x.journal.chronicle.room_to_add) (sym (c.in_ok-taken.ensures.steps u runs).rest) c.in_ok-room_for.ensures.to_add
-
-pub note-requires-clause-to_close : goal.note-requires-clause-to_close
-note-requires-clause-to_close c =
-    let (u, runs) = at_work c.args.parts.now c.args.actor c.requires.allowed in
-    subst (λ (x : Parts). 0 < x.journal.chronicle.room_to_close) (sym (c.in_ok-taken.ensures.steps u runs).rest) c.in_ok-room_for.ensures.to_close
-
-pub note-requires-clause-ids : goal.note-requires-clause-ids
-note-requires-clause-ids c =
-    let (u, runs) = at_work c.args.parts.now c.args.actor c.requires.allowed in
-    subst (λ (x : Parts). x.begun < x.journal.chronicle.ids) (sym (c.in_ok-taken.ensures.steps u runs).rest) c.in_ok-room_for.ensures.of_id
+pub returns-clause-kept : goal.returns-clause-kept
+returns-clause-kept c =
+    let parts = c.args.parts.now in
+    let now = c.step-taken.new.parts in
+    let (u, runs) = at_work parts c.args.actor c.requires.allowed in
+    let t = took parts now c.args.actor u c.step-taken.result runs (c.step-taken.ensures u runs) in
+    let none = tells_none parts c.args.actor c.requires.goes_on u runs t.seat.found (actor_there parts c.args.actor u t.seat) in
+    subst IsKept (sym c.take_carried-carried.ensures.rest)
+    (kept_gone parts c.args.actor u c.step-taken.result now t c.requires.core.run c.requires.core.kept c.requires.allowed none)
 
 pub returns-clause-work : goal.returns-clause-work
 returns-clause-work c =
-    let (u, runs) = at_work c.args.parts.now c.args.actor c.requires.allowed in
-    still_after _ _ c.args.parts.now.heap c.step.new.parts.heap c.note.new.parts.heap
-    (steps_little (record c.args.parts.now { journal = record c.args.parts.now.journal { chronicle = c.room_for.new.self } }) c.step.new.parts c.args.actor u c.in_ok-taken.taken
-    runs (c.in_ok-taken.ensures.steps u runs)) c.note.ensures.work
+    let parts = c.args.parts.now in
+    let (u, runs) = at_work parts c.args.actor c.requires.allowed in
+    let held = held_by (seen parts) c.args.actor in
+    subst (λ (p : Parts). NotesUpTo (32 + held) (36 + held) parts.heap p.heap) (sym c.take_carried-carried.ensures.rest)
+    (steps_little parts c.step-taken.new.parts c.args.actor u c.step-taken.result runs (c.step-taken.ensures u runs))
+
+pub take_carried-carried-requires : goal.take_carried-carried-requires
+take_carried-carried-requires c =
+    let parts = c.args.parts.now in
+    let now = c.step-taken.new.parts in
+    let (u, runs) = at_work parts c.args.actor c.requires.allowed in
+    let t = took parts now c.args.actor u c.step-taken.result runs (c.step-taken.ensures u runs) in
+    let none = tells_none parts c.args.actor c.requires.goes_on u runs t.seat.found (actor_there parts c.args.actor u t.seat) in
+    subst (λ (k : Kind). CarriesUnless k now.table) (sym c.kind-kind.ensures)
+    (carries_nothing parts c.args.actor u c.step-taken.result now t c.requires.core.run c.requires.core.kept c.requires.allowed none)

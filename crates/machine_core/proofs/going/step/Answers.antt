@@ -1,16 +1,41 @@
-use Rattle.std.proofs.Common.{◌-◌, refl}
-use Rattle.machine_core.proofs.Allowed.{on_error, unchanged}
-use Rattle.machine_core.proofs.Underway.{can_of, within_of}
+use Rattle.std.proofs.Common.{refl, sym, ap, ◌∙◌, ◌-◌, arith}
+use Rattle.std.proofs.lemmas.Option.{same_Some}
+use Rattle.machine_core.specs.declared.parts.Actor.{Actor}
+use Rattle.machine_core.proofs.Kept.{at_index, seat_of}
+use Rattle.machine_core.proofs.Underway.{can_of, seated, within_of}
 use Rattle.machine_core.proofs.going.step.Goals as goal
 
-pub step_at-requires-clause-within : goal.step_at-requires-clause-within
-step_at-requires-clause-within c = within_of c.args.parts.now c.args.actor c.requires.allowed
+pub index_mut-requires : goal.index_mut-requires
+index_mut-requires c = omega (arith, within_of c.args.parts.now c.args.actor c.requires.allowed, c.args.parts.now.actors.ok.0)
 
-pub step_at-requires-clause-can : goal.step_at-requires-clause-can
-step_at-requires-clause-can c = λ found u at runs. can_of c.args.parts.now c.args.actor c.requires.run c.requires.kept c.requires.allowed found u at runs
+pub step-requires : goal.step-requires
+step-requires c =
+    let parts = c.args.parts.now in
+    let found = c.index_mut.result.now in
+    let at = at_index parts.actors.items (c.args.actor - 1) found (within_of parts c.args.actor c.requires.allowed) c.index_mut.ensures.value in
+    let (u, seat) = seated parts c.args.actor c.requires.allowed in
+    let runs = ap (λ (a : Actor). a.under_way) (same_Some found seat.found (sym at ∙ seat.at)) ∙ seat.runs in
+    record {
+      under_way = u;
+      runs = runs;
+      can = can_of parts c.args.actor c.requires.core.run c.requires.core.kept c.requires.allowed found u at runs;
+      room = c.requires.room found at u runs;
+      sound = (c.requires.core.kept.seats (c.args.actor - 1) found at).sound u runs;
+    }
 
-pub step_at-requires-clause-sound : goal.step_at-requires-clause-sound
-step_at-requires-clause-sound c = λ found u at runs. (c.requires.kept.seats (c.args.actor - 1) found at).sound u runs
-
-pub returns-clause-kept : goal.returns-clause-kept
-returns-clause-kept c = on_error c.step_at.result _ _ (λ same. unchanged c.args.parts.now _ refl refl refl refl refl same c.requires.kept) c.step_at.ensures.err
+pub returns : goal.returns
+returns c = λ u runs.
+    let parts = c.args.parts.now in
+    let found = c.index_mut.result.now in
+    let at = at_index parts.actors.items (c.args.actor - 1) found (within_of parts c.args.actor c.requires.allowed) c.index_mut.ensures.value in
+    let seat = seat_of parts c.args.actor u runs in
+    record {
+      actors = record {
+        was = found;
+        is = c.step.new.self;
+        found = at;
+        set = refl;
+        does = c.step.ensures u (ap (λ (a : Actor). a.under_way) (same_Some found seat.found (sym at ∙ seat.at)) ∙ seat.runs);
+      };
+      rest = refl;
+    }

@@ -1,7 +1,5 @@
-use Rattle.std.proofs.Common.{length, ◌≡◌, ◌+◌, Some, refl, ap, subst}
-use Rattle.slot_arena.specs.Heaps.{Heap}
+use Rattle.std.proofs.Common.{length, ◌+◌, refl, ap}
 use Rattle.slot_arena.specs.Times.{times}
-use Rattle.machine_model.specs.Grown.{standing}
 use Rattle.machine_core.specs.Seen.{seen}
 use Rattle.machine_core.proofs.Ends.{settles}
 use Rattle.machine_core.proofs.Kept.{kept_alike}
@@ -25,13 +23,6 @@ returns-clause-kept c =
       handles = refl;
       outside = λ r. ap (times r) done.outside;
       pins = done.epochs.2;
-      stood = λ main slot e. subst (λ (h : Heap). standing h main ≡ Some slot) done.heap e;
-      owners = done.owners;
-      drawn = refl;
-      generations = refl;
-      begun_are = refl;
-      events = refl;
-      slots = refl;
     }) c.requires.kept
 
 pub returns-clause-work : goal.returns-clause-work

@@ -11,21 +11,19 @@ pub first_table-requires-clause-limbo : goal.first_table-requires-clause-limbo
 first_table-requires-clause-limbo c =
     let m = c.in_ok-heap.heap in
     let is = c.in_ok-heap.ensures in
-    let heap : Heap = first_heap c.args.limits.slots in
+    let heap : Heap = first_heap c.args.bounds.slots in
     let held : List Ref = ref_to 2 1 ∷ [] in
     ap (λ h. limbo_after h m.outside m.epoch m.limbo) is.heap ∙ ap (λ o. limbo_after heap o m.epoch m.limbo) is.outside
-    ∙ ap (λ e. limbo_after heap held e m.limbo) is.epoch ∙ ap (limbo_after heap held 0) is.limbo ∙ first_limbo c.args.limits.slots c.requires.0
+    ∙ ap (λ e. limbo_after heap held e m.limbo) is.epoch ∙ ap (limbo_after heap held 0) is.limbo ∙ first_limbo c.args.bounds.slots c.requires.0
 
 -- the parts are those of a machine that has taken no step
-first : (c : goal.After-new-2) → AreFirst c.args.limits (record {
-  limits = c.args.limits;
+first : (c : goal.In_ok-handles) → AreFirst c.args.bounds (record {
+  limits = c.args.bounds;
   heap = c.first_table.new.heap;
   generations = 1;
   table = c.in_ok-table.table;
   actors = c.in_ok-actors.actors;
   handles = c.in_ok-handles.handles;
-  commits = c.in_ok-commits.commits;
-  journal = record { chronicle = c.in_ok-chronicle.chronicle; events = c.new-2.result };
   steps = 0;
   begun = 0;
   alloc = c.args.alloc;
@@ -43,20 +41,14 @@ first c =
       held = table.held;
       generations = refl;
       table = table.table;
-      actors = c.in_ok-actors.ensures.idle;
+      actors = c.in_ok-actors.ensures;
       handles = c.in_ok-handles.ensures;
-      commits = c.in_ok-commits.ensures.commits;
-      closings = c.in_ok-chronicle.ensures.closings;
-      places = c.in_ok-chronicle.ensures.places;
-      drawn = c.in_ok-chronicle.ensures.generations;
-      events = c.new-2.ensures.items;
       steps = refl;
-      begun_are = refl;
-      slots = c.in_ok-commits.ensures.slots;
+      begun = refl;
     }
 
 pub returns-clause-first : goal.returns-clause-first
-returns-clause-first c = seen_first c.args.limits _ (first c)
+returns-clause-first c = seen_first c.args.bounds _ (first c)
 
 pub returns-clause-kept : goal.returns-clause-kept
-returns-clause-kept c = kept_first c.args.limits _ (first c)
+returns-clause-kept c = kept_first c.args.bounds _ (first c)

@@ -1,6 +1,5 @@
 use Rattle.std.specs.Prelude.{◌≡◌, ◌∷◌, ◌++◌, [], length, None, refl}
 use Rattle.std.proofs.Common.{◌∙◌}
-use Rattle.std.proofs.lemmas.Result.{MatchResult-weaker}
 use Rattle.slot_arena.specs.Heaps.{entry_at}
 use Rattle.contract.specs.Beneath.machine_model.specs.declared.lines.Line.TheVariants as line
 use Rattle.contract.specs.Beneath.machine_model.specs.declared.repairs.CleanLine.TheVariants as clean
@@ -15,12 +14,10 @@ returns-in-Some-Single-clause-follows c =
     let heap = c.args.heap.now.heap in
     let s = c.args.work.now.swap in
     let main = c.args.self.now.main in
-    let done = c.args.self.now.done in
+    let done = c.args.self.now.done.items in
     let entry = c.entry_at-entry.result in
     let e : entry ≡ entry_at heap main (length done) = cc in
-    MatchResult-weaker c.put.result c.put.ensures.follows
-    (λ next told state hashes operation path.
+    λ state hashes operation path.
     let here = at_heap state heap hashes in
-    looked here operation (line.Clean (clean.Entry path main done)) (clean_next here path main (done ++ entry ∷ [])) (clean_line path s None c.put.new.self) s.read.at next refl refl
-    (single_kept here path main done entry _ _ e (c.in-Some-Single.ensures ∙ c.in-Some-Single.field-0-is)) (told state hashes path s))
-    (λ refusal told. told)
+    looked here operation (line.Clean (clean.Entry path main done)) (clean_next here path main (done ++ entry ∷ [])) (clean_line path s None c.put.new.self) s.read.at c.put.result refl refl
+    (single_kept here path main done entry _ _ e (c.in-Some-Single.ensures ∙ c.in-Some-Single.field-0-is)) (c.put.ensures.follows state hashes path s)

@@ -1,4 +1,3 @@
-use Rattle.std.proofs.lemmas.Result.{MatchResult-weaker}
 use Rattle.trie_parts.specs.Tasks.{for_task}
 use Rattle.contract.proofs.clean.Clean.step.Goals as goal
 
@@ -23,9 +22,8 @@ returns-in-Child-clause-acts c = λ state operation. rw c.in-Child.is (c.read_ch
 
 pub returns-in-Contracted-clause-acts : goal.returns-in-Contracted-clause-acts
 returns-in-Contracted-clause-acts c =
-    rw c.in-Contracted.is (
-    MatchResult-weaker c.contract.result c.contract.ensures.acts
-    (λ next told state operation. told state (for_task c.args.task c.args.work.now.swap.read.access operation) c.args.task.hashes) (λ refusal told. told)
+    λ state operation. rw c.in-Contracted.is (
+    c.contract.ensures.acts state (for_task c.args.task c.args.work.now.swap.read.access operation) c.args.task.hashes
     )
 
 pub returns-in-Swap-clause-follows : goal.returns-in-Swap-clause-follows
@@ -33,3 +31,22 @@ returns-in-Swap-clause-follows c = λ state operation. rw c.in-Swap.is (c.swap.e
 
 pub returns-in-Swap-clause-acts : goal.returns-in-Swap-clause-acts
 returns-in-Swap-clause-acts c = λ state operation. rw c.in-Swap.is (c.swap.ensures.acts state operation)
+
+pub returns-in-Entry-clause-follows : goal.returns-in-Entry-clause-follows
+returns-in-Entry-clause-follows c =
+    λ state operation. rw c.in-Entry.is (
+    c.look_at_entry.ensures.follows state c.args.task.hashes (for_task c.args.task c.args.work.now.swap.read.access operation) c.args.path.now
+    )
+
+pub returns-in-Tomb-clause-follows : goal.returns-in-Tomb-clause-follows
+returns-in-Tomb-clause-follows c =
+    let s = c.args.work.now.swap in
+    λ state operation. rw c.in-Tomb.is (
+    c.look_at_child.ensures.follows state c.args.task.hashes (for_task c.args.task s.read.access operation) c.args.path.now s s.read.at
+    )
+
+pub returns-in-Contracted-clause-follows : goal.returns-in-Contracted-clause-follows
+returns-in-Contracted-clause-follows c =
+    λ state operation. rw c.in-Contracted.is (
+    c.contract.ensures.follows state (for_task c.args.task c.args.work.now.swap.read.access operation) c.args.task.hashes
+    )

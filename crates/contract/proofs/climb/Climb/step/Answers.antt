@@ -1,4 +1,3 @@
-use Rattle.std.proofs.lemmas.Result.{MatchResult-weaker}
 use Rattle.contract.specs.Climbing.{climb_of}
 use Rattle.contract.proofs.Made.{climbs}
 use Rattle.contract.proofs.climb.Climb.step.Goals as goal
@@ -25,11 +24,7 @@ returns-in-Contracted-clause-acts c =
     let heap = c.args.heap.now.heap in
     let task = c.args.task in
     let access = c.args.work.now.swap.read.access in
-    rw c.in-Contracted.is (
-    MatchResult-weaker c.contract.result c.contract.ensures.acts
-    (λ next told state operation. rw (← climbs heap task access state operation (climb_of c.args.path.now c.args.self.now) c.in-Contracted.main) told)
-    (λ refusal told. told)
-    )
+    λ state operation. rw (c.in-Contracted.is, ← climbs heap task access state operation (climb_of c.args.path.now c.args.self.now) c.in-Contracted.main) c.contract.ensures.acts
 
 pub returns-in-Contracted-clause-follows : goal.returns-in-Contracted-clause-follows
 returns-in-Contracted-clause-follows c = rw c.in-Contracted.is c.contract.ensures.follows

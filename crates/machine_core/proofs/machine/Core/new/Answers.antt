@@ -4,6 +4,8 @@ use Rattle.machine_core.proofs.Bounded.{first_run}
 use Rattle.machine_core.proofs.machine.Core.new.Goals as goal
 
 pub invariant_of-result : goal.invariant_of-result
-invariant_of-result c =
-    let first = first_run c.args.limits (seen c.in_ok-parts.parts) (c.if-not-are_limits.ensures.0 refl) c.in_ok-parts.ensures.first in
-    (first.0, c.in_ok-parts.ensures.kept, c.in_ok-parts.ensures.noted)
+invariant_of-result c = record {
+  run = first_run c.args.bounds (seen c.in_ok-parts.parts) (c.if-not-are_bounds.ensures.0 refl) c.in_ok-parts.ensures.first;
+  kept = c.in_ok-parts.ensures.kept;
+  settled = c.in_ok-parts.ensures.noted;
+}

@@ -1,13 +1,24 @@
--- A step leads from a state of a run to a state of a run.
+use Rattle.std.proofs.Common.{◌≡◌, Err, sym, ap, subst}
 use Rattle.machine_model.specs.declared.steps.Step.TheVariants as steps
+use Rattle.machine_model.specs.Machine.{next}
+use Rattle.machine_core.specs.Bounds.{Applies}
 use Rattle.machine_core.specs.Seen.{seen}
-use Rattle.machine_core.specs.Walking.{walked}
-use Rattle.machine_core.proofs.Bounded.{applied_run}
+use Rattle.machine_core.specs.Told.{stepped}
+use Rattle.machine_core.specs.Work.{Worked, worked}
+use Rattle.machine_core.proofs.Roomed.{on_err}
+use Rattle.machine_core.proofs.Steps.{applies_stepped, refused_so}
 use Rattle.machine_core.proofs.machine.Core.walk.Goals as goal
 
-pub invariant_of-self : goal.invariant_of-self
-invariant_of-self c = (
-  applied_run (seen c.self.inside.parts) (seen c.walk.new.parts) (steps.Go c.args.actor) (walked c.walk.result) c.walk.ensures.applies c.self.invariant.0,
-  c.walk.ensures.kept,
-  c.walk.ensures.noted,
-)
+pub returns-in-Some-clause-applies : goal.returns-in-Some-clause-applies
+returns-in-Some-clause-applies c =
+    subst (λ (w : Worked). Applies (Err c.in-Some.refusal) w.state c.args.actor (next w.state (steps.Go c.args.actor)) w.state) c.self.view_is
+    (refused_so (seen c.self.inside.parts) c.args.actor c.in-Some.refusal (sym c.in-Some.ensures))
+
+pub returns-in-None-clause-applies : goal.returns-in-None-clause-applies
+returns-in-None-clause-applies c =
+    let before = c.self.inside.parts in
+    let after = c.take_walk.new.parts in
+    let walked = c.take_walk.ensures in
+    subst (λ (w : Worked). Applies (stepped c.take_walk.result) w.state c.args.actor (next w.state (steps.Go c.args.actor)) (seen after)) c.self.view_is
+    (applies_stepped (seen before) (seen after) c.args.actor c.take_walk.result (sym c.in-None.ensures) walked.taken
+    (on_err c.take_walk.result (worked after ≡ worked before) (seen after ≡ seen before) (λ same. ap (λ (w : Worked). w.state) same) walked.err) walked.only_memory walked.only_walks)

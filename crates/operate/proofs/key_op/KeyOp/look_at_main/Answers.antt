@@ -7,6 +7,6 @@ returns-clause-follows c =
     let me = c.args.self.now in
     λ state operation. (
       refl,
-      sym (rw c.as_slice.ensures at (c.after_main-found.ensures state operation me.work.swap)) ∙ sym (c.in_ok-follow.ensures.ok state me.task.hashes),
+      sym (rw c.as_slice.ensures at (c.after_main-found.ensures state operation me.work.swap)) ∙ sym (c.follow.ensures.line state me.task.hashes),
       refl,
     )

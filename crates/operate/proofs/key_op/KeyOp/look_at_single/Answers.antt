@@ -2,11 +2,11 @@ use Rattle.std.specs.Prelude.{refl}
 use Rattle.std.proofs.Common.{◌∙◌, sym}
 use Rattle.operate.proofs.key_op.KeyOp.look_at_single.Goals as goal
 
-pub returns-in-Ok-clause-follows : goal.returns-in-Ok-clause-follows
-returns-in-Ok-clause-follows c =
+pub returns-clause-follows : goal.returns-clause-follows
+returns-clause-follows c =
     let me = c.args.self.now in
     λ state operation. (
       refl,
-      sym (rw c.as_slice.ensures at (c.after_listed-found.ensures state operation me.work.swap)) ∙ sym (c.in-Ok.ensures.ok state me.task.hashes),
+      sym (rw c.as_slice.ensures at (c.after_listed-found.ensures state operation me.work.swap)) ∙ sym (c.follow.ensures.line state me.task.hashes),
       refl,
     )

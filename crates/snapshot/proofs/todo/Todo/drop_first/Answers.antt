@@ -1,7 +1,9 @@
 use Rattle.std.proofs.Common.{arith, ap, ◌∙◌}
 use Rattle.snapshot.specs.Beneath.machine_model.specs.Walking.{rest_of}
+use Rattle.slot_arena.specs.declared.refs.Ref.{Ref}
+use Rattle.snapshot.specs.Growing.{Growing}
 use Rattle.snapshot.proofs.Stacks.{popped}
 use Rattle.snapshot.proofs.todo.Todo.drop_first.Goals as goal
 
 pub returns : goal.returns
-returns c = popped c.self.inside.stack.items _ c.pop.result c.pop.ensures.items (λ e. omega (arith, (rw e at c.pop.ensures.cases).0)) ∙ ap rest_of c.self.view_is
+returns c = popped c.self.inside.stack.items _ c.pop.result c.pop.ensures.items (λ e. omega (arith, (rw e at c.pop.ensures.cases).0)) ∙ ap (λ (t : Growing Ref). rest_of t.items) c.self.view_is

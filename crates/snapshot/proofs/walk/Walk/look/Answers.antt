@@ -13,13 +13,13 @@ returns-clause-follows c =
     λ state operation table call r. by_next
     (at_roots state c.args.heap.now.heap table)
     (on_call call r.access operation)
-    (line.Walk (walk.Main c.args.main w.todo w.pairs))
+    (line.Walk (walk.Main c.args.main w.todo.items w.pairs.items))
     _
     _
     r.at
-    (behind_walk call c.go_on.new.self.pairs)
+    (behind_walk call c.go_on.new.self.pairs.items)
     c.go_on.result
     refl
-    (ap (λ l. walk_next (on_call call r.access operation) l w.pairs) (ap (λ es. es ++ w.todo) (sym c.entries_at.ensures) ∙ sym c.in_ok-put_before.ensures.ok))
+    (ap (λ l. walk_next (on_call call r.access operation) l w.pairs.items) (ap (λ es. es ++ w.todo.items) (sym c.entries_at.ensures.entries) ∙ sym c.put_before.ensures))
     refl
     (c.go_on.ensures.next (on_call call r.access operation) r)

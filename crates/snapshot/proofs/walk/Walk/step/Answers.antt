@@ -1,4 +1,3 @@
-use Rattle.std.proofs.lemmas.Result.{IfOk-weaker}
 use Rattle.snapshot.proofs.walk.Walk.step.Goals as goal
 
 pub returns-in-Root-clause-follows : goal.returns-in-Root-clause-follows
@@ -8,9 +7,7 @@ pub returns-in-Read-clause-follows : goal.returns-in-Read-clause-follows
 returns-in-Read-clause-follows c = λ state operation call same. rw c.in-Read.is (c.read.ensures.follows state operation c.args.roots.now call)
 
 pub returns-in-Main-clause-follows : goal.returns-in-Main-clause-follows
-returns-in-Main-clause-follows c =
-    IfOk-weaker c.look.result _ _ (λ next h state operation call same. rw c.in-Main.is (h state operation c.args.roots.now call c.args.work.now.swap.read)) c.look.ensures.follows
+returns-in-Main-clause-follows c = λ state operation call same. rw c.in-Main.is (c.look.ensures.follows state operation c.args.roots.now call c.args.work.now.swap.read)
 
 pub returns-in-Entry-clause-follows : goal.returns-in-Entry-clause-follows
-returns-in-Entry-clause-follows c =
-    IfOk-weaker c.take.result _ _ (λ next h state operation call same. rw c.in-Entry.is (h state operation c.args.roots.now call)) c.take.ensures.follows
+returns-in-Entry-clause-follows c = λ state operation call same. rw c.in-Entry.is (c.take.ensures.follows state operation c.args.roots.now call)

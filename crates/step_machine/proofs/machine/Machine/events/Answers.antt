@@ -1,8 +1,8 @@
 use Rattle.std.proofs.Common.{refl}
-use Rattle.machine_model.specs.Orders.{order_of}
-use Rattle.step_machine.specs.Machines.{state_of}
+use Rattle.machine_model.specs.Records.{order_of}
+use Rattle.step_machine.specs.Machines.{past_of}
 use Rattle.step_machine.proofs.Legality.{legal}
 use Rattle.step_machine.proofs.machine.Machine.events.Goals as goal
 
 pub returns-clause-legal : goal.returns-clause-legal
-returns-clause-legal c = legal c.args.self.now c.explained.ensures (order_of (state_of c.args.self.now)) refl
+returns-clause-legal c = legal c.args.self.now c.explained.ensures (order_of (past_of c.args.self.now)) refl

@@ -1,4 +1,6 @@
+use Rattle.machine_model.specs.Limits.{bounded}
+use Rattle.step_machine.proofs.Bounds.{in_bounds}
 use Rattle.step_machine.proofs.machine.Machine.explained.Goals as goal
 
 pub returns : goal.returns
-returns c = c.every_order_is_legal.ensures c.args.self.now.limits c.args.self.now.steps c.limits.ensures.in_range c.steps.ensures.keys
+returns c = c.every_order_is_legal.ensures (bounded c.args.self.now.limits) c.args.self.now.steps (in_bounds c.args.self.now.limits c.limits.ensures.in_range) c.steps.ensures.keys

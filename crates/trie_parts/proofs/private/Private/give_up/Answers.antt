@@ -7,4 +7,4 @@ release_all-requires c = record { held = λ r. omega (arith, c.requires.held r, 
 
 pub returns-clause-others : goal.returns-clause-others
 returns-clause-others c =
-    λ r. omega (arith, c.release_all.ensures.others r, ap (times r) c.as_slice.ensures.value, ap (times r) c.self.view_is, ap (times r) c.clear.ensures.items)
+    λ r. omega (arith, c.release_all.ensures.others r, ap (times r) c.as_slice.ensures.value, ap (times r) c.self.view_is, ap (times r) c.clear.ensures)

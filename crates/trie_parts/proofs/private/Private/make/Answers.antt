@@ -1,15 +1,38 @@
+use Rattle.std.proofs.Common.{rules, ◌∙◌, arith, ap}
+use Rattle.slot_arena.specs.Times.{times}
+use Rattle.slot_arena.proofs.Times.{times-cons, times_push}
 use Rattle.trie_parts.proofs.private.Private.make.Goals as goal
 
-pub returns-clause-acts : goal.returns-clause-acts
-returns-clause-acts c =
-    let told = c.in_ok-made.ensures in
+pub give_up-requires : goal.give_up-requires
+give_up-requires c = record { held = λ r. omega (arith, c.requires.held r, ap (times r) c.in-None.ensures.outside) }
+
+pub returns-in-None-clause-acts : goal.returns-in-None-clause-acts
+returns-in-None-clause-acts c =
     record {
-      heap = told.heap;
-      made = told.private;
-      others = told.others;
-      stay = told.stay;
-      epochs = told.epochs;
-      owners = told.owners;
-      few = told.few;
-      ticks = told.ticks;
+      heap = search rules;
+      made = search rules;
+      others = λ r. omega (arith, ap (times r) c.in-None.ensures.outside, c.give_up.ensures.others r);
+      stay = search rules;
+      epochs = search rules;
+      owners = search rules;
+      few = search rules;
+      ticks = search rules;
+    }
+
+pub returns-in-Some-clause-acts : goal.returns-in-Some-clause-acts
+returns-in-Some-clause-acts c =
+    record {
+      heap = search rules;
+      made = search rules;
+      others = λ r. omega (
+        arith,
+        ap (times r) c.self.view_is,
+        ap (times r) c.in-Some.ensures.outside ∙ times-cons r c.in-Some.at c.args.heap.now.outside,
+        ap (times r) c.push.ensures.items ∙ times_push r c.in-Some.at c.self.inside.items.items,
+      );
+      stay = search rules;
+      epochs = search rules;
+      owners = search rules;
+      few = search rules;
+      ticks = search rules;
     }

@@ -1,22 +1,54 @@
-use Rattle.std.proofs.Common.{◌∙◌, arith}
-use Rattle.ctrie_base.specs.declared.hashes.HashKind.TheVariants.{Low}
+use Rattle.std.proofs.Common.{rules, arith, ap}
+use Rattle.slot_arena.specs.Times.{times}
 use Rattle.gcas.specs.Swaps.{swap_of}
-use Rattle.trie_parts.specs.Here.{no_state, at_heap}
-use Rattle.trie_parts.proofs.Unmade.{swap_owners}
+use Rattle.trie_parts.proofs.Ends.{ended}
+use Rattle.trie_parts.proofs.work.Work.swap.Goals.{in-Publish, in_default}
 use Rattle.trie_parts.proofs.work.Work.swap.Goals as goal
 
-pub returns-clause-acts : goal.returns-clause-acts
-returns-clause-acts c =
-    let told = c.step_swap.ensures in
-    let s = swap_of c.args.self.now.swap c.args.root_seen in
-    let heap = c.args.heap.now.heap in
+pub give_up-requires : goal.give_up-requires
+give_up-requires c =
     record {
-      heap = told.heap;
-      made = told.private (at_heap no_state heap Low);
-      others = told.others;
-      stay = λ q live. told.stay q ∙ live;
-      epochs = told.epochs;
-      owners = told.owners ∙ swap_owners heap s.indirection s.replaced s.fresh s.line c.args.heap.now.owners;
-      few = omega (arith, told.few);
-      ticks = (told.ticks.0, omega (arith, told.ticks.1));
+      held = λ r. elim c.match-matches.branch [
+        | in-Publish w ↦ omega (arith, c.requires.held r, ap (times r) c.step-next.ensures.beside.outside, ap (λ s. times r s.private) w.self-is)
+        | in_default w ↦ omega (arith, c.requires.held r, ap (times r) c.step-next.ensures.beside.outside, ap (λ s. times r s.private) w.self-is)
+      ];
     }
+
+pub returns-then-is_first-clause-acts : goal.returns-then-is_first-clause-acts
+returns-then-is_first-clause-acts c =
+    record {
+      heap = search rules;
+      made = search rules;
+      others = λ r. elim c.match-matches.branch [
+        | in-Publish w ↦ omega (arith, c.give_up.ensures.others r, ap (times r) c.step-next.ensures.beside.outside, ap (λ s. times r s.private) w.self-is)
+        | in_default w ↦ omega (arith, c.give_up.ensures.others r, ap (times r) c.step-next.ensures.beside.outside, ap (λ s. times r s.private) w.self-is)
+      ];
+      stay = search rules;
+      epochs = search rules;
+      owners = search rules;
+      few = search rules;
+      ticks = search rules;
+    }
+
+pub returns-else-is_first-clause-acts : goal.returns-else-is_first-clause-acts
+returns-else-is_first-clause-acts c =
+    record {
+      heap = search rules;
+      made = search rules;
+      others = search rules;
+      stay = search rules;
+      epochs = search rules;
+      owners = search rules;
+      few = search rules;
+      ticks = search rules;
+    }
+
+pub returns-else-is_first-clause-last : goal.returns-else-is_first-clause-last
+returns-else-is_first-clause-last c =
+    let s = c.args.self.now.swap in
+    let line = (swap_of s c.args.root_seen).line in
+    let end = ended c.args.heap.now.heap s.read.access s.read.indirection s.replaced s.fresh line c.step-next.new.self c.step-next.result in
+    λ last. elim c.match-matches.branch [
+      | in-Publish w ↦ end (rw w.self-is at c.step-next.ensures.follows) last
+      | in_default w ↦ end (rw w.self-is at c.step-next.ensures.follows) last
+    ]

@@ -1,0 +1,13 @@
+use Rattle.std.proofs.Common.{Err, sym, subst}
+use Rattle.machine_model.specs.declared.steps.Step.TheVariants as steps
+use Rattle.machine_model.specs.Machine.{next}
+use Rattle.machine_core.specs.Bounds.{Answers}
+use Rattle.machine_core.specs.Seen.{seen}
+use Rattle.machine_core.specs.Work.{Worked}
+use Rattle.machine_core.proofs.Steps.{refused}
+use Rattle.machine_core.proofs.machine.Core.sweep.Goals as goal
+
+pub returns-in-Some-clause-answers : goal.returns-in-Some-clause-answers
+returns-in-Some-clause-answers c =
+    subst (λ (w : Worked). Answers (Err c.in-Some.refusal) w.state (next w.state steps.Sweep) w.state) c.self.view_is
+    (refused (seen c.self.inside.parts) steps.Sweep c.in-Some.refusal (sym c.in-Some.ensures))

@@ -1,0 +1,36 @@
+-- A machine's parts: the state that its steps lead to, and what is recorded of them.
+use Rattle.std.specs.Prelude.{◌≡◌, List, None, Result, Ok, Err}
+use Rattle.ctrie_base.specs.declared.kinds.Kind.{Kind}
+use Rattle.ctrie_base.specs.declared.refusals.Refusal.{Refusal}
+use Rattle.ctrie_base.specs.declared.refusals.Refusal.TheVariants.{Memory}
+use Rattle.machine_model.specs.declared.steps.Limits.{Limits}
+use Rattle.machine_model.specs.declared.steps.Outcome.{Outcome}
+use Rattle.machine_model.specs.declared.steps.Outcome.TheVariants.{Went}
+use Rattle.machine_model.specs.declared.steps.Step.{Step}
+use Rattle.machine_model.specs.Keys.{KeysFit}
+use Rattle.machine_model.specs.Limits.{AreLimits, bounded}
+use Rattle.machine_model.specs.Machine.{denial_of, next, run}
+use Rattle.machine_model.specs.Records.{next_record, record_of}
+use Rattle.machine_model.specs.States.{State}
+use Rattle.chronicle.specs.Chronicled.{Chronicled}
+use Rattle.step_machine.specs.Machines.{AreTaken}
+
+-- the parts of a machine that has taken these steps
+pub record HasTaken (limits : Limits) (steps : List Step) (state : State) (kept : Chronicled) : Type 0 where
+  pub led : state ≡ run (bounded limits) steps
+  pub past : kept.past ≡ record_of (bounded limits) steps
+  pub slots : kept.slots ≡ limits.slots
+  pub in_range : AreLimits limits
+  pub taken : AreTaken limits steps
+  pub keys : KeysFit steps
+
+-- The step was taken and told, with the definition's outcome; or nothing has changed, since the definition denies it, or for want of memory where nothing does.
+abbrev pub TakesAndTells : Result Outcome Refusal → State → Chronicled → Step → State → Chronicled → Type 0
+TakesAndTells (Ok outcome) before past step after now = (next before step ≡ Ok (outcome, after)) × (now.past ≡ next_record before past.past step) × (now.slots ≡ past.slots)
+TakesAndTells (Err Memory) before past step after now = (after ≡ before) × (now ≡ past) × (denial_of before step ≡ None)
+TakesAndTells (Err refusal) before past step after now = (after ≡ before) × (now ≡ past) × (next before step ≡ Err refusal)
+
+-- the outcome of a step that is told by its kind
+abbrev pub walked : Result Kind Refusal → Result Outcome Refusal
+walked (Ok kind) = Ok (Went kind)
+walked (Err refusal) = Err refusal
