@@ -1,0 +1,3 @@
+-- What leads from runs to calls that run alone, and back.
+pub mod ByRuns
+pub mod Resting

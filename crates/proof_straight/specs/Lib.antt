@@ -1,0 +1,10 @@
+pub mod Beneath
+pub mod Drafts
+pub mod Running
+pub mod Resting
+pub mod Places
+pub mod Recorded
+pub mod Changes
+pub mod Copies
+pub mod Renewals
+pub mod Laws

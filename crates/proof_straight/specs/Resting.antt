@@ -1,0 +1,23 @@
+-- What each run leaves to a call that runs alone behind it.
+use Rattle.std.specs.Prelude.{◌≡◌, List}
+use Rattle.machine_model.specs.declared.steps.Bounds.{Bounds}
+use Rattle.machine_model.specs.declared.steps.Step.{Step}
+use Rattle.machine_model.specs.Keys.{KeysFit}
+use Rattle.machine_model.specs.Machine.{AreBounds, run}
+use Rattle.machine_model.specs.States.{State}
+use Rattle.proof_straight.specs.Running.{HasEmptySlots, IsUpToDate}
+
+-- a run of these steps leads to the state; its bounds are in range, and the keys of its calls have 64 bits
+pub record IsOfRun (state : State) : Type 0 where
+  pub steps : List Step
+  pub is : state ≡ run state.limits steps
+  pub limits : AreBounds state.limits
+  pub keys : KeysFit steps
+
+-- limbo is up to date after each run
+abbrev pub LimboUpToDate : Type 0
+LimboUpToDate = (limits : Bounds) (steps : List Step) → AreBounds limits → IsUpToDate (run limits steps)
+
+-- and the free slots are empty ones
+abbrev pub FreeSlotsEmpty : Type 0
+FreeSlotsEmpty = (limits : Bounds) (steps : List Step) → AreBounds limits → HasEmptySlots (run limits steps).heap
