@@ -8,7 +8,7 @@ use Rattle.history.specs.declared.calls.Call.{Call}
 use Rattle.history.specs.declared.calls.Call.TheVariants.{Get}
 use Rattle.ctrie_base.specs.declared.refusals.Refusal.{Refusal}
 use Rattle.ctrie_base.specs.declared.refusals.Refusal.TheVariants.{Spent}
-use Rattle.ctrie_commands.specs.Beneath.step_machine.specs.Machines.{Taken, state_of}
+use Rattle.ctrie_commands.specs.Beneath.step_machine.specs.Machines.{Taken, past_of}
 use Rattle.lock_runner.specs.declared.accounts.Answer.{Answer}
 use Rattle.lock_runner.specs.ActorHistory.Answers.{AreAnswersOf}
 use Rattle.lock_runner.specs.Boards.{GoesOn}
@@ -51,7 +51,7 @@ module _ (actor : ℕ) (before after : Worker) (gone : HasGoneOn before.seat aft
       rw (answers, same) (Answered calls (answered_calls before.seat.answers) before.denied.items call (later calls so_far))
   one_more calls call so_far (inr (same, refusal, last, denies, all, left)) =
       let answered : HasAnswered actor (answered_calls before.seat.answers) after.seat.seen =
-      (after.seat.answers, subst (λ a. AreAnswersOf a (state_of after.seat.seen).events after.seat.answers) owns all, ap answered_calls same) in
+      (after.seat.answers, subst (λ a. AreAnswersOf a (past_of after.seat.seen).events after.seat.answers) owns all, ap answered_calls same) in
       let why : OnTheWay (DeniesBehind actor (answered_calls before.seat.answers) call refusal) after.seat.seen =
       (after.seat.seen, refl, goes_on_same after.seat.seen.steps, (subst (λ a. Denies a call refusal after.seat.seen) owns denies, answered)) in
       rw (last, same) (Denied calls (answered_calls before.seat.answers) before.denied.items call refusal (later calls so_far) why)

@@ -5,28 +5,32 @@ use Rattle.ctrie_base.specs.declared.kinds.Kind.{Kind}
 use Rattle.ctrie_base.specs.declared.refusals.Refusal.{Refusal}
 use Rattle.history.specs.declared.calls.Call.{Call}
 use Rattle.history.specs.declared.events.Event.{Event}
-use Rattle.machine_model.specs.declared.steps.Step.{Step}
-use Rattle.machine_model.specs.declared.steps.Step.TheVariants as step
-use Rattle.machine_model.specs.States.{State}
-use Rattle.machine_model.specs.Machine.{Answer, next, next_state, state_after, run_from, next_kind, begin_denial, begin_unless, go_denial, go_unless}
-use Rattle.machine_model.proofs.Moves.{moves}
-use Rattle.machine_model.specs.Moves.{MovesIfTaken}
+use Rattle.ctrie_commands.specs.Beneath.machine_model.specs.declared.steps.Step.{Step}
+use Rattle.ctrie_commands.specs.Beneath.machine_model.specs.declared.steps.Step.TheVariants as step
+use Rattle.ctrie_commands.specs.Beneath.machine_model.specs.States.{State}
+use Rattle.ctrie_commands.specs.Beneath.machine_model.specs.Machine.{Answer, next, run_from, next_kind, begin_denial, begin_unless, go_denial, go_unless}
+use Rattle.ctrie_commands.specs.Beneath.machine_model.proofs.Moves.{moves}
+use Rattle.ctrie_commands.specs.Beneath.machine_model.specs.Moves.{MovesIfTaken}
 use Rattle.ctrie_commands.specs.Beneath.proof_order.proofs.History.Growing.{Grows, grows_same, grows_trans, events_grow}
 use Rattle.script_text.specs.declared.commands.Command.{Command}
 use Rattle.script_text.specs.declared.commands.Command.TheVariants.{Begin, Go, Until, Finish, Do, Sweep}
-use Rattle.script_text.specs.Steps.{stops, going, doing, steps_of, denial_of, after_command}
+use Rattle.script_text.specs.Steps.{stops, going, doing, steps_of, denial_of}
+use Rattle.ctrie_commands.specs.Recorded.{Recorded, after_line, recorded_from, recorded_next}
+use Rattle.ctrie_commands.specs.Beneath.machine_model.specs.Records.{record_from}
 
 -- ---- steps
 
-one_grows : (state : State) (s : Step) (answer : Answer) → MovesIfTaken state s answer → Grows state.events (state_after state answer).events
-one_grows state s (Ok done) m = events_grow state s done.0 done.1 m
-one_grows state s (Err refusal) m = grows_same state.events state.events refl
+one_grows : (before : Recorded) (s : Step) (answer : Answer) → next before.state s ≡ answer → MovesIfTaken before.state s answer →
+    Grows before.past.events (recorded_next before s).past.events
+one_grows before s (Ok done) e m = rw e (events_grow before.state before.past s done.0 done.1 m)
+one_grows before s (Err refusal) e m = rw e (grows_same before.past.events before.past.events refl)
 
-pub all_grow : (state : State) (steps : List Step) → Grows state.events (run_from state steps).events
-unfolding run_from
-all_grow state [] = grows_same state.events state.events refl
-all_grow state (s ∷ steps) =
-    grows_trans state.events (next_state state s).events (run_from (next_state state s) steps).events (one_grows state s (next state s) (moves state s)) (all_grow (next_state state s) steps)
+pub all_grow : (before : Recorded) (steps : List Step) → Grows before.past.events (recorded_from before steps).past.events
+unfolding run_from record_from
+all_grow before [] = grows_same before.past.events before.past.events refl
+all_grow before (s ∷ steps) =
+    let one = recorded_next before s in
+    grows_trans before.past.events one.past.events (recorded_from one steps).past.events (one_grows before s (next before.state s) refl (moves before.state s)) (all_grow one steps)
 
 -- what the first steps and those behind them add
 pub added_split : (xs ys zs : List Event) → Grows xs ys → Grows ys zs → drop (length xs) zs ≡ drop (length xs) ys ++ drop (length ys) zs
@@ -38,37 +42,49 @@ added_split xs ys zs (a, p) (b, q) =
 
 -- ---- a line that is denied
 
-begin_changes_nothing : (state : State) (actor : ℕ) (call : Call) (refusal : Refusal) → begin_denial state actor call ≡ Some refusal → next_state state (step.Begin actor call) ≡ state
+-- a step that is denied leaves the state, and what is recorded
+pub denied_step : (before : Recorded) (s : Step) (refusal : Refusal) → next before.state s ≡ Err refusal → recorded_next before s ≡ before
+denied_step before s refusal e = rw e refl
+
+begin_denied : (state : State) (actor : ℕ) (call : Call) (refusal : Refusal) → begin_denial state actor call ≡ Some refusal → next state (step.Begin actor call) ≡ Err refusal
 unfolding next
-begin_changes_nothing state actor call refusal e = ap (λ d. state_after state (begin_unless state actor call d)) e
+begin_denied state actor call refusal e = ap (λ d. begin_unless state actor call d) e
 
-go_changes_nothing : (state : State) (actor : ℕ) (refusal : Refusal) → go_denial state actor ≡ Some refusal → next_state state (step.Go actor) ≡ state
+go_denied : (state : State) (actor : ℕ) (refusal : Refusal) → go_denial state actor ≡ Some refusal → next state (step.Go actor) ≡ Err refusal
 unfolding next
-go_changes_nothing state actor refusal e = ap (λ d. state_after state (go_unless state actor d)) e
+go_denied state actor refusal e = ap (λ d. go_unless state actor d) e
 
-stopped_or_denied : (b : Bool) (n : ℕ) (wanted : Option Kind) (actor : ℕ) (state : State) → next_state state (step.Go actor) ≡ state →
-    run_from state (going n wanted actor state) ≡ state → run_from state (cond b [] (step.Go actor ∷ going n wanted actor (next_state state (step.Go actor)))) ≡ state
-unfolding run_from
-stopped_or_denied true n wanted actor state same rest = refl
-stopped_or_denied false n wanted actor state same rest = ap (λ s. run_from s (going n wanted actor s)) same ∙ rest
+begin_refused : (before : Recorded) (actor : ℕ) (call : Call) (refusal : Refusal) → begin_denial before.state actor call ≡ Some refusal →
+    recorded_next before (step.Begin actor call) ≡ before
+begin_refused before actor call refusal e = denied_step before (step.Begin actor call) refusal (begin_denied before.state actor call refusal e)
 
-going_denied : (n : ℕ) (wanted : Option Kind) (actor : ℕ) (state : State) → next_state state (step.Go actor) ≡ state → run_from state (going n wanted actor state) ≡ state
-unfolding going run_from
-going_denied zero wanted actor state same = refl
-going_denied (suc n) wanted actor state same = stopped_or_denied (stops wanted (next_kind state actor)) n wanted actor state same (going_denied n wanted actor state same)
+go_refused : (before : Recorded) (actor : ℕ) (refusal : Refusal) → go_denial before.state actor ≡ Some refusal → recorded_next before (step.Go actor) ≡ before
+go_refused before actor refusal e = denied_step before (step.Go actor) refusal (go_denied before.state actor refusal e)
 
-doing_denied : (state : State) (actor : ℕ) (begins : Step) (denial : Option Refusal) (refusal : Refusal) → denial ≡ Some refusal → next_state state begins ≡ state →
-    run_from state (doing actor begins denial state) ≡ state
-unfolding run_from
-doing_denied state actor begins (Some why) refusal e same = same
-doing_denied state actor begins None refusal e same = cc e
+stopped_or_denied : (b : Bool) (n : ℕ) (wanted : Option Kind) (actor : ℕ) (before : Recorded) → recorded_next before (step.Go actor) ≡ before →
+    recorded_from before (going n wanted actor before.state) ≡ before →
+    recorded_from before (cond b [] (step.Go actor ∷ going n wanted actor (recorded_next before (step.Go actor)).state)) ≡ before
+unfolding run_from record_from
+stopped_or_denied true n wanted actor before same rest = refl
+stopped_or_denied false n wanted actor before same rest = ap (λ (r : Recorded). recorded_from r (going n wanted actor r.state)) same ∙ rest
 
-pub denied_changes_nothing : (state : State) (command : Command) (refusal : Refusal) → denial_of state command ≡ Some refusal → after_command state command ≡ state
-unfolding denial_of steps_of run_from
-denied_changes_nothing state (Begin actor call) refusal e = begin_changes_nothing state actor call refusal e
-denied_changes_nothing state (Go actor times) refusal e = going_denied times None actor state (go_changes_nothing state actor refusal e)
-denied_changes_nothing state (Until actor kind) refusal e = going_denied _ (Some kind) actor state (go_changes_nothing state actor refusal e)
-denied_changes_nothing state (Finish actor) refusal e = going_denied _ None actor state (go_changes_nothing state actor refusal e)
-denied_changes_nothing state (Do actor call) refusal e =
-    doing_denied state actor (step.Begin actor call) (begin_denial state actor call) refusal e (begin_changes_nothing state actor call refusal e)
-denied_changes_nothing state (Sweep times) refusal e = cc e
+going_denied : (n : ℕ) (wanted : Option Kind) (actor : ℕ) (before : Recorded) → recorded_next before (step.Go actor) ≡ before → recorded_from before (going n wanted actor before.state) ≡ before
+unfolding going run_from record_from
+going_denied zero wanted actor before same = refl
+going_denied (suc n) wanted actor before same = stopped_or_denied (stops wanted (next_kind before.state actor)) n wanted actor before same (going_denied n wanted actor before same)
+
+doing_denied : (before : Recorded) (actor : ℕ) (begins : Step) (denial : Option Refusal) (refusal : Refusal) → denial ≡ Some refusal → recorded_next before begins ≡ before →
+    recorded_from before (doing actor begins denial before.state) ≡ before
+unfolding run_from record_from
+doing_denied before actor begins (Some why) refusal e same = same
+doing_denied before actor begins None refusal e same = cc e
+
+pub denied_changes_nothing : (before : Recorded) (command : Command) (refusal : Refusal) → denial_of before.state command ≡ Some refusal → after_line before command ≡ before
+unfolding denial_of steps_of run_from record_from
+denied_changes_nothing before (Begin actor call) refusal e = begin_refused before actor call refusal e
+denied_changes_nothing before (Go actor times) refusal e = going_denied times None actor before (go_refused before actor refusal e)
+denied_changes_nothing before (Until actor kind) refusal e = going_denied _ (Some kind) actor before (go_refused before actor refusal e)
+denied_changes_nothing before (Finish actor) refusal e = going_denied _ None actor before (go_refused before actor refusal e)
+denied_changes_nothing before (Do actor call) refusal e =
+    doing_denied before actor (step.Begin actor call) (begin_denial before.state actor call) refusal e (begin_refused before actor call refusal e)
+denied_changes_nothing before (Sweep times) refusal e = cc e

@@ -14,11 +14,10 @@ use Rattle.history_text.specs.Reading.{Reading}
 use Rattle.history_text.specs.Grammar.{IsNumber, EventFits, Spell, IsShort}
 use Rattle.history_text.proofs.Only.{read_again}
 use Rattle.ctrie_base.specs.declared.refusals.Refusal.{Refusal}
-use Rattle.machine_model.specs.declared.steps.Limits.{Limits}
-use Rattle.machine_model.specs.States.{State, first_state}
-use Rattle.machine_model.specs.Orders.{order_of}
-use Rattle.machine_model.specs.Machine.{run_from}
-use Rattle.ctrie_commands.specs.Beneath.step_machine.specs.Machines.{Taken, state_of}
+use Rattle.ctrie_commands.specs.Beneath.machine_model.specs.declared.steps.Bounds.{Bounds}
+use Rattle.ctrie_commands.specs.Beneath.machine_model.specs.Limits.{bounded}
+use Rattle.ctrie_commands.specs.Beneath.machine_model.specs.Records.{order_of}
+use Rattle.ctrie_commands.specs.Beneath.step_machine.specs.Machines.{Taken, past_of}
 use Rattle.ctrie_commands.specs.Beneath.step_machine.specs.Legality.{IsLegalFor, IsLegalRecord}
 use Rattle.ctrie_commands.specs.Beneath.step_machine.specs.Records.{IsRecordOf}
 use Rattle.ctrie_commands.specs.Beneath.step_machine.specs.declared.records.Record.{Record}
@@ -27,15 +26,16 @@ use Rattle.ctrie_commands.specs.Beneath.proof_obstruction_free.specs.Closes.{Clo
 use Rattle.ctrie_commands.specs.Beneath.proof_obstruction_free.specs.Laws.{AloneItEnds}
 use Rattle.script_text.specs.Reading.{Reading as Script, script_of}
 use Rattle.script_text.specs.Steps.{all_steps}
-use Rattle.ctrie_commands.specs.Reports.{last_state, report}
+use Rattle.ctrie_commands.specs.Reports.{last_of, report}
 use Rattle.ctrie_commands.specs.Scripts.{IsReport}
 use Rattle.ctrie_commands.specs.Threads.{thread_report}
 use Rattle.history_commands.specs.Verdicts.{IsVerdict}
 use Rattle.ctrie_commands.specs.Legality.{told_in, IsLegalText, AppendsJudged}
 use Rattle.ctrie_commands.proofs.Endings.{each_line_ends}
-use Rattle.machine_model.proofs.Along.{limits_along}
+use Rattle.ctrie_commands.specs.Beneath.machine_model.proofs.Along.{limits_along}
 use Rattle.ctrie_commands.proofs.Spelled.{report_spelled, thread_report_spelled}
 use Rattle.ctrie_commands.proofs.Short.{report_short}
+use Rattle.ctrie_commands.specs.Recorded.{Recorded, first_recorded, recorded_from, recorded_in}
 
 -- ---- the numbers of the order are those of begins
 
@@ -62,53 +62,54 @@ pub judged_legal : (text : List ℕ) (told : Reading) → IsLegalText text told 
 judged_legal text told is short = (told, read_again text told is.spelled short, (λ _. is.legal, λ _. refl))
 
 -- the text of a state's history and order, if these are legal
-pub told_legal : (hash : HashKind) (state : State) (text said : List ℕ) → All EventFits state.events → IsLegal (hash_of hash) state.events (order_of state) → text ≡ said →
-    (AllByRecursion EventFits state.events → AllByRecursion IsNumber (order_of state) → Spell (said_lines said) (told_in hash state)) → IsLegalText text (told_in hash state)
+pub told_legal : (hash : HashKind) (state : Recorded) (text said : List ℕ) → All EventFits state.past.events → IsLegal (hash_of hash) state.past.events (order_of state.past) → text ≡ said →
+    (AllByRecursion EventFits state.past.events → AllByRecursion IsNumber (order_of state.past) → Spell (said_lines said) (told_in hash state.past)) → IsLegalText text (told_in hash state.past)
 told_legal hash state text said fit legal is spelled =
-    let fits = recursion_from_All EventFits state.events fit in
-    subst (λ t. IsLegalText t (told_in hash state)) (sym is)
-    (legal_text said (told_in hash state) (spelled fits (order_fits (hash_of hash) state.events (order_of state) fits legal)) legal)
+    let fits = recursion_from_All EventFits state.past.events fit in
+    subst (λ t. IsLegalText t (told_in hash state.past)) (sym is)
+    (legal_text said (told_in hash state.past) (spelled fits (order_fits (hash_of hash) state.past.events (order_of state.past) fits legal)) legal)
 
 -- ---- the report of a script's run
 
 -- the state after the lines of a script
-pub led_to : (script : Script) (before after : State) → before ≡ first_state script.limits → after ≡ run_from before (all_steps before script.lines) → after ≡ last_state script
-led_to script before after first last = last ∙ ap (λ s. run_from s (all_steps s script.lines)) first
+pub led_to : (script : Script) (before after : Recorded) → before ≡ first_recorded script.limits → after ≡ recorded_from before (all_steps before.state script.lines) → after ≡ last_of script
+led_to script before after first last = last ∙ ap (λ s. recorded_from s (all_steps s.state script.lines)) first
 
-pub report_legal : (script : Script) (machine : Taken) (text : List ℕ) → state_of machine ≡ last_state script → All EventFits (state_of machine).events →
-    IsLegalFor machine (order_of (state_of machine)) → text ≡ report script → IsLegalText text (told_in script.limits.hash (last_state script))
+pub report_legal : (script : Script) (machine : Taken) (text : List ℕ) → recorded_in machine ≡ last_of script → All EventFits (past_of machine).events →
+    IsLegalFor machine (order_of (past_of machine)) → text ≡ report script → IsLegalText text (told_in script.limits.hash (last_of script).past)
 report_legal script machine text is fit legal same =
-    let sizes : machine.limits ≡ script.limits =
-    sym (limits_along machine.limits machine.steps) ∙ ap (λ (s : State). s.limits) is ∙ limits_along script.limits (all_steps (first_state script.limits) script.lines) in
-    let here : IsLegal (hash_of script.limits.hash) (state_of machine).events (order_of (state_of machine)) =
-    subst (λ (limits : Limits). IsLegal (hash_of limits.hash) (state_of machine).events (order_of (state_of machine))) sizes legal in
-    told_legal script.limits.hash (last_state script) text (report script) (subst (λ (s : State). All EventFits s.events) is fit)
-    (subst (λ (s : State). IsLegal (hash_of script.limits.hash) s.events (order_of s)) is here) same (report_spelled script)
+    let sizes : machine.limits.hash ≡ script.limits.hash =
+    ap (λ (l : Bounds). l.hash) (sym (limits_along (bounded machine.limits) machine.steps) ∙ ap (λ (r : Recorded). r.state.limits) is
+    ∙ limits_along (bounded script.limits) (all_steps (first_recorded script.limits).state script.lines)) in
+    let here : IsLegal (hash_of script.limits.hash) (past_of machine).events (order_of (past_of machine)) =
+    subst (λ hash. IsLegal (hash_of hash) (past_of machine).events (order_of (past_of machine))) sizes legal in
+    told_legal script.limits.hash (last_of script) text (report script) (subst (λ (r : Recorded). All EventFits r.past.events) is fit)
+    (subst (λ (r : Recorded). IsLegal (hash_of script.limits.hash) r.past.events (order_of r.past)) is here) same (report_spelled script)
 
 -- ---- the report of a record
 
 pub record_text_legal : (hash : HashKind) (told : Record) (text : List ℕ) (denials : List (List Refusal)) → IsRecordOf (recorded told) told → IsLegalRecord told → All EventFits told.events.items →
-    told.limits.hash ≡ hash → text ≡ thread_report hash (state_of (recorded told)) denials → IsLegalText text (told_in hash (state_of (recorded told)))
+    told.limits.hash ≡ hash → text ≡ thread_report hash (recorded_in (recorded told)) denials → IsLegalText text (told_in hash (past_of (recorded told)))
 record_text_legal hash told text denials its (world, explains, shows) fit same is =
-    let state = state_of (recorded told) in
+    let state = recorded_in (recorded told) in
     let legal : IsLegal (hash_of told.limits.hash) told.events.items told.order.items = (world, explains) in
     let by_hash : IsLegal (hash_of hash) told.events.items told.order.items = subst (λ h. IsLegal (hash_of h) told.events.items told.order.items) same legal in
-    let by_events : IsLegal (hash_of hash) state.events told.order.items = subst (λ es. IsLegal (hash_of hash) es told.order.items) its.history by_hash in
+    let by_events : IsLegal (hash_of hash) state.past.events told.order.items = subst (λ es. IsLegal (hash_of hash) es told.order.items) its.history by_hash in
     told_legal hash state text (thread_report hash state denials) (subst (All EventFits) its.history fit)
-    (subst (IsLegal (hash_of hash) state.events) its.order by_events) is (thread_report_spelled hash state denials)
+    (subst (IsLegal (hash_of hash) state.past.events) its.order by_events) is (thread_report_spelled hash state denials)
 
 -- ---- what is written
 
 pub is_report : AloneItEnds → ClosesEnd → (text : List ℕ) (script : Script) (bytes : List ℕ) → script_of text ≡ Ok script → bytes ≡ report script →
-    IsLegalText bytes (told_in script.limits.hash (last_state script)) → IsReport text bytes
+    IsLegalText bytes (told_in script.limits.hash (last_of script).past) → IsReport text bytes
 is_report law closes text script bytes is whole right = record {
   script = script;
   read = is;
   whole = whole;
   legal = right;
-  judged = judged_legal bytes (told_in script.limits.hash (last_state script)) right (subst IsShort (sym whole) (report_short text script is));
+  judged = judged_legal bytes (told_in script.limits.hash (last_of script).past) right (subst IsShort (sym whole) (report_short text script is));
   ends = each_line_ends law closes text script is;
 }
 
 pub appends_judged : (old new : Option (List ℕ)) (text bytes : List ℕ) → IsReport text bytes → Appends old new bytes → AppendsJudged old new
-appends_judged old new text bytes is grown = (bytes, told_in is.script.limits.hash (last_state is.script), is.legal, is.judged, grown)
+appends_judged old new text bytes is grown = (bytes, told_in is.script.limits.hash (last_of is.script).past, is.legal, is.judged, grown)

@@ -13,11 +13,11 @@ use Rattle.history_text.specs.Texts.{event_text, order_text}
 use Rattle.history_text.proofs.Feeds.{HasNoFeed, no_feed, no_feed_append, first_line, event_line_none, order_line_none}
 use Rattle.history_text.proofs.Spelled.{hash_none}
 use Rattle.ctrie_commands.specs.Beneath.slot_arena.specs.Heaps.{in_use}
-use Rattle.machine_model.specs.States.{State}
-use Rattle.machine_model.specs.Orders.{order_of}
+use Rattle.ctrie_commands.specs.Beneath.machine_model.specs.Records.{order_of}
 use Rattle.ctrie_commands.specs.Reports.{line, hash_text, denied_text, denied_lines, slots_text, event_lines, last_lines}
 use Rattle.ctrie_commands.specs.Threads.{all_denied, thread_report}
 use Rattle.ctrie_commands.proofs.Spelled.{denied_words, slots_words, denied_none, slots_none}
+use Rattle.ctrie_commands.specs.Recorded.{Recorded}
 
 pub one_line : (l rest : List ℕ) → HasNoFeed l → length (lines_of (line l ++ rest)) ≡ suc (length (lines_of rest))
 one_line l rest none = ap (λ t. length (lines_of t)) (append_assoc l (10 ∷ []) rest) ∙ ap length (first_line l rest none)
@@ -56,17 +56,23 @@ denials_counted actor (denied ∷ more) rest =
       sum_by-cons (λ (d : List Refusal). length d) denied more,
     )
 
-pub last_counted : (state : State) → length (lines_of (last_lines state)) ≡ 2
+pub last_counted : (state : Recorded) → length (lines_of (last_lines state)) ≡ 2
 last_counted state =
-    let slots = slots_text (length (in_use state.heap)) (length state.heap.free) (length state.limbo) in
+    let slots = slots_text (length (in_use state.state.heap)) (length state.state.heap.free) (length state.state.limbo) in
     let last : length (lines_of (line slots)) ≡ 1 =
-    ap (λ t. length (lines_of t)) (sym (append-nil (line slots))) ∙ one_line slots [] (slots_line_none (length (in_use state.heap)) (length state.heap.free) (length state.limbo))
+    ap (λ t. length (lines_of t)) (sym (append-nil (line slots))) ∙ one_line slots [] (slots_line_none (length (in_use state.state.heap)) (length state.state.heap.free) (length state.state.limbo))
     ∙ ap suc (ap length no_lines) in
-    one_line (order_text (order_of state)) (line slots) (order_line_none (order_of state)) ∙ ap suc last
+    one_line (order_text (order_of state.past)) (line slots) (order_line_none (order_of state.past)) ∙ ap suc last
 
 -- the hash, each event, each denial, the order and the slots
-pub thread_report_counted : (hash : HashKind) (state : State) (denials : List (List Refusal)) →
-    length (lines_of (thread_report hash state denials)) ≡ length state.events + sum_by (λ denied. length denied) denials + 3
+pub thread_report_counted : (hash : HashKind) (state : Recorded) (denials : List (List Refusal)) →
+    length (lines_of (thread_report hash state denials)) ≡ length state.past.events + sum_by (λ denied. length denied) denials + 3
 thread_report_counted hash state denials =
     let behind = all_denied 1 denials ++ last_lines state in
-    omega (arith, one_line (hash_text hash) (event_lines state.events ++ behind) (hash_none hash), each_event state.events behind, denials_counted 1 denials (last_lines state), last_counted state)
+    omega (
+      arith,
+      one_line (hash_text hash) (event_lines state.past.events ++ behind) (hash_none hash),
+      each_event state.past.events behind,
+      denials_counted 1 denials (last_lines state),
+      last_counted state,
+    )

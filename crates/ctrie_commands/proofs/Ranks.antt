@@ -7,7 +7,7 @@ use Rattle.std.proofs.lemmas.List.Sums.{sum_by-cons}
 use Rattle.std.proofs.lemmas.List.Elements.{All-nil, All-cons, All-same}
 use Rattle.std.proofs.lemmas.Option.{none-some, same_Some, slice_get-map, slice_get_within}
 use Rattle.std.proofs.lemmas.Slice.Zip.{AllZip-long, AllZip-left}
-use Rattle.machine_model.specs.declared.steps.Limits.{Limits}
+use Rattle.ctrie_commands.specs.Beneath.machine_model.specs.declared.steps.Limits.{Limits}
 use Rattle.atomic_table.specs.Seated.{TableId}
 use Rattle.lock_runner.specs.Seats.{Room, Seated, IsIdle}
 use Rattle.lock_runner.specs.Opening.{fresh_seat, fresh_seats, IsMade}

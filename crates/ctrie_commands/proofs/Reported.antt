@@ -11,9 +11,10 @@ use Rattle.ctrie_base.specs.declared.hashes.HashKind.{HashKind}
 use Rattle.history.specs.Histories.{IsRunning}
 use Rattle.history.proofs.Places.{at_within}
 use Rattle.history_text.specs.Grammar.{EventFits}
-use Rattle.machine_model.specs.declared.steps.Limits.{Limits}
+use Rattle.ctrie_commands.specs.Beneath.machine_model.specs.declared.steps.Limits.{Limits}
 use Rattle.lock_runner.specs.ActorHistory.Answers.{AreAnswersOf}
-use Rattle.ctrie_commands.specs.Beneath.step_machine.specs.Machines.{Taken, state_of}
+use Rattle.ctrie_commands.specs.Recorded.{recorded_in}
+use Rattle.ctrie_commands.specs.Beneath.step_machine.specs.Machines.{Taken, past_of}
 use Rattle.ctrie_commands.specs.Beneath.step_machine.specs.Records.{IsRecordOf}
 use Rattle.ctrie_commands.specs.Beneath.step_machine.specs.declared.records.Record.{Record}
 use Rattle.lock_runner.specs.Boards.{sweeps_in}
@@ -63,7 +64,7 @@ none_missing script limits runner made workers seats is ranks are (actor, low, h
 runs_nothing : (board : Taken) (seats : List Seated) (runner : Room) (k actor : ℕ) (seat : Seated) → IsGathered runner seats board → slice_get seats k ≡ Some seat →
     seat.actor ≡ actor → IsIdle seat → RunsNothing actor board
 runs_nothing board seats runner k actor seat gathered at owns idle id runs =
-    let found = gathered.running k seat at id (subst (λ a. IsRunning (state_of board).events id a) (sym owns) runs) in
+    let found = gathered.running k seat at id (subst (λ a. IsRunning (past_of board).events id a) (sym owns) runs) in
     none-some found.0 (sym idle ∙ found.1)
 
 runs_unless : (board : Taken) (seats : List Seated) (runner : Room) (k actor : ℕ) (worker : Worker) → IsGathered runner seats board → slice_get seats k ≡ Some worker.seat →
@@ -80,7 +81,7 @@ calls_done script runner workers seats board k denied ranks are gathered below a
     let rank = ranks.each k worker found.1 in
     let seat : slice_get seats k ≡ Some worker.seat = ap (λ ss. slice_get ss k) are ∙ to_map (λ (w : Worker). w.seat) workers k worker found.1 in (
       worker.seat.answers,
-      subst (λ a. AreAnswersOf a (state_of board).events worker.seat.answers) rank.actor (gathered.answers k worker.seat seat),
+      subst (λ a. AreAnswersOf a (past_of board).events worker.seat.answers) rank.actor (gathered.answers k worker.seat seat),
       performed_later (k + 1) worker.seat.seen board (calls_of (k + 1) script.lines) (answered_calls worker.seat.answers) denied (gathered.sizes k worker.seat seat)
           (gathered.steps k worker.seat seat)
           (subst (λ ds. Performed (k + 1) worker.seat.seen (calls_of (k + 1) script.lines) (answered_calls worker.seat.answers) ds) found.2 (rank.calls below).0),
@@ -99,8 +100,8 @@ sweeps_done script runner workers seats board denied ranks are gathered at =
     let seat : slice_get seats n ≡ Some worker.seat = ap (λ ss. slice_get ss n) are ∙ to_map (λ (w : Worker). w.seat) workers n worker found.1 in
     let all : sweeps_in board ≡ worker.seat.sweeps = gathered.sweeps ∙ ap (λ ss. sum_by (λ (s : Seated). s.sweeps) ss) are
     ∙ swept_by_last workers n worker ranks.number (λ k w below e. ((ranks.each k w e).calls below).1) found.1 in (
-      subst (λ xs. AreAnswersOf (n + 1) (state_of board).events xs) swept.1
-          (subst (λ a. AreAnswersOf a (state_of board).events worker.seat.answers) rank.actor (gathered.answers n worker.seat seat)),
+      subst (λ xs. AreAnswersOf (n + 1) (past_of board).events xs) swept.1
+          (subst (λ a. AreAnswersOf a (past_of board).events worker.seat.answers) rank.actor (gathered.answers n worker.seat seat)),
       swept_later worker.seat.seen board script.lines (sweeps_in board) denied (gathered.sizes n worker.seat seat) (gathered.steps n worker.seat seat)
           (subst (λ m. Swept worker.seat.seen script.lines m denied) (sym all) (subst (λ ds. Swept worker.seat.seen script.lines worker.seat.sweeps ds) found.2 swept.0)),
       runs_nothing board seats runner n (n + 1) worker.seat gathered seat rank.actor swept.2,
@@ -120,7 +121,7 @@ carried_out script runner made workers seats told is ranks are (here, its, gathe
 -- ---- the report
 
 text_of : (limits : Limits) (told : Record) (text : List ℕ) (hash : HashKind) → IsRecordOf (recorded told) told → told.limits.hash ≡ hash →
-    record_report told text ≡ line (hash_text hash) ++ (event_lines (state_of (recorded told)).events ++ (text ++ last_lines (state_of (recorded told))))
+    record_report told text ≡ line (hash_text hash) ++ (event_lines (past_of (recorded told)).events ++ (text ++ last_lines (recorded_in (recorded told))))
 text_of limits told text hash its same = rw (its.history, its.order, its.used, its.free, its.limbo, same) refl
 
 pub reported : (script : Reading) (runner : Room) (made : List Seated) (workers : List Worker) (seats : List Seated) (told : Record) (text bytes : List ℕ) →
@@ -131,8 +132,8 @@ reported script runner made workers seats told text bytes is ranks are denied (h
     let board = recorded told in
     let hash : told.limits.hash ≡ script.limits.hash = ap (λ (l : Limits). l.hash) (gathered.limits ∙ is.sizes) in
     let denials = map (λ (w : Worker). w.denied.items) workers in
-    let whole : bytes ≡ thread_report script.limits.hash (state_of board) denials = written ∙ text_of told.limits told text script.limits.hash its hash
-    ∙ ap (λ t. line (hash_text script.limits.hash) ++ (event_lines (state_of board).events ++ (t ++ last_lines (state_of board)))) denied in
+    let whole : bytes ≡ thread_report script.limits.hash (recorded_in board) denials = written ∙ text_of told.limits told text script.limits.hash its hash
+    ∙ ap (λ t. line (hash_text script.limits.hash) ++ (event_lines (past_of board).events ++ (t ++ last_lines (recorded_in board)))) denied in
     record {
       board = board;
       denials = denials;

@@ -12,11 +12,13 @@ use Rattle.ctrie_base.specs.declared.hashes.HashKind.{HashKind}
 use Rattle.ctrie_base.specs.declared.refusals.Refusal.{Refusal}
 use Rattle.history.specs.declared.calls.Call.{Call}
 use Rattle.history_text.specs.Grammar.{IsShort}
-use Rattle.machine_model.specs.declared.steps.Limits.{Limits}
-use Rattle.ctrie_commands.specs.Beneath.step_machine.specs.Machines.{Taken, state_of}
+use Rattle.ctrie_commands.specs.Beneath.machine_model.specs.declared.steps.Limits.{Limits}
+use Rattle.ctrie_commands.specs.Beneath.step_machine.specs.Machines.{Taken, past_of}
 use Rattle.lock_runner.specs.declared.accounts.Answer.{Answer}
 use Rattle.lock_runner.specs.ActorHistory.Answers.{AreAnswersOf}
 use Rattle.lock_runner.proofs.ActorHistory.Totals.{total, total_least, total_sum}
+use Rattle.ctrie_commands.specs.Beneath.machine_model.specs.Limits.{bounded}
+use Rattle.ctrie_commands.specs.Recorded.{recorded_in}
 use Rattle.lock_runner.proofs.ActorHistory.Counted.{answered, events_counted, answered_counted}
 use Rattle.script_text.specs.declared.thread_lines.ThreadLine.{ThreadLine}
 use Rattle.script_text.specs.declared.thread_lines.ThreadLine.TheVariants.{Do, Sweep}
@@ -102,29 +104,29 @@ denials_bounded (suc n) (denied ∷ more) given most last number each behind =
 module _ (script : Reading) (board : Taken) (denials : List (List Refusal)) (done : IsCarriedOut script board denials) where
   -- an actor's answers and denials are no more than its calls
   calls_bounded : (k : ℕ) (denied : List Refusal) → k < script.limits.actors → slice_get denials k ≡ Some denied →
-      answered (state_of board).events k + length denied ≤ length (calls_of (k + 1) script.lines)
+      answered (past_of board).events k + length denied ≤ length (calls_of (k + 1) script.lines)
   calls_bounded k denied below at =
       let performed : IsPerformedBy (k + 1) script board denied = done.calls k denied below at in
       let next : k + 1 ≡ suc k = omega arith in
-      let few = answered_counted board.limits board.steps k performed.0 (subst (λ a. AreAnswersOf a (state_of board).events performed.0) next performed.1) in
+      let few = answered_counted (bounded board.limits) board.steps k performed.0 (subst (λ a. AreAnswersOf a (past_of board).events performed.0) next performed.1) in
       omega (arith, few, performed_counted (k + 1) board (calls_of (k + 1) script.lines) (answered_calls performed.0) denied performed.2, length-map performed.0 (λ (a : Answer). a.call))
 
   sweeps_bounded : (denied : List Refusal) → slice_get denials script.limits.actors ≡ Some denied →
-      answered (state_of board).events script.limits.actors + length denied ≤ sweep_lines script.lines
+      answered (past_of board).events script.limits.actors + length denied ≤ sweep_lines script.lines
   sweeps_bounded denied at =
       let n : ℕ = script.limits.actors in
       let swept : IsSweptBy (n + 1) script board denied = done.sweeps denied at in
       let next : n + 1 ≡ suc n = omega arith in
-      omega (arith, answered_counted board.limits board.steps n [] (subst (λ a. AreAnswersOf a (state_of board).events []) next swept.0), swept.1.fewer)
+      omega (arith, answered_counted (bounded board.limits) board.steps n [] (subst (λ a. AreAnswersOf a (past_of board).events []) next swept.0), swept.1.fewer)
 
-  pub short_report : (hash : HashKind) → script.limits.actors ≤ 63 → length script.lines ≤ 100000 → IsShort (thread_report hash (state_of board) denials)
+  pub short_report : (hash : HashKind) → script.limits.actors ≤ 63 → length script.lines ≤ 100000 → IsShort (thread_report hash (recorded_in board) denials)
   short_report hash fit few =
       let n : ℕ = script.limits.actors in
-      let events = (state_of board).events in
+      let events = (past_of board).events in
       let actors : board.limits.actors ≡ suc n = ap (λ (l : Limits). l.actors) done.limits ∙ omega arith in
-      let told = subst (λ m. length events ≤ 2 * total m (answered events) + m) actors (events_counted board.limits board.steps) in
+      let told = subst (λ m. length events ≤ 2 * total m (answered events) + m) actors (events_counted (bounded board.limits) board.steps) in
       let lines = denials_bounded n denials (answered events) (λ k. length (calls_of (k + 1) script.lines)) (sweep_lines script.lines) done.number calls_bounded sweeps_bounded in
-      omega (arith, thread_report_counted hash (state_of board) denials, told, lines, named_counted n script.lines, fit, few)
+      omega (arith, thread_report_counted hash (recorded_in board) denials, told, lines, named_counted n script.lines, fit, few)
 
 -- ---- what is written
 
@@ -132,7 +134,7 @@ pub is_thread_report : (text : List ℕ) (script : Reading) (bytes : List ℕ) �
 unfolding thread_script_of
 is_thread_report text script bytes read is =
     let short = short_report script is.board is.denials is.done script.limits.hash (script_found text script read).1.0 (few_lines thread_dialect text script read) in
-    (script, read, is, judged_legal bytes (told_in script.limits.hash (state_of is.board)) is.legal (subst IsShort (sym is.whole) short))
+    (script, read, is, judged_legal bytes (told_in script.limits.hash (past_of is.board)) is.legal (subst IsShort (sym is.whole) short))
 
 pub each_report : {T : Type 0} (bytes_of : T → List ℕ) (text : List ℕ) (script : Reading) (result : Result T Fault) → thread_script_of text ≡ Ok script →
     IfOk result (λ report. IsReportOf script (bytes_of report)) → IfOk result (λ report. IsThreadReport text (bytes_of report))
@@ -140,4 +142,4 @@ each_report bytes_of text script (Ok report) read is = is_thread_report text scr
 each_report bytes_of text script (Err fault) read is = tt
 
 pub appends_judged : (old new : Option (List ℕ)) (text bytes : List ℕ) → IsThreadReport text bytes → Appends old new bytes → AppendsJudged old new
-appends_judged old new text bytes (script, read, is, judged) grown = (bytes, told_in script.limits.hash (state_of is.board), is.legal, judged, grown)
+appends_judged old new text bytes (script, read, is, judged) grown = (bytes, told_in script.limits.hash (past_of is.board), is.legal, judged, grown)

@@ -17,17 +17,18 @@ use Rattle.history_text.specs.Grammar.{IsNumber, EventFits, SpellEvents, Spell}
 use Rattle.history_text.proofs.Feeds.{HasNoFeed, no_feed, no_feed_decimal, no_feed_spaced}
 use Rattle.history_text.proofs.Spelled.{end_spelled, denied_spelled, events_spelled, whole_spelled}
 use Rattle.ctrie_commands.specs.Beneath.slot_arena.specs.Heaps.{in_use}
-use Rattle.machine_model.specs.States.{State, first_state}
-use Rattle.machine_model.specs.Orders.{order_of}
-use Rattle.machine_model.specs.Machine.{run_from}
-use Rattle.machine_model.proofs.Along.{run-append}
+use Rattle.ctrie_commands.specs.Beneath.machine_model.specs.Records.{order_of}
+use Rattle.ctrie_commands.specs.Beneath.machine_model.specs.Machine.{run_from}
+use Rattle.ctrie_commands.proofs.Carrying.{recorded_append}
 use Rattle.script_text.specs.declared.commands.Command.{Command}
 use Rattle.script_text.specs.Reading.{Reading}
-use Rattle.script_text.specs.Steps.{denial_of, steps_of, after_command, all_steps}
-use Rattle.ctrie_commands.specs.Reports.{line, denied_text, actor_of, told_by, event_lines, added_events, told, all_told, last_lines, last_state, report, denied_lines}
+use Rattle.script_text.specs.Steps.{denial_of, steps_of, all_steps}
+use Rattle.ctrie_commands.specs.Reports.{line, denied_text, actor_of, told_by, event_lines, added_events, told, all_told, last_lines, last_of, report, denied_lines}
 use Rattle.ctrie_commands.specs.Threads.{all_denied, thread_report}
 use Rattle.ctrie_commands.specs.Legality.{told_in}
 use Rattle.ctrie_commands.proofs.Growing.{all_grow, added_split, denied_changes_nothing}
+use Rattle.ctrie_commands.specs.Recorded.{Recorded, after_line, first_recorded, recorded_from}
+use Rattle.ctrie_commands.specs.Beneath.machine_model.specs.Records.{record_from}
 
 -- ---- the words of the lines that are no events
 
@@ -70,26 +71,26 @@ one_denied : (actor : ℕ) (refusal : Refusal) (rest : List ℕ) (events : List 
     SpellEvents (said_lines (line (denied_text actor refusal) ++ rest)) events order
 one_denied actor refusal rest events order later = denied_spelled (spaced (denied_words actor refusal)) rest events order (denied_none actor refusal) later
 
-last_spelled : (state : State) → AllByRecursion IsNumber (order_of state) → SpellEvents (said_lines (last_lines state)) [] (order_of state)
+last_spelled : (state : Recorded) → AllByRecursion IsNumber (order_of state.past) → SpellEvents (said_lines (last_lines state)) [] (order_of state.past)
 last_spelled state fit =
-    let used = length (in_use state.heap) in
-    let free = length state.heap.free in
-    let limbo = length state.limbo in
-    end_spelled (order_of state) (spaced (slots_words used free limbo)) fit (slots_none used free limbo)
+    let used = length (in_use state.state.heap) in
+    let free = length state.state.heap.free in
+    let limbo = length state.state.limbo in
+    end_spelled (order_of state.past) (spaced (slots_words used free limbo)) fit (slots_none used free limbo)
 
 -- ---- what the lines of a script tell
 
 -- the events that these lines add
-abbrev all_added : State → List Command → List Event
-all_added state commands = drop (length state.events) (run_from state (all_steps state commands)).events
+abbrev all_added : Recorded → List Command → List Event
+all_added state commands = drop (length state.past.events) (recorded_from state (all_steps state.state commands)).past.events
 
-by_denial : (state : State) (command : Command) (denial : Option Refusal) → denial_of state command ≡ denial → (rest : List ℕ) (later : List Event) (order : List ℕ) →
+by_denial : (state : Recorded) (command : Command) (denial : Option Refusal) → denial_of state.state command ≡ denial → (rest : List ℕ) (later : List Event) (order : List ℕ) →
     AllByRecursion EventFits (added_events state command) → SpellEvents (said_lines rest) later order →
     SpellEvents (said_lines (told_by denial (actor_of command) (added_events state command) ++ rest)) (added_events state command ++ later) order
 by_denial state command None e rest later order fit behind = events_spelled (added_events state command) rest later order fit behind
 by_denial state command (Some refusal) e rest later order fit behind =
     let none : added_events state command ≡ [] =
-    ap (λ (s : State). drop (length state.events) s.events) (denied_changes_nothing state command refusal e) ∙ drop_all (length state.events) state.events (omega arith) in
+    ap (λ (s : Recorded). drop (length state.past.events) s.past.events) (denied_changes_nothing state command refusal e) ∙ drop_all (length state.past.events) state.past.events (omega arith) in
     subst (λ added. SpellEvents (said_lines (line (denied_text (actor_of command) refusal) ++ rest)) (added ++ later) order) (sym none)
     (one_denied (actor_of command) refusal rest later order behind)
 
@@ -97,38 +98,38 @@ fit_parts : (xs ys : List Event) → AllByRecursion EventFits (xs ++ ys) → All
 fit_parts [] ys fit = (tt, fit)
 fit_parts (x ∷ xs) ys fit = let parts = fit_parts xs ys fit.1 in ((fit.0, parts.0), parts.1)
 
-added_on : (state : State) (command : Command) (more : List Command) → all_added state (command ∷ more) ≡ added_events state command ++ all_added (after_command state command) more
+added_on : (state : Recorded) (command : Command) (more : List Command) → all_added state (command ∷ more) ≡ added_events state command ++ all_added (after_line state command) more
 unfolding all_steps
 added_on state command more =
-    let after = after_command state command in
-    let later = all_steps after more in
-    ap (λ (s : State). drop (length state.events) s.events) (run-append state (steps_of state command) later)
-    ∙ added_split state.events after.events (run_from after later).events (all_grow state (steps_of state command)) (all_grow after later)
+    let after = after_line state command in
+    let later = all_steps after.state more in
+    ap (λ (s : Recorded). drop (length state.past.events) s.past.events) (recorded_append state (steps_of state.state command) later)
+    ∙ added_split state.past.events after.past.events (recorded_from after later).past.events (all_grow state (steps_of state.state command)) (all_grow after later)
 
-none_added : (state : State) → all_added state [] ≡ []
-unfolding all_steps run_from
-none_added state = drop_all (length state.events) state.events (omega arith)
+none_added : (state : Recorded) → all_added state [] ≡ []
+unfolding all_steps run_from record_from
+none_added state = drop_all (length state.past.events) state.past.events (omega arith)
 
-all_spelled : (commands : List Command) (state : State) (rest order : List ℕ) → AllByRecursion EventFits (all_added state commands) → SpellEvents (said_lines rest) [] order →
+all_spelled : (commands : List Command) (state : Recorded) (rest order : List ℕ) → AllByRecursion EventFits (all_added state commands) → SpellEvents (said_lines rest) [] order →
     SpellEvents (said_lines (all_told state commands ++ rest)) (all_added state commands) order
 unfolding all_told
 all_spelled [] state rest order fit behind = subst (λ added. SpellEvents (said_lines rest) added order) (sym (none_added state)) behind
 all_spelled (command ∷ more) state rest order fit behind =
-    let after = after_command state command in
+    let after = after_line state command in
     let split = added_on state command more in
     let fits = fit_parts (added_events state command) (all_added after more) (subst (AllByRecursion EventFits) split fit) in
     let later = all_spelled more after rest order fits.1 behind in
     subst (λ added. SpellEvents (said_lines (all_told state (command ∷ more) ++ rest)) added order) (sym split)
     (subst (λ text. SpellEvents (said_lines text) (added_events state command ++ all_added after more) order) (sym (append_assoc (told state command) (all_told after more) rest))
-    (by_denial state command (denial_of state command) refl (all_told after more ++ rest) (all_added after more) order fits.0 later))
+    (by_denial state command (denial_of state.state command) refl (all_told after more ++ rest) (all_added after more) order fits.0 later))
 
-pub report_spelled : (script : Reading) → AllByRecursion EventFits (last_state script).events → AllByRecursion IsNumber (order_of (last_state script)) →
-    Spell (said_lines (report script)) (told_in script.limits.hash (last_state script))
-unfolding report first_state
+pub report_spelled : (script : Reading) → AllByRecursion EventFits (last_of script).past.events → AllByRecursion IsNumber (order_of (last_of script).past) →
+    Spell (said_lines (report script)) (told_in script.limits.hash (last_of script).past)
+unfolding report
 report_spelled script fit numbers =
-    let last = last_state script in
-    whole_spelled script.limits.hash last.events (order_of last) (all_told (first_state script.limits) script.lines ++ last_lines last)
-    (all_spelled script.lines (first_state script.limits) (last_lines last) (order_of last) fit (last_spelled last numbers))
+    let last = last_of script in
+    whole_spelled script.limits.hash last.past.events (order_of last.past) (all_told (first_recorded script.limits) script.lines ++ last_lines last)
+    (all_spelled script.lines (first_recorded script.limits) (last_lines last) (order_of last.past) fit (last_spelled last numbers))
 
 -- ---- what threads made of a script
 
@@ -147,10 +148,10 @@ all_denials_spelled actor (denied ∷ more) rest order behind =
     subst (λ text. SpellEvents (said_lines text) [] order) (sym (append_assoc (denied_lines actor denied) (all_denied (actor + 1) more) rest))
     (denials_spelled actor denied (all_denied (actor + 1) more ++ rest) order (all_denials_spelled (actor + 1) more rest order behind))
 
-pub thread_report_spelled : (hash : HashKind) (state : State) (denials : List (List Refusal)) → AllByRecursion EventFits state.events → AllByRecursion IsNumber (order_of state) →
-    Spell (said_lines (thread_report hash state denials)) (told_in hash state)
+pub thread_report_spelled : (hash : HashKind) (state : Recorded) (denials : List (List Refusal)) → AllByRecursion EventFits state.past.events → AllByRecursion IsNumber (order_of state.past) →
+    Spell (said_lines (thread_report hash state denials)) (told_in hash state.past)
 thread_report_spelled hash state denials fit numbers =
     let rest = all_denied 1 denials ++ last_lines state in
-    let behind = events_spelled state.events rest [] (order_of state) fit (all_denials_spelled 1 denials (last_lines state) (order_of state) (last_spelled state numbers)) in
-    let text = event_lines state.events ++ rest in
-    whole_spelled hash state.events (order_of state) text (subst (λ events. SpellEvents (said_lines text) events (order_of state)) (append-nil state.events) behind)
+    let behind = events_spelled state.past.events rest [] (order_of state.past) fit (all_denials_spelled 1 denials (last_lines state) (order_of state.past) (last_spelled state numbers)) in
+    let text = event_lines state.past.events ++ rest in
+    whole_spelled hash state.past.events (order_of state.past) text (subst (λ events. SpellEvents (said_lines text) events (order_of state.past)) (append-nil state.past.events) behind)

@@ -1,4 +1,5 @@
 -- What lies below this crate, named through the nearest crates alone: crates.txt lists only these, since the toolchain goes along each of its paths.
+pub use Rattle.lock_runner.specs.Beneath.machine_model as machine_model
 pub use Rattle.lock_runner.specs.Beneath.slot_arena as slot_arena
 pub use Rattle.lock_runner.specs.Beneath.proof_generations as proof_generations
 pub use Rattle.lock_runner.specs.Beneath.proof_order as proof_order

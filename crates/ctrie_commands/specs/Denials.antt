@@ -1,7 +1,7 @@
 -- Why a step is denied.
 use Rattle.std.specs.Prelude.{Option, Some, None, Ok, Err}
 use Rattle.ctrie_base.specs.declared.refusals.Refusal.{Refusal}
-use Rattle.machine_model.specs.Machine.{Answer}
+use Rattle.ctrie_commands.specs.Beneath.machine_model.specs.Machine.{Answer}
 
 abbrev pub denial_in : Answer → Option Refusal
 denial_in (Ok done) = None

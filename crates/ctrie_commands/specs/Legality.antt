@@ -6,13 +6,12 @@ use Rattle.ctrie_base.specs.declared.hashes.HashKind.{HashKind}
 use Rattle.history.specs.Orders.{IsLegal}
 use Rattle.history_text.specs.Reading.{Reading}
 use Rattle.history_text.specs.Grammar.{IsSpelling}
-use Rattle.machine_model.specs.States.{State}
-use Rattle.machine_model.specs.Orders.{order_of}
+use Rattle.ctrie_commands.specs.Beneath.machine_model.specs.Records.{Record, order_of}
 use Rattle.history_commands.specs.Verdicts.{IsVerdict}
 
 -- what a machine has to tell: which hash it uses, its history and its order
-abbrev pub told_in : HashKind → State → Reading
-told_in hash state = record { hash = hash; events = state.events; order = order_of state }
+abbrev pub told_in : HashKind → Record → Reading
+told_in hash past = record { hash = hash; events = past.events; order = order_of past }
 
 -- the text spells this history and this order, and the order is legal for the history
 pub record IsLegalText (text : List ℕ) (told : Reading) : Type 0 where

@@ -10,14 +10,13 @@ use Rattle.history.specs.declared.events.Event.{Event}
 use Rattle.text_lines.specs.Words.{spaced}
 use Rattle.history_text.specs.Texts.{event_text, order_text}
 use Rattle.ctrie_commands.specs.Beneath.slot_arena.specs.Heaps.{in_use}
-use Rattle.machine_model.specs.States.{State, first_state}
-use Rattle.machine_model.specs.Orders.{order_of}
-use Rattle.machine_model.specs.Machine.{run}
+use Rattle.ctrie_commands.specs.Beneath.machine_model.specs.Records.{order_of}
 use Rattle.ctrie_commands.specs.Beneath.step_machine.specs.declared.records.Record.{Record}
 use Rattle.script_text.specs.declared.commands.Command.{Command}
 use Rattle.script_text.specs.declared.commands.Command.TheVariants.{Begin, Go, Until, Finish, Do, Sweep}
 use Rattle.script_text.specs.Reading.{Reading}
-use Rattle.script_text.specs.Steps.{denial_of, after_command, all_steps}
+use Rattle.script_text.specs.Steps.{denial_of, all_steps}
+use Rattle.ctrie_commands.specs.Recorded.{Recorded, after_line, first_recorded, recorded_from}
 
 -- each line of a report ends with a line feed
 abbrev pub line : List ℕ → List ℕ
@@ -55,31 +54,31 @@ told_by (Some refusal) actor added = line (denied_text actor refusal)
 told_by None actor added = event_lines added
 
 -- the events of a line of the script
-abbrev pub added_events : State → Command → List Event
-added_events state command = drop (length state.events) (after_command state command).events
+abbrev pub added_events : Recorded → Command → List Event
+added_events before command = drop (length before.past.events) (after_line before command).past.events
 
-abbrev pub told : State → Command → List ℕ
-told state command = told_by (denial_of state command) (actor_of command) (added_events state command)
+abbrev pub told : Recorded → Command → List ℕ
+told before command = told_by (denial_of before.state command) (actor_of command) (added_events before command)
 
 -- what these lines of the script tell, one after the other
-unfoldable pub all_told : State → List Command → List ℕ
-all_told state [] = []
-all_told state (command ∷ more) = told state command ++ all_told (after_command state command) more
+unfoldable pub all_told : Recorded → List Command → List ℕ
+all_told before [] = []
+all_told before (command ∷ more) = told before command ++ all_told (after_line before command) more
 
--- the last lines: the order and the slots; and those of the state after a run
+-- the last lines: the order and the slots; and those after a run
 abbrev pub end_lines : List ℕ → ℕ → ℕ → ℕ → List ℕ
 end_lines order used free limbo = line (order_text order) ++ line (slots_text used free limbo)
 
-abbrev pub last_lines : State → List ℕ
-last_lines state = end_lines (order_of state) (length (in_use state.heap)) (length state.heap.free) (length state.limbo)
+abbrev pub last_lines : Recorded → List ℕ
+last_lines last = end_lines (order_of last.past) (length (in_use last.state.heap)) (length last.state.heap.free) (length last.state.limbo)
 
--- the state after the steps that all lines of the script name
-abbrev pub last_state : Reading → State
-last_state script = run script.limits (all_steps (first_state script.limits) script.lines)
+-- the state after the steps that all lines of the script name, and what is recorded of them
+abbrev pub last_of : Reading → Recorded
+last_of script = recorded_from (first_recorded script.limits) (all_steps (first_recorded script.limits).state script.lines)
 
 -- the report
 unfoldable pub report : Reading → List ℕ
-report script = line (hash_text script.limits.hash) ++ (all_told (first_state script.limits) script.lines ++ last_lines (last_state script))
+report script = line (hash_text script.limits.hash) ++ (all_told (first_recorded script.limits) script.lines ++ last_lines (last_of script))
 
 -- a line for each denial of an actor
 abbrev pub denied_lines : ℕ → List Refusal → List ℕ

@@ -3,7 +3,7 @@ use Rattle.std.specs.Prelude.{◌≡◌, ℕ, true, List, Option, Ok}
 use Rattle.ctrie_base.specs.declared.refusals.Refusal.{Refusal}
 use Rattle.script_text.specs.Reading.{Reading, script_of}
 use Rattle.ctrie_commands.specs.Endings.{EachLineEnds}
-use Rattle.ctrie_commands.specs.Reports.{last_state, report}
+use Rattle.ctrie_commands.specs.Reports.{last_of, report}
 use Rattle.history_commands.specs.Verdicts.{IsVerdict}
 use Rattle.ctrie_commands.specs.Legality.{told_in, IsLegalText}
 use Rattle.history_commands.specs.Faults.{IsFault}
@@ -15,7 +15,7 @@ pub record IsReport (text bytes : List ℕ) : Type 0 where
   pub script : Reading
   pub read : script_of text ≡ Ok script
   pub whole : bytes ≡ report script
-  pub legal : IsLegalText bytes (told_in script.limits.hash (last_state script))
+  pub legal : IsLegalText bytes (told_in script.limits.hash (last_of script).past)
   pub judged : IsVerdict bytes true
   pub ends : EachLineEnds script
 

@@ -7,13 +7,13 @@ use Rattle.ctrie_base.specs.declared.hashes.HashKind.{HashKind}
 use Rattle.history.specs.Histories.{IsRunning}
 use Rattle.history_commands.specs.Faults.{IsFault}
 use Rattle.history_commands.specs.Written.{AppendsSuch, AppendsPartOf}
-use Rattle.machine_model.specs.declared.steps.Limits.{Limits}
-use Rattle.machine_model.specs.States.{State}
-use Rattle.ctrie_commands.specs.Beneath.step_machine.specs.Machines.{Taken, state_of, AreTaken}
+use Rattle.ctrie_commands.specs.Beneath.machine_model.specs.declared.steps.Limits.{Limits}
+use Rattle.ctrie_commands.specs.Beneath.step_machine.specs.Machines.{Taken, past_of, AreTaken}
 use Rattle.lock_runner.specs.declared.accounts.Answer.{Answer}
 use Rattle.lock_runner.specs.ActorHistory.Answers.{AreAnswersOf}
 use Rattle.lock_runner.specs.Boards.{sweeps_in}
 use Rattle.script_text.specs.Threads.Reading.{Reading, thread_script_of}
+use Rattle.ctrie_commands.specs.Recorded.{Recorded, recorded_in}
 use Rattle.ctrie_commands.specs.Reports.{line, hash_text, event_lines, last_lines, denied_lines}
 use Rattle.history_commands.specs.Verdicts.{IsVerdict}
 use Rattle.ctrie_commands.specs.Legality.{told_in, IsLegalText}
@@ -27,19 +27,19 @@ with_sweeper limits = record limits { actors = limits.actors + 1 }
 
 -- each operation of the actor that has begun has ended
 abbrev pub RunsNothing : ℕ → Taken → Type 0
-RunsNothing actor board = (id : ℕ) → ¬ IsRunning (state_of board).events id actor
+RunsNothing actor board = (id : ℕ) → ¬ IsRunning (past_of board).events id actor
 
 -- The answers of the actor in the history are those of its calls in the lines, in their order, but for those that the definition denied. Nothing runs
 -- still, unless the machine has taken all its steps.
 abbrev pub IsPerformedBy : ℕ → Reading → Taken → List Refusal → Type 0
 IsPerformedBy actor script board denied =
-    (answers : List Answer) × AreAnswersOf actor (state_of board).events answers
+    (answers : List Answer) × AreAnswersOf actor (past_of board).events answers
     × Performed actor board (calls_of actor script.lines) (answered_calls answers) denied × (RunsNothing actor board ⊎ Contains denied Spent)
 
 -- the actor performed nothing, and the steps of the sweep are those that the lines name, unless the definition denied one, for each line one at most
 abbrev pub IsSweptBy : ℕ → Reading → Taken → List Refusal → Type 0
 IsSweptBy actor script board denied =
-    AreAnswersOf actor (state_of board).events [] × Swept board script.lines (sweeps_in board) denied × RunsNothing actor board
+    AreAnswersOf actor (past_of board).events [] × Swept board script.lines (sweeps_in board) denied × RunsNothing actor board
 
 -- The machine has taken each of its steps. The denials of actor k + 1 stand at the place k, the sweep's behind all others.
 -- Each actor's calls were performed in the order of the lines, and the last actor took the steps of the sweep.
@@ -58,8 +58,8 @@ all_denied actor [] = []
 all_denied actor (denied ∷ more) = denied_lines actor denied ++ all_denied (actor + 1) more
 
 -- the report: all events, behind them the denied lines by rising actor, and the last lines of the state
-abbrev pub thread_report : HashKind → State → List (List Refusal) → List ℕ
-thread_report hash state denials = line (hash_text hash) ++ (event_lines state.events ++ (all_denied 1 denials ++ last_lines state))
+abbrev pub thread_report : HashKind → Recorded → List (List Refusal) → List ℕ
+thread_report hash last denials = line (hash_text hash) ++ (event_lines last.past.events ++ (all_denied 1 denials ++ last_lines last))
 
 -- ---- what is answered and written
 
@@ -68,8 +68,8 @@ pub record IsReportOf (script : Reading) (bytes : List ℕ) : Type 0 where
   pub board : Taken
   pub denials : List (List Refusal)
   pub done : IsCarriedOut script board denials
-  pub whole : bytes ≡ thread_report script.limits.hash (state_of board) denials
-  pub legal : IsLegalText bytes (told_in script.limits.hash (state_of board))
+  pub whole : bytes ≡ thread_report script.limits.hash (recorded_in board) denials
+  pub legal : IsLegalText bytes (told_in script.limits.hash (past_of board))
 
 -- the text is a script for threads without a fault, and the bytes are such a report, of which a check answers true
 abbrev pub IsThreadReport : List ℕ → List ℕ → Type 0

@@ -6,9 +6,9 @@ use Rattle.std.specs.Global.{Vec}
 use Rattle.ctrie_base.specs.declared.refusals.Refusal.{Refusal}
 use Rattle.history.specs.declared.calls.Call.{Call}
 use Rattle.ctrie_base.specs.declared.refusals.Refusal.TheVariants.{Spent}
-use Rattle.machine_model.specs.declared.steps.Step.TheVariants as step
-use Rattle.machine_model.specs.Machine.{next}
-use Rattle.ctrie_commands.specs.Beneath.step_machine.specs.Machines.{Taken, state_of}
+use Rattle.ctrie_commands.specs.Beneath.machine_model.specs.declared.steps.Step.TheVariants as step
+use Rattle.ctrie_commands.specs.Beneath.machine_model.specs.Machine.{next}
+use Rattle.ctrie_commands.specs.Beneath.step_machine.specs.Machines.{Taken, past_of, state_of}
 use Rattle.lock_runner.specs.declared.accounts.Answer.{Answer}
 use Rattle.lock_runner.specs.ActorHistory.Answers.{AreAnswersOf}
 use Rattle.lock_runner.specs.Boards.{GoesOn}
@@ -62,7 +62,7 @@ Denies actor call refusal board =
 
 -- just these calls of the actor have been answered
 abbrev pub HasAnswered : ℕ → List Call → Taken → Type 0
-HasAnswered actor calls board = (answers : List Answer) × AreAnswersOf actor (state_of board).events answers × (answered_calls answers ≡ calls)
+HasAnswered actor calls board = (answers : List Answer) × AreAnswersOf actor (past_of board).events answers × (answered_calls answers ≡ calls)
 
 -- it denies the call where just these calls of the actor have been answered
 abbrev pub DeniesBehind : ℕ → List Call → Call → Refusal → Taken → Type 0
@@ -100,7 +100,7 @@ HasPerformed call before after =
     ((answer : Answer) × (after.seat.answers ≡ before.seat.answers ++ answer ∷ []) × (answer.call ≡ call) × (after.denied.items ≡ before.denied.items)
     × IsIdle after.seat)
     ⊎ ((after.seat.answers ≡ before.seat.answers) × (refusal : Refusal) × (after.denied.items ≡ before.denied.items ++ refusal ∷ [])
-    × Denies after.seat.actor call refusal after.seat.seen × AreAnswersOf after.seat.actor (state_of after.seat.seen).events after.seat.answers
+    × Denies after.seat.actor call refusal after.seat.seen × AreAnswersOf after.seat.actor (past_of after.seat.seen).events after.seat.answers
     × LeavesNothing refusal before after)
 
 -- the call that a line names, if it names one, was performed

@@ -3,14 +3,14 @@
 ghost use Rattle.std.specs.Prelude.{◌≡◌, ◌++◌, Some, All, IfOk, OnOk, drop};
 ghost use Rattle.std.specs.String.{string_bytes};
 ghost use Rattle.history_text.specs.Grammar.{EventFits};
-ghost use Rattle.machine_model.specs.Orders.{order_of};
-ghost use Rattle.machine_model.specs.Machine.{run_from};
-ghost use Rattle.script_text.specs.Steps.{after_command, all_steps};
+ghost use Rattle.ctrie_commands.specs.Beneath.machine_model.specs.Records.{order_of};
+ghost use Rattle.script_text.specs.Steps.{all_steps};
 ghost use Rattle.script_text.specs.Views.{read};
-ghost use Rattle.ctrie_commands.specs.Beneath.step_machine.specs.Machines.{state_of};
+ghost use Rattle.ctrie_commands.specs.Beneath.step_machine.specs.Machines.{past_of, state_of};
 ghost use Rattle.ctrie_commands.specs.Beneath.step_machine.specs.Legality.{IsLegalFor};
 ghost use Rattle.ctrie_commands.specs.Legality.{told_in, IsLegalText};
-ghost use Rattle.ctrie_commands.specs.Reports.{denied_text, slots_text, event_lines, actor_of, told, all_told, end_lines, last_lines, last_state, report, denied_lines, record_report};
+ghost use Rattle.ctrie_commands.specs.Recorded.{after_line, recorded_from, recorded_in};
+ghost use Rattle.ctrie_commands.specs.Reports.{denied_text, slots_text, event_lines, actor_of, told, all_told, end_lines, last_lines, last_of, report, denied_lines, record_report};
 
 use crate::stepping::carry_out;
 use ctrie_base::Refusal;
@@ -61,7 +61,7 @@ impl fmt::Display for SlotsText {
 /// memory is refused.
 pub fn report_of(alloc: Global, script: &Script<Command>) -> Result<String, AllocError>
     ensures text { IfOk result (λ text. string_bytes text ≡ report (read script.now)) }
-    ensures legal { IfOk result (λ text. IsLegalText (string_bytes text) (told_in script.now.limits.hash (last_state (read script.now)))) }
+    ensures legal { IfOk result (λ text. IsLegalText (string_bytes text) (told_in script.now.limits.hash (last_of (read script.now)).past)) }
 {
     // The limits that a script says are in range.
     let Ok(mut machine) = Machine::new(alloc, script.limits) else {
@@ -77,8 +77,8 @@ pub fn report_of(alloc: Global, script: &Script<Command>) -> Result<String, Allo
 
 /// The machine's order is legal for its history, whose events have a spelling.
 fn history_is_legal(machine: &Machine)
-    ensures fit { All EventFits (state_of machine.now).events }
-    ensures legal { IsLegalFor machine.now (order_of (state_of machine.now)) }
+    ensures fit { All EventFits (past_of machine.now).events }
+    ensures legal { IsLegalFor machine.now (order_of (past_of machine.now)) }
 {
     events_fit(machine.events());
 }
@@ -89,8 +89,8 @@ fn tell_all(
     machine: &mut Machine,
     commands: &[Command],
 ) -> Result<(), AllocError>
-    ensures state { OnOk result (state_of machine.new ≡ run_from (state_of machine.old) (all_steps (state_of machine.old) commands.now)) }
-    ensures text { OnOk result (string_bytes text.new ≡ string_bytes text.old ++ all_told (state_of machine.old) commands.now) }
+    ensures state { OnOk result (recorded_in machine.new ≡ recorded_from (recorded_in machine.old) (all_steps (state_of machine.old) commands.now)) }
+    ensures text { OnOk result (string_bytes text.new ≡ string_bytes text.old ++ all_told (recorded_in machine.old) commands.now) }
 {
     for command in commands {
         tell(text, machine, *command)?;
@@ -100,8 +100,8 @@ fn tell_all(
 
 /// Carries out a command, and adds what it tells: that it is denied, or else the events that it added.
 fn tell(text: &mut String, machine: &mut Machine, command: Command) -> Result<(), AllocError>
-    ensures state { OnOk result (state_of machine.new ≡ after_command (state_of machine.old) command) }
-    ensures text { OnOk result (string_bytes text.new ≡ string_bytes text.old ++ told (state_of machine.old) command) }
+    ensures state { OnOk result (recorded_in machine.new ≡ after_line (recorded_in machine.old) command) }
+    ensures text { OnOk result (string_bytes text.new ≡ string_bytes text.old ++ told (recorded_in machine.old) command) }
 {
     let before = machine.events().len();
     match carry_out(machine, command)? {
@@ -139,7 +139,7 @@ fn tell_events(text: &mut String, events: &[Event]) -> Result<(), AllocError>
 
 /// Adds the last lines: the order and the slots.
 fn tell_last(text: &mut String, machine: &Machine) -> Result<(), AllocError>
-    ensures { OnOk result (string_bytes text.new ≡ string_bytes text.old ++ last_lines (state_of machine.now)) }
+    ensures { OnOk result (string_bytes text.new ≡ string_bytes text.old ++ last_lines (recorded_in machine.now)) }
 {
     let Ok(order) = machine.order() else {
         return Err(AllocError);

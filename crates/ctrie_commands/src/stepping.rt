@@ -1,16 +1,16 @@
 //! Carrying out the commands of a script.
 
 ghost use Rattle.std.specs.Prelude.{◌≡◌, ◌∷◌, [], IfOk, OnOk, None, replicate};
-ghost use Rattle.machine_model.specs.Machine.{next, next_state, run_from, begin_denial, go_denial};
-ghost use Rattle.machine_model.specs.declared.steps.Step.TheVariants.{Begin, Sweep};
-ghost use Rattle.script_text.specs.Steps.{stops, going, doing, denial_of, after_command};
+ghost use Rattle.ctrie_commands.specs.Beneath.machine_model.specs.Machine.{next, begin_denial, go_denial};
+ghost use Rattle.ctrie_commands.specs.Beneath.machine_model.specs.declared.steps.Step.TheVariants.{Begin, Sweep};
+ghost use Rattle.script_text.specs.Steps.{stops, going, doing, denial_of};
 ghost use Rattle.ctrie_commands.specs.Beneath.step_machine.specs.Machines.{state_of};
 ghost use Rattle.ctrie_commands.specs.Denials.{denial_in};
+ghost use Rattle.ctrie_commands.specs.Recorded.{recorded_in, recorded_next, recorded_from, after_line};
 
 use ctrie_base::{Kind, Refusal};
 use history::Call;
-use lock_runner::{GO_LIMIT, Machine};
-use machine_model::Step;
+use lock_runner::{GO_LIMIT, Machine, Step};
 use script_text::Command;
 use std::alloc::AllocError;
 
@@ -18,7 +18,7 @@ use std::alloc::AllocError;
 /// have been taken.
 #[tactic(auto, unfolding(script_text::specs::Steps::steps_of, script_text::specs::Steps::denial_of))]
 pub fn carry_out(machine: &mut Machine, command: Command) -> Result<Option<Refusal>, AllocError>
-    ensures state { OnOk result (state_of machine.new ≡ after_command (state_of machine.old) command) }
+    ensures state { OnOk result (recorded_in machine.new ≡ after_line (recorded_in machine.old) command) }
     ensures denial { IfOk result (λ denial. denial ≡ denial_of (state_of machine.old) command) }
 {
     match command {
@@ -32,8 +32,9 @@ pub fn carry_out(machine: &mut Machine, command: Command) -> Result<Option<Refus
 }
 
 /// Takes a step, and gives why it is denied, if it is.
+#[tactic(auto, using(crate::proofs::Carrying::taken))]
 fn take(machine: &mut Machine, step: Step) -> Result<Option<Refusal>, AllocError>
-    ensures state { OnOk result (state_of machine.new ≡ next_state (state_of machine.old) step) }
+    ensures state { OnOk result (recorded_in machine.new ≡ recorded_next (recorded_in machine.old) step) }
     ensures denial { IfOk result (λ denial. denial ≡ denial_in (next (state_of machine.old) step)) }
 {
     match machine.apply(step) {
@@ -44,9 +45,8 @@ fn take(machine: &mut Machine, step: Step) -> Result<Option<Refusal>, AllocError
 }
 
 /// Begins the actor's operation.
-#[tactic(auto, using(crate::proofs::Carrying::begin_denied), unfolding(machine_model::specs::Machine::run_from))]
 fn begin(machine: &mut Machine, actor: u8, call: Call) -> Result<Option<Refusal>, AllocError>
-    ensures state { OnOk result (state_of machine.new ≡ run_from (state_of machine.old) (Begin actor call ∷ [])) }
+    ensures state { OnOk result (recorded_in machine.new ≡ recorded_from (recorded_in machine.old) (Begin actor call ∷ [])) }
     ensures denial { IfOk result (λ denial. denial ≡ begin_denial (state_of machine.old) actor call) }
 {
     take(machine, Step::Begin { actor, call })
@@ -54,7 +54,7 @@ fn begin(machine: &mut Machine, actor: u8, call: Call) -> Result<Option<Refusal>
 
 /// Begins the actor's operation and, if it may begin, takes steps until it has ended.
 fn perform(machine: &mut Machine, actor: u8, call: Call) -> Result<Option<Refusal>, AllocError>
-    ensures state { OnOk result (state_of machine.new ≡ run_from (state_of machine.old)
+    ensures state { OnOk result (recorded_in machine.new ≡ recorded_from (recorded_in machine.old)
         (doing actor (Begin actor call) (begin_denial (state_of machine.old) actor call) (state_of machine.old))) }
     ensures denial { IfOk result (λ denial. denial ≡ begin_denial (state_of machine.old) actor call) }
 {
@@ -74,7 +74,7 @@ fn go(
     wanted: Option<Kind>,
     most: u32,
 ) -> Result<Option<Refusal>, AllocError>
-    ensures state { OnOk result (state_of machine.new ≡ run_from (state_of machine.old) (going most wanted actor (state_of machine.old))) }
+    ensures state { OnOk result (recorded_in machine.new ≡ recorded_from (recorded_in machine.old) (going most wanted actor (state_of machine.old))) }
     ensures denial { IfOk result (λ denial. denial ≡ go_denial (state_of machine.old) actor) }
 {
     let denial = machine.denial(Step::Go { actor });
@@ -89,7 +89,7 @@ fn go_on(
     wanted: Option<Kind>,
     most: u32,
 ) -> Result<(), AllocError>
-    ensures { OnOk result (state_of machine.new ≡ run_from (state_of machine.old) (going most wanted actor (state_of machine.old))) }
+    ensures { OnOk result (recorded_in machine.new ≡ recorded_from (recorded_in machine.old) (going most wanted actor (state_of machine.old))) }
 {
     for _ in 0..most {
         if stops(wanted, machine.next_kind(actor)) {
@@ -115,7 +115,7 @@ fn stops(wanted: Option<Kind>, kind: Option<Kind>) -> bool
 
 /// Takes so many steps of the sweep. They are never told of, not even where they are denied.
 fn sweep(machine: &mut Machine, times: u32) -> Result<Option<Refusal>, AllocError>
-    ensures state { OnOk result (state_of machine.new ≡ run_from (state_of machine.old) (replicate times Sweep)) }
+    ensures state { OnOk result (recorded_in machine.new ≡ recorded_from (recorded_in machine.old) (replicate times Sweep)) }
     ensures denial { IfOk result (λ denial. denial ≡ None) }
 {
     for _ in 0..times {

@@ -6,5 +6,5 @@ mod Closing
 mod Holds
 mod Making
 mod Ends
-mod Placing
-mod Summing
+pub mod Placing
+pub mod Summing

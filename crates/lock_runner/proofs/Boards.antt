@@ -1,19 +1,36 @@
 -- Boards that go on.
-use Rattle.std.specs.Prelude.{◌≡◌, ℕ, ◌+◌, ◌≤◌, List, [], ◌∷◌, ◌++◌, All, Ok, Err, count_by, cond}
+use Rattle.std.specs.Prelude.{◌≡◌, ◌⊎◌, ℕ, ◌+◌, List, [], ◌∷◌, ◌++◌, All, Ok, Err, count_by, cond}
 use Rattle.std.proofs.Common.{refl, sym, ap, ◌∙◌, inl, inr, append_assoc, append-nil, arith}
 use Rattle.std.proofs.lemmas.List.Sums.{sum_by-append}
 use Rattle.std.proofs.lemmas.List.Elements.{All-nil, All-cons, All-head, All-tail, All-append}
-use Rattle.machine_model.specs.declared.steps.Limits.{Limits}
-use Rattle.machine_model.specs.declared.steps.Step.{Step}
-use Rattle.machine_model.specs.declared.steps.Step.TheVariants as step
-use Rattle.machine_model.specs.States.{first_state}
-use Rattle.machine_model.specs.Machine.{Answer, next, state_after, run}
-use Rattle.machine_model.proofs.Along.{run_push}
+use Rattle.lock_runner.specs.Beneath.machine_model.specs.declared.steps.Bounds.{Bounds}
+use Rattle.lock_runner.specs.Beneath.machine_model.specs.declared.steps.Step.{Step}
+use Rattle.lock_runner.specs.Beneath.machine_model.specs.declared.steps.Step.TheVariants as step
+use Rattle.lock_runner.specs.Beneath.machine_model.specs.Limits.{bounded}
+use Rattle.lock_runner.specs.Beneath.machine_model.specs.Machine.{Answer, next, run}
+use Rattle.lock_runner.specs.Beneath.machine_model.specs.Records.{Record, record_of}
 use Rattle.step_machine.specs.Machines.{Taken, with_step}
 use Rattle.lock_runner.specs.ActorHistory.{account_of}
 use Rattle.lock_runner.specs.ActorHistory.Laws.{IsStepOf}
-use Rattle.lock_runner.specs.Boards.{account_in, is_sweep, sweeps_in, GoesOn, GoesOnWithout, HasFollowed, IsDoneBy, AddsOneAtMost, HasWorked}
-use Rattle.lock_runner.proofs.ActorHistory.Steps.{others_leave_the_account}
+use Rattle.lock_runner.specs.Boards.{account_in, is_sweep, sweeps_in, GoesOn, GoesOnWithout, HasFollowed}
+use Rattle.lock_runner.proofs.ActorHistory.Steps.{denied_push, others_leave_the_account}
+
+-- ---- one step more at most
+
+-- the step is one of this actor's operations, or of the sweep
+abbrev pub IsDoneBy : ℕ → Step → Type 0
+IsDoneBy actor (step.Begin other call) = other ≡ actor
+IsDoneBy actor (step.Go other) = other ≡ actor
+IsDoneBy actor step.Sweep = Unit {0}
+
+-- one such step stands behind the others, or none
+abbrev pub AddsOneAtMost : ℕ → List Step → List Step → Type 0
+AddsOneAtMost actor steps more = (more ≡ steps) ⊎ ((s : Step) × IsDoneBy actor s × (more ≡ steps ++ s ∷ []))
+
+-- the one board has become the other, by one step of this actor's hand at most
+pub record HasWorked (actor : ℕ) (board now : Taken) : Type 0 where
+  pub limits : now.limits ≡ board.limits
+  pub steps : AddsOneAtMost actor board.steps now.steps
 
 -- ---- lists that go on
 
@@ -35,6 +52,18 @@ goes_on_by_one actor a b (inr (s, own, more)) = (s ∷ [], more)
 pub has_followed_same : (actor : ℕ) (board : Taken) → HasFollowed actor board board
 has_followed_same actor board =
     record { limits = refl; steps = ([], sym (append-nil board.steps), All-nil (λ s. ¬ IsStepOf actor s)) }
+
+pub has_followed_more : (actor : ℕ) (a b c : Taken) → HasFollowed actor a b → HasFollowed actor b c → HasFollowed actor a c
+has_followed_more actor a b c ab bc =
+    let Not : Step → Type 0 = λ x. ¬ IsStepOf actor x in
+    record {
+      limits = bc.limits ∙ ab.limits;
+      steps = (
+        ab.steps.0 ++ bc.steps.0,
+        bc.steps.1 ∙ ap (λ xs. xs ++ bc.steps.0) ab.steps.1 ∙ append_assoc a.steps ab.steps.0 bc.steps.0,
+        All-append Not ab.steps.0 bc.steps.0 ab.steps.2 bc.steps.2,
+      );
+    }
 
 pub has_worked_same : (actor : ℕ) (board : Taken) → HasWorked actor board board
 has_worked_same actor board = record { limits = refl; steps = inl refl }
@@ -61,36 +90,31 @@ still_followed actor other seen board now apart followed worked = record {
 
 -- ---- what the history tells of the actor
 
-one_leaves : (limits : Limits) (steps : List Step) (actor : ℕ) (s : Step) (answer : Answer) → next (run limits steps) s ≡ answer → ¬ IsStepOf actor s →
-    account_of actor (state_after (run limits steps) answer).events ≡ account_of actor (run limits steps).events
+one_leaves : (limits : Bounds) (steps : List Step) (actor : ℕ) (s : Step) (answer : Answer) → next (run limits steps) s ≡ answer → ¬ IsStepOf actor s →
+    account_of actor (record_of limits (steps ++ s ∷ [])).events ≡ account_of actor (record_of limits steps).events
 one_leaves limits steps actor s (Ok done) taken other = others_leave_the_account limits steps s done.0 done.1 taken actor other
-one_leaves limits steps actor s (Err refusal) denied other = refl
+one_leaves limits steps actor s (Err refusal) denied other = ap (λ (r : Record). account_of actor r.events) (denied_push limits steps s refusal denied)
 
-all_leave : (limits : Limits) (steps : List Step) (actor : ℕ) (rest : List Step) → All (λ s. ¬ IsStepOf actor s) rest →
-    account_of actor (run limits (steps ++ rest)).events ≡ account_of actor (run limits steps).events
-all_leave limits steps actor [] others = ap (λ xs. account_of actor (run limits xs).events) (append-nil steps)
+all_leave : (limits : Bounds) (steps : List Step) (actor : ℕ) (rest : List Step) → All (λ s. ¬ IsStepOf actor s) rest →
+    account_of actor (record_of limits (steps ++ rest)).events ≡ account_of actor (record_of limits steps).events
+all_leave limits steps actor [] others = ap (λ xs. account_of actor (record_of limits xs).events) (append-nil steps)
 all_leave limits steps actor (s ∷ rest) others =
     let Not : Step → Type 0 = λ x. ¬ IsStepOf actor x in
-    ap (λ xs. account_of actor (run limits xs).events) (sym (append_assoc steps (s ∷ []) rest))
+    ap (λ xs. account_of actor (record_of limits xs).events) (sym (append_assoc steps (s ∷ []) rest))
     ∙ all_leave limits (steps ++ s ∷ []) actor rest (All-tail Not s rest others)
-    ∙ ap (λ state. account_of actor state.events) (run_push (first_state limits) steps s)
     ∙ one_leaves limits steps actor s (next (run limits steps) s) refl (All-head Not s rest others)
 
 -- the steps of others leave it
 pub same_account : (actor : ℕ) (seen board : Taken) → HasFollowed actor seen board → account_in actor board ≡ account_in actor seen
 same_account actor seen board followed =
-    ap (λ l. account_of actor (run l board.steps).events) followed.limits
-    ∙ ap (λ xs. account_of actor (run seen.limits xs).events) followed.steps.1
-    ∙ all_leave seen.limits seen.steps actor followed.steps.0 followed.steps.2
+    ap (λ l. account_of actor (record_of (bounded l) board.steps).events) followed.limits
+    ∙ ap (λ xs. account_of actor (record_of (bounded seen.limits) xs).events) followed.steps.1
+    ∙ all_leave (bounded seen.limits) seen.steps actor followed.steps.0 followed.steps.2
 
 -- ---- steps of the sweep
 
--- the sweep's steps grow no fewer
 sweeps_append : (xs ys : List Step) → count_by is_sweep (xs ++ ys) ≡ count_by is_sweep xs + count_by is_sweep ys
 sweeps_append xs ys = sum_by-append (λ s. cond (is_sweep s) 1 0) xs ys
-
-pub sweeps_grow : (board now : Taken) → GoesOn board.steps now.steps → sweeps_in board ≤ sweeps_in now
-sweeps_grow board now on = omega (arith, ap (λ xs. count_by is_sweep xs) on.1, sweeps_append board.steps on.0)
 
 count_one : (s : Step) → count_by is_sweep (s ∷ []) ≡ cond (is_sweep s) 1 0
 count_one s = grind arith

@@ -5,19 +5,20 @@ use Rattle.std.proofs.lemmas.Option.{none-some}
 use Rattle.ctrie_base.specs.declared.refusals.Refusal.{Refusal}
 use Rattle.ctrie_base.specs.declared.refusals.Refusal.TheVariants as refuse
 use Rattle.history.proofs.Places.{option_untested}
-use Rattle.machine_model.specs.declared.operations.Operation.{Operation}
-use Rattle.machine_model.specs.declared.steps.Step.TheVariants as step
-use Rattle.machine_model.specs.declared.steps.Outcome.{Outcome}
-use Rattle.machine_model.specs.States.{State, operation_of}
-use Rattle.machine_model.specs.Operations.{action_of}
-use Rattle.machine_model.specs.Machine.{next, go_unless, go_on, first_reason, is_actor, is_running, is_spent, settled_after, went}
+use Rattle.lock_runner.specs.Beneath.machine_model.specs.declared.operations.Operation.{Operation}
+use Rattle.lock_runner.specs.Beneath.machine_model.specs.declared.steps.Step.TheVariants as step
+use Rattle.lock_runner.specs.Beneath.machine_model.specs.declared.steps.Outcome.{Outcome}
+use Rattle.lock_runner.specs.Beneath.machine_model.specs.States.{State, operation_of}
+use Rattle.lock_runner.specs.Beneath.machine_model.specs.Operations.{action_of}
+use Rattle.lock_runner.specs.Beneath.machine_model.specs.Limits.{bounded}
+use Rattle.lock_runner.specs.Beneath.machine_model.specs.Machine.{next, go_unless, go_on, first_reason, is_actor, is_running, is_spent, settled_after, went}
 use Rattle.step_machine.specs.Machines.{Taken, state_of}
 use Rattle.lock_runner.specs.declared.accounts.Running.{Running}
 use Rattle.lock_runner.proofs.ActorHistory.Turns.{shown}
 use Rattle.lock_runner.proofs.ActorHistory.Sound.{told, sound_along}
 use Rattle.lock_runner.specs.Boards.{account_in}
-use Rattle.machine_model.proofs.Actors.{actor_by}
-use Rattle.machine_model.proofs.Along.{limits_along}
+use Rattle.lock_runner.specs.Beneath.machine_model.proofs.Actors.{actor_by}
+use Rattle.lock_runner.specs.Beneath.machine_model.proofs.Along.{limits_along}
 use Rattle.lock_runner.proofs.ActorHistory.Steps.{none_told}
 
 none_shown : (o : Option Operation) → shown o ≡ None → o ≡ None
@@ -27,7 +28,7 @@ none_shown (Some operation) e = absurd (none-some _ (sym e))
 -- an account runs nothing exactly where the machine runs nothing of the actor
 idle_alike : (actor : ℕ) (board : Taken) → (operation_of (state_of board) actor ≡ None) ↔ ((account_in actor board).running ≡ None)
 idle_alike actor board =
-    let match = (sound_along board.limits board.steps).match actor in (
+    let match = (sound_along (bounded board.limits) board.steps).match actor in (
       (λ none. none_told _ (sym match ∙ ap shown none)),
       (λ none. none_shown _ (match ∙ ap told none)),
     )
@@ -62,7 +63,7 @@ pub idle_only : (actor : ℕ) (board : Taken) (refusal : Refusal) → 1 ≤ acto
     MatchOption (account_in actor board).running (refusal ≡ refuse.Idle) (λ operation. refusal ≡ refuse.Spent)
 unfolding next
 idle_only actor board refusal low high e =
-    let within : actor ≤ (state_of board).limits.actors = omega (arith, high, ap (λ l. l.actors) (limits_along board.limits board.steps)) in
+    let within : actor ≤ (state_of board).limits.actors = omega (arith, high, ap (λ l. l.actors) (limits_along (bounded board.limits) board.steps)) in
     let own : is_actor (state_of board) actor ≡ true = actor_by actor (state_of board).limits.actors low within in
     let alike = idle_alike actor board in
     let why = idle_denied (state_of board) actor refusal (is_actor (state_of board) actor) (is_running (state_of board) actor) (is_spent (state_of board)) own refl e in
@@ -76,6 +77,6 @@ idle_by state actor a r s own none = rw (own, none) refl
 pub idle_is_denied : (actor : ℕ) (board : Taken) → 1 ≤ actor → actor ≤ board.limits.actors → (account_in actor board).running ≡ None → next (state_of board) (step.Go actor) ≡ Err refuse.Idle
 unfolding next
 idle_is_denied actor board low high none =
-    let within : actor ≤ (state_of board).limits.actors = omega (arith, high, ap (λ l. l.actors) (limits_along board.limits board.steps)) in
+    let within : actor ≤ (state_of board).limits.actors = omega (arith, high, ap (λ l. l.actors) (limits_along (bounded board.limits) board.steps)) in
     let own : is_actor (state_of board) actor ≡ true = actor_by actor (state_of board).limits.actors low within in
     idle_by (state_of board) actor (is_actor (state_of board) actor) (is_running (state_of board) actor) (is_spent (state_of board)) own (ap is_some ((idle_alike actor board).1 none))

@@ -1,10 +1,5 @@
 pub mod ActorHistory
-pub mod Lists
 pub mod Boards
-pub mod Keeping
-pub mod Crews
-pub mod Closing
-pub mod Calls
 pub mod Holds
 pub mod Growing
 pub mod Seating

@@ -1,14 +1,14 @@
 -- Boards: the machine that all seats share, as one of them sees it.
-use Rattle.std.specs.Prelude.{◌≡◌, ℕ, ◌⊎◌, Bool, true, false, List, [], ◌∷◌, ◌++◌, All, count_by}
-use Rattle.machine_model.specs.declared.steps.Step.{Step}
-use Rattle.machine_model.specs.declared.steps.Step.TheVariants as step
-use Rattle.step_machine.specs.Machines.{Taken, state_of}
+use Rattle.std.specs.Prelude.{◌≡◌, ℕ, Bool, true, false, List, ◌++◌, All, count_by}
+use Rattle.lock_runner.specs.Beneath.machine_model.specs.declared.steps.Step.{Step}
+use Rattle.lock_runner.specs.Beneath.machine_model.specs.declared.steps.Step.TheVariants as step
+use Rattle.step_machine.specs.Machines.{Taken, past_of}
 use Rattle.lock_runner.specs.ActorHistory.{Account, account_of}
 use Rattle.lock_runner.specs.ActorHistory.Laws.{IsStepOf}
 
 -- what the board's history tells of an actor
 abbrev pub account_in : ℕ → Taken → Account
-account_in actor board = account_of actor (state_of board).events
+account_in actor board = account_of actor (past_of board).events
 
 abbrev pub is_sweep : Step → Bool
 is_sweep step.Sweep = true
@@ -30,18 +30,3 @@ GoesOnWithout actor steps more = (rest : List Step) × (more ≡ steps ++ rest) 
 pub record HasFollowed (actor : ℕ) (seen board : Taken) : Type 0 where
   pub limits : board.limits ≡ seen.limits
   pub steps : GoesOnWithout actor seen.steps board.steps
-
--- the step is one of this actor's operations, or of the sweep
-abbrev pub IsDoneBy : ℕ → Step → Type 0
-IsDoneBy actor (step.Begin other call) = other ≡ actor
-IsDoneBy actor (step.Go other) = other ≡ actor
-IsDoneBy actor step.Sweep = Unit {0}
-
--- one such step stands behind the others, or none
-abbrev pub AddsOneAtMost : ℕ → List Step → List Step → Type 0
-AddsOneAtMost actor steps more = (more ≡ steps) ⊎ ((s : Step) × IsDoneBy actor s × (more ≡ steps ++ s ∷ []))
-
--- the one board has become the other, by one step of this actor's hand at most
-pub record HasWorked (actor : ℕ) (board now : Taken) : Type 0 where
-  pub limits : now.limits ≡ board.limits
-  pub steps : AddsOneAtMost actor board.steps now.steps

@@ -1,7 +1,7 @@
 -- The end of a runner.
 use Rattle.std.specs.Prelude.{◌≡◌, ℕ, ◌≤◌, List, Some, slice_get, sum_by, Result, Ok, Err}
 use Rattle.step_machine.specs.declared.records.Record.{Record}
-use Rattle.step_machine.specs.Machines.{Taken, state_of, AreTaken}
+use Rattle.step_machine.specs.Machines.{Taken, past_of, AreTaken}
 use Rattle.step_machine.specs.Records.{IsRecordOf}
 use Rattle.step_machine.specs.Legality.{IsLegalRecord}
 use Rattle.lock_runner.specs.ActorHistory.Answers.{AreAnswersOf, RunsNoOther}
@@ -31,8 +31,8 @@ pub record IsGathered (runner : Room) (seats : List Seated) (machine : Taken) : 
   pub limits : machine.limits ≡ runner.limits
   pub sizes : (k : ℕ) (seat : Seated) → slice_get seats k ≡ Some seat → machine.limits ≡ seat.seen.limits
   pub steps : (k : ℕ) (seat : Seated) → slice_get seats k ≡ Some seat → GoesOn seat.seen.steps machine.steps
-  pub answers : (k : ℕ) (seat : Seated) → slice_get seats k ≡ Some seat → AreAnswersOf seat.actor (state_of machine).events seat.answers
-  pub running : (k : ℕ) (seat : Seated) → slice_get seats k ≡ Some seat → RunsNoOther seat.actor (state_of machine).events seat.running
+  pub answers : (k : ℕ) (seat : Seated) → slice_get seats k ≡ Some seat → AreAnswersOf seat.actor (past_of machine).events seat.answers
+  pub running : (k : ℕ) (seat : Seated) → slice_get seats k ≡ Some seat → RunsNoOther seat.actor (past_of machine).events seat.running
   pub sweeps : sweeps_in machine ≡ all_swept seats
 
 -- the machine that a record tells of

@@ -1,10 +1,8 @@
 pub mod Beneath
 pub mod ActorHistory
 pub mod Boards
-pub mod Plays
-pub mod Gate
+pub mod Asks
 pub mod Seats
-pub mod Naming
 pub mod Holds
 pub mod Stepping
 pub mod Performing

@@ -2,11 +2,13 @@
 use Rattle.std.specs.Prelude.{◌≡◌, ℕ, zero, suc, ◌+◌, ◌≤◌, ◌⊎◌, List, [], ◌∷◌, None}
 use Rattle.ctrie_base.specs.declared.refusals.Refusal.{Refusal}
 use Rattle.ctrie_base.specs.declared.refusals.Refusal.TheVariants.{BadLimits, Memory}
-use Rattle.machine_model.specs.declared.steps.Limits.{Limits}
-use Rattle.machine_model.specs.Machine.{AreLimits}
+use Rattle.lock_runner.specs.Beneath.machine_model.specs.declared.steps.Limits.{Limits}
+use Rattle.lock_runner.specs.Beneath.machine_model.specs.Limits.{AreLimits}
 use Rattle.atomic_table.specs.Seated.{TableId}
 use Rattle.step_machine.specs.Machines.{fresh}
-use Rattle.lock_runner.specs.Seats.{Room, Seated}
+use Rattle.gate.specs.Logs as log
+use Rattle.lock_runner.specs.Asks.{Pass}
+use Rattle.lock_runner.specs.Seats.{Room, Seated, seated}
 
 -- the sizes are in range, and so is the number of seats
 abbrev pub AreTerms : Limits → ℕ → Type 0
@@ -19,7 +21,7 @@ RefusesTerms limits seats refusal = ((¬ AreTerms limits seats) × (refusal ≡ 
 -- a seat that has taken no step
 abbrev pub fresh_seat : TableId → Limits → ℕ → Seated
 fresh_seat id limits actor =
-    record { runner = id; actor = actor; seen = fresh limits; answers = []; running = None; sweeps = 0; heard = 0 }
+    record { runner = id; actor = actor; seen = fresh limits; log = []; answers = []; running = None; sweeps = 0; heard = 0 }
 
 -- so many of them, for the actors from this one on
 abbrev pub fresh_seats : TableId → Limits → ℕ → ℕ → List Seated
@@ -31,3 +33,13 @@ pub record IsMade (limits : Limits) (seats : ℕ) (runner : Room) (made : List S
   pub sizes : runner.limits ≡ limits
   pub number : runner.seats ≡ seats
   pub fresh : made ≡ fresh_seats runner.id limits 1 seats
+
+-- a seat at the gate that has seen the machine of these sizes without steps, for one of its actors
+pub record IsFreshPass (limits : Limits) (pass : Pass) : Type 0 where
+  pub seen : pass.seen ≡ log.fresh record { machine = fresh limits }
+  pub low : 1 ≤ pass.number
+  pub high : pass.number ≤ limits.actors
+
+-- the actor's seat that it becomes
+abbrev pub opened : Pass → Seated
+opened pass = seated pass [] None 0 0

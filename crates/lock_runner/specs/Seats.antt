@@ -1,16 +1,13 @@
 -- What contracts see of a runner and of a seat.
-use Rattle.std.specs.Prelude.{◌≡◌, ℕ, ◌≤◌, List, [], ◌∷◌, Option, None, All}
-use Rattle.ctrie_base.specs.declared.hashes.HashKind.TheVariants.{Low}
-use Rattle.machine_model.specs.declared.steps.Limits.{Limits}
-use Rattle.atomic_table.specs.Table.{Me}
+use Rattle.std.specs.Prelude.{◌≡◌, ℕ, ◌≤◌, List, Option, None, All, sum_by}
+use Rattle.lock_runner.specs.Beneath.machine_model.specs.declared.steps.Limits.{Limits}
 use Rattle.atomic_table.specs.Seated.{TableId}
 use Rattle.step_machine.specs.Machines.{Taken, fresh, state_of}
 use Rattle.lock_runner.specs.declared.accounts.Answer.{Answer}
 use Rattle.lock_runner.specs.declared.accounts.Running.{Running}
-use Rattle.lock_runner.specs.declared.gate.Entry.{Entry}
-use Rattle.lock_runner.specs.declared.gate.View.{View}
+use Rattle.gate.specs.Logs.{calls_of}
+use Rattle.lock_runner.specs.Asks.{Hold, Pass, swept}
 use Rattle.lock_runner.specs.Boards.{account_in}
-use Rattle.lock_runner.specs.Plays.{outside}
 
 -- a runner: which one it is, the sizes of its machine, and how many seats it has
 pub record Room : Type 0 where
@@ -25,6 +22,8 @@ pub record Seated : Type 0 where
   pub actor : ℕ
   -- the runner's machine as the seat saw it last
   pub seen : Taken
+  -- all holds of its gate up to then
+  pub log : List Hold
   pub answers : List Answer
   pub running : Option Running
   -- how many steps of the sweep it has taken
@@ -46,37 +45,44 @@ IsIdle seat = seat.running ≡ None
 
 -- ---- what a seat keeps
 
-abbrev pub no_board : Taken
-no_board = fresh (record { slots = 0; actors = 0; hash = Low })
+-- the seat at the gate: the machine had no steps first
+abbrev pub pass_of : Seated → Pass
+pass_of seat = record {
+  gate = seat.runner;
+  number = seat.actor;
+  seen = record { first = record { machine = fresh seat.seen.limits }; object = record { machine = seat.seen }; log = seat.log };
+}
 
-abbrev pub seen_by : List Entry → Taken
-seen_by [] = no_board
-seen_by (e ∷ es) = e.seen
+-- the machine that the seat saw last
+abbrev pub seen_in : Pass → Taken
+seen_in pass = pass.seen.object.machine
 
-abbrev pub count_by : List Entry → ℕ
-count_by [] = 0
-count_by (e ∷ es) = e.sweeps
+abbrev pub seated : Pass → List Answer → Option Running → ℕ → ℕ → Seated
+seated pass answers running sweeps heard = record {
+  runner = pass.gate;
+  actor = pass.number;
+  seen = seen_in pass;
+  log = pass.seen.log;
+  answers = answers;
+  running = running;
+  sweeps = sweeps;
+  heard = heard;
+}
 
--- the board that the seat of one actor saw last, and how many steps of the sweep it has counted
-abbrev pub seen_in : Me Taken View → Taken
-seen_in me = seen_by me.0.entries
+-- how many steps of the sweep this seat has taken, as the log tells
+abbrev pub sweeps_of : Pass → ℕ
+sweeps_of pass = sum_by swept (calls_of pass.number pass.seen.log)
 
-abbrev pub count_in : Me Taken View → ℕ
-count_in me = count_by me.0.entries
+-- the seat has what the machine that it saw last tells of its actor, and has counted its steps of the sweep
+pub record IsTold (seat : Seated) : Type 0 where
+  pub told : account_in seat.actor seat.seen ≡ record { answers = seat.answers; running = seat.running }
+  pub counted : seat.sweeps ≡ sweeps_of (pass_of seat)
 
--- the seat is this actor's alone and is outside
-abbrev pub IsOutside : ℕ → Me Taken View → Type 0
-IsOutside actor me = me ≡ (outside actor (seen_in me) (count_in me), [])
-
-abbrev pub seated : TableId → Me Taken View → ℕ → List Answer → Option Running → ℕ → ℕ → Seated
-seated id me actor answers running sweeps heard =
-    record { runner = id; actor = actor; seen = seen_in me; answers = answers; running = running; sweeps = sweeps; heard = heard }
-
--- the seat has what the board that it saw last tells of its actor
-pub record IsSeated (me : Me Taken View) (actor : ℕ) (answers : List Answer) (running : Option Running) (sweeps : ℕ) : Type 0 where
-  pub place : IsOutside actor me
-  pub counted : count_in me ≡ sweeps
-  pub low : 1 ≤ actor
-  pub high : actor ≤ (seen_in me).limits.actors
-  pub told : (account_in actor (seen_in me)) ≡ record { answers = answers; running = running }
-  pub bounded : sweeps ≤ (state_of (seen_in me)).steps
+-- it has so, and its actor is one of the machine's, which had no steps first
+pub record IsSeated (pass : Pass) (answers : List Answer) (running : Option Running) (sweeps : ℕ) : Type 0 where
+  pub first : pass.seen.first.machine ≡ fresh (seen_in pass).limits
+  pub counted : sweeps ≡ sweeps_of pass
+  pub low : 1 ≤ pass.number
+  pub high : pass.number ≤ (seen_in pass).limits.actors
+  pub told : account_in pass.number (seen_in pass) ≡ record { answers = answers; running = running }
+  pub bounded : sweeps ≤ (state_of (seen_in pass)).steps

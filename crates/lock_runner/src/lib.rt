@@ -3,9 +3,9 @@
 #![tactic(auto)]
 
 mod accounts;
+mod asks;
 mod between;
 mod finishing;
-mod gate;
 mod holding;
 mod laws;
 mod lending;
@@ -20,11 +20,12 @@ mod stepping;
 pub use accounts::Answer;
 pub use between::{Between, Nothing};
 pub use finishing::Unfinished;
+pub use gate::Name;
 pub use laws::{
     answers_are_those_of_the_history, others_leave_the_account, own_steps_make_the_account,
     running_ids_differ,
 };
-pub use naming::{Name, NamedRunner, NamedSeat};
+pub use naming::{NamedRunner, NamedSeat};
 pub use runner::Runner;
 pub use seats::{Seat, Stop};
 pub use step_machine::{

@@ -7,8 +7,9 @@ ghost use Rattle.lock_runner.specs.contracts.naming.NamedSeat.{the_row};
 ghost use Rattle.lock_runner.specs.Performing.{Performs, Resumes};
 
 use crate::between::Between;
-use crate::naming::{Name, NamedRunner, NamedSeat};
+use crate::naming::{NamedRunner, NamedSeat};
 use crate::seats::Stop;
+use gate::Name;
 use history::{Call, Reply};
 use std::sync::Wait;
 

@@ -1,31 +1,19 @@
 //! Runners and seats that bear a name.
 //!
 //! A name stands for one runner, so the type of a named seat says whose seat it is: it may lie in any
-//! container, go through any channel, and be called without a premise.
+//! container, go through any channel, and be called without a premise. The name is one of the runner's gate.
 ghost use Rattle.std.specs.Prelude.{◌≡◌, ◌≤◌, IfOk, IfErr, max};
-ghost use Rattle.atomic_table.specs.Seated.{TableId, table_id_coded};
-ghost use Rattle.lock_runner.specs.Naming.{no_runner};
 ghost use Rattle.lock_runner.specs.Seats.{AreSeatsOf};
 ghost use Rattle.lock_runner.specs.Stepping.{Sweeps};
 
 use crate::accounts::Answer;
 use crate::runner::Runner;
 use crate::seats::{Seat, Stop};
-use epochs::Swept;
+use gate::Name;
 use std::alloc::{AllocError, Global};
-use std::marker::{Brand, Model, PhantomData};
+use std::marker::{Model, PhantomData};
 use std::sync::Wait;
-
-/// A name: it stands for one runner. What is generic over it is called with `Brand`, and the caller's proof picks the
-/// runner.
-pub trait Name {
-    /// The runner for which it stands.
-    ghost runner: { TableId };
-}
-
-impl Name for Brand {
-    ghost runner = { no_runner };
-}
+use step_machine::Swept;
 
 /// The runner for which the name stands.
 #[derive(Drop)]
@@ -42,7 +30,7 @@ impl<N: Name> Model for NamedRunner<N> {
 
     ghost view = { λ r. r.runner };
 
-    ghost invariant = { λ r. r.runner.id ≡ N.runner };
+    ghost invariant = { λ r. r.runner.id ≡ N.gate };
 }
 
 /// A seat of the runner for which the name stands.
@@ -60,7 +48,7 @@ impl<N: Name> Model for NamedSeat<N> {
 
     ghost view = { λ s. s.seat };
 
-    ghost invariant = { λ s. s.seat.runner ≡ N.runner };
+    ghost invariant = { λ s. s.seat.runner ≡ N.gate };
 }
 
 impl Runner {
@@ -70,7 +58,7 @@ impl Runner {
         alloc: Global,
         seats: Vec<Seat>,
     ) -> Result<(NamedRunner<N>, Vec<NamedSeat<N>>), AllocError>
-        requires name { self.id ≡ N.runner }
+        requires name { self.id ≡ N.gate }
         requires seats { AreSeatsOf self seats.items }
         ensures { IfOk result (λ named. (named.0 ≡ self) × (named.1.items ≡ seats.items)) }
     {
@@ -112,7 +100,7 @@ impl<N: Name> NamedRunner<N> {
 impl<N: Name> NamedSeat<N> {
     /// The seat under its runner's name.
     fn new(seat: Seat) -> NamedSeat<N>
-        requires { seat.runner ≡ N.runner }
+        requires { seat.runner ≡ N.gate }
         ensures { result ≡ seat }
     {
         NamedSeat {
@@ -124,7 +112,7 @@ impl<N: Name> NamedSeat<N> {
     /// The seat without the name.
     fn into_seat(self) -> Seat
         ensures same { result ≡ self }
-        ensures name { result.runner ≡ N.runner }
+        ensures name { result.runner ≡ N.gate }
     {
         let NamedSeat { seat, name: _ } = self;
         seat

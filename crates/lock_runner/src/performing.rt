@@ -55,7 +55,7 @@ impl Seat {
         ensures number { result ≡ self.now.actor }
         ensures low { 1 ≤ result }
     {
-        self.actor
+        self.pass.number()
     }
 
     /// The reply of the last answer.

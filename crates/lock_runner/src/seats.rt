@@ -1,24 +1,20 @@
 //! Seats: what each thread keeps of its own calls.
 ghost use Rattle.std.specs.Prelude.{◌≡◌, max};
-ghost use Rattle.step_machine.specs.Machines.{state_of};
+ghost use Rattle.step_machine.specs.Machines.{past_of};
 ghost use Rattle.lock_runner.specs.ActorHistory.Answers.{AreAnswersOf};
 ghost use Rattle.lock_runner.specs.declared.seats.Stop.TheVariants.{Memory};
 
 use crate::accounts::{Answer, Running};
-use crate::gate::View;
+use crate::asks::{Ask, Pass, Shared, Told};
 use ctrie_base::Refusal;
+use gate::HoldsSeat;
 use std::alloc::{AllocError, AllocFailed};
 use std::marker::Model;
-use step_machine::Machine;
-
-/// The seat at the table that the gate is.
-pub(crate) type Pass = atomic_table::Seat<Machine, View>;
 
 /// One actor's seat at a runner. A call that is made with it is that actor's.
 #[derive(Drop)]
 pub struct Seat {
     pub(crate) pass: Pass,
-    pub(crate) actor: u8,
     pub(crate) answers: Vec<Answer>,
     pub(crate) running: Option<Running>,
     pub(crate) sweeps: u64,
@@ -30,9 +26,23 @@ impl Model for Seat {
 
     ghost Value = { Seated };
 
-    ghost view = { λ s. seated s.pass.table_id s.pass.me s.actor s.answers.items s.running s.sweeps s.heard };
+    ghost view = { λ s. seated s.pass s.answers.items s.running s.sweeps s.heard };
 
-    ghost invariant = { λ s. IsSeated s.pass.me s.actor s.answers.items s.running s.sweeps };
+    ghost invariant = { λ s. IsSeated s.pass s.answers.items s.running s.sweeps };
+}
+
+impl HoldsSeat<Shared, Ask, Told> for Seat {
+    ghost use Rattle.lock_runner.specs.Seats.{pass_of};
+
+    ghost seat = { pass_of };
+
+    fn seat_number(&self) -> u8 {
+        self.pass.number()
+    }
+
+    fn into_seat(self) -> Pass {
+        self.pass
+    }
 }
 
 /// Why a call stopped.
@@ -64,7 +74,7 @@ impl Seat {
 
     /// A law: these are all that the machine's history told of the seat's actor when the seat saw it last.
     pub fn answers_are_all(&self)
-        ensures { AreAnswersOf self.now.actor (state_of self.now.seen).events self.now.answers }
+        ensures { AreAnswersOf self.now.actor (past_of self.now.seen).events self.now.answers }
     {
         let _ = &self.pass;
     }

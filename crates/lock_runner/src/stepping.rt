@@ -4,13 +4,13 @@ ghost use Rattle.lock_runner.specs.Seats.{IsSeatOf};
 ghost use Rattle.lock_runner.specs.Stepping.{Begins, Goes, Sweeps};
 
 use crate::accounts::{Answer, Running};
+use crate::asks::{Ask, Work};
 use crate::runner::Runner;
 use crate::seats::{Seat, Stop};
 use ctrie_base::Refusal;
-use epochs::Swept;
 use history::Call;
 use std::sync::Wait;
-use step_machine::{Outcome, Step};
+use step_machine::{Outcome, Swept};
 
 impl Runner {
     /// Begins a call of the seat's actor, if the seat has not heard of more events than are recorded.
@@ -19,10 +19,11 @@ impl Runner {
         ensures { Begins result seat.old call seat.new }
     {
         seat.answers.reserve(1)?;
-        let actor = seat.actor;
-        let heard = seat.heard;
-        let step = Step::Begin { actor, call };
-        let (began, outcome) = self.hold(rt, &mut seat.pass, actor, step, heard)?;
+        let ask = Ask {
+            work: Work::Begin(call),
+            heard: seat.heard,
+        };
+        let (began, outcome) = self.gate.call(rt, &mut seat.pass, ask)?;
         let Outcome::Began(id) = outcome else {
             unreachable!()
         };
@@ -40,8 +41,11 @@ impl Runner {
             return Err(Stop::Denied(Refusal::Idle));
         };
         seat.answers.reserve(1)?;
-        let actor = seat.actor;
-        let (ended, outcome) = self.hold(rt, &mut seat.pass, actor, Step::Go { actor }, 0)?;
+        let ask = Ask {
+            work: Work::Go,
+            heard: 0,
+        };
+        let (ended, outcome) = self.gate.call(rt, &mut seat.pass, ask)?;
         let Outcome::Ended(_, reply) = outcome else {
             return Ok(false);
         };
@@ -63,8 +67,11 @@ impl Runner {
         requires { IsSeatOf self.now seat.old }
         ensures { Sweeps result seat.old seat.new }
     {
-        let actor = seat.actor;
-        let (_, outcome) = self.hold(rt, &mut seat.pass, actor, Step::Sweep, 0)?;
+        let ask = Ask {
+            work: Work::Sweep,
+            heard: 0,
+        };
+        let (_, outcome) = self.gate.call(rt, &mut seat.pass, ask)?;
         let Outcome::Swept(swept) = outcome else {
             unreachable!()
         };

@@ -59,7 +59,7 @@ fn pooled<N: Name + Send + Sync, R: Threads + Wait + Sync + AllocGlobal + Abort>
     runner: Runner,
     seats: Vec<Seat>,
 ) -> Result<(), Fail>
-    requires name { runner.id ≡ N.runner }
+    requires name { runner.id ≡ N.gate }
     requires seats { AreSeatsOf runner seats.items }
 {
     let (runner, seats) = runner.named::<N>(rt.alloc(), seats)?;

@@ -6,14 +6,17 @@ use Rattle.std.proofs.lemmas.List.{get_or_past}
 use Rattle.std.proofs.lemmas.Option.{none-some, same_Some, slice_get_within}
 use Rattle.history.proofs.Places.{at_within}
 use Rattle.history.specs.declared.events.Event.{Event}
-use Rattle.machine_model.specs.declared.operations.Operation.{Operation}
-use Rattle.machine_model.specs.declared.steps.Limits.{Limits}
-use Rattle.machine_model.specs.declared.steps.Step.{Step}
-use Rattle.machine_model.specs.declared.steps.Outcome.{Outcome}
-use Rattle.machine_model.specs.States.{State, first_state}
-use Rattle.machine_model.specs.Machine.{run}
-use Rattle.machine_model.proofs.Along.{along}
-use Rattle.machine_model.proofs.Frames.{limits_kept}
+use Rattle.lock_runner.specs.Beneath.machine_model.specs.declared.operations.Operation.{Operation}
+use Rattle.lock_runner.specs.Beneath.machine_model.specs.declared.steps.Bounds.{Bounds}
+use Rattle.lock_runner.specs.Beneath.machine_model.specs.declared.steps.Step.{Step}
+use Rattle.lock_runner.specs.Beneath.machine_model.specs.declared.steps.Outcome.{Outcome}
+use Rattle.lock_runner.specs.Beneath.machine_model.specs.States.{first_state}
+use Rattle.lock_runner.specs.Beneath.machine_model.specs.Machine.{run}
+use Rattle.lock_runner.specs.Beneath.machine_model.specs.Records.{first_record, noted, record_of}
+use Rattle.lock_runner.specs.Beneath.machine_model.specs.Tellings.{told_in}
+use Rattle.lock_runner.specs.Beneath.machine_model.proofs.Alike.{alike_along}
+use Rattle.lock_runner.specs.Beneath.machine_model.proofs.Recorded.{along_with}
+use Rattle.lock_runner.specs.Beneath.machine_model.proofs.Frames.{limits_kept}
 use Rattle.lock_runner.specs.declared.accounts.Answer.{Answer}
 use Rattle.lock_runner.specs.declared.accounts.Running.{Running}
 use Rattle.lock_runner.specs.ActorHistory.{Account, account_of}
@@ -22,7 +25,7 @@ use Rattle.lock_runner.proofs.ActorHistory.Sound.{Sound, sound_along, fits_after
 use Rattle.lock_runner.proofs.ActorHistory.Steps.{others_leave, own_step}
 use Rattle.lock_runner.proofs.ActorHistory.Told.{answers_are_those_of_the_history}
 use Rattle.lock_runner.proofs.ActorHistory.Totals.{total, total_least, total_more, total_twice}
-use Rattle.lock_runner.proofs.ActorHistory.Turns.{Shown, ran, shown, Turns, Comes, Stays, Leaves, Rests, turns}
+use Rattle.lock_runner.proofs.ActorHistory.Turns.{Recorded, recorded, recorded_of, Shown, ran, shown, Turns, Comes, Stays, Leaves, Rests, turns}
 
 -- ---- the events of an account
 
@@ -52,8 +55,8 @@ few_in account (Some operation) = omega arith
 abbrev told_to : List Event → ℕ → ℕ
 told_to events k = events_in (account_of (suc k) events)
 
-abbrev AreTold : Limits → State → Type 0
-AreTold limits state = (state.limits ≡ limits) × (length state.events ≤ total limits.actors (told_to state.events))
+abbrev AreTold : Bounds → Recorded → Type 0
+AreTold limits now = (now.state.limits ≡ limits) × (length now.events ≤ total limits.actors (told_to now.events))
 
 one_event : (xs ys : List Event) (event : Event) → ys ≡ xs ++ event ∷ [] → length ys ≡ length xs + 1
 one_event xs ys event e = ap length e ∙ length-append xs (event ∷ [])
@@ -66,23 +69,23 @@ within xs k p is = elim (cases_lt k (length xs)) [
 ]
 
 -- one event more is told to one actor
-one_told : (limits : Limits) (before after : State) (k : ℕ) → length after.events ≡ length before.events + 1 → k < limits.actors →
+one_told : (limits : Bounds) (before after : Recorded) (k : ℕ) → length after.events ≡ length before.events + 1 → k < limits.actors →
     told_to before.events k + 1 ≤ told_to after.events k → ((j : ℕ) → (j ≡ k → ⊥) → account_of (suc j) after.events ≡ account_of (suc j) before.events) →
     length before.events ≤ total limits.actors (told_to before.events) → length after.events ≤ total limits.actors (told_to after.events)
 one_told limits before after k grown below one others so =
     let each : (j : ℕ) → (j ≡ k → ⊥) → told_to before.events j ≤ told_to after.events j = λ j apart. omega (arith, ap events_in (others j apart)) in
     omega (arith, grown, so, total_more limits.actors k (told_to before.events) (told_to after.events) below one each)
 
-none_told : (limits : Limits) (before after : State) → after.events ≡ before.events → length before.events ≤ total limits.actors (told_to before.events) →
+none_told : (limits : Bounds) (before after : Recorded) → after.events ≡ before.events → length before.events ≤ total limits.actors (told_to before.events) →
     length after.events ≤ total limits.actors (told_to after.events)
 none_told limits before after same so = subst (λ es. length es ≤ total limits.actors (told_to es)) (sym same) so
 
-told_after : (limits : Limits) (before after : State) (s : Step) (o : Outcome) → Sound before → length after.actors ≡ after.limits.actors → Turns before after s o →
-    before.limits ≡ limits → length before.events ≤ total limits.actors (told_to before.events) → length after.events ≤ total limits.actors (told_to after.events)
+told_after : (limits : Bounds) (before after : Recorded) (s : Step) (o : Outcome) → Sound before → length after.state.actors ≡ after.state.limits.actors → Turns before after s o →
+    before.state.limits ≡ limits → length before.events ≤ total limits.actors (told_to before.events) → length after.events ≤ total limits.actors (told_to after.events)
 told_after limits before after s o sound fits (Comes k call opens below idle here others events) same so =
     let turn = Comes k call opens below idle here others events in
     let own = own_step before after s o sound fits turn (suc k) refl in
-    one_told limits before after k (one_event before.events after.events _ events) (omega (arith, below, sound.fits, ap (λ (l : Limits). l.actors) same))
+    one_told limits before after k (one_event before.events after.events _ events) (omega (arith, below, sound.fits, ap (λ (l : Bounds). l.actors) same))
     (events_begun (account_of (suc k) before.events) (account_of (suc k) after.events) _ own.0 own.1)
     (λ j apart. others_leave before after s o sound fits turn (suc j) (λ e. apart (omega (arith, e)))) so
 told_after limits before after s o sound fits (Stays k p kind had others events) same so = none_told limits before after events so
@@ -90,20 +93,22 @@ told_after limits before after s o sound fits (Leaves k p answer had none others
     let turn = Leaves k p answer had none others events in
     let own = own_step before after s o sound fits turn (suc k) refl in
     one_told limits before after k (one_event before.events after.events _ events)
-    (omega (arith, within before.actors k p had, sound.fits, ap (λ (l : Limits). l.actors) same))
+    (omega (arith, within before.state.actors k p had, sound.fits, ap (λ (l : Bounds). l.actors) same))
     (events_answered (account_of (suc k) before.events) (account_of (suc k) after.events) own.0 _ own.1 own.3)
     (λ j apart. others_leave before after s o sound fits turn (suc j) (λ e. apart (omega (arith, e)))) so
 told_after limits before after s o sound fits (Rests swept others events) same so = none_told limits before after events so
 
-first_told : (limits : Limits) → AreTold limits (first_state limits)
+first_told : (limits : Bounds) → AreTold limits (recorded (first_state limits) (first_record limits))
 unfolding first_state
 first_told limits = (refl, omega arith)
 
-told_along : (limits : Limits) (steps : List Step) → AreTold limits (run limits steps)
-told_along limits = along limits (AreTold limits) (first_told limits)
+told_along : (limits : Bounds) (steps : List Step) → AreTold limits (recorded_of limits steps)
+told_along limits = along_with limits (λ state past. AreTold limits (recorded state past)) (first_told limits)
     (λ steps s o after m so. let sound = sound_along limits steps in (
       limits_kept (run limits steps) s o after m ∙ so.0,
-      told_after limits (run limits steps) after s o sound (fits_after (run limits steps) after s o m sound.fits) (turns (run limits steps) s o after sound.fits m) so.0 so.1,
+      told_after limits (recorded_of limits steps) (recorded after (noted (record_of limits steps) (run limits steps).steps (told_in (run limits steps) s))) s o sound
+          (fits_after (run limits steps) after s o m sound.fits)
+          (turns (run limits steps) (record_of limits steps) s o after sound.fits (alike_along limits steps).begun_are m) so.0 so.1,
     ))
 
 -- ---- the answers of each actor
@@ -113,9 +118,9 @@ abbrev pub answered : List Event → ℕ → ℕ
 answered events k = length (account_of (suc k) events).answers
 
 -- two for each answer, and one more for each actor
-pub events_counted : (limits : Limits) (steps : List Step) → length (run limits steps).events ≤ 2 * total limits.actors (answered (run limits steps).events) + limits.actors
+pub events_counted : (limits : Bounds) (steps : List Step) → length (record_of limits steps).events ≤ 2 * total limits.actors (answered (record_of limits steps).events) + limits.actors
 events_counted limits steps =
-    let events = (run limits steps).events in
+    let events = (record_of limits steps).events in
     let each : (k : ℕ) → k < limits.actors → told_to events k ≤ 2 * answered events k + 1 = λ k below.
     omega (arith, few_in (account_of (suc k) events) (account_of (suc k) events).running) in
     omega (arith, (told_along limits steps).1, total_least limits.actors (told_to events) (λ k. 2 * answered events k + 1) each, total_twice limits.actors (answered events))
@@ -160,8 +165,8 @@ module _ (actor : ℕ) (history : List Event) (some all : List Answer) (they : A
   pub no_more : length some ≤ length all
   no_more = as_many (length some) refl
 
-pub answered_counted : (limits : Limits) (steps : List Step) (k : ℕ) (answers : List Answer) → AreAnswersOf (suc k) (run limits steps).events answers →
-    answered (run limits steps).events k ≤ length answers
+pub answered_counted : (limits : Bounds) (steps : List Step) (k : ℕ) (answers : List Answer) → AreAnswersOf (suc k) (record_of limits steps).events answers →
+    answered (record_of limits steps).events k ≤ length answers
 answered_counted limits steps k answers these =
-    let events = (run limits steps).events in
+    let events = (record_of limits steps).events in
     no_more (suc k) events (account_of (suc k) events).answers answers (answers_are_those_of_the_history limits steps (suc k)) these

@@ -9,16 +9,18 @@ use Rattle.history.specs.declared.events.Event.{Event}
 use Rattle.history.specs.declared.events.Event.TheVariants.{Begin, End}
 use Rattle.history.specs.Histories.{Operation, BeginsAt, EndsAt, HasEnded, IsRunning, begun}
 use Rattle.history.proofs.Places.{at_cases, at_front, at_seam}
-use Rattle.machine_model.specs.declared.steps.Limits.{Limits}
-use Rattle.machine_model.specs.declared.steps.Step.{Step}
-use Rattle.machine_model.specs.declared.steps.Outcome.{Outcome}
-use Rattle.machine_model.specs.States.{State, first_state}
-use Rattle.machine_model.specs.Machine.{run}
-use Rattle.machine_model.proofs.Along.{along}
+use Rattle.lock_runner.specs.Beneath.machine_model.specs.declared.steps.Bounds.{Bounds}
+use Rattle.lock_runner.specs.Beneath.machine_model.specs.declared.steps.Step.{Step}
+use Rattle.lock_runner.specs.Beneath.machine_model.specs.declared.steps.Outcome.{Outcome}
+use Rattle.lock_runner.specs.Beneath.machine_model.specs.Machine.{run}
+use Rattle.lock_runner.specs.Beneath.machine_model.specs.Records.{first_record, noted, record_of}
+use Rattle.lock_runner.specs.Beneath.machine_model.specs.Tellings.{told_in}
+use Rattle.lock_runner.specs.Beneath.machine_model.proofs.Alike.{alike_along}
+use Rattle.lock_runner.specs.Beneath.machine_model.proofs.Recorded.{along_with}
 use Rattle.lock_runner.specs.declared.accounts.Running.{Running}
 use Rattle.lock_runner.specs.ActorHistory.{account_of, begun_at}
 use Rattle.lock_runner.specs.ActorHistory.Answers.{RunsNoOther}
-use Rattle.lock_runner.proofs.ActorHistory.Turns.{Turns, Comes, Stays, Leaves, Rests, turns}
+use Rattle.lock_runner.proofs.ActorHistory.Turns.{Recorded, recorded, recorded_of, Turns, Comes, Stays, Leaves, Rests, turns}
 use Rattle.lock_runner.proofs.ActorHistory.Sound.{Sound, IsAnswered, sound_along, fits_after, later_own, later_other, leave_other, leave_own}
 use Rattle.lock_runner.proofs.ActorHistory.Steps.{none_told}
 use Rattle.lock_runner.proofs.ActorHistory.Told.{same_begin, apart_events}
@@ -90,7 +92,8 @@ module _ (history : List Event) (all : RunAll history) (owner id : ℕ) (reply :
 
 -- ---- every run
 
-after_all : (before after : State) (s : Step) (o : Outcome) → Sound before → length after.actors ≡ after.limits.actors → Turns before after s o → RunAll before.events → RunAll after.events
+after_all : (before after : Recorded) (s : Step) (o : Outcome) → Sound before → length after.state.actors ≡ after.state.limits.actors → Turns before after s o →
+    RunAll before.events → RunAll after.events
 after_all before after s o sound fits (Comes k call opens within idle here others events) all =
     subst RunAll (sym events) (begin_all before.events all (suc k) call opens (none_told _ (sym (sound.match (suc k)) ∙ idle)))
 after_all before after s o sound fits (Stays k p kind had same events) all = subst RunAll (sym events) all
@@ -105,11 +108,11 @@ after_all before after s o sound fits (Rests swept same events) all = subst RunA
 none_at_first : RunAll []
 none_at_first actor id runs = absurd (none-some _ runs.0.2)
 
-first_all : (limits : Limits) → RunAll (first_state limits).events
-unfolding first_state
+first_all : (limits : Bounds) → RunAll (first_record limits).events
 first_all limits = none_at_first
 
-pub runs_no_other : (limits : Limits) (steps : List Step) → RunAll (run limits steps).events
-runs_no_other limits = along limits (λ state. RunAll state.events) (first_all limits)
+pub runs_no_other : (limits : Bounds) (steps : List Step) → RunAll (record_of limits steps).events
+runs_no_other limits = along_with limits (λ state past. RunAll past.events) (first_all limits)
     (λ steps s o after m all. let sound = sound_along limits steps in
-    after_all (run limits steps) after s o sound (fits_after (run limits steps) after s o m sound.fits) (turns (run limits steps) s o after sound.fits m) all)
+    after_all (recorded_of limits steps) (recorded after (noted (record_of limits steps) (run limits steps).steps (told_in (run limits steps) s))) s o sound
+    (fits_after (run limits steps) after s o m sound.fits) (turns (run limits steps) (record_of limits steps) s o after sound.fits (alike_along limits steps).begun_are m) all)

@@ -9,20 +9,23 @@ use Rattle.history.specs.declared.replies.Reply.{Reply}
 use Rattle.history.specs.declared.events.Event.{Event}
 use Rattle.history.specs.declared.events.Event.TheVariants.{Begin, End}
 use Rattle.history.specs.Histories.{begun}
-use Rattle.machine_model.specs.declared.steps.Limits.{Limits}
-use Rattle.machine_model.specs.declared.steps.Step.{Step}
-use Rattle.machine_model.specs.declared.steps.Outcome.{Outcome}
-use Rattle.machine_model.specs.States.{State, first_state, operation_of}
-use Rattle.machine_model.specs.Machine.{run}
-use Rattle.machine_model.specs.Moves.{Moves}
-use Rattle.machine_model.proofs.Frames.{limits_kept}
-use Rattle.machine_model.proofs.Along.{along}
+use Rattle.lock_runner.specs.Beneath.machine_model.specs.declared.steps.Bounds.{Bounds}
+use Rattle.lock_runner.specs.Beneath.machine_model.specs.declared.steps.Step.{Step}
+use Rattle.lock_runner.specs.Beneath.machine_model.specs.declared.steps.Outcome.{Outcome}
+use Rattle.lock_runner.specs.Beneath.machine_model.specs.States.{State, first_state, operation_of}
+use Rattle.lock_runner.specs.Beneath.machine_model.specs.Machine.{run}
+use Rattle.lock_runner.specs.Beneath.machine_model.specs.Records.{first_record, noted, record_of}
+use Rattle.lock_runner.specs.Beneath.machine_model.specs.Tellings.{told_in}
+use Rattle.lock_runner.specs.Beneath.machine_model.specs.Moves.{Moves}
+use Rattle.lock_runner.specs.Beneath.machine_model.proofs.Frames.{limits_kept}
+use Rattle.lock_runner.specs.Beneath.machine_model.proofs.Alike.{alike_along}
+use Rattle.lock_runner.specs.Beneath.machine_model.proofs.Recorded.{along_with}
 use Rattle.lock_runner.specs.declared.accounts.Running.{Running}
 use Rattle.lock_runner.specs.ActorHistory.{Account, account_of, account_after, account_ended, account_from, begun_at, answered_at}
 use Rattle.history.proofs.Begins.{begun_push, begun_same}
 use Rattle.lock_runner.specs.Beneath.proof_generations.proofs.Handles.Running.{actors_length}
 use Rattle.lock_runner.proofs.ActorHistory.Pushes.{account_push}
-use Rattle.lock_runner.proofs.ActorHistory.Turns.{Shown, shown, ran, Turns, Comes, Stays, Leaves, Rests, turns}
+use Rattle.lock_runner.proofs.ActorHistory.Turns.{Recorded, recorded, recorded_of, Shown, shown, ran, Turns, Comes, Stays, Leaves, Rests, turns}
 
 abbrev pub told : Option Running → Option Shown
 told None = None
@@ -75,17 +78,17 @@ ended_own account place p answer (Some r) is =
 
 -- ---- the invariant
 
-pub record Sound (state : State) : Type 0 where
-  pub fits : length state.actors ≡ state.limits.actors
-  pub below : (k : ℕ) (p : Shown) → ran state.actors k ≡ Some p → p.0 < begun state.events
-  pub apart : (i j : ℕ) (p q : Shown) → ran state.actors i ≡ Some p → ran state.actors j ≡ Some q → p.0 ≡ q.0 → i ≡ j
-  pub match : (actor : ℕ) → runs state actor ≡ told (account_of actor state.events).running
+pub record Sound (now : Recorded) : Type 0 where
+  pub fits : length now.state.actors ≡ now.state.limits.actors
+  pub below : (k : ℕ) (p : Shown) → ran now.state.actors k ≡ Some p → p.0 < begun now.events
+  pub apart : (i j : ℕ) (p q : Shown) → ran now.state.actors i ≡ Some p → ran now.state.actors j ≡ Some q → p.0 ≡ q.0 → i ≡ j
+  pub match : (actor : ℕ) → runs now.state actor ≡ told (account_of actor now.events).running
 
 -- ---- a begin
 
-module _ (before after : State) (sound : Sound before) (fits : length after.actors ≡ after.limits.actors) (k : ℕ) (call : Call) (opens : Option ℕ)
-    (here : ran after.actors k ≡ Some (begun before.events, call))
-    (others : (j : ℕ) → (j ≡ k → ⊥) → ran after.actors j ≡ ran before.actors j)
+module _ (before after : Recorded) (sound : Sound before) (fits : length after.state.actors ≡ after.state.limits.actors) (k : ℕ) (call : Call) (opens : Option ℕ)
+    (here : ran after.state.actors k ≡ Some (begun before.events, call))
+    (others : (j : ℕ) → (j ≡ k → ⊥) → ran after.state.actors j ≡ ran before.state.actors j)
     (events : after.events ≡ before.events ++ Begin (begun before.events) (suc k) call opens ∷ []) where
   pub come_account : (actor : ℕ) → account_of actor after.events ≡
       account_after actor (length before.events) (account_of actor before.events) (Begin (begun before.events) (suc k) call opens)
@@ -94,36 +97,36 @@ module _ (before after : State) (sound : Sound before) (fits : length after.acto
   come_begun : begun after.events ≡ begun before.events + 1
   come_begun = ap begun events ∙ begun_push before.events (Begin _ _ call opens) refl
 
-  come_below_by : (j : ℕ) (p : Shown) → ran after.actors j ≡ Some p → (j ≡ k) ⊎ (j ≡ k → ⊥) → p.0 < begun after.events
+  come_below_by : (j : ℕ) (p : Shown) → ran after.state.actors j ≡ Some p → (j ≡ k) ⊎ (j ≡ k → ⊥) → p.0 < begun after.events
   come_below_by j p e (inl same) =
-      let is : p.0 ≡ begun before.events = ap (λ q. q.0) (same_Some _ _ (sym e ∙ ap (λ i. ran after.actors i) same ∙ here)) in
+      let is : p.0 ≡ begun before.events = ap (λ q. q.0) (same_Some _ _ (sym e ∙ ap (λ i. ran after.state.actors i) same ∙ here)) in
       omega (arith, come_begun, is)
   come_below_by j p e (inr other) = omega (arith, come_begun, sound.below j p (sym (others j other) ∙ e))
 
   -- the new one has an id that no other has
-  come_new : (i j : ℕ) (p q : Shown) → ran after.actors i ≡ Some p → ran after.actors j ≡ Some q → p.0 ≡ q.0 → i ≡ k → (j ≡ k → ⊥) → ⊥
+  come_new : (i j : ℕ) (p q : Shown) → ran after.state.actors i ≡ Some p → ran after.state.actors j ≡ Some q → p.0 ≡ q.0 → i ≡ k → (j ≡ k → ⊥) → ⊥
   come_new i j p q e f same own other =
-      let is : p.0 ≡ begun before.events = ap (λ r. r.0) (same_Some _ _ (sym e ∙ ap (λ n. ran after.actors n) own ∙ here)) in
+      let is : p.0 ≡ begun before.events = ap (λ r. r.0) (same_Some _ _ (sym e ∙ ap (λ n. ran after.state.actors n) own ∙ here)) in
       absurd (omega (arith, is, same, sound.below j q (sym (others j other) ∙ f)))
 
-  come_apart_by : (i j : ℕ) (p q : Shown) → ran after.actors i ≡ Some p → ran after.actors j ≡ Some q → p.0 ≡ q.0 →
+  come_apart_by : (i j : ℕ) (p q : Shown) → ran after.state.actors i ≡ Some p → ran after.state.actors j ≡ Some q → p.0 ≡ q.0 →
       (i ≡ k) ⊎ (i ≡ k → ⊥) → (j ≡ k) ⊎ (j ≡ k → ⊥) → i ≡ j
   come_apart_by i j p q e f same (inl a) (inl b) = a ∙ sym b
   come_apart_by i j p q e f same (inl a) (inr b) = absurd (come_new i j p q e f same a b)
   come_apart_by i j p q e f same (inr a) (inl b) = absurd (come_new j i q p f e (sym same) b a)
   come_apart_by i j p q e f same (inr a) (inr b) = sound.apart i j p q (sym (others i a) ∙ e) (sym (others j b) ∙ f) same
 
-  come_match_by : (j : ℕ) → (j ≡ k) ⊎ (j ≡ k → ⊥) → ran after.actors j ≡ told (account_of (suc j) after.events).running
+  come_match_by : (j : ℕ) → (j ≡ k) ⊎ (j ≡ k → ⊥) → ran after.state.actors j ≡ told (account_of (suc j) after.events).running
   come_match_by j (inl same) =
       let own : account_of (suc j) after.events ≡ record (account_of (suc j) before.events) { running = Some (begun_at (length before.events) (begun before.events) call) } =
       come_account (suc j) ∙ ap (λ n. account_after (suc j) (length before.events) (account_of (suc j) before.events) (Begin (begun before.events) (suc n) call opens)) (sym same)
       ∙ begin_own (suc j) (length before.events) (account_of (suc j) before.events) (begun before.events) call opens in
-      ap (λ n. ran after.actors n) same ∙ here ∙ ap (λ a. told a.running) (sym own)
+      ap (λ n. ran after.state.actors n) same ∙ here ∙ ap (λ a. told a.running) (sym own)
   come_match_by j (inr other) =
       others j other ∙ sound.match (suc j)
       ∙ ap (λ a. told a.running) (sym (come_account (suc j) ∙ begin_other (suc j) _ _ _ (suc k) call opens (λ e. other (omega (arith, e)))))
 
-  come_match : (actor : ℕ) → runs after actor ≡ told (account_of actor after.events).running
+  come_match : (actor : ℕ) → runs after.state actor ≡ told (account_of actor after.events).running
   come_match zero = sound.match zero ∙ ap (λ a. told a.running) (sym (come_account zero ∙ begin_other zero _ _ _ (suc k) call opens (λ e. absurd (omega (arith, e)))))
   come_match (suc j) = come_match_by j (cases_eq j k)
 
@@ -137,9 +140,9 @@ module _ (before after : State) (sound : Sound before) (fits : length after.acto
 
 -- ---- a step that tells nothing
 
-module _ (before after : State) (sound : Sound before) (fits : length after.actors ≡ after.limits.actors)
-    (same : (j : ℕ) → ran after.actors j ≡ ran before.actors j) (events : after.events ≡ before.events) where
-  stay_match : (actor : ℕ) → runs after actor ≡ told (account_of actor after.events).running
+module _ (before after : Recorded) (sound : Sound before) (fits : length after.state.actors ≡ after.state.limits.actors)
+    (same : (j : ℕ) → ran after.state.actors j ≡ ran before.state.actors j) (events : after.events ≡ before.events) where
+  stay_match : (actor : ℕ) → runs after.state actor ≡ told (account_of actor after.events).running
   stay_match zero = sound.match zero ∙ ap (λ es. told (account_of zero es).running) (sym events)
   stay_match (suc j) = same j ∙ sound.match (suc j) ∙ ap (λ es. told (account_of (suc j) es).running) (sym events)
 
@@ -153,8 +156,8 @@ module _ (before after : State) (sound : Sound before) (fits : length after.acto
 
 -- ---- an end
 
-module _ (before after : State) (sound : Sound before) (fits : length after.actors ≡ after.limits.actors) (k : ℕ) (p : Shown) (answer : Reply)
-    (had : ran before.actors k ≡ Some p) (none : ran after.actors k ≡ None) (others : (j : ℕ) → (j ≡ k → ⊥) → ran after.actors j ≡ ran before.actors j)
+module _ (before after : Recorded) (sound : Sound before) (fits : length after.state.actors ≡ after.state.limits.actors) (k : ℕ) (p : Shown) (answer : Reply)
+    (had : ran before.state.actors k ≡ Some p) (none : ran after.state.actors k ≡ None) (others : (j : ℕ) → (j ≡ k → ⊥) → ran after.state.actors j ≡ ran before.state.actors j)
     (events : after.events ≡ before.events ++ End p.0 answer ∷ []) where
   pub leave_account : (actor : ℕ) → account_of actor after.events ≡ account_after actor (length before.events) (account_of actor before.events) (End p.0 answer)
   leave_account actor = ap (λ es. account_of actor es) events ∙ account_push actor before.events _
@@ -163,11 +166,11 @@ module _ (before after : State) (sound : Sound before) (fits : length after.acto
   leave_begun = ap begun events ∙ begun_same before.events (End _ answer) refl
 
   -- what still runs ran before, elsewhere
-  leave_before_by : (j : ℕ) (q : Shown) → ran after.actors j ≡ Some q → (j ≡ k) ⊎ (j ≡ k → ⊥) → ran before.actors j ≡ Some q
-  leave_before_by j q e (inl same) = absurd (none-some q (sym none ∙ ap (λ i. ran after.actors i) (sym same) ∙ e))
+  leave_before_by : (j : ℕ) (q : Shown) → ran after.state.actors j ≡ Some q → (j ≡ k) ⊎ (j ≡ k → ⊥) → ran before.state.actors j ≡ Some q
+  leave_before_by j q e (inl same) = absurd (none-some q (sym none ∙ ap (λ i. ran after.state.actors i) (sym same) ∙ e))
   leave_before_by j q e (inr other) = sym (others j other) ∙ e
 
-  leave_before : (j : ℕ) (q : Shown) → ran after.actors j ≡ Some q → ran before.actors j ≡ Some q
+  leave_before : (j : ℕ) (q : Shown) → ran after.state.actors j ≡ Some q → ran before.state.actors j ≡ Some q
   leave_before j q e = leave_before_by j q e (cases_eq j k)
 
   -- another actor's account has another operation
@@ -184,14 +187,14 @@ module _ (before after : State) (sound : Sound before) (fits : length after.acto
       subst (λ a. IsAnswered (account_of (suc k) before.events) (account_of (suc k) before.events).running (length before.events) p.0 answer a) (sym (leave_account (suc k)))
       (ended_own (account_of (suc k) before.events) (length before.events) p answer (account_of (suc k) before.events).running (sym (sound.match (suc k)) ∙ had))
 
-  leave_match_by : (j : ℕ) → (j ≡ k) ⊎ (j ≡ k → ⊥) → ran after.actors j ≡ told (account_of (suc j) after.events).running
+  leave_match_by : (j : ℕ) → (j ≡ k) ⊎ (j ≡ k → ⊥) → ran after.state.actors j ≡ told (account_of (suc j) after.events).running
   leave_match_by j (inl same) =
-      ap (λ i. ran after.actors i) same ∙ none ∙ ap (λ a. told a.running) (sym leave_own.answered) ∙ ap (λ i. told (account_of (suc i) after.events).running) (sym same)
+      ap (λ i. ran after.state.actors i) same ∙ none ∙ ap (λ a. told a.running) (sym leave_own.answered) ∙ ap (λ i. told (account_of (suc i) after.events).running) (sym same)
   leave_match_by j (inr other) =
       others j other ∙ sound.match (suc j)
       ∙ ap (λ a. told a.running) (sym (leave_other (suc j) (λ i e f. other (omega (arith, e, f)))))
 
-  leave_match : (actor : ℕ) → runs after actor ≡ told (account_of actor after.events).running
+  leave_match : (actor : ℕ) → runs after.state actor ≡ told (account_of actor after.events).running
   leave_match zero = sound.match zero ∙ ap (λ a. told a.running) (sym (leave_other zero (λ i e f. absurd (omega (arith, e)))))
   leave_match (suc j) = leave_match_by j (cases_eq j k)
 
@@ -205,7 +208,7 @@ module _ (before after : State) (sound : Sound before) (fits : length after.acto
 
 -- ---- every run
 
-pub kept : (before after : State) (s : Step) (o : Outcome) → Sound before → length after.actors ≡ after.limits.actors → Turns before after s o → Sound after
+pub kept : (before after : Recorded) (s : Step) (o : Outcome) → Sound before → length after.state.actors ≡ after.state.limits.actors → Turns before after s o → Sound after
 kept before after s o sound fits (Comes k call opens within idle here others events) = come_sound before after sound fits k call opens here others events
 kept before after s o sound fits (Stays k p kind had same events) = stay_sound before after sound fits same events
 kept before after s o sound fits (Leaves k p answer had none others events) = leave_sound before after sound fits k p answer had none others events
@@ -220,12 +223,12 @@ none_shown zero k = refl
 none_shown (suc n) zero = refl
 none_shown (suc n) (suc k) = none_shown n k
 
-first_runs : (limits : Limits) (actor : ℕ) → runs (first_state limits) actor ≡ None
+first_runs : (limits : Bounds) (actor : ℕ) → runs (first_state limits) actor ≡ None
 unfolding first_state
 first_runs limits zero = refl
 first_runs limits (suc k) = none_shown limits.actors k
 
-pub sound_at_first : (limits : Limits) → Sound (first_state limits)
+pub sound_at_first : (limits : Bounds) → Sound (recorded (first_state limits) (first_record limits))
 unfolding first_state account_from
 sound_at_first limits = record {
   fits = length-replicate limits.actors None;
@@ -234,6 +237,7 @@ sound_at_first limits = record {
   match = λ actor. first_runs limits actor;
 }
 
-pub sound_along : (limits : Limits) (steps : List Step) → Sound (run limits steps)
-sound_along limits = along limits Sound (sound_at_first limits)
-    (λ steps s o after m sound. kept (run limits steps) after s o sound (fits_after (run limits steps) after s o m sound.fits) (turns (run limits steps) s o after sound.fits m))
+pub sound_along : (limits : Bounds) (steps : List Step) → Sound (recorded_of limits steps)
+sound_along limits = along_with limits (λ state past. Sound (recorded state past)) (sound_at_first limits) (λ steps s o after m sound. kept (recorded_of limits steps)
+    (recorded after (noted (record_of limits steps) (run limits steps).steps (told_in (run limits steps) s))) s o sound
+    (fits_after (run limits steps) after s o m sound.fits) (turns (run limits steps) (record_of limits steps) s o after sound.fits (alike_along limits steps).begun_are m))

@@ -8,18 +8,20 @@ use Rattle.history.specs.declared.replies.Reply.{Reply}
 use Rattle.history.specs.declared.events.Event.{Event}
 use Rattle.history.specs.declared.events.Event.TheVariants.{Begin, End}
 use Rattle.history.specs.Histories.{Operation, BeginsAt, EndsAt, begun}
-use Rattle.machine_model.specs.declared.steps.Limits.{Limits}
-use Rattle.machine_model.specs.declared.steps.Step.{Step}
-use Rattle.machine_model.specs.declared.steps.Outcome.{Outcome}
-use Rattle.machine_model.specs.States.{State, first_state}
-use Rattle.machine_model.specs.Machine.{run}
-use Rattle.machine_model.proofs.Along.{along}
+use Rattle.lock_runner.specs.Beneath.machine_model.specs.declared.steps.Bounds.{Bounds}
+use Rattle.lock_runner.specs.Beneath.machine_model.specs.declared.steps.Step.{Step}
+use Rattle.lock_runner.specs.Beneath.machine_model.specs.declared.steps.Outcome.{Outcome}
+use Rattle.lock_runner.specs.Beneath.machine_model.specs.Machine.{run}
+use Rattle.lock_runner.specs.Beneath.machine_model.specs.Records.{first_record, noted, record_of}
+use Rattle.lock_runner.specs.Beneath.machine_model.specs.Tellings.{told_in}
+use Rattle.lock_runner.specs.Beneath.machine_model.proofs.Alike.{alike_along}
+use Rattle.lock_runner.specs.Beneath.machine_model.proofs.Recorded.{along_with}
 use Rattle.lock_runner.specs.declared.accounts.Answer.{Answer}
 use Rattle.lock_runner.specs.declared.accounts.Running.{Running}
 use Rattle.lock_runner.specs.ActorHistory.{account_of, account_from, begun_at, answered_at}
 use Rattle.lock_runner.specs.ActorHistory.Answers.{IsOperationOf, IsToldIn, AreAnswersOf}
 use Rattle.lock_runner.specs.ActorHistory.Laws.{AnswersAreThoseOfTheHistory}
-use Rattle.lock_runner.proofs.ActorHistory.Turns.{Turns, Comes, Stays, Leaves, Rests, turns}
+use Rattle.lock_runner.proofs.ActorHistory.Turns.{Recorded, recorded, recorded_of, Turns, Comes, Stays, Leaves, Rests, turns}
 use Rattle.history.proofs.Begins.{begun_push, begun_same}
 use Rattle.history.proofs.Places.{at_cases, at_front, at_seam}
 use Rattle.lock_runner.proofs.ActorHistory.Sound.{Sound, IsAnswered, sound_along, fits_after, later_own, later_other, leave_other, leave_own}
@@ -270,7 +272,7 @@ module _ (history : List Event) (told : Told history) (owner id : ℕ) (reply : 
 
 -- ---- every run
 
-told_after : (before after : State) (s : Step) (o : Outcome) → Sound before → length after.actors ≡ after.limits.actors → Turns before after s o → Told before.events → Told after.events
+told_after : (before after : Recorded) (s : Step) (o : Outcome) → Sound before → length after.state.actors ≡ after.state.limits.actors → Turns before after s o → Told before.events → Told after.events
 told_after before after s o sound fits (Comes k call opens within idle here others events) told = subst Told (sym events) (later_told before.events told (suc k) call opens)
 told_after before after s o sound fits (Stays k p kind had same events) told = subst Told (sym events) told
 told_after before after s o sound fits (Leaves k p answer had none others events) told =
@@ -295,14 +297,14 @@ told_at_first = record {
   };
 }
 
-first_told : (limits : Limits) → Told (first_state limits).events
-unfolding first_state
+first_told : (limits : Bounds) → Told (first_record limits).events
 first_told limits = told_at_first
 
-pub told_along : (limits : Limits) (steps : List Step) → Told (run limits steps).events
-told_along limits = along limits (λ state. Told state.events) (first_told limits)
+pub told_along : (limits : Bounds) (steps : List Step) → Told (record_of limits steps).events
+told_along limits = along_with limits (λ state past. Told past.events) (first_told limits)
     (λ steps s o after m told. let sound = sound_along limits steps in
-    told_after (run limits steps) after s o sound (fits_after (run limits steps) after s o m sound.fits) (turns (run limits steps) s o after sound.fits m) told)
+    told_after (recorded_of limits steps) (recorded after (noted (record_of limits steps) (run limits steps).steps (told_in (run limits steps) s))) s o sound
+    (fits_after (run limits steps) after s o m sound.fits) (turns (run limits steps) (record_of limits steps) s o after sound.fits (alike_along limits steps).begun_are m) told)
 
 pub answers_are_those_of_the_history : AnswersAreThoseOfTheHistory
 answers_are_those_of_the_history limits steps actor = (told_along limits steps).right actor

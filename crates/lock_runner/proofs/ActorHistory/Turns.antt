@@ -1,30 +1,35 @@
 -- What a step does to the history and to the ids and calls of the running operations.
 use Rattle.std.specs.Prelude.{◌≡◌, ℕ, zero, suc, ◌-◌, ◌<◌, List, [], ◌∷◌, ◌++◌, length, Option, Some, None}
-use Rattle.std.proofs.Common.{refl, sym, ap, ◌∙◌, get_or, set, arith}
+use Rattle.std.proofs.Common.{refl, sym, ap, subst, ◌∙◌, get_or, set, arith}
 use Rattle.std.proofs.Math.ListN.{get_or-map}
 use Rattle.std.proofs.lemmas.List.{get_or_past, get_or-set_same, get_or-set_other, length-set}
 use Rattle.std.proofs.lemmas.Bool.{cases_lt}
 use Rattle.std.proofs.Common.{inl, inr}
 use Rattle.history.specs.declared.calls.Call.{Call}
 use Rattle.history.specs.declared.replies.Reply.{Reply}
+use Rattle.history.specs.declared.events.Event.{Event}
 use Rattle.history.specs.declared.events.Event.TheVariants.{Begin, End}
 use Rattle.history.specs.Histories.{begun}
-use Rattle.machine_model.specs.declared.operations.Operation.{Operation}
-use Rattle.machine_model.specs.declared.steps.Step.{Step}
-use Rattle.machine_model.specs.declared.steps.Step.TheVariants as step
-use Rattle.machine_model.specs.declared.steps.Outcome.{Outcome}
-use Rattle.machine_model.specs.declared.steps.Outcome.TheVariants as outcome
-use Rattle.machine_model.specs.States.{State, operation_of}
-use Rattle.machine_model.specs.Acting.{marked, operation_after, gone, ended}
+use Rattle.lock_runner.specs.Beneath.machine_model.specs.declared.operations.Operation.{Operation}
+use Rattle.lock_runner.specs.Beneath.machine_model.specs.declared.steps.Step.{Step}
+use Rattle.lock_runner.specs.Beneath.machine_model.specs.declared.steps.Step.TheVariants as step
+use Rattle.lock_runner.specs.Beneath.machine_model.specs.declared.steps.Outcome.{Outcome}
+use Rattle.lock_runner.specs.Beneath.machine_model.specs.declared.steps.Outcome.TheVariants as outcome
+use Rattle.lock_runner.specs.Beneath.machine_model.specs.States.{State, operation_of}
+use Rattle.lock_runner.specs.Beneath.machine_model.specs.Acting.{marked, operation_after, gone, ended}
 use Rattle.std.specs.Prelude.{◌+◌}
 use Rattle.std.proofs.Common.{leb-true}
 use Rattle.std.proofs.lemmas.Option.{none-some}
-use Rattle.machine_model.specs.Machine.{begin_denial, with_begin, swept}
-use Rattle.machine_model.specs.Moves.{Begins, Goes, Ends, Sweeps}
-use Rattle.machine_model.specs.Moves.{Moves, begun_operation}
-use Rattle.machine_model.proofs.Actors.{after_marks, marks_by, gone_actors, begin_actors}
-use Rattle.machine_model.proofs.Frames.{begin_events}
-use Rattle.lock_runner.specs.Beneath.proof_order.proofs.History.AllBooks.{gone_events}
+use Rattle.lock_runner.specs.Beneath.machine_model.specs.Machine.{begin_denial, with_begin, swept}
+use Rattle.lock_runner.specs.Beneath.machine_model.specs.Moves.{Begins, Goes, Ends, Sweeps}
+use Rattle.lock_runner.specs.Beneath.machine_model.specs.Moves.{Moves, begun_operation}
+use Rattle.lock_runner.specs.Beneath.machine_model.proofs.Actors.{after_marks, marks_by, gone_actors, begin_actors}
+use Rattle.lock_runner.specs.Beneath.machine_model.specs.declared.steps.Bounds.{Bounds}
+use Rattle.lock_runner.specs.Beneath.machine_model.specs.Machine.{run}
+use Rattle.lock_runner.specs.Beneath.machine_model.specs.Records.{Record, noted, record_of}
+use Rattle.lock_runner.specs.Beneath.machine_model.specs.Tellings.{told_in}
+use Rattle.lock_runner.specs.Beneath.machine_model.proofs.Notes.{noted_going}
+use Rattle.lock_runner.specs.Beneath.proof_order.proofs.History.Recalling.{end_event}
 
 -- the id and the call of an operation
 abbrev pub Shown : Type 0
@@ -64,18 +69,30 @@ ran_elsewhere xs i k put apart = ap shown (get_or-set_other xs i k put None apar
 ran_same : (xs : List (Option Operation)) (i k : ℕ) (put : Option Operation) → shown put ≡ ran xs i → ran (set xs i put) k ≡ ran xs k
 ran_same xs i k put same = grind (arith, ran_set xs i put, ran_elsewhere xs i k put, get_or_past, length-set)
 
+-- a state, and the history that is recorded
+pub record Recorded : Type 0 where
+  pub state : State
+  pub events : List Event
+
+abbrev pub recorded : State → Record → Recorded
+recorded state past = record { state = state; events = past.events }
+
+-- those that these steps lead to
+abbrev pub recorded_of : Bounds → List Step → Recorded
+recorded_of limits steps = recorded (run limits steps) (record_of limits steps)
+
 -- how a step changes the history and what is run; the actor k + 1 has the place k
-pub data Turns (before after : State) : Step → Outcome → Type 0 where
-  Comes : (k : ℕ) (call : Call) (opens : Option ℕ) → k < length before.actors → ran before.actors k ≡ None →
-      ran after.actors k ≡ Some (begun before.events, call) → ((j : ℕ) → (j ≡ k → ⊥) → ran after.actors j ≡ ran before.actors j) →
+pub data Turns (before after : Recorded) : Step → Outcome → Type 0 where
+  Comes : (k : ℕ) (call : Call) (opens : Option ℕ) → k < length before.state.actors → ran before.state.actors k ≡ None →
+      ran after.state.actors k ≡ Some (begun before.events, call) → ((j : ℕ) → (j ≡ k → ⊥) → ran after.state.actors j ≡ ran before.state.actors j) →
       after.events ≡ before.events ++ Begin (begun before.events) (suc k) call opens ∷ [] →
       Turns before after (step.Begin (suc k) call) (outcome.Began (begun before.events))
-  Stays : (k : ℕ) (p : Shown) (kind : _) → ran before.actors k ≡ Some p → ((j : ℕ) → ran after.actors j ≡ ran before.actors j) →
+  Stays : (k : ℕ) (p : Shown) (kind : _) → ran before.state.actors k ≡ Some p → ((j : ℕ) → ran after.state.actors j ≡ ran before.state.actors j) →
       after.events ≡ before.events → Turns before after (step.Go (suc k)) (outcome.Went kind)
-  Leaves : (k : ℕ) (p : Shown) (answer : Reply) → ran before.actors k ≡ Some p → ran after.actors k ≡ None →
-      ((j : ℕ) → (j ≡ k → ⊥) → ran after.actors j ≡ ran before.actors j) → after.events ≡ before.events ++ End p.0 answer ∷ [] →
+  Leaves : (k : ℕ) (p : Shown) (answer : Reply) → ran before.state.actors k ≡ Some p → ran after.state.actors k ≡ None →
+      ((j : ℕ) → (j ≡ k → ⊥) → ran after.state.actors j ≡ ran before.state.actors j) → after.events ≡ before.events ++ End p.0 answer ∷ [] →
       Turns before after (step.Go (suc k)) (outcome.Ended p.0 answer)
-  Rests : (swept : _) → ((j : ℕ) → ran after.actors j ≡ ran before.actors j) → after.events ≡ before.events → Turns before after step.Sweep (outcome.Swept swept)
+  Rests : (swept : _) → ((j : ℕ) → ran after.state.actors j ≡ ran before.state.actors j) → after.events ≡ before.events → Turns before after step.Sweep (outcome.Swept swept)
 
 back : (k : ℕ) → suc k - 1 ≡ k
 back k = omega arith
@@ -87,19 +104,22 @@ begins_as : (state : State) (actor : ℕ) (call : Call) → begin_denial state a
     (0 < actor) × (actor < state.limits.actors + 1) × (operation_of state actor ≡ None)
 begins_as state actor call d = (grind arith, grind (arith, leb-true), grind arith)
 
-come : (state : State) (k : ℕ) (call : Call) → length state.actors ≡ state.limits.actors → begin_denial state (suc k) call ≡ None →
-    (after : State) → after.actors ≡ (with_begin state (suc k) call (begun_operation state call)).actors →
-    after.events ≡ (with_begin state (suc k) call (begun_operation state call)).events →
-    Turns state after (step.Begin (suc k) call) (outcome.Began (begun state.events))
-come state k call fits d after actors events =
+come : (state : State) (past now : Record) (k : ℕ) (call : Call) → length state.actors ≡ state.limits.actors → begun past.events ≡ state.begun →
+    begin_denial state (suc k) call ≡ None → (after : State) → after.actors ≡ (with_begin state (suc k) call (begun_operation state call)).actors →
+    now.events ≡ past.events ++ Begin state.begun (suc k) call (begun_operation state call).opens ∷ [] →
+    Turns (recorded state past) (recorded after now) (step.Begin (suc k) call) (outcome.Began state.begun)
+come state past now k call fits count d after actors events =
     let operation = begun_operation state call in
     let was = begins_as state (suc k) call d in
     let within : k < length state.actors = omega (arith, was.1) in
     let put : after.actors ≡ set state.actors k (Some operation) =
     actors ∙ begin_actors state (suc k) call operation ∙ ap (λ i. set state.actors i (Some operation)) (back k) in
-    Comes k call operation.opens within (ap shown was.2) (ap (λ xs. ran xs k) put ∙ ran_set state.actors k (Some operation) within)
+    let turn : Turns (recorded state past) (recorded after now) (step.Begin (suc k) call) (outcome.Began (begun past.events)) =
+    Comes k call operation.opens within (ap shown was.2)
+    (ap (λ xs. ran xs k) put ∙ ran_set state.actors k (Some operation) within ∙ ap (λ id. Some (id, call)) (sym count))
     (λ j apart. ap (λ xs. ran xs j) put ∙ ran_elsewhere state.actors k j (Some operation) apart)
-    (events ∙ begin_events state (suc k) call operation)
+    (events ∙ ap (λ id. past.events ++ Begin id (suc k) call operation.opens ∷ []) (sym count)) in
+    subst (λ id. Turns (recorded state past) (recorded after now) (step.Begin (suc k) call) (outcome.Began id)) count turn
 
 -- ---- a step of an operation
 
@@ -114,10 +134,10 @@ gone_ran state k operation is j =
     ∙ ap (λ i. ran (set state.actors i (Some (operation_after state operation))) j) (back k)
     ∙ ran_same state.actors k j (Some (operation_after state operation)) (shown_after state operation ∙ ap shown (sym is))
 
-leave : (state : State) (k : ℕ) (operation : Operation) (answer : Reply) → operation_of state (suc k) ≡ Some operation → (after : State) →
-    after.actors ≡ (ended state (suc k) operation answer).actors → after.events ≡ (ended state (suc k) operation answer).events →
-    Turns state after (step.Go (suc k)) (outcome.Ended operation.id answer)
-leave state k operation answer is after actors events =
+leave : (state : State) (past now : Record) (k : ℕ) (operation : Operation) (answer : Reply) → operation_of state (suc k) ≡ Some operation → (after : State) →
+    after.actors ≡ (ended state (suc k)).actors → now.events ≡ past.events ++ End operation.id answer ∷ [] →
+    Turns (recorded state past) (recorded after now) (step.Go (suc k)) (outcome.Ended operation.id answer)
+leave state past now k operation answer is after actors events =
     let put : after.actors ≡ set state.actors k None = actors ∙ ap (λ i. set state.actors i None) (back k) in
     Leaves k (operation.id, operation.call) answer (ap shown is) (ap (λ xs. ran xs k) put ∙ ran_set_none state.actors k)
     (λ j apart. ap (λ xs. ran xs j) put ∙ ran_elsewhere state.actors k j None apart) events
@@ -127,16 +147,19 @@ leave state k operation answer is after actors events =
 no_actor : {A : Type 0} → 0 < 0 → A
 no_actor h = absurd (omega arith)
 
-rest : (state after : State) → after.actors ≡ state.actors → after.events ≡ state.events → Turns state after step.Sweep (swept state).0
-rest state after actors events = Rests _ (λ j. ap (λ xs. ran xs j) actors) events
+rest : (state after : State) (past : Record) → after.actors ≡ state.actors → Turns (recorded state past) (recorded after past) step.Sweep (swept state).0
+rest state after past actors = Rests _ (λ j. ap (λ xs. ran xs j) actors) refl
 
--- each step that is taken
-pub turns : (state : State) (s : Step) (o : Outcome) (after : State) → length state.actors ≡ state.limits.actors → Moves state s o after → Turns state after s o
-turns state s o after fits (Begins {actor = zero} {call = call} d) = no_actor (begins_as state zero call d).0
-turns state s o after fits (Begins {actor = suc k} {call = call} d) = come state k call fits d _ refl refl
-turns state s o after fits (Goes {actor = zero} {operation = operation} d is a g) = absurd (none-some operation is)
-turns state s o after fits (Goes {actor = suc k} {operation = operation} d is a g) =
-    Stays k (operation.id, operation.call) _ (ap shown is) (gone_ran state k operation is) (gone_events state (suc k) operation)
-turns state s o after fits (Ends {actor = zero} {operation = operation} d is a) = absurd (none-some operation is)
-turns state s o after fits (Ends {actor = suc k} {operation = operation} {answer = answer} d is a) = leave state k operation answer is _ refl refl
-turns state s o after fits (Sweeps spent) = rest state _ refl refl
+-- each step that is taken, and is told
+pub turns : (state : State) (past : Record) (s : Step) (o : Outcome) (after : State) → length state.actors ≡ state.limits.actors → begun past.events ≡ state.begun →
+    Moves state s o after → Turns (recorded state past) (recorded after (noted past state.steps (told_in state s))) s o
+turns state past s o after fits count (Begins {actor = zero} {call = call} d) = no_actor (begins_as state zero call d).0
+turns state past s o after fits count (Begins {actor = suc k} {call = call} d) = come state past (noted past state.steps (told_in state (step.Begin (suc k) call))) k call fits count d _ refl refl
+turns state past s o after fits count (Goes {actor = zero} {operation = operation} d is a g) = absurd (none-some operation is)
+turns state past s o after fits count (Goes {actor = suc k} {operation = operation} {action = action} d is a g) =
+    Stays k (operation.id, operation.call) _ (ap shown is) (gone_ran state k operation is)
+    (ap (λ (r : Record). r.events) (noted_going state past (suc k) operation action is a g))
+turns state past s o after fits count (Ends {actor = zero} {operation = operation} d is a) = absurd (none-some operation is)
+turns state past s o after fits count (Ends {actor = suc k} {operation = operation} {answer = answer} d is a) =
+    leave state past (noted past state.steps (told_in state (step.Go (suc k)))) k operation answer is _ refl (end_event state past (suc k) operation answer is a)
+turns state past s o after fits count (Sweeps spent) = rest state _ past refl

@@ -18,7 +18,6 @@ use Rattle.script_text.specs.declared.commands.Command.{Command}
 use Rattle.script_text.specs.declared.commands.Command.TheVariants as command
 use Rattle.script_text.specs.Headers.{slots_of, actors_of}
 use Rattle.script_text.specs.Commands.{command_of}
-use Rattle.script_text.specs.Reading as script
 use Rattle.script_text.specs.Reading.{command_dialect, script_format, script_of}
 use Rattle.script_text.specs.declared.thread_lines.ThreadLine.{ThreadLine}
 use Rattle.script_text.specs.declared.thread_lines.ThreadLine.TheVariants.{Do, Sweep}

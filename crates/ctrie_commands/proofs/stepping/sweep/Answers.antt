@@ -1,14 +1,14 @@
 use Rattle.std.proofs.Common.{◌≡◌, ◌+◌, ◌-◌, sym, ◌∙◌, arith}
-use Rattle.ctrie_commands.specs.Beneath.step_machine.specs.Machines.{state_of}
+use Rattle.ctrie_commands.specs.Recorded.{recorded_in}
 use Rattle.ctrie_commands.proofs.Carrying.{sweeping_none, sweeping_on}
 use Rattle.ctrie_commands.proofs.stepping.sweep.Goals as goal
 
 pub loop-preserved : goal.loop-preserved
 loop-preserved c =
     let fewer : c.args.times - c.loop.counter ≡ (c.args.times - (c.loop.counter + 1)) + 1 = omega arith in
-    sym (sweeping_on _ _ (state_of c.loop.machine) (state_of c.take.new.machine) fewer c.in_ok-take.ensures.state) ∙ c.loop.invariant
+    sym (sweeping_on _ _ (recorded_in c.loop.machine) (recorded_in c.take.new.machine) fewer c.in_ok-take.ensures.state) ∙ c.loop.invariant
 
 pub returns-clause-state : goal.returns-clause-state
 returns-clause-state c =
     let none : c.args.times - c.loop.counter ≡ 0 = omega arith in
-    sym (sweeping_none (state_of c.loop.machine)) ∙ (rw none at c.loop.invariant)
+    sym (sweeping_none (recorded_in c.loop.machine)) ∙ (rw none at c.loop.invariant)

@@ -1,29 +1,25 @@
-use Rattle.std.proofs.Common.{rules, ◌≡◌, ◌∙◌, arith}
-use Rattle.lock_runner.proofs.Making.{split_allowed, cut_off, left_over, fresh_seated, seat_is_fresh, one_more_fresh, all_fresh}
-use Rattle.std.proofs.lemmas.List.Elements.{All-same}
-use Rattle.lock_runner.specs.Seats.{Seated}
+use Rattle.std.proofs.Common.{◌≡◌, [], ◌++◌, ap, sym, ◌∙◌, append-nil, map}
+use Rattle.lock_runner.specs.Opening.{IsFreshPass, opened}
+use Rattle.lock_runner.proofs.Making.{fresh_seated, opened_next}
+use Rattle.lock_runner.proofs.Ends.{of_each, next_at, moved_on, none_left}
 use Rattle.lock_runner.proofs.opening.seats_of.Goals as goal
 
-pub split_seat-pass-requires : goal.split_seat-pass-requires
-split_seat-pass-requires c =
-    (c.loop-n.invariant.1, search rules, split_allowed _ _ _ _ c.loop-n.n _ c.loop-n-test.true c.loop-n.invariant.0)
+pub loop-pass-init : goal.loop-pass-init
+loop-pass-init c = record { seats = c.new-seats.ensures.items; left = sym c.into_iter-pass-iterator.ensures.into_iter_gives.0 }
 
 pub invariant_of-push : goal.invariant_of-push
 invariant_of-push c =
-    let cut = cut_off _ _ _ c.loop-n.n _ c.loop-n-test.true c.loop-n.invariant.0 c.split_seat-pass.ensures.4 in
-    fresh_seated _ _ _ _ cut c.new.ensures.items (omega arith) (omega (arith, c.loop-n-test.true, c.requires.in_range.2))
+    let at = next_at _ _ _ _ c.in-Some.pass c.loop-pass.invariant.left c.in-Some.ensures.steps.0 in
+    fresh_seated c.args.limits c.in-Some.pass c.new.result.items (of_each (λ pass. IsFreshPass c.args.limits pass) _ _ _ c.requires at) c.new.ensures.items
 
-pub loop-n-preserved : goal.loop-n-preserved
-loop-n-preserved c =
-    let cut = cut_off _ _ _ c.loop-n.n _ c.loop-n-test.true c.loop-n.invariant.0 c.split_seat-pass.ensures.4 in
-    let e = c.split_seat-pass.ensures in (
-      left_over _ _ _ c.loop-n.n _ c.loop-n-test.true c.loop-n.invariant.0 e.2,
-      e.0 ∙ c.loop-n.invariant.1,
-      one_more_fresh _ _ c.loop-n.n _ _ _ c.loop-n.invariant.2 c.in_ok-push.ensures.items
-          (seat_is_fresh _ _ _ _ _ _ (e.3 ∙ c.loop-n.invariant.1) cut c.new.ensures.items),
-    )
+pub loop-pass-preserved : goal.loop-pass-preserved
+loop-pass-preserved c = record {
+  seats = opened_next c.loop-pass.yielded c.in-Some.pass _ _ c.new.result.items c.loop-pass.invariant.seats c.new.ensures.items c.in_ok-push.ensures.items;
+  left = moved_on _ _ _ _ c.in-Some.pass c.loop-pass.invariant.left c.in-Some.ensures.steps.0;
+}
 
-pub returns-clause-each : goal.returns-clause-each
-returns-clause-each c =
-    All-same (λ (seat : Seated). seat.runner ≡ c.args.table.now.shared.table_id) _ _ c.loop-n.invariant.2
-    (all_fresh c.args.table.now.shared.table_id c.args.terms.limits 1 c.loop-n.n)
+pub returns : goal.returns
+returns c =
+    let none : c.loop-pass.pass-iterator.rest.items ≡ [] = none_left _ _ c.loop-pass.pass-iterator.rest.ok.0 c.in-None.ensures.steps.0 in
+    let whole = c.loop-pass.invariant.left ∙ ap (λ xs. c.loop-pass.yielded ++ xs) none ∙ append-nil _ in
+    c.loop-pass.invariant.seats ∙ ap (λ xs. map opened xs) (sym whole)

@@ -12,7 +12,7 @@ loop-seat-preserved g c =
     let done = c.push.ensures.succeeds fits in
     let pushed : c.push.new.self.items ≡ c.loop-seat.plain.items ++ c.in-Some.seat ∷ [] = search (rules, done) in
     let longer : vec_len c.push.new.self ≡ vec_len c.loop-seat.plain + 1 = search (rules, done) in
-    let Its : Seated → Type 0 = λ seat. seat.runner ≡ g.N.Name.runner in
+    let Its : Seated → Type 0 = λ seat. seat.runner ≡ g.N.Name.gate in
     let its : Its c.in-Some.seat = search rules in
     record {
       same = search (rules, pushed);

@@ -5,7 +5,7 @@ use Rattle.lock_runner.proofs.naming.NamedRunner.unnamed.Given as goal
 abbrev pub invariant-loop-seat : goal.invariant-loop-seat
 invariant-loop-seat g l = record {
   same : l.plain.items ≡ l.yielded;
-  its : All (λ seat. seat.runner ≡ g.N.Name.runner) l.plain.items;
+  its : All (λ seat. seat.runner ≡ g.N.Name.gate) l.plain.items;
   left : l.fn.seats.items ≡ l.yielded ++ l.seat-iterator.rest.items;
   room : vec_len l.plain + length l.seat-iterator.rest.items ≤ vec_capacity l.plain;
 }

@@ -1,24 +1,17 @@
-use Rattle.std.proofs.Common.{rules, refl, subst}
-use Rattle.lock_runner.specs.Finishing.{AreHere, IsMissing}
-use Rattle.lock_runner.proofs.Ends.{with_record, without_memory}
+use Rattle.std.proofs.Common.{All, subst}
+use Rattle.lock_runner.specs.Seats.{IsTold}
+use Rattle.lock_runner.proofs.Ends.{finished, with_record, without_memory}
 use Rattle.lock_runner.proofs.runner.Runner.finish.Goals as goal
 
-pub gather-requires-clause-all : goal.gather-requires-clause-all
-gather-requires-clause-all c =
-    subst (λ xs. AreHere c.args.self.seats xs) c.as_slice.ensures.value (c.has_all.ensures.all (search (rules, c.if-not-has_all.false)))
+pub returns-in-Ok-into_record : goal.returns-in-Ok-into_record
+returns-in-Ok-into_record c =
+    let told = subst (λ xs. All IsTold xs) c.as_slice.ensures.value c.all_are_told.ensures in
+    let all = finished c.self.inside.gate c.args.self c.args.seats.items c.in-Ok.field-0 c.self.view_is c.self.invariant told c.in-Ok.ensures in
+    let e = c.in-Ok-into_record.ensures in
+    with_record c.args.self c.args.seats.items c.in-Ok.field-0.machine c.in-Ok-into_record.record all.0 all.1 e.«record» e.taken e.legal
 
-pub returns-then-not-has_all : goal.returns-then-not-has_all
-returns-then-not-has_all c =
-    (subst (λ xs. IsMissing c.args.self.seats xs) c.as_slice.ensures.value (c.has_all.ensures.missing c.if-not-has_all.true), refl, refl)
-
-pub returns-in-Ok : goal.returns-in-Ok
-returns-in-Ok c =
-    with_record c.args.self c.args.seats.items c.gather.result c.in-Ok.record
-    (subst (λ xs. AreHere c.args.self.seats xs) c.as_slice.ensures.value (c.has_all.ensures.all (search (rules, c.if-not-has_all.false))))
-    c.gather.ensures c.in-Ok.ensures.«record» c.in-Ok.ensures.taken c.in-Ok.ensures.legal
-
-pub returns-in-Err : goal.returns-in-Err
-returns-in-Err c =
-    without_memory c.args.self c.args.seats.items c.gather.result c.in-Err.machine
-    (subst (λ xs. AreHere c.args.self.seats xs) c.as_slice.ensures.value (c.has_all.ensures.all (search (rules, c.if-not-has_all.false))))
-    c.gather.ensures c.in-Err.ensures.same
+pub returns-in-Err-into_record : goal.returns-in-Err-into_record
+returns-in-Err-into_record c =
+    let told = subst (λ xs. All IsTold xs) c.as_slice.ensures.value c.all_are_told.ensures in
+    let all = finished c.self.inside.gate c.args.self c.args.seats.items c.in-Ok.field-0 c.self.view_is c.self.invariant told c.in-Ok.ensures in
+    without_memory c.args.self c.args.seats.items c.in-Ok.field-0.machine c.in-Err-into_record.machine all.0 all.1 c.in-Err-into_record.ensures.same

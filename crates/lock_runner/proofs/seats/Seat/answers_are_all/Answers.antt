@@ -1,5 +1,5 @@
 use Rattle.std.proofs.Common.{subst}
-use Rattle.step_machine.specs.Machines.{state_of}
+use Rattle.step_machine.specs.Machines.{past_of}
 use Rattle.lock_runner.specs.Seats.{Seated}
 use Rattle.lock_runner.specs.ActorHistory.Answers.{AreAnswersOf}
 use Rattle.lock_runner.proofs.Seating.{seated_answers}
@@ -7,5 +7,5 @@ use Rattle.lock_runner.proofs.seats.Seat.answers_are_all.Goals as goal
 
 pub returns : goal.returns
 returns c =
-    let So : Seated → Type 0 = λ s. AreAnswersOf s.actor (state_of s.seen).events s.answers in
-    subst So c.self.view_is (seated_answers _ _ _ _ _ c.self.invariant)
+    let So : Seated → Type 0 = λ s. AreAnswersOf s.actor (past_of s.seen).events s.answers in
+    subst So c.self.view_is (seated_answers _ _ _ _ c.self.invariant)
