@@ -13,11 +13,14 @@
  *     ctrie_free(&map);
  *
  * Handles are numbers that are used again: once one is closed, a later copy may get the same number, and one that was
- * kept names that copy then. A map keeps a record of its steps: each change takes about 1.1 kB more, until ctrie_free.
+ * kept names that copy then.
+ *
+ * A map's memory is what ctrie_new took, until ctrie_free: some 325 bytes a slot and 26 kB, however long it
+ * lives. Beside it ctrie_count and ctrie_entries take memory for a list of the pairs, and give it back at their end.
  *
  * Each call answers a code: CTRIE_DONE, CTRIE_NO or CTRIE_YES where it was done, else why it was refused. A call that
- * is refused changes no map, but after CTRIE_UNFINISHED. What a call has to tell beside its code it writes where the
- * last pointer says, and only then: a value at CTRIE_YES, a number or a handle at CTRIE_DONE.
+ * is refused changes no map. What a call has to tell beside its code it writes where the last pointer says, and only
+ * then: a value at CTRIE_YES, a number or a handle at CTRIE_DONE.
  *
  * What the caller owes: no pointer is null, each points to what its type says, and no two of a call overlap. A struct
  * ctrie is CTRIE_NONE before its first call, and is changed by these calls alone; it isn't copied, but may be moved.
@@ -54,13 +57,11 @@ enum ctrie_code {
     CTRIE_READ_ONLY = 3,    /* a change, a snapshot or a freeze of a read-only map */
     CTRIE_HANDLES_FULL = 4, /* a snapshot or a freeze while 256 handles are open */
     CTRIE_CROWDED = 5,      /* the key has no value, and 32 other keys have its hash */
-    CTRIE_FULL = 6,         /* no slot was free; it comes only where fewer than CTRIE_SLOTS_FOR_A_CALL were before */
+    CTRIE_FULL = 6,         /* the call was to make a node, and no slot was free; it comes only where fewer than
+                               CTRIE_SLOTS_FOR_A_CALL were before it, or 23 where it is a clear, snapshot or freeze */
     CTRIE_BAD_SIZES = 7,    /* the number of slots isn't from 2 to 65,536 */
-    CTRIE_WORN_OUT = 8,     /* less work is left than a call may take, of 2^40 steps in all; the map can be read */
-    CTRIE_MEMORY = 9,       /* malloc refused, and no map has changed */
-    CTRIE_UNFINISHED = 10,  /* malloc refused in the midst of a change, which is done but for its answer, or would have
-                               been refused as crowded or full; the map can't be read until a later change, or
-                               ctrie_free_slots, has brought the rest to its end */
+    CTRIE_WORN_OUT = 8,     /* less work is left than a call may take, of 2^47 steps in all; the map can be read */
+    CTRIE_MEMORY = 9,       /* malloc refused; only of ctrie_new, ctrie_count and ctrie_entries */
     CTRIE_NO_MAP = 11,      /* no map is held */
     CTRIE_HAS_MAP = 12,     /* ctrie_new where a map is held already, which stays */
     CTRIE_BAD_HASH = 13     /* ctrie_new with another number than those of enum ctrie_hash */
@@ -103,19 +104,19 @@ void ctrie_free(struct ctrie *map);
 
 /* ---- reading: these change nothing. Each may answer NO_MAP, and else only what is said */
 
-/* YES with the key's value, or NO. It takes no memory. NO_HANDLE, UNFINISHED. */
+/* YES with the key's value, or NO. NO_HANDLE. */
 uint32_t ctrie_get(struct ctrie *map, uint16_t handle, uint64_t key, uint64_t *value);
 
-/* YES where the key has a value, else NO. It takes no memory. NO_HANDLE, UNFINISHED. */
+/* YES where the key has a value, else NO. NO_HANDLE. */
 uint32_t ctrie_contains(struct ctrie *map, uint16_t handle, uint64_t key);
 
-/* DONE with how many keys have a value. It collects and sorts them all. NO_HANDLE, UNFINISHED, MEMORY. */
+/* DONE with how many keys have a value. It collects and sorts them all, in memory of its own. NO_HANDLE, MEMORY. */
 uint32_t ctrie_count(struct ctrie *map, uint16_t handle, uint64_t *count);
 
 /* Writes the next pairs in ascending order of keys, those after the cursor, at most as many as there is room for. DONE
    with how many; fewer than there is room for where none are left. The cursor is after them then. A listing of a handle
    whose map is changed in between goes on after the same key; a frozen copy is of one moment. Each call collects and
-   sorts all pairs of the map, in memory of its own: so give it room for many. NO_HANDLE, UNFINISHED, MEMORY.
+   sorts all pairs of the map, in memory of its own: so give it room for many. NO_HANDLE, MEMORY.
 
        struct ctrie_cursor cursor = CTRIE_START;
        struct ctrie_pair pairs[64];
@@ -127,16 +128,16 @@ uint32_t ctrie_count(struct ctrie *map, uint16_t handle, uint64_t *count);
 uint32_t ctrie_entries(struct ctrie *map, uint16_t handle, struct ctrie_cursor *cursor, struct ctrie_pair *pairs,
                        size_t room, uint64_t *count);
 
-/* DONE with how many handles are open. UNFINISHED. */
+/* DONE with how many handles are open. */
 uint32_t ctrie_handles(struct ctrie *map, uint32_t *handles);
 
 /* DONE with how many slots there are in all. */
 uint32_t ctrie_slots(struct ctrie *map, uint32_t *slots);
 
-/* DONE with how many slots no open handle reaches. It brings to an end what was left over. MEMORY, WORN_OUT. */
+/* DONE with how many slots no open handle reaches: the others are just those that one reaches. */
 uint32_t ctrie_free_slots(struct ctrie *map, uint32_t *free);
 
-/* ---- changing: NO_HANDLE, READ_ONLY, FULL, WORN_OUT, MEMORY, UNFINISHED, NO_MAP; CROWDED only where it is said */
+/* ---- changing: NO_HANDLE, READ_ONLY, FULL, WORN_OUT, NO_MAP; CROWDED only where it is said. No memory is taken */
 
 /* Sets the key's value. YES with the value before, or NO where it had none. CROWDED. */
 uint32_t ctrie_put(struct ctrie *map, uint16_t handle, uint64_t key, uint64_t value, uint64_t *before);
@@ -159,7 +160,7 @@ uint32_t ctrie_remove_if(struct ctrie *map, uint16_t handle, uint64_t key, uint6
 /* Removes all keys. DONE. */
 uint32_t ctrie_clear(struct ctrie *map, uint16_t handle);
 
-/* ---- handles: refused as changes are, and HANDLES_FULL */
+/* ---- handles: refused as changes are, and HANDLES_FULL. No memory is taken */
 
 /* DONE with the handle of a writable copy. */
 uint32_t ctrie_snapshot(struct ctrie *map, uint16_t handle, uint16_t *copy);

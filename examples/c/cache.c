@@ -1,4 +1,4 @@
-/* A cache of what is slow to work out. Its slots are bounded: when they are full it begins anew. */
+/* A cache of what is slow to work out. Its memory is bounded: when its slots are full it begins anew. */
 #include <ctrie.h>
 #include <stdio.h>
 

@@ -3,12 +3,12 @@ use Rattle.std.proofs.Common.{◌≡◌, ◌<◌, ℕ, sym, subst}
 use Rattle.std.specs.Prelude.{Option, Some, Result}
 use Rattle.ctrie_map.specs.declared.errors.MapError.{MapError}
 use Rattle.ctrie_map.specs.Maps.{MapState}
-use Rattle.ctrie_c.specs.Answers.{Does, no_map}
+use Rattle.ctrie_c.specs.Answers.{Does, code_limit}
 
 -- the handle, and the map that was taken out of its box
 pub carried : {A : Type 0} (Holds : ℕ → Result A MapError → MapState → MapState → Type 0)
     {handle named : ℕ} {before after : Option MapState} {old lent new : MapState} {code : ℕ} {told answer : Result A MapError}
-    → named ≡ handle → lent ≡ old → before ≡ Some old → after ≡ Some new → code < no_map → told ≡ answer → Holds named answer lent new → Does before after code (Holds handle told)
+    → named ≡ handle → lent ≡ old → before ≡ Some old → after ≡ Some new → code < code_limit → told ≡ answer → Holds named answer lent new → Does before after code (Holds handle told)
 carried {A} Holds {handle} {named} {before} {after} {old} {lent} {new} {code} {told} {answer} names same was is low tells holds =
     subst (λ (b : Option MapState). Does b after code (Holds handle told)) (sym was)
     (subst (λ (a : Option MapState). Does (Some old) a code (Holds handle told)) (sym is)

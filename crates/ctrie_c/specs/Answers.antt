@@ -1,8 +1,12 @@
 -- What an export's code tells.
 use Rattle.std.specs.Prelude.{◌≡◌, ◌<◌, ℕ, Bool, true, false, nat_eq, Option, Some, None, Result, Ok, Err, if◌then◌else◌}
 use Rattle.ctrie_map.specs.declared.errors.MapError.{MapError}
-use Rattle.ctrie_map.specs.declared.errors.MapError.TheVariants.{NoHandle, ReadOnly, HandlesFull, Crowded, Full, BadSizes, WornOut, Memory, Unfinished}
+use Rattle.ctrie_map.specs.declared.errors.MapError.TheVariants.{NoHandle, ReadOnly, HandlesFull, Crowded, Full, BadSizes, WornOut, Memory}
 use Rattle.ctrie_map.specs.Maps.{MapState}
+
+-- the codes by which a map's answers are told lie below
+abbrev pub code_limit : ℕ
+code_limit = 10
 
 -- of a call where there is no map, of a `ctrie_new` where there is one already, and of one that names no hash
 abbrev pub no_map : ℕ
@@ -18,7 +22,7 @@ bad_hash = 13
 abbrev pub refusal_of : ℕ → MapError
 refusal_of code =
     if nat_eq code 2 then NoHandle else if nat_eq code 3 then ReadOnly else if nat_eq code 4 then HandlesFull else if nat_eq code 5 then Crowded else if nat_eq code 6 then Full
-    else if nat_eq code 7 then BadSizes else if nat_eq code 8 then WornOut else if nat_eq code 9 then Memory else Unfinished
+    else if nat_eq code 7 then BadSizes else if nat_eq code 8 then WornOut else Memory
 
 -- 0 tells the one answer, 1 the other, and each further code why there is none
 abbrev pub told_by : {A : Type 0} → A → A → ℕ → Result A MapError
@@ -39,6 +43,6 @@ done_told code = told_by tt tt code
 
 -- what a call did with the map that is held, if there is one
 abbrev pub Does : Option MapState → Option MapState → ℕ → (MapState → MapState → Type 0) → Type 0
-Does (Some old) (Some new) code Holds = (code < no_map) × Holds old new
+Does (Some old) (Some new) code Holds = (code < code_limit) × Holds old new
 Does None None code Holds = code ≡ no_map
 Does before after code Holds = ⊥

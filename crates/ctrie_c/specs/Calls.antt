@@ -1,19 +1,23 @@
 -- What the calls do, each in the words of the map's own contract.
-use Rattle.std.specs.Prelude.{◌≡◌, ◌<◌, ℕ, nat_eq, Bool, Option, Some, None, Result, Ok, IfOk, IfErr, if◌then◌else◌}
+use Rattle.std.specs.Prelude.{◌≡◌, ◌<◌, ◌+◌, ℕ, nat_eq, length, Bool, Option, Some, None, Result, Ok, IfOk, IfErr, if◌then◌else◌}
 use Rattle.std.specs.FinMap as map
 use Rattle.ctrie_base.specs.declared.hashes.HashKind.{HashKind}
 use Rattle.ctrie_base.specs.declared.hashes.HashKind.TheVariants.{Low, Fold, Wide, Block}
 use Rattle.history.specs.declared.calls.Access.{Access}
+use Rattle.history.specs.declared.calls.Access.TheVariants.{Writable, ReadOnly}
+use Rattle.history.specs.declared.calls.Call.{Call}
+use Rattle.history.specs.declared.calls.Call.TheVariants.{Clear, Close, Freeze, Put, PutIfAbsent, Remove, RemoveIf, Replace, ReplaceIf, Snapshot}
 use Rattle.history.specs.Effects.{has_value}
 use Rattle.history.specs.Worlds.{KeyMap}
+use Rattle.ctrie_map.specs.Beneath.proof_alone.specs.Sweeps.{UsesReached}
+use Rattle.ctrie_map.specs.Beneath.slot_arena.specs.Heaps.{in_use}
 use Rattle.ctrie_map.specs.declared.errors.MapError.{MapError}
-use Rattle.ctrie_map.specs.Changes.{Changes, Closes, Copies, HasRoom, IsAny, IsCrowdedAt, IsReady, RefusesChange, RefusesClear, RefusesClose, RefusesCopy}
+use Rattle.ctrie_map.specs.Changes.{Changes, Closes, Copies, HasLife, HasRoom, IsAny, IsCrowdedAt, Refuses}
 use Rattle.ctrie_map.specs.Changes.{removed_if_it_has, set_if_absent, set_if_it_has, set_if_there}
 use Rattle.ctrie_map.specs.Costs.{WorksUpTo, work_of_a_change, work_of_a_close, work_of_a_copy}
-use Rattle.ctrie_map.specs.Maps.{AreSlots, IsNew, IsSame, MapState, RefusesSizes}
-use Rattle.ctrie_map.specs.Performing.{IsForWant}
-use Rattle.ctrie_map.specs.Reading.{RefusesReading, if_finished, reading}
-use Rattle.ctrie_c.specs.Answers.{bad_hash, done_told, has_map, no_map}
+use Rattle.ctrie_map.specs.Maps.{AreSlots, IsNew, MapState, RefusesSizes, free_of, handles_of}
+use Rattle.ctrie_map.specs.Reading.{RefusesReading, reading}
+use Rattle.ctrie_c.specs.Answers.{bad_hash, code_limit, done_told, has_map}
 
 -- ---- making
 
@@ -26,7 +30,7 @@ abbrev pub Makes : Option HashKind → ℕ → ℕ → Option MapState → Optio
 Makes None slots code before after = (code ≡ bad_hash) × (after ≡ before)
 Makes (Some kind) slots code (Some old) after = (code ≡ has_map) × (after ≡ Some old)
 Makes (Some kind) slots code None (Some made) = (code ≡ 0) × IsNew slots kind made × AreSlots slots
-Makes (Some kind) slots code None None = (code < no_map) × IfOk (done_told code) (λ _. ⊥) × IfErr (done_told code) (RefusesSizes slots)
+Makes (Some kind) slots code None None = (code < code_limit) × IfOk (done_told code) (λ _. ⊥) × IfErr (done_told code) (RefusesSizes slots)
 
 -- ---- reading
 
@@ -41,63 +45,71 @@ Counts handle told old new =
     IfOk told (λ count. reading old handle (λ m. map.len m) ≡ Ok count) × IfErr told (RefusesReading (reading old handle (λ m. map.len m))) × (new ≡ old)
 
 abbrev pub CountsHandles : Result ℕ MapError → MapState → MapState → Type 0
-CountsHandles told old new = (told ≡ if_finished old.is_finished (Ok (map.len old.handles))) × (new ≡ old)
+CountsHandles told old new = (told ≡ Ok (map.len (handles_of old))) × (new ≡ old)
 
 abbrev pub CountsSlots : Result ℕ MapError → MapState → MapState → Type 0
-CountsSlots told old new = (told ≡ Ok old.slots) × (new ≡ old)
+CountsSlots told old new = (told ≡ Ok old.limits.slots) × (new ≡ old)
 
+-- the free slots, where all others are reached by handles
 abbrev pub CountsFree : Result ℕ MapError → MapState → MapState → Type 0
-CountsFree told old new = IfOk told (λ free. (free ≡ old.free) × (free ≡ new.free)) × IfErr told (IsForWant old) × IsSame old new
+CountsFree told old new =
+    (told ≡ Ok (free_of old)) × UsesReached old × (length (in_use old.heap) + free_of old ≡ old.limits.slots) × (new ≡ old)
 
 -- ---- changing
 
--- a change of a key, which may be crowded
-abbrev pub Sets : ℕ → ℕ → (KeyMap → KeyMap) → Result (Option ℕ) MapError → MapState → MapState → Type 0
-Sets handle key change told old new =
-    IfOk told (λ before. IsReady old new × Changes old handle (λ m. (before ≡ map.get m key) × HasRoom old key m) change new)
-    × IfErr told (RefusesChange old handle (IsCrowdedAt old handle key) (HasRoom old key) change new) × WorksUpTo work_of_a_change old new
+-- a change of a key by this call, which is refused where too many keys have its hash
+abbrev pub Sets : Call → ℕ → ℕ → (KeyMap → KeyMap) → Result (Option ℕ) MapError → MapState → MapState → Type 0
+Sets call handle key change told old new =
+    IfOk told (λ before. HasLife old × Changes old handle (λ m. (before ≡ map.get m key) × HasRoom old key m) change new)
+    × IfErr told (Refuses old call (IsCrowdedAt old handle key) new) × WorksUpTo work_of_a_change old new
 
 abbrev pub Puts : ℕ → ℕ → ℕ → Result (Option ℕ) MapError → MapState → MapState → Type 0
-Puts handle key value = Sets handle key (λ m. map.insert m key value)
+Puts handle key value = Sets (Put handle key value) handle key (λ m. map.insert m key value)
 
 abbrev pub PutsIfAbsent : ℕ → ℕ → ℕ → Result (Option ℕ) MapError → MapState → MapState → Type 0
-PutsIfAbsent handle key value = Sets handle key (set_if_absent key value)
+PutsIfAbsent handle key value = Sets (PutIfAbsent handle key value) handle key (set_if_absent key value)
 
 -- a change that tells the value before
-abbrev pub Exchanges : ℕ → ℕ → (KeyMap → KeyMap) → Result (Option ℕ) MapError → MapState → MapState → Type 0
-Exchanges handle key change told old new =
-    IfOk told (λ before. IsReady old new × Changes old handle (λ m. before ≡ map.get m key) change new) × IfErr told (RefusesChange old handle ⊥ IsAny change new)
+abbrev pub Exchanges : Call → ℕ → ℕ → (KeyMap → KeyMap) → Result (Option ℕ) MapError → MapState → MapState → Type 0
+Exchanges call handle key change told old new =
+    IfOk told (λ before. HasLife old × Changes old handle (λ m. before ≡ map.get m key) change new) × IfErr told (Refuses old call ⊥ new)
     × WorksUpTo work_of_a_change old new
 
 abbrev pub Replaces : ℕ → ℕ → ℕ → Result (Option ℕ) MapError → MapState → MapState → Type 0
-Replaces handle key value = Exchanges handle key (set_if_there key value)
+Replaces handle key value = Exchanges (Replace handle key value) handle key (set_if_there key value)
 
 abbrev pub Removes : ℕ → ℕ → Result (Option ℕ) MapError → MapState → MapState → Type 0
-Removes handle key = Exchanges handle key (λ m. map.remove m key)
+Removes handle key = Exchanges (Remove handle key) handle key (λ m. map.remove m key)
 
 -- a change of a key that has this value
-abbrev pub ChangesIf : ℕ → ℕ → ℕ → (KeyMap → KeyMap) → Result Bool MapError → MapState → MapState → Type 0
-ChangesIf handle key value change told old new =
-    IfOk told (λ done. IsReady old new × Changes old handle (λ m. done ≡ has_value m key value) change new) × IfErr told (RefusesChange old handle ⊥ IsAny change new)
+abbrev pub ChangesIf : Call → ℕ → ℕ → ℕ → (KeyMap → KeyMap) → Result Bool MapError → MapState → MapState → Type 0
+ChangesIf call handle key value change told old new =
+    IfOk told (λ done. HasLife old × Changes old handle (λ m. done ≡ has_value m key value) change new) × IfErr told (Refuses old call ⊥ new)
     × WorksUpTo work_of_a_change old new
 
 abbrev pub ReplacesIf : ℕ → ℕ → ℕ → ℕ → Result Bool MapError → MapState → MapState → Type 0
-ReplacesIf handle key before value = ChangesIf handle key before (set_if_it_has key before value)
+ReplacesIf handle key before value = ChangesIf (ReplaceIf handle key before value) handle key before (set_if_it_has key before value)
 
 abbrev pub RemovesIf : ℕ → ℕ → ℕ → Result Bool MapError → MapState → MapState → Type 0
-RemovesIf handle key value = ChangesIf handle key value (removed_if_it_has key value)
+RemovesIf handle key value = ChangesIf (RemoveIf handle key value) handle key value (removed_if_it_has key value)
 
 abbrev pub Clears : ℕ → Result (Unit {0}) MapError → MapState → MapState → Type 0
 Clears handle told old new =
-    IfOk told (λ _. IsReady old new × Changes old handle IsAny (λ m. map.empty) new) × IfErr told (RefusesClear old handle new) × WorksUpTo work_of_a_copy old new
+    IfOk told (λ _. HasLife old × Changes old handle IsAny (λ m. map.empty) new) × IfErr told (Refuses old (Clear handle) ⊥ new) × WorksUpTo work_of_a_copy old new
 
 -- ---- handles
 
--- a copy of this kind
-abbrev pub Opens : ℕ → Access → Result ℕ MapError → MapState → MapState → Type 0
-Opens handle access told old new =
-    IfOk told (λ copy. IsReady old new × Copies old handle access copy new) × IfErr told (RefusesCopy old handle access new) × WorksUpTo work_of_a_copy old new
+-- a copy of this kind by this call
+abbrev pub Opens : Call → ℕ → Access → Result ℕ MapError → MapState → MapState → Type 0
+Opens call handle access told old new =
+    IfOk told (λ copy. HasLife old × Copies old handle access copy new) × IfErr told (Refuses old call ⊥ new) × WorksUpTo work_of_a_copy old new
+
+abbrev pub Snapshots : ℕ → Result ℕ MapError → MapState → MapState → Type 0
+Snapshots handle = Opens (Snapshot handle) handle Writable
+
+abbrev pub Freezes : ℕ → Result ℕ MapError → MapState → MapState → Type 0
+Freezes handle = Opens (Freeze handle) handle ReadOnly
 
 abbrev pub ClosesIt : ℕ → Result (Unit {0}) MapError → MapState → MapState → Type 0
 ClosesIt handle told old new =
-    IfOk told (λ _. IsReady old new × Closes old handle new) × IfErr told (RefusesClose old handle new) × WorksUpTo work_of_a_close old new
+    IfOk told (λ _. HasLife old × Closes old handle new) × IfErr told (Refuses old (Close handle) ⊥ new) × WorksUpTo work_of_a_close old new

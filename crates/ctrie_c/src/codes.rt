@@ -1,7 +1,7 @@
 //! The codes that tell what a call did.
 
 ghost use Rattle.std.specs.Prelude.{◌≡◌, ◌<◌, nat_eq, false};
-ghost use Rattle.ctrie_c.specs.Answers.{no_map, refusal_of, value_told, truth_told, number_told, done_told};
+ghost use Rattle.ctrie_c.specs.Answers.{code_limit, refusal_of, value_told, truth_told, number_told, done_told};
 
 use ctrie_map::{Handle, MapError};
 
@@ -25,7 +25,7 @@ pub(crate) fn refusal(error: MapError) -> u32
     ensures refusal { refusal_of result ≡ error }
     ensures not_no { nat_eq result 0 ≡ false }
     ensures not_yes { nat_eq result 1 ≡ false }
-    ensures bound { result < no_map }
+    ensures bound { result < code_limit }
 {
     match error {
         MapError::NoHandle => 2,
@@ -36,14 +36,13 @@ pub(crate) fn refusal(error: MapError) -> u32
         MapError::BadSizes => 7,
         MapError::WornOut => 8,
         MapError::Memory => 9,
-        MapError::Unfinished => 10,
     }
 }
 
 /// Tells of a value, which is written where there is one.
 pub(crate) fn tell_value(told: Result<Option<u64>, MapError>, value: &mut u64) -> u32
     ensures told { value_told result value.new ≡ told }
-    ensures bound { result < no_map }
+    ensures bound { result < code_limit }
     ensures kept { nat_eq result 1 ≡ false → value.new ≡ value.old }
 {
     match told {
@@ -59,7 +58,7 @@ pub(crate) fn tell_value(told: Result<Option<u64>, MapError>, value: &mut u64) -
 /// Tells whether something is so.
 pub(crate) fn tell_truth(told: Result<bool, MapError>) -> u32
     ensures told { truth_told result ≡ told }
-    ensures bound { result < no_map }
+    ensures bound { result < code_limit }
 {
     match told {
         Ok(false) => NO,
@@ -71,7 +70,7 @@ pub(crate) fn tell_truth(told: Result<bool, MapError>) -> u32
 /// Tells that it is done.
 pub(crate) fn tell_done(told: Result<(), MapError>) -> u32
     ensures told { done_told result ≡ told }
-    ensures bound { result < no_map }
+    ensures bound { result < code_limit }
     ensures not_yes { nat_eq result 1 ≡ false }
 {
     match told {
@@ -83,7 +82,7 @@ pub(crate) fn tell_done(told: Result<(), MapError>) -> u32
 /// Tells a count, which is written unless it was refused.
 pub(crate) fn tell_count(told: Result<u64, MapError>, count: &mut u64) -> u32
     ensures told { number_told result count.new ≡ told }
-    ensures bound { result < no_map }
+    ensures bound { result < code_limit }
     ensures not_yes { nat_eq result 1 ≡ false }
     ensures kept { nat_eq result 0 ≡ false → count.new ≡ count.old }
 {
@@ -96,26 +95,10 @@ pub(crate) fn tell_count(told: Result<u64, MapError>, count: &mut u64) -> u32
     }
 }
 
-/// Tells a number of handles or slots, which is written unless it was refused.
-pub(crate) fn tell_number(told: Result<u32, MapError>, number: &mut u32) -> u32
-    ensures told { number_told result number.new ≡ told }
-    ensures bound { result < no_map }
-    ensures not_yes { nat_eq result 1 ≡ false }
-    ensures kept { nat_eq result 0 ≡ false → number.new ≡ number.old }
-{
-    match told {
-        Ok(found) => {
-            *number = found;
-            NO
-        }
-        Err(error) => refusal(error),
-    }
-}
-
 /// Tells a handle, which is written unless it was refused.
 pub(crate) fn tell_handle(told: Result<Handle, MapError>, handle: &mut u16) -> u32
     ensures told { number_told result handle.new ≡ told }
-    ensures bound { result < no_map }
+    ensures bound { result < code_limit }
     ensures not_yes { nat_eq result 1 ≡ false }
     ensures kept { nat_eq result 0 ≡ false → handle.new ≡ handle.old }
 {

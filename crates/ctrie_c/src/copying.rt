@@ -1,8 +1,7 @@
 //! Calls that open and close handles.
 
 ghost use Rattle.std.specs.Prelude.{◌≡◌, nat_eq, false};
-ghost use Rattle.history.specs.declared.calls.Access.TheVariants.{ReadOnly, Writable};
-ghost use Rattle.ctrie_c.specs.Calls.{ClosesIt, Opens};
+ghost use Rattle.ctrie_c.specs.Calls.{ClosesIt, Freezes, Snapshots};
 ghost use Rattle.ctrie_c.specs.Answers.{Does, done_told, number_told};
 
 use crate::codes::{NO_MAP, tell_done, tell_handle};
@@ -18,7 +17,7 @@ pub extern "C" fn ctrie_snapshot(
     handle: u16,
     copy: &mut u16,
 ) -> u32
-    ensures does { Does held.old.state held.new.state result (Opens handle Writable (number_told result copy.new)) }
+    ensures does { Does held.old.state held.new.state result (Snapshots handle (number_told result copy.new)) }
     ensures kept { nat_eq result 0 ≡ false → copy.new ≡ copy.old }
     ensures not_yes { nat_eq result 1 ≡ false }
 {
@@ -40,7 +39,7 @@ pub extern "C" fn ctrie_freeze(
     handle: u16,
     copy: &mut u16,
 ) -> u32
-    ensures does { Does held.old.state held.new.state result (Opens handle ReadOnly (number_told result copy.new)) }
+    ensures does { Does held.old.state held.new.state result (Freezes handle (number_told result copy.new)) }
     ensures kept { nat_eq result 0 ≡ false → copy.new ≡ copy.old }
     ensures not_yes { nat_eq result 1 ≡ false }
 {

@@ -1,9 +1,7 @@
 //! What a C program holds.
 
 ghost use Rattle.std.specs.Prelude.{◌≡◌, Option, Some, None, IfSome, IfNone};
-ghost use Rattle.std.specs.Coded.{coded_option};
 ghost use Rattle.ctrie_map.specs.Maps.{MapState};
-ghost use Rattle.ctrie_map.specs.Codes.{map_state_code};
 
 use crate::loose::Loose;
 use ctrie_map::Map;
@@ -16,7 +14,7 @@ use std::ptr::null_mut;
 pub struct HeldMap {
     at: *mut u8,
     alloc: Global,
-    ghost state: { Option MapState } by { coded_option map_state_code },
+    ghost state: { Option MapState },
 }
 
 impl Model for HeldMap {

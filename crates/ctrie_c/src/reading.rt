@@ -4,7 +4,7 @@ ghost use Rattle.std.specs.Prelude.{◌≡◌, nat_eq, false};
 ghost use Rattle.ctrie_c.specs.Calls.{Contains, Counts, CountsFree, CountsHandles, CountsSlots, Gets};
 ghost use Rattle.ctrie_c.specs.Answers.{Does, number_told, truth_told, value_told};
 
-use crate::codes::{NO_MAP, tell_count, tell_number, tell_truth, tell_value};
+use crate::codes::{NO, NO_MAP, tell_count, tell_truth, tell_value};
 use crate::held::{HeldMap, give, take};
 use ctrie_map::Handle;
 use std::alloc::Global;
@@ -78,9 +78,9 @@ pub extern "C" fn ctrie_handles(alloc: Global, held: &mut HeldMap, handles: &mut
     match take(alloc, held) {
         None => NO_MAP,
         Some(map) => {
-            let told = map.handles();
+            *handles = map.handles();
             give(held, map);
-            tell_number(told, handles)
+            NO
         }
     }
 }
@@ -95,9 +95,9 @@ pub extern "C" fn ctrie_slots(alloc: Global, held: &mut HeldMap, slots: &mut u32
     match take(alloc, held) {
         None => NO_MAP,
         Some(map) => {
-            let told = Ok(map.slots());
+            *slots = map.slots();
             give(held, map);
-            tell_number(told, slots)
+            NO
         }
     }
 }
@@ -111,10 +111,10 @@ pub extern "C" fn ctrie_free_slots(alloc: Global, held: &mut HeldMap, free: &mut
 {
     match take(alloc, held) {
         None => NO_MAP,
-        Some(mut map) => {
-            let told = map.free();
+        Some(map) => {
+            *free = map.free();
             give(held, map);
-            tell_number(told, free)
+            NO
         }
     }
 }

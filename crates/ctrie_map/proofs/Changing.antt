@@ -13,13 +13,14 @@ use Rattle.history.specs.declared.replies.Reply.{Reply}
 use Rattle.history.specs.declared.replies.Reply.TheVariants.{Crowded, NoSlots}
 use Rattle.history.specs.Effects.{changing, effect, naming, with_access}
 use Rattle.history.specs.Worlds.{HandleMap, HandleState, KeyMap}
-use Rattle.step_machine.specs.Ending.{enough_slots}
+use Rattle.proof_alone.specs.Calls.{RunsOut, slots_of}
 use Rattle.ctrie_map.specs.declared.errors.MapError.{MapError}
 use Rattle.ctrie_map.specs.declared.errors.MapError.TheVariants as error
-use Rattle.ctrie_map.specs.Changes.{Changes, IsReady, IsTight, Refused}
-use Rattle.ctrie_map.specs.Maps.{MapState, Becomes}
-use Rattle.ctrie_map.specs.Performing.{Answers, IsBegun, Performs, denial_in}
-use Rattle.ctrie_map.proofs.Denying.{stays_if_ready, told_of}
+use Rattle.ctrie_map.specs.Changes.{Changes, HasLife, IsTight, Refuses}
+use Rattle.ctrie_map.specs.Cores.{the_actor}
+use Rattle.ctrie_map.specs.Maps.{MapState, Becomes, Stays, handles_of}
+use Rattle.ctrie_map.specs.Performing.{Answers, IsBegun, Performs}
+use Rattle.ctrie_map.proofs.Denying.{told_of}
 
 -- ---- results
 
@@ -86,62 +87,54 @@ module _ (world : HandleMap) (handle : ℕ) (change : KeyMap → Reply × KeyMap
 
 module _ {A : Type 0} (said : Result Reply MapError → Result A MapError) (full : said (Ok NoSlots) ≡ Err error.Full) (crowded : said (Ok Crowded) ≡ Err error.Crowded)
     (as_told : (why : MapError) → said (Err why) ≡ Err why) (before : MapState) (handle : ℕ) (c : Call) (change : KeyMap → Reply × KeyMap)
-    (is : (opens : Option ℕ) → effect (hash_of before.hash) before.handles c opens ≡ changing before.handles handle change) (Crowds : Type 0)
-    (Room : KeyMap → Type 0) (Told : A → KeyMap → Type 0) (to : KeyMap → KeyMap) where
+    (is : (opens : Option ℕ) → effect (hash_of before.limits.hash) (handles_of before) c opens ≡ changing (handles_of before) handle change) (Crowds : Type 0)
+    (Told : A → KeyMap → Type 0) (to : KeyMap → KeyMap) where
   -- it is crowded there, or the change is done
   abbrev pub Outcome : KeyMap → Type 0
-  Outcome m = (Crowds × (change m ≡ (Crowded, m))) ⊎ (Room m × ((a : A) × (said (Ok (change m).0) ≡ Ok a) × Told a m × ((change m).1 ≡ to m)))
+  Outcome m = (Crowds × (change m ≡ (Crowded, m))) ⊎ ((a : A) × (said (Ok (change m).0) ≡ Ok a) × Told a m × ((change m).1 ≡ to m))
 
   abbrev pub Comes : MapState → Result A MapError → Type 0
   Comes after =
-      ComesTo (λ a. IsReady before after × Changes before handle (Told a) to after)
-      (Refused (denial_in before c) (enough_slots c) Crowds (Changes before handle Room to) before after)
+      ComesTo (λ a. HasLife before × Changes before handle (Told a) to after) (Refuses before c Crowds after)
 
-  module _ (outcome : (m : KeyMap) → Writes before.handles handle m → Outcome m) (after : MapState) where
+  module _ (outcome : (m : KeyMap) → Writes (handles_of before) handle m → Outcome m) (after : MapState) where
     -- the three ways of an answer
     data Way (answer : Reply) : Type 0 where
-      wants : IsTight (enough_slots c) before → Becomes before before.handles after → said (Ok answer) ≡ Err error.Full → Way answer
-      crowds : Crowds → Becomes before before.handles after → said (Ok answer) ≡ Err error.Crowded → Way answer
-      does : (m : KeyMap) (a : A) → Writes before.handles handle m → Room m → Told a m → Becomes before (naming before.handles handle Writable (to m)) after →
+      wants : IsTight (slots_of c) before → RunsOut before the_actor c → Stays before after → said (Ok answer) ≡ Err error.Full → Way answer
+      crowds : Crowds → Stays before after → said (Ok answer) ≡ Err error.Crowded → Way answer
+      does : (m : KeyMap) (a : A) → Writes (handles_of before) handle m → Told a m → Becomes before (naming (handles_of before) handle Writable (to m)) after →
           said (Ok answer) ≡ Ok a → Way answer
 
-    by_outcome : (answer : Reply) (m : KeyMap) → Writes before.handles handle m → answer ≡ (change m).0 →
-        Becomes before (naming before.handles handle Writable (change m).1) after → Outcome m → Way answer
+    by_outcome : (answer : Reply) (m : KeyMap) → Writes (handles_of before) handle m → answer ≡ (change m).0 →
+        Becomes before (naming (handles_of before) handle Writable (change m).1) after → Outcome m → Way answer
     by_outcome answer m at e becomes (inl (crowd, same)) =
-        let stays : Becomes before before.handles after =
-        subst (λ w. Becomes before w after) (ap (λ (p : Reply × KeyMap). naming before.handles handle Writable p.1) same ∙ naming_same before.handles handle m at) becomes in
+        let stays : Stays before after =
+        subst (λ w. Becomes before w after) (ap (λ (p : Reply × KeyMap). naming (handles_of before) handle Writable p.1) same ∙ naming_same (handles_of before) handle m at) becomes in
         crowds crowd stays (ap (λ a. said (Ok a)) (e ∙ ap (λ (p : Reply × KeyMap). p.0) same) ∙ crowded)
-    by_outcome answer m at e becomes (inr (room, (a, told, so, there))) =
-        does m a at room so (subst (λ n. Becomes before (naming before.handles handle Writable n) after) there becomes) (ap (λ r. said (Ok r)) e ∙ told)
+    by_outcome answer m at e becomes (inr (a, told, so, there)) =
+        does m a at so (subst (λ n. Becomes before (naming (handles_of before) handle Writable n) after) there becomes) (ap (λ r. said (Ok r)) e ∙ told)
 
-    by_effect : (answer : Reply) (opens : Option ℕ) (next : HandleMap) → effect (hash_of before.hash) before.handles c opens ≡ Some (answer, next) →
+    by_effect : (answer : Reply) (opens : Option ℕ) (next : HandleMap) → effect (hash_of before.limits.hash) (handles_of before) c opens ≡ Some (answer, next) →
         Becomes before next after → Way answer
     by_effect answer opens next effect_is becomes =
-        let (m, at, e, there) = says before.handles handle change answer next (sym (is opens) ∙ effect_is) in
+        let (m, at, e, there) = says (handles_of before) handle change answer next (sym (is opens) ∙ effect_is) in
         by_outcome answer m at e (subst (λ w. Becomes before w after) there becomes) (outcome m at)
 
     way : (answer : Reply) → Answers before c answer after → Way answer
-    way NoSlots p = wants p.0 p.1 full
+    way NoSlots p = wants p.0 p.1 p.2 full
     way answer p = by_effect answer p.0 p.1 p.2 p.3
 
-    by_way : (answer : Reply) → IsBegun before c → after.is_finished ≡ true → Way answer → Comes after (said (Ok answer))
-    by_way answer begun ready (wants tight stays e) = subst (Comes after) (sym e) (begun.0, begun.1, tight, stays_if_ready before after stays ready)
-    by_way answer begun ready (crowds crowd stays e) = subst (Comes after) (sym e) (begun.0, begun.1, crowd, stays_if_ready before after stays ready)
-    by_way answer begun ready (does m a at room so becomes e) = subst (Comes after) (sym e) ((begun.1, ready), (m, at, so, becomes))
-
-    untold : (answer : Reply) → Way answer → Changes before handle Room to after ⊎ ((Crowds ⊎ IsTight (enough_slots c) before) × Becomes before before.handles after)
-    untold answer (wants tight stays e) = inr (inr tight, stays)
-    untold answer (crowds crowd stays e) = inr (inl crowd, stays)
-    untold answer (does m a at room so becomes e) = inl (m, at, room, becomes)
+    by_way : (answer : Reply) → IsBegun before c → Way answer → Comes after (said (Ok answer))
+    by_way answer begun (wants tight out stays e) = subst (Comes after) (sym e) (begun.0, begun.1, tight, out, stays)
+    by_way answer begun (crowds crowd stays e) = subst (Comes after) (sym e) (begun.0, begun.1, crowd, stays)
+    by_way answer begun (does m a at so becomes e) = subst (Comes after) (sym e) (begun.1, (m, at, so, becomes))
 
     by_error : (why : MapError) → Performs (Err why) before c after → Comes after (Err why)
-    by_error error.Memory p = p
     by_error error.WornOut p = p
-    by_error error.Unfinished p = (p.0.0, p.0.1, p.1, untold p.2.0 (way p.2.0 p.2.1))
     by_error error.Full p = absurd (told_of before c error.Full p.0)
     by_error error.Crowded p = absurd (told_of before c error.Crowded p.0)
     by_error why p = p
 
     pub comes : (result : Result Reply MapError) → Performs result before c after → Comes after (said result)
-    comes (Ok answer) p = by_way answer p.0 p.2 (way answer p.1)
+    comes (Ok answer) p = by_way answer p.0 (way answer p.1)
     comes (Err why) p = subst (Comes after) (sym (as_told why)) (by_error why p)

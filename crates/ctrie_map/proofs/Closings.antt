@@ -1,65 +1,61 @@
 -- What a close comes to.
-use Rattle.std.specs.Prelude.{◌≡◌, ◌⊎◌, ℕ, true, false, Option, Some, None, option_and_then, Result, Ok, Err, IfOk, IfErr}
+use Rattle.std.specs.Prelude.{◌≡◌, ℕ, Option, Some, None, option_and_then, Result, Ok, Err, IfOk, IfErr}
 use Rattle.std.specs.FinMap as map
-use Rattle.std.proofs.Common.{refl, sym, ap, subst, inl, inr}
+use Rattle.std.proofs.Common.{refl, sym, ap, subst}
 use Rattle.std.proofs.lemmas.Option.{same_Some}
 use Rattle.history.specs.declared.calls.Call.TheVariants as call
 use Rattle.history.specs.declared.replies.Reply.{Reply}
 use Rattle.history.specs.declared.replies.Reply.TheVariants.{Closed, NoSlots}
 use Rattle.history.specs.Worlds.{HandleMap, HandleState}
+use Rattle.proof_alone.specs.Calls.{RunsOut}
 use Rattle.ctrie_map.specs.declared.errors.MapError.{MapError}
 use Rattle.ctrie_map.specs.declared.errors.MapError.TheVariants as error
-use Rattle.ctrie_map.specs.Changes.{Closes, IsReady, IsTight, RefusesClose, close_denial, is_worn_out}
-use Rattle.ctrie_map.specs.Maps.{MapState, Becomes}
-use Rattle.ctrie_map.specs.Performing.{Answers, Performs}
+use Rattle.ctrie_map.specs.Changes.{Closes, HasLife, IsTight, Refuses}
+use Rattle.ctrie_map.specs.Cores.{the_actor}
+use Rattle.ctrie_map.specs.Maps.{MapState, Becomes, Stays, handles_of}
+use Rattle.ctrie_map.specs.Performing.{Answers, IsBegun, Performs}
 use Rattle.ctrie_map.specs.Telling.{done_in}
 use Rattle.ctrie_map.proofs.Changing.{ComesTo, done_so, refused_so}
-use Rattle.ctrie_map.proofs.Denying.{stays_if_ready, told_of}
+use Rattle.ctrie_map.proofs.Denying.{told_of}
 
 module _ (before : MapState) (h : ℕ) (after : MapState) where
   abbrev CloseDone : Unit {0} → Type 0
-  CloseDone done = IsReady before after × Closes before h after
+  CloseDone done = HasLife before × Closes before h after
 
   abbrev CloseRefused : MapError → Type 0
-  CloseRefused = RefusesClose before h after
+  CloseRefused = Refuses before (call.Close h) ⊥ after
 
   data Way (answer : Reply) : Type 0 where
-    wants : IsTight 0 before → Becomes before before.handles after → answer ≡ NoSlots → Way answer
+    wants : IsTight 0 before → RunsOut before the_actor (call.Close h) → Stays before after → answer ≡ NoSlots → Way answer
     does : Closes before h after → answer ≡ Closed → Way answer
 
-  by_shown : (answer : Reply) (next : HandleMap) (shown : Option HandleState) → map.get before.handles h ≡ shown →
-      option_and_then {U = Reply × HandleMap} (λ m. Some (Closed, map.remove before.handles h)) (option_and_then (λ s. Some s.pairs) shown) ≡ Some (answer, next) →
+  by_shown : (answer : Reply) (next : HandleMap) (shown : Option HandleState) → map.get (handles_of before) h ≡ shown →
+      option_and_then {U = Reply × HandleMap} (λ m. Some (Closed, map.remove (handles_of before) h)) (option_and_then (λ s. Some s.pairs) shown) ≡ Some (answer, next) →
       Becomes before next after → Way answer
   by_shown answer next None at e becomes = cc e
   by_shown answer next (Some shown) at e becomes =
-      let same = same_Some (Closed, map.remove before.handles h) (answer, next) e in
+      let same = same_Some (Closed, map.remove (handles_of before) h) (answer, next) e in
       does (shown, at, subst (λ w. Becomes before w after) (ap (λ p. p.1) (sym same)) becomes) (ap (λ p. p.0) (sym same))
 
   way : (answer : Reply) → Answers before (call.Close h) answer after → Way answer
-  way NoSlots p = wants p.0 p.1 refl
-  way answer p = by_shown answer p.1 (map.get before.handles h) refl p.2 p.3
+  way NoSlots p = wants p.0 p.1 p.2 refl
+  way answer p = by_shown answer p.1 (map.get (handles_of before) h) refl p.2 p.3
 
   abbrev Comes : Result (Unit {0}) MapError → Type 0
   Comes = ComesTo CloseDone CloseRefused
 
-  by_way : (answer : Reply) → close_denial before h ≡ None → is_worn_out before ≡ false → after.is_finished ≡ true → Way answer → Comes (done_in (Ok answer))
-  by_way answer none young ready (wants tight stays e) = subst (λ a. Comes (done_in (Ok a))) (sym e) (none, young, tight, stays_if_ready before after stays ready)
-  by_way answer none young ready (does closes e) = subst (λ a. Comes (done_in (Ok a))) (sym e) ((young, ready), closes)
-
-  untold : (answer : Reply) → Way answer → Closes before h after ⊎ ((⊥ ⊎ IsTight 0 before) × Becomes before before.handles after)
-  untold answer (wants tight stays e) = inr (inr tight, stays)
-  untold answer (does closes e) = inl closes
+  by_way : (answer : Reply) → IsBegun before (call.Close h) → Way answer → Comes (done_in (Ok answer))
+  by_way answer begun (wants tight out stays e) = subst (λ a. Comes (done_in (Ok a))) (sym e) (begun.0, begun.1, tight, out, stays)
+  by_way answer begun (does closes e) = subst (λ a. Comes (done_in (Ok a))) (sym e) (begun.1, closes)
 
   by_error : (why : MapError) → Performs (Err why) before (call.Close h) after → Comes (Err why)
-  by_error error.Memory p = p
   by_error error.WornOut p = p
-  by_error error.Unfinished p = (p.0.0, p.0.1, p.1, untold p.2.0 (way p.2.0 p.2.1))
   by_error error.Full p = absurd (told_of before (call.Close h) error.Full p.0)
   by_error error.Crowded p = absurd (told_of before (call.Close h) error.Crowded p.0)
   by_error why p = p
 
   comes : (result : Result Reply MapError) → Performs result before (call.Close h) after → Comes (done_in result)
-  comes (Ok answer) p = by_way answer p.0.0 p.0.1 p.2 (way answer p.1)
+  comes (Ok answer) p = by_way answer p.0 (way answer p.1)
   comes (Err why) p = by_error why p
 
   pub close_done : (result : Result Reply MapError) (told : Result (Unit {0}) MapError) → told ≡ done_in result →

@@ -1,7 +1,7 @@
 -- What a snapshot and a freeze come to.
-use Rattle.std.specs.Prelude.{◌≡◌, ◌⊎◌, ℕ, Bool, true, false, is_some, if◌then◌else◌, Option, Some, None, option_and_then, Result, Ok, Err, IfOk, IfErr}
+use Rattle.std.specs.Prelude.{◌≡◌, ℕ, Bool, true, false, is_some, if◌then◌else◌, Option, Some, None, option_and_then, Result, Ok, Err, IfOk, IfErr}
 use Rattle.std.specs.FinMap as map
-use Rattle.std.proofs.Common.{refl, sym, ap, subst, inl, inr, ◌∙◌}
+use Rattle.std.proofs.Common.{refl, sym, ap, subst, ◌∙◌}
 use Rattle.std.proofs.lemmas.Option.{same_Some}
 use Rattle.ctrie_base.specs.Hashes.{hash_of}
 use Rattle.history.specs.declared.calls.Access.{Access}
@@ -12,15 +12,16 @@ use Rattle.history.specs.declared.replies.Reply.{Reply}
 use Rattle.history.specs.declared.replies.Reply.TheVariants.{Opened, NoSlots}
 use Rattle.history.specs.Effects.{copying, effect, naming, with_access}
 use Rattle.history.specs.Worlds.{HandleMap, HandleState, KeyMap}
-use Rattle.step_machine.specs.Ending.{enough_slots}
+use Rattle.proof_alone.specs.Calls.{RunsOut, slots_of}
 use Rattle.ctrie_map.specs.declared.errors.MapError.{MapError}
 use Rattle.ctrie_map.specs.declared.errors.MapError.TheVariants as error
-use Rattle.ctrie_map.specs.Changes.{Copies, IsReady, IsTight, RefusesCopy, copy_denial, is_worn_out, slots_for_a_copy}
-use Rattle.ctrie_map.specs.Maps.{MapState, Becomes}
-use Rattle.ctrie_map.specs.Performing.{Answers, Performs, denial_in}
+use Rattle.ctrie_map.specs.Changes.{Copies, HasLife, IsTight, Refuses}
+use Rattle.ctrie_map.specs.Cores.{the_actor}
+use Rattle.ctrie_map.specs.Maps.{MapState, Becomes, Stays, handles_of}
+use Rattle.ctrie_map.specs.Performing.{Answers, IsBegun, Performs}
 use Rattle.ctrie_map.specs.Telling.{opened_in}
 use Rattle.ctrie_map.proofs.Changing.{ComesTo, done_so, refused_so}
-use Rattle.ctrie_map.proofs.Denying.{stays_if_ready, told_of}
+use Rattle.ctrie_map.proofs.Denying.{told_of}
 
 module _ (world : HandleMap) (opens : Option ℕ) (access : Access) (answer : Reply) (next : HandleMap) where
   record Says (shown : Option HandleState) : Type 0 where
@@ -64,51 +65,43 @@ module _ (world : HandleMap) (opens : Option ℕ) (access : Access) (answer : Re
   says : (handle : ℕ) → copying world handle opens access ≡ Some (answer, next) → Says (map.get world handle)
   says handle e = by_shown (map.get world handle) e
 
-module _ (before : MapState) (h : ℕ) (access : Access) (c : Call) (is : (opens : Option ℕ) → effect (hash_of before.hash) before.handles c opens ≡ copying before.handles h opens access)
-    (denial : denial_in before c ≡ copy_denial before h) (enough : enough_slots c ≡ slots_for_a_copy) (after : MapState) where
+module _ (before : MapState) (h : ℕ) (access : Access) (c : Call)
+    (is : (opens : Option ℕ) → effect (hash_of before.limits.hash) (handles_of before) c opens ≡ copying (handles_of before) h opens access) (after : MapState) where
   abbrev pub CopyDone : ℕ → Type 0
-  CopyDone copy = IsReady before after × Copies before h access copy after
+  CopyDone copy = HasLife before × Copies before h access copy after
 
   abbrev pub CopyRefused : MapError → Type 0
-  CopyRefused = RefusesCopy before h access after
+  CopyRefused = Refuses before c ⊥ after
 
   data Way (answer : Reply) : Type 0 where
-    wants : IsTight slots_for_a_copy before → Becomes before before.handles after → answer ≡ NoSlots → Way answer
+    wants : IsTight (slots_of c) before → RunsOut before the_actor c → Stays before after → answer ≡ NoSlots → Way answer
     does : (copy : ℕ) → Copies before h access copy after → answer ≡ Opened copy → Way answer
 
-  by_effect : (answer : Reply) (opens : Option ℕ) (next : HandleMap) → effect (hash_of before.hash) before.handles c opens ≡ Some (answer, next) → Becomes before next after → Way answer
+  by_effect : (answer : Reply) (opens : Option ℕ) (next : HandleMap) → effect (hash_of before.limits.hash) (handles_of before) c opens ≡ Some (answer, next) →
+      Becomes before next after → Way answer
   by_effect answer opens next effect_is becomes =
-      let s = says before.handles opens access answer next h (sym (is opens) ∙ effect_is) in
+      let s = says (handles_of before) opens access answer next h (sym (is opens) ∙ effect_is) in
       does s.copy (s.m, s.at, s.new, subst (λ w. Becomes before w after) s.there becomes) s.told
 
   way : (answer : Reply) → Answers before c answer after → Way answer
-  way NoSlots p = wants (subst (λ n. IsTight n before) enough p.0) p.1 refl
+  way NoSlots p = wants p.0 p.1 p.2 refl
   way answer p = by_effect answer p.0 p.1 p.2 p.3
 
   abbrev Comes : Result ℕ MapError → Type 0
   Comes = ComesTo CopyDone CopyRefused
 
-  free_to : denial_in before c ≡ None → copy_denial before h ≡ None
-  free_to none = sym denial ∙ none
-
-  by_way : (answer : Reply) → denial_in before c ≡ None → is_worn_out before ≡ false → after.is_finished ≡ true → Way answer → Comes (opened_in (Ok answer))
-  by_way answer none young ready (wants tight stays e) = subst (λ a. Comes (opened_in (Ok a))) (sym e) (free_to none, young, tight, stays_if_ready before after stays ready)
-  by_way answer none young ready (does copy copies e) = subst (λ a. Comes (opened_in (Ok a))) (sym e) ((young, ready), copies)
-
-  untold : (answer : Reply) → Way answer → ((copy : ℕ) × Copies before h access copy after) ⊎ ((⊥ ⊎ IsTight slots_for_a_copy before) × Becomes before before.handles after)
-  untold answer (wants tight stays e) = inr (inr tight, stays)
-  untold answer (does copy copies e) = inl (copy, copies)
+  by_way : (answer : Reply) → IsBegun before c → Way answer → Comes (opened_in (Ok answer))
+  by_way answer begun (wants tight out stays e) = subst (λ a. Comes (opened_in (Ok a))) (sym e) (begun.0, begun.1, tight, out, stays)
+  by_way answer begun (does copy copies e) = subst (λ a. Comes (opened_in (Ok a))) (sym e) (begun.1, copies)
 
   by_error : (why : MapError) → Performs (Err why) before c after → Comes (Err why)
-  by_error error.Memory p = (subst (λ d. (d ≡ None) ⊎ (before.is_finished ≡ false)) denial p.0, p.1)
-  by_error error.WornOut p = (free_to p.0, p.1, p.2)
-  by_error error.Unfinished p = (free_to p.0.0, p.0.1, p.1, untold p.2.0 (way p.2.0 p.2.1))
+  by_error error.WornOut p = p
   by_error error.Full p = absurd (told_of before c error.Full p.0)
   by_error error.Crowded p = absurd (told_of before c error.Crowded p.0)
-  by_error why p = (sym denial ∙ p.0, p.1)
+  by_error why p = p
 
   comes : (result : Result Reply MapError) → Performs result before c after → Comes (opened_in result)
-  comes (Ok answer) p = by_way answer p.0.0 p.0.1 p.2 (way answer p.1)
+  comes (Ok answer) p = by_way answer p.0 (way answer p.1)
   comes (Err why) p = by_error why p
 
   done_by : (result : Result Reply MapError) (told : Result ℕ MapError) → told ≡ opened_in result → Performs result before c after → IfOk told CopyDone
@@ -120,14 +113,14 @@ module _ (before : MapState) (h : ℕ) (access : Access) (c : Call) (is : (opens
 -- ---- the two
 
 module _ (before : MapState) (h : ℕ) (after : MapState) (result : Result Reply MapError) (told : Result ℕ MapError) (e : told ≡ opened_in result) where
-  pub snapshot_done : Performs result before (call.Snapshot h) after → IfOk told (λ copy. IsReady before after × Copies before h Writable copy after)
-  snapshot_done p = done_by before h Writable (call.Snapshot h) (λ o. refl) refl refl after result told e p
+  pub snapshot_done : Performs result before (call.Snapshot h) after → IfOk told (λ copy. HasLife before × Copies before h Writable copy after)
+  snapshot_done p = done_by before h Writable (call.Snapshot h) (λ o. refl) after result told e p
 
-  pub snapshot_refused : Performs result before (call.Snapshot h) after → IfErr told (RefusesCopy before h Writable after)
-  snapshot_refused p = refused_by before h Writable (call.Snapshot h) (λ o. refl) refl refl after result told e p
+  pub snapshot_refused : Performs result before (call.Snapshot h) after → IfErr told (Refuses before (call.Snapshot h) ⊥ after)
+  snapshot_refused p = refused_by before h Writable (call.Snapshot h) (λ o. refl) after result told e p
 
-  pub freeze_done : Performs result before (call.Freeze h) after → IfOk told (λ copy. IsReady before after × Copies before h ReadOnly copy after)
-  freeze_done p = done_by before h ReadOnly (call.Freeze h) (λ o. refl) refl refl after result told e p
+  pub freeze_done : Performs result before (call.Freeze h) after → IfOk told (λ copy. HasLife before × Copies before h ReadOnly copy after)
+  freeze_done p = done_by before h ReadOnly (call.Freeze h) (λ o. refl) after result told e p
 
-  pub freeze_refused : Performs result before (call.Freeze h) after → IfErr told (RefusesCopy before h ReadOnly after)
-  freeze_refused p = refused_by before h ReadOnly (call.Freeze h) (λ o. refl) refl refl after result told e p
+  pub freeze_refused : Performs result before (call.Freeze h) after → IfErr told (Refuses before (call.Freeze h) ⊥ after)
+  freeze_refused p = refused_by before h ReadOnly (call.Freeze h) (λ o. refl) after result told e p

@@ -2,7 +2,7 @@
 use Rattle.std.specs.Prelude.{◌≡◌, ◌⊎◌, ℕ, Bool, true, false, not, ◌&&◌, is_some, nat_le, if◌then◌else◌, List, [], ◌∷◌, Option, Some, None, option_map, Err}
 use Rattle.std.specs.FinMap as map
 use Rattle.std.specs.List.{list_any}
-use Rattle.std.proofs.Common.{refl, sym, ap, subst, arith, inl, inr, ◌∙◌}
+use Rattle.std.proofs.Common.{refl, sym, ap, subst, arith, inl, inr, get_or, ◌∙◌}
 use Rattle.std.proofs.lemmas.Bool.{false≢true}
 use Rattle.std.proofs.lemmas.Option.{same_Some}
 use Rattle.ctrie_base.specs.declared.refusals.Refusal.{Refusal}
@@ -14,24 +14,19 @@ use Rattle.history.specs.declared.calls.Call.TheVariants as call
 use Rattle.history.specs.Worlds.{HandleState}
 use Rattle.machine_model.specs.declared.operations.Operation.{Operation}
 use Rattle.machine_model.specs.declared.roots.Root.{Root}
-use Rattle.machine_model.specs.declared.steps.Limits.{Limits}
 use Rattle.machine_model.specs.Calls.{handle_of, needs_writable, needs_read_only, opens_handle, is_close}
 use Rattle.machine_model.specs.Machine.{access_of, begin_denial, first_reason, handles_taken, is_access, is_actor, is_busy, is_running, is_spent, names, runs_on}
-use Rattle.machine_model.specs.States.{State, handle_limit, operation_of, root_at}
-use Rattle.machine_model.proofs.Along.{limits_along}
-use Rattle.map_worlds.specs.Worlds.{named_at, world_of}
-use Rattle.map_worlds.proofs.Counted.{handles_at_rest}
-use Rattle.map_worlds.proofs.Shown.{shows_roots}
-use Rattle.step_machine.specs.Machines.{Taken, state_of}
-use Rattle.step_machine.proofs.Resting.{only_at_rest}
+use Rattle.machine_model.specs.States.{State, handle_limit, root_at}
+use Rattle.ctrie_map.specs.Beneath.map_worlds.specs.Worlds.{named_at, world_of}
+use Rattle.ctrie_map.specs.Beneath.map_worlds.proofs.Counted.{handles_at_rest}
+use Rattle.ctrie_map.specs.Beneath.map_worlds.proofs.Shown.{shows_roots}
 use Rattle.ctrie_map.specs.declared.errors.MapError.{MapError}
 use Rattle.ctrie_map.specs.declared.errors.MapError.TheVariants as error
-use Rattle.ctrie_map.specs.Changes.{denial_by, is_frozen}
-use Rattle.ctrie_map.specs.Machines.{state_by, the_actor}
-use Rattle.ctrie_map.specs.Maps.{MapState, Becomes, IsSame, Stays}
-use Rattle.ctrie_map.specs.Performing.{IsChange, Performs, denial_in, of_refusal}
-use Rattle.ctrie_map.proofs.Finishing.{finished_at_rest, stays_same}
-use Rattle.ctrie_map.proofs.Sweeping.{worn_when_spent}
+use Rattle.ctrie_map.specs.Beneath.proof_straight.specs.Resting.{IsOfRun}
+use Rattle.ctrie_map.specs.Changes.{denial_by, denial_in, is_frozen, is_worn_out}
+use Rattle.ctrie_map.specs.Cores.{the_actor}
+use Rattle.ctrie_map.specs.Maps.{MapState, handles_of}
+use Rattle.ctrie_map.specs.Performing.{IsChange, Performs, of_refusal}
 
 -- ---- the machine's reasons, at rest
 
@@ -74,6 +69,11 @@ due_by state handle (Some root) writes opens spent taken =
 
 -- ---- what is false at rest
 
+none_at : (actors : List (Option Operation)) → list_any is_some actors ≡ false → is_some (get_or actors 0 None) ≡ false
+none_at [] rest = refl
+none_at (None ∷ actors) rest = refl
+none_at (Some operation ∷ actors) rest = absurd (false≢true (sym rest))
+
 none_named : (handle : ℕ) (actors : List (Option Operation)) → list_any is_some actors ≡ false → list_any (names handle) actors ≡ false
 none_named handle [] e = refl
 none_named handle (None ∷ more) e = none_named handle more e
@@ -88,51 +88,46 @@ not_reading (call.Entries h) change = absurd change
 not_reading (call.Count h) change = absurd change
 not_reading c change = refl
 
-module _ (machine : Taken) (rest : is_busy (state_of machine) ≡ false) where
-  idle_by : (found : Option Operation) → operation_of (state_of machine) the_actor ≡ found → is_some found ≡ false
-  idle_by None e = refl
-  idle_by (Some operation) e = let same : the_actor ≡ 0 = only_at_rest (state_of machine) rest 0 the_actor operation e in absurd (omega (arith, same))
+module _ (state : State) (run : IsOfRun state) (rest : is_busy state ≡ false) where
+  runs_nothing : is_running state the_actor ≡ false
+  runs_nothing = none_at state.actors rest
 
-  runs_nothing : is_running (state_of machine) the_actor ≡ false
-  runs_nothing = idle_by (operation_of (state_of machine) the_actor) refl
+  pub taken_at_rest : handles_taken state ≡ map.len (world_of state)
+  taken_at_rest =
+      subst (λ s. handles_taken s ≡ map.len (world_of s)) (sym run.is)
+      (handles_at_rest state.limits run.steps (subst (λ s. is_busy s ≡ false) run.is rest))
 
-  module _ (one : machine.limits.actors ≡ 1) (c : Call) (change : IsChange c) where
-    is_the_actor : is_actor (state_of machine) the_actor ≡ true
-    is_the_actor =
-        let actors : (state_of machine).limits.actors ≡ 1 = ap (λ (l : Limits). l.actors) (limits_along machine.limits machine.steps) ∙ one in
-        ap (λ n. nat_le the_actor n) actors
+  module _ (one : state.limits.actors ≡ 1) (c : Call) (change : IsChange c) where
+    is_the_actor : is_actor state the_actor ≡ true
+    is_the_actor = ap (λ n. nat_le the_actor n) one
 
-    denial_so : begin_denial (state_of machine) the_actor c ≡ reasons true false (access_of (root_at (state_of machine) (handle_of c))) (needs_writable c) false false (opens_handle c)
-        (nat_le handle_limit (map.len (world_of (state_of machine)))) (is_spent (state_of machine))
+    denial_so : begin_denial state the_actor c ≡ reasons true false (access_of (root_at state (handle_of c))) (needs_writable c) false false (opens_handle c)
+        (nat_le handle_limit (map.len (world_of state))) (is_spent state)
     denial_so =
-        let access = access_of (root_at (state_of machine) (handle_of c)) in
+        let access = access_of (root_at state (handle_of c)) in
         let writes = needs_writable c in
         let opens = opens_handle c in
-        let spent = is_spent (state_of machine) in
-        let running = is_running (state_of machine) the_actor in
+        let spent = is_spent state in
+        let running = is_running state the_actor in
         let reads = needs_read_only c in
-        let blocked = is_close c && runs_on (state_of machine) (handle_of c) in
-        let full = nat_le handle_limit (handles_taken (state_of machine)) in
+        let blocked = is_close c && runs_on state (handle_of c) in
+        let full = nat_le handle_limit (handles_taken state) in
         ap (λ a. reasons a running access writes reads blocked opens full spent) is_the_actor ∙ ap (λ a. reasons true a access writes reads blocked opens full spent) runs_nothing
         ∙ ap (λ a. reasons true false access writes a blocked opens full spent) (not_reading c change)
-        ∙ ap (λ a. reasons true false access writes false a opens full spent) (and_false (is_close c) _ (none_named (handle_of c) (state_of machine).actors rest))
-        ∙ ap (λ n. reasons true false access writes false false opens (nat_le handle_limit n) spent) (handles_at_rest machine.limits machine.steps rest)
-
-    seen : (state_by machine).handles ≡ world_of (state_of machine)
-    seen = ap (λ m. world_of (state_of m)) (finished_at_rest machine rest)
+        ∙ ap (λ a. reasons true false access writes false a opens full spent) (and_false (is_close c) _ (none_named (handle_of c) state.actors rest))
+        ∙ ap (λ n. reasons true false access writes false false opens (nat_le handle_limit n) spent) (taken_at_rest)
 
     -- so it is due in the map
-    pub due : Due (denial_in (state_by machine) c) (is_spent (state_of machine)) (begin_denial (state_of machine) the_actor c)
+    pub due : Due (denial_in state c) (is_spent state) (begin_denial state the_actor c)
     due =
-        let world = world_of (state_of machine) in
-        let spent = is_spent (state_of machine) in
-        let at : denial_in (state_by machine) c
-        ≡ denial_by (needs_writable c) (opens_handle c) (option_map (named_at (state_of machine) (handle_of c)) (root_at (state_of machine) (handle_of c))) (map.len world) =
-        ap (λ w. denial_by (needs_writable c) (opens_handle c) (map.get w (handle_of c)) (map.len w)) seen
-        ∙ ap (λ s. denial_by (needs_writable c) (opens_handle c) s (map.len world)) (shows_roots (state_of machine) (handle_of c)) in
-        let by_root = denial_by (needs_writable c) (opens_handle c) (option_map (named_at (state_of machine) (handle_of c)) (root_at (state_of machine) (handle_of c))) (map.len world) in
-        subst (λ d. Due d spent (begin_denial (state_of machine) the_actor c)) (sym at) (subst (Due by_root spent) (sym denial_so)
-        (due_by (state_of machine) (handle_of c) (root_at (state_of machine) (handle_of c)) (needs_writable c) (opens_handle c) spent (map.len world)))
+        let world = world_of state in
+        let spent = is_spent state in
+        let at : denial_in state c
+        ≡ denial_by (needs_writable c) (opens_handle c) (option_map (named_at state (handle_of c)) (root_at state (handle_of c))) (map.len world) =
+        ap (λ s. denial_by (needs_writable c) (opens_handle c) s (map.len world)) (shows_roots state (handle_of c)) in
+        let by_root = denial_by (needs_writable c) (opens_handle c) (option_map (named_at state (handle_of c)) (root_at state (handle_of c))) (map.len world) in
+        subst (λ d. Due d spent (begin_denial state the_actor c)) (sym at) (subst (Due by_root spent) (sym denial_so)
+        (due_by state (handle_of c) (root_at state (handle_of c)) (needs_writable c) (opens_handle c) spent (map.len world)))
 
 -- ---- what is told
 
@@ -156,38 +151,37 @@ IsDenial error.HandlesFull = Unit {0}
 IsDenial told = ⊥
 
 pub told_of : (before : MapState) (c : Call) (told : MapError) → denial_in before c ≡ Some told → IsDenial told
-told_of before c told e = elim (denied_with (needs_writable c) (opens_handle c) (map.get before.handles (handle_of c)) (map.len before.handles) told e) [
+told_of before c told e = elim (denied_with (needs_writable c) (opens_handle c) (map.get (handles_of before) (handle_of c)) (map.len (handles_of before)) told e) [
   | inl is ↦ subst IsDenial (sym is) tt
   | inr (inl is) ↦ subst IsDenial (sym is) tt
   | inr (inr is) ↦ subst IsDenial (sym is) tt
 ]
 
-told_so : (told : MapError) (before : MapState) (c : Call) (after : MapState) → (told ≡ error.NoHandle) ⊎ ((told ≡ error.ReadOnly) ⊎ (told ≡ error.HandlesFull)) →
-    denial_in before c ≡ Some told → IsSame before after → Performs (Err told) before c after
-told_so told before c after (inl is) e same = rw is (subst (λ t. denial_in before c ≡ Some t) is e, same)
-told_so told before c after (inr (inl is)) e same = rw is (subst (λ t. denial_in before c ≡ Some t) is e, same)
-told_so told before c after (inr (inr is)) e same = rw is (subst (λ t. denial_in before c ≡ Some t) is e, same)
+told_so : (told : MapError) (before : MapState) (c : Call) → (told ≡ error.NoHandle) ⊎ ((told ≡ error.ReadOnly) ⊎ (told ≡ error.HandlesFull)) →
+    denial_in before c ≡ Some told → Performs (Err told) before c before
+told_so told before c (inl is) e = rw is (subst (λ t. denial_in before c ≡ Some t) is e, refl)
+told_so told before c (inr (inl is)) e = rw is (subst (λ t. denial_in before c ≡ Some t) is e, refl)
+told_so told before c (inr (inr is)) e = rw is (subst (λ t. denial_in before c ≡ Some t) is e, refl)
 
-pub stays_if_ready : (before after : MapState) → Becomes before before.handles after → after.is_finished ≡ true → Stays before after
-stays_if_ready before after becomes ready = (becomes, λ r. ready)
+-- a map whose core has taken all its steps is worn out
+worn_when_spent : (state : State) → is_spent state ≡ true → is_worn_out state ≡ true
+worn_when_spent state spent = grind (arith, spent)
 
-module _ (machine : Taken) (rest : is_busy (state_of machine) ≡ false) (one : machine.limits.actors ≡ 1) (c : Call) (change : IsChange c) where
-  performs_by : (d : Option MapError) (why : Refusal) → denial_in (state_by machine) c ≡ d → Due d (is_spent (state_of machine)) (Some why) →
-      Performs (Err (of_refusal why)) (state_by machine) c (state_by machine)
+module _ (state : State) (run : IsOfRun state) (rest : is_busy state ≡ false) (one : state.limits.actors ≡ 1) (c : Call) (change : IsChange c) where
+  performs_by : (d : Option MapError) (why : Refusal) → denial_in state c ≡ d → Due d (is_spent state) (Some why) → Performs (Err (of_refusal why)) state c state
   performs_by (Some told) why e due_so =
-      subst (λ t. Performs (Err t) (state_by machine) c (state_by machine)) (sym due_so)
-      (told_so told (state_by machine) c (state_by machine)
-      (denied_with (needs_writable c) (opens_handle c) (map.get (state_by machine).handles (handle_of c)) (map.len (state_by machine).handles) told e) e (stays_same (state_by machine)))
-  performs_by None why e due_so = rw due_so.0 (e, worn_when_spent machine rest due_so.1, stays_same (state_by machine))
+      subst (λ t. Performs (Err t) state c state) (sym due_so)
+      (told_so told state c (denied_with (needs_writable c) (opens_handle c) (map.get (handles_of state) (handle_of c)) (map.len (handles_of state)) told e) e)
+  performs_by None why e due_so = rw due_so.0 (e, worn_when_spent state due_so.1, refl)
 
   -- a call that is denied
-  pub denied : (why : Refusal) → begin_denial (state_of machine) the_actor c ≡ Some why → Performs (Err (of_refusal why)) (state_by machine) c (state_by machine)
-  denied why e = performs_by (denial_in (state_by machine) c) why refl (subst (Due (denial_in (state_by machine) c) (is_spent (state_of machine))) e (due machine rest one c change))
+  pub denied : (why : Refusal) → begin_denial state the_actor c ≡ Some why → Performs (Err (of_refusal why)) state c state
+  denied why e = performs_by (denial_in state c) why refl (subst (Due (denial_in state c) (is_spent state)) e (due state run rest one c change))
 
   -- a call that isn't
-  pub not_denied : begin_denial (state_of machine) the_actor c ≡ None → denial_in (state_by machine) c ≡ None
-  not_denied e = none_by (denial_in (state_by machine) c) refl (subst (Due (denial_in (state_by machine) c) (is_spent (state_of machine))) e (due machine rest one c change))
+  pub not_denied : begin_denial state the_actor c ≡ None → denial_in state c ≡ None
+  not_denied e = none_by (denial_in state c) refl (subst (Due (denial_in state c) (is_spent state)) e (due state run rest one c change))
     where
-      none_by : (d : Option MapError) → denial_in (state_by machine) c ≡ d → Due d (is_spent (state_of machine)) None → denial_in (state_by machine) c ≡ None
+      none_by : (d : Option MapError) → denial_in state c ≡ d → Due d (is_spent state) None → denial_in state c ≡ None
       none_by None is due_so = is
       none_by (Some told) is due_so = absurd due_so

@@ -1,11 +1,6 @@
-pub mod Going
-pub mod Finishing
-pub mod Sweeping
-pub mod Unreached
-pub mod Costing
 pub mod Denying
+pub mod Stepping
 pub mod Carrying
-pub mod Composing
 pub mod Changing
 pub mod Puts
 pub mod Replaces

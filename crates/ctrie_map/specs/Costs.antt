@@ -1,11 +1,10 @@
--- How much work a call does.
+-- How much work a call does, in steps.
 use Rattle.std.specs.Prelude.{◌+◌, ◌*◌, ◌≤◌, ℕ}
 use Rattle.history.specs.declared.calls.Call.{Call}
-use Rattle.history.specs.declared.calls.Call.TheVariants.{Clear, Close, Freeze, Snapshot}
-use Rattle.step_machine.specs.Ending.{enough_slots}
 use Rattle.ctrie_map.specs.Beneath.proof_obstruction_free.specs.Laws.{most_steps_alone}
 use Rattle.ctrie_map.specs.Beneath.proof_obstruction_free.specs.Slots.{most_makes_alone, most_steps_of_copies}
-use Rattle.ctrie_map.specs.Maps.{MapState}
+use Rattle.proof_alone.specs.Calls.{slots_of, steps_of}
+use Rattle.ctrie_map.specs.Maps.{MapState, free_of}
 
 -- that of a call which takes so many steps and slots at most: a step begins it, and the sweep takes five for each slot, and for one more
 abbrev pub work_of : ℕ → ℕ → ℕ
@@ -23,17 +22,8 @@ work_of_a_close = work_of 1 0
 
 -- At most so much work is done, and five steps of it for each slot by which more are free behind it than before.
 abbrev pub WorksUpTo : ℕ → MapState → MapState → Type 0
-WorksUpTo most before after = (before.age ≤ after.age) × (after.age + 5 * before.free ≤ before.age + most + 5 * after.free)
+WorksUpTo most before after = (before.steps ≤ after.steps) × (after.steps + 5 * free_of before ≤ before.steps + most + 5 * free_of after)
 
--- ---- by the call of the machine
-
--- the most steps behind its begin
-abbrev pub steps_of : Call → ℕ
-steps_of (Close h) = 1
-steps_of (Clear h) = most_steps_of_copies
-steps_of (Snapshot h) = most_steps_of_copies
-steps_of (Freeze h) = most_steps_of_copies
-steps_of call = most_steps_alone
-
+-- by the call of the core
 abbrev pub work_of_call : Call → ℕ
-work_of_call call = work_of (steps_of call) (enough_slots call)
+work_of_call call = work_of (steps_of call) (slots_of call)

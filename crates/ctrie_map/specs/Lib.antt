@@ -1,10 +1,8 @@
 pub mod Beneath
-pub mod Codes
 pub mod Maps
-pub mod Machines
-pub mod Reading
+pub mod Cores
 pub mod Changes
-pub mod Costs
 pub mod Performing
+pub mod Costs
+pub mod Reading
 pub mod Telling
-pub mod Laws

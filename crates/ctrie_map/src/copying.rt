@@ -2,7 +2,8 @@
 
 ghost use Rattle.std.specs.Prelude.{IfOk, IfErr};
 ghost use Rattle.history.specs.declared.calls.Access.TheVariants.{Writable, ReadOnly};
-ghost use Rattle.ctrie_map.specs.Changes.{Closes, Copies, IsReady, RefusesClose, RefusesCopy};
+ghost use Rattle.history.specs.declared.calls.Call.TheVariants.{Close, Freeze, Snapshot};
+ghost use Rattle.ctrie_map.specs.Changes.{Closes, Copies, HasLife, Refuses};
 ghost use Rattle.ctrie_map.specs.Costs.{WorksUpTo, work_of_a_close, work_of_a_copy};
 
 use crate::errors::MapError;
@@ -14,8 +15,8 @@ use history::Call;
 impl Map {
     /// Opens a writable copy. It is changed on its own, as is the map that was copied.
     pub fn snapshot(&mut self, handle: Handle) -> Result<Handle, MapError>
-        ensures done { IfOk result (λ copy. IsReady self.old self.new × Copies self.old handle Writable copy self.new) }
-        ensures refused { IfErr result (RefusesCopy self.old handle Writable self.new) }
+        ensures done { IfOk result (λ copy. HasLife self.old × Copies self.old handle Writable copy self.new) }
+        ensures refused { IfErr result (Refuses self.old (Snapshot handle) ⊥ self.new) }
         ensures work { WorksUpTo work_of_a_copy self.old self.new }
     {
         opened(self.perform(Call::Snapshot {
@@ -25,8 +26,8 @@ impl Map {
 
     /// Opens a read-only copy.
     pub fn freeze(&mut self, handle: Handle) -> Result<Handle, MapError>
-        ensures done { IfOk result (λ copy. IsReady self.old self.new × Copies self.old handle ReadOnly copy self.new) }
-        ensures refused { IfErr result (RefusesCopy self.old handle ReadOnly self.new) }
+        ensures done { IfOk result (λ copy. HasLife self.old × Copies self.old handle ReadOnly copy self.new) }
+        ensures refused { IfErr result (Refuses self.old (Freeze handle) ⊥ self.new) }
         ensures work { WorksUpTo work_of_a_copy self.old self.new }
     {
         opened(self.perform(Call::Freeze {
@@ -37,8 +38,8 @@ impl Map {
     /// Takes the handle away, and its map. What only this map had is free again then. It wants no slot, so it is never
     /// `Full`.
     pub fn close(&mut self, handle: Handle) -> Result<(), MapError>
-        ensures done { IfOk result (λ _. IsReady self.old self.new × Closes self.old handle self.new) }
-        ensures refused { IfErr result (RefusesClose self.old handle self.new) }
+        ensures done { IfOk result (λ _. HasLife self.old × Closes self.old handle self.new) }
+        ensures refused { IfErr result (Refuses self.old (Close handle) ⊥ self.new) }
         ensures work { WorksUpTo work_of_a_close self.old self.new }
     {
         done(self.perform(Call::Close {

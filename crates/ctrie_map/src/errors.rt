@@ -6,7 +6,7 @@ ghost use Rattle.ctrie_map.specs.Performing.{of_refusal};
 use ctrie_base::Refusal;
 use thiserror::Error;
 
-/// Why a call was refused. No map has changed then, but after `Unfinished`.
+/// Why a call was refused. No map has changed then.
 #[derive(Clone, Copy, Debug, PartialEq, Eq, Error)]
 pub enum MapError {
     /// The handle isn't open.
@@ -21,23 +21,19 @@ pub enum MapError {
     /// The key has no value, and 32 other keys have its hash.
     #[error("too many keys have this hash")]
     Crowded,
-    /// No slot was free. It comes only where fewer than `SLOTS_FOR_A_CALL` slots were free before the call, or 23 where
-    /// it is a clear or a copy.
+    /// The call came to where it was to make a node, and no slot was free. It comes only where fewer than
+    /// `SLOTS_FOR_A_CALL` slots were free before the call, or 23 where it is a clear or a copy.
     #[error("no slot is free")]
     Full,
     /// The number of slots isn't from 2 to 65,536.
     #[error("the number of slots is out of range")]
     BadSizes,
-    /// A map does 2^40 steps of work in its life. It can still be read.
+    /// A map takes 2^47 steps in its life. It can still be read.
     #[error("the map is worn out")]
     WornOut,
-    /// Memory was refused before the call began.
+    /// Memory was refused to a new map, or to a list of entries.
     #[error("no memory")]
     Memory,
-    /// Memory was refused in the midst of a call. The next change brings that call to its end first: then it is done,
-    /// or was refused as `Crowded` or `Full`, and its reply is lost. Until then the map can't be read.
-    #[error("a call is unfinished for want of memory")]
-    Unfinished,
 }
 
 impl From<Refusal> for MapError {

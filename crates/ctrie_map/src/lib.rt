@@ -4,7 +4,6 @@
 mod copying;
 mod errors;
 mod handle;
-mod laws;
 mod map;
 mod performing;
 mod putting;
@@ -16,6 +15,5 @@ mod telling;
 pub use ctrie_base::HashKind;
 pub use errors::MapError;
 pub use handle::Handle;
-pub use laws::free_is_unreached;
 pub use map::Map;
 pub use reading::SLOTS_FOR_A_CALL;

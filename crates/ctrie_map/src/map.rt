@@ -1,4 +1,4 @@
-//! The map, and the one way by which its calls reach the machine below it.
+//! The map, and the one way by which its calls reach the core below it.
 
 ghost use Rattle.std.specs.Prelude.{◌≡◌, IfOk, IfErr, OnOk};
 ghost use Rattle.ctrie_map.specs.Costs.{WorksUpTo, work_of_call};
@@ -6,61 +6,58 @@ ghost use Rattle.ctrie_map.specs.Maps.{AreSlots, IsNew, RefusesSizes};
 ghost use Rattle.ctrie_map.specs.Performing.{IsChange, Performs};
 
 use crate::errors::MapError;
-use crate::performing::{ACTOR, perform};
+use crate::performing::{ACTOR, LIFE, perform};
 use ctrie_base::HashKind;
 use history::{Call, Reply};
+use machine_core::Core;
+use machine_model::Bounds;
 use std::alloc::Global;
 use std::marker::Model;
-use step_machine::{Limits, Machine};
 
 /// Maps from 64-bit numbers to 64-bit numbers, named by handles. At first handle 0 is open, writable and empty. A
-/// snapshot or a freeze takes at most 144 steps whatever the map has, and five for each slot that becomes free. Each
-/// step is recorded, so a `Map` takes more memory with each change.
+/// snapshot or a freeze takes at most 144 steps whatever the map has, and five for each slot that becomes free. All its
+/// memory is taken when it is made: no call takes more, but those that list entries.
 pub struct Map {
-    pub(crate) machine: Machine,
+    pub(crate) core: Core,
 }
 
 /// It is written out, so that its proof is this crate's. That of a derived drop is made anew in each program, with those of
 /// all types below.
 impl Drop for Map {
     fn drop(self) {
-        let Map { machine: _ } = self;
+        let Map { core: _ } = self;
     }
 }
 
 impl Model for Map {
+    ghost use Rattle.ctrie_map.specs.Cores.{IsCalm};
     ghost use Rattle.ctrie_map.specs.Maps.{MapState};
-    ghost use Rattle.ctrie_map.specs.Codes.{map_state_code};
 
     ghost Value = { MapState };
 
-    ghost coded = { map_state_code };
+    ghost view = { λ m. m.core.state };
 
-    ghost use Rattle.ctrie_map.specs.Machines.{IsForOne, state_by};
-
-    ghost view = { λ m. state_by m.machine };
-
-    ghost invariant = { λ m. IsForOne m.machine };
+    ghost invariant = { λ m. IsCalm m.core.state };
 }
 
 impl Map {
     /// A map with the given number of slots for nodes, from 2 to 65,536, and hash of keys. Handle 0 is open, writable
     /// and empty.
-    #[tactic(auto, using(crate::proofs::Firsts::is_new, crate::proofs::Firsts::for_one, crate::proofs::Firsts::refuses))]
     pub fn new(alloc: Global, slots: u32, hash: HashKind) -> Result<Map, MapError>
         ensures made { IfOk result (IsNew slots hash) }
         ensures in_range { OnOk result (AreSlots slots) }
         ensures refused { IfErr result (RefusesSizes slots) }
     {
-        let machine = Machine::new(
+        let core = Core::new(
             alloc,
-            Limits {
+            Bounds {
                 slots,
                 actors: ACTOR,
                 hash,
+                steps: LIFE,
             },
         )?;
-        Ok(Map { machine })
+        Ok(Map { core })
     }
 
     /// A call from its begin to its end.
@@ -69,6 +66,6 @@ impl Map {
         ensures performs { Performs result self.old call self.new }
         ensures work { WorksUpTo (work_of_call call) self.old self.new }
     {
-        perform(&mut self.machine, call)
+        perform(&mut self.core, call)
     }
 }

@@ -1,118 +1,100 @@
-//! One call of the machine below a map, from its begin to its end, and what is left over of earlier ones.
+//! One call of the core below a map, from its begin to its end, and the sweep behind it.
 
-ghost use Rattle.std.specs.Prelude.{◌≡◌, false, [], None, OnOk, IfErr};
+ghost use Rattle.std.specs.Prelude.{◌≡◌, ◌<◌, ◌+◌, ℕ, false, []};
 ghost use Rattle.machine_model.specs.Machine.{is_busy};
-ghost use Rattle.step_machine.specs.Machines.{state_of};
+ghost use Rattle.proof_alone.specs.Calls.{CanCall};
+ghost use Rattle.proof_alone.specs.Sweeps.{Sweeps, most_sweeps};
+ghost use Rattle.ctrie_map.specs.Beneath.proof_straight.specs.Running.{Comes};
+ghost use Rattle.ctrie_map.specs.Changes.{is_worn_out};
+ghost use Rattle.ctrie_map.specs.Cores.{IsCalm, the_actor};
 ghost use Rattle.ctrie_map.specs.Costs.{WorksUpTo, work_of_call};
-ghost use Rattle.ctrie_map.specs.Machines.{IsForOne, state_by};
-ghost use Rattle.ctrie_map.specs.Maps.{IsSame};
-ghost use Rattle.ctrie_map.specs.Performing.{IsChange, IsForWant, Performs, denial_in};
+ghost use Rattle.ctrie_map.specs.Performing.{IsChange, Performs};
 
 use crate::errors::MapError;
-use ctrie_base::Refusal;
 use history::{Call, Reply};
-use step_machine::{Machine, Step};
+use machine_core::{Core, key_fits};
+use machine_model::{Bounds, Step};
 
-/// The one actor of a map's machine.
+/// The one actor of a map's core.
 pub(crate) const ACTOR: u8 = 1;
 
-/// How many steps a machine takes in its life.
-const STEP_LIMIT: u64 = 1 << 40;
+/// How many steps a map takes in its life.
+pub(crate) const LIFE: u64 = 1 << 47;
 
 /// How many steps a call takes at most, with its begin.
 const CALL_STEPS: u64 = 3_963;
 
-/// Brings a call to its end that was broken off for want of memory.
-#[tactic(auto, using(crate::proofs::Finishing::finishes, crate::proofs::Finishing::stays_same))]
-fn finish(machine: &mut Machine) -> Result<(), MapError>
-    requires { IsForOne machine.old }
-    ensures for_one { IsForOne machine.new }
-    ensures same { IsSame (state_by machine.old) (state_by machine.new) }
-    ensures done { OnOk result (is_busy (state_of machine.new) ≡ false) }
-    ensures refused { IfErr result (λ error. (error ≡ MapError.Memory) × ((state_by machine.old).is_finished ≡ false)) }
+/// How many steps of the sweep there are at most for a slot.
+const SLOT_SWEEPS: u64 = 5;
+
+/// Whether no more steps are left than a call may take with the sweep behind it.
+fn is_worn_out(core: &Core) -> bool
+    requires { IsCalm core.now.state }
+    ensures { result ≡ is_worn_out core.now.state }
 {
-    if machine.is_busy() && machine.resume(ACTOR).is_err() {
-        return Err(MapError::Memory);
+    let Bounds { slots, steps, .. } = core.limits();
+    let most = CALL_STEPS + SLOT_SWEEPS * (u64::from(slots) + 1);
+    steps.saturating_sub(core.steps_taken()) <= most
+}
+
+/// Carries a call out step by step.
+fn step_through(core: &mut Core, call: Call) -> Reply
+    requires { CanCall core.old.state the_actor call }
+    ensures { (n : ℕ) × Comes core.old.state the_actor call n result core.new.state }
+{
+    proof_alone::calls_begin();
+    proof_alone::calls_go_on();
+    let Ok(_) = core.begin(ACTOR, call) else {
+        unreachable!()
+    };
+    while core.goes_on(ACTOR) {
+        let Ok(_) = core.walk(ACTOR) else {
+            unreachable!()
+        };
     }
-    Ok(())
+    let Ok(ended) = core.end(ACTOR) else {
+        unreachable!()
+    };
+    ended.reply
 }
 
 /// Frees the slots that no handle reaches, where no operation runs.
-#[tactic(auto, using(crate::proofs::Sweeping::sweeps))]
-fn sweep(machine: &mut Machine) -> Result<(), MapError>
-    requires for_one { IsForOne machine.old }
-    requires rest { is_busy (state_of machine.old) ≡ false }
-    ensures for_one { IsForOne machine.new }
-    ensures same { IsSame (state_by machine.old) (state_by machine.new) }
-    ensures rest { is_busy (state_of machine.new) ≡ false }
-    ensures clean { OnOk result ((state_of machine.new).limbo ≡ []) }
-    ensures refused { IfErr result (IsForWant (state_by machine.old)) }
+fn sweep(core: &mut Core)
+    requires rest { is_busy core.old.state ≡ false }
+    requires left { core.old.state.steps + most_sweeps core.old.state < core.old.state.limits.steps }
+    ensures swept { (n : ℕ) × Sweeps core.old.state n core.new.state }
+    ensures clean { core.new.state.limbo ≡ [] }
 {
-    let _ = machine.limits();
-    match machine.reclaim() {
-        Ok(()) => Ok(()),
-        Err(Refusal::Spent) => Err(MapError::WornOut),
-        Err(_) => Err(MapError::Memory),
+    let _ = core.limits();
+    proof_alone::sweeps_leave();
+    while core.limbo_len() > 0 {
+        if core.sweep().is_err() {
+            unreachable!()
+        }
     }
 }
 
-/// Carries a call out, from rest and where there is nothing to be swept.
-#[tactic(auto, using(crate::proofs::Carrying::never_open))]
-fn carry_out(machine: &mut Machine, call: Call) -> Result<Reply, MapError>
-    requires for_one { IsForOne machine.old }
-    requires rest { is_busy (state_of machine.old) ≡ false }
-    requires clean { (state_of machine.old).limbo ≡ [] }
+/// One call from its begin to its end, and the sweep of what it makes free.
+pub(crate) fn perform(core: &mut Core, call: Call) -> Result<Reply, MapError>
+    requires calm { IsCalm core.old.state }
     requires change { IsChange call }
-    requires allowed { denial_in (state_by machine.old) call ≡ None }
-    ensures for_one { IsForOne machine.new }
-    ensures performs { Performs result (state_by machine.old) call (state_by machine.new) }
-    ensures work { WorksUpTo (work_of_call call) (state_by machine.old) (state_by machine.new) }
+    ensures calm { IsCalm core.new.state }
+    ensures performs { Performs result core.old.state call core.new.state }
+    ensures work { WorksUpTo (work_of_call call) core.old.state core.new.state }
 {
-    if machine.steps_taken() > STEP_LIMIT - CALL_STEPS {
-        return Err(MapError::WornOut);
-    }
-    let result = machine.complete(ACTOR, call);
-    let _ = machine.limits();
-    let _ = machine.steps();
-    match result {
-        Ok(Some(reply)) => Ok(reply),
-        Ok(None) => unreachable!(),
-        Err(_) if machine.is_busy() => Err(MapError::Unfinished),
-        Err(_) => Err(MapError::Memory),
-    }
-}
-
-/// Brings to an end what was left over.
-#[tactic(auto, using(crate::proofs::Composing::same_on, crate::proofs::Composing::wants_on))]
-pub(crate) fn settle(machine: &mut Machine) -> Result<(), MapError>
-    requires { IsForOne machine.old }
-    ensures for_one { IsForOne machine.new }
-    ensures same { IsSame (state_by machine.old) (state_by machine.new) }
-    ensures rest { OnOk result (is_busy (state_of machine.new) ≡ false) }
-    ensures clean { OnOk result ((state_of machine.new).limbo ≡ []) }
-    ensures refused { IfErr result (IsForWant (state_by machine.old)) }
-{
-    finish(machine)?;
-    sweep(machine)
-}
-
-/// One call from its begin to its end, after what was left over. What it makes free is swept behind it, and if memory is
-/// wanting for that, before the next call.
-pub(crate) fn perform(machine: &mut Machine, call: Call) -> Result<Reply, MapError>
-    requires for_one { IsForOne machine.old }
-    requires change { IsChange call }
-    ensures for_one { IsForOne machine.new }
-    ensures performs { Performs result (state_by machine.old) call (state_by machine.new) }
-    ensures work { WorksUpTo (work_of_call call) (state_by machine.old) (state_by machine.new) }
-{
-    finish(machine)?;
-    if let Some(refusal) = machine.denial(Step::Begin { actor: ACTOR, call }) {
+    let _ = core.limits();
+    if let Some(refusal) = core.denial(Step::Begin { actor: ACTOR, call }) {
         return Err(MapError::from(refusal));
     }
-    sweep(machine)?;
-    let result = carry_out(machine, call);
-    if !machine.is_busy() {
-        let _ = sweep(machine);
+    if is_worn_out(core) {
+        return Err(MapError::WornOut);
     }
-    result
+    key_fits(call);
+    proof_alone::calls_do();
+    proof_alone::refused_if_out();
+    proof_alone::enough_slots_for_calls();
+    proof_alone::sweeps_leave();
+    let reply = step_through(core, call);
+    sweep(core);
+    Ok(reply)
 }

@@ -2,7 +2,8 @@
 
 ghost use Rattle.std.specs.Prelude.{◌≡◌, IfOk, IfErr};
 ghost use Rattle.std.specs.FinMap as map;
-ghost use Rattle.ctrie_map.specs.Changes.{Changes, HasRoom, IsCrowdedAt, IsReady, RefusesChange, set_if_absent};
+ghost use Rattle.history.specs.declared.calls.Call.TheVariants.{Put, PutIfAbsent};
+ghost use Rattle.ctrie_map.specs.Changes.{Changes, HasLife, HasRoom, IsCrowdedAt, Refuses, set_if_absent};
 ghost use Rattle.ctrie_map.specs.Costs.{WorksUpTo, work_of_a_change};
 
 use crate::errors::MapError;
@@ -14,9 +15,9 @@ use history::Call;
 impl Map {
     /// Sets the key's value. The value before, if it had one.
     pub fn put(&mut self, handle: Handle, key: u64, value: u64) -> Result<Option<u64>, MapError>
-        ensures done { IfOk result (λ before. IsReady self.old self.new
+        ensures done { IfOk result (λ before. HasLife self.old
             × Changes self.old handle (λ m. (before ≡ map.get m key) × HasRoom self.old key m) (λ m. map.insert m key value) self.new) }
-        ensures refused { IfErr result (RefusesChange self.old handle (IsCrowdedAt self.old handle key) (HasRoom self.old key) (λ m. map.insert m key value) self.new) }
+        ensures refused { IfErr result (Refuses self.old (Put handle key value) (IsCrowdedAt self.old handle key) self.new) }
         ensures work { WorksUpTo work_of_a_change self.old self.new }
     {
         found(self.perform(Call::Put {
@@ -33,9 +34,9 @@ impl Map {
         key: u64,
         value: u64,
     ) -> Result<Option<u64>, MapError>
-        ensures done { IfOk result (λ before. IsReady self.old self.new
+        ensures done { IfOk result (λ before. HasLife self.old
             × Changes self.old handle (λ m. (before ≡ map.get m key) × HasRoom self.old key m) (set_if_absent key value) self.new) }
-        ensures refused { IfErr result (RefusesChange self.old handle (IsCrowdedAt self.old handle key) (HasRoom self.old key) (set_if_absent key value) self.new) }
+        ensures refused { IfErr result (Refuses self.old (PutIfAbsent handle key value) (IsCrowdedAt self.old handle key) self.new) }
         ensures work { WorksUpTo work_of_a_change self.old self.new }
     {
         found(self.perform(Call::PutIfAbsent {

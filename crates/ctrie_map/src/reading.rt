@@ -1,18 +1,18 @@
 //! Calls that change nothing.
 
-ghost use Rattle.std.specs.Prelude.{◌≡◌, nat_le, IfOk, IfErr, Ok};
+ghost use Rattle.std.specs.Prelude.{◌≡◌, ◌+◌, false, length, nat_le, IfOk, IfErr, Ok};
 ghost use Rattle.std.specs.FinMap as map;
-ghost use Rattle.ctrie_map.specs.Changes.{slots_for_a_call};
-ghost use Rattle.ctrie_map.specs.Machines.{IsForOne, state_by};
-ghost use Rattle.ctrie_map.specs.Maps.{IsSame};
-ghost use Rattle.ctrie_map.specs.Performing.{IsForWant};
-ghost use Rattle.ctrie_map.specs.Reading.{RefusesReading, if_finished, reading};
+ghost use Rattle.machine_model.specs.Machine.{is_busy};
+ghost use Rattle.proof_alone.specs.Sweeps.{UsesReached};
+ghost use Rattle.ctrie_map.specs.Beneath.slot_arena.specs.Heaps.{in_use};
+ghost use Rattle.ctrie_map.specs.Maps.{free_of, handles_of};
+ghost use Rattle.ctrie_map.specs.Beneath.proof_obstruction_free.specs.Slots.{most_makes_alone};
+ghost use Rattle.ctrie_map.specs.Reading.{RefusesReading, reading};
 
 use crate::errors::MapError;
 use crate::handle::Handle;
 use crate::map::Map;
-use crate::performing::settle;
-use step_machine::Machine;
+use machine_core::Core;
 
 /// So many free slots are enough for any call.
 pub const SLOTS_FOR_A_CALL: u32 = 570;
@@ -22,7 +22,7 @@ impl Map {
     pub fn get(&self, handle: Handle, key: u64) -> Result<Option<u64>, MapError>
         ensures { result ≡ reading self.now handle (λ m. map.get m key) }
     {
-        value_in(&self.machine, handle.number(), key)
+        value_in(&self.core, handle.number(), key)
     }
 
     /// Whether the key has a value. It takes no memory.
@@ -33,13 +33,12 @@ impl Map {
         Ok(self.get(handle, key)?.is_some())
     }
 
-    /// All keys with their values, in ascending order of keys. Else than for `NoHandle` and `Unfinished`, only memory is
-    /// refused.
+    /// All keys with their values, in ascending order of keys. Else than for `NoHandle`, only memory is refused.
     pub fn entries(&self, handle: Handle) -> Result<Vec<(u64, u64)>, MapError>
         ensures entries { IfOk result (λ entries. reading self.now handle (λ m. map.entries m) ≡ Ok entries.items) }
         ensures refused { IfErr result (RefusesReading (reading self.now handle (λ m. map.entries m))) }
     {
-        entries_in(&self.machine, handle.number())
+        entries_in(&self.core, handle.number())
     }
 
     /// How many keys have a value. It collects and sorts them all, as `entries` does.
@@ -52,85 +51,70 @@ impl Map {
     }
 
     /// How many handles are open.
-    pub fn handles(&self) -> Result<u32, MapError>
-        ensures { result ≡ if_finished self.now.is_finished (Ok (map.len self.now.handles)) }
+    pub fn handles(&self) -> u32
+        ensures { result ≡ map.len (handles_of self.now) }
     {
-        handles_in(&self.machine)
+        handles_in(&self.core)
     }
 
     /// How many slots there are in all.
     pub fn slots(&self) -> u32
-        ensures { result ≡ self.now.slots }
+        ensures { result ≡ self.now.limits.slots }
     {
-        self.machine.limits().slots
+        self.core.limits().slots
     }
 
-    /// How many slots no open handle reaches. It brings to an end what was left over, for which memory may be wanting.
-    pub fn free(&mut self) -> Result<u32, MapError>
-        ensures free { IfOk result (λ free. (free ≡ self.old.free) × (free ≡ self.new.free)) }
-        ensures same { IsSame self.old self.new }
-        ensures refused { IfErr result (IsForWant self.old) }
+    /// How many steps its calls have taken, of the 2^47 of its life.
+    pub fn steps_taken(&self) -> u64
+        ensures { result ≡ self.now.steps }
     {
-        free_in(&mut self.machine)
+        self.core.steps_taken()
+    }
+
+    /// How many slots no open handle reaches: those in use are just what the open handles reach.
+    pub fn free(&self) -> u32
+        ensures free { result ≡ free_of self.now }
+        ensures reached { UsesReached self.now }
+        ensures all { length (in_use self.now.heap) + result ≡ self.now.limits.slots }
+    {
+        let _ = self.core.limits();
+        proof_alone::clean_is_reached();
+        self.core.free_slots()
     }
 
     /// Whether the next call finds enough free slots, whatever it is: it isn't `Full` then.
-    pub fn has_room(&mut self) -> Result<bool, MapError>
-        ensures room { IfOk result (λ room. room ≡ nat_le slots_for_a_call self.old.free) }
-        ensures same { IsSame self.old self.new }
-        ensures refused { IfErr result (IsForWant self.old) }
+    pub fn has_room(&self) -> bool
+        ensures { result ≡ nat_le most_makes_alone (free_of self.now) }
     {
-        Ok(self.free()? >= SLOTS_FOR_A_CALL)
+        self.free() >= SLOTS_FOR_A_CALL
     }
 }
 
 /// The value of a key in a handle's map.
-fn value_in(machine: &Machine, handle: u16, key: u64) -> Result<Option<u64>, MapError>
-    ensures { result ≡ reading (state_by machine.now) handle (λ m. map.get m key) }
+fn value_in(core: &Core, handle: u16, key: u64) -> Result<Option<u64>, MapError>
+    ensures { result ≡ reading core.now.state handle (λ m. map.get m key) }
 {
-    if machine.is_busy() {
-        return Err(MapError::Unfinished);
-    }
-    let _ = machine.limits();
-    let _ = machine.steps();
-    match machine.value_at(handle, key) {
+    let _ = core.limits();
+    match core.value_at(handle, key) {
         Ok(value) => Ok(value),
         Err(_) => Err(MapError::NoHandle),
     }
 }
 
 /// The pairs of a handle's map.
-#[tactic(auto, using(crate::proofs::Lookups::unread))]
-fn entries_in(machine: &Machine, handle: u16) -> Result<Vec<(u64, u64)>, MapError>
-    ensures entries { IfOk result (λ entries. reading (state_by machine.now) handle (λ m. map.entries m) ≡ Ok entries.items) }
-    ensures refused { IfErr result (RefusesReading (reading (state_by machine.now) handle (λ m. map.entries m))) }
+fn entries_in(core: &Core, handle: u16) -> Result<Vec<(u64, u64)>, MapError>
+    ensures entries { IfOk result (λ entries. reading core.now.state handle (λ m. map.entries m) ≡ Ok entries.items) }
+    ensures refused { IfErr result (RefusesReading (reading core.now.state handle (λ m. map.entries m))) }
 {
-    if machine.is_busy() {
-        return Err(MapError::Unfinished);
-    }
-    let _ = machine.limits();
-    let _ = machine.steps();
-    Ok(machine.content(handle)?)
+    let _ = core.limits();
+    Ok(core.content(handle)?.into_vec())
 }
 
-/// The number of open handles.
-fn handles_in(machine: &Machine) -> Result<u32, MapError>
-    ensures { result ≡ if_finished (state_by machine.now).is_finished (Ok (map.len (state_by machine.now).handles)) }
+/// The number of open handles, where no operation runs.
+fn handles_in(core: &Core) -> u32
+    requires { is_busy core.now.state ≡ false }
+    ensures { result ≡ map.len (handles_of core.now.state) }
 {
-    if machine.is_busy() {
-        return Err(MapError::Unfinished);
-    }
-    Ok(machine.handles_taken())
-}
-
-/// The number of free slots, once all is swept.
-fn free_in(machine: &mut Machine) -> Result<u32, MapError>
-    requires { IsForOne machine.old }
-    ensures for_one { IsForOne machine.new }
-    ensures free { IfOk result (λ free. (free ≡ (state_by machine.old).free) × (free ≡ (state_by machine.new).free)) }
-    ensures same { IsSame (state_by machine.old) (state_by machine.new) }
-    ensures refused { IfErr result (IsForWant (state_by machine.old)) }
-{
-    settle(machine)?;
-    Ok(machine.free_slots())
+    let _ = core.limits();
+    core.handles_taken()
 }

@@ -3,7 +3,8 @@
 ghost use Rattle.std.specs.Prelude.{◌≡◌, IfOk, IfErr};
 ghost use Rattle.std.specs.FinMap as map;
 ghost use Rattle.history.specs.Effects.{has_value};
-ghost use Rattle.ctrie_map.specs.Changes.{Changes, IsAny, IsReady, RefusesChange, RefusesClear, removed_if_it_has};
+ghost use Rattle.ctrie_map.specs.Changes.{Changes, HasLife, IsAny, Refuses, removed_if_it_has};
+ghost use Rattle.history.specs.declared.calls.Call.TheVariants.{Clear, Remove, RemoveIf};
 ghost use Rattle.ctrie_map.specs.Costs.{WorksUpTo, work_of_a_change, work_of_a_copy};
 
 use crate::errors::MapError;
@@ -15,8 +16,8 @@ use history::Call;
 impl Map {
     /// Removes the key. The value before, if it had one.
     pub fn remove(&mut self, handle: Handle, key: u64) -> Result<Option<u64>, MapError>
-        ensures done { IfOk result (λ before. IsReady self.old self.new × Changes self.old handle (λ m. before ≡ map.get m key) (λ m. map.remove m key) self.new) }
-        ensures refused { IfErr result (RefusesChange self.old handle ⊥ IsAny (λ m. map.remove m key) self.new) }
+        ensures done { IfOk result (λ before. HasLife self.old × Changes self.old handle (λ m. before ≡ map.get m key) (λ m. map.remove m key) self.new) }
+        ensures refused { IfErr result (Refuses self.old (Remove handle key) ⊥ self.new) }
         ensures work { WorksUpTo work_of_a_change self.old self.new }
     {
         found(self.perform(Call::Remove {
@@ -27,8 +28,8 @@ impl Map {
 
     /// Removes a key that has this value. Whether it had it.
     pub fn remove_if(&mut self, handle: Handle, key: u64, value: u64) -> Result<bool, MapError>
-        ensures done { IfOk result (λ done. IsReady self.old self.new × Changes self.old handle (λ m. done ≡ has_value m key value) (removed_if_it_has key value) self.new) }
-        ensures refused { IfErr result (RefusesChange self.old handle ⊥ IsAny (removed_if_it_has key value) self.new) }
+        ensures done { IfOk result (λ done. HasLife self.old × Changes self.old handle (λ m. done ≡ has_value m key value) (removed_if_it_has key value) self.new) }
+        ensures refused { IfErr result (Refuses self.old (RemoveIf handle key value) ⊥ self.new) }
         ensures work { WorksUpTo work_of_a_change self.old self.new }
     {
         truth(self.perform(Call::RemoveIf {
@@ -40,8 +41,8 @@ impl Map {
 
     /// Removes all keys.
     pub fn clear(&mut self, handle: Handle) -> Result<(), MapError>
-        ensures done { IfOk result (λ _. IsReady self.old self.new × Changes self.old handle IsAny (λ m. map.empty) self.new) }
-        ensures refused { IfErr result (RefusesClear self.old handle self.new) }
+        ensures done { IfOk result (λ _. HasLife self.old × Changes self.old handle IsAny (λ m. map.empty) self.new) }
+        ensures refused { IfErr result (Refuses self.old (Clear handle) ⊥ self.new) }
         ensures work { WorksUpTo work_of_a_copy self.old self.new }
     {
         done(self.perform(Call::Clear {

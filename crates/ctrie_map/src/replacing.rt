@@ -3,7 +3,8 @@
 ghost use Rattle.std.specs.Prelude.{◌≡◌, IfOk, IfErr};
 ghost use Rattle.std.specs.FinMap as map;
 ghost use Rattle.history.specs.Effects.{has_value};
-ghost use Rattle.ctrie_map.specs.Changes.{Changes, IsAny, IsReady, RefusesChange, set_if_it_has, set_if_there};
+ghost use Rattle.history.specs.declared.calls.Call.TheVariants.{Replace, ReplaceIf};
+ghost use Rattle.ctrie_map.specs.Changes.{Changes, HasLife, Refuses, set_if_it_has, set_if_there};
 ghost use Rattle.ctrie_map.specs.Costs.{WorksUpTo, work_of_a_change};
 
 use crate::errors::MapError;
@@ -15,8 +16,8 @@ use history::Call;
 impl Map {
     /// Sets the value of a key that has one. The value before, if it had one.
     pub fn replace(&mut self, handle: Handle, key: u64, value: u64) -> Result<Option<u64>, MapError>
-        ensures done { IfOk result (λ before. IsReady self.old self.new × Changes self.old handle (λ m. before ≡ map.get m key) (set_if_there key value) self.new) }
-        ensures refused { IfErr result (RefusesChange self.old handle ⊥ IsAny (set_if_there key value) self.new) }
+        ensures done { IfOk result (λ before. HasLife self.old × Changes self.old handle (λ m. before ≡ map.get m key) (set_if_there key value) self.new) }
+        ensures refused { IfErr result (Refuses self.old (Replace handle key value) ⊥ self.new) }
         ensures work { WorksUpTo work_of_a_change self.old self.new }
     {
         found(self.perform(Call::Replace {
@@ -34,8 +35,8 @@ impl Map {
         old: u64,
         new: u64,
     ) -> Result<bool, MapError>
-        ensures done { IfOk result (λ done. IsReady self.old self.new × Changes self.old handle (λ m. done ≡ has_value m key old) (set_if_it_has key old new) self.new) }
-        ensures refused { IfErr result (RefusesChange self.old handle ⊥ IsAny (set_if_it_has key old new) self.new) }
+        ensures done { IfOk result (λ done. HasLife self.old × Changes self.old handle (λ m. done ≡ has_value m key old) (set_if_it_has key old new) self.new) }
+        ensures refused { IfErr result (Refuses self.old (ReplaceIf handle key old new) ⊥ self.new) }
         ensures work { WorksUpTo work_of_a_change self.old self.new }
     {
         truth(self.perform(Call::ReplaceIf {

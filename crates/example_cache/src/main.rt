@@ -1,4 +1,4 @@
-//! A cache of what is slow to work out. Its slots are bounded: when they are full it begins anew.
+//! A cache of what is slow to work out. Its memory is bounded: when its slots are full it begins anew.
 #![tactic(auto)]
 
 use ctrie_map::{Handle, HashKind, Map, MapError};

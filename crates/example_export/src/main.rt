@@ -81,9 +81,9 @@ fn run<R: Print + AllocGlobal>(rt: &R) -> Result<(), MapError> {
         sum(then.as_slice()),
         sum(now.as_slice())
     );
-    let with_copy = index.map.free()?;
+    let with_copy = index.map.free();
     index.map.close(copy)?;
-    let without = index.map.free()?;
+    let without = index.map.free();
     let slots = index.map.slots();
     let _ = println!(rt;
         "of {slots} slots {with_copy} are free with the copy and {without} without"

@@ -22,8 +22,7 @@ impl Sheet {
         })
     }
 
-    /// Sets a cell, so that it can be undone. Where that is refused there is nothing to undo, but after `Unfinished`, when the
-    /// cell may be set.
+    /// Sets a cell, so that it can be undone. Where that is refused there is nothing to undo.
     fn set(&mut self, cell: u64, value: u64) -> Result<(), MapError> {
         let copy = self.map.snapshot(self.now)?;
         if self.before.push(copy).is_err() {
@@ -32,7 +31,6 @@ impl Sheet {
         }
         match self.map.put(self.now, cell, value) {
             Ok(_) => Ok(()),
-            Err(MapError::Unfinished) => Err(MapError::Unfinished),
             Err(error) => {
                 let _ = self.before.pop();
                 let _ = self.map.close(copy);
@@ -53,9 +51,9 @@ impl Sheet {
     }
 
     /// Writes the cells and how many slots are free.
-    fn tell<R: Print>(&mut self, rt: &R, what: &str) -> Result<(), MapError> {
+    fn tell<R: Print>(&self, rt: &R, what: &str) -> Result<(), MapError> {
         let cells = self.map.entries(self.now)?;
-        let free = self.map.free()?;
+        let free = self.map.free();
         let _ = print!(rt; "{what}:");
         for (cell, value) in cells.as_slice() {
             let _ = print!(rt; " {cell}={value}");

@@ -58,16 +58,17 @@ fn clears(rt: HostRuntime) -> Result<(), Fail> {
     let mut map = map_of_two(rt.alloc())?;
     map.clear(all)?;
     assert_eq!(rt; map.count(all)?, 0);
-    assert_eq!(rt; map.free()?, 62);
+    assert_eq!(rt; map.free(), 62);
     Ok(())
 }
 
 #[test]
 fn begins_empty(rt: HostRuntime) -> Result<(), Fail> {
-    let mut map = Map::new(rt.alloc(), 4_000, HashKind::Wide)?;
+    let map = Map::new(rt.alloc(), 4_000, HashKind::Wide)?;
     assert_eq!(rt; Handle::first().number(), 0);
     assert!(rt; Handle::new(0) == Handle::first());
     assert_eq!(rt; map.get(Handle::first(), 1)?, None);
-    assert!(rt; map.has_room()?);
+    assert!(rt; map.has_room());
+    assert_eq!(rt; map.steps_taken(), 0);
     Ok(())
 }

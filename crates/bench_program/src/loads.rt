@@ -1,0 +1,45 @@
+//! Which calls are made.
+
+/// How the calls are chosen.
+#[derive(Clone, Copy, Debug, PartialEq, Eq)]
+pub(crate) enum Load {
+    /// Gets, puts and removals, 6 : 6 : 4.
+    Mix,
+    /// Gets alone.
+    Get,
+    /// Puts alone.
+    Put,
+    /// Puts alone, of each key in turn.
+    Insert,
+    /// The mix, with a freeze, a get of what it opens and a close now and then.
+    Freeze,
+    /// A freeze, the first change after it, and a close.
+    Copy,
+}
+
+impl Load {
+    /// The one of this name.
+    pub(crate) fn named(name: &str) -> Option<Load> {
+        match name {
+            "mix" => Some(Load::Mix),
+            "get" => Some(Load::Get),
+            "put" => Some(Load::Put),
+            "insert" => Some(Load::Insert),
+            "freeze" => Some(Load::Freeze),
+            "copy" => Some(Load::Copy),
+            _ => None,
+        }
+    }
+
+    /// Whether each key is put before.
+    pub(crate) fn wants_keys(self) -> bool {
+        matches!(self, Load::Get | Load::Copy)
+    }
+}
+
+/// The number after this one, by Marsaglia's shifts and exclusive ors.
+pub(crate) fn next_drawn(drawn: u64) -> u64 {
+    let drawn = drawn ^ drawn << 13;
+    let drawn = drawn ^ drawn >> 7;
+    drawn ^ drawn << 17
+}

@@ -1,0 +1,143 @@
+-- A call of the core that goes on to its end, and the sweep behind it: no step of either is refused.
+use Rattle.std.specs.Prelude.{◌≡◌, ◌≢◌, ◌+◌, ◌-◌, ◌<◌, ℕ, zero, suc, true, false, [], is_err, Some, Result, Ok, Err}
+use Rattle.std.proofs.Common.{refl, sym, ap, subst, inl, inr, arith, ◌∙◌}
+use Rattle.std.proofs.lemmas.Bool.{false≢true}
+use Rattle.ctrie_base.specs.declared.kinds.Kind.{Kind}
+use Rattle.ctrie_base.specs.declared.refusals.Refusal.{Refusal}
+use Rattle.history.specs.declared.calls.Call.{Call}
+use Rattle.history.specs.declared.calls.Call.TheVariants as call
+use Rattle.history.specs.declared.replies.Reply.{Reply}
+use Rattle.machine_model.specs.declared.operations.Operation.{Operation}
+use Rattle.machine_model.specs.declared.steps.Outcome.{Outcome}
+use Rattle.machine_model.specs.declared.steps.Outcome.TheVariants.{Began, Went, Ended}
+use Rattle.machine_model.specs.declared.steps.Step.TheVariants.{Begin, Go, Sweep}
+use Rattle.machine_model.specs.Calls.{needs_read_only}
+use Rattle.machine_model.specs.Machine.{Answer, is_busy, is_spent, is_taken_step, next}
+use Rattle.machine_model.specs.States.{State, operation_of}
+use Rattle.machine_core.specs.Bounds.{Answers, Applies, Walks}
+use Rattle.proof_alone.specs.Calls.{CallsBegin, CallsGoOn, CanCall, IsNoWalk, LeadsOn, steps_of}
+use Rattle.proof_alone.specs.Sweeps.{Sweeps, SweepsLeave, Swept, most_sweeps, sweeps, unswept}
+use Rattle.proof_alone.proofs.Going.{steps_so_far}
+use Rattle.ctrie_map.specs.Beneath.proof_straight.specs.Resting.{IsOfRun}
+use Rattle.ctrie_map.specs.Beneath.proof_straight.specs.Running.{Comes, GoesOn, starts, walks}
+use Rattle.ctrie_map.specs.Cores.{the_actor}
+
+-- two answers of one step
+same_answer : (x y : Outcome × State) → ◌≡◌ {A = Answer} (Ok x) (Ok y) → x ≡ y
+same_answer x y e = cc e
+
+-- an answer is no refusal
+no_refusal : {A : Type 0} (answer : Result A Refusal) (done : A) (why : Refusal) → answer ≡ Ok done → answer ≡ Err why → ⊥
+no_refusal answer done why is other = cc (sym is ∙ other)
+
+no_walk : (c : Call) → IsNoWalk c → needs_read_only c ≡ true → ⊥
+no_walk (call.Entries h) short reads = short
+no_walk (call.Count h) short reads = short
+no_walk c short reads = absurd (grind (arith, reads))
+
+-- the call that began there is on its way
+abbrev pub IsOnWay : State → Call → State → Type 0
+IsOnWay start c now = (n : ℕ) × GoesOn start the_actor c n now
+
+module _ (start : State) (c : Call) (can : CanCall start the_actor c) where
+  module _ (law : CallsBegin) where
+    begins_by : (id : ℕ) (after first : State) → GoesOn start the_actor c zero first → next start (Begin the_actor c) ≡ Ok (Began id, after) → GoesOn start the_actor c zero after
+    begins_by id after first (starts e) is =
+        let same : first ≡ after = ap (λ p. p.1) (same_answer _ _ (sym e ∙ is)) in subst (GoesOn start the_actor c zero) same (starts e)
+
+    -- it begins
+    pub begins : (id : ℕ) (after : State) → next start (Begin the_actor c) ≡ Ok (Began id, after) → IsOnWay start c after
+    begins id after is = let (first, goes) = law start the_actor c can in (0, begins_by id after first goes is)
+
+    not_refused_by : (why : Refusal) (first : State) → GoesOn start the_actor c zero first → next start (Begin the_actor c) ≡ Err why → ⊥
+    not_refused_by why first (starts e) is = no_refusal _ _ why e is
+
+    pub begin_not_refused : (why : Refusal) (after : State) → Answers (Err why) start (next start (Begin the_actor c)) after → ⊥
+    begin_not_refused why after refused = let (first, goes) = law start the_actor c can in not_refused_by why first goes refused.1
+
+  module _ (law : CallsGoOn) (now : State) (way : IsOnWay start c now) where
+    -- a step leads on
+    pub walks_on : (kind : Kind) (after : State) → next now (Go the_actor) ≡ Ok (Went kind, after) → IsOnWay start c after
+    walks_on kind after is = (suc way.0, walks way.1 is)
+
+    leads_by : (why : Refusal) → LeadsOn start now the_actor → next now (Go the_actor) ≡ Err why → ⊥
+    leads_by why (inl goes) is = no_refusal _ _ why goes.2 is
+    leads_by why (inr ends) is = no_refusal _ _ why ends.2 is
+
+    walks_over : (operation : Operation) → operation_of now the_actor ≡ Some operation → operation.call ≡ c → Walks (operation_of now the_actor) → ⊥
+    walks_over operation runs same reads = no_walk c can.short (ap needs_read_only (sym same) ∙ subst Walks runs reads)
+
+    pub walk_not_refused : (why : Refusal) (after : State) → Applies (Err why) now the_actor (next now (Go the_actor)) after → ⊥
+    walk_not_refused why after (same, inl denied) = let on = law start the_actor c can way.0 now way.1 in leads_by why on.leads denied
+    walk_not_refused why after (same, inr (memory, taken, reads)) = let on = law start the_actor c can way.0 now way.1 in walks_over on.operation on.runs on.same reads
+
+    pub end_not_refused : (why : Refusal) (after : State) → Answers (Err why) now (next now (Go the_actor)) after → ⊥
+    end_not_refused why after refused = let on = law start the_actor c can way.0 now way.1 in leads_by why on.leads refused.1
+
+    ends_by : (id : ℕ) (answer : Reply) (after : State) → LeadsOn start now the_actor → next now (Go the_actor) ≡ Ok (Ended id answer, after) → Comes start the_actor c way.0 answer after
+    ends_by id answer after (inl goes) is = cc (ap (λ p. p.0) (same_answer _ _ (sym goes.2 ∙ is)))
+    ends_by id answer after (inr ends) is =
+        let same = same_answer _ _ (sym ends.2 ∙ is) in
+        let ids : start.begun ≡ id = cc (ap (λ p. p.0) same) in
+        record { last = now; goes = way.1; ends = subst (λ i. next now (Go the_actor) ≡ Ok (Ended i answer, after)) (sym ids) is }
+
+    -- or to its end
+    pub ends_so : (id : ℕ) (answer : Reply) (after : State) → next now (Go the_actor) ≡ Ok (Ended id answer, after) → (n : ℕ) × Comes start the_actor c n answer after
+    ends_so id answer after is = let on = law start the_actor c can way.0 now way.1 in (way.0, ends_by id answer after on.leads is)
+
+    -- it comes nearer to its end
+    pub comes_nearer : (kind : Kind) (after : State) → next now (Go the_actor) ≡ Ok (Went kind, after) →
+        start.steps + (1 + steps_of c) - after.steps < start.steps + (1 + steps_of c) - now.steps
+    comes_nearer kind after is =
+        let few = (law start the_actor c can way.0 now way.1).few in
+        let so_far = steps_so_far start the_actor c way.0 now way.1 in
+        let then = steps_so_far start the_actor c (suc way.0) after (walks way.1 is) in omega (arith, few, so_far, then)
+
+-- ---- the sweep
+
+-- nothing else denies it
+sweep_taken : (state : State) → is_spent state ≡ false → is_taken_step (next state Sweep) ≡ true
+unfolding next
+sweep_taken state e = rw e refl
+
+-- the sweep has come there
+abbrev pub IsSwept : State → State → Type 0
+IsSwept start now = (n : ℕ) × Sweeps start n now
+
+pub begins_unswept : (start : State) → IsSwept start start
+begins_unswept start = (zero, unswept)
+
+module _ (start : State) where
+  module _ (law : SweepsLeave) (run : IsOfRun start) (rest : is_busy start ≡ false) (left : start.steps + most_sweeps start < start.limits.steps) (now : State) (way : IsSwept start now)
+      (some : now.limbo ≢ []) where
+    led : Swept start way.0 now
+    led = law start way.0 now run rest way.1
+
+    -- so it isn't spent
+    unspent : is_spent now ≡ false
+    unspent =
+        let few = led.most in let so_far = led.steps in let same : now.limits.steps ≡ start.limits.steps = ap (λ l. l.steps) led.limits in
+        grind (arith, few, so_far, same, left)
+
+    sweep_not_refused : (why : Refusal) (after : State) → Answers (Err why) now (next now Sweep) after → ⊥
+    sweep_not_refused why after refused = false≢true (sym (ap is_taken_step refused.1) ∙ sweep_taken now unspent)
+
+    pub never_refused : (result : Result Outcome Refusal) (after : State) → Answers result now (next now Sweep) after → is_err result ≡ true → ⊥
+    never_refused (Ok outcome) after did e = false≢true e
+    never_refused (Err why) after did e = sweep_not_refused why after did
+
+    -- so it goes on
+    pub swept_on : (result : Result Outcome Refusal) (after : State) → Answers result now (next now Sweep) after → IsSwept start after
+    swept_on (Ok outcome) after did = (suc way.0, sweeps way.1 some did)
+    swept_on (Err why) after did = absurd (sweep_not_refused why after did)
+
+    -- and comes nearer
+    pub nearer : (after : State) → (result : Result Outcome Refusal) → Answers result now (next now Sweep) after →
+        after.limits.steps - after.steps < now.limits.steps - now.steps
+    nearer after (Ok outcome) did =
+        let then = law start (suc way.0) after run rest (sweeps way.1 some did) in
+        let later = then.steps in let so_far = led.steps in let few = led.most in
+        let same : now.limits.steps ≡ start.limits.steps = ap (λ l. l.steps) led.limits in
+        let also : after.limits.steps ≡ start.limits.steps = ap (λ l. l.steps) then.limits in
+        omega (arith, few, so_far, later, same, also, left)
+    nearer after (Err why) did = absurd (sweep_not_refused why after did)
