@@ -34,3 +34,8 @@ pub mod Keeps
 pub mod Sorting
 pub mod Offerers
 pub mod Roomed
+pub mod Descent
+pub mod Drafts
+pub mod Changes
+pub mod AtRest
+pub mod Carried

@@ -1,6 +1,9 @@
 pub mod Beginnings
 pub mod Beneath
 pub mod Bounds
+pub mod Changing
+pub mod Descending
+pub mod Drafting
 pub mod Finding
 pub mod Going
 pub mod Keeping
@@ -8,6 +11,7 @@ pub mod Numbering
 pub mod Rooming
 pub mod Seen
 pub mod Starting
+pub mod Straight
 pub mod Ties
 pub mod Told
 pub mod Walking

@@ -10,13 +10,17 @@
 //! | `telling` | what steps tell | `Tellings` |
 //! | `stepping`, `denials`, `settling` | denials first, then the step, then limbo | `Machine`, `Counting` |
 //! | `rooming` | memory for what a walk meets | none: the definition knows no memory |
+//! | `straight`, `descending`, `changing`, `drafting` | calls that run alone, at once: all of one, the way down to its key, the change there, the heap | what its steps come to (`proof_straight`) |
 #![tactic(auto)]
 
 mod actors;
 mod beginning;
 mod calls;
+mod changing;
 mod contents;
 mod denials;
+mod descending;
+mod drafting;
 mod ending;
 mod finding;
 mod going;
@@ -28,6 +32,7 @@ mod rooming;
 mod settling;
 mod starting;
 mod stepping;
+mod straight;
 mod sweeping;
 mod telling;
 

@@ -1,15 +1,16 @@
 //! The core as one value.
 
-ghost use Rattle.std.specs.Prelude.{◌≡◌, false, true, length, option_map, None, Some, IsSome, IfOk, IfErr, IsOkUnless, OnErr, OnOk};
+ghost use Rattle.std.specs.Prelude.{◌≡◌, false, true, length, option_map, None, Some, IsSome, IfNone, IfSome, IfOk, IfErr, IsOkUnless, OnErr, OnOk};
 ghost use Rattle.slot_arena.specs.Heaps.{in_use};
 ghost use Rattle.machine_model.specs.declared.steps.Step.TheVariants as steps;
 ghost use Rattle.machine_model.specs.States.{first_state, root_at};
 ghost use Rattle.machine_model.specs.Contents.{content_at};
-ghost use Rattle.machine_model.specs.Machine.{next, is_running, is_busy, next_kind, runs_on, denial_of, is_access, access_of, handles_taken, AreBounds};
+ghost use Rattle.machine_model.specs.Machine.{next, is_running, is_busy, next_kind, runs_on, begin_denial, denial_of, is_access, access_of, handles_taken, AreBounds};
 ghost use Rattle.machine_model.specs.Refusing.{RefusesContent};
 ghost use Rattle.machine_core.specs.Bounds.{Answers, Applies, RefusesBounds};
 ghost use Rattle.proof_straight.specs.Resting.{IsOfRun};
 ghost use Rattle.machine_core.specs.Finding.{found_along};
+ghost use Rattle.machine_core.specs.Straight.{CarriesOut};
 ghost use Rattle.machine_core.specs.Told.{began, ended, reply_in, stepped, TellsBegin, TellsEnd, TellsStep};
 ghost use Rattle.machine_core.specs.Walking.{goes_on};
 ghost use Rattle.machine_core.specs.Work.{WorksLittle};
@@ -23,6 +24,7 @@ use crate::handles::{handles_taken, runs_on};
 use crate::parts::Parts;
 use crate::starting::{are_bounds, first_parts};
 use crate::stepping::{take_begin, take_end, take_walk};
+use crate::straight::at_once;
 use crate::sweeping::sweep_once;
 use crate::telling::{Begun, Ended, Stepped};
 use ctrie_base::{Kind, Refusal, Ticks};
@@ -120,6 +122,17 @@ impl Core {
             Some(refusal) => Err(refusal),
             None => Ok(take_end(&mut self.parts, actor)),
         }
+    }
+
+    /// Carries a call out at once that its actor would carry out alone, from its begin to its end, where nothing stands in its
+    /// way; none, and nothing has changed, where something does.
+    pub fn at_once(&mut self, actor: u8, call: Call) -> Option<Reply>
+        requires rest { is_busy self.old.state ≡ false }
+        requires allowed { begin_denial self.old.state actor call ≡ None }
+        ensures done { IfSome result (λ reply. CarriesOut self.old.state actor call reply self.new.state) }
+        ensures none { IfNone result (self.new ≡ self.old) }
+    {
+        at_once(&mut self.parts, actor, call)
     }
 
     /// Takes a step of the sweep, or refuses it; the refusal is the definition's, and nothing has changed then.

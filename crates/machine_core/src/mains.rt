@@ -22,7 +22,7 @@ pub fn root_of(word: RootWord) -> Ref
 }
 
 /// The main word of an indirection.
-fn main_at(heap: &Heap, indirection: Ref) -> Ref
+pub fn main_at(heap: &Heap, indirection: Ref) -> Ref
     ensures { result ≡ main_at heap.now.heap indirection }
 {
     match node_at(heap, indirection) {

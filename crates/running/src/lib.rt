@@ -18,7 +18,9 @@ mod telling;
 mod walking;
 
 pub use job::{Job, Program};
-pub use operate::{KeyCall, entries_at, entry_at, flag_of, generation_at, node_at};
+pub use operate::{
+    KeyCall, changed_at, entries_at, entry_at, flag_of, generation_at, node_at, release_all,
+};
 pub use programs::{Programs, Stage};
 pub use snapshot::{CopyCall, Roots, WalkCall};
 pub use taken::Taken;

@@ -1,0 +1,270 @@
+-- A call that is carried out at once comes to what its steps come to.
+use Rattle.std.proofs.Common.{arith, ◌≡◌, ℕ, ◌+◌, ◌*◌, ◌<◌, ◌≤◌, ◌^◌, false, Option, List, [], Some, None, refl, sym, ap, ◌∙◌, subst}
+use Rattle.history.specs.declared.calls.Call.{Call}
+use Rattle.history.specs.declared.replies.Reply.{Reply}
+use Rattle.slot_arena.specs.declared.refs.Ref.{Ref}
+use Rattle.slot_arena.specs.Arenas.{IsLive}
+use Rattle.slot_arena.specs.Heaps.{entry_at, main_at, node_at}
+use Rattle.history.specs.declared.calls.Access.TheVariants.{Writable}
+use Rattle.slot_arena.specs.Times.{times}
+use Rattle.slot_arena.proofs.Times.{times-append}
+use Rattle.epochs.specs.Memories.{Memory}
+use Rattle.machine_model.specs.declared.steps.Step.TheVariants as step
+use Rattle.machine_model.specs.Calls.{changed_reply, key_of, when_found}
+use Rattle.machine_model.specs.declared.finding.WhenFound.TheVariants.{Removes}
+use Rattle.machine_model.specs.Counting.{outside}
+use Rattle.machine_model.specs.Keys.{FitsKey}
+use Rattle.machine_model.specs.Machine.{begin_denial, is_busy}
+use Rattle.machine_model.specs.Records.{first_record}
+use Rattle.machine_model.specs.States.{State, key_hash}
+use Rattle.proof_straight.specs.Changes.{with_change, with_single}
+use Rattle.proof_straight.specs.Drafts.{Draft, after_call, first_draft, held_with}
+use Rattle.proof_straight.specs.Places.{Finds, HasRoom, Leaves, Misses, beside_other, in_branch, no_entry, steps_down}
+use Rattle.proof_straight.specs.Resting.{IsOfRun}
+use Rattle.proof_straight.specs.Running.{Comes, GoesOn, IsKeyed, starts, walks}
+use Rattle.proof_straight.proofs.Change.Changes.{inserts_straight, removes_straight, sets_straight}
+use Rattle.proof_straight.proofs.Way.Unchanged.{answers_straight, misses_straight}
+use Rattle.proof_straight.proofs.Change.Recording.{first_is_record}
+use Rattle.proof_straight.proofs.Runs.ByRuns.{comes_without_record}
+use Rattle.machine_model.specs.declared.building.Change.TheVariants as change
+use Rattle.machine_model.specs.declared.building.Site.TheVariants as site
+use Rattle.machine_core.specs.declared.descending.Entry.{Entry}
+use Rattle.machine_core.specs.declared.descending.Entry.TheVariants.{Vacant, Own, Other}
+use Rattle.machine_core.specs.declared.descending.Place.{Place}
+use Rattle.machine_core.specs.declared.parts.Parts.{Parts}
+use Rattle.machine_core.specs.Beneath.nodes.specs.Levels.{flag_of}
+use Rattle.machine_core.specs.Changing.{IsAnswer, IsPut, IsRemoval, looks_at, putting, value_in}
+use Rattle.machine_core.specs.Descending.{EndsAt, IsHere}
+use Rattle.machine_core.specs.Drafting.{CanSwap, IsDraft, KeepsRecords}
+use Rattle.machine_core.specs.Keeping.{IsCore, IsKept}
+use Rattle.machine_core.specs.Seen.{seen}
+use Rattle.machine_core.specs.Straight.{CarriesBy, CarriesOut, IsClear}
+use Rattle.machine_core.proofs.AtRest.{can_swap_there, ready_at}
+use Rattle.machine_core.proofs.Bounded.{taken_run}
+use Rattle.machine_core.proofs.Ends.{alike}
+use Rattle.machine_core.proofs.Kept.{kept_alike}
+
+-- ---- a run leads to what a call comes to
+
+goes_run : (state : State) (actor : ℕ) (call : Call) (n : ℕ) (now : State) → IsOfRun state → FitsKey (step.Begin actor call) → GoesOn state actor call n now → IsOfRun now
+goes_run state actor call n now run fits (starts is) = taken_run state now (step.Begin actor call) _ is fits run
+goes_run state actor call n now run fits (walks {n = m} {before} earlier is) = taken_run before now (step.Go actor) _ is tt (goes_run state actor call m before run fits earlier)
+
+pub comes_run : (state : State) (actor : ℕ) (call : Call) (n : ℕ) (answer : Reply) (after : State) → IsOfRun state → FitsKey (step.Begin actor call) →
+    Comes state actor call n answer after → IsOfRun after
+comes_run state actor call n answer after run fits h = taken_run h.last after (step.Go actor) _ h.ends tt (goes_run state actor call n h.last run fits h.goes)
+
+-- ---- the parts
+
+-- the heap at rest has come as far as a call that makes its first change
+pub first_drafted : (parts : Parts) → IsCore parts → IsDraft (seen parts) (first_draft (seen parts)) parts.heap
+first_drafted parts core = record {
+  heap = refl;
+  limbo = refl;
+  held = λ r. omega (arith, ap (λ n. n) (alike parts.heap (seen parts) core.kept.tied r), times-append r (outside (seen parts)) []);
+  epoch = refl;
+  settled = core.settled;
+}
+
+-- the parts over this heap, behind a call of so many steps
+abbrev pub counted : Parts → Memory → ℕ → Parts
+counted before memory n = record before { heap = memory; begun = before.begun + 1; steps = before.steps + n }
+
+-- the heap has come as far as the draft of a call that has nothing of its own any more
+pub record ComesAsFar (before : Parts) (memory : Memory) (draft : Draft) : Type 0 where
+  pub draft_is : IsDraft (seen before) draft memory
+  pub private : draft.private ≡ []
+  pub records : KeepsRecords before.heap memory
+
+-- the state over this heap behind a call
+state_over : (state : State) (draft : Draft) (memory : Memory) (n : ℕ) → IsDraft state draft memory → memory.cursor ≡ state.cursor →
+    record state { heap = memory.heap; limbo = memory.limbo; epoch = memory.epoch; cursor = memory.cursor; begun = state.begun + 1; steps = state.steps + n } ≡ after_call state draft n
+state_over state draft memory n is same = rw (is.heap, is.limbo, is.epoch, same) refl
+
+seen_then : (before : Parts) (memory : Memory) (draft : Draft) (n : ℕ) → ComesAsFar before memory draft → seen (counted before memory n) ≡ after_call (seen before) draft n
+seen_then before memory draft n to = state_over (seen before) draft memory n to.draft_is to.records.0
+
+kept_then : (before : Parts) (memory : Memory) (draft : Draft) (n : ℕ) → IsCore before → ComesAsFar before memory draft → IsKept (counted before memory n)
+kept_then before memory draft n core to =
+    kept_alike before (counted before memory n) (record {
+      limits = refl;
+      table = refl;
+      actors = refl;
+      handles = refl;
+      outside = λ r. omega (
+        arith,
+        to.draft_is.held r,
+        ap (λ (held : List Ref). times r (held_with (seen before) held)) to.private,
+        alike before.heap (seen before) core.kept.tied r,
+        times-append r (outside (seen before)) [],
+      );
+      pins = to.records.1;
+    }) core.kept
+
+-- the call is carried out, in so many steps between its begin and its end
+pub carried : (before after : Parts) (memory : Memory) (draft : Draft) (actor : ℕ) (call : Call) (n all : ℕ) (reply : Reply) → ComesAsFar before memory draft →
+    after ≡ counted before memory all → all ≡ n + 2 → Comes (seen before) actor call n reply (after_call (seen before) draft (n + 2)) →
+    CarriesOut (seen before) actor call reply (seen after)
+carried before after memory draft actor call n all reply to is many comes =
+    (n, subst (Comes (seen before) actor call n reply) (sym (ap seen (is ∙ ap (counted before memory) many) ∙ seen_then before memory draft (n + 2) to)) comes)
+
+-- and leaves a core
+pub core_then : (before after : Parts) (memory : Memory) (draft : Draft) (actor : ℕ) (call : Call) (n all : ℕ) (reply : Reply) → IsCore before → FitsKey (step.Begin actor call) →
+    ComesAsFar before memory draft → after ≡ counted before memory all → all ≡ n + 2 → Comes (seen before) actor call n reply (after_call (seen before) draft (n + 2)) → IsCore after
+core_then before after memory draft actor call n all reply core fits to is many comes =
+    subst IsCore (sym (is ∙ ap (counted before memory) many)) (record {
+      run = subst IsOfRun (sym (seen_then before memory draft (n + 2) to)) (comes_run (seen before) actor call n reply _ core.run fits comes);
+      kept = kept_then before memory draft (n + 2) core to;
+      settled = to.draft_is.settled;
+    })
+
+-- ---- a single that is put where the way down ends
+
+module _ (state : State) (actor : ℕ) (call : Call) (root : Ref) (run : IsOfRun state) (rest : is_busy state ≡ false) (allowed : begin_denial state actor call ≡ None)
+    (clear : IsClear state call root) (keyed : IsKeyed call) where
+  abbrev EndsOf : Place → Type 0
+  EndsOf place = EndsAt state.heap root (key_hash state (key_of call)) (key_of call) place
+
+  -- what is there, under the definition's names
+  here_at : (place : Place) → EndsOf place →
+      IsHere state.heap (main_at state.heap place.indirection) (flag_of (key_hash state (key_of call)) place.depth) (key_of call) place.position place.entry
+  here_at place ends =
+      subst (λ flag. IsHere state.heap (main_at state.heap place.indirection) flag (key_of call) place.position place.entry) ends.flag
+      (subst (λ main. IsHere state.heap main place.flag (key_of call) place.position place.entry) ends.main ends.here)
+
+  pub can_swap_at : (place : Place) (nodes : ℕ) → EndsOf place → nodes ≤ 32 → CanSwap state.heap place.indirection place.main nodes
+  can_swap_at place nodes ends few =
+      can_swap_there state run Writable (key_hash state (key_of call)) root place.depth place.indirection place.main ends.here.bitmap ends.here.entries nodes actor call allowed clear.word
+      (ends.leads Writable) ends.main ends.here.branch (omega (arith, few, clear.slots)) few
+
+  -- where the key's own single stands
+  finds_own : (place : Place) (value : ℕ) → EndsOf place → place.entry ≡ Own value → Finds state call root place.depth place.indirection place.position value 1
+  finds_own place value ends own =
+      let here = subst (IsHere state.heap (main_at state.heap place.indirection) (flag_of (key_hash state (key_of call)) place.depth) (key_of call) place.position) own (here_at place ends) in
+      subst (λ position. Finds state call root place.depth place.indirection position value 1) (sym here.at)
+      (in_branch (ends.leads _) (record { decided = here.decided; branch = here.branch; flagged = here.stands.0 })
+      (ap (λ position. node_at state.heap (entry_at state.heap (main_at state.heap place.indirection) position)) (sym here.at) ∙ here.stands.1))
+
+  -- where nothing stands in its place
+  misses_vacant : (place : Place) → EndsOf place → place.entry ≡ Vacant → Misses state call root place.depth place.indirection site.Absent 0
+  misses_vacant place ends vacant =
+      let here = subst (IsHere state.heap (main_at state.heap place.indirection) (flag_of (key_hash state (key_of call)) place.depth) (key_of call) place.position) vacant (here_at place ends) in
+      no_entry (ends.leads _) here.decided here.branch here.stands
+
+  has_room : (place : Place) → EndsOf place → HasRoom (node_at state.heap (main_at state.heap place.indirection))
+  has_room place ends = subst HasRoom (sym (here_at place ends).branch) tt
+
+  -- the call puts it
+  pub puts_straight : (place : Place) (entry : Entry) → EndsOf place → place.entry ≡ entry → IsPut call entry →
+      Comes state actor call (steps_down place.depth (looks_at entry) + 7) (changed_reply call (value_in entry))
+      (after_call state (with_change state call place.depth place.indirection (with_single state call) (putting entry place.position (with_single state call).newest))
+      (steps_down place.depth (looks_at entry) + 7 + 2))
+  puts_straight place (Own value) ends is sets =
+      let can = can_swap_at place 2 ends (omega arith) in
+      comes_without_record state (first_record state.limits) actor call _ _ _ _
+      (sets_straight state (first_record state.limits) actor call root place.depth place.indirection place.position value 1 (ready_at state actor call root run rest allowed clear.word)
+      (first_is_record state) keyed (finds_own place value ends is) sets (subst (IsLive state.heap) ends.main can.main_live) can.free (omega (arith, clear.steps, ends.deep)))
+  puts_straight place Vacant ends is puts =
+      let can = can_swap_at place 2 ends (omega arith) in
+      comes_without_record state (first_record state.limits) actor call _ _ _ _
+      (inserts_straight state (first_record state.limits) actor call root place.depth place.indirection 0 (ready_at state actor call root run rest allowed clear.word)
+      (first_is_record state) keyed (misses_vacant place ends is) puts (has_room place ends) (subst (IsLive state.heap) ends.main can.main_live) can.free (omega (arith, clear.steps, ends.deep)))
+  puts_straight place Other ends is puts = absurd puts
+
+  -- where the single of another key stands in its place
+  misses_other : (place : Place) → EndsOf place → place.entry ≡ Other → Misses state call root place.depth place.indirection (site.Beside place.position) 1
+  misses_other place ends other =
+      let here = subst (IsHere state.heap (main_at state.heap place.indirection) (flag_of (key_hash state (key_of call)) place.depth) (key_of call) place.position) other (here_at place ends) in
+      let (key, value, single, apart) = here.stands.1 in
+      subst (λ position. Misses state call root place.depth place.indirection (site.Beside position) 1) (sym here.at)
+      (beside_other (ends.leads _) (record { decided = here.decided; branch = here.branch; flagged = here.stands.0 })
+      (ap (λ position. node_at state.heap (entry_at state.heap (main_at state.heap place.indirection) position)) (sym here.at) ∙ single) apart)
+
+  -- the call takes it out
+  pub removes_at : (place : Place) (value more : ℕ) → EndsOf place → place.entry ≡ Own value → when_found call value ≡ Removes →
+      Leaves state.heap place.depth place.indirection place.position more → more ≤ 1 →
+      Comes state actor call (steps_down place.depth (1 + more) + 6) (changed_reply call (Some value))
+      (after_call state (with_change state call place.depth place.indirection (first_draft state) (change.Remove place.position)) (steps_down place.depth (1 + more) + 6 + 2))
+  removes_at place value more ends is removes leaves few =
+      let can = can_swap_at place 1 ends (omega arith) in
+      comes_without_record state (first_record state.limits) actor call _ _ _ _
+      (removes_straight state (first_record state.limits) actor call root place.depth place.indirection place.position value 1 more (ready_at state actor call root run rest allowed clear.word)
+      (first_is_record state) keyed (finds_own place value ends is) removes leaves (subst (IsLive state.heap) ends.main can.main_live) can.free
+      (omega (arith, clear.steps, ends.deep, few)))
+
+  -- the call leaves it as it is
+  pub answers_at : (place : Place) (entry : Entry) (answer : Reply) → EndsOf place → place.entry ≡ entry → IsAnswer call entry answer →
+      Comes state actor call (steps_down place.depth (looks_at entry)) answer (after_call state (first_draft state) (steps_down place.depth (looks_at entry) + 2))
+  answers_at place (Own value) answer ends is answers =
+      comes_without_record state (first_record state.limits) actor call _ _ _ _
+      (answers_straight state (first_record state.limits) actor call root place.depth place.indirection place.position value 1 answer
+      (ready_at state actor call root run rest allowed clear.word) (first_is_record state) keyed (finds_own place value ends is) answers (omega (arith, clear.steps, ends.deep)))
+  answers_at place Vacant answer ends is (never, replies) =
+      subst (λ r. Comes state actor call (steps_down place.depth 0) r (after_call state (first_draft state) (steps_down place.depth 0 + 2))) (sym replies)
+      (comes_without_record state (first_record state.limits) actor call _ _ _ _
+      (misses_straight state (first_record state.limits) actor call root place.depth place.indirection site.Absent 0
+      (ready_at state actor call root run rest allowed clear.word) (first_is_record state) keyed (misses_vacant place ends is) never (omega (arith, clear.steps, ends.deep))))
+  answers_at place Other answer ends is (never, replies) =
+      subst (λ r. Comes state actor call (steps_down place.depth 1) r (after_call state (first_draft state) (steps_down place.depth 1 + 2))) (sym replies)
+      (comes_without_record state (first_record state.limits) actor call _ _ _ _
+      (misses_straight state (first_record state.limits) actor call root place.depth place.indirection (site.Beside place.position) 1
+      (ready_at state actor call root run rest allowed clear.word) (first_is_record state) keyed (misses_other place ends is) never (omega (arith, clear.steps, ends.deep))))
+
+-- a call that put its key's single is carried out
+pub put_done : (before after : Parts) (memory : Memory) (actor : ℕ) (call : Call) (root : Ref) (place : Place) (key looks : ℕ) (former : Option ℕ) (reply : Reply) → IsCore before →
+    is_busy (seen before) ≡ false → begin_denial (seen before) actor call ≡ None → IsClear (seen before) call root → IsKeyed call →
+    EndsAt (seen before).heap root (key_hash (seen before) (key_of call)) (key_of call) place → IsPut call place.entry → key ≡ key_of call → key < 2 ^ 64 →
+    IsDraft (seen before)
+    (with_change (seen before) call place.depth place.indirection (with_single (seen before) call) (putting place.entry place.position (with_single (seen before) call).newest)) memory →
+    KeepsRecords before.heap memory → looks ≡ looks_at place.entry → after ≡ counted before memory (4 * place.depth + looks + 13) → former ≡ value_in place.entry →
+    reply ≡ changed_reply call former → CarriesBy before actor call reply after
+put_done before after memory actor call root place key looks former reply core rest allowed clear keyed ends puts own fits is records many counts was replies =
+    let state = seen before in
+    let draft = with_change state call place.depth place.indirection (with_single state call) (putting place.entry place.position (with_single state call).newest) in
+    let to : ComesAsFar before memory draft = record { draft_is = is; private = refl; records = records } in
+    let comes = puts_straight state actor call root core.run rest allowed clear keyed place place.entry ends refl puts in
+    let answers : reply ≡ changed_reply call (value_in place.entry) = replies ∙ ap (changed_reply call) was in
+    let steps : 4 * place.depth + looks + 13 ≡ steps_down place.depth (looks_at place.entry) + 7 + 2 = omega (arith, many) in (
+      subst (λ r. CarriesOut state actor call r (seen after)) (sym answers)
+          (carried before after memory draft actor call (steps_down place.depth (looks_at place.entry) + 7) (4 * place.depth + looks + 13) (changed_reply call (value_in place.entry)) to counts
+          steps comes),
+      core_then before after memory draft actor call (steps_down place.depth (looks_at place.entry) + 7) (4 * place.depth + looks + 13) (changed_reply call (value_in place.entry)) core
+          (subst (λ k. k < 2 ^ 64) own fits) to counts steps comes,
+    )
+
+-- a call that took its key out is carried out
+pub remove_done : (before after : Parts) (memory : Memory) (actor : ℕ) (call : Call) (root : Ref) (place : Place) (key more : ℕ) (former : Option ℕ) (reply : Reply) → IsCore before →
+    is_busy (seen before) ≡ false → begin_denial (seen before) actor call ≡ None → IsClear (seen before) call root → IsKeyed call →
+    EndsAt (seen before).heap root (key_hash (seen before) (key_of call)) (key_of call) place → (entry : Entry) → place.entry ≡ entry → IsRemoval call entry →
+    more ≤ 1 → Leaves (seen before).heap place.depth place.indirection place.position more → key ≡ key_of call → key < 2 ^ 64 →
+    IsDraft (seen before) (with_change (seen before) call place.depth place.indirection (first_draft (seen before)) (change.Remove place.position)) memory →
+    KeepsRecords before.heap memory → after ≡ counted before memory (4 * place.depth + more + 13) → former ≡ value_in place.entry →
+    reply ≡ changed_reply call former → CarriesBy before actor call reply after
+remove_done before after memory actor call root place key more former reply core rest allowed clear keyed ends Vacant same removes few leaves own fits is records counts was replies = absurd removes
+remove_done before after memory actor call root place key more former reply core rest allowed clear keyed ends Other same removes few leaves own fits is records counts was replies = absurd removes
+remove_done before after memory actor call root place key more former reply core rest allowed clear keyed ends (Own value) same removes few leaves own fits is records counts was replies =
+    let state = seen before in
+    let draft = with_change state call place.depth place.indirection (first_draft state) (change.Remove place.position) in
+    let to : ComesAsFar before memory draft = record { draft_is = is; private = refl; records = records } in
+    let comes = removes_at state actor call root core.run rest allowed clear keyed place value more ends same removes leaves few in
+    let answers : reply ≡ changed_reply call (Some value) = replies ∙ ap (changed_reply call) (was ∙ ap value_in same) in
+    let steps : 4 * place.depth + more + 13 ≡ steps_down place.depth (1 + more) + 6 + 2 = omega arith in (
+      subst (λ r. CarriesOut state actor call r (seen after)) (sym answers)
+          (carried before after memory draft actor call (steps_down place.depth (1 + more) + 6) (4 * place.depth + more + 13) (changed_reply call (Some value)) to counts steps comes),
+      core_then before after memory draft actor call (steps_down place.depth (1 + more) + 6) (4 * place.depth + more + 13) (changed_reply call (Some value)) core
+          (subst (λ k. k < 2 ^ 64) own fits) to counts steps comes,
+    )
+
+-- a call that changed nothing is carried out
+pub leave_done : (before after : Parts) (actor : ℕ) (call : Call) (root : Ref) (place : Place) (looks : ℕ) (answer : Reply) → IsCore before →
+    is_busy (seen before) ≡ false → begin_denial (seen before) actor call ≡ None → IsClear (seen before) call root → IsKeyed call →
+    EndsAt (seen before).heap root (key_hash (seen before) (key_of call)) (key_of call) place → IsAnswer call place.entry answer → key_of call < 2 ^ 64 →
+    looks ≡ looks_at place.entry → after ≡ counted before before.heap (4 * place.depth + looks + 6) → CarriesBy before actor call answer after
+leave_done before after actor call root place looks answer core rest allowed clear keyed ends answers fits many counts =
+    let state = seen before in
+    let to : ComesAsFar before before.heap (first_draft state) = record { draft_is = first_drafted before core; private = refl; records = (refl, refl) } in
+    let comes = answers_at state actor call root core.run rest allowed clear keyed place place.entry answer ends refl answers in
+    let steps : 4 * place.depth + looks + 6 ≡ steps_down place.depth (looks_at place.entry) + 2 = omega (arith, many) in (
+      carried before after before.heap (first_draft state) actor call (steps_down place.depth (looks_at place.entry)) (4 * place.depth + looks + 6) answer to counts steps comes,
+      core_then before after before.heap (first_draft state) actor call (steps_down place.depth (looks_at place.entry)) (4 * place.depth + looks + 6) answer core fits to counts steps comes,
+    )
