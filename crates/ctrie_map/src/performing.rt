@@ -58,6 +58,17 @@ fn step_through(core: &mut Core, call: Call) -> Reply
     ended.reply
 }
 
+/// Carries a call out: at once where nothing stands in its way, and else step by step.
+fn carry_out(core: &mut Core, call: Call) -> Reply
+    requires { CanCall core.old.state the_actor call }
+    ensures { (n : ℕ) × Comes core.old.state the_actor call n result core.new.state }
+{
+    match core.at_once(ACTOR, call) {
+        Some(reply) => reply,
+        None => step_through(core, call),
+    }
+}
+
 /// Frees the slots that no handle reaches, where no operation runs.
 fn sweep(core: &mut Core)
     requires rest { is_busy core.old.state ≡ false }
@@ -94,7 +105,7 @@ pub(crate) fn perform(core: &mut Core, call: Call) -> Result<Reply, MapError>
     proof_alone::refused_if_out();
     proof_alone::enough_slots_for_calls();
     proof_alone::sweeps_leave();
-    let reply = step_through(core, call);
+    let reply = carry_out(core, call);
     sweep(core);
     Ok(reply)
 }

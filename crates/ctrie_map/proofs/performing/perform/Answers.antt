@@ -20,27 +20,27 @@ returns-then-is_worn_out-clause-performs c = (
 pub sweep-requires-clause-rest : goal.sweep-requires-clause-rest
 sweep-requires-clause-rest c =
     (does c.args.core.now.state c.args.call c.requires.calm c.limits.ensures.of_run c.requires.change (sym c.denial.ensures ∙ c.in_default.is)
-    (sym c.is_worn_out.ensures ∙ c.if-is_worn_out.false) c.key_fits.ensures c.calls_do.ensures c.step_through-reply.result c.step_through-reply.new.core.state c.step_through-reply.ensures).rest
+    (sym c.is_worn_out.ensures ∙ c.if-is_worn_out.false) c.key_fits.ensures c.calls_do.ensures c.carry_out-reply.result c.carry_out-reply.new.core.state c.carry_out-reply.ensures).rest
 
 pub sweep-requires-clause-left : goal.sweep-requires-clause-left
 sweep-requires-clause-left c =
     left c.args.core.now.state c.args.call c.requires.calm c.limits.ensures.of_run c.requires.change (sym c.denial.ensures ∙ c.in_default.is)
-    (sym c.is_worn_out.ensures ∙ c.if-is_worn_out.false) c.key_fits.ensures c.calls_do.ensures c.step_through-reply.result c.step_through-reply.new.core.state c.step_through-reply.ensures
+    (sym c.is_worn_out.ensures ∙ c.if-is_worn_out.false) c.key_fits.ensures c.calls_do.ensures c.carry_out-reply.result c.carry_out-reply.new.core.state c.carry_out-reply.ensures
 
 pub returns-clause-calm : goal.returns-clause-calm
 returns-clause-calm c =
     calm_after c.args.core.now.state c.args.call c.requires.calm c.limits.ensures.of_run c.requires.change (sym c.denial.ensures ∙ c.in_default.is)
-    (sym c.is_worn_out.ensures ∙ c.if-is_worn_out.false) c.key_fits.ensures c.calls_do.ensures c.step_through-reply.result c.step_through-reply.new.core.state c.step_through-reply.ensures
+    (sym c.is_worn_out.ensures ∙ c.if-is_worn_out.false) c.key_fits.ensures c.calls_do.ensures c.carry_out-reply.result c.carry_out-reply.new.core.state c.carry_out-reply.ensures
     c.sweeps_leave.ensures c.sweep.new.core.state c.sweep.ensures.swept c.sweep.ensures.clean
 
 pub returns-clause-performs : goal.returns-clause-performs
 returns-clause-performs c =
     performs c.args.core.now.state c.args.call c.requires.calm c.limits.ensures.of_run c.requires.change (sym c.denial.ensures ∙ c.in_default.is)
-    (sym c.is_worn_out.ensures ∙ c.if-is_worn_out.false) c.key_fits.ensures c.calls_do.ensures c.step_through-reply.result c.step_through-reply.new.core.state c.step_through-reply.ensures
+    (sym c.is_worn_out.ensures ∙ c.if-is_worn_out.false) c.key_fits.ensures c.calls_do.ensures c.carry_out-reply.result c.carry_out-reply.new.core.state c.carry_out-reply.ensures
     c.sweeps_leave.ensures c.sweep.new.core.state c.sweep.ensures.swept c.refused_if_out.ensures c.enough_slots_for_calls.ensures
 
 pub returns-clause-work : goal.returns-clause-work
 returns-clause-work c =
     works c.args.core.now.state c.args.call c.requires.calm c.limits.ensures.of_run c.requires.change (sym c.denial.ensures ∙ c.in_default.is)
-    (sym c.is_worn_out.ensures ∙ c.if-is_worn_out.false) c.key_fits.ensures c.calls_do.ensures c.step_through-reply.result c.step_through-reply.new.core.state c.step_through-reply.ensures
+    (sym c.is_worn_out.ensures ∙ c.if-is_worn_out.false) c.key_fits.ensures c.calls_do.ensures c.carry_out-reply.result c.carry_out-reply.new.core.state c.carry_out-reply.ensures
     c.sweeps_leave.ensures c.sweep.new.core.state c.sweep.ensures.swept
