@@ -32,22 +32,23 @@ sum_at f [] i x e = absurd (some-ne-none x (sym e))
 sum_at f (z ∷ xs) zero x e = let same : f z ≡ f x = ap f (some-injective z x e) in omega (arith, same, sum_by-cons f z xs)
 sum_at f (z ∷ xs) (suc i) x e = omega (arith, sum_at f xs i x e, sum_by-cons f z xs)
 
-module _ {O C A : Type 0} (number : ℕ) where
-  abbrev one_time : Part O C A → ℕ
-  one_time p = cond (p.number == number) 1 0
-
-  abbrev of_view : View O C A → ℕ
+module _ {S O C A : Type 0} (number : ℕ) where
+  abbrev of_view : View S O C A → ℕ
   of_view v = times_in number v.parts
 
-  pub times_in_one : (views : List (View O C A)) (seat : ℕ) (view : View O C A) → get_elem? views seat ≡ some view → times_in number view.parts ≤ times_in_all number views
+  pub times_in_one : (views : List (View S O C A)) (seat : ℕ) (view : View S O C A) → get_elem? views seat ≡ some view → times_in number view.parts ≤ times_in_all number views
   times_in_one views seat view at = sum_at of_view views seat view at
 
-  pub times_after : (views : List (View O C A)) (seat : ℕ) (view other : View O C A) → get_elem? views seat ≡ some view →
+  pub times_after : (views : List (View S O C A)) (seat : ℕ) (view other : View S O C A) → get_elem? views seat ≡ some view →
       times_in_all number (slice_set views seat other) + times_in number view.parts ≡ times_in_all number views + times_in number other.parts
   times_after views seat view other at = sum_set of_view views seat view other at
 
-  pub times_pushed : (views : List (View O C A)) (view : View O C A) → times_in_all number (views ++ view ∷ []) ≡ times_in_all number views + times_in number view.parts
+  pub times_pushed : (views : List (View S O C A)) (view : View S O C A) → times_in_all number (views ++ view ∷ []) ≡ times_in_all number views + times_in number view.parts
   times_pushed views view = omega (arith, sum_by-append of_view views (view ∷ []), sum_by-cons of_view view [])
+
+module _ {O C A : Type 0} (number : ℕ) where
+  abbrev one_time : Part O C A → ℕ
+  one_time p = cond (p.number == number) 1 0
 
   pub times_append : (ps qs : List (Part O C A)) → times_in number (ps ++ qs) ≡ times_in number ps + times_in number qs
   times_append ps qs = sum_by-append one_time ps qs

@@ -1,128 +1,73 @@
--- Each step on the gate's word keeps the rule.
-use Rattle.std.specs.Prelude.{◌≡◌, ℕ, zero, suc, ◌<◌, ◌==◌, List, [], ◌∷◌, slice_set, slice_index, length}
-use Rattle.std.proofs.Common.{refl, sym, ap, subst, ◌∙◌, inl, inr, arith}
+-- Each step on a word keeps the rule.
+use Rattle.std.specs.Prelude.{◌≡◌, ℕ, zero, suc, ◌<◌, ◌≤◌, ◌==◌, List, [], ◌∷◌, slice_set, slice_index, length}
+use Rattle.std.proofs.Common.{refl, sym, ap, subst, ◌∙◌, inl, inr, arith, length-set}
+use Rattle.std.proofs.lemmas.List.{get_or-set_same, get_or-set_other, set-get_or}
 use Rattle.std.proofs.lemmas.Bool.{cases_eq}
-use mathlib.Core.Option.{none, some, some-injective, some-ne-none}
+use mathlib.Core.Option.{Option, none, some, some-injective, some-ne-none}
 use lib.ListN.{get_elem?}
 use prog.Atomic.{either}
-use Rattle.atomic_table.specs.Table.{State, Act, Allows, Valid, carried_after, stepped, step, takes, gives, keeps}
-use Rattle.atomic_table.proofs.Lists.{at_set, set_here, set_again, exchanged}
-use Rattle.gate.specs.declared.rules.Terms.{Terms}
+use Rattle.atomic_table.specs.Table.{State, Act, Allows, Valid, carried_after, stepped, step, takes, keeps}
+use Rattle.atomic_table.proofs.Lists.{at_set, set_here, set_else, set_again, exchanged}
 use Rattle.gate.specs.declared.rules.Part.{Part}
 use Rattle.gate.specs.declared.rules.View.{View}
 use Rattle.gate.specs.Logs.{Logged, HasWorked}
-use Rattle.gate.specs.Views.{part, outside, inside, entered, has_left}
-use Rattle.gate.specs.Rules.{IsKept, IsPartOf, ArePartsOf, IsHeld}
+use Rattle.gate.specs.Views.{part, holding, HasSlot, AreSameSlots, Stand, has_entered}
+use Rattle.gate.specs.Rules.{IsKept, IsPartOf, ArePartsOf, IsHeld, IsNoted, AreNoted, IsHome, number_of}
 use Rattle.gate.proofs.Counting.{times_after}
-use Rattle.gate.proofs.Following.{followed_same, still_followed, first_stays, still_legal, still_seated}
+use Rattle.gate.proofs.Following.{still_followed}
 
 -- a place that holds something is within the list
-within : {X : Type 0} (xs : List X) (i : ℕ) (x : X) → get_elem? xs i ≡ some x → i < length xs
+pub within : {X : Type 0} (xs : List X) (i : ℕ) (x : X) → get_elem? xs i ≡ some x → i < length xs
 within [] i x e = absurd (some-ne-none x (sym e))
 within (z ∷ xs) zero x e = omega arith
 within (z ∷ xs) (suc i) x e = omega (arith, within xs i x e)
 
--- the one slot
-one_slot : {X : Type 0} (xs : List X) (x : X) → length xs ≡ 1 → slice_set xs 0 x ≡ x ∷ []
-one_slot [] x e = absurd (omega (arith, e))
-one_slot (y ∷ []) x e = refl
-one_slot (y ∷ z ∷ xs) x e = absurd (omega (arith, e))
+module _ {S W C A : Type 0} (slot_of : Logged W C A → ℕ → Option S) (slots : ℕ) where
+  -- a slot that a seat has noted has the seat's number
+  pub noted_word : (board : Logged W C A) (words : List ℕ) (number i : ℕ) (xs : List (ℕ × S)) → AreNoted slot_of slots board words number xs → HasSlot i xs →
+      (slice_index words i ≡ number) × (1 ≤ number)
+  noted_word board words number i [] noted has = absurd has
+  noted_word board words number i (x ∷ xs) noted (inl here) = (subst (λ k. slice_index words k ≡ number) here noted.0.word, noted.0.low)
+  noted_word board words number i (x ∷ xs) noted (inr has) = noted_word board words number i xs noted.1 has
 
--- the board that a seat saw last, and another where it has no number
-abbrev seen_or : {O C A : Type 0} → Logged O C A → List (Part O C A) → Logged O C A
-seen_or other [] = other
-seen_or other (p ∷ ps) = p.seen
+  -- slots stay noted where each does
+  pub each_noted : (board now : Logged W C A) (words later : List ℕ) (number : ℕ) (xs : List (ℕ × S)) → AreNoted slot_of slots board words number xs →
+      ((x : ℕ × S) → IsNoted slot_of slots board words number x → IsNoted slot_of slots now later number x) → AreNoted slot_of slots now later number xs
+  each_noted board now words later number [] noted still = tt
+  each_noted board now words later number (x ∷ xs) noted still = (still x noted.0, each_noted board now words later number xs noted.1 still)
 
--- ---- taking the gate
+  -- what the slots of a seat have now, where they are noted anew
+  pub noted_anew : (board now : Logged W C A) (words later : List ℕ) (number : ℕ) (found slots_now : List (ℕ × S)) → AreSameSlots found slots_now →
+      AreNoted slot_of slots board words number found → Stand slot_of now slots_now → ((j : ℕ) → HasSlot j found → slice_index later j ≡ slice_index words j) →
+      AreNoted slot_of slots now later number slots_now
+  noted_anew board now words later number [] [] same noted stand words_same = tt
+  noted_anew board now words later number [] (y ∷ ys) same noted stand words_same = absurd same
+  noted_anew board now words later number (x ∷ xs) [] same noted stand words_same = absurd same
+  noted_anew board now words later number (x ∷ xs) (y ∷ ys) same noted stand words_same = (
+    record {
+      within = subst (λ k. k < slots) same.0 noted.0.within;
+      stands = stand.0;
+      word = subst (λ k. slice_index later k ≡ number) same.0 (words_same x.0 (inl refl) ∙ noted.0.word);
+      low = noted.0.low;
+    },
+    noted_anew board now words later number xs ys same.1 noted.1 stand.1 (λ j has. words_same j (inr has)),
+  )
 
-module _ {O C A : Type 0} (answers : ℕ → O → C → A → O → Type 0) (terms : Terms O C A) (s : State (Logged O C A) (View O C A)) (kept : IsKept answers terms s)
-    (id number : ℕ) (seen : Logged O C A) (at_seat : get_elem? s.views id ≡ some (outside number seen)) (free : kept.word ≡ 0) where
-  abbrev taken : View O C A
-  taken = inside number kept.board
+  -- what a seat has noted is so
+  pub all_stand : (board : Logged W C A) (words : List ℕ) (number : ℕ) (xs : List (ℕ × S)) → AreNoted slot_of slots board words number xs → Stand slot_of board xs
+  all_stand board words number [] noted = tt
+  all_stand board words number (x ∷ xs) noted = (noted.0.stands, all_stand board words number xs noted.1)
 
-  abbrev taken_state : State (Logged O C A) (View O C A)
-  taken_state = stepped s 0 number id [] taken (takes 0 kept.board)
-
-  takers : IsPartOf answers terms kept.board kept.owner id (part number seen)
-  takers = (kept.parts id (outside number seen) at_seat).0
-
-  take_held : IsHeld number kept.board taken_state.views
-  take_held = record {
-    holder = id;
-    at = set_here s.views id taken (within s.views id _ at_seat);
-    others = λ seat view e apart. elim (at_set s.views id seat taken view e) [ inl h ↦ absurd (apart h.0) | inr h ↦ kept.empty free seat view h.1 ];
-  }
-
-  take_part : IsPartOf answers terms kept.board kept.owner id (part number kept.board)
-  take_part = record { owned = takers.owned; low = takers.low; high = takers.high; followed = followed_same answers number kept.board }
-
-  take_parts : (seat : ℕ) (view : View O C A) → get_elem? taken_state.views seat ≡ some view → ArePartsOf answers terms kept.board kept.owner seat view.parts
-  take_parts seat view e = elim (at_set s.views id seat taken view e) [
-    | inl h ↦ subst (λ (v : View O C A). ArePartsOf answers terms kept.board kept.owner seat v.parts) h.1
-        (subst (λ n. ArePartsOf answers terms kept.board kept.owner n taken.parts) (sym h.0) (take_part, tt))
-    | inr h ↦ kept.parts seat view h.1
-  ]
-
-  take_kept : IsKept answers terms taken_state
-  take_kept = record {
-    word = number;
-    board = kept.board;
-    owner = kept.owner;
-    words = ap (λ ws. slice_set ws 0 number) kept.words;
-    first = kept.first;
-    legal = kept.legal;
-    calls = kept.calls;
-    home = λ none. absurd (omega (arith, none, takers.low));
-    empty = λ none. absurd (omega (arith, none, takers.low));
-    held = λ busy. take_held;
-    parts = take_parts;
-    once = λ n. omega (arith, kept.once n, times_after n s.views id (outside number seen) taken at_seat);
-  }
-
-module _ {O C A : Type 0} (answers : ℕ → O → C → A → O → Type 0) (terms : Terms O C A) where
-  -- where the word isn't 0 nothing changes
-  same_state : (s : State (Logged O C A) (View O C A)) (kept : IsKept answers terms s) (id : ℕ) (view : View O C A) → get_elem? s.views id ≡ some view →
-      stepped s 0 (slice_index s.words 0) id [] view keeps ≡ s
-  same_state s kept id view at_seat =
-      let words : slice_set s.words 0 (slice_index s.words 0) ≡ s.words = rw kept.words refl in
-      let views : slice_set s.views id view ≡ s.views = set_again s.views id view at_seat in
-      ap (λ ws. record { words = ws; homes = s.homes; views = slice_set s.views id view }) words
-      ∙ ap (λ vs. record { words = s.words; homes = s.homes; views = vs }) views
-
-  -- what the seat's try comes to, where the word becomes n
-  abbrev Comes : State (Logged O C A) (View O C A) → ℕ → ℕ → Logged O C A → ℕ → Type 0
-  Comes s id number seen n =
-      (w : View O C A) × (a : Act (Logged O C A)) × Valid s.homes [] a × IsKept answers terms (stepped s 0 n id [] w a)
-      × entered answers (step 1 0 0 number none) (outside number seen, []) (slice_index s.words 0) (w, carried_after [] a)
-
-  hit : (s : State (Logged O C A) (View O C A)) (kept : IsKept answers terms s) (id number : ℕ) (seen : Logged O C A) → get_elem? s.views id ≡ some (outside number seen) →
-      slice_index s.words 0 ≡ 0 → Comes s id number seen number
-  hit s kept id number seen at_seat free =
-      let zero_word : kept.word ≡ 0 = ap (λ ws. slice_index ws 0) (sym kept.words) ∙ free in
-      let followed = (takers answers terms s kept id number seen at_seat zero_word).followed in (
-        taken answers terms s kept id number seen at_seat zero_word,
-        takes 0 kept.board,
-        ap (λ hs. get_elem? hs 0) (kept.home zero_word),
-        take_kept answers terms s kept id number seen at_seat zero_word,
-        ((λ found. (kept.board, refl, (followed, tt), kept.legal)), (λ busy. absurd (busy free))),
-      )
-
-  miss : (s : State (Logged O C A) (View O C A)) (kept : IsKept answers terms s) (id number : ℕ) (seen : Logged O C A) → get_elem? s.views id ≡ some (outside number seen) →
-      (slice_index s.words 0 ≡ 0 → ⊥) → Comes s id number seen (slice_index s.words 0)
-  miss s kept id number seen at_seat busy =
-      let stays = subst (λ t. IsKept answers terms t) (sym (same_state s kept id (outside number seen) at_seat)) kept in
-      (outside number seen, keeps, tt, stays, ((λ found. absurd (busy found)), (λ other. refl)))
-
-  pub enter_allowed : (id number : ℕ) (seen : Logged O C A) →
-      Allows (IsKept answers terms) 1 id (outside number seen, []) 0 (λ n. either (n == 0) number n) (entered answers (step 1 0 0 number none) (outside number seen, []))
-  enter_allowed id number seen s kept size at_seat low =
-      exchanged (slice_index s.words 0) 0 number (Comes s id number seen)
-      (λ free. hit s kept id number seen at_seat free)
-      (λ busy. miss s kept id number seen at_seat busy)
+module _ {W C A : Type 0} (answers : ℕ → W → C → A → W → Type 0) (seats : ℕ) where
+  -- the number under which a seat is inside is its own
+  pub number_owned : (board : Logged W C A) (owner : ℕ → ℕ) (seat : ℕ) (ps : List (Part W C A)) → ArePartsOf answers seats board owner seat ps → 1 ≤ number_of ps →
+      owner (number_of ps) ≡ seat
+  number_owned board owner seat [] stand low = absurd (omega (arith, low))
+  number_owned board owner seat (p ∷ ps) stand low = stand.0.owned
 
   -- another seat's numbers are left alone
-  each_still : (board now : Logged O C A) (owner : ℕ → ℕ) (number id seat : ℕ) → HasWorked answers number board now → owner number ≡ id → (seat ≡ id → ⊥) →
-      (ps : List (Part O C A)) → ArePartsOf answers terms board owner seat ps → ArePartsOf answers terms now owner seat ps
+  pub each_still : (board now : Logged W C A) (owner : ℕ → ℕ) (number id seat : ℕ) → HasWorked answers number board now → owner number ≡ id → (seat ≡ id → ⊥) →
+      (ps : List (Part W C A)) → ArePartsOf answers seats board owner seat ps → ArePartsOf answers seats now owner seat ps
   each_still board now owner number id seat worked own other [] stand = tt
   each_still board now owner number id seat worked own other (p ∷ ps) stand = (
     record {
@@ -134,73 +79,140 @@ module _ {O C A : Type 0} (answers : ℕ → O → C → A → O → Type 0) (te
     each_still board now owner number id seat worked own other ps stand.1,
   )
 
--- ---- giving it back
+-- ---- taking a slot
 
-module _ {O C A : Type 0} (answers : ℕ → O → C → A → O → Type 0) (terms : Terms O C A) (s : State (Logged O C A) (View O C A)) (kept : IsKept answers terms s)
-    (id number : ℕ) (board now : Logged O C A) (size : length s.homes ≡ 1) (at_seat : get_elem? s.views id ≡ some (inside number board)) (worked : HasWorked answers number board now) where
-  abbrev left : View O C A
-  left = outside number now
+module _ {S W C A : Type 0} (answers : ℕ → W → C → A → W → Type 0) (slot_of : Logged W C A → ℕ → Option S) (slots seats : ℕ) (first : W)
+    (s : State S (View S W C A)) (kept : IsKept answers slot_of slots seats first s) (i id number : ℕ) (seen : Logged W C A) (found : List (ℕ × S))
+    (in_range : i < slots) (at_seat : get_elem? s.views id ≡ some (holding number seen found)) (free : slice_index s.words i ≡ 0) where
+  abbrev its_home : IsHome slot_of kept.board s.homes i
+  its_home = kept.home i in_range free
 
-  abbrev left_state : State (Logged O C A) (View O C A)
-  left_state = stepped s 0 0 id ((0, now) ∷ []) left gives
+  abbrev taken : View S W C A
+  taken = holding number seen ((i, its_home.0) ∷ found)
 
-  leavers : IsPartOf answers terms kept.board kept.owner id (part number board)
-  leavers = (kept.parts id (inside number board) at_seat).0
+  abbrev taken_state : State S (View S W C A)
+  taken_state = stepped s i number id [] taken (takes i its_home.0)
 
-  is_busy : kept.word ≡ 0 → ⊥
-  is_busy free = absurd (omega (arith, kept.empty free id (inside number board) at_seat, leavers.low))
+  takers : IsPartOf answers seats kept.board kept.owner id (part number seen)
+  takers = (kept.parts id (holding number seen found) at_seat).0
 
-  -- it is this seat that is inside
-  holds_it : IsHeld kept.word kept.board s.views
-  holds_it = kept.held is_busy
+  take_here : slice_index (slice_set s.words i number) i ≡ number
+  take_here = get_or-set_same s.words i number 0 (omega (arith, in_range, kept.words))
 
-  here : holds_it.holder ≡ id
-  here = elim (cases_eq holds_it.holder id) [
-    | inl same ↦ same
-    | inr apart ↦ absurd (omega (arith, holds_it.others id (inside number board) at_seat (λ same. apart (sym same)), leavers.low))
+  take_else : (j : ℕ) → (j ≡ i → ⊥) → slice_index (slice_set s.words i number) j ≡ slice_index s.words j
+  take_else j apart = get_or-set_other s.words i j number 0 apart
+
+  take_home : (j : ℕ) → j < slots → slice_index taken_state.words j ≡ 0 → IsHome slot_of kept.board taken_state.homes j
+  take_home j range is_zero = elim (cases_eq j i) [
+    | inl same ↦ absurd (omega (arith, takers.low, sym take_here ∙ ap (λ k. slice_index taken_state.words k) (sym same) ∙ is_zero))
+    | inr apart ↦ let h = kept.home j range (sym (take_else j apart) ∙ is_zero) in (h.0, set_else s.homes i j _ apart ∙ h.1, h.2)
   ]
 
-  same_board : board ≡ kept.board
-  same_board =
-      let same = some-injective _ _ (sym at_seat ∙ ap (λ n. get_elem? s.views n) (sym here) ∙ holds_it.at) in
-      ap (λ (v : View O C A). seen_or board v.parts) same
-
-  works : HasWorked answers number kept.board now
-  works = subst (λ b. HasWorked answers number b now) same_board worked
-
-  leave_empty : (seat : ℕ) (view : View O C A) → get_elem? left_state.views seat ≡ some view → view.inside ≡ 0
-  leave_empty seat view e = elim (at_set s.views id seat left view e) [
-    | inl h ↦ ap (λ (v : View O C A). v.inside) (sym h.1)
-    | inr h ↦ holds_it.others seat view h.1 (λ same. h.0 (same ∙ here))
+  -- who had a slot has it
+  take_still : (j : ℕ) → IsHeld j s.views → IsHeld j taken_state.views
+  take_still j h = elim (cases_eq h.holder id) [
+    | inl same ↦ record {
+      holder = id;
+      view = taken;
+      at = set_here s.views id taken (within s.views id _ at_seat);
+      has = inr (subst (λ (v : View S W C A). HasSlot j v.has) (some-injective _ _ (sym h.at ∙ ap (λ n. get_elem? s.views n) same ∙ at_seat)) h.has);
+    }
+    | inr apart ↦ record { holder = h.holder; view = h.view; at = set_else s.views id h.holder taken apart ∙ h.at; has = h.has }
   ]
 
-  leave_part : IsPartOf answers terms now kept.owner id (part number now)
-  leave_part = record { owned = leavers.owned; low = leavers.low; high = leavers.high; followed = followed_same answers number now }
-
-  leave_parts : (seat : ℕ) (view : View O C A) → get_elem? left_state.views seat ≡ some view → ArePartsOf answers terms now kept.owner seat view.parts
-  leave_parts seat view e = elim (at_set s.views id seat left view e) [
-    | inl h ↦ subst (λ (v : View O C A). ArePartsOf answers terms now kept.owner seat v.parts) h.1
-        (subst (λ n. ArePartsOf answers terms now kept.owner n left.parts) (sym h.0) (leave_part, tt))
-    | inr h ↦ each_still answers terms kept.board now kept.owner number id seat works leavers.owned h.0 view.parts (kept.parts seat view h.1)
+  take_held : (j : ℕ) → j < slots → (slice_index taken_state.words j ≡ 0 → ⊥) → IsHeld j taken_state.views
+  take_held j range busy = elim (cases_eq j i) [
+    | inl same ↦ record { holder = id; view = taken; at = set_here s.views id taken (within s.views id _ at_seat); has = inl (sym same) }
+    | inr apart ↦ take_still j (kept.held j range (λ is_zero. busy (take_else j apart ∙ is_zero)))
   ]
 
-  leave_kept : IsKept answers terms left_state
-  leave_kept = record {
-    word = 0;
-    board = now;
+  take_noted_here : AreNoted slot_of slots kept.board taken_state.words number taken.has
+  take_noted_here = (
+    record { within = in_range; stands = its_home.2; word = take_here; low = takers.low },
+    each_noted slot_of slots kept.board kept.board s.words taken_state.words number found (kept.noted id _ at_seat)
+        (λ x noted. record {
+          within = noted.within;
+          stands = noted.stands;
+          word = elim (cases_eq x.0 i) [ inl same ↦ ap (λ k. slice_index taken_state.words k) same ∙ take_here | inr apart ↦ take_else x.0 apart ∙ noted.word ];
+          low = noted.low;
+        }),
+  )
+
+  take_noted_else : (seat : ℕ) (view : View S W C A) → get_elem? s.views seat ≡ some view →
+      AreNoted slot_of slots kept.board taken_state.words (number_of view.parts) view.has
+  take_noted_else seat view at =
+      each_noted slot_of slots kept.board kept.board s.words taken_state.words (number_of view.parts) view.has (kept.noted seat view at)
+      (λ x noted. record {
+        within = noted.within;
+        stands = noted.stands;
+        word = take_else x.0 (λ same. absurd (omega (arith, noted.low, sym noted.word ∙ ap (λ k. slice_index s.words k) same ∙ free))) ∙ noted.word;
+        low = noted.low;
+      })
+
+  take_noted : (seat : ℕ) (view : View S W C A) → get_elem? taken_state.views seat ≡ some view →
+      AreNoted slot_of slots kept.board taken_state.words (number_of view.parts) view.has
+  take_noted seat view e = elim (at_set s.views id seat taken view e) [
+    | inl h ↦ subst (λ (v : View S W C A). AreNoted slot_of slots kept.board taken_state.words (number_of v.parts) v.has) h.1 take_noted_here
+    | inr h ↦ take_noted_else seat view h.1
+  ]
+
+  take_parts : (seat : ℕ) (view : View S W C A) → get_elem? taken_state.views seat ≡ some view → ArePartsOf answers seats kept.board kept.owner seat view.parts
+  take_parts seat view e = elim (at_set s.views id seat taken view e) [
+    | inl h ↦ subst (λ (v : View S W C A). ArePartsOf answers seats kept.board kept.owner seat v.parts) h.1
+        (subst (λ n. ArePartsOf answers seats kept.board kept.owner n taken.parts) (sym h.0) (takers, tt))
+    | inr h ↦ kept.parts seat view h.1
+  ]
+
+  take_kept : IsKept answers slot_of slots seats first taken_state
+  take_kept = record {
+    board = kept.board;
     owner = kept.owner;
-    words = ap (λ ws. slice_set ws 0 0) kept.words;
-    first = first_stays answers number kept.board now works ∙ kept.first;
-    legal = still_legal answers number kept.board now kept.legal works;
-    calls = still_seated answers terms.seats number kept.board now leavers.low leavers.high kept.calls works;
-    home = λ free. one_slot s.homes (some now) size;
-    empty = λ free. leave_empty;
-    held = λ busy. absurd (busy refl);
-    parts = leave_parts;
-    once = λ n. omega (arith, kept.once n, times_after n s.views id (inside number board) left at_seat);
+    words = length-set s.words i number ∙ kept.words;
+    first_is = kept.first_is;
+    legal = kept.legal;
+    calls = kept.calls;
+    home = take_home;
+    held = take_held;
+    noted = take_noted;
+    parts = take_parts;
+    once = λ n. omega (arith, kept.once n, times_after n s.views id (holding number seen found) taken at_seat);
   }
 
-pub leave_allowed : {O C A : Type 0} (answers : ℕ → O → C → A → O → Type 0) (terms : Terms O C A) (id number : ℕ) (board now : Logged O C A) → HasWorked answers number board now →
-    Allows (IsKept answers terms) 1 id (inside number board, (0, now) ∷ []) 0 (λ n. 0) (λ n. has_left (step 1 0 0 0 none) (inside number board, (0, now) ∷ []) 0)
-leave_allowed answers terms id number board now worked s kept size at_seat low =
-    (left answers terms s kept id number board now size at_seat worked, gives, tt, leave_kept answers terms s kept id number board now size at_seat worked, refl)
+module _ {S W C A : Type 0} (answers : ℕ → W → C → A → W → Type 0) (slot_of : Logged W C A → ℕ → Option S) (slots seats : ℕ) (first : W) where
+  -- where the word isn't 0 nothing changes
+  same_state : (s : State S (View S W C A)) (i id : ℕ) (view : View S W C A) (had : List (ℕ × S)) → get_elem? s.views id ≡ some view →
+      stepped s i (slice_index s.words i) id had view keeps ≡ s
+  same_state s i id view had at_seat =
+      ap (λ ws. record { words = ws; homes = s.homes; views = slice_set s.views id view }) (set-get_or s.words i 0)
+      ∙ ap (λ vs. record { words = s.words; homes = s.homes; views = vs }) (set_again s.views id view at_seat)
+
+  -- what the seat's try comes to, where the word becomes n
+  abbrev Comes : State S (View S W C A) → ℕ → ℕ → ℕ → Logged W C A → List (ℕ × S) → List (ℕ × S) → ℕ → Type 0
+  Comes s i id number seen found had n =
+      (w : View S W C A) × (a : Act S) × Valid s.homes had a × IsKept answers slot_of slots seats first (stepped s i n id had w a)
+      × has_entered (step slots i 0 number none) (holding number seen found, had) (slice_index s.words i) (w, carried_after had a)
+
+  hit : (s : State S (View S W C A)) (kept : IsKept answers slot_of slots seats first s) (i id number : ℕ) (seen : Logged W C A) (found had : List (ℕ × S)) → i < slots →
+      get_elem? s.views id ≡ some (holding number seen found) → slice_index s.words i ≡ 0 → Comes s i id number seen found had number
+  hit s kept i id number seen found had in_range at_seat free =
+      let h = kept.home i in_range free in (
+        taken answers slot_of slots seats first s kept i id number seen found in_range at_seat free,
+        takes i h.0,
+        h.1,
+        take_kept answers slot_of slots seats first s kept i id number seen found in_range at_seat free,
+        ((λ zero_word. (h.0, refl)), (λ busy. absurd (busy free))),
+      )
+
+  miss : (s : State S (View S W C A)) (kept : IsKept answers slot_of slots seats first s) (i id number : ℕ) (seen : Logged W C A) (found had : List (ℕ × S)) →
+      get_elem? s.views id ≡ some (holding number seen found) → (slice_index s.words i ≡ 0 → ⊥) → Comes s i id number seen found had (slice_index s.words i)
+  miss s kept i id number seen found had at_seat busy =
+      let stays = subst (λ t. IsKept answers slot_of slots seats first t) (sym (same_state s i id (holding number seen found) had at_seat)) kept in
+      (holding number seen found, keeps, tt, stays, ((λ zero_word. absurd (busy zero_word)), (λ other. refl)))
+
+  pub enter_allowed : (i id number : ℕ) (seen : Logged W C A) (found had : List (ℕ × S)) → i < slots →
+      Allows (IsKept answers slot_of slots seats first) slots id (holding number seen found, had) i (λ n. either (n == 0) number n)
+      (has_entered (step slots i 0 number none) (holding number seen found, had))
+  enter_allowed i id number seen found had in_range s kept size at_seat low =
+      exchanged (slice_index s.words i) 0 number (Comes s i id number seen found had)
+      (λ free. hit s kept i id number seen found had in_range at_seat free)
+      (λ busy. miss s kept i id number seen found had at_seat busy)

@@ -1,10 +1,11 @@
-mod Counting
-mod Following
-mod Keeping
-mod Crews
-mod Closing
-mod Holds
-mod Making
-mod Ends
+pub mod Counting
+pub mod Following
+pub mod Keeping
+pub mod Leaving
+pub mod Crews
+pub mod Closing
+pub mod Holds
+pub mod Making
+pub mod Ends
 pub mod Placing
 pub mod Summing

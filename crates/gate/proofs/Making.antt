@@ -4,9 +4,9 @@ use Rattle.std.proofs.Common.{refl, sym, ap, subst, ◌∙◌, inl, inr, arith}
 use Rattle.std.proofs.lemmas.Bool.{cases_eq}
 use Rattle.std.proofs.lemmas.List.Elements.{All-nil, All-cons}
 use Rattle.std.proofs.lemmas.Option.{same_Some, slice_get_within}
+use mathlib.Core.Option.{Option}
 use Rattle.atomic_table.specs.Table.{Splits}
 use Rattle.atomic_table.specs.Seated.{TableId}
-use Rattle.gate.specs.declared.rules.Terms.{Terms}
 use Rattle.gate.specs.Logs.{Logged, fresh}
 use Rattle.gate.specs.Views.{Place, part, crew_view, outside, first_of, rest_of}
 use Rattle.gate.specs.Rules.{IsKept, crew}
@@ -42,38 +42,41 @@ module _ {S O C A : Type 0} (of : S → Seated O C A) where
   pub one_more_here : (n : ℕ) (seats : List S) → ((k : ℕ) → 1 ≤ k → k ≤ n → IsHere of k seats) → IsHere of (n + 1) seats → (k : ℕ) → 1 ≤ k → k ≤ n + 1 → IsHere of k seats
   one_more_here n seats before last k low high = here_by n k seats before last low high (cases_eq k (n + 1))
 
-module _ {O C A : Type 0} where
-  -- ---- cutting the crew
+-- ---- cutting the crew
 
-  -- the crew from the number behind n on
-  abbrev Left : Place O C A → Logged O C A → ℕ → ℕ → Type 0
-  Left me start n most = me ≡ (crew_view (crew start (n + 1) (most - n)), [])
-
-  crew_next : (start : Logged O C A) (n most : ℕ) → n < most → crew start (n + 1) (most - n) ≡ part (n + 1) start ∷ crew start (n + 1 + 1) (most - (n + 1))
+module _ {W C A : Type 0} where
+  crew_next : (start : Logged W C A) (n most : ℕ) → n < most → crew start (n + 1) (most - n) ≡ part (n + 1) start ∷ crew start (n + 1 + 1) (most - (n + 1))
   crew_next start n most within = let more : most - n ≡ suc (most - (n + 1)) = omega (arith, within) in ap (λ k. crew start (n + 1) k) more
 
+module _ {S W C A : Type 0} where
+  -- the crew from the number behind n on
+  abbrev Left : Place S W C A → Logged W C A → ℕ → ℕ → Type 0
+  Left me start n most = me ≡ (crew_view (crew start (n + 1) (most - n)), [])
+
   -- what the crew is before the cut
-  cut_view : (me : Place O C A) (start : Logged O C A) (n most : ℕ) → n < most → Left me start n most →
+  cut_view : (me : Place S W C A) (start : Logged W C A) (n most : ℕ) → n < most → Left me start n most →
       me ≡ (crew_view (part (n + 1) start ∷ crew start (n + 1 + 1) (most - (n + 1))), [])
   cut_view me start n most within is = is ∙ ap (λ ps. (crew_view ps, [])) (crew_next start n most within)
 
-  pub split_allowed : (answers : ℕ → O → C → A → O → Type 0) (terms : Terms O C A) (id : ℕ) (me : Place O C A) (start : Logged O C A) (n most : ℕ) → n < most → Left me start n most →
-      Splits (IsKept answers terms) id me.0 (rest_of me.0) (first_of me.0)
-  split_allowed answers terms id me start n most within is =
-      let ps = crew start (n + 1 + 1) (most - (n + 1)) in
-      let At : Place O C A → Type 0 = λ m. Splits (IsKept answers terms) id m.0 (rest_of m.0) (first_of m.0) in
-      subst At (sym (cut_view me start n most within is))
-      (cut_allowed answers terms id (part (n + 1) start) ps (crew_others start (most - (n + 1)) (n + 1 + 1) (n + 1) (omega arith)))
-
   -- the seat that is cut off, and the crew that is left
-  pub cut_off : (me single : Place O C A) (start : Logged O C A) (n most : ℕ) → n < most → Left me start n most → single ≡ (first_of me.0, []) → single ≡ (outside (n + 1) start, [])
+  pub cut_off : (me single : Place S W C A) (start : Logged W C A) (n most : ℕ) → n < most → Left me start n most → single ≡ (first_of me.0, []) → single ≡ (outside (n + 1) start, [])
   cut_off me single start n most within is cut = cut ∙ ap (λ m. (first_of m.0, [])) (cut_view me start n most within is)
 
-  pub left_over : (me rest : Place O C A) (start : Logged O C A) (n most : ℕ) → n < most → Left me start n most → rest ≡ (rest_of me.0, me.1) → Left rest start (n + 1) most
+  pub left_over : (me rest : Place S W C A) (start : Logged W C A) (n most : ℕ) → n < most → Left me start n most → rest ≡ (rest_of me.0, me.1) → Left rest start (n + 1) most
   left_over me rest start n most within is cut = cut ∙ ap (λ m. (rest_of m.0, m.1)) (cut_view me start n most within is)
 
-  -- ---- fresh seats
+module _ {S W C A : Type 0} (answers : ℕ → W → C → A → W → Type 0) (slot_of : Logged W C A → ℕ → Option S) (slots seats : ℕ) (first : W) where
+  pub split_allowed : (id : ℕ) (me : Place S W C A) (start : Logged W C A) (n most : ℕ) → n < most → Left me start n most →
+      Splits (IsKept answers slot_of slots seats first) id me.0 (rest_of me.0) (first_of me.0)
+  split_allowed id me start n most within is =
+      let ps = crew start (n + 1 + 1) (most - (n + 1)) in
+      let At : Place S W C A → Type 0 = λ m. Splits (IsKept answers slot_of slots seats first) id m.0 (rest_of m.0) (first_of m.0) in
+      subst At (sym (cut_view me start n most within is))
+      (cut_allowed answers slot_of slots seats first id (part (n + 1) start) ps (crew_others start (most - (n + 1)) (n + 1 + 1) (n + 1) (omega arith)))
 
+-- ---- fresh seats
+
+module _ {O C A : Type 0} where
   fresh_push : (id : TableId) (object : O) (from n : ℕ) →
       ◌≡◌ {A = List (Seated O C A)} (fresh_seats id object from (suc n)) (fresh_seats id object from n ++ fresh_seat id object (from + n) ∷ [])
   fresh_push id object from zero = let same : from ≡ from + 0 = omega arith in ap (λ k. fresh_seat id object k ∷ []) same

@@ -25,8 +25,9 @@ module _ {O C A : Type 0} where
   abbrev pub AreSeatsOf : Room O → List (Seated O C A) → Type 0
   AreSeatsOf gate seats = All (λ seat. IsSeatOf gate seat) seats
 
-  -- the seat is outside with its number, and has counted the calls that it has seen
-  pub record IsSeated (me : Place O C A) (number : ℕ) (seen : Logged O C A) (last : ℕ) : Type 0 where
+-- the seat is outside with its number, and has counted the calls that it has seen
+module _ {S O C A : Type 0} where
+  pub record IsSeated (me : Place S O C A) (number : ℕ) (seen : Logged O C A) (last : ℕ) : Type 0 where
     pub place : me ≡ (outside number seen, [])
     pub low : 1 ≤ number
     pub counted : last ≡ saturated (length seen.log)

@@ -3,7 +3,7 @@ ghost use Rattle.std.specs.Prelude.{◌≡◌};
 
 use crate::boards::Board;
 use crate::objects::Object;
-use crate::rules::{Rule, Terms, View};
+use crate::rules::{Knows, Rule, Terms};
 use atomic_table::Table;
 use std::alloc::Global;
 use std::marker::Model;
@@ -11,7 +11,7 @@ use std::marker::Model;
 /// An object that the seats of a gate share. A call is one hold of the gate, and all calls make one log.
 #[derive(Drop)]
 pub struct Gate<O: Object<C, A>, C, A> {
-    pub(crate) table: Table<Board<O, C, A>, View<O, C, A>, Terms<O, C, A>, Rule, Global>,
+    pub(crate) table: Table<Board<O, C, A>, Knows<O, C, A>, Terms<O, C, A>, Rule, Global>,
     pub(crate) terms: Terms<O, C, A>,
 }
 

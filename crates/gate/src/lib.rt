@@ -14,12 +14,16 @@ mod objects;
 mod opening;
 mod rules;
 mod seats;
+mod waiting;
 
 pub use gates::Gate;
 pub use laws::{
     a_call_is_one_entry, calls_keep_a_log_legal, others_leave_own_calls, seats_make_the_log,
     told_calls_stand_before,
 };
+pub use marks::{Mark, Tells};
 pub use naming::{Name, NamedGate, NamedSeat};
 pub use objects::{Entry, Object};
+pub use rules::{Cut, Enter, Gather, Part, Sit, View};
 pub use seats::{HoldsSeat, Seat};
+pub use waiting::Waiting;

@@ -3,7 +3,12 @@ ghost use Rattle.std.specs.Prelude.{◌≡◌, [], ◌∷◌};
 ghost use Rattle.gate.specs.Marks.{alone_prop};
 
 use ctrie_base::{Change, Trace};
-use std::marker::Model;
+use std::marker::{Model, PhantomData};
+
+/// What a value tells that only clauses see.
+pub trait Tells<T, X> {
+    ghost told: { X → T };
+}
 
 /// A value that only clauses see. It takes no bytes.
 #[derive(Drop)]
@@ -32,6 +37,15 @@ impl<T> Mark<T> {
         }
     }
 
+    /// What this value tells.
+    pub fn told<X, C: Tells<T, X>>(by: &X) -> Mark<T>
+        ensures { result ≡ C.told by.now }
+    {
+        Mark {
+            trace: Trace::changed::<X, Alone<C>>(&Trace::new(), by),
+        }
+    }
+
     /// The same once more.
     pub fn again(&self) -> Mark<T>
         ensures { result ≡ self.now }
@@ -46,4 +60,13 @@ struct Same;
 
 impl<T> Change<T, ()> for Same {
     ghost after = { λ items _. items };
+}
+
+/// What is told, alone in a list.
+struct Alone<C> {
+    by: PhantomData<C>,
+}
+
+impl<T, X, C: Tells<T, X>> Change<T, X> for Alone<C> {
+    ghost after = { λ _ by. C.told by ∷ [] };
 }

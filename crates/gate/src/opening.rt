@@ -9,7 +9,7 @@ use crate::boards::Board;
 use crate::gates::Gate;
 use crate::marks::Mark;
 use crate::objects::Object;
-use crate::rules::{Cut, Rule, Terms, View};
+use crate::rules::{Cut, Knows, Rule, Terms};
 use crate::seats::{Pass, Seat};
 use atomic_table::Table;
 use std::alloc::Global;
@@ -51,7 +51,7 @@ fn table_of<O: Object<C, A> + Drop, C: Drop, A: Drop>(
     terms: &Terms<O, C, A>,
 ) -> Result<
     (
-        Table<Board<O, C, A>, View<O, C, A>, Terms<O, C, A>, Rule, Global>,
+        Table<Board<O, C, A>, Knows<O, C, A>, Terms<O, C, A>, Rule, Global>,
         Pass<O, C, A>,
     ),
     Board<O, C, A>,
@@ -60,7 +60,7 @@ fn table_of<O: Object<C, A> + Drop, C: Drop, A: Drop>(
     requires fresh { terms.now.first ≡ fresh terms.now.first.first }
     ensures sizes { IfOk result (λ made. (made.0.shared.table_id.words ≡ 1) × (made.0.shared.table_id.slots ≡ 1)) }
     ensures terms { IfOk result (λ made. made.0.shared.key ≡ terms.now) }
-    ensures crew { IfOk result (λ made. (made.1.table_id ≡ made.0.shared.table_id) × (made.1.me ≡ (first_view terms.now, []))) }
+    ensures crew { IfOk result (λ made. (made.1.table_id ≡ made.0.shared.table_id) × (made.1.me ≡ (first_view terms.now.first terms.now.seats, []))) }
     ensures back { IfErr result (λ back. back ≡ board) }
 {
     let Ok(mut slots) = Vec::with_capacity(alloc, 1) else {
@@ -81,13 +81,13 @@ fn table_of<O: Object<C, A> + Drop, C: Drop, A: Drop>(
 
 /// Each number of the crew gets a seat of its own.
 fn seat_all<O: Object<C, A> + Drop, C: Drop, A: Drop>(
-    table: &Table<Board<O, C, A>, View<O, C, A>, Terms<O, C, A>, Rule, Global>,
+    table: &Table<Board<O, C, A>, Knows<O, C, A>, Terms<O, C, A>, Rule, Global>,
     mut crew: Pass<O, C, A>,
     terms: &Terms<O, C, A>,
     made: &mut Vec<Seat<O, C, A>>,
 )
     requires table { (table.now.shared.table_id.words ≡ 1) × (table.now.shared.key ≡ terms.now) }
-    requires crew { (crew.table_id ≡ table.now.shared.table_id) × (crew.me ≡ (first_view terms.now, [])) }
+    requires crew { (crew.table_id ≡ table.now.shared.table_id) × (crew.me ≡ (first_view terms.now.first terms.now.seats, [])) }
     requires fresh { terms.now.first ≡ fresh terms.now.first.first }
     requires room { (made.old.items ≡ []) × (terms.now.seats ≤ vec_capacity made.old) }
     ensures { made.new.items ≡ fresh_seats table.now.shared.table_id terms.now.first.first 1 terms.now.seats }

@@ -1,10 +1,9 @@
-//! The gate's rule: what the shared table may be between two steps on its word.
+//! The gate's rule: what the shared table may be between two steps on its words.
 //!
-//! The table has one word and one slot. The word is 0, or the number of the seat that is inside; the slot holds
-//! the board, which a seat that is inside works on in place.
+//! Each slot has a word, which is 0, or the number of the seat that has the slot and works on it in place.
 ghost use Rattle.std.specs.Prelude.{[]};
-ghost use Rattle.gate.specs.Views.{entered, has_left, has_sat, rest_of, first_of, gathered, crew_view};
-ghost use Rattle.gate.specs.Rules.{IsKept, first_view};
+ghost use Rattle.gate.specs.Views.{has_entered, has_left, has_sat, rest_of, first_of, gathered, crew_view};
+ghost use Rattle.gate.specs.Rules.{IsKept, first_view, only_slot};
 
 use crate::boards::Board;
 use crate::marks::Mark;
@@ -22,52 +21,55 @@ pub struct Terms<O, C, A> {
 }
 
 /// What a seat knows under one number. No value of it is made.
-pub struct Part<O, C, A> {
+pub struct Part<W, C, A> {
     pub number: u64,
     /// The board as it was when the seat left it last.
-    pub seen: Board<O, C, A>,
+    pub seen: Board<W, C, A>,
 }
 
 /// What a seat knows. No value of it is made.
-pub struct View<O, C, A> {
-    /// The number under which the seat is inside, or 0.
-    pub inside: u64,
-    pub parts: LinkedList<Part<O, C, A>>,
+pub struct View<S, W, C, A> {
+    /// The slots that the seat has, as it found them.
+    pub has: LinkedList<(u64, S)>,
+    pub parts: LinkedList<Part<W, C, A>>,
 }
+
+/// What a seat knows at a gate of one slot.
+pub(crate) type Knows<O, C, A> = View<Board<O, C, A>, O, C, A>;
 
 pub struct Rule;
 
-impl<O: Object<C, A>, C, A> TableRule<Board<O, C, A>, View<O, C, A>, Terms<O, C, A>> for Rule {
-    ghost holds = { λ terms s. IsKept O.answers terms s };
+impl<O: Object<C, A>, C, A> TableRule<Board<O, C, A>, Knows<O, C, A>, Terms<O, C, A>> for Rule {
+    ghost holds = { λ terms s. IsKept O.answers only_slot 1 terms.seats terms.first.first s };
 
-    ghost first = { first_view };
+    ghost first = { λ terms. first_view terms.first terms.seats };
 }
 
-/// The word becomes the seat's number where it was 0, and the seat takes the board.
+/// The word becomes the seat's number where it was 0, and the seat takes the slot.
 pub struct Enter;
 
-impl<O: Object<C, A>, C, A> Play<Board<O, C, A>, View<O, C, A>> for Enter {
-    ghost then = { entered O.answers };
+impl<S, W, C, A> Play<S, View<S, W, C, A>> for Enter {
+    ghost then = { has_entered };
 }
 
-/// The word becomes 0, and the board is given back.
+/// The word becomes 0, and the slot is given back, by which the seat's call is made.
 pub struct Leave;
 
-impl<O, C, A> Play<Board<O, C, A>, View<O, C, A>> for Leave {
-    ghost then = { has_left };
+impl<O: Object<C, A>, C, A> Play<Board<O, C, A>, Knows<O, C, A>> for Leave {
+    ghost then = { has_left O.answers only_slot };
 }
 
 /// A seat without a number comes to the table.
 pub struct Sit;
 
-impl<O, C, A> Play<Board<O, C, A>, View<O, C, A>> for Sit {
+impl<S, W, C, A> Play<S, View<S, W, C, A>> for Sit {
     ghost then = { has_sat };
 }
 
 /// The first number of a crew gets a seat of its own.
 pub struct Cut;
 
-impl<O, C, A> Split<View<O, C, A>> for Cut {
+impl<S, W, C, A> Split<View<S, W, C, A>> for Cut {
     ghost left = { rest_of };
 
     ghost right = { first_of };
@@ -76,7 +78,7 @@ impl<O, C, A> Split<View<O, C, A>> for Cut {
 /// A seat takes in another one's numbers.
 pub struct Gather;
 
-impl<O, C, A> Join<View<O, C, A>> for Gather {
+impl<S, W, C, A> Join<View<S, W, C, A>> for Gather {
     ghost both = { gathered };
 
     ghost spent = { crew_view [] };

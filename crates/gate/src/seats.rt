@@ -4,11 +4,11 @@ ghost use Rattle.gate.specs.Logs.{saturated};
 
 use crate::boards::Board;
 use crate::marks::Mark;
-use crate::rules::View;
+use crate::rules::Knows;
 use std::marker::Model;
 
 /// The seat at the table that the gate is.
-pub(crate) type Pass<O, C, A> = atomic_table::Seat<Board<O, C, A>, View<O, C, A>>;
+pub(crate) type Pass<O, C, A> = atomic_table::Seat<Board<O, C, A>, Knows<O, C, A>>;
 
 /// A seat at a gate, with a number of its own. Who has it makes its calls, one after another.
 #[derive(Drop)]

@@ -1,6 +1,7 @@
 //! Tests of the gate: what no clause of it says.
 #![tactic(auto)]
 
+mod banks;
 #[cfg(test)]
 mod counters;
 #[cfg(test)]

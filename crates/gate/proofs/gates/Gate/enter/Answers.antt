@@ -1,13 +1,13 @@
-use Rattle.std.proofs.Common.{rules, subst, ◌∙◌}
-use Rattle.gate.specs.Views.{HasEntered}
+use Rattle.std.proofs.Common.{rules, sym, subst}
+use Rattle.gate.specs.Views.{IsOf, HasTaken}
 use Rattle.gate.proofs.gates.Gate.enter.Goals as goal
 
-pub wait_and_enter-requires-clause-outside : goal.wait_and_enter-requires-clause-outside
-wait_and_enter-requires-clause-outside g c = (c.requires.outside.0, c.try_enter.ensures.shut c.if-not-try_enter.true ∙ c.requires.outside.1)
+pub wait_and_enter-requires-clause-number : goal.wait_and_enter-requires-clause-number
+wait_and_enter-requires-clause-number g c = subst (λ m. IsOf c.args.number m) (sym (c.try_enter.ensures.shut c.if-not-try_enter.true)) c.requires.number
 
 pub returns-then-not-try_enter-clause-inside : goal.returns-then-not-try_enter-clause-inside
 returns-then-not-try_enter-clause-inside g c =
-    subst (λ m. HasEntered g.O.Object.answers c.args.number m c.wait_and_enter.new.pass.me) (c.try_enter.ensures.shut c.if-not-try_enter.true) c.wait_and_enter.ensures.inside
+    subst (λ m. HasTaken 0 m c.wait_and_enter.new.pass.me) (c.try_enter.ensures.shut c.if-not-try_enter.true) c.wait_and_enter.ensures.inside
 
 pub returns-else-not-try_enter-clause-inside : goal.returns-else-not-try_enter-clause-inside
 returns-else-not-try_enter-clause-inside g c = c.try_enter.ensures.inside (search (rules, c.if-not-try_enter.false))

@@ -1,0 +1,71 @@
+//! How a seat waits between two tries.
+ghost use Rattle.std.specs.Prelude.{◌<◌};
+
+use atomic_table::{Shared, TableRule};
+use std::hint::spin_loop;
+use std::sync::Wait;
+use std::time::Duration;
+
+/// How many pauses a seat that found the gate shut makes, so that who is inside makes many calls while the board
+/// is in the cache.
+const PAUSES: u32 = 1_024;
+
+/// How long it sleeps then, in microseconds: who is inside may have lost the processor to it.
+const NAP: u64 = 20;
+
+/// How many pauses a seat makes in the midst of something, since others wait for it.
+const SHORT_PAUSES: u32 = 16;
+
+/// How often it does, before it waits as long as the others.
+const SHORT_WAITS: u32 = 256;
+
+/// How often a seat has waited for a slot.
+#[derive(Drop)]
+pub struct Waiting {
+    short_waits: u32,
+}
+
+impl Waiting {
+    /// A seat in the midst of something waits less long between two tries.
+    pub fn new(is_midway: bool) -> Waiting {
+        Waiting {
+            short_waits: if is_midway { SHORT_WAITS } else { 0 },
+        }
+    }
+
+    /// Waits a while for the slot of this word.
+    pub fn pause<R: Wait, S, V, K, P: TableRule<S, V, K>>(
+        &mut self,
+        rt: &R,
+        shared: &Shared<S, V, K, P>,
+        word: usize,
+    )
+        requires { word < shared.now.table_id.words }
+    {
+        if self.short_waits > 0 {
+            self.short_waits -= 1;
+            pause(SHORT_PAUSES);
+        } else {
+            pause(PAUSES);
+            sleep(rt, shared, word);
+        }
+    }
+}
+
+/// Sleeps a while, if the word isn't 0.
+fn sleep<R: Wait, S, V, K, P: TableRule<S, V, K>>(rt: &R, shared: &Shared<S, V, K, P>, word: usize)
+    requires { word < shared.now.table_id.words }
+{
+    if let Ok(inside) = u32::try_from(shared.peek(word)) {
+        if inside != 0 {
+            shared.park_timeout(rt, word, inside, Duration::from_micros(NAP));
+        }
+    }
+}
+
+/// So many pauses.
+fn pause(times: u32) {
+    for _ in 0..times {
+        spin_loop();
+    }
+}
