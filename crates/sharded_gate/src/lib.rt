@@ -1,0 +1,21 @@
+//! An object in shards that threads share: a call about one shard holds this one alone, and a call about all holds all;
+//! a log that clauses alone see tells of all calls in their order.
+#![tactic(auto)]
+
+mod boards;
+mod calling;
+mod finishing;
+mod gates;
+mod hands;
+mod holding;
+mod laws;
+mod naming;
+mod opening;
+mod rules;
+mod sharded;
+
+pub use finishing::HoldsShardedSeat;
+pub use gates::{ShardCount, ShardedGate, ShardedSeat};
+pub use laws::told_calls_of_a_shard_stand_before;
+pub use naming::{NamedShardedGate, NamedShardedSeat};
+pub use sharded::{Sharded, Shards, Visit};
