@@ -1,0 +1,50 @@
+//! What the calls tell of a reply, where `ctrie_map` doesn't say it.
+
+ghost use Rattle.std.specs.Prelude.{◌≡◌, IfOk, IfErr, Ok, Err};
+ghost use Rattle.shared_map.specs.Telling.{contained_in, counted_in, listed_in, number_in};
+
+use crate::asks::Told;
+use ctrie_map::MapError;
+use ctrie_map::telling::found;
+use history::Reply;
+
+/// Whether there is a value.
+pub(crate) fn contained(told: Told) -> Result<bool, MapError>
+    ensures { result ≡ contained_in told }
+{
+    match found(told) {
+        Ok(value) => Ok(value.is_some()),
+        Err(error) => Err(error),
+    }
+}
+
+/// Pairs.
+pub(crate) fn listed(told: Told) -> Result<Vec<(u64, u64)>, MapError>
+    ensures listed { IfOk result (λ pairs. listed_in told ≡ Ok pairs.items) }
+    ensures refused { IfErr result (λ error. listed_in told ≡ Err error) }
+{
+    match told? {
+        Reply::Pairs(pairs) => Ok(pairs.into_vec()),
+        _ => Err(MapError::Memory),
+    }
+}
+
+/// How many there are.
+pub(crate) fn counted(told: Told) -> Result<u64, MapError>
+    ensures { result ≡ counted_in told }
+{
+    match told? {
+        Reply::Count(number) => Ok(number),
+        _ => Err(MapError::Memory),
+    }
+}
+
+/// The same of what is never refused.
+pub(crate) fn number(told: Told) -> u64
+    ensures { result ≡ number_in told }
+{
+    match told {
+        Ok(Reply::Count(number)) => number,
+        _ => 0,
+    }
+}

@@ -1,0 +1,104 @@
+//! Each call of a seat, with what a finite map answers.
+
+ghost use Rattle.shared_map.specs.Seats.{IsSeatOf};
+
+use shared_map::{Handle, HashKind, MapCalls, MapError, MapSeat, SharedMap};
+use std::alloc::AllocGlobal;
+use std::process::Abort;
+use std::sync::Wait;
+use std::test::Fail;
+
+/// What changes of one key answer.
+fn change<R: Wait>(rt: &R, map: &SharedMap, seat: &mut MapSeat) -> Result<bool, MapError>
+    requires { IsSeatOf map.now seat.old }
+    ensures { IsSeatOf map.now seat.new }
+{
+    let all = Handle::first();
+    let put = seat.put(rt, map, all, 5, 50)?;
+    let put_if_absent = seat.put_if_absent(rt, map, all, 5, 51)?;
+    let replaced = seat.replace(rt, map, all, 5, 52)?;
+    let replaced_if = seat.replace_if(rt, map, all, 5, 52, 53)?;
+    let removed_if = seat.remove_if(rt, map, all, 5, 52)?;
+    let removed = seat.remove(rt, map, all, 5)?;
+    Ok(
+        (put, put_if_absent, replaced) == (None, Some(50), Some(50))
+            && (replaced_if, removed_if, removed) == (true, false, Some(53)),
+    )
+}
+
+/// What is left behind a clear.
+fn clear<R: Wait>(rt: &R, map: &SharedMap, seat: &mut MapSeat) -> Result<(u64, u64, bool), MapError>
+    requires { IsSeatOf map.now seat.old }
+    ensures { IsSeatOf map.now seat.new }
+{
+    let all = Handle::first();
+    seat.put(rt, map, all, 6, 60)?;
+    seat.clear(rt, map, all)?;
+    let count = seat.count(rt, map, all)?;
+    let free = seat.free(rt, map);
+    Ok((count, free, seat.has_room(rt, map)))
+}
+
+/// Opens a read-only and a writable copy of two keys, and changes the writable one and the map itself then.
+fn copy<R: Wait>(rt: &R, map: &SharedMap, seat: &mut MapSeat) -> Result<(Handle, Handle), MapError>
+    requires { IsSeatOf map.now seat.old }
+    ensures { IsSeatOf map.now seat.new }
+{
+    let all = Handle::first();
+    seat.put(rt, map, all, 6, 60)?;
+    seat.put(rt, map, all, 5, 50)?;
+    let frozen = seat.freeze(rt, map, all)?;
+    let copy = seat.snapshot(rt, map, all)?;
+    seat.put(rt, map, copy, 7, 70)?;
+    seat.remove(rt, map, all, 5)?;
+    Ok((frozen, copy))
+}
+
+/// Whether the three maps are read as they were changed.
+fn read<R: Wait>(
+    rt: &R,
+    map: &SharedMap,
+    seat: &mut MapSeat,
+    frozen: Handle,
+    copy: Handle,
+) -> Result<bool, MapError>
+    requires { IsSeatOf map.now seat.old }
+    ensures { IsSeatOf map.now seat.new }
+{
+    let entries = seat.entries(rt, map, frozen)?;
+    let are_listed = entries.as_slice() == [(5, 50), (6, 60)].as_slice();
+    let count = seat.count(rt, map, copy)?;
+    let gone = seat.get(rt, map, Handle::first(), 5)?;
+    let is_kept = seat.contains(rt, map, frozen, 5)?;
+    Ok(are_listed && is_kept && count == 3 && gone.is_none())
+}
+
+#[test]
+fn changes(rt: HostRuntime) -> Result<(), Fail> {
+    let (map, mut seats) = SharedMap::new(rt.alloc(), 64, HashKind::Fold, 1)?;
+    let Some(mut seat) = seats.pop() else {
+        panic!(rt; "there is one")
+    };
+    assert_eq!(rt; map.slots(), 64);
+    assert_eq!(rt; change(&rt, &map, &mut seat), Ok(true));
+    assert_eq!(rt; clear(&rt, &map, &mut seat), Ok((0, 62, false)));
+    Ok(())
+}
+
+#[test]
+fn reads_and_copies(rt: HostRuntime) -> Result<(), Fail> {
+    let (map, mut seats) = SharedMap::new(rt.alloc(), 4_096, HashKind::Fold, 1)?;
+    let Some(mut seat) = seats.pop() else {
+        panic!(rt; "there is one")
+    };
+    let Ok((frozen, copy)) = copy(&rt, &map, &mut seat) else {
+        panic!(rt; "there is room")
+    };
+    assert_eq!(rt; (frozen.number(), copy.number()), (1, 2));
+    assert_eq!(rt; read(&rt, &map, &mut seat, frozen, copy), Ok(true));
+    assert_eq!(rt; seat.handles(&rt, &map), 3);
+    assert_eq!(rt; seat.close(&rt, &map, frozen), Ok(()));
+    assert_eq!(rt; seat.get(&rt, &map, frozen, 5), Err(MapError::NoHandle));
+    assert!(rt; seat.has_room(&rt, &map));
+    Ok(())
+}

@@ -1,0 +1,59 @@
+//! The end of a shared map.
+
+ghost use Rattle.std.specs.Prelude.{◌≡◌};
+ghost use Rattle.shared_map.specs.Seats.{AreSeatsOf};
+
+use shared_map::{Handle, HashKind, Map, MapCalls, MapError, MapSeat, Name, SharedMap};
+use std::alloc::AllocGlobal;
+use std::marker::Brand;
+use std::process::Abort;
+use std::sync::Wait;
+use std::test::Fail;
+
+/// Without one of its seats a shared map gives all back, and with it the map.
+fn finish_without_one<N: Name, R: Wait + AllocGlobal + Abort>(
+    rt: &R,
+    map: SharedMap,
+    seats: Vec<MapSeat>,
+) -> Result<(), Fail>
+    requires name { map.id ≡ N.gate }
+    requires seats { AreSeatsOf map seats.items }
+{
+    let Ok((map, mut seats)) = map.named::<N>(rt.alloc(), seats) else {
+        panic!(rt; "there is memory")
+    };
+    let Some(mut last) = seats.pop() else {
+        panic!(rt; "there are two")
+    };
+    assert_eq!(rt; last.put(rt, &map, Handle::first(), 5, 51), Ok(Some(50)));
+    let Err((map, mut seats)) = map.finish(seats) else {
+        panic!(rt; "the second seat isn't there")
+    };
+    assert_eq!(rt; seats.len(), 1);
+    seats.push(last)?;
+    let Ok(plain) = map.finish(seats) else {
+        panic!(rt; "all seats are there")
+    };
+    assert_eq!(rt; plain.get(Handle::first(), 5), Ok(Some(51)));
+    Ok(())
+}
+
+#[test]
+fn each_seat_has_to_be_there(rt: HostRuntime) -> Result<(), Fail> {
+    let mut plain = Map::new(rt.alloc(), 64, HashKind::Fold)?;
+    plain.put(Handle::first(), 5, 50)?;
+    let Ok((map, seats)) = SharedMap::of(rt.alloc(), plain, 2) else {
+        panic!(rt; "there is memory")
+    };
+    finish_without_one::<Brand, HostRuntime>(&rt, map, seats)
+}
+
+/// A shared map is refused as a map is.
+#[test]
+fn sizes_are_those_of_a_map(rt: HostRuntime) -> Result<(), Fail> {
+    assert_eq!(rt;
+        SharedMap::new(rt.alloc(), 1, HashKind::Fold, 2).err(),
+        Some(MapError::BadSizes)
+    );
+    Ok(())
+}

@@ -1,0 +1,13 @@
+//! Tests of the map that threads share: what no clause of it says.
+#![tactic(auto)]
+
+#[cfg(test)]
+mod calls;
+#[cfg(test)]
+mod endings;
+#[cfg(test)]
+mod numbers;
+#[cfg(test)]
+mod pools;
+#[cfg(test)]
+mod threads;
