@@ -9,7 +9,7 @@ use Rattle.history.specs.declared.calls.Call.{Call}
 use Rattle.slot_arena.specs.declared.nodes.Node.TheVariants.{Branch}
 use Rattle.slot_arena.specs.declared.refs.Ref.{Ref}
 use Rattle.slot_arena.specs.Arenas.{AreLive, IsLive, is_indirection}
-use Rattle.slot_arena.specs.Heaps.{entries_of, main_at, node_at, no_ref, refs_of_node}
+use Rattle.slot_arena.specs.Heaps.{entries_of, entry_at, main_at, node_at, no_ref, refs_of_node}
 use Rattle.machine_model.specs.declared.roots.RootWord.TheVariants.{Plain}
 use Rattle.machine_model.specs.Calls.{handle_of}
 use Rattle.machine_model.specs.Machine.{begin_denial, is_busy}
@@ -26,7 +26,7 @@ use Rattle.machine_core.specs.Beneath.proof_memory.proofs.Safety.Guards.{Safe}
 use Rattle.machine_core.specs.Beneath.proof_memory.proofs.Safety.States.{IsSafe, heaped, open_word}
 use Rattle.proof_straight.specs.Places.{Leads, below, entry_for, to_root}
 use Rattle.proof_straight.specs.Resting.{IsOfRun}
-use Rattle.proof_straight.specs.Running.{HasEmptySlots, IsReady, IsUpToDate}
+use Rattle.proof_straight.specs.Running.{HasEmptySlots, IsAtRest, IsReady, IsUpToDate}
 use Rattle.proof_straight.proofs.Runs.Resting.{free_slots_empty, limbo_up_to_date}
 use Rattle.machine_core.specs.Drafting.{CanSwap}
 use Rattle.machine_core.proofs.Bounded.{bounded}
@@ -35,22 +35,22 @@ use Rattle.machine_core.proofs.Held.{sizes}
 safe_state : (state : State) → IsOfRun state → IsSafe state
 safe_state state h = subst IsSafe (sym h.is) (safe_along state.limits h.limits h.steps)
 
-empty_slots : (state : State) → IsOfRun state → HasEmptySlots state.heap
+pub empty_slots : (state : State) → IsOfRun state → HasEmptySlots state.heap
 empty_slots state h = subst (λ (s : State). HasEmptySlots s.heap) (sym h.is) (free_slots_empty state.limits h.steps h.limits)
+
+-- a state in which nothing runs is at rest
+pub rests_at : (state : State) → IsOfRun state → is_busy state ≡ false → IsAtRest state
+rests_at state h rest = record {
+  rest = rest;
+  actors = (sizes state h).1;
+  calm = subst IsUpToDate (sym h.is) (limbo_up_to_date state.limits h.steps h.limits);
+  free = empty_slots state h;
+}
 
 -- a call that may begin is ready to go on alone
 pub ready_at : (state : State) (actor : ℕ) (call : Call) (root : Ref) → IsOfRun state → is_busy state ≡ false → begin_denial state actor call ≡ None →
     word_at state (handle_of call) ≡ Plain root → IsReady state actor call root
-ready_at state actor call root h rest allowed word = record {
-  rests = record {
-    rest = rest;
-    actors = (sizes state h).1;
-    calm = subst IsUpToDate (sym h.is) (limbo_up_to_date state.limits h.steps h.limits);
-    free = empty_slots state h;
-  };
-  allowed = allowed;
-  word = word;
-}
+ready_at state actor call root h rest allowed word = record { rests = rests_at state h rest; allowed = allowed; word = word }
 
 -- ---- what is on the way is in use
 
@@ -84,6 +84,27 @@ module _ (state : State) (h : IsOfRun state) where
       main_entries S state.heap nodes_safe main (position_of (flag_of hash d) bitmap) no_ref
       (subst (λ n. position_of (flag_of hash d) bitmap < length (entries_of n)) (sym entry.branch) within) in
       is met.0 (ap is_indirection over)
+
+  -- the root and its main node are in use
+  pub root_lives : (actor : ℕ) (call : Call) (root main : Ref) → begin_denial state actor call ≡ None → word_at state (handle_of call) ≡ Plain root → main ≡ main_at state.heap root →
+      IsLive state.heap root × IsLive state.heap main
+  root_lives actor call root main allowed word there =
+      let own = root_holds actor call root allowed word in
+      let over : Holds S state.heap (Is main AMain) = subst (λ r. Holds S state.heap (Is r AMain)) (sym there) (main_read S state.heap nodes_safe own) in
+      (in_use_lives state.heap root (safe_of own).used, in_use_lives state.heap main (safe_of over).used)
+
+  -- so is the entry of a flag that the branch has
+  pub entry_lives : (access : Access) (hash : ℕ) (root : Ref) (depth : ℕ) (indirection : Ref) (bitmap : ℕ) (entries : ArrayVec Ref) (actor : ℕ) (call : Call) →
+      begin_denial state actor call ≡ None → word_at state (handle_of call) ≡ Plain root → Leads state.heap access hash root depth indirection →
+      node_at state.heap (main_at state.heap indirection) ≡ Branch bitmap entries → has_flag bitmap (flag_of hash depth) ≡ true →
+      IsLive state.heap (entry_at state.heap (main_at state.heap indirection) (position_of (flag_of hash depth) bitmap))
+  entry_lives access hash root depth indirection bitmap entries actor call allowed word leads branch flagged =
+      let main = main_read S state.heap nodes_safe (leads_holds access hash root depth indirection (root_holds actor call root allowed word) leads) in
+      let within = placed bitmap (index_at hash (5 * depth)) entries (branch_formed (main_at state.heap indirection) bitmap entries (safe_of main) branch) flagged in
+      let met : Meets S state.heap AnEntry (entry_at state.heap (main_at state.heap indirection) (position_of (flag_of hash depth) bitmap)) =
+      main_entries S state.heap nodes_safe main (position_of (flag_of hash depth) bitmap) no_ref
+      (subst (λ n. position_of (flag_of hash depth) bitmap < length (entries_of n)) (sym branch) within) in
+      in_use_lives state.heap _ met.0.used
 
   -- an indirection to which a hash leads can get another main node over its branch
   pub can_swap_there : (access : Access) (hash : ℕ) (root : Ref) (depth : ℕ) (indirection main : Ref) (bitmap : ℕ) (entries : ArrayVec Ref) (nodes actor : ℕ) (call : Call) →

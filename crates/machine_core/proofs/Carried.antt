@@ -1,5 +1,5 @@
 -- A call that is carried out at once comes to what its steps come to.
-use Rattle.std.proofs.Common.{arith, ◌≡◌, ℕ, ◌+◌, ◌*◌, ◌<◌, ◌≤◌, ◌^◌, false, Option, List, [], Some, None, refl, sym, ap, ◌∙◌, subst}
+use Rattle.std.proofs.Common.{arith, ◌≡◌, ℕ, ◌+◌, ◌*◌, ◌<◌, ◌≤◌, ◌^◌, false, true, Option, List, [], Some, None, refl, sym, ap, ◌∙◌, subst}
 use Rattle.history.specs.declared.calls.Call.{Call}
 use Rattle.history.specs.declared.replies.Reply.{Reply}
 use Rattle.slot_arena.specs.declared.refs.Ref.{Ref}
@@ -10,19 +10,20 @@ use Rattle.slot_arena.specs.Times.{times}
 use Rattle.slot_arena.proofs.Times.{times-append}
 use Rattle.epochs.specs.Memories.{Memory}
 use Rattle.machine_model.specs.declared.steps.Step.TheVariants as step
-use Rattle.machine_model.specs.Calls.{changed_reply, key_of, when_found}
+use Rattle.machine_model.specs.Calls.{changed_reply, inserts, key_of, when_found}
 use Rattle.machine_model.specs.declared.finding.WhenFound.TheVariants.{Removes}
 use Rattle.machine_model.specs.Counting.{outside}
 use Rattle.machine_model.specs.Keys.{FitsKey}
 use Rattle.machine_model.specs.Machine.{begin_denial, is_busy}
 use Rattle.machine_model.specs.Records.{first_record}
 use Rattle.machine_model.specs.States.{State, key_hash}
-use Rattle.proof_straight.specs.Changes.{with_change, with_single}
+use Rattle.proof_straight.specs.Changes.{parts_at, with_change, with_pair, with_single}
 use Rattle.proof_straight.specs.Drafts.{Draft, after_call, first_draft, held_with}
 use Rattle.proof_straight.specs.Places.{Finds, HasRoom, Leaves, Misses, beside_other, in_branch, no_entry, steps_down}
 use Rattle.proof_straight.specs.Resting.{IsOfRun}
 use Rattle.proof_straight.specs.Running.{Comes, GoesOn, IsKeyed, starts, walks}
 use Rattle.proof_straight.proofs.Change.Changes.{inserts_straight, removes_straight, sets_straight}
+use Rattle.proof_straight.proofs.Change.Parting.{parts_straight}
 use Rattle.proof_straight.proofs.Way.Unchanged.{answers_straight, misses_straight}
 use Rattle.proof_straight.proofs.Change.Recording.{first_is_record}
 use Rattle.proof_straight.proofs.Runs.ByRuns.{comes_without_record}
@@ -37,9 +38,10 @@ use Rattle.machine_core.specs.Changing.{IsAnswer, IsPut, IsRemoval, looks_at, pu
 use Rattle.machine_core.specs.Descending.{EndsAt, IsHere}
 use Rattle.machine_core.specs.Drafting.{CanSwap, IsDraft, KeepsRecords}
 use Rattle.machine_core.specs.Keeping.{IsCore, IsKept}
+use Rattle.machine_core.specs.Pairing.{IsPaired}
 use Rattle.machine_core.specs.Seen.{seen}
 use Rattle.machine_core.specs.Straight.{CarriesBy, CarriesOut, IsClear}
-use Rattle.machine_core.proofs.AtRest.{can_swap_there, ready_at}
+use Rattle.machine_core.proofs.AtRest.{can_swap_there, entry_lives, ready_at}
 use Rattle.machine_core.proofs.Bounded.{taken_run}
 use Rattle.machine_core.proofs.Ends.{alike}
 use Rattle.machine_core.proofs.Kept.{kept_alike}
@@ -180,6 +182,28 @@ module _ (state : State) (actor : ℕ) (call : Call) (root : Ref) (run : IsOfRun
       (beside_other (ends.leads _) (record { decided = here.decided; branch = here.branch; flagged = here.stands.0 })
       (ap (λ position. node_at state.heap (entry_at state.heap (main_at state.heap place.indirection) position)) (sym here.at) ∙ single) apart)
 
+  -- which is in use
+  pub other_lives : (place : Place) → EndsOf place → place.entry ≡ Other → IsLive state.heap (entry_at state.heap place.main place.position)
+  other_lives place ends other =
+      let here = subst (IsHere state.heap (main_at state.heap place.indirection) (flag_of (key_hash state (key_of call)) place.depth) (key_of call) place.position) other (here_at place ends) in
+      subst (λ main. IsLive state.heap (entry_at state.heap main place.position)) (sym ends.main)
+      (subst (λ position. IsLive state.heap (entry_at state.heap (main_at state.heap place.indirection) position)) (sym here.at)
+      (entry_lives state run Writable (key_hash state (key_of call)) root place.depth place.indirection here.bitmap here.entries actor call allowed clear.word (ends.leads Writable) here.branch
+      here.stands.0))
+
+  -- the call puts it beside that one
+  pub parts_beside : (place : Place) (levels : ℕ) → EndsOf place → place.entry ≡ Other → inserts call ≡ true →
+      parts_at state call place.depth place.indirection place.position ≡ place.depth + 1 + levels → levels ≤ 12 →
+      Comes state actor call (steps_down place.depth 1 + 2 * levels + 9) (changed_reply call None)
+      (after_call state (with_change state call place.depth place.indirection (with_pair state call root place.depth place.indirection place.position levels)
+      (change.Update place.position (with_pair state call root place.depth place.indirection place.position levels).newest)) (steps_down place.depth 1 + 2 * levels + 9 + 2))
+  parts_beside place levels ends is puts parts few =
+      let can = can_swap_at place 28 ends (omega arith) in
+      comes_without_record state (first_record state.limits) actor call _ _ _ _
+      (parts_straight state (first_record state.limits) actor call root place.depth place.indirection place.position 1 levels (ready_at state actor call root run rest allowed clear.word)
+      (first_is_record state) keyed (misses_other place ends is) puts parts (subst (IsLive state.heap) ends.main can.main_live) (omega (arith, can.free, few))
+      (omega (arith, clear.steps, ends.deep, few)))
+
   -- the call takes it out
   pub removes_at : (place : Place) (value more : ℕ) → EndsOf place → place.entry ≡ Own value → when_found call value ≡ Removes →
       Leaves state.heap place.depth place.indirection place.position more → more ≤ 1 →
@@ -229,6 +253,26 @@ put_done before after memory actor call root place key looks former reply core r
           (carried before after memory draft actor call (steps_down place.depth (looks_at place.entry) + 7) (4 * place.depth + looks + 13) (changed_reply call (value_in place.entry)) to counts
           steps comes),
       core_then before after memory draft actor call (steps_down place.depth (looks_at place.entry) + 7) (4 * place.depth + looks + 13) (changed_reply call (value_in place.entry)) core
+          (subst (λ k. k < 2 ^ 64) own fits) to counts steps comes,
+    )
+
+-- a call that put its key's single beside another is carried out
+pub part_done : (before after : Parts) (memory : Memory) (actor : ℕ) (call : Call) (root : Ref) (place : Place) (key levels : ℕ) (reply : Reply) → IsCore before →
+    is_busy (seen before) ≡ false → begin_denial (seen before) actor call ≡ None → IsClear (seen before) call root → IsKeyed call →
+    EndsAt (seen before).heap root (key_hash (seen before) (key_of call)) (key_of call) place → place.entry ≡ Other → inserts call ≡ true → key ≡ key_of call → key < 2 ^ 64 →
+    IsPaired (seen before) call root place.depth place.indirection place.position levels memory → KeepsRecords before.heap memory →
+    after ≡ counted before memory (4 * place.depth + 2 * levels + 16) → reply ≡ changed_reply call None → CarriesBy before actor call reply after
+part_done before after memory actor call root place key levels reply core rest allowed clear keyed ends other puts own fits paired records counts replies =
+    let state = seen before in
+    let draft =
+    with_change state call place.depth place.indirection (with_pair state call root place.depth place.indirection place.position levels)
+    (change.Update place.position (with_pair state call root place.depth place.indirection place.position levels).newest) in
+    let to : ComesAsFar before memory draft = record { draft_is = paired.draft; private = refl; records = records } in
+    let comes = parts_beside state actor call root core.run rest allowed clear keyed place levels ends other puts paired.parts paired.few in
+    let steps : 4 * place.depth + 2 * levels + 16 ≡ steps_down place.depth 1 + 2 * levels + 9 + 2 = omega arith in (
+      subst (λ r. CarriesOut state actor call r (seen after)) (sym replies)
+          (carried before after memory draft actor call (steps_down place.depth 1 + 2 * levels + 9) (4 * place.depth + 2 * levels + 16) (changed_reply call None) to counts steps comes),
+      core_then before after memory draft actor call (steps_down place.depth 1 + 2 * levels + 9) (4 * place.depth + 2 * levels + 16) (changed_reply call None) core
           (subst (λ k. k < 2 ^ 64) own fits) to counts steps comes,
     )
 

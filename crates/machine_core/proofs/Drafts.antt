@@ -23,18 +23,26 @@ use Rattle.proof_straight.specs.Running.{HasEmptySlots}
 use Rattle.proof_straight.proofs.Change.Slots.{Takes, fresh_published, made_slot, node_again, same_stored, stored_node, takes}
 use Rattle.machine_core.specs.Drafting.{CanSwap, IsDraft}
 
--- the next draft, behind a change of the heap that was settled
+-- the next draft, behind a change of the heap and of root words that was settled
+pub settled_over : (state now : State) (draft : Draft) (memory middle after : Memory) (heap : Heap) (private : List Ref) (newest : Ref) → now.epoch ≡ state.epoch → IsDraft state draft memory →
+    middle.heap ≡ heap → middle.limbo ≡ memory.limbo → middle.epoch ≡ memory.epoch → Settles middle after → ((r : Ref) → times r middle.outside ≡ times r (held_with now private)) →
+    IsDraft now (redrafted now draft heap private newest) after
+settled_over state now draft memory middle after heap private newest same is changed limbo epoch done counts =
+    let now_then : middle.epoch ≡ now.epoch = epoch ∙ is.epoch ∙ sym same in
+    record {
+      heap = done.heap ∙ changed;
+      limbo = done.limbo ∙ ap (λ h. limbo_after h middle.outside middle.epoch middle.limbo) changed ∙ ap (λ l. limbo_after heap middle.outside middle.epoch l) (limbo ∙ is.limbo)
+          ∙ ap (λ e. limbo_after heap middle.outside e draft.limbo) now_then ∙ counts_alone heap middle.outside (held_with now private) now.epoch draft.limbo counts;
+      held = λ r. ap (times r) done.outside ∙ counts r;
+      epoch = done.epochs.0 ∙ now_then;
+      settled = done.settled;
+    }
+
+-- the same, where root words stay
 pub settled_draft : (state : State) (draft : Draft) (memory middle after : Memory) (heap : Heap) (private : List Ref) (newest : Ref) → IsDraft state draft memory →
     middle.heap ≡ heap → middle.limbo ≡ memory.limbo → middle.epoch ≡ memory.epoch → Settles middle after → ((r : Ref) → times r middle.outside ≡ times r (held_with state private)) →
     IsDraft state (redrafted state draft heap private newest) after
-settled_draft state draft memory middle after heap private newest is changed limbo epoch done counts = record {
-  heap = done.heap ∙ changed;
-  limbo = done.limbo ∙ ap (λ h. limbo_after h middle.outside middle.epoch middle.limbo) changed ∙ ap (λ l. limbo_after heap middle.outside middle.epoch l) (limbo ∙ is.limbo)
-      ∙ ap (λ e. limbo_after heap middle.outside e draft.limbo) (epoch ∙ is.epoch) ∙ counts_alone heap middle.outside (held_with state private) state.epoch draft.limbo counts;
-  held = λ r. ap (times r) done.outside ∙ counts r;
-  epoch = done.epochs.0 ∙ epoch ∙ is.epoch;
-  settled = done.settled;
-}
+settled_draft state draft memory middle after heap private newest is = settled_over state state draft memory middle after heap private newest refl is
 
 -- one more is held
 pub one_held : (state : State) (private before : List Ref) (made : Ref) → ((r : Ref) → times r before ≡ times r (held_with state private)) →
@@ -132,29 +140,45 @@ module _ (heap : Heap) (indirection main fresh : Ref) (live : IsLive heap indire
 
 -- ---- a node that is made
 
-module _ (heap after : Heap) (node : Node) (indirection main : Ref) (nodes : ℕ) (can : CanSwap heap indirection main (nodes + 1)) (is : after ≡ taken heap node)
-    (stay : (q : Ref) → IsLive heap q → IsLive after q) where
-  takes_then : Takes heap node
-  takes_then = takes heap node can.empty (omega (arith, can.free))
+module _ (heap after : Heap) (node : Node) (empty : HasEmptySlots heap) (free : 1 ≤ length heap.free) (is : after ≡ taken heap node) where
+  pub takes_one : Takes heap node
+  takes_one = takes heap node empty free
 
   -- what was live stands as before
-  pub node_then : (r : Ref) → IsLive heap r → node_at after r ≡ node_at heap r
-  node_then r live =
+  pub node_still : (r : Ref) → IsLive heap r → node_at after r ≡ node_at heap r
+  node_still r live =
       let (slot, there) = live_stands heap r live in
-      ap (λ h. node_at h r) is ∙ node_again heap (taken heap node) r slot there (takes_then.others r slot there)
+      ap (λ h. node_at h r) is ∙ node_again heap (taken heap node) r slot there (takes_one.others r slot there)
 
   -- and what was made under its reference
-  pub made_then : (r : Ref) → r ≡ next_made heap → node_at after r ≡ node
-  made_then r made =
-      ap (λ h. node_at h r) is ∙ ap (node_at (taken heap node)) made ∙ stored_node (taken heap node) (next_made heap) (made_slot heap node) takes_then.here
+  pub node_made : (r : Ref) → r ≡ next_made heap → node_at after r ≡ node
+  node_made r made =
+      ap (λ h. node_at h r) is ∙ ap (node_at (taken heap node)) made ∙ stored_node (taken heap node) (next_made heap) (made_slot heap node) takes_one.here
 
-  pub births_then : after.births ≡ heap.births + 1
+  pub births_more : after.births ≡ heap.births + 1
   unfolding taken
-  births_then = ap (λ (h : Heap). h.births) is ∙ by heap.free (omega (arith, can.free))
+  births_more = ap (λ (h : Heap). h.births) is ∙ by heap.free free
     where
       by : (free : List ℕ) → 1 ≤ length free → (take_from heap node free).births ≡ heap.births + 1
       by [] enough = absurd (omega (arith, enough))
       by (slot ∷ free) enough = refl
+
+module _ (heap after : Heap) (node : Node) (indirection main : Ref) (nodes : ℕ) (can : CanSwap heap indirection main (nodes + 1)) (is : after ≡ taken heap node)
+    (stay : (q : Ref) → IsLive heap q → IsLive after q) where
+  enough : 1 ≤ length heap.free
+  enough = omega (arith, can.free)
+
+  takes_then : Takes heap node
+  takes_then = takes_one heap after node can.empty enough is
+
+  pub node_then : (r : Ref) → IsLive heap r → node_at after r ≡ node_at heap r
+  node_then r live = node_still heap after node can.empty enough is r live
+
+  pub made_then : (r : Ref) → r ≡ next_made heap → node_at after r ≡ node
+  made_then r made = node_made heap after node can.empty enough is r made
+
+  births_then : after.births ≡ heap.births + 1
+  births_then = births_more heap after node can.empty enough is
 
   pub can_then : CanSwap after indirection main nodes
   can_then = record {

@@ -30,24 +30,25 @@ use Rattle.machine_core.proofs.Numbering.{any_at, count_put, or_swap}
 
 -- ---- numbers
 
-given_running : (numbers : Numbers) (left : Option ℕ) → (given_back numbers left).running ≡ numbers.running
+pub given_running : (numbers : Numbers) (left : Option ℕ) → (given_back numbers left).running ≡ numbers.running
 given_running numbers None = refl
 given_running numbers (Some n) = refl
 
-reserved_running : (numbers : Numbers) (opens : Option ℕ) → (reserved numbers opens).running ≡ numbers.running
+pub reserved_running : (numbers : Numbers) (opens : Option ℕ) → (reserved numbers opens).running ≡ numbers.running
 reserved_running numbers None = refl
 reserved_running numbers (Some n) = refl
 
-given_many : (numbers : Numbers) (left : Option ℕ) → length (given_back numbers left).taken ≡ length numbers.taken
+pub given_many : (numbers : Numbers) (left : Option ℕ) → length (given_back numbers left).taken ≡ length numbers.taken
 given_many numbers None = refl
 given_many numbers (Some n) = length-set numbers.taken n false
 
-reserved_many : (numbers : Numbers) (opens : Option ℕ) → length (reserved numbers opens).taken ≡ length numbers.taken
+pub reserved_many : (numbers : Numbers) (opens : Option ℕ) → length (reserved numbers opens).taken ≡ length numbers.taken
 reserved_many numbers None = refl
 reserved_many numbers (Some n) = length-set numbers.taken n true
 
 -- what is reserved is taken, and what is given back isn't
-reserved_is : (numbers : Numbers) (opens : Option ℕ) (handle : ℕ) → handle < length numbers.taken → is_taken_in (reserved numbers opens) handle ≡ (is_number handle opens || is_taken_in numbers handle)
+pub reserved_is : (numbers : Numbers) (opens : Option ℕ) (handle : ℕ) → handle < length numbers.taken →
+    is_taken_in (reserved numbers opens) handle ≡ (is_number handle opens || is_taken_in numbers handle)
 reserved_is numbers None handle within = refl
 reserved_is numbers (Some n) handle within = elim (cases_eq handle n) [
   | inl same ↦
@@ -57,10 +58,10 @@ reserved_is numbers (Some n) handle within = elim (cases_eq handle n) [
       get_or-set_other numbers.taken n handle true false other ∙ sym (ap (λ b. b || get_or numbers.taken handle false) (ne_eqb n handle (λ e. other (sym e))))
 ]
 
-given_other : (numbers : Numbers) (n handle : ℕ) → handle ≢ n → is_taken_in (given_back numbers (Some n)) handle ≡ is_taken_in numbers handle
+pub given_other : (numbers : Numbers) (n handle : ℕ) → handle ≢ n → is_taken_in (given_back numbers (Some n)) handle ≡ is_taken_in numbers handle
 given_other numbers n handle other = get_or-set_other numbers.taken n handle false false other
 
-given_own : (numbers : Numbers) (n : ℕ) → n < length numbers.taken → is_taken_in (given_back numbers (Some n)) n ≡ false
+pub given_own : (numbers : Numbers) (n : ℕ) → n < length numbers.taken → is_taken_in (given_back numbers (Some n)) n ≡ false
 given_own numbers n within = get_or-set_same numbers.taken n false false within
 
 -- how many run on each handle, once one more does on this one, or one less

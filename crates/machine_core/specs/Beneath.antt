@@ -12,3 +12,4 @@ pub use Rattle.proof_records.specs.Beneath.proof_generations as proof_generation
 pub use Rattle.proof_records.specs.Beneath.proof_order as proof_order
 pub use Rattle.proof_records as proof_records
 pub use Rattle.running.specs.Beneath.trie_parts as trie_parts
+pub use Rattle.proof_records.specs.Beneath.proof_shape as proof_shape

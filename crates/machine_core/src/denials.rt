@@ -18,7 +18,7 @@ use history::{Access, Call};
 use machine_model::Step;
 
 /// Whether the machine has taken all its steps.
-fn is_spent(parts: &Parts) -> bool
+pub fn is_spent(parts: &Parts) -> bool
     ensures { result ≡ is_spent (seen parts.now) }
 {
     parts.limits.steps <= parts.steps

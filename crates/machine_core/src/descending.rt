@@ -113,7 +113,7 @@ fn look_in(heap: &Heap, main: Ref, flag: u32, key: u64, generation: u64) -> Onwa
 }
 
 /// Whether the main node is decided.
-fn is_decided(heap: &Heap, main: Ref) -> bool
+pub fn is_decided(heap: &Heap, main: Ref) -> bool
     ensures { IsTrue result ↔ (prev_at heap.now.heap main ≡ Prev.None) }
 {
     matches!(heap.stored_prev(main), Prev::None)

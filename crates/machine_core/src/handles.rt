@@ -5,7 +5,7 @@ ghost use Rattle.handle_table.specs.Numbers.{running_on};
 ghost use Rattle.machine_model.specs.Calls.{handle_of};
 ghost use Rattle.machine_model.specs.Machine.{reserved_by, handles_taken, least_free, runs_on};
 ghost use Rattle.running.specs.declared.programs.Programs.{Programs};
-ghost use Rattle.machine_core.specs.Numbering.{KnowsNumbers, begun_on, ended_on};
+ghost use Rattle.machine_core.specs.Numbering.{KnowsNumbers, begun_on, ended_on, reserved};
 ghost use Rattle.machine_core.specs.Seen.{operation_at, seen};
 
 use crate::calls::is_close;
@@ -58,6 +58,13 @@ pub fn note_begin(handles: &mut Handles, call: Call, opens: Option<u16>)
     if is_close(call) {
         handles.give_back(call.handle());
     }
+    reserve(handles, opens);
+}
+
+/// The number, if there is one, is taken.
+pub fn reserve(handles: &mut Handles, opens: Option<u16>)
+    ensures { handles.new ≡ reserved handles.old opens }
+{
     if let Some(reserved) = opens {
         handles.take(reserved);
     }

@@ -10,25 +10,39 @@
 //! | `telling` | what steps tell | `Tellings` |
 //! | `stepping`, `denials`, `settling` | denials first, then the step, then limbo | `Machine`, `Counting` |
 //! | `rooming` | memory for what a walk meets | none: the definition knows no memory |
+//! | `counting`, `picking`, `listing`, `comparing`, `differing` | what is told of maps without a list of all; `selection`, `selecting`, `entries` help | `Contents` |
 //! | `straight`, `descending`, `changing`, `drafting` | calls that run alone, at once: all of one, the way down to its key, the change there, the heap | what its steps come to (`proof_straight`) |
+//! | `copying`, `rooting` | the same of snapshots, freezes, clears and closes: all of one, the root words | the same |
 #![tactic(auto)]
 
 mod actors;
 mod beginning;
 mod calls;
 mod changing;
+mod comparing;
 mod contents;
+mod copying;
+mod counting;
 mod denials;
 mod descending;
+mod differing;
 mod drafting;
 mod ending;
+mod entries;
 mod finding;
 mod going;
 mod handles;
+mod listing;
 mod machine;
 mod mains;
+mod pairing;
 mod parts;
+mod picking;
+mod reading;
 mod rooming;
+mod rooting;
+mod selecting;
+mod selection;
 mod settling;
 mod starting;
 mod stepping;
@@ -37,6 +51,7 @@ mod sweeping;
 mod telling;
 
 pub use calls::key_fits;
+pub use differing::Difference;
 pub use machine::Core;
 pub use proof_records::{one_place_a_step, tellings_fit};
 pub use telling::{Begun, Ended, Stepped};

@@ -1,16 +1,17 @@
 //! The core as one value.
 
-ghost use Rattle.std.specs.Prelude.{◌≡◌, false, true, length, option_map, None, Some, IsSome, IfNone, IfSome, IfOk, IfErr, IsOkUnless, OnErr, OnOk};
+ghost use Rattle.std.specs.Prelude.{◌≡◌, ℕ, [], false, true, length, option_map, None, Some, IsSome, IfNone, IfSome, IfOk, IfErr, IsOkUnless, OnErr, OnOk};
 ghost use Rattle.slot_arena.specs.Heaps.{in_use};
 ghost use Rattle.machine_model.specs.declared.steps.Step.TheVariants as steps;
 ghost use Rattle.machine_model.specs.States.{first_state, root_at};
 ghost use Rattle.machine_model.specs.Contents.{content_at};
-ghost use Rattle.machine_model.specs.Machine.{next, is_running, is_busy, next_kind, runs_on, begin_denial, denial_of, is_access, access_of, handles_taken, AreBounds};
+ghost use Rattle.machine_model.specs.Machine.{next, is_running, is_busy, next_kind, runs_on, begin_denial, denial_of, is_access, is_spent, access_of, handles_taken, AreBounds};
 ghost use Rattle.machine_model.specs.Refusing.{RefusesContent};
 ghost use Rattle.machine_core.specs.Bounds.{Answers, Applies, RefusesBounds};
 ghost use Rattle.proof_straight.specs.Resting.{IsOfRun};
 ghost use Rattle.machine_core.specs.Finding.{found_along};
 ghost use Rattle.machine_core.specs.Straight.{CarriesOut};
+ghost use Rattle.machine_core.specs.Sweeping.{Reclaims};
 ghost use Rattle.machine_core.specs.Told.{began, ended, reply_in, stepped, TellsBegin, TellsEnd, TellsStep};
 ghost use Rattle.machine_core.specs.Walking.{goes_on};
 ghost use Rattle.machine_core.specs.Work.{WorksLittle};
@@ -25,7 +26,7 @@ use crate::parts::Parts;
 use crate::starting::{are_bounds, first_parts};
 use crate::stepping::{take_begin, take_end, take_walk};
 use crate::straight::at_once;
-use crate::sweeping::sweep_once;
+use crate::sweeping::{reclaim, sweep_once};
 use crate::telling::{Begun, Ended, Stepped};
 use ctrie_base::{Kind, Refusal, Ticks};
 use history::{Access, Call, Pairs, Reply};
@@ -35,7 +36,7 @@ use std::marker::Model;
 
 /// The state of a machine. It is seen as the definition's state, one to which a run of steps leads, and the work done so far.
 pub struct Core {
-    parts: Parts,
+    pub(crate) parts: Parts,
 }
 
 // Written out, so that it is proved here, once, and not again in each program that drops a machine.
@@ -143,8 +144,16 @@ impl Core {
     {
         match sweep_denial(&self.parts) {
             Some(refusal) => Err(refusal),
-            None => Ok(sweep_once(&mut self.parts)),
+            None => Ok(Outcome::Swept(sweep_once(&mut self.parts))),
         }
+    }
+
+    /// Takes steps of the sweep as long as something stands in limbo, or until the machine is spent.
+    pub fn reclaim(&mut self)
+        ensures reclaims { (n : ℕ) × Reclaims self.old n self.new }
+        ensures clean { is_spent self.new.state ≡ false → self.new.state.limbo ≡ [] }
+    {
+        reclaim(&mut self.parts)
     }
 
     /// Why the step is denied, where it is.

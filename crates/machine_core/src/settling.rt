@@ -1,6 +1,7 @@
-//! What every step does at its end: limbo is brought up to date, and the step is counted.
+//! What every step does at its end: limbo is brought up to date, and the step is counted. A call that was carried out at once
+//! is counted as a whole.
 
-ghost use Rattle.std.specs.Prelude.{◌≡◌, ◌<◌, ◌^◌, ◌*◌, [], length};
+ghost use Rattle.std.specs.Prelude.{◌≡◌, ◌+◌, ◌<◌, ◌^◌, ◌*◌, [], length};
 ghost use Rattle.machine_model.specs.Counting.{settled};
 ghost use Rattle.machine_core.specs.Seen.{seen};
 ghost use Rattle.machine_core.specs.Keeping.{IsKept};
@@ -19,4 +20,14 @@ pub fn settle(parts: &mut Parts)
 {
     parts.heap.settle();
     parts.steps += 1;
+}
+
+/// Counts a call of so many steps.
+pub fn count_call(parts: &mut Parts, steps: u64)
+    requires begun { parts.old.begun < 2 ^ 63 }
+    requires steps { parts.old.steps + steps < 2 ^ 64 }
+    ensures { parts.new ≡ record parts.old { begun = parts.old.begun + 1; steps = parts.old.steps + steps } }
+{
+    parts.begun += 1;
+    parts.steps += steps;
 }

@@ -1,8 +1,8 @@
 //! Calls that run alone, carried out at once: where nothing stands in the way of one, what its steps come to is done without them.
 
-ghost use Rattle.std.specs.Prelude.{◌≡◌, ◌+◌, ◌<◌, ◌≤◌, ◌^◌, false, None, IfNone, IfSome};
+ghost use Rattle.std.specs.Prelude.{◌≡◌, ◌≤◌, false, true, None, IfNone, IfSome};
 ghost use Rattle.history.specs.declared.replies.Reply.{Reply as AReply};
-ghost use Rattle.machine_model.specs.Calls.{key_of};
+ghost use Rattle.machine_model.specs.Calls.{inserts, key_of};
 ghost use Rattle.machine_model.specs.Machine.{begin_denial, is_busy};
 ghost use Rattle.machine_model.specs.States.{key_hash};
 ghost use Rattle.proof_straight.specs.Places.{Leaves};
@@ -15,10 +15,14 @@ ghost use Rattle.machine_core.specs.Straight.{CarriesBy, CarriesOut, IsClear};
 
 use crate::calls::{changed_reply, is_keyed, key_fits, key_of, value_of};
 use crate::changing::{Deed, deed_of, more_looks, put_single, take_out};
+use crate::copying::{clear, close, decided_main, freeze, snapshot};
 use crate::descending::{Entry, Place, look_down};
+use crate::pairing::put_beside;
 use crate::parts::Parts;
+use crate::settling::count_call;
 use history::{Call, Reply};
 use machine_model::RootWord;
+use running::generation_at;
 use slot_arena::Ref;
 
 /// No call that is carried out at once takes more slots.
@@ -29,6 +33,24 @@ const MOST_STEPS: u64 = 4096;
 
 /// Carries the call out, where nothing stands in its way; none, and nothing has changed, where something does.
 pub fn at_once(parts: &mut Parts, actor: u8, call: Call) -> Option<Reply>
+    requires core { IsCore parts.old }
+    requires rest { is_busy (seen parts.old) ≡ false }
+    requires allowed { begin_denial (seen parts.old) actor call ≡ None }
+    ensures done { IfSome result (λ reply. CarriesOut (seen parts.old) actor call reply (seen parts.new)) }
+    ensures none { IfNone result (parts.new ≡ parts.old) }
+    ensures core { IsCore parts.new }
+{
+    match call {
+        Call::Freeze { .. } | Call::Snapshot { .. } | Call::Clear { .. } => {
+            copy_at_once(parts, actor, call)
+        }
+        Call::Close { handle } => close_at_once(parts, actor, handle),
+        _ => change_at_once(parts, actor, call),
+    }
+}
+
+/// The same of a call on one key.
+fn change_at_once(parts: &mut Parts, actor: u8, call: Call) -> Option<Reply>
     requires core { IsCore parts.old }
     requires rest { is_busy (seen parts.old) ≡ false }
     requires allowed { begin_denial (seen parts.old) actor call ≡ None }
@@ -52,8 +74,42 @@ pub fn at_once(parts: &mut Parts, actor: u8, call: Call) -> Option<Reply>
             let more = more_looks(&parts.heap, &place, key)?;
             Some(remove(parts, actor, call, root, place, more))
         }
-        Deed::Parts => None,
+        Deed::Parts => Some(part(parts, actor, call, root, place)),
     }
+}
+
+/// The same of a call that copies a map or empties it.
+fn copy_at_once(parts: &mut Parts, actor: u8, call: Call) -> Option<Reply>
+    requires core { IsCore parts.old }
+    requires rest { is_busy (seen parts.old) ≡ false }
+    requires allowed { begin_denial (seen parts.old) actor call ≡ None }
+    ensures done { IfSome result (λ reply. CarriesOut (seen parts.old) actor call reply (seen parts.new)) }
+    ensures none { IfNone result (parts.new ≡ parts.old) }
+    ensures core { IsCore parts.new }
+{
+    let root = clear_root(parts, call)?;
+    let main = decided_main(&parts.heap, root)?;
+    match call {
+        Call::Freeze { handle } => Some(freeze(parts, actor, handle, root, main)),
+        Call::Snapshot { handle } => Some(snapshot(parts, actor, handle, root, main)),
+        Call::Clear { handle } => Some(clear(parts, actor, handle, root, main)),
+        _ => None,
+    }
+}
+
+/// The same of a close.
+fn close_at_once(parts: &mut Parts, actor: u8, handle: u16) -> Option<Reply>
+    requires core { IsCore parts.old }
+    requires rest { is_busy (seen parts.old) ≡ false }
+    requires allowed { begin_denial (seen parts.old) actor (Call.Close handle) ≡ None }
+    ensures done { IfSome result (λ reply. CarriesOut (seen parts.old) actor (Call.Close handle) reply (seen parts.new)) }
+    ensures none { IfNone result (parts.new ≡ parts.old) }
+    ensures core { IsCore parts.new }
+{
+    if parts.limits.steps.saturating_sub(parts.steps) < 2 {
+        return None;
+    }
+    Some(close(parts, actor, handle))
 }
 
 /// The root of the call's handle, where no offer stands over it, and enough slots are free and steps left.
@@ -85,6 +141,34 @@ fn put(parts: &mut Parts, _actor: u8, call: Call, _root: Ref, place: Place) -> R
     put_single(&mut parts.heap, place, key_of(call), value_of(call));
     count_call(parts, 4 * depth as u64 + looks_at(entry) + 13);
     changed_reply(call, value_in(entry))
+}
+
+/// Puts it beside the single of another key.
+fn part(parts: &mut Parts, _actor: u8, call: Call, root: Ref, place: Place) -> Reply
+    requires core { IsCore parts.old }
+    requires rest { is_busy (seen parts.old) ≡ false }
+    requires allowed { begin_denial (seen parts.old) _actor call ≡ None }
+    requires clear { IsClear (seen parts.old) call root }
+    requires keyed { IsKeyed call }
+    requires ends { EndsAt parts.old.heap.heap root (key_hash (seen parts.old) (key_of call)) (key_of call) place }
+    requires other { place.entry ≡ Entry.Other }
+    requires puts { inserts call ≡ true }
+    ensures { CarriesBy parts.old _actor call result parts.new }
+{
+    let Place { depth, .. } = place;
+    let generation = generation_at(&parts.heap, root);
+    let hashes = parts.limits.hash;
+    let key = key_of(call);
+    let levels = put_beside(
+        &mut parts.heap,
+        hashes,
+        generation,
+        place,
+        key,
+        value_of(call),
+    );
+    count_call(parts, 4 * depth as u64 + 2 * levels + 16);
+    changed_reply(call, None)
 }
 
 /// Takes the key out; so many entries more are looked at to see that more than a single is left.
@@ -139,14 +223,4 @@ fn looks_at(entry: Entry) -> u64
         Entry::Vacant => 0,
         Entry::Own(_) | Entry::Other => 1,
     }
-}
-
-/// Counts a call of so many steps.
-fn count_call(parts: &mut Parts, steps: u64)
-    requires begun { parts.old.begun < 2 ^ 63 }
-    requires steps { parts.old.steps + steps < 2 ^ 64 }
-    ensures { parts.new ≡ record parts.old { begun = parts.old.begun + 1; steps = parts.old.steps + steps } }
-{
-    parts.begun += 1;
-    parts.steps += steps;
 }

@@ -1,25 +1,51 @@
-//! A step of the sweep: it frees a slot, or reads an actor's epoch, or lets the epoch grow.
+//! A step of the sweep: it frees a slot, or reads an actor's epoch, or lets the epoch grow. And all of them that free what
+//! stands in limbo.
 
-ghost use Rattle.std.specs.Prelude.{◌≡◌, Ok, false};
+ghost use Rattle.std.specs.Prelude.{◌≡◌, ◌≢◌, ◌+◌, ℕ, [], Ok, false, true};
+ghost use Rattle.machine_model.specs.declared.steps.Outcome.TheVariants as outcome;
 ghost use Rattle.machine_model.specs.declared.steps.Step.TheVariants as steps;
 ghost use Rattle.machine_model.specs.Machine.{is_spent, next};
 ghost use Rattle.machine_core.specs.Keeping.{IsCore};
 ghost use Rattle.machine_core.specs.Seen.{seen};
+ghost use Rattle.machine_core.specs.Sweeping.{Reclaims};
 ghost use Rattle.machine_core.specs.Work.{worked, WorksLittle};
 
+use crate::denials::is_spent;
 use crate::parts::Parts;
-use machine_model::Outcome;
+use epochs::Swept;
 
 /// A step of the sweep, where the machine isn't spent, with what every step does at its end.
-pub fn sweep_once(parts: &mut Parts) -> Outcome
+#[inline(always)]
+pub fn sweep_once(parts: &mut Parts) -> Swept
     requires unspent { is_spent (seen parts.old) ≡ false }
     requires core { IsCore parts.old }
-    ensures swept { next (seen parts.old) steps.Sweep ≡ Ok (result, seen parts.new) }
+    ensures swept { next (seen parts.old) steps.Sweep ≡ Ok (outcome.Swept result, seen parts.new) }
     ensures core { IsCore parts.new }
+    ensures counted { parts.new ≡ record parts.old { heap = parts.new.heap; steps = parts.old.steps + 1 } }
     ensures work { WorksLittle (worked parts.old) (worked parts.new) }
 {
     let swept = parts.heap.sweep();
     parts.heap.settle();
     parts.steps += 1;
-    Outcome::Swept(swept)
+    swept
+}
+
+/// Whether something stands in limbo, and a step is left in which to sweep.
+fn can_sweep(parts: &Parts) -> bool
+    ensures some { result ≡ true → ((seen parts.now).limbo ≢ []) × (is_spent (seen parts.now) ≡ false) }
+    ensures none { result ≡ false → is_spent (seen parts.now) ≡ false → (seen parts.now).limbo ≡ [] }
+{
+    parts.heap.limbo_len() > 0 && !is_spent(parts)
+}
+
+/// Takes steps of the sweep until limbo is empty, or the machine is spent.
+pub fn reclaim(parts: &mut Parts)
+    requires core { IsCore parts.old }
+    ensures reclaims { (n : ℕ) × Reclaims (worked parts.old) n (worked parts.new) }
+    ensures clean { is_spent (seen parts.new) ≡ false → (seen parts.new).limbo ≡ [] }
+    ensures core { IsCore parts.new }
+{
+    while can_sweep(parts) {
+        let _ = sweep_once(parts);
+    }
 }

@@ -46,7 +46,6 @@ idle job scene (act.End answer) none = record {
     others = λ r. refl;
     stay = λ q live. live;
     epochs = (refl, refl, refl, refl);
-    owners = refl;
     few = omega arith;
     ticks = (omega arith, omega arith);
   };
@@ -61,7 +60,6 @@ idle job scene act.ReadRoot none = record {
     others = λ r. refl;
     stay = λ q live. live;
     epochs = (refl, refl, refl, refl);
-    owners = refl;
     few = omega arith;
     ticks = (omega arith, omega arith);
   };

@@ -106,7 +106,6 @@ impl Programs {
         ensures heap { heap.new.heap ≡ heap.old.heap }
         ensures others { KeepsOthers self.old.key.work.private heap.old [] heap.new }
         ensures epochs { KeepsEpochs heap.old heap.new }
-        ensures owners { heap.new.owners ≡ heap.old.owners }
         ensures few { length heap.new.noted ≤ length heap.old.noted + length self.old.key.work.private }
         ensures ticks { heap.new.ticks ≡ heap.old.ticks + length self.old.key.work.private }
     {

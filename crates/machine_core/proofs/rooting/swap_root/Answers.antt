@@ -1,0 +1,24 @@
+use Rattle.std.proofs.Common.{◌≡◌, [], refl, ap, set, sym, ◌∙◌}
+use Rattle.machine_model.specs.declared.roots.RootWord.TheVariants.{Offer}
+use Rattle.machine_model.specs.States.{with_root}
+use Rattle.proof_straight.specs.Drafts.{redrafted}
+use Rattle.machine_core.specs.Beneath.rdcss_root.specs.Tables.{Table}
+use Rattle.machine_core.specs.Rooting.{writable}
+use Rattle.machine_core.proofs.Rooted.{swapped_draft, swapped_generations, swapped_roots}
+use Rattle.machine_core.proofs.rooting.swap_root.Goals as goal
+
+pub returns-clause-courses : goal.returns-clause-courses
+returns-clause-courses c course word is private found =
+    let offer = c.args.offer.now in
+    let handle = c.args.handle in
+    let base = course.base in
+    let draft = course.draft in
+    let offered = with_root base handle (writable (Offer offer)) in
+    let there : offered.roots ≡ c.put_offer.new.table.roots =
+    ap (λ rs. set rs handle (writable (Offer offer))) is.roots ∙ ap (λ (t : Table). t.roots) (sym c.put_offer.ensures.table) in
+    record {
+      draft = swapped_draft base draft handle word offer found c.carry_out.new.heap
+          (c.carry_out.ensures.drafts offered (redrafted offered draft draft.heap [] draft.newest) (c.put_offer.ensures.drafts base draft is.draft is.roots private) there refl);
+      roots = swapped_roots base draft handle word offer found c.put_offer.new.table c.carry_out.new.table there c.carry_out.ensures.table;
+      generations = swapped_generations base draft handle word offer found ∙ is.generations;
+    }
