@@ -1,5 +1,5 @@
 -- What a contract sees of a heap whose slots are reclaimed by epochs.
-use Rattle.std.specs.Prelude.{◌≡◌, ℕ, ⊤, ◌+◌, ◌-◌, ◌*◌, ◌<◌, ◌≤◌, ◌&&◌, List, [], ◌++◌, map, filter, length, replicate, slice_index_or, slice_set, Option, None, Some}
+use Rattle.std.specs.Prelude.{◌≡◌, ℕ, ⊤, ◌+◌, ◌-◌, ◌*◌, ◌<◌, ◌≤◌, ◌&&◌, List, [], ◌++◌, map, filter, length, replicate, slice_index_or, Option, None, Some}
 use Rattle.slot_arena.specs.declared.refs.Ref.{Ref}
 use Rattle.slot_arena.specs.Refs.{slot_of}
 use Rattle.slot_arena.specs.Heaps.{Heap}
@@ -22,8 +22,6 @@ pub record Memory : Type 0 where
   pub cursor : ℕ
   -- the epochs that the actors have recorded
   pub pins : List (Option ℕ)
-  -- the actor that was set beside each slot
-  pub owners : List ℕ
   -- the slots that the next settling looks at
   pub noted : List ℕ
   -- how often a link, a flag, a count, a note or an entry of a list was looked at
@@ -36,11 +34,6 @@ reclaimer_of memory = record { heap = memory.heap; limbo = memory.limbo; epoch =
 -- limbo, the epochs and the actors' records are as before
 abbrev pub KeepsEpochs : Memory → Memory → Type 0
 KeepsEpochs before after = (after.limbo ≡ before.limbo) × (after.epoch ≡ before.epoch) × (after.cursor ≡ before.cursor) × (after.pins ≡ before.pins)
-
--- the actors beside the slots, once this slot, if one, is taken: none is beside it
-abbrev pub cleared : Option Ref → List ℕ → List ℕ
-cleared None actors = actors
-cleared (Some r) actors = slice_set actors (slot_of r) 0
 
 -- as many slots and actors as there may be
 abbrev pub AreSizes : ℕ → ℕ → Type 0
@@ -55,7 +48,6 @@ new_memory slots actors = record {
   epoch = 0;
   cursor = 1;
   pins = replicate actors None;
-  owners = replicate slots 0;
   noted = [];
   ticks = slots + 6;
 }
@@ -80,7 +72,6 @@ pub record Settles (before after : Memory) : Type 0 where
   pub heap : after.heap ≡ before.heap
   pub outside : after.outside ≡ before.outside
   pub epochs : (after.epoch ≡ before.epoch) × (after.cursor ≡ before.cursor) × (after.pins ≡ before.pins)
-  pub owners : after.owners ≡ before.owners
   pub ticks : after.ticks + 12 * length (staying before.heap before.outside before.limbo)
       ≤ before.ticks + 3 * length before.noted + 12 * length before.limbo + 12 * length (newly_zero before.heap before.outside before.limbo)
   pub rising : before.ticks ≤ after.ticks

@@ -9,7 +9,7 @@ ghost use Rattle.slot_arena.specs.Ticking.{TakesUpTo};
 ghost use Rattle.slot_arena.specs.Refs.{slot_of};
 ghost use Rattle.slot_arena.specs.Arenas.{IsLive, AreLive, is_live, is_indirection, is_main_node};
 ghost use Rattle.epochs.specs.Sweeping.{swept_once, IsOlder};
-ghost use Rattle.epochs.specs.Memories.{reclaimer_of, KeepsEpochs, Settles, cleared, AreSizes, new_memory, freed_by};
+ghost use Rattle.epochs.specs.Memories.{reclaimer_of, KeepsEpochs, Settles, AreSizes, new_memory, freed_by};
 
 use crate::advancing::{advance, ticks_of};
 use crate::fresh::Fresh;
@@ -17,7 +17,7 @@ use crate::limbo::Swept;
 use crate::ring::Ring;
 use crate::settling::{enter_all, sift};
 use ctrie_base::{Refusal, Ticks};
-use slot_arena::{Arena, Node, Owners, Prev, Ref};
+use slot_arena::{Arena, Node, Prev, Ref};
 use std::alloc::Global;
 use std::marker::Model;
 
@@ -31,7 +31,6 @@ pub struct Heap {
     /// The actor whose record is read next, from 1.
     cursor: u8,
     pins: Vec<Option<u64>>,
-    owners: Owners,
     /// Those of the arena, the bags and the new ones.
     ticks: Ticks,
 }
@@ -45,7 +44,6 @@ impl Drop for Heap {
             epoch: _,
             cursor: _,
             pins: _,
-            owners: _,
             ticks: _,
         } = self;
     }
@@ -64,7 +62,6 @@ impl Model for Heap {
       epoch = h.epoch;
       cursor = h.cursor;
       pins = h.pins.items;
-      owners = h.owners;
       noted = h.arena.noted;
       ticks = h.ticks.count;
     } };
@@ -73,8 +70,7 @@ impl Model for Heap {
         IsMemory h.arena h.bags.bags h.epoch h.cursor h.pins.items
         × (h.fresh.refs ≡ [])
         × (length h.arena.heap.slots ≤ h.fresh.room)
-        × (h.ticks.count ≡ h.arena.ticks + h.bags.ticks + h.fresh.ticks)
-        × (length h.owners ≡ length h.arena.heap.slots) };
+        × (h.ticks.count ≡ h.arena.ticks + h.bags.ticks + h.fresh.ticks) };
 }
 
 impl Heap {
@@ -94,7 +90,6 @@ impl Heap {
             epoch: 0,
             cursor: 1,
             pins: vec![in alloc; None; actors as usize]?,
-            owners: Owners::new(alloc, slots as usize)?,
             arena,
             bags,
             fresh,
@@ -102,7 +97,7 @@ impl Heap {
     }
 
     /// Takes the first free slot for a node, under a new birth, and holds it: it has one reference from
-    /// outside, and no owner; None where no slot is free.
+    /// outside; None where no slot is free.
     #[inline(always)]
     pub fn make_held(&mut self, node: Node) -> Option<Ref>
         requires births { self.old.heap.births + 1 < 2 ^ 48 }
@@ -114,15 +109,11 @@ impl Heap {
         ensures heap { self.new.heap ≡ taken self.old.heap node }
         ensures outside { self.new.outside ≡ refs_of_option result ++ self.old.outside }
         ensures epochs { KeepsEpochs self.old self.new }
-        ensures owners { self.new.owners ≡ cleared result self.old.owners }
         ensures few { length self.new.noted ≤ length self.old.noted + 32 }
         ensures ticks { TakesUpTo 36 self.old.ticks self.new.ticks }
     {
         let made = self.arena.make_held(node);
         self.ticks = ticks_of(&self.arena, &self.bags, &self.fresh);
-        if let Some(at) = made {
-            self.owners.set(at.slot(), 0);
-        }
         made
     }
 
@@ -176,7 +167,6 @@ impl Heap {
         ensures outside { self.new.outside ≡ self.old.outside }
         ensures stay { (q : Ref) → is_live self.new.heap q ≡ is_live self.old.heap q }
         ensures epochs { KeepsEpochs self.old self.new }
-        ensures owners { self.new.owners ≡ self.old.owners }
         ensures few { length self.new.noted ≤ length self.old.noted + 2 }
         ensures ticks { TakesUpTo 2 self.old.ticks self.new.ticks }
     {
@@ -195,7 +185,6 @@ impl Heap {
         ensures outside { self.new.outside ≡ self.old.outside }
         ensures stay { (q : Ref) → is_live self.new.heap q ≡ is_live self.old.heap q }
         ensures epochs { KeepsEpochs self.old self.new }
-        ensures owners { self.new.owners ≡ self.old.owners }
         ensures few { length self.new.noted ≤ length self.old.noted + 2 }
         ensures ticks { TakesUpTo 2 self.old.ticks self.new.ticks }
     {
@@ -215,30 +204,12 @@ impl Heap {
         ensures outside { self.new.outside ≡ self.old.outside }
         ensures stay { (q : Ref) → is_live self.new.heap q ≡ is_live self.old.heap q }
         ensures epochs { KeepsEpochs self.old self.new }
-        ensures owners { self.new.owners ≡ self.old.owners }
         ensures few { length self.new.noted ≤ length self.old.noted + 2 }
         ensures ticks { TakesUpTo 2 self.old.ticks self.new.ticks }
     {
         let swapped = self.arena.publish(at, from, to);
         self.ticks = ticks_of(&self.arena, &self.bags, &self.fresh);
         swapped
-    }
-
-    /// The actor that was set beside a slot in use, 0 where none was.
-    pub fn owner(&self, at: Ref) -> u8
-        requires { IsLive self.now.heap at }
-        ensures { result ≡ slice_index self.now.owners (slot_of at) }
-    {
-        self.owners.get(at.slot())
-    }
-
-    /// Sets an actor beside a slot in use.
-    pub fn set_owner(&mut self, at: Ref, actor: u8)
-        requires { IsLive self.old.heap at }
-        ensures same { self.new ≡ record self.old { owners = slice_set self.old.owners (slot_of at) actor } }
-        ensures set { slice_index self.new.owners (slot_of at) ≡ actor }
-    {
-        self.owners.set(at.slot(), actor);
     }
 
     /// One reference from outside the slots more.
@@ -248,7 +219,6 @@ impl Heap {
         ensures heap { self.new.heap ≡ self.old.heap }
         ensures outside { self.new.outside ≡ at ∷ self.old.outside }
         ensures epochs { KeepsEpochs self.old self.new }
-        ensures owners { self.new.owners ≡ self.old.owners }
         ensures few { length self.new.noted ≤ length self.old.noted + 1 }
         ensures ticks { self.new.ticks ≡ self.old.ticks + 1 }
     {
@@ -262,7 +232,6 @@ impl Heap {
         ensures heap { self.new.heap ≡ self.old.heap }
         ensures outside { self.new.outside ≡ without at self.old.outside }
         ensures epochs { KeepsEpochs self.old self.new }
-        ensures owners { self.new.owners ≡ self.old.owners }
         ensures few { length self.new.noted ≤ length self.old.noted + 1 }
         ensures ticks { self.new.ticks ≡ self.old.ticks + 1 }
     {
@@ -322,7 +291,6 @@ impl Heap {
         ensures stay { (q : Ref) → IsLive self.old.heap q → 0 < count_of self.old.heap self.old.outside q → IsLive self.new.heap q }
         ensures outside { self.new.outside ≡ self.old.outside }
         ensures pins { self.new.pins ≡ self.old.pins }
-        ensures owners { self.new.owners ≡ self.old.owners }
         ensures few { length self.new.noted ≤ 34 }
         ensures ticks { TakesUpTo 44 self.old.ticks self.new.ticks }
     {

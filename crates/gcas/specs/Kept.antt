@@ -10,6 +10,5 @@ pub record KeepsBeside (before after : Memory) : Type 0 where
   pub outside : after.outside ≡ before.outside
   pub stay : (q : Ref) → is_live after.heap q ≡ is_live before.heap q
   pub epochs : KeepsEpochs before after
-  pub owners : after.owners ≡ before.owners
   pub few : length after.noted ≤ length before.noted + 2
   pub ticks : TakesUpTo 2 before.ticks after.ticks

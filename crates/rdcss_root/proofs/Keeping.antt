@@ -9,14 +9,13 @@ use Rattle.epochs.specs.Memories.{Memory}
 use Rattle.rdcss_root.specs.Holding.{KeepsMemory}
 
 pub kept : (m : Memory) → KeepsMemory m m 0
-kept m = record { heap = refl; epochs = (refl, refl, refl, refl); owners = refl; few = omega arith; ticks = (omega arith, omega arith) }
+kept m = record { heap = refl; epochs = (refl, refl, refl, refl); few = omega arith; ticks = (omega arith, omega arith) }
 
 -- the bounds add up
 pub kept_on : {a b c : Memory} {i j : ℕ} (k : ℕ) → KeepsMemory a b i → KeepsMemory b c j → i + j ≤ k → KeepsMemory a c k
 kept_on k first second sum = record {
   heap = second.heap ∙ first.heap;
   epochs = (second.epochs.0 ∙ first.epochs.0, second.epochs.1 ∙ first.epochs.1, second.epochs.2 ∙ first.epochs.2, second.epochs.3 ∙ first.epochs.3);
-  owners = second.owners ∙ first.owners;
   few = omega (arith, first.few, second.few, sum);
   ticks = (omega (arith, first.ticks.0, second.ticks.0), omega (arith, first.ticks.1, second.ticks.1, sum));
 }

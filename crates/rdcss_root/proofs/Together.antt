@@ -16,7 +16,7 @@ use Rattle.rdcss_root.specs.Beneath.gcas.specs.Acted.{acted_heap}
 use Rattle.rdcss_root.specs.Beneath.gcas.specs.Kept.{KeepsBeside}
 use Rattle.trie_parts.specs.Here.{at_heap, no_state}
 use Rattle.trie_parts.specs.Holding.{Acts}
-use Rattle.trie_parts.proofs.Unmade.{read_privates, read_owners}
+use Rattle.trie_parts.proofs.Unmade.{read_privates}
 use Rattle.rdcss_root.specs.Acts.{ActsInAll}
 use Rattle.rdcss_root.specs.Holding.{Moves}
 use Rattle.rdcss_root.proofs.Keeping.{kept}
@@ -30,7 +30,6 @@ by_parts roots acts = record {
   others = λ r. omega (arith, acts.others r);
   stay = acts.stay;
   epochs = acts.epochs;
-  owners = acts.owners;
   few = acts.few;
   ticks = acts.ticks;
 }
@@ -44,7 +43,6 @@ by_read {before} {after} roots private indirection line heap beside = record {
   others = λ r. omega (arith, ap (times r) beside.outside);
   stay = λ q live. beside.stay q ∙ live;
   epochs = beside.epochs;
-  owners = beside.owners ∙ read_owners before.heap indirection line before.owners;
   few = omega (arith, beside.few);
   ticks = (beside.ticks.0, omega (arith, beside.ticks.1));
 }
@@ -57,7 +55,6 @@ by_looking m roots private = record {
   others = λ r. refl;
   stay = λ q live. live;
   epochs = (kept m).epochs;
-  owners = refl;
   few = omega arith;
   ticks = (omega arith, omega arith);
 }
@@ -71,7 +68,6 @@ by_swap private offer main moves = record {
   others = λ r. omega (arith, moves.outside r);
   stay = λ q live. ap (λ h. is_live h q) moves.keeps.heap ∙ live;
   epochs = moves.keeps.epochs;
-  owners = moves.keeps.owners;
   few = omega (arith, moves.keeps.few);
   ticks = (moves.keeps.ticks.0, omega (arith, moves.keeps.ticks.1));
 }

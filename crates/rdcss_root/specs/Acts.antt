@@ -11,7 +11,6 @@ use Rattle.rdcss_root.specs.Beneath.machine_model.specs.declared.roots.Root.{Roo
 use Rattle.rdcss_root.specs.Beneath.machine_model.specs.Acting.{private_after}
 use Rattle.rdcss_root.specs.Beneath.gcas.specs.Acted.{acted_heap}
 use Rattle.trie_parts.specs.Here.{at_heap, no_state}
-use Rattle.trie_parts.specs.Holding.{owners_after}
 use Rattle.rdcss_root.specs.Holding.{root_refs}
 
 -- The step with this action leads from one heap, private list and table of root words to others. It notes few slots and takes few ticks, however large the heap.
@@ -22,6 +21,5 @@ pub record ActsInAll (before : Memory) (roots : List (Option Root)) (private : L
   pub others : (r : Ref) → times r after.outside + times r private + times r (root_refs roots) ≡ times r before.outside + times r private' + times r (root_refs roots')
   pub stay : (q : Ref) → IsLive before.heap q → IsLive after.heap q
   pub epochs : KeepsEpochs before after
-  pub owners : after.owners ≡ owners_after before.heap action before.owners
   pub few : length after.noted ≤ length before.noted + (32 + length private)
   pub ticks : TakesUpTo (36 + length private) before.ticks after.ticks

@@ -11,7 +11,6 @@ use Rattle.rdcss_root.specs.Beneath.machine_model.specs.Counting.{refs_of_root}
 pub record KeepsMemory (before after : Memory) (most : ℕ) : Type 0 where
   pub heap : after.heap ≡ before.heap
   pub epochs : KeepsEpochs before after
-  pub owners : after.owners ≡ before.owners
   pub few : length after.noted ≤ length before.noted + most
   pub ticks : TakesUpTo most before.ticks after.ticks
 

@@ -19,7 +19,6 @@ use Rattle.root_asking.specs.Beneath.machine_model.specs.States.{State}
 use Rattle.root_asking.specs.Beneath.gcas.specs.declared.next.Next.TheVariants.{More, Done}
 use Rattle.root_asking.specs.Beneath.gcas.specs.Acted.{acted_heap}
 use Rattle.root_asking.specs.Beneath.trie_parts.specs.Here.{at_heap, no_state}
-use Rattle.root_asking.specs.Beneath.trie_parts.specs.Holding.{owners_after}
 use Rattle.rdcss_root.specs.declared.abort.AbortRead.{AbortRead}
 use Rattle.rdcss_root.specs.declared.abort.AbortRead.TheVariants as abort
 use Rattle.rdcss_root.specs.Acts.{ActsInAll}
@@ -73,15 +72,14 @@ is_told heap table handle (Told other) after k generation untold steps = absurd 
 -- ---- what it does
 
 moved_by : {before after : Memory} {roots roots' : List (Option Root)} (private : List Ref) (action : Action) → before.heap ≡ acted_heap before.heap action →
-    private ≡ private_after (at_heap no_state before.heap Low) private action → ((words : List ℕ) → words ≡ owners_after before.heap action words) → Moves before after roots roots' 4 →
+    private ≡ private_after (at_heap no_state before.heap Low) private action → Moves before after roots roots' 4 →
     ActsInAll before roots private action after roots' private
-moved_by {before} private action heap made same moves = record {
+moved_by {before} private action heap made moves = record {
   heap = moves.keeps.heap ∙ heap;
   made = made;
   others = λ r. omega (arith, moves.outside r);
   stay = λ q live. ap (λ h. is_live h q) moves.keeps.heap ∙ live;
   epochs = moves.keeps.epochs;
-  owners = moves.keeps.owners ∙ same before.owners;
   few = omega (arith, moves.keeps.few);
   ticks = (moves.keeps.ticks.0, omega (arith, moves.keeps.ticks.1));
 }
@@ -89,6 +87,6 @@ moved_by {before} private action heap made same moves = record {
 -- root words alone are changed
 pub acts : {before after : Memory} {roots roots' : List (Option Root)} (asking : Asking) → Moves before after roots roots' 4 → (private : List Ref) →
     ActsInAll before roots private (ask_action asking) after roots' private
-acts Unasked moves private = moved_by private (ask_action Unasked) refl refl (λ words. refl) moves
-acts (Met offer) moves private = moved_by private (ask_action (Met offer)) refl refl (λ words. refl) moves
-acts (Told generation) moves private = moved_by private (ask_action (Told generation)) refl refl (λ words. refl) moves
+acts Unasked moves private = moved_by private (ask_action Unasked) refl refl moves
+acts (Met offer) moves private = moved_by private (ask_action (Met offer)) refl refl moves
+acts (Told generation) moves private = moved_by private (ask_action (Told generation)) refl refl moves

@@ -22,15 +22,14 @@ given_up ready none others = record {
 }
 
 pub offers : {before given after : Memory} {roots roots' : List (Option Root)} {private private' : List Ref} (offer : Descriptor) → private' ≡ [] → given.heap ≡ before.heap →
-    KeepsOthers private before private' given → KeepsEpochs before given → given.owners ≡ before.owners → length given.noted ≤ length before.noted + length private →
+    KeepsOthers private before private' given → KeepsEpochs before given → length given.noted ≤ length before.noted + length private →
     given.ticks ≡ before.ticks + length private → Moves given after roots roots' 4 → ActsInAll before roots private (act.Offer offer) after roots' private'
-offers offer none heap others epochs owners few ticks moves = record {
+offers offer none heap others epochs few ticks moves = record {
   heap = moves.keeps.heap ∙ heap;
   made = none;
   others = λ r. omega (arith, others r, moves.outside r);
   stay = λ q live. ap (λ h. is_live h q) (moves.keeps.heap ∙ heap) ∙ live;
   epochs = (moves.keeps.epochs.0 ∙ epochs.0, moves.keeps.epochs.1 ∙ epochs.1, moves.keeps.epochs.2 ∙ epochs.2, moves.keeps.epochs.3 ∙ epochs.3);
-  owners = moves.keeps.owners ∙ owners;
   few = omega (arith, moves.keeps.few, few);
   ticks = (omega (arith, moves.keeps.ticks.0, ticks), omega (arith, moves.keeps.ticks.1, ticks));
 }

@@ -7,14 +7,14 @@ use Rattle.std.specs.Ordering.{nat_cmp, ordering_then, is_lt}
 use Rattle.ctrie_base.proofs.Sorting.{IsOrder, std_sorted}
 use Rattle.snapshot.specs.Beneath.machine_model.specs.Pairs.{comes_before, by_key}
 
-abbrev Pair : Type 0
+abbrev pub Pair : Type 0
 Pair = ℕ × ℕ
 
 -- as a sort compares them
-abbrev compared : Pair → Pair → Bool
+abbrev pub compared : Pair → Pair → Bool
 compared p q = is_lt (ordering_then (nat_cmp p.0 q.0) (nat_cmp p.1 q.1))
 
-same_test : (p q : Pair) → compared p q ≡ comes_before p q
+pub same_test : (p q : Pair) → compared p q ≡ comes_before p q
 same_test p q = grind (arith, nat_tests)
 
 not_itself : (p : Pair) → comes_before p p ≡ false
@@ -32,7 +32,7 @@ keys_same a b c d h k = grind (arith, nat_tests)
 neither : (p q : Pair) → comes_before p q ≡ false → comes_before q p ≡ false → p ≡ q
 neither (a, b) (c, d) h k = let same = keys_same a b c d h k in rw (same.0, same.1) refl
 
-pairs_order : IsOrder comes_before
+pub pairs_order : IsOrder comes_before
 pairs_order = record { not_both = not_both; not_through = not_through; not_itself = not_itself; neither = neither }
 
 -- what a sort made of pairs is these pairs by rising key

@@ -174,16 +174,6 @@ fn publishes_main_nodes(rt: HostRuntime) -> Result<(), Fail> {
 }
 
 #[test]
-fn tells_owners(rt: HostRuntime) -> Result<(), Fail> {
-    let mut heap = Heap::new(rt.alloc(), 4, 1)?;
-    let leaf = single(&rt, &mut heap);
-    assert_eq!(rt; heap.owner(leaf), 0);
-    heap.set_owner(leaf, 3);
-    assert_eq!(rt; heap.owner(leaf), 3);
-    Ok(())
-}
-
-#[test]
 fn refuses_sizes(rt: HostRuntime) {
     assert!(rt;
         matches!(Heap::new(rt.alloc(), 1, 1), Err(Refusal::BadLimits)),

@@ -5,7 +5,7 @@ use Rattle.slot_arena.specs.Heaps.{Heap, next_ref}
 use Rattle.slot_arena.specs.Arenas.{IsLive}
 use Rattle.slot_arena.specs.Ticking.{TakesUpTo}
 use Rattle.slot_arena.specs.Times.{times}
-use Rattle.epochs.specs.Memories.{Memory, KeepsEpochs, cleared}
+use Rattle.epochs.specs.Memories.{Memory, KeepsEpochs}
 use Rattle.trie_parts.specs.Beneath.machine_model.specs.declared.actions.Action.{Action}
 use Rattle.trie_parts.specs.Beneath.machine_model.specs.declared.actions.Action.TheVariants as act
 use Rattle.trie_parts.specs.Beneath.machine_model.specs.Acting.{private_after}
@@ -21,11 +21,6 @@ AreHeld private memory = (r : Ref) → times r private ≤ times r memory.outsid
 abbrev pub KeepsOthers : List Ref → Memory → List Ref → Memory → Type 0
 KeepsOthers private before private' after = (r : Ref) → times r after.outside + times r private ≡ times r before.outside + times r private'
 
--- what was set beside the slots, after the action: nothing beside a slot that it takes
-abbrev pub owners_after : Heap → Action → List ℕ → List ℕ
-owners_after heap (act.Make node) words = cleared (next_ref heap) words
-owners_after heap action words = words
-
 -- The step with this action leads from one heap and private list to others. It notes few slots and takes few ticks, however large the heap.
 pub record Acts (before : Memory) (private : List Ref) (action : Action) (after : Memory) (private' : List Ref) : Type 0 where
   pub heap : after.heap ≡ acted_heap before.heap action
@@ -33,6 +28,5 @@ pub record Acts (before : Memory) (private : List Ref) (action : Action) (after 
   pub others : KeepsOthers private before private' after
   pub stay : (q : Ref) → IsLive before.heap q → IsLive after.heap q
   pub epochs : KeepsEpochs before after
-  pub owners : after.owners ≡ owners_after before.heap action before.owners
   pub few : length after.noted ≤ length before.noted + (32 + length private)
   pub ticks : TakesUpTo (36 + length private) before.ticks after.ticks

@@ -64,7 +64,6 @@ impl Private {
         ensures heap { heap.new.heap ≡ heap.old.heap }
         ensures others { KeepsOthers self.old heap.old self.new heap.new }
         ensures epochs { KeepsEpochs heap.old heap.new }
-        ensures owners { heap.new.owners ≡ heap.old.owners }
         ensures few { length heap.new.noted ≤ length heap.old.noted + length self.old }
         ensures ticks { heap.new.ticks ≡ heap.old.ticks + length self.old }
     {
@@ -79,7 +78,6 @@ pub fn release_all(heap: &mut Heap, held: &[Ref])
     ensures heap { heap.new.heap ≡ heap.old.heap }
     ensures others { KeepsOthers held.now heap.old [] heap.new }
     ensures epochs { KeepsEpochs heap.old heap.new }
-    ensures owners { heap.new.owners ≡ heap.old.owners }
     ensures few { length heap.new.noted ≤ length heap.old.noted + length held.now }
     ensures ticks { heap.new.ticks ≡ heap.old.ticks + length held.now }
 {

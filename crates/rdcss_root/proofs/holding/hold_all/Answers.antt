@@ -28,7 +28,6 @@ loop-at-preserved c = record {
       (record {
         heap = c.hold.ensures.heap;
         epochs = c.hold.ensures.epochs;
-        owners = c.hold.ensures.owners;
         few = c.hold.ensures.few;
         ticks = (omega (arith, c.hold.ensures.ticks), omega (arith, c.hold.ensures.ticks));
       })

@@ -9,7 +9,6 @@ returns c =
       keeps = record {
         heap = released.heap;
         epochs = released.epochs;
-        owners = released.owners;
         few = released.few;
         ticks = (omega (arith, released.ticks), omega (arith, released.ticks));
       };

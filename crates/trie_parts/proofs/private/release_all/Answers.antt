@@ -33,7 +33,6 @@ loop-at-preserved c =
         c.release.ensures.epochs.2 ∙ c.loop-at.invariant.epochs.2,
         c.release.ensures.epochs.3 ∙ c.loop-at.invariant.epochs.3,
       );
-      owners = c.release.ensures.owners ∙ c.loop-at.invariant.owners;
       few = omega (arith, c.release.ensures.few, c.loop-at.invariant.few);
       ticks = omega (arith, c.release.ensures.ticks, c.loop-at.invariant.ticks);
     }

@@ -9,7 +9,6 @@ invariant-loop-at l = record {
   heap : l.heap.heap ≡ l.fn.heap.heap;
   others : (r : Ref) → times r l.heap.outside + times r (take l.at-index l.held) ≡ times r l.fn.heap.outside;
   epochs : KeepsEpochs l.fn.heap l.heap;
-  owners : l.heap.owners ≡ l.fn.heap.owners;
   few : length l.heap.noted ≤ length l.fn.heap.noted + l.at-index;
   ticks : l.heap.ticks ≡ l.fn.heap.ticks + l.at-index;
 }

@@ -1,39 +1,16 @@
 use Rattle.std.proofs.Common.{◌≡◌, length, ap, ◌∙◌, arith}
-use Rattle.std.proofs.lemmas.List.{length-set}
 use Rattle.slot_arena.specs.Heaps.{Heap}
 use Rattle.slot_arena.specs.Arenas.{Contents}
-use Rattle.epochs.proofs.Listing.{lists_kept, memory_kept, length-taken, live_slot}
+use Rattle.epochs.proofs.Listing.{lists_kept, memory_kept, length-taken}
 use Rattle.epochs.proofs.heap.Heap.make_held.Goals as goal
-
-pub set-requires : goal.set-requires
-set-requires c =
-    let now : Contents = c.make_held-made.new.self in
-    let size : length now.heap.slots ≡ length c.self.inside.arena.heap.slots = ap (λ (h : Heap). length h.slots) c.make_held-made.ensures.heap ∙ length-taken c.self.inside.arena.heap c.args.node in
-    let owners_are = c.self.invariant.4 in
-    omega (arith, live_slot now.heap c.in-Some.at c.in-Some.ensures.lives, c.slot.ensures)
 
 pub invariant_of-self : goal.invariant_of-self
 invariant_of-self c =
     let now : Contents = c.make_held-made.new.self in
-    let size : length now.heap.slots ≡ length c.self.inside.arena.heap.slots = ap (λ (h : Heap). length h.slots) c.make_held-made.ensures.heap ∙ length-taken c.self.inside.arena.heap c.args.node in
-    let owners_are = c.self.invariant.4 in (
+    let size : length now.heap.slots ≡ length c.self.inside.arena.heap.slots = ap (λ (h : Heap). length h.slots) c.make_held-made.ensures.heap ∙ length-taken c.self.inside.arena.heap c.args.node in (
       memory_kept c.self.inside.arena now c.self.inside.bags.bags c.self.inside.epoch c.self.inside.cursor c.self.inside.pins.items c.self.invariant.0
           (lists_kept c.self.inside.arena now c.self.inside.bags.bags c.self.invariant.0.lists size c.make_held-made.ensures.stay c.make_held-made.ensures.noted),
       c.self.invariant.1,
       omega (arith, c.self.invariant.2),
       c.ticks_of-self-inside.ensures,
-      omega (arith, ap length c.set.ensures.same, length-set c.self.inside.owners c.slot.result 0),
-    )
-
-pub invariant_of-self-in_default : goal.invariant_of-self-in_default
-invariant_of-self-in_default c =
-    let now : Contents = c.make_held-made.new.self in
-    let size : length now.heap.slots ≡ length c.self.inside.arena.heap.slots = ap (λ (h : Heap). length h.slots) c.make_held-made.ensures.heap ∙ length-taken c.self.inside.arena.heap c.args.node in
-    let owners_are = c.self.invariant.4 in (
-      memory_kept c.self.inside.arena now c.self.inside.bags.bags c.self.inside.epoch c.self.inside.cursor c.self.inside.pins.items c.self.invariant.0
-          (lists_kept c.self.inside.arena now c.self.inside.bags.bags c.self.invariant.0.lists size c.make_held-made.ensures.stay c.make_held-made.ensures.noted),
-      c.self.invariant.1,
-      omega (arith, c.self.invariant.2),
-      c.ticks_of-self-inside.ensures,
-      omega arith,
     )

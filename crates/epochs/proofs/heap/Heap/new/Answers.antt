@@ -31,5 +31,4 @@ invariant_of-result c =
       c.in_ok-fresh.ensures.refs,
       omega (arith, size, c.in_ok-fresh.ensures.room),
       c.ticks_of.ensures,
-      ap length c.in_ok-new.ensures ∙ length-replicate n 0 ∙ sym size,
     )

@@ -18,7 +18,6 @@ returns-else-noted_len-ne0 c =
       heap = refl;
       outside = refl;
       epochs = (refl, refl, refl);
-      owners = refl;
       ticks = omega (
         arith,
         stays_already c.self.inside.arena c.self.inside.bags.bags c.self.invariant.0.lists none small c.self.inside.epoch,

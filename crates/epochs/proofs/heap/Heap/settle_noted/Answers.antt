@@ -51,7 +51,6 @@ invariant_of-self c =
         ap (λ (l : Listed). l.room) c.clear.ensures,
       ),
       c.ticks_of-self-inside.ensures,
-      c.self.invariant.4 ∙ sym (ap (λ (h : Heap). length h.slots) c.sift.ensures.heap),
     )
 
 pub returns : goal.returns
@@ -67,7 +66,6 @@ returns c =
       heap = search;
       outside = search;
       epochs = search;
-      owners = search;
       ticks =
           let sizes = length_settled c.self.inside.arena c.self.inside.bags.bags c.sift.new.bags.bags c.sift.new.fresh.refs c.sort.new.self.refs c.self.invariant.0.lists c.sift.ensures.sifted
           c.sort.ensures.permutation c.sort.ensures.sorted small c.self.inside.epoch in

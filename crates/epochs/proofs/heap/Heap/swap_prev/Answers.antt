@@ -15,5 +15,4 @@ invariant_of-self c =
       c.self.invariant.1,
       omega (arith, c.self.invariant.2),
       c.ticks_of-self-inside.ensures,
-      let size_of = c.self.invariant.4 in omega arith,
     )

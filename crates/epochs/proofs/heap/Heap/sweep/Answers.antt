@@ -61,7 +61,7 @@ invariant_of-self c =
                 (recent_scanned ps c.self.inside.epoch cursor memory.recent (is_passed c.self.inside.epoch (slice_index_or ps (cursor - 1) None)) refl memory.started);
           }))
     ] in
-    (kept, c.self.invariant.1, c.self.invariant.2, c.ticks_of-self-inside.ensures, c.self.invariant.4)
+    (kept, c.self.invariant.1, c.self.invariant.2, c.ticks_of-self-inside.ensures)
 
 pub returns-in_default-clause-swept : goal.returns-in_default-clause-swept
 returns-in_default-clause-swept c =
@@ -127,7 +127,6 @@ invariant_of-self-2 c =
       c.self.invariant.1,
       omega (arith, c.self.invariant.2, ap (λ (h : Heap). length h.slots) freed_is, length-freed c.self.inside.arena.heap c.in-Some-waiting.at),
       c.ticks_of-self-inside-2.ensures,
-      c.self.invariant.4 ∙ sym (ap (λ (h : Heap). length h.slots) freed_is ∙ length-freed c.self.inside.arena.heap c.in-Some-waiting.at),
     )
 
 pub returns-clause-limbo : goal.returns-clause-limbo

@@ -12,7 +12,6 @@ returns-then-matches-clause-acts c =
     c.give_up.ensures.heap
     c.give_up.ensures.others
     c.give_up.ensures.epochs
-    c.give_up.ensures.owners
     c.give_up.ensures.few
     c.give_up.ensures.ticks
     c.step-stood.ensures.moves
@@ -25,7 +24,6 @@ returns-else-matches-clause-acts c =
     c.give_up.ensures.heap
     c.give_up.ensures.others
     c.give_up.ensures.epochs
-    c.give_up.ensures.owners
     c.give_up.ensures.few
     c.give_up.ensures.ticks
     c.step-stood.ensures.moves

@@ -14,7 +14,6 @@ returns-in-None-clause-acts c =
       others = λ r. omega (arith, ap (times r) c.in-None.ensures.outside, c.give_up.ensures.others r);
       stay = search rules;
       epochs = search rules;
-      owners = search rules;
       few = search rules;
       ticks = search rules;
     }
@@ -32,7 +31,6 @@ returns-in-Some-clause-acts c =
       );
       stay = search rules;
       epochs = search rules;
-      owners = search rules;
       few = search rules;
       ticks = search rules;
     }

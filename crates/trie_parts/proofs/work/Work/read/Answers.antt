@@ -4,7 +4,7 @@ use Rattle.gcas.specs.Reads.{line_of}
 use Rattle.slot_arena.specs.Times.{times}
 use Rattle.trie_parts.specs.Here.{no_state, at_heap}
 use Rattle.trie_parts.proofs.Insides.{inside}
-use Rattle.trie_parts.proofs.Unmade.{read_privates, read_owners}
+use Rattle.trie_parts.proofs.Unmade.{read_privates}
 use Rattle.trie_parts.proofs.work.Work.read.Goals as goal
 
 pub returns-clause-acts : goal.returns-clause-acts
@@ -19,7 +19,6 @@ returns-clause-acts c =
       others = λ q. omega (arith, ap (times q) told.beside.outside);
       stay = λ q live. told.beside.stay q ∙ live;
       epochs = told.beside.epochs;
-      owners = told.beside.owners ∙ read_owners heap r.indirection line c.args.heap.now.owners;
       few = omega (arith, told.beside.few);
       ticks = (told.beside.ticks.0, omega (arith, told.beside.ticks.1));
     }

@@ -25,7 +25,6 @@ returns-then-is_first-clause-acts c =
       ];
       stay = search rules;
       epochs = search rules;
-      owners = search rules;
       few = search rules;
       ticks = search rules;
     }
@@ -38,7 +37,6 @@ returns-else-is_first-clause-acts c =
       others = search rules;
       stay = search rules;
       epochs = search rules;
-      owners = search rules;
       few = search rules;
       ticks = search rules;
     }
