@@ -6,6 +6,9 @@ use ctrie_map::{Handle, Map, MapError};
 /// After so many operations a copy is frozen, read and closed, where the load has copies now and then.
 const EVERY: u64 = 100;
 
+/// How many entries a part of a listing has.
+const PART: usize = 64;
+
 /// What was drawn and made so far.
 #[derive(Clone, Copy)]
 pub(crate) struct Caller {
@@ -50,6 +53,9 @@ impl Caller {
             Load::Freeze if self.made % EVERY == 0 => self.freeze(map, key),
             Load::Freeze => self.mix(map, key),
             Load::Copy => self.copy(map, key),
+            Load::Diff => self.diff(map, key),
+            Load::Count => self.count(map),
+            Load::Part => self.part(map, key),
         }
     }
 
@@ -87,5 +93,23 @@ impl Caller {
         let copy = map.freeze(Handle::first())?;
         self.put(map, key)?;
         map.close(copy)
+    }
+
+    /// Freezes the map, changes a key, asks what has changed, and closes the copy.
+    fn diff(&self, map: &mut Map, key: u64) -> Result<(), MapError> {
+        let copy = map.freeze(Handle::first())?;
+        self.put(map, key)?;
+        let _ = map.diff(copy, Handle::first())?;
+        map.close(copy)
+    }
+
+    fn count(&self, map: &Map) -> Result<(), MapError> {
+        map.count(Handle::first())?;
+        Ok(())
+    }
+
+    fn part(&self, map: &Map, key: u64) -> Result<(), MapError> {
+        let _ = map.entries_from(Handle::first(), Some(key), PART)?;
+        Ok(())
     }
 }

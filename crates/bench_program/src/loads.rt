@@ -15,6 +15,12 @@ pub(crate) enum Load {
     Freeze,
     /// A freeze, the first change after it, and a close.
     Copy,
+    /// The same, and what has changed since the freeze.
+    Diff,
+    /// Counts alone.
+    Count,
+    /// Parts of a listing alone, of 64 entries.
+    Part,
 }
 
 impl Load {
@@ -27,13 +33,19 @@ impl Load {
             "insert" => Some(Load::Insert),
             "freeze" => Some(Load::Freeze),
             "copy" => Some(Load::Copy),
+            "diff" => Some(Load::Diff),
+            "count" => Some(Load::Count),
+            "part" => Some(Load::Part),
             _ => None,
         }
     }
 
     /// Whether each key is put before.
     pub(crate) fn wants_keys(self) -> bool {
-        matches!(self, Load::Get | Load::Copy)
+        matches!(
+            self,
+            Load::Get | Load::Copy | Load::Diff | Load::Count | Load::Part
+        )
     }
 }
 

@@ -9,3 +9,5 @@ pub mod Copies
 pub mod Closings
 pub mod Lookups
 pub mod Firsts
+pub mod Walks
+pub mod Pops

@@ -1,7 +1,6 @@
 -- A call of the core that goes on to its end, and the sweep behind it: no step of either is refused.
-use Rattle.std.specs.Prelude.{◌≡◌, ◌≢◌, ◌+◌, ◌-◌, ◌<◌, ℕ, zero, suc, true, false, [], is_err, Some, Result, Ok, Err}
-use Rattle.std.proofs.Common.{refl, sym, ap, subst, inl, inr, arith, ◌∙◌}
-use Rattle.std.proofs.lemmas.Bool.{false≢true}
+use Rattle.std.specs.Prelude.{◌≡◌, ◌+◌, ◌-◌, ◌<◌, ℕ, zero, suc, true, false, Some, Result, Ok, Err}
+use Rattle.std.proofs.Common.{sym, ap, subst, inl, inr, arith, ◌∙◌}
 use Rattle.ctrie_base.specs.declared.kinds.Kind.{Kind}
 use Rattle.ctrie_base.specs.declared.refusals.Refusal.{Refusal}
 use Rattle.history.specs.declared.calls.Call.{Call}
@@ -12,9 +11,11 @@ use Rattle.machine_model.specs.declared.steps.Outcome.{Outcome}
 use Rattle.machine_model.specs.declared.steps.Outcome.TheVariants.{Began, Went, Ended}
 use Rattle.machine_model.specs.declared.steps.Step.TheVariants.{Begin, Go, Sweep}
 use Rattle.machine_model.specs.Calls.{needs_read_only}
-use Rattle.machine_model.specs.Machine.{Answer, is_busy, is_spent, is_taken_step, next}
+use Rattle.machine_model.specs.Machine.{Answer, is_busy, is_spent, next}
 use Rattle.machine_model.specs.States.{State, operation_of}
 use Rattle.machine_core.specs.Bounds.{Answers, Applies, Walks}
+use Rattle.machine_core.specs.Sweeping.{Reclaims, at_first, one_more}
+use Rattle.machine_core.specs.Work.{Worked}
 use Rattle.proof_alone.specs.Calls.{CallsBegin, CallsGoOn, CanCall, IsNoWalk, LeadsOn, steps_of}
 use Rattle.proof_alone.specs.Sweeps.{Sweeps, SweepsLeave, Swept, most_sweeps, sweeps, unswept}
 use Rattle.proof_alone.proofs.Going.{steps_so_far}
@@ -95,49 +96,20 @@ module _ (start : State) (c : Call) (can : CanCall start the_actor c) where
 
 -- ---- the sweep
 
--- nothing else denies it
-sweep_taken : (state : State) → is_spent state ≡ false → is_taken_step (next state Sweep) ≡ true
-unfolding next
-sweep_taken state e = rw e refl
-
 -- the sweep has come there
 abbrev pub IsSwept : State → State → Type 0
 IsSwept start now = (n : ℕ) × Sweeps start n now
 
-pub begins_unswept : (start : State) → IsSwept start start
-begins_unswept start = (zero, unswept)
+sweeps_by : (before : Worked) (n : ℕ) (after : Worked) → Reclaims before n after → Sweeps before.state n after.state
+sweeps_by before zero after at_first = unswept
+sweeps_by before (suc n) after (one_more {middle = middle} earlier some is little) = sweeps (sweeps_by before n middle earlier) some is
 
-module _ (start : State) where
-  module _ (law : SweepsLeave) (run : IsOfRun start) (rest : is_busy start ≡ false) (left : start.steps + most_sweeps start < start.limits.steps) (now : State) (way : IsSwept start now)
-      (some : now.limbo ≢ []) where
-    led : Swept start way.0 now
-    led = law start way.0 now run rest way.1
+pub is_swept : (before after : Worked) → ((n : ℕ) × Reclaims before n after) → IsSwept before.state after.state
+is_swept before after (n, reclaims) = (n, sweeps_by before n after reclaims)
 
-    -- so it isn't spent
-    unspent : is_spent now ≡ false
-    unspent =
-        let few = led.most in let so_far = led.steps in let same : now.limits.steps ≡ start.limits.steps = ap (λ l. l.steps) led.limits in
-        grind (arith, few, so_far, same, left)
-
-    sweep_not_refused : (why : Refusal) (after : State) → Answers (Err why) now (next now Sweep) after → ⊥
-    sweep_not_refused why after refused = false≢true (sym (ap is_taken_step refused.1) ∙ sweep_taken now unspent)
-
-    pub never_refused : (result : Result Outcome Refusal) (after : State) → Answers result now (next now Sweep) after → is_err result ≡ true → ⊥
-    never_refused (Ok outcome) after did e = false≢true e
-    never_refused (Err why) after did e = sweep_not_refused why after did
-
-    -- so it goes on
-    pub swept_on : (result : Result Outcome Refusal) (after : State) → Answers result now (next now Sweep) after → IsSwept start after
-    swept_on (Ok outcome) after did = (suc way.0, sweeps way.1 some did)
-    swept_on (Err why) after did = absurd (sweep_not_refused why after did)
-
-    -- and comes nearer
-    pub nearer : (after : State) → (result : Result Outcome Refusal) → Answers result now (next now Sweep) after →
-        after.limits.steps - after.steps < now.limits.steps - now.steps
-    nearer after (Ok outcome) did =
-        let then = law start (suc way.0) after run rest (sweeps way.1 some did) in
-        let later = then.steps in let so_far = led.steps in let few = led.most in
-        let same : now.limits.steps ≡ start.limits.steps = ap (λ l. l.steps) led.limits in
-        let also : after.limits.steps ≡ start.limits.steps = ap (λ l. l.steps) then.limits in
-        omega (arith, few, so_far, later, same, also, left)
-    nearer after (Err why) did = absurd (sweep_not_refused why after did)
+-- and isn't spent then
+pub unspent : (start : State) → SweepsLeave → IsOfRun start → is_busy start ≡ false → start.steps + most_sweeps start < start.limits.steps → (now : State) → IsSwept start now → is_spent now ≡ false
+unspent start law run rest left now way =
+    let led = law start way.0 now run rest way.1 in
+    let few = led.most in let so_far = led.steps in let same : now.limits.steps ≡ start.limits.steps = ap (λ l. l.steps) led.limits in
+    grind (arith, few, so_far, same, left)

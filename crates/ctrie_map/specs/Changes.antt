@@ -6,7 +6,7 @@ use Rattle.history.specs.declared.calls.Access.{Access}
 use Rattle.history.specs.declared.calls.Access.TheVariants.{Writable, ReadOnly as Frozen}
 use Rattle.history.specs.declared.calls.Call.{Call}
 use Rattle.history.specs.Effects.{has_value, is_crowded, naming}
-use Rattle.history.specs.Worlds.{HandleState, KeyMap}
+use Rattle.history.specs.Worlds.{HandleMap, HandleState, KeyMap}
 use Rattle.machine_model.specs.Calls.{handle_of, needs_writable, opens_handle}
 use Rattle.machine_model.specs.States.{handle_limit}
 use Rattle.ctrie_map.specs.Beneath.proof_obstruction_free.specs.Laws.{most_steps_alone}
@@ -74,9 +74,12 @@ denial_by writes opens None taken = Some NoHandle
 denial_by writes opens (Some shown) taken =
     if writes && is_frozen shown.access then Some ReadOnly else (if opens && nat_le handle_limit taken then Some HandlesFull else None)
 
--- why a call isn't even begun
+-- why a call isn't even begun where these handles are open
+abbrev pub denial_among : HandleMap → Call → Option MapError
+denial_among handles call = denial_by (needs_writable call) (opens_handle call) (map.get handles (handle_of call)) (map.len handles)
+
 abbrev pub denial_in : MapState → Call → Option MapError
-denial_in before call = denial_by (needs_writable call) (opens_handle call) (map.get (handles_of before) (handle_of call)) (map.len (handles_of before))
+denial_in before call = denial_among (handles_of before) call
 
 -- fewer slots are reached by no handle
 abbrev pub IsTight : ℕ → MapState → Type 0

@@ -3,6 +3,7 @@ pub mod Maps
 pub mod Cores
 pub mod Changes
 pub mod Performing
+pub mod Calling
 pub mod Costs
 pub mod Reading
 pub mod Telling

@@ -31,7 +31,7 @@ pub enum MapError {
     /// A map takes 2^47 steps in its life. It can still be read.
     #[error("the map is worn out")]
     WornOut,
-    /// Memory was refused to a new map, or to a list of entries.
+    /// Memory was refused to a new map, or to a list that a call answers.
     #[error("no memory")]
     Memory,
 }

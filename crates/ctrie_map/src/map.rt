@@ -16,7 +16,7 @@ use std::marker::Model;
 
 /// Maps from 64-bit numbers to 64-bit numbers, named by handles. At first handle 0 is open, writable and empty. A
 /// snapshot or a freeze takes at most 144 steps whatever the map has, and five for each slot that becomes free. All its
-/// memory is taken when it is made: no call takes more, but those that list entries.
+/// memory is taken when it is made: no call takes more, but those that list.
 pub struct Map {
     pub(crate) core: Core,
 }

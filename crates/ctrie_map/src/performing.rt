@@ -78,11 +78,7 @@ fn sweep(core: &mut Core)
 {
     let _ = core.limits();
     proof_alone::sweeps_leave();
-    while core.limbo_len() > 0 {
-        if core.sweep().is_err() {
-            unreachable!()
-        }
-    }
+    core.reclaim();
 }
 
 /// One call from its begin to its end, and the sweep of what it makes free.

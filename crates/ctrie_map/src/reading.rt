@@ -41,15 +41,6 @@ impl Map {
         entries_in(&self.core, handle.number())
     }
 
-    /// How many keys have a value. It collects and sorts them all, as `entries` does.
-    #[tactic(auto, using(crate::proofs::Lookups::len_read, crate::proofs::Lookups::len_refused))]
-    pub fn count(&self, handle: Handle) -> Result<u64, MapError>
-        ensures count { IfOk result (λ count. reading self.now handle (λ m. map.len m) ≡ Ok count) }
-        ensures refused { IfErr result (RefusesReading (reading self.now handle (λ m. map.len m))) }
-    {
-        Ok(self.entries(handle)?.len() as u64)
-    }
-
     /// How many handles are open.
     pub fn handles(&self) -> u32
         ensures { result ≡ map.len (handles_of self.now) }

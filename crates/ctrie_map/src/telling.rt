@@ -1,4 +1,4 @@
-//! What the methods tell of a reply.
+//! What the methods tell of a reply of `Map::call`.
 
 ghost use Rattle.std.specs.Prelude.{◌≡◌};
 ghost use Rattle.ctrie_map.specs.Telling.{done_in, found_in, opened_in, truth_in};
@@ -8,7 +8,7 @@ use crate::handle::Handle;
 use history::Reply;
 
 /// A value. A call for which no slot was free has the reply `NoSlots`.
-pub(crate) fn found(told: Result<Reply, MapError>) -> Result<Option<u64>, MapError>
+pub fn found(told: Result<Reply, MapError>) -> Result<Option<u64>, MapError>
     ensures { result ≡ found_in told }
 {
     match told? {
@@ -19,7 +19,7 @@ pub(crate) fn found(told: Result<Reply, MapError>) -> Result<Option<u64>, MapErr
 }
 
 /// Whether something was done.
-pub(crate) fn truth(told: Result<Reply, MapError>) -> Result<bool, MapError>
+pub fn truth(told: Result<Reply, MapError>) -> Result<bool, MapError>
     ensures { result ≡ truth_in told }
 {
     match told? {
@@ -30,7 +30,7 @@ pub(crate) fn truth(told: Result<Reply, MapError>) -> Result<bool, MapError>
 }
 
 /// A new handle.
-pub(crate) fn opened(told: Result<Reply, MapError>) -> Result<Handle, MapError>
+pub fn opened(told: Result<Reply, MapError>) -> Result<Handle, MapError>
     ensures { result ≡ opened_in told }
 {
     match told? {
@@ -41,7 +41,7 @@ pub(crate) fn opened(told: Result<Reply, MapError>) -> Result<Handle, MapError>
 }
 
 /// Nothing but that it is done.
-pub(crate) fn done(told: Result<Reply, MapError>) -> Result<(), MapError>
+pub fn done(told: Result<Reply, MapError>) -> Result<(), MapError>
     ensures { result ≡ done_in told }
 {
     match told? {

@@ -8,6 +8,8 @@ mod calls;
 mod copies;
 #[cfg(test)]
 mod refusals;
+#[cfg(test)]
+mod walks;
 
 #[cfg(test)]
 use ctrie_map::{Handle, HashKind, Map, MapError};

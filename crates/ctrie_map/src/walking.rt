@@ -1,0 +1,88 @@
+//! Calls that walk over a map without a list of it.
+
+ghost use Rattle.std.specs.Prelude.{◌≡◌, ◌≤◌, nat_eq, length, Ok, IfOk, IfErr};
+ghost use Rattle.std.specs.FinMap as map;
+ghost use Rattle.machine_core.specs.Reading.{next_of};
+ghost use Rattle.ctrie_map.specs.Reading.{IsOneOf, Reads, RefusesReading, reading};
+
+use crate::errors::MapError;
+use crate::handle::Handle;
+use crate::map::Map;
+use machine_core::Core;
+
+impl Map {
+    /// How many keys have a value. It walks over them all, since no count is kept, and takes no memory.
+    pub fn count(&self, handle: Handle) -> Result<u64, MapError>
+        ensures { result ≡ reading self.now handle (λ m. map.len m) }
+    {
+        count_in(&self.core, handle.number())
+    }
+
+    /// Whether no key has a value. It ends at the first key that has one, and takes no memory.
+    pub fn is_empty(&self, handle: Handle) -> Result<bool, MapError>
+        ensures { result ≡ reading self.now handle (λ m. nat_eq (map.len m) 0) }
+    {
+        Ok(self.first(handle)?.is_none())
+    }
+
+    /// A key with its value, whichever is found first; none exactly where no key has a value. It takes no memory.
+    pub fn first(&self, handle: Handle) -> Result<Option<(u64, u64)>, MapError>
+        ensures { Reads self.now handle IsOneOf result }
+    {
+        first_in(&self.core, handle.number())
+    }
+
+    /// The next keys after this one with their values, `room` of them at most, in ascending order of keys; from the first
+    /// key on where it is none. Each call walks over all keys, and takes memory for what it answers. The parts of a
+    /// frozen copy are a listing of one moment; those of a map that changes meanwhile are each of their own. Else than for
+    /// `NoHandle`, only memory is refused.
+    pub fn entries_from(
+        &self,
+        handle: Handle,
+        after: Option<u64>,
+        room: usize,
+    ) -> Result<Vec<(u64, u64)>, MapError>
+        ensures entries { IfOk result (λ entries. reading self.now handle (λ m. next_of after room (map.entries m)) ≡ Ok entries.items) }
+        ensures few { IfOk result (λ entries. length entries.items ≤ room) }
+        ensures refused { IfErr result (RefusesReading (reading self.now handle (λ m. next_of after room (map.entries m)))) }
+    {
+        entries_after(&self.core, handle.number(), after, room)
+    }
+}
+
+/// How many keys of a handle's map have a value.
+fn count_in(core: &Core, handle: u16) -> Result<u64, MapError>
+    ensures { result ≡ reading core.now.state handle (λ m. map.len m) }
+{
+    let _ = core.limits();
+    match core.count(handle) {
+        Ok(count) => Ok(count),
+        Err(_) => Err(MapError::NoHandle),
+    }
+}
+
+/// A key of a handle's map with its value.
+fn first_in(core: &Core, handle: u16) -> Result<Option<(u64, u64)>, MapError>
+    ensures { Reads core.now.state handle IsOneOf result }
+{
+    let _ = core.limits();
+    match core.first(handle) {
+        Ok(first) => Ok(first),
+        Err(_) => Err(MapError::NoHandle),
+    }
+}
+
+/// The next pairs of a handle's map.
+fn entries_after(
+    core: &Core,
+    handle: u16,
+    after: Option<u64>,
+    room: usize,
+) -> Result<Vec<(u64, u64)>, MapError>
+    ensures entries { IfOk result (λ entries. reading core.now.state handle (λ m. next_of after room (map.entries m)) ≡ Ok entries.items) }
+    ensures few { IfOk result (λ entries. length entries.items ≤ room) }
+    ensures refused { IfErr result (RefusesReading (reading core.now.state handle (λ m. next_of after room (map.entries m)))) }
+{
+    let _ = core.limits();
+    Ok(core.part(handle, after, room)?.into_vec())
+}
