@@ -27,7 +27,6 @@ static uint32_t begin_anew(struct cache *cache) {
 
 /* The steps from the number, worked out if they aren't known yet. */
 static uint32_t steps_from(struct cache *cache, uint64_t number, uint64_t *steps) {
-    uint64_t before;
     uint32_t code = ctrie_get(&cache->map, cache->now, number, steps);
     if (code == CTRIE_YES) {
         cache->hits++;
@@ -35,11 +34,11 @@ static uint32_t steps_from(struct cache *cache, uint64_t number, uint64_t *steps
     }
     if (CTRIE_REFUSED(code)) return code;
     *steps = slow(number);
-    code = ctrie_put(&cache->map, cache->now, number, *steps, &before);
+    code = ctrie_put(&cache->map, cache->now, number, *steps, NULL);
     if (code == CTRIE_FULL) {
         code = begin_anew(cache);
         if (CTRIE_REFUSED(code)) return code;
-        code = ctrie_put(&cache->map, cache->now, number, *steps, &before);
+        code = ctrie_put(&cache->map, cache->now, number, *steps, NULL);
     }
     return CTRIE_REFUSED(code) ? code : CTRIE_DONE;
 }
@@ -71,7 +70,7 @@ int main(void) {
         uint32_t code = ask(&cache, sizes[i]);
         ctrie_free(&cache.map);
         if (code != CTRIE_DONE) {
-            fprintf(stderr, "refused: code %u\n", (unsigned)code);
+            fprintf(stderr, "refused: %s\n", ctrie_error(code));
             return 1;
         }
     }

@@ -31,10 +31,24 @@ static void lists_no_map(void) {
     printf("  %llu: %llu\n", (unsigned long long)pair.key, (unsigned long long)pair.value);
 }
 
+/* The value isn't told where NULL stands for its place. */
+static void tells_no_value(void) {
+    TELL("put", ctrie_put(&map, 0, 5, 50, NULL), 0);
+    TELL("put", ctrie_put(&map, 0, 5, 51, NULL), 0);
+    TELL("put if absent", ctrie_put_if_absent(&map, 0, 5, 52, NULL), 0);
+    TELL("replace", ctrie_replace(&map, 0, 5, 53, NULL), 0);
+    TELL("get", ctrie_get(&map, 0, 5, NULL), 0);
+    TELL("remove", ctrie_remove(&map, 0, 5, NULL), 0);
+    TELL("get", ctrie_get(&map, 0, 5, NULL), 0);
+}
+
 int main(void) {
     uint64_t value = 99;
     uint32_t number = 99;
     uint16_t copy = 99, frozen = 99;
+    struct ctrie_pair pair = {99, 99};
+    printf("version %u\n", (unsigned)ctrie_version());
+    for (uint32_t code = 0; code < 15; code++) printf("code %u: %s\n", (unsigned)code, ctrie_error(code));
     TELL("get of no map", ctrie_get(&map, 0, 1, &value), value);
     lists_no_map();
     TELL("new of 1 slot", ctrie_new(&map, 1, CTRIE_LOW), 0);
@@ -47,6 +61,7 @@ int main(void) {
     TELL("put", ctrie_put(&map, 0, UINT64_MAX, 7, &value), value);
     TELL("put if absent", ctrie_put_if_absent(&map, 0, 1, 12, &value), value);
     TELL("put if absent", ctrie_put_if_absent(&map, 0, 2, 20, &value), value);
+    tells_no_value();
     TELL("freeze", ctrie_freeze(&map, 0, &frozen), frozen);
     TELL("snapshot", ctrie_snapshot(&map, 0, &copy), copy);
     TELL("replace", ctrie_replace(&map, copy, 1, 13, &value), value);
@@ -65,6 +80,11 @@ int main(void) {
     TELL("count", ctrie_count(&map, 0, &value), value);
     TELL("count", ctrie_count(&map, copy, &value), value);
     TELL("count", ctrie_count(&map, 9, &value), value);
+    TELL("first", ctrie_first(&map, 0, &pair), pair.value);
+    TELL("first", ctrie_first(&map, copy, &pair), pair.value);
+    TELL("pop", ctrie_pop(&map, copy, &pair), pair.value);
+    TELL("pop", ctrie_pop(&map, copy, &pair), pair.value);
+    TELL("pop of a frozen one", ctrie_pop(&map, frozen, &pair), pair.value);
     TELL("handles", ctrie_handles(&map, &number), number);
     TELL("slots", ctrie_slots(&map, &number), number);
     lists(frozen, 2);

@@ -21,8 +21,7 @@ static uint64_t amount(struct ctrie *map, uint16_t handle, uint64_t account) {
 }
 
 static bool set(struct ctrie *map, uint16_t handle, uint64_t account, uint64_t amount) {
-    uint64_t before;
-    return done(ctrie_put(map, handle, account, amount, &before));
+    return done(ctrie_put(map, handle, account, amount, NULL));
 }
 
 /* Moves one from an account to the till, if it has one. It is moved on a copy, which becomes the index when all is done:
@@ -80,6 +79,6 @@ int main(void) {
     struct ctrie map = CTRIE_NONE;
     if (done(ctrie_new(&map, 256, CTRIE_FOLD))) run(&map);
     ctrie_free(&map);
-    if (refusal != CTRIE_DONE) fprintf(stderr, "refused: code %u\n", (unsigned)refusal);
+    if (refusal != CTRIE_DONE) fprintf(stderr, "refused: %s\n", ctrie_error(refusal));
     return refusal != CTRIE_DONE;
 }

@@ -16,7 +16,7 @@ use Rattle.ctrie_map.specs.Changes.{Changes, Closes, Copies, HasLife, HasRoom, I
 use Rattle.ctrie_map.specs.Changes.{removed_if_it_has, set_if_absent, set_if_it_has, set_if_there}
 use Rattle.ctrie_map.specs.Costs.{WorksUpTo, work_of_a_change, work_of_a_close, work_of_a_copy}
 use Rattle.ctrie_map.specs.Maps.{AreSlots, IsNew, MapState, RefusesSizes, free_of, handles_of}
-use Rattle.ctrie_map.specs.Reading.{RefusesReading, reading}
+use Rattle.ctrie_map.specs.Reading.{IsOneOf, Reads, reading, without}
 use Rattle.ctrie_c.specs.Answers.{bad_hash, code_limit, done_told, has_map}
 
 -- ---- making
@@ -41,8 +41,10 @@ abbrev pub Contains : ℕ → ℕ → Result Bool MapError → MapState → MapS
 Contains handle key told old new = (told ≡ reading old handle (λ m. map.contains_key m key)) × (new ≡ old)
 
 abbrev pub Counts : ℕ → Result ℕ MapError → MapState → MapState → Type 0
-Counts handle told old new =
-    IfOk told (λ count. reading old handle (λ m. map.len m) ≡ Ok count) × IfErr told (RefusesReading (reading old handle (λ m. map.len m))) × (new ≡ old)
+Counts handle told old new = (told ≡ reading old handle (λ m. map.len m)) × (new ≡ old)
+
+abbrev pub Finds : ℕ → Result (Option (ℕ × ℕ)) MapError → MapState → MapState → Type 0
+Finds handle told old new = Reads old handle IsOneOf told × (new ≡ old)
 
 abbrev pub CountsHandles : Result ℕ MapError → MapState → MapState → Type 0
 CountsHandles told old new = (told ≡ Ok (map.len (handles_of old))) × (new ≡ old)
@@ -92,6 +94,12 @@ ReplacesIf handle key before value = ChangesIf (ReplaceIf handle key before valu
 
 abbrev pub RemovesIf : ℕ → ℕ → ℕ → Result Bool MapError → MapState → MapState → Type 0
 RemovesIf handle key value = ChangesIf (RemoveIf handle key value) handle key value (removed_if_it_has key value)
+
+-- any one key is taken out
+abbrev pub Pops : ℕ → Result (Option (ℕ × ℕ)) MapError → MapState → MapState → Type 0
+Pops handle told old new =
+    IfOk told (λ popped. HasLife old × Changes old handle (λ m. IsOneOf m popped) (without popped) new)
+    × IfErr told (λ error. (key : ℕ) × Refuses old (Remove handle key) ⊥ new error) × WorksUpTo work_of_a_change old new
 
 abbrev pub Clears : ℕ → Result (Unit {0}) MapError → MapState → MapState → Type 0
 Clears handle told old new =

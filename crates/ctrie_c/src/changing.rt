@@ -1,11 +1,13 @@
 //! Calls that change a map.
 
 ghost use Rattle.std.specs.Prelude.{◌≡◌, nat_eq, false};
-ghost use Rattle.ctrie_c.specs.Calls.{Clears, Puts, PutsIfAbsent, Removes, RemovesIf, Replaces, ReplacesIf};
+ghost use Rattle.ctrie_c.specs.Calls.{Clears, Pops, Puts, PutsIfAbsent, Removes, RemovesIf, Replaces, ReplacesIf};
 ghost use Rattle.ctrie_c.specs.Answers.{Does, done_told, truth_told, value_told};
+ghost use Rattle.ctrie_c.specs.Listing.{pair_told};
 
-use crate::codes::{NO_MAP, tell_done, tell_truth, tell_value};
+use crate::codes::{NO_MAP, tell_done, tell_pair, tell_truth, tell_value};
 use crate::held::{HeldMap, give, take};
+use crate::listing::Pair;
 use ctrie_map::Handle;
 use std::alloc::Global;
 
@@ -139,6 +141,22 @@ pub extern "C" fn ctrie_remove_if(
             let told = map.remove_if(Handle::new(handle), key, value);
             give(held, map);
             tell_truth(told)
+        }
+    }
+}
+
+/// Takes a key out, whichever is found first, and tells it with the value that it had, if there is one.
+#[unsafe(no_mangle)]
+pub extern "C" fn ctrie_pop(alloc: Global, held: &mut HeldMap, handle: u16, pair: &mut Pair) -> u32
+    ensures does { Does held.old.state held.new.state result (Pops handle (pair_told result pair.new)) }
+    ensures kept { nat_eq result 1 ≡ false → pair.new ≡ pair.old }
+{
+    match take(alloc, held) {
+        None => NO_MAP,
+        Some(mut map) => {
+            let told = map.pop(Handle::new(handle));
+            give(held, map);
+            tell_pair(told, pair)
         }
     }
 }

@@ -2,7 +2,9 @@
 
 ghost use Rattle.std.specs.Prelude.{◌≡◌, ◌<◌, nat_eq, false};
 ghost use Rattle.ctrie_c.specs.Answers.{code_limit, refusal_of, value_told, truth_told, number_told, done_told};
+ghost use Rattle.ctrie_c.specs.Listing.{pair_told};
 
+use crate::listing::Pair;
 use ctrie_map::{Handle, MapError};
 
 /// Done: false, or no value.
@@ -49,6 +51,22 @@ pub(crate) fn tell_value(told: Result<Option<u64>, MapError>, value: &mut u64) -
         Ok(None) => NO,
         Ok(Some(found)) => {
             *value = found;
+            YES
+        }
+        Err(error) => refusal(error),
+    }
+}
+
+/// Tells of a key with its value, which are written where there is one.
+pub(crate) fn tell_pair(told: Result<Option<(u64, u64)>, MapError>, pair: &mut Pair) -> u32
+    ensures told { pair_told result pair.new ≡ told }
+    ensures bound { result < code_limit }
+    ensures kept { nat_eq result 1 ≡ false → pair.new ≡ pair.old }
+{
+    match told {
+        Ok(None) => NO,
+        Ok(Some((key, value))) => {
+            *pair = Pair { key, value };
             YES
         }
         Err(error) => refusal(error),

@@ -9,3 +9,4 @@ mod listing;
 mod loose;
 mod making;
 mod reading;
+mod version;

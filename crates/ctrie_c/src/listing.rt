@@ -1,9 +1,8 @@
 //! The call that lists a map, in parts: it writes into the caller's buffer, so nothing is allocated for the caller.
 
-ghost use Rattle.std.specs.Prelude.{◌≡◌, ◌≤◌, ◌+◌, nat_eq, false, length, take, drop, map, min};
-ghost use Rattle.std.specs.List.{filter};
+ghost use Rattle.std.specs.Prelude.{◌≡◌, ◌≤◌, nat_eq, false, length};
 ghost use Rattle.ctrie_c.specs.Answers.{Does, number_told};
-ghost use Rattle.ctrie_c.specs.Listing.{Lists, Writes, behind, is_ahead, next_part, pair_of};
+ghost use Rattle.ctrie_c.specs.Listing.{Lists, Writes, last_of};
 
 use crate::codes::{NO_MAP, refusal, tell_count};
 use crate::held::{HeldMap, give, take};
@@ -31,11 +30,11 @@ pub struct Cursor {
 }
 
 impl Cursor {
-    /// Whether the key is still to be listed.
-    fn is_before(self, key: u64) -> bool
-        ensures { result ≡ is_ahead self key }
+    /// The last key that was listed, if one was.
+    fn last_key(self) -> Option<u64>
+        ensures { result ≡ last_of self }
     {
-        !self.begun || self.last < key
+        if self.begun { Some(self.last) } else { None }
     }
 }
 
@@ -57,24 +56,14 @@ pub extern "C" fn ctrie_entries(
     match take(alloc, held) {
         None => NO_MAP,
         Some(map) => {
-            let entries = map.entries(Handle::new(handle));
+            let part = map.entries_from(Handle::new(handle), cursor.last_key(), pairs.len());
             give(held, map);
-            match entries {
-                Ok(entries) => tell_count(Ok(list(entries, cursor, pairs)), count),
+            match part {
+                Ok(part) => tell_count(Ok(write(part.as_slice(), cursor, pairs) as u64), count),
                 Err(error) => refusal(error),
             }
         }
     }
-}
-
-/// Writes the next part of all entries.
-fn list(mut entries: Vec<(u64, u64)>, cursor: &mut Cursor, pairs: &mut [Pair]) -> u64
-    ensures { Writes (next_part cursor.old (length pairs.old) entries.items) cursor.old pairs.old result cursor.new pairs.new }
-{
-    let from = *cursor;
-    entries.retain(|entry| from.is_before(entry.0));
-    entries.truncate(pairs.len());
-    write(entries.as_slice(), cursor, pairs) as u64
 }
 
 /// Writes this part.

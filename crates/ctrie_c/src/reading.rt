@@ -1,11 +1,13 @@
 //! Calls that change nothing.
 
 ghost use Rattle.std.specs.Prelude.{◌≡◌, nat_eq, false};
-ghost use Rattle.ctrie_c.specs.Calls.{Contains, Counts, CountsFree, CountsHandles, CountsSlots, Gets};
+ghost use Rattle.ctrie_c.specs.Calls.{Contains, Counts, CountsFree, CountsHandles, CountsSlots, Finds, Gets};
 ghost use Rattle.ctrie_c.specs.Answers.{Does, number_told, truth_told, value_told};
+ghost use Rattle.ctrie_c.specs.Listing.{pair_told};
 
-use crate::codes::{NO, NO_MAP, tell_count, tell_truth, tell_value};
+use crate::codes::{NO, NO_MAP, tell_count, tell_pair, tell_truth, tell_value};
 use crate::held::{HeldMap, give, take};
+use crate::listing::Pair;
 use ctrie_map::Handle;
 use std::alloc::Global;
 
@@ -64,6 +66,27 @@ pub extern "C" fn ctrie_count(
             let told = map.count(Handle::new(handle));
             give(held, map);
             tell_count(told, count)
+        }
+    }
+}
+
+/// Tells a key with its value, whichever is found first, if there is one.
+#[unsafe(no_mangle)]
+pub extern "C" fn ctrie_first(
+    alloc: Global,
+    held: &mut HeldMap,
+    handle: u16,
+    pair: &mut Pair,
+) -> u32
+    ensures does { Does held.old.state held.new.state result (Finds handle (pair_told result pair.new)) }
+    ensures kept { nat_eq result 1 ≡ false → pair.new ≡ pair.old }
+{
+    match take(alloc, held) {
+        None => NO_MAP,
+        Some(map) => {
+            let told = map.first(Handle::new(handle));
+            give(held, map);
+            tell_pair(told, pair)
         }
     }
 }

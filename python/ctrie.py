@@ -1,0 +1,376 @@
+"""A map from 64-bit numbers to 64-bit numbers with snapshots: a Python module over the map for C.
+
+    import ctrie
+
+    with ctrie.Map(1024) as stock:
+        stock[7] = 250
+        with stock.freeze() as morning:
+            stock[7] = 300
+            print(morning[7], stock[7])
+
+It prints 250 300. A `Map` is a dictionary of whole numbers from 0 to 2^64 - 1, in a given number of slots for nodes, whose memory is what
+it took at first. A snapshot or a freeze of it is one too, in the same slots: it has what the map has at that moment, by as many steps
+whatever that is, and changes on its own or never. Entries are listed in ascending order of keys.
+
+A key or value out of range is refused with OverflowError, one that is no whole number with TypeError. A call that is refused changes
+nothing, and raises an `Error`. A map and its copies are used on the thread that made the map, and not in a child made by fork.
+
+The library is the shared object that `./build ctrie_c` makes. It is the file that the environment's CTRIE_LIBRARY names, or else
+libctrie.so beside this file, the one that was built, or the one that the system finds.
+"""
+from __future__ import annotations
+
+import enum
+import operator
+import os
+import threading
+import weakref
+from ctypes import POINTER, PyDLL, Structure, byref, c_bool, c_size_t, c_uint16, c_uint32, c_uint64, c_void_p
+from typing import Any, Dict, ItemsView, Iterator, MutableMapping, Optional, Tuple, Type, TypeVar, Union, ValuesView, overload
+
+__all__ = [
+    "Map", "Copy", "Hash", "Error", "NoHandle", "ReadOnly", "HandlesFull", "Crowded", "Full", "BadSizes", "WornOut", "OutOfMemory", "Closed",
+    "WrongThread",
+]
+__version__ = "0.1.0"
+
+# So many entries are listed at once.
+_ROOM = 4096
+_Default = TypeVar("_Default")
+_View = TypeVar("_View", bound="_Handle")
+
+
+class Error(Exception):
+    """A call of a map was refused."""
+
+
+class NoHandle(Error):
+    """The copy is closed."""
+
+
+class ReadOnly(Error):
+    """The copy is a frozen one."""
+
+
+class HandlesFull(Error):
+    """256 handles are open: the map's, and one of each copy."""
+
+
+class Crowded(Error):
+    """32 other keys have the key's hash."""
+
+
+class Full(Error):
+    """No slot is free."""
+
+
+class BadSizes(Error, ValueError):
+    """The number of slots isn't from 2 to 65,536."""
+
+
+class WornOut(Error):
+    """The map's steps are used up; it can be read."""
+
+
+class OutOfMemory(Error, MemoryError):
+    """There is no memory for the map, or for a list of its entries."""
+
+
+class Closed(Error):
+    """The map is closed."""
+
+
+class WrongThread(Error):
+    """Another thread made the map."""
+
+
+class Hash(enum.IntEnum):
+    """How a map hashes its keys. At most 32 keys have one hash."""
+
+    LOW = 0  # the key modulo 2^32
+    FOLD = 1  # the key's low half xor its high half
+    WIDE = 2  # the key itself
+    BLOCK = 3  # the key divided by 64
+
+
+class _Held(Structure):
+    _fields_ = [("at", c_void_p)]
+
+
+class _Pair(Structure):
+    _fields_ = [("key", c_uint64), ("value", c_uint64)]
+
+
+class _Cursor(Structure):
+    _fields_ = [("last", c_uint64), ("begun", c_bool)]
+
+
+# The calls of include/ctrie.h, with what each takes after the map.
+_CALLS: Dict[str, Tuple[Any, ...]] = {
+    "new": (c_uint32, c_uint32),
+    "get": (c_uint16, c_uint64, POINTER(c_uint64)),
+    "contains": (c_uint16, c_uint64),
+    "count": (c_uint16, POINTER(c_uint64)),
+    "entries": (c_uint16, POINTER(_Cursor), POINTER(_Pair), c_size_t, POINTER(c_uint64)),
+    "slots": (POINTER(c_uint32),),
+    "free_slots": (POINTER(c_uint32),),
+    "put": (c_uint16, c_uint64, c_uint64, POINTER(c_uint64)),
+    "put_if_absent": (c_uint16, c_uint64, c_uint64, POINTER(c_uint64)),
+    "remove": (c_uint16, c_uint64, POINTER(c_uint64)),
+    "clear": (c_uint16,),
+    "snapshot": (c_uint16, POINTER(c_uint16)),
+    "freeze": (c_uint16, POINTER(c_uint16)),
+    "close": (c_uint16,),
+}
+_YES = 1
+_REFUSALS: Dict[int, Type[Error]] = {
+    2: NoHandle, 3: ReadOnly, 4: HandlesFull, 5: Crowded, 6: Full, 7: BadSizes, 8: WornOut, 9: OutOfMemory, 11: Closed,
+}
+
+
+def _library_file() -> str:
+    here = os.path.dirname(os.path.realpath(__file__))
+    built = os.path.join(os.path.dirname(here), "out", "c", "lib", "libctrie.so")
+    there = [it for it in (os.path.join(here, "libctrie.so"), built) if os.path.exists(it)]
+    return os.environ.get("CTRIE_LIBRARY") or [*there, f"libctrie.so.{__version__}"][0]
+
+
+def _declared(call: Any, result: Any, *words: Any) -> Any:
+    call.restype, call.argtypes = result, words
+    return call
+
+
+def _load() -> Dict[str, Any]:
+    """Returns the calls of the library. They keep the interpreter's lock, since they are short."""
+    file = _library_file()
+    library = PyDLL(file)
+    major, rest = divmod(_declared(library.ctrie_version, c_uint32)(), 10_000)
+    version = ".".join(map(str, (major, *divmod(rest, 100))))
+    if version != __version__:
+        raise ImportError(f"{file} has the version {version}, and this module {__version__}")
+    calls = {name: _declared(library[f"ctrie_{name}"], c_uint32, POINTER(_Held), *words) for name, words in _CALLS.items()}
+    return {**calls, "free": _declared(library.ctrie_free, None, POINTER(_Held))}
+
+
+_LIBRARY = _load()
+
+
+def _number(value: int) -> int:
+    """Returns the key or value, if it is one: ctypes cuts off what is too large."""
+    number = operator.index(value)
+    if not 0 <= number < 2**64:
+        raise OverflowError(f"{number} isn't from 0 to 2^64 - 1")
+    return number
+
+
+def _free(held: _Held, thread: int) -> None:
+    """Frees the map. On another thread it is left where it is."""
+    if threading.get_ident() == thread:
+        _LIBRARY["free"](byref(held))
+
+
+class _Owner:
+    """What holds a map in the library."""
+
+    def __init__(self, slots: int, hash: Hash) -> None:
+        self.held, self.thread = _Held(None), threading.get_ident()
+        self.free = weakref.finalize(self, _free, self.held, self.thread)
+        if not 0 <= operator.index(slots) < 2**32:
+            raise BadSizes(BadSizes.__doc__)
+        self.call("new", slots, Hash(hash))
+
+    def is_open(self) -> bool:
+        return self.held.at is not None
+
+    def check_thread(self) -> None:
+        if threading.get_ident() != self.thread:
+            raise WrongThread(WrongThread.__doc__)
+
+    def call(self, name: str, *words: Any) -> bool:
+        """Carries out a call, and returns whether it tells yes."""
+        self.check_thread()
+        code: int = _LIBRARY[name](byref(self.held), *words)
+        if code > _YES:
+            raise _REFUSALS[code](_REFUSALS[code].__doc__)
+        return code == _YES
+
+
+class _Items(ItemsView[int, int]):
+    _mapping: _Handle
+
+    def __iter__(self) -> Iterator[Tuple[int, int]]:
+        return self._mapping._pairs()
+
+
+class _Values(ValuesView[int]):
+    _mapping: _Handle
+
+    def __iter__(self) -> Iterator[int]:
+        return (value for _, value in self._mapping._pairs())
+
+
+class _Handle(MutableMapping[int, int]):
+    """A map that a handle names: what `Map` and `Copy` have in common."""
+
+    def __init__(self, owner: _Owner, handle: int) -> None:
+        self._owner = owner
+        # None once it is closed: the number may be another copy's then.
+        self._handle: Optional[int] = handle
+
+    def _call(self, name: str, *words: Any) -> bool:
+        if self._handle is None:
+            raise NoHandle(NoHandle.__doc__)
+        return self._owner.call(name, self._handle, *words)
+
+    def _told(self, name: str, *words: int) -> Optional[int]:
+        """Returns the value that a call tells, if it tells one."""
+        value = c_uint64()
+        return value.value if self._call(name, *map(_number, words), byref(value)) else None
+
+    def _pairs(self) -> Iterator[Tuple[int, int]]:
+        cursor, pairs, count = _Cursor(0, False), (_Pair * _ROOM)(), c_uint64(_ROOM)
+        while count.value == _ROOM:
+            self._call("entries", byref(cursor), pairs, _ROOM, byref(count))
+            yield from [(pair.key, pair.value) for pair in pairs[: count.value]]
+
+    def _copied(self, name: str) -> Copy:
+        handle = c_uint16()
+        self._call(name, byref(handle))
+        return Copy(self._owner, handle.value)
+
+    def __getitem__(self, key: int) -> int:
+        value = self._told("get", key)
+        if value is None:
+            raise KeyError(key)
+        return value
+
+    def __setitem__(self, key: int, value: int) -> None:
+        self._told("put", key, value)
+
+    def __delitem__(self, key: int) -> None:
+        if self._told("remove", key) is None:
+            raise KeyError(key)
+
+    def __contains__(self, key: object) -> bool:
+        return self._call("contains", _number(key))  # type: ignore[arg-type]
+
+    def __len__(self) -> int:
+        count = c_uint64()
+        self._call("count", byref(count))
+        return count.value
+
+    def __iter__(self) -> Iterator[int]:
+        """Goes through the keys, 4,096 at a time. A map may change in between: then it goes on after the key that it came to. A frozen
+        copy is of one moment."""
+        return (key for key, _ in self._pairs())
+
+    def items(self) -> ItemsView[int, int]:
+        """Returns a view of the keys with their values; it is gone through as the keys are."""
+        return _Items(self)
+
+    def values(self) -> ValuesView[int]:
+        """Returns a view of the values in ascending order of their keys."""
+        return _Values(self)
+
+    @overload
+    def get(self, key: int) -> Optional[int]: ...
+
+    @overload
+    def get(self, key: int, default: Union[int, _Default]) -> Union[int, _Default]: ...
+
+    def get(self, key: int, default: Any = None) -> Any:
+        """Returns the key's value, or the default."""
+        value = self._told("get", key)
+        return default if value is None else value
+
+    _NOTHING = object()
+
+    @overload
+    def pop(self, key: int) -> int: ...
+
+    @overload
+    def pop(self, key: int, default: Union[int, _Default]) -> Union[int, _Default]: ...
+
+    def pop(self, key: int, default: Any = _NOTHING) -> Any:
+        """Removes the key, and returns its value, or the default where it has none; a KeyError where there is no default."""
+        value = self._told("remove", key)
+        if value is None and default is self._NOTHING:
+            raise KeyError(key)
+        return default if value is None else value
+
+    def setdefault(self, key: int, default: int = 0) -> int:
+        """Sets the value of a key that has none, and returns the value that it has then."""
+        value = self._told("put_if_absent", key, default)
+        return default if value is None else value
+
+    def clear(self) -> None:
+        """Removes all keys, by as many steps whatever there is."""
+        self._call("clear")
+
+    def snapshot(self) -> Copy:
+        """Returns a copy that can be changed."""
+        return self._copied("snapshot")
+
+    def freeze(self) -> Copy:
+        """Returns a copy that never changes."""
+        return self._copied("freeze")
+
+    def close(self) -> None:
+        raise NotImplementedError
+
+    def __enter__(self: _View) -> _View:
+        return self
+
+    def __exit__(self, *_: object) -> None:
+        self.close()
+
+    def __reduce__(self) -> Any:
+        raise TypeError("copy a map by snapshot() or freeze()")
+
+
+class Copy(_Handle):
+    """A snapshot or a freeze of a map, with a handle of its own. It is open until it is closed, by close(), by the end of a `with` or as
+    nothing refers to it any more; or until the map is. Closed, it raises `NoHandle`."""
+
+    def close(self) -> None:
+        """Gives the handle back, and what slots the copy alone has."""
+        if self._handle is not None and self._owner.is_open():
+            self._owner.call("close", self._handle)
+        self._handle = None
+
+    def __del__(self) -> None:
+        try:
+            self.close()
+        except Error:
+            pass
+
+
+class Map(_Handle):
+    """A map with the given number of slots for nodes, from 2 to 65,536, some 1.6 for each key.
+
+    It is open until it is closed, by close(), by the end of a `with` or as nothing refers to it or to a copy of it any more. Closed, it
+    and its copies raise `Closed`."""
+
+    def __init__(self, slots: int, hash: Hash = Hash.FOLD) -> None:
+        super().__init__(_Owner(slots, hash), 0)
+
+    def close(self) -> None:
+        """Frees the map."""
+        if self._owner.is_open():
+            self._owner.check_thread()
+            self._owner.free()
+
+    @property
+    def slots(self) -> int:
+        """How many slots there are in all."""
+        return self._slots("slots")
+
+    @property
+    def free_slots(self) -> int:
+        """How many slots neither the map nor an open copy has."""
+        return self._slots("free_slots")
+
+    def _slots(self, name: str) -> int:
+        count = c_uint32()
+        self._owner.call(name, byref(count))
+        return count.value
