@@ -1,0 +1,289 @@
+#!/usr/bin/env python3
+"""convert.py FILE [--steps N]: writes another checker's history in the form that `ctrie check`, `explain` and `draw` read.
+
+It reads
+
+- Jepsen's histories of a register, with :read, :write and :cas; where all values are tuples `[k v]`, of a register for each k;
+- porcupine's logs of a map from strings to strings, with :get, :put and :append.
+
+A register is a key of the map, which has no value at first (nil, and in a log ""). Numbers from 0 to 2^64 - 1 stand for themselves,
+if all keys or all values are such numbers; else they are numbered in the order in which they come first, and comment lines tell which
+is which. An operation without an end, or whose end is :info, stays open: it may have had its effect or not. One that ended with :fail
+is left out: it had none. What isn't of a numbered process, as of the nemesis, is passed over.
+
+`check` judges an order, and such a history has none. So this program looks for one, and gives up after a million steps, or N. The
+order also says what the history doesn't: the value before, which a put is answered, and what a key has after an append, which is told
+as a put of that.
+
+Status 0: the order explains all answers. 1: the history can't be told; standard error says in which line and why. 2: the words are
+no call, the file can't be read, or the steps didn't suffice. Nothing is written then. 3: no order explains the answers; one that goes
+as far as any is written, and `ctrie explain` says where it breaks off.
+"""
+import argparse
+import heapq
+import json
+import math
+import re
+import sys
+from dataclasses import dataclass
+
+sys.dont_write_bytecode = True
+import edn
+from edn import Fault, Word
+from orders import Budget, Spent, after, merged, order_of
+
+CALLS = {":read": "read", ":write": "write", ":cas": "cas", ":get": "read", ":put": "write", ":append": "append"}
+MOST_NUMBER, MOST_ACTOR = 2**64 - 1, 255
+
+
+@dataclass(eq=False)
+class Operation:
+    """An operation of a process, begun in this line. Its begin and its end are the numbers of events, and its end infinity where it has
+    none. `before` is what a cas wants to find, `value` what is written or appended, `found` what a read was answered."""
+
+    line: int
+    process: int
+    what: str
+    key: object = 0
+    before: object = None
+    value: object = None
+    found: object = None
+    begin: float = 0
+    end: float = math.inf
+
+
+# ---- reading
+
+
+def named(form, name):
+    return form.get(Word(f":{name}"))
+
+
+def is_pair(value):
+    return isinstance(value, list) and len(value) == 2
+
+
+def are_tuples(forms):
+    """Whether these forms' values are tuples of a key and a value."""
+    told = [(str(named(form, "f")), named(form, "value")) for _, form in forms if named(form, "value") is not None]
+    return bool(told) and all(is_pair(value) and (what != ":cas" or value[1] is None or is_pair(value[1])) for what, value in told)
+
+
+def key_and_value(line, form, what, tuples):
+    """Returns the key that a form names, and the value, or the two of a cas."""
+    key, value = form.get(Word(":key"), 0), named(form, "value")
+    if tuples:
+        if not is_pair(value):
+            raise Fault(line, "the value is no tuple of a key and a value, as others are")
+        key, value = value
+    elif Word(":key") in form and value == "":
+        value = None
+    for it in [key, *(value if what == "cas" and is_pair(value) else [value])]:
+        if isinstance(it, (list, dict)):
+            raise Fault(line, "the key or the value is a collection")
+    return key, value
+
+
+def begun(line, form, tuples):
+    """Returns the operation that a form of the type :invoke begins."""
+    name = named(form, "f")
+    if str(name) not in CALLS:
+        raise Fault(line, f"there is no call for {name}")
+    operation = Operation(line, named(form, "process"), CALLS[str(name)])
+    operation.key, value = key_and_value(line, form, operation.what, tuples)
+    if operation.what == "cas":
+        if not is_pair(value) or None in value:
+            raise Fault(line, "a cas has to name two values")
+        operation.before, operation.value = value
+    elif operation.what != "read":
+        if value is None:
+            raise Fault(line, 'a write of nil or "" can\'t be told from no value')
+        if operation.what == "append" and not isinstance(value, str):
+            raise Fault(line, "only strings are appended")
+        operation.value = value
+    return operation
+
+
+def found_by(line, form, read, tuples):
+    """Returns what this read found, by the form that ends it."""
+    key, value = key_and_value(line, form, "read", tuples)
+    if key != read.key:
+        raise Fault(line, f"the key is another than in line {read.line}")
+    return value
+
+
+def operations_of(forms):
+    """Returns the operations of a history, and those that ended with :fail."""
+    forms = [(line, form) for line, form in forms if not isinstance(form, dict) or isinstance(named(form, "process"), int)]
+    for line, form in forms:
+        if not isinstance(form, dict):
+            raise Fault(line, "this is no event")
+    tuples, running, kept, failed = are_tuples(forms), {}, [], []
+    for time, (line, form) in enumerate(forms):
+        process, kind = named(form, "process"), str(named(form, "type"))
+        if kind == ":invoke":
+            if process in running:
+                raise Fault(line, f"process {process} begins this while its operation of line {running[process].line} isn't ended")
+            running[process] = begun(line, form, tuples)
+            running[process].begin = time
+            kept.append(running[process])
+        elif kind not in (":ok", ":fail", ":info") or process not in running:
+            raise Fault(line, f"process {process} has begun nothing, or {kind} is no type")
+        elif kind == ":fail":
+            failed.append(running.pop(process))
+        elif kind == ":ok":
+            operation = running.pop(process)
+            operation.end = time
+            if operation.what == "read":
+                operation.found = found_by(line, form, operation, tuples)
+    gone = {it.begin for it in failed}
+    return [it for it in kept if it.begin not in gone], failed
+
+
+# ---- telling
+
+
+def numbers_of(names):
+    """Returns a number for each of these names: itself, where all are numbers."""
+    names = list(dict.fromkeys(names))
+    for kind, form in ((int, r"[0-9]+"), (str, r"0|[1-9][0-9]*")):
+        if all(type(it) is kind and re.fullmatch(form, str(it)) and int(it) <= MOST_NUMBER for it in names):
+            return {it: int(it) for it in names}
+    return {it: at for at, it in enumerate(names)}
+
+
+def spelled(name):
+    """A key or a value in the notation of edn."""
+    return json.dumps(name) if isinstance(name, str) else "nil" if name is None else str(name)
+
+
+def actors_of(operations):
+    """Returns the actor of each operation, by its begin: its process, where all are actors; else the lowest number that no process has
+    that goes on, or that left an operation open."""
+    if all(0 <= it.process <= MOST_ACTOR for it in operations):
+        return {it.begin: it.process for it in operations}
+    last = {it.process: it for it in operations}
+    free, actors, has = list(range(MOST_ACTOR + 1)), {}, {}
+    for time, operation in sorted((time, it) for it in operations for time in (it.begin, it.end) if time < math.inf):
+        if time == operation.begin:
+            if operation.process not in has and not free:
+                raise Fault(operation.line, f"more than {MOST_ACTOR + 1} processes go on or have left an operation open")
+            has[operation.process] = actors[time] = has[operation.process] if operation.process in has else heapq.heappop(free)
+        elif operation is last[operation.process]:
+            heapq.heappush(free, has.pop(operation.process))
+    return actors
+
+
+class Telling:
+    """Tells operations in an order in the words of the history's form."""
+
+    def __init__(self, operations, order):
+        self.operations, self.order = operations, order
+        self.actors = actors_of(operations)
+        self.ids = {it.begin: at for at, it in enumerate(sorted(operations, key=lambda it: it.begin))}
+        # What each operation puts and what was there before, by its begin: the order says what an append makes.
+        self.puts, self.was, present = {it.begin: it.value for it in operations}, {}, {}
+        for operation in order:
+            was = self.was[operation.begin] = present.get(operation.key)
+            fits, now = after(operation, was)
+            if fits:
+                present[operation.key] = now
+            if operation.what == "append":
+                self.puts[operation.begin] = now
+        self.keys = numbers_of(it.key for it in operations)
+        told = (value for it in operations for value in (it.before, self.puts[it.begin], it.found))
+        self.values = numbers_of(value for value in told if value is not None)
+
+    def reply(self, operation):
+        if operation.what == "cas":
+            return "true"
+        value = operation.found if operation.what == "read" else self.was[operation.begin]
+        return "none" if value is None else f"some {self.values[value]}"
+
+    def call(self, operation):
+        name = {"read": "get", "write": "put", "append": "put", "cas": "replace-if"}[operation.what]
+        values = [self.values[it] for it in (operation.before, self.puts[operation.begin]) if it is not None]
+        return " ".join(map(str, [name, 0, self.keys[operation.key], *values]))
+
+    def names(self):
+        """Tells in comments which number stands for what."""
+        for kind, numbers in (("key", self.keys), ("value", self.values)):
+            for name, number in numbers.items():
+                if str(name) != str(number):
+                    yield f"# {kind} {number} is {spelled(name)}"
+        for actor, process in sorted({(self.actors[it.begin], it.process) for it in self.operations}):
+            if actor != process:
+                yield f"# actor {actor} is process {process}"
+
+    def lines(self):
+        yield "# Worked out by examples/histories/convert.py: the order, what puts were answered, and what appends made."
+        yield from self.names()
+        yield "hash low"
+        for time, operation in sorted((time, it) for it in self.operations for time in (it.begin, it.end) if time < math.inf):
+            number = self.ids[operation.begin]
+            if time == operation.begin:
+                yield f"begin {number} {self.actors[time]} {self.call(operation)}"
+            else:
+                yield f"end {number} {self.reply(operation)}"
+        yield " ".join(["order", *(str(self.ids[it.begin]) for it in self.order)])
+
+
+def ordered(operations, steps):
+    """Returns an order of the operations, and the keys whose answers no order explains."""
+    budget, orders, unexplained = Budget(steps), [], []
+    for key in dict.fromkeys(it.key for it in operations):
+        order, explains = order_of([it for it in operations if it.key == key], budget)
+        orders.append(order)
+        if not explains:
+            unexplained.append(key)
+    return merged(orders), unexplained
+
+
+def say(text):
+    print(f"convert: {text}", file=sys.stderr)
+
+
+def say_what_is_left(operations, failed):
+    """Says what of the history is told otherwise than it stands there, and which reads nothing explains."""
+    unended, appends = [it for it in operations if it.end == math.inf], [it for it in operations if it.what == "append"]
+    for found, what in ((failed, "failed and left out"), (unended, "left open"), (appends, "appends told as puts")):
+        if found:
+            say(f"operations that are {what}: {len(found)}, the first of line {min(it.line for it in found)}")
+    written, grows = {(it.key, it.value) for it in operations if it.what != "read"}, {it.key for it in appends}
+    for it in operations:
+        if it.found is not None and (it.key, it.found) not in written and it.key not in grows:
+            say(f"line {it.line}: what this reads is written nowhere")
+
+
+def convert(text, steps):
+    operations, failed = operations_of(edn.forms(text))
+    say_what_is_left(operations, failed)
+    order, unexplained = ordered(operations, steps)
+    told = Telling(operations, order)
+    print("\n".join(told.lines()))
+    if unexplained:
+        say(f"no order explains the answers of these keys: {', '.join(str(told.keys[it]) for it in unexplained)}")
+    return 3 if unexplained else 0
+
+
+def main():
+    words = argparse.ArgumentParser(description=__doc__, formatter_class=argparse.RawDescriptionHelpFormatter)
+    words.add_argument("file")
+    words.add_argument("--steps", type=int, default=1_000_000)
+    asked = words.parse_args()
+    try:
+        with open(asked.file, encoding="utf-8") as file:
+            text = file.read()
+        return convert(text, asked.steps)
+    except Fault as fault:
+        say(fault)
+        return 1
+    except Spent:
+        say(f"no order was found within {asked.steps} steps")
+    except (OSError, UnicodeDecodeError) as fault:
+        say(fault)
+    return 2
+
+
+if __name__ == "__main__":
+    sys.exit(main())
