@@ -1,7 +1,10 @@
 //! The program `ctrie`: scripts for a map, run, and histories of a map, judged, explained and drawn.
 #![tactic(auto)]
 
-use ctrie_requests::answer;
+mod outcomes;
+mod program;
+
+use crate::program::answer;
 use std::process::ExitCode;
 
 /// Ends with the exit status of what was asked for.

@@ -4,8 +4,8 @@ ghost use Rattle.std.specs.Prelude.{◌≡◌, ◌≢◌, ◌<◌, ◌^◌, ℕ,
 ghost use Rattle.std.specs.Io.KnownBytes.{Keeps, IsAtEnd};
 ghost use Rattle.counted_io.specs.Counts.{inner_of, failures};
 ghost use Rattle.ctrie_commands.specs.Legality.{AppendsJudged};
-ghost use Rattle.ctrie_requests.specs.Beneath.history_commands.specs.Written.{AppendsSuch, AppendsPartOf};
-ghost use Rattle.ctrie_requests.specs.Outcomes.{Tells, HasFault, judged, done};
+ghost use Rattle.ctrie.specs.Beneath.history_commands.specs.Written.{AppendsSuch, AppendsPartOf};
+ghost use Rattle.ctrie.specs.Outcomes.{Tells, HasFault, judged, done};
 
 use ctrie_commands::{
     Counted, Fault, Nothing, check_history, draw_history, explain_history, run_script, run_threads,

@@ -1,17 +1,17 @@
 -- What comes of a request, and the exit status that tells of it.
 use Rattle.std.specs.Prelude.{◌≡◌, ℕ, Bool, true, false, List, Result, Ok, Err}
 use Rattle.ctrie_base.specs.declared.refusals.Refusal.{Refusal}
-use Rattle.ctrie_requests.specs.Beneath.history_commands.specs.declared.faults.Fault.{Fault}
-use Rattle.ctrie_requests.specs.Beneath.history_commands.specs.Faults.{status_of}
-use Rattle.ctrie_requests.specs.Beneath.history_commands.specs.Verdicts.{IsVerdict, verdict_line, HasLineFault}
-use Rattle.ctrie_requests.specs.Beneath.history_commands.specs.Explanations.{IsExplanation}
-use Rattle.ctrie_requests.specs.Beneath.history_commands.specs.Pictures.{IsPicture}
+use Rattle.ctrie.specs.Beneath.history_commands.specs.declared.faults.Fault.{Fault}
+use Rattle.ctrie.specs.Beneath.history_commands.specs.Faults.{status_of}
+use Rattle.ctrie.specs.Beneath.history_commands.specs.Verdicts.{IsVerdict, verdict_line, HasLineFault}
+use Rattle.ctrie.specs.Beneath.history_commands.specs.Explanations.{IsExplanation}
+use Rattle.ctrie.specs.Beneath.history_commands.specs.Pictures.{IsPicture}
 use Rattle.ctrie_commands.specs.Scripts.{IsReport, HasScriptFault}
 use Rattle.ctrie_commands.specs.Threads.{IsThreadReport, HasThreadFault}
 use Rattle.ctrie_words.specs.declared.arguments.Request.{Request}
 use Rattle.ctrie_words.specs.declared.arguments.Request.TheVariants.{Check, Run, Threads, Explain, Draw}
-use Rattle.ctrie_requests.specs.declared.outcomes.Outcome.{Outcome}
-use Rattle.ctrie_requests.specs.declared.outcomes.Outcome.TheVariants.{Done, Legal, NotLegal}
+use Rattle.ctrie.specs.declared.outcomes.Outcome.{Outcome}
+use Rattle.ctrie.specs.declared.outcomes.Outcome.TheVariants.{Done, Legal, NotLegal}
 
 -- the exit status: 0 for a script that was carried out and for a legal order, 3 for another order, else the fault's
 abbrev pub exit_status_of : Result Outcome Fault → ℕ

@@ -3,7 +3,7 @@
 ghost use Rattle.std.specs.Prelude.{◌≡◌, ◌≢◌, ◌⊎◌, IfOk, IfErr};
 ghost use Rattle.std.specs.IoError.{error_kind};
 ghost use Rattle.counted_io.specs.Counts.{failures};
-ghost use Rattle.ctrie_requests.specs.Outcomes.{exit_status_of};
+ghost use Rattle.ctrie.specs.Outcomes.{exit_status_of};
 
 use crate::outcomes::{Outcome, carry_out};
 use ctrie_commands::{Counted, Fault};
@@ -17,7 +17,9 @@ use std::{env, io};
 
 /// Carries out what the program's words ask for, on the file that they name and on standard output, and tells on
 /// standard error what stands in the way. Returns the exit status of what came out.
-pub fn answer<R: AllocGlobal + Env + Eprint + Files + Print + Threads + Wait + Sync>(rt: &R) -> u8
+pub(crate) fn answer<R: AllocGlobal + Env + Eprint + Files + Print + Threads + Wait + Sync>(
+    rt: &R,
+) -> u8
     ensures { (outcome : _) × (result ≡ exit_status_of outcome) }
 {
     told(rt, run(rt))

@@ -1,9 +1,9 @@
 -- The request is the one of the branch, and what the call that was made says of its own result holds of what comes of it.
 use Rattle.std.proofs.Common.{sym, ◌∙◌}
-use Rattle.ctrie_requests.proofs.Telling.{judged_fault, judged_ok, judged_err, judged_not_done, done_fault, done_ok, done_err, done_holds}
-use Rattle.ctrie_requests.proofs.Telling.{verdict_told, report_told, thread_report_told, explanation_told, picture_told}
-use Rattle.ctrie_requests.proofs.Telling.{verdict_part, report_part, thread_report_part, explanation_part, picture_part}
-use Rattle.ctrie_requests.proofs.outcomes.carry_out.Goals as goal
+use Rattle.ctrie.proofs.Telling.{judged_fault, judged_ok, judged_err, judged_not_done, done_fault, done_ok, done_err, done_holds}
+use Rattle.ctrie.proofs.Telling.{verdict_told, report_told, thread_report_told, explanation_told, picture_told}
+use Rattle.ctrie.proofs.Telling.{verdict_part, report_part, thread_report_part, explanation_part, picture_part}
+use Rattle.ctrie.proofs.outcomes.carry_out.Goals as goal
 
 pub returns-in-Check-clause-written : goal.returns-in-Check-clause-written
 returns-in-Check-clause-written g c = rw (c.in-Check.is, c.judged.ensures) (verdict_told _ _ _ _ c.in-Check.field-0 c.check_history.ensures.verdict c.check_history.ensures.written)

@@ -4,18 +4,18 @@ use Rattle.std.proofs.lemmas.Option.{none-some, same_Some}
 use Rattle.std.specs.Prelude.{IfOk, OnOk, IfErr}
 use Rattle.std.specs.Result.{result_err}
 use Rattle.std.specs.Io.KnownBytes.{Appends}
-use Rattle.ctrie_requests.specs.Beneath.history_commands.specs.declared.faults.Fault.{Fault}
-use Rattle.ctrie_requests.specs.Beneath.history_commands.specs.Written.{AppendsSuch, AppendsPartOf}
-use Rattle.ctrie_requests.specs.Beneath.history_commands.specs.Verdicts.{IsVerdict, verdict_line, AppendsPart}
-use Rattle.ctrie_requests.specs.Beneath.history_commands.specs.Explanations.{IsExplanation}
-use Rattle.ctrie_requests.specs.Beneath.history_commands.specs.Pictures.{IsPicture}
-use Rattle.ctrie_requests.specs.Beneath.history_commands.proofs.Explained.{verdict_by_reason, verdict_by_scene}
+use Rattle.ctrie.specs.Beneath.history_commands.specs.declared.faults.Fault.{Fault}
+use Rattle.ctrie.specs.Beneath.history_commands.specs.Written.{AppendsSuch, AppendsPartOf}
+use Rattle.ctrie.specs.Beneath.history_commands.specs.Verdicts.{IsVerdict, verdict_line, AppendsPart}
+use Rattle.ctrie.specs.Beneath.history_commands.specs.Explanations.{IsExplanation}
+use Rattle.ctrie.specs.Beneath.history_commands.specs.Pictures.{IsPicture}
+use Rattle.ctrie.specs.Beneath.history_commands.proofs.Explained.{verdict_by_reason, verdict_by_scene}
 use Rattle.ctrie_commands.specs.Scripts.{AppendsReport, AppendsReportPart}
 use Rattle.ctrie_commands.specs.Threads.{AppendsThreadReport, AppendsThreadReportPart}
 use Rattle.ctrie_words.specs.declared.arguments.Request.TheVariants.{Check, Run, Threads, Explain, Draw}
-use Rattle.ctrie_requests.specs.declared.outcomes.Outcome.{Outcome}
-use Rattle.ctrie_requests.specs.declared.outcomes.Outcome.TheVariants.{Done, Legal, NotLegal}
-use Rattle.ctrie_requests.specs.Outcomes.{Tells, judged, done}
+use Rattle.ctrie.specs.declared.outcomes.Outcome.{Outcome}
+use Rattle.ctrie.specs.declared.outcomes.Outcome.TheVariants.{Done, Legal, NotLegal}
+use Rattle.ctrie.specs.Outcomes.{Tells, judged, done}
 
 -- ---- how it comes out
 
