@@ -39,7 +39,7 @@ keys_above : (k : ℕ) (es : List (ℕ × ℕ)) → T (below_all nat_cmp k es) �
 keys_above k [] h = tt
 keys_above k (e ∷ es) h = (less_apart (nat_cmp k e.0) (first _ _ h), keys_above k es (second _ _ h))
 
-sorted_distinct : (es : List (ℕ × ℕ)) → T (is_sorted nat_cmp es) → AreDistinct (map (λ (e : ℕ × ℕ). e.0) es)
+pub sorted_distinct : (es : List (ℕ × ℕ)) → T (is_sorted nat_cmp es) → AreDistinct (map (λ (e : ℕ × ℕ). e.0) es)
 unfolding IsDistinct
 sorted_distinct [] h = tt
 sorted_distinct (e ∷ es) h = (keys_above e.0 es (first _ _ h), sorted_distinct es (second _ _ h))
