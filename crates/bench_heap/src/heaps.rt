@@ -7,7 +7,7 @@ ghost use Rattle.slot_arena.specs.Arenas.{AreLive, IsLive};
 use crate::arenas::{MOST_BIRTHS, SPARE, single};
 use ctrie_base::Refusal;
 use epochs::Heap;
-use slot_arena::{Node, Ref};
+use slot_arena::{Node, NodeRef, Ref};
 use std::alloc::Global;
 
 /// A heap of so many slots with singles in all but a few, all of them in limbo, and the references to them.
@@ -65,7 +65,7 @@ fn key_of(heap: &Heap, refs: &[Ref], index: usize) -> u64
         return 0;
     }
     match heap.look(refs[index]) {
-        Node::Single { key, .. } => *key,
+        NodeRef::Single { key, .. } => key,
         _ => 0,
     }
 }
@@ -90,7 +90,7 @@ fn stored_key_of(heap: &Heap, refs: &[Ref], index: usize) -> u64 {
         return 0;
     }
     match heap.stored_node(refs[index]) {
-        Some(Node::Single { key, .. }) => *key,
+        Some(NodeRef::Single { key, .. }) => key,
         _ => 0,
     }
 }
@@ -157,7 +157,7 @@ fn change_once(
         return false;
     }
     let from = match heap.look(indirection) {
-        Node::Indirection { main, .. } => *main,
+        NodeRef::Indirection { main, .. } => *main,
         _ => return false,
     };
     match by {

@@ -76,7 +76,7 @@ fn none() -> Commit
 }
 
 /// What is kept of a slot.
-fn kept_of(latest: &[Commit], slot: u16) -> Commit
+fn kept_of(latest: &[Commit], slot: u32) -> Commit
     ensures { result ≡ kept_of latest.now slot }
 {
     match latest.get(slot as usize) {

@@ -27,7 +27,7 @@ ghost use Rattle.contract.specs.Cleaning.{clean_line, line_behind, CanClean, Can
 
 use ctrie_base::Kind;
 use epochs::Heap;
-use slot_arena::{Node, Ref};
+use slot_arena::{Node, NodeRef, Ref};
 use trie_parts::{
     Entries, Next, Publication, Swap, Task, Work, bitmap_at, contracted, current, entries_at,
     entry_at, is_below_root, is_single_at, node_at,
@@ -193,7 +193,7 @@ impl Clean {
         ensures taken { IsAskingRoot result → ⊥ }
     {
         match node_at(heap, self.main) {
-            Some(Node::Branch { .. }) => self.go_through(heap),
+            Some(NodeRef::Branch { .. }) => self.go_through(heap),
             None => self.go_through(heap),
             _ => Next::Done(Kind::Look, Cleaned::Cleaned),
         }
@@ -238,12 +238,12 @@ impl Clean {
     {
         let entry = entry_at(heap, self.main, self.done.len());
         match node_at(heap, entry) {
-            Some(Node::Indirection { .. }) => {
+            Some(NodeRef::Indirection { .. }) => {
                 work.swap.read.begin(entry);
                 self.at = CleanAt::Child;
                 Next::More(Kind::Look)
             }
-            Some(Node::Single { .. }) => self.put(heap, entry),
+            Some(NodeRef::Single { .. }) => self.put(heap, entry),
             _ => Next::Done(Kind::Look, Cleaned::Impossible),
         }
     }
@@ -352,7 +352,7 @@ fn kept(heap: &Heap, main: Ref, done: &[Ref], child: Ref) -> Ref
         (done.now ++ result ∷ []) }
 {
     match node_at(heap, child) {
-        Some(Node::Tomb { single }) => *single,
+        Some(NodeRef::Tomb { single }) => *single,
         _ => entry_at(heap, main, done.len()),
     }
 }

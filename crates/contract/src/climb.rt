@@ -34,7 +34,7 @@ ghost use Rattle.contract.specs.Climbing.{climb_of, climb_line, line_behind, Can
 use ctrie_base::Kind;
 use epochs::Heap;
 use nodes::{has_flag, position_of};
-use slot_arena::{Node, Ref};
+use slot_arena::{Node, NodeRef, Ref};
 use trie_parts::{
     Next, Publication, Swap, Task, Work, above, bitmap_at, contracted_at, current, entry_at,
     is_below_root, node_at,
@@ -196,10 +196,10 @@ impl Climb {
         ensures taken { IsAskingRoot result → ⊥ }
     {
         match node_at(heap, main) {
-            Some(Node::Tomb { single }) => {
+            Some(NodeRef::Tomb { single }) => {
                 Next::Done(Kind::Look, Climbed::Higher { single: *single })
             }
-            Some(Node::Branch { .. }) => self.look_at_branch(heap, task, path, main),
+            Some(NodeRef::Branch { .. }) => self.look_at_branch(heap, task, path, main),
             None => self.look_at_branch(heap, task, path, main),
             _ => Next::Done(Kind::Look, Climbed::Impossible),
         }
@@ -287,7 +287,7 @@ fn climbed_by(heap: &Heap, fresh: Ref, single: Ref) -> Climbed
         (record { path = path; single = single; former = former }) result }
 {
     match node_at(heap, fresh) {
-        Some(Node::Tomb { .. }) => Climbed::Higher { single },
+        Some(NodeRef::Tomb { .. }) => Climbed::Higher { single },
         _ => Climbed::Climbed,
     }
 }

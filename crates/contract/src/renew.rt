@@ -23,7 +23,7 @@ ghost use Rattle.contract.specs.Renewing.{renew_line, next_of, line_behind, CanR
 
 use ctrie_base::Kind;
 use epochs::Heap;
-use slot_arena::{Node, Ref};
+use slot_arena::{Node, NodeRef, Ref};
 use trie_parts::{
     Entries, Next, Publication, Swap, Task, Work, bitmap_at, current, entry_at, entry_count,
     node_at, renewed,
@@ -166,11 +166,11 @@ impl Renew {
     {
         let entry = entry_at(heap, self.main, self.done.len());
         match node_at(heap, entry) {
-            Some(Node::Indirection { generation, .. }) if !task.is_start(*generation) => {
+            Some(NodeRef::Indirection { generation, .. }) if !task.is_start(generation) => {
                 work.swap.read.begin(entry);
                 self.at = RenewAt::Read;
             }
-            Some(Node::Indirection { .. } | Node::Single { .. }) => {
+            Some(NodeRef::Indirection { .. } | NodeRef::Single { .. }) => {
                 self.put(entry_count(heap, self.main), entry);
             }
             _ => return Next::Done(Kind::Look, Renewed::Impossible),

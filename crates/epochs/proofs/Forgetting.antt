@@ -1,11 +1,11 @@
 -- What limbo after a step doesn't depend on.
-use Rattle.std.proofs.Common.{◌≡◌, ℕ, ◌<◌, ◌≤◌, ◌^◌, ◌==◌, ◌&&◌, ◌||◌, not, nat_lt, Bool, false, cond, List, [], ◌∷◌, ◌++◌}
+use Rattle.std.proofs.Common.{◌≡◌, ℕ, ◌<◌, ◌≤◌, ◌==◌, ◌&&◌, ◌||◌, not, nat_lt, Bool, false, cond, List, [], ◌∷◌, ◌++◌}
 use Rattle.std.proofs.Common.{length, map, get_or, set, filter, Option, None, refl, ap, ◌∙◌, inl, inr, arith}
 use Rattle.std.proofs.lemmas.Bool.{cases_lt, ne_eqb}
 use Rattle.std.proofs.lemmas.List.{get_or_past, get_or-set_same, length-set}
 use Rattle.slot_arena.specs.declared.refs.Ref.{Ref}
 use Rattle.slot_arena.specs.declared.nodes.Slot.{Slot}
-use Rattle.slot_arena.specs.Refs.{slot_of, birth_of}
+use Rattle.slot_arena.specs.Refs.{slot_of, birth_of, most_slots}
 use Rattle.slot_arena.specs.Heaps.{Heap, in_use, freed}
 use Rattle.slot_arena.specs.Counts.{count_of}
 use Rattle.slot_arena.specs.Times.{times}
@@ -56,7 +56,7 @@ emptied slots k = elim (cases_lt k (length slots)) [
 pub freed_dead : (heap : Heap) (r : Ref) → live (freed heap r).slots r ≡ false
 freed_dead heap r = ap (λ (h : Heap). live h.slots r) (freed_seen heap r) ∙ ap (has_birth (birth_of r)) (emptied heap.slots (slot_of r))
 
-module _ (heap : Heap) (outside : List Ref) (epoch : ℕ) (entry : Zeroed) (limbo : List Zeroed) (small : length heap.slots ≤ 2 ^ 16) where
+module _ (heap : Heap) (outside : List Ref) (epoch : ℕ) (entry : Zeroed) (limbo : List Zeroed) (small : length heap.slots ≤ most_slots) where
   abbrev now : Heap
   now = freed heap entry.at
 

@@ -1,5 +1,5 @@
 -- Limbo after a settling is the definition's.
-use Rattle.std.proofs.Common.{◌≡◌, ℕ, suc, ◌+◌, ◌-◌, ◌<◌, ◌≤◌, ◌^◌, ◌==◌, ◌&&◌, not, nat_lt, Bool, true, false, cond, List, [], ◌∷◌}
+use Rattle.std.proofs.Common.{◌≡◌, ℕ, suc, ◌+◌, ◌-◌, ◌<◌, ◌≤◌, ◌==◌, ◌&&◌, not, nat_lt, Bool, true, false, cond, List, [], ◌∷◌}
 use Rattle.std.proofs.Common.{◌++◌, length, filter, All, Some, sym, ap, ◌∙◌, subst, inl, inr, arith}
 use Rattle.std.specs.List.Sorted.{IsPermutation}
 use Rattle.std.proofs.lemmas.List.Sorted.{IsPermutation-refl, sum_by-IsPermutation}
@@ -8,7 +8,7 @@ use Rattle.std.proofs.lemmas.Bool.{cases_lt}
 use Rattle.std.proofs.lemmas.List.{append_assoc, append-nil, length-append, map-append}
 use Rattle.std.proofs.lemmas.List.Elements.{All-weaker, filter-append}
 use Rattle.slot_arena.specs.declared.refs.Ref.{Ref}
-use Rattle.slot_arena.specs.Refs.{slot_of}
+use Rattle.slot_arena.specs.Refs.{slot_of, most_slots}
 use Rattle.slot_arena.specs.Heaps.{Heap, in_use}
 use Rattle.slot_arena.specs.Times.{times}
 use Rattle.slot_arena.specs.Tallies.{naming}
@@ -41,7 +41,7 @@ length_filter p (r ∷ rs) = length_filter_step p r rs (p r) (length_filter p rs
 
 module _
     (arena : Contents) (bags now : Bags) (fresh sorted : List Ref) (lists : Lists arena bags) (sifted : IsSifted arena bags now fresh)
-    (permuted : IsPermutation fresh sorted) (rises : IsSortedRefs sorted) (small : length arena.heap.slots ≤ 2 ^ 16)
+    (permuted : IsPermutation fresh sorted) (rises : IsSortedRefs sorted) (small : length arena.heap.slots ≤ most_slots)
   where
     times_sorted : (r : Ref) → times r sorted ≡ times r fresh
     times_sorted r = sum_by-IsPermutation (λ q. bit (q == r)) fresh sorted permuted
@@ -224,7 +224,7 @@ module _
     no_more = omega (arith, ap length all_now, length_filter (λ r. is_zero arena.heap arena.outside r) (all_of bags))
 
 -- where nothing is noted, all is settled
-module _ (arena : Contents) (bags : Bags) (lists : Lists arena bags) (none : arena.noted ≡ []) (small : length arena.heap.slots ≤ 2 ^ 16) (epoch : ℕ) where
+module _ (arena : Contents) (bags : Bags) (lists : Lists arena bags) (none : arena.noted ≡ []) (small : length arena.heap.slots ≤ most_slots) (epoch : ℕ) where
   nothing_new : IsSifted arena bags bags []
   nothing_new = sifting_ended arena bags lists bags [] (subst (λ ns. Sifting arena bags ns bags []) none (sifting_begun arena bags lists))
 

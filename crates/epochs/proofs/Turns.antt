@@ -4,7 +4,7 @@ use Rattle.std.proofs.Common.{get_or, slice_index, count_by, replicate, refl, sy
 use Rattle.std.proofs.lemmas.Bool.{cases_lt}
 use Rattle.std.proofs.lemmas.List.{length-set, length-map, length-append, append-nil, append_assoc, length-replicate, get_or-replicate, get_or_past}
 use Rattle.std.proofs.lemmas.List.Sums.{sum_by-set, sum_by-cons}
-use Rattle.slot_arena.specs.Refs.{slot_of}
+use Rattle.slot_arena.specs.Refs.{slot_of, most_slots}
 use Rattle.slot_arena.specs.declared.refs.Ref.{Ref}
 use Rattle.slot_arena.specs.Times.{times, other_slots}
 use Rattle.slot_arena.specs.Tallies.{naming, AreMarks}
@@ -184,7 +184,7 @@ no_mark n k = elim (cases_lt k n) [
 ]
 
 -- three empty bags
-pub new_ring : (next back : List ℕ) (size : ℕ) → size ≤ 65536 → IsEmptyRing next size ((size + 1) ∷ (size + 2) ∷ size ∷ []) → IsEmptyRing back size ((size + 2) ∷ size ∷ (size + 1) ∷ []) →
+pub new_ring : (next back : List ℕ) (size : ℕ) → size ≤ most_slots → IsEmptyRing next size ((size + 1) ∷ (size + 2) ∷ size ∷ []) → IsEmptyRing back size ((size + 2) ∷ size ∷ (size + 1) ∷ []) →
     IsRing next back (replicate size false) size size (size + 1) (size + 2) 0 [] [] []
 new_ring next back size few (n, n1, n2, n3) (m, m1, m2, m3) = record {
   joined = (n1, m2, (n2, m3, (n3, m1)));

@@ -1,6 +1,6 @@
 -- Limbo as three bags in one ring.
 use Rattle.std.specs.Prelude.{◌≡◌, ℕ, ◌+◌, ◌<◌, ◌≤◌, Bool, List, [], ◌∷◌, ◌++◌, map, length, slice_index}
-use Rattle.slot_arena.specs.Refs.{slot_of}
+use Rattle.slot_arena.specs.Refs.{slot_of, most_slots}
 use Rattle.slot_arena.specs.declared.refs.Ref.{Ref}
 use Rattle.slot_arena.specs.Tallies.{AreMarks}
 
@@ -36,7 +36,7 @@ pub record IsRing (next back : List ℕ) (marks : List Bool) (size first second 
   pub next_size : length next ≡ size + 3
   pub back_size : length back ≡ size + 3
   pub marks_size : length marks ≡ size
-  pub few : size ≤ 65536
+  pub few : size ≤ most_slots
   -- the beginnings of the bags stand behind the slots
   pub first_behind : (size ≤ first) × (first < size + 3)
   pub second_behind : (size ≤ second) × (second < size + 3)

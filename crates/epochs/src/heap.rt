@@ -2,11 +2,13 @@
 
 ghost use Rattle.std.specs.Prelude.{◌≡◌, ◌+◌, ◌-◌, ◌*◌, ◌<◌, ◌≤◌, ◌^◌, ◌==◌, ◌∷◌, ◌++◌, [], length, take, drop, option_map, All, slice_index, true};
 ghost use Rattle.std.specs.Prelude.{false, IsTrue, ◌↔◌, IfSome, Some, None, slice_set, IfOk, IfErr, ◌⊎◌, if◌then◌else◌};
+ghost use Rattle.slot_arena.specs.Entries.{Fits, changed_branch, coming};
 ghost use Rattle.slot_arena.specs.Heaps.{node_at, prev_at, main_at, refs_of_node, refs_of_prev, refs_of_option, stored, next_ref, in_use, taken, with_main, with_prev};
 ghost use Rattle.slot_arena.specs.Counts.{count_of};
 ghost use Rattle.slot_arena.specs.Times.{times, without};
 ghost use Rattle.slot_arena.specs.Ticking.{TakesUpTo};
-ghost use Rattle.slot_arena.specs.Refs.{slot_of};
+ghost use Rattle.slot_arena.specs.Refs.{slot_of, birth_limit};
+ghost use Rattle.slot_arena.specs.Views.{viewed};
 ghost use Rattle.slot_arena.specs.Arenas.{IsLive, AreLive, is_live, is_indirection, is_main_node};
 ghost use Rattle.epochs.specs.Sweeping.{swept_once, IsOlder};
 ghost use Rattle.epochs.specs.Memories.{reclaimer_of, KeepsEpochs, Settles, AreSizes, new_memory, freed_by};
@@ -17,7 +19,7 @@ use crate::limbo::Swept;
 use crate::ring::Ring;
 use crate::settling::{enter_all, sift};
 use ctrie_base::{Refusal, Ticks};
-use slot_arena::{Arena, Node, Prev, Ref};
+use slot_arena::{Arena, EntryChange, MOST_SLOTS, Node, NodeRef, Prev, Ref};
 use std::alloc::Global;
 use std::marker::Model;
 
@@ -74,12 +76,12 @@ impl Model for Heap {
 }
 
 impl Heap {
-    /// A heap of 2 to 65,536 slots, all free, for 1 to 64 actors. All memory is taken here.
+    /// A heap of 2 to 1,048,576 slots, all free, for 1 to 64 actors. All memory is taken here.
     pub fn new(alloc: Global, slots: u32, actors: u8) -> Result<Heap, Refusal>
         ensures made { IfOk result (λ heap. (heap ≡ new_memory slots actors) × AreSizes slots actors) }
         ensures refused { IfErr result (λ refusal. (refusal ≡ Refusal.BadLimits × ¬ AreSizes slots actors) ⊎ (refusal ≡ Refusal.Memory × AreSizes slots actors)) }
     {
-        if slots < 2 || slots > 65536 || actors < 1 || actors > 64 {
+        if slots < 2 || slots > MOST_SLOTS || actors < 1 || actors > 64 {
             return Err(Refusal::BadLimits);
         }
         let arena = Arena::new(alloc, slots)?;
@@ -100,7 +102,7 @@ impl Heap {
     /// outside; None where no slot is free.
     #[inline(always)]
     pub fn make_held(&mut self, node: Node) -> Option<Ref>
-        requires births { self.old.heap.births + 1 < 2 ^ 48 }
+        requires births { self.old.heap.births + 1 < birth_limit }
         requires live { AreLive self.old.heap (refs_of_node node) }
         ensures made { result ≡ next_ref self.old.heap }
         ensures lives { IfSome result (IsLive self.new.heap) }
@@ -117,17 +119,38 @@ impl Heap {
         made
     }
 
+    /// The same for a branch of this bitmap whose entries are what a node refers to, with one of them changed.
+    #[inline(always)]
+    pub fn make_changed(&mut self, from: Ref, bitmap: u32, change: EntryChange) -> Option<Ref>
+        requires births { self.old.heap.births + 1 < birth_limit }
+        requires from_live { IsLive self.old.heap from }
+        requires fits { Fits change (refs_of_node (node_at self.old.heap from)) }
+        requires live { AreLive self.old.heap (coming change) }
+        ensures made { result ≡ next_ref self.old.heap }
+        ensures lives { IfSome result (IsLive self.new.heap) }
+        ensures stay { (q : Ref) → IsLive self.old.heap q → IsLive self.new.heap q }
+        ensures heap { self.new.heap ≡ taken self.old.heap (changed_branch bitmap change (node_at self.old.heap from)) }
+        ensures outside { self.new.outside ≡ refs_of_option result ++ self.old.outside }
+        ensures epochs { KeepsEpochs self.old self.new }
+        ensures few { length self.new.noted ≤ length self.old.noted + 32 }
+        ensures ticks { TakesUpTo 36 self.old.ticks self.new.ticks }
+    {
+        let made = self.arena.make_changed(from, bitmap, change);
+        self.ticks = ticks_of(&self.arena, &self.bags, &self.fresh);
+        made
+    }
+
     /// The node.
-    pub fn look(&self, at: Ref) -> &Node
+    pub fn look(&self, at: Ref) -> NodeRef<'_>
         requires { IsLive self.now.heap at }
-        ensures { result.now ≡ node_at self.now.heap at }
+        ensures { viewed result ≡ node_at self.now.heap at }
     {
         self.arena.look(at)
     }
 
     /// The node that stands in the slot, whatever its birth, if the slot is in use.
-    pub fn stored_node(&self, at: Ref) -> Option<&Node>
-        ensures { option_map (λ node. node.now) result ≡ option_map (λ slot. slot.node) (stored self.now.heap at) }
+    pub fn stored_node(&self, at: Ref) -> Option<NodeRef<'_>>
+        ensures { option_map viewed result ≡ option_map (λ slot. slot.node) (stored self.now.heap at) }
     {
         self.arena.stored_node(at)
     }
@@ -261,7 +284,7 @@ impl Heap {
     pub fn settle(&mut self)
         ensures { Settles self.old self.new }
     {
-        prove!(self.arena.len() <= 65536);
+        prove!(self.arena.len() <= MOST_SLOTS as usize);
         if self.arena.noted_len() != 0 {
             self.settle_noted();
         }
@@ -272,7 +295,7 @@ impl Heap {
     fn settle_noted(&mut self)
         ensures { Settles self.old self.new }
     {
-        prove!(self.arena.len() <= 65536);
+        prove!(self.arena.len() <= MOST_SLOTS as usize);
         sift(&mut self.arena, &mut self.bags, &mut self.fresh);
         self.fresh.sort();
         enter_all(&mut self.bags, &mut self.fresh);

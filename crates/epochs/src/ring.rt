@@ -1,7 +1,7 @@
 //! Limbo as three bags, each a chain with links forward and back.
 
 ghost use Rattle.std.specs.Prelude.{◌≡◌, ℕ, ◌+◌, ◌<◌, ◌≤◌, ◌++◌, ◌∷◌, [], List, length, IfOk, IsTrue, ◌↔◌, MatchOption, None};
-ghost use Rattle.slot_arena.specs.Refs.{slot_of};
+ghost use Rattle.slot_arena.specs.Refs.{slot_of, most_slots};
 ghost use Rattle.slot_arena.specs.Times.{other_slots};
 ghost use Rattle.slot_arena.specs.Tallies.{naming};
 ghost use Rattle.epochs.specs.Rings.{all_of, turned, IsEmptyRing};
@@ -65,7 +65,7 @@ impl Model for Ring {
 impl Ring {
     /// Three empty bags for so many slots.
     pub(crate) fn new(alloc: Global, size: u32) -> Result<Ring, AllocError>
-        requires { size ≤ 65536 }
+        requires { size ≤ most_slots }
         ensures { IfOk result (λ ring. ring ≡ record { bags = record { oldest = []; middle = []; present = []; size = size }; ticks = 6 }) }
     {
         Ok(Ring {
@@ -91,7 +91,7 @@ impl Ring {
     }
 
     /// Whether the slot is in one of the bags.
-    pub(crate) fn contains(&mut self, slot: u16) -> bool
+    pub(crate) fn contains(&mut self, slot: u32) -> bool
         requires { slot < self.old.bags.size }
         ensures is_in { IsTrue result ↔ (0 < naming slot (all_of self.old.bags)) }
         ensures same { self.new ≡ record self.old { ticks = self.old.ticks + 1 } }
@@ -100,7 +100,7 @@ impl Ring {
     }
 
     /// The first slot of the oldest bag.
-    pub(crate) fn first(&mut self) -> Option<u16>
+    pub(crate) fn first(&mut self) -> Option<u32>
         ensures first { MatchOption result (self.old.bags.oldest ≡ []) (λ slot. (r : ℕ) × (rest : List ℕ) × (self.old.bags.oldest ≡ r ∷ rest) × (slot_of r ≡ slot) × (slot < self.old.bags.size)) }
         ensures same { self.new ≡ record self.old { ticks = self.old.ticks + 1 } }
     {
@@ -108,7 +108,7 @@ impl Ring {
         if first == self.second {
             return None;
         }
-        Some(first as u16)
+        Some(first)
     }
 
     /// The slot enters the present bag, at its end.
@@ -118,7 +118,7 @@ impl Ring {
         ensures bags { self.new.bags ≡ record self.old.bags { present = self.old.bags.present ++ at ∷ [] } }
         ensures ticks { self.new.ticks ≡ self.old.ticks + 6 }
     {
-        let slot = at.slot() as u32;
+        let slot = at.slot();
         let last = self.back.read(self.first as usize);
         self.next.write(last as usize, slot);
         self.next.write(slot as usize, self.first);
@@ -130,7 +130,7 @@ impl Ring {
     }
 
     /// The slot leaves its bag.
-    pub(crate) fn leave(&mut self, slot: u16)
+    pub(crate) fn leave(&mut self, slot: u32)
         requires { 0 < naming slot (all_of self.old.bags) }
         ensures bags { self.new.bags ≡ bags_after None slot self.old.bags }
         ensures ticks { self.new.ticks ≡ self.old.ticks + 5 }
@@ -141,9 +141,9 @@ impl Ring {
         self.back.write(behind as usize, before);
         self.is_in.write(slot as usize, false);
         self.len -= 1;
-        self.oldest = Trace::changed::<u16, OtherSlots>(&self.oldest, &slot);
-        self.middle = Trace::changed::<u16, OtherSlots>(&self.middle, &slot);
-        self.present = Trace::changed::<u16, OtherSlots>(&self.present, &slot);
+        self.oldest = Trace::changed::<u32, OtherSlots>(&self.oldest, &slot);
+        self.middle = Trace::changed::<u32, OtherSlots>(&self.middle, &slot);
+        self.present = Trace::changed::<u32, OtherSlots>(&self.present, &slot);
     }
 
     /// The epoch grows: each bag is one epoch older, and the emptied one is the present one.
@@ -170,7 +170,7 @@ impl Ring {
 
 /// Links of a ring without slots: from the three beginnings to these.
 fn beginnings(alloc: Global, size: u32, ends: [u32; 3]) -> Result<Links, AllocError>
-    requires { size ≤ 65536 }
+    requires { size ≤ most_slots }
     ensures links { IfOk result (λ links. IsEmptyRing links.words size ends) }
     ensures ticks { IfOk result (λ links. links.ticks ≡ 3) }
 {
@@ -185,7 +185,7 @@ fn beginnings(alloc: Global, size: u32, ends: [u32; 3]) -> Result<Links, AllocEr
 /// The references to other slots.
 struct OtherSlots;
 
-impl Change<Ref, u16> for OtherSlots {
+impl Change<Ref, u32> for OtherSlots {
     ghost use Rattle.slot_arena.specs.Times.{other_slots};
 
     ghost after = { λ refs slot. other_slots slot refs };

@@ -34,7 +34,7 @@ pub(crate) fn sift(arena: &mut Arena, bags: &mut Ring, fresh: &mut Fresh)
 }
 
 /// Looks at one slot that was noted.
-fn sift_one(arena: &mut Arena, bags: &mut Ring, fresh: &mut Fresh, slot: u16)
+fn sift_one(arena: &mut Arena, bags: &mut Ring, fresh: &mut Fresh, slot: u32)
     requires within { slot < length arena.old.heap.slots }
     requires sizes { bags.old.bags.size ≡ length arena.old.heap.slots }
     requires room { length fresh.old.refs < fresh.old.room }

@@ -2,8 +2,9 @@
 
 ghost use Rattle.std.specs.Prelude.{◌≡◌};
 ghost use Rattle.machine_model.specs.Beneath.slot_arena.specs.Heaps.{main_of, main_at, generation_of, generation_at};
+ghost use Rattle.machine_model.specs.Beneath.slot_arena.specs.Views.{viewed};
 
-use machine_model::{Heap, Node, Ref};
+use machine_model::{Heap, NodeRef, Ref};
 
 /// The main word of an indirection; the default reference where none stands there.
 #[tactic(auto, using(crate::proofs::Stored::node_is, crate::proofs::Stored::nothing_is))]
@@ -27,20 +28,20 @@ pub fn generation_at(heap: &Heap, at: Ref) -> u64
     }
 }
 
-fn main_of(node: &Node) -> Ref
-    ensures { result ≡ main_of node.now }
+fn main_of(node: NodeRef<'_>) -> Ref
+    ensures { result ≡ main_of (viewed node.entry) }
 {
     match node {
-        Node::Indirection { main, .. } => *main,
+        NodeRef::Indirection { main, .. } => *main,
         _ => Ref::default(),
     }
 }
 
-fn generation_of(node: &Node) -> u64
-    ensures { result ≡ generation_of node.now }
+fn generation_of(node: NodeRef<'_>) -> u64
+    ensures { result ≡ generation_of (viewed node.entry) }
 {
     match node {
-        Node::Indirection { generation, .. } => *generation,
+        NodeRef::Indirection { generation, .. } => generation,
         _ => 0,
     }
 }

@@ -29,7 +29,7 @@ ghost use Rattle.key_change.specs.Steps.{ChangesOn, CanChange, CanChangeAt};
 use crate::building::{Building, after_link, after_single, built, depth_ahead};
 use ctrie_base::Kind;
 use epochs::Heap;
-use slot_arena::{Node, Ref};
+use slot_arena::{NodeRef, Ref};
 use trie_parts::{
     Change as NodeChange, Entrant, Next, Publication, Swap, Task, Work, current, entry_at, node_at,
 };
@@ -147,8 +147,8 @@ impl Change {
     {
         let other = entry_at(heap, self.main, 1usize.saturating_sub(position));
         let change = match node_at(heap, other) {
-            Some(Node::Single { .. }) => NodeChange::Entomb { single: other },
-            Some(Node::Indirection { .. }) => NodeChange::Remove { position },
+            Some(NodeRef::Single { .. }) => NodeChange::Entomb { single: other },
+            Some(NodeRef::Indirection { .. }) => NodeChange::Remove { position },
             _ => return Next::Done(Kind::Look, Tried::Impossible),
         };
         self.at = ChangeAt::Build(Building::Main {

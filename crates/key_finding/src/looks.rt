@@ -30,7 +30,7 @@ use epochs::Heap;
 use history::Access;
 use key_change::{Building, ChangeAt};
 use nodes::{MOST_ENTRIES, has_flag, position_of};
-use slot_arena::{Node, Ref};
+use slot_arena::{NodeRef, Ref};
 use trie_parts::{Change, KeyCall, Site, Task, entry_at, entry_count, is_below_root, node_at};
 
 /// After the look at the main node: the entry of the key's flag, or the first single of a list.
@@ -41,10 +41,10 @@ pub fn after_main(heap: &Heap, task: Task, access: Access, path: &[Ref], main: R
         (for_task task access operation) path.now main (node_at heap.now.heap main) }
 {
     match node_at(heap, main) {
-        Some(Node::Branch { bitmap, .. }) => in_branch(task, path, *bitmap),
-        Some(Node::Tomb { .. }) => at_tomb(access, path),
-        Some(Node::List { .. }) => Found::Listed { position: 0 },
-        Some(Node::Indirection { .. } | Node::Single { .. }) => Found::Impossible,
+        Some(NodeRef::Branch { bitmap, .. }) => in_branch(task, path, bitmap),
+        Some(NodeRef::Tomb { .. }) => at_tomb(access, path),
+        Some(NodeRef::List { .. }) => Found::Listed { position: 0 },
+        Some(NodeRef::Indirection { .. } | NodeRef::Single { .. }) => Found::Impossible,
         None => in_branch(task, path, 0),
     }
 }
@@ -105,15 +105,12 @@ pub fn after_entry(
 {
     let entry = entry_at(heap, main, position);
     match node_at(heap, entry) {
-        Some(Node::Indirection { generation, .. }) => at_indirection(
-            task,
-            access,
-            *generation,
-            entry,
+        Some(NodeRef::Indirection { generation, .. }) => at_indirection(
+            task, access, generation, entry,
         ),
-        Some(Node::Single { key, value }) => {
-            if *key == task.call.key() {
-                return Entered::Here(found(heap, task.call, path, main, position, *value));
+        Some(NodeRef::Single { key, value }) => {
+            if key == task.call.key() {
+                return Entered::Here(found(heap, task.call, path, main, position, value));
             }
             Entered::Here(absent(task.call, Site::Beside { position }))
         }
@@ -149,9 +146,9 @@ pub fn after_listed(
         path.now main position (node_at heap.now.heap (entry_at heap.now.heap main position)) }
 {
     match node_at(heap, entry_at(heap, main, position)) {
-        Some(Node::Single { key, value }) => {
-            if *key == task.call.key() {
-                return found(heap, task.call, path, main, position, *value);
+        Some(NodeRef::Single { key, value }) => {
+            if key == task.call.key() {
+                return found(heap, task.call, path, main, position, value);
             }
             let singles = entry_count(heap, main);
             if position.saturating_add(1) < singles {
@@ -202,8 +199,8 @@ fn removing(heap: &Heap, path: &[Ref], main: Ref, position: usize, value: u64) -
 {
     let other = entry_at(heap, main, 1usize.saturating_sub(position));
     match node_at(heap, main) {
-        Some(Node::Branch { entries, .. }) => from_branch(path, position, value, entries.len()),
-        Some(Node::List { singles }) => from_list(other, position, value, singles.len()),
+        Some(NodeRef::Branch { entries, .. }) => from_branch(path, position, value, entries.len()),
+        Some(NodeRef::List { singles }) => from_list(other, position, value, singles.len()),
         None => from_branch(path, position, value, 0),
         _ => Found::Impossible,
     }

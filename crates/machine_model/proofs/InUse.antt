@@ -1,12 +1,12 @@
 -- Which references name a slot in use, and that those in limbo do.
-use Rattle.std.proofs.Common.{◌≡◌, ℕ, zero, suc, ◌+◌, ◌<◌, ◌≤◌, ◌^◌, ◌==◌, ◌&&◌, true, false, cond, nat_lt, not, is_some, List, [], ◌∷◌, length, map, get_or, All, Option}
+use Rattle.std.proofs.Common.{◌≡◌, ℕ, zero, suc, ◌+◌, ◌<◌, ◌≤◌, ◌==◌, ◌&&◌, true, false, cond, nat_lt, not, is_some, List, [], ◌∷◌, length, map, get_or, All, Option}
 use Rattle.std.proofs.Common.{Some, None, refl, ap, ◌∙◌, subst, inl, inr, eqb-true, arith}
 use Rattle.std.specs.List.{list_any}
 use Rattle.std.proofs.Math.ListN.{get_or-map}
 use Rattle.std.proofs.lemmas.Bool.{or_cases, and_parts, false≢true}
 use Rattle.std.proofs.lemmas.List.Elements.{All-nil, All-cons, All-head, All-tail, All-weaker, All-append, All-map, All-filter, filter_passes}
 use Rattle.std.proofs.lemmas.List.Sums.{sum_by-cons}
-use Rattle.slot_arena.specs.Refs.{ref_to, slot_of}
+use Rattle.slot_arena.specs.Refs.{ref_to, slot_of, most_slots}
 use Rattle.slot_arena.specs.declared.refs.Ref.{Ref}
 use Rattle.slot_arena.specs.declared.nodes.Slot.{Slot}
 use Rattle.epochs.specs.declared.limbo.Zeroed.{Zeroed}
@@ -57,11 +57,11 @@ of_found P r (q ∷ qs) all found = elim (or_cases (q == r) (list_any (λ x. x =
 ]
 
 -- a reference names the slot that it was made of
-same_slot : (birth k n : ℕ) → k < n → n ≤ 2 ^ 16 → slot_of (ref_to birth (0 + k)) ≡ k
+same_slot : (birth k n : ℕ) → k < n → n ≤ most_slots → slot_of (ref_to birth (0 + k)) ≡ k
 same_slot birth k n h size = omega arith
 
 -- the flag of its slot is set
-pub flag_of_used : (heap : Heap) (r : Ref) → length heap.slots ≤ 2 ^ 16 → InUse heap r → get_or (map is_some heap.slots) (slot_of r) false ≡ true
+pub flag_of_used : (heap : Heap) (r : Ref) → length heap.slots ≤ most_slots → InUse heap r → get_or (map is_some heap.slots) (slot_of r) false ≡ true
 flag_of_used heap r size (k, slot, at_k, is) =
     let its = ap (λ q. slot_of q) is ∙ same_slot slot.birth k (length heap.slots) (found_within heap.slots k slot at_k) size in
     ap (λ i. get_or (map is_some heap.slots) i false) its ∙ get_or-map is_some heap.slots k None ∙ ap is_some at_k

@@ -1,11 +1,11 @@
 -- The slots in use and the free ones are all slots, after every run.
-use Rattle.std.proofs.Common.{◌≡◌, ℕ, zero, suc, ◌+◌, ◌≤◌, ◌^◌, Bool, true, false, cond, nat_le, is_some, List, [], ◌∷◌, length, map, replicate, All, Option, Some, None}
+use Rattle.std.proofs.Common.{◌≡◌, ℕ, zero, suc, ◌+◌, ◌≤◌, Bool, true, false, cond, nat_le, is_some, List, [], ◌∷◌, length, map, replicate, All, Option, Some, None}
 use Rattle.std.proofs.Common.{option_map, refl, ap, ◌∙◌, subst, arith}
 use Rattle.std.proofs.Math.Seq.{map-set_same}
 use Rattle.std.proofs.lemmas.List.{map-set, length-set, length-map, length-replicate}
 use Rattle.std.proofs.lemmas.List.Elements.{All-nil, All-head}
 use Rattle.std.proofs.lemmas.Option.{none-some, same_Some}
-use Rattle.slot_arena.specs.Refs.{slot_of}
+use Rattle.slot_arena.specs.Refs.{slot_of, most_slots}
 use Rattle.slot_arena.specs.declared.refs.Ref.{Ref}
 use Rattle.slot_arena.specs.declared.nodes.Node.{Node}
 use Rattle.slot_arena.specs.declared.nodes.Prev.{Prev}
@@ -73,7 +73,7 @@ unfolding taken
 taken_kept slots heap node h = take_from_kept slots heap node heap.free refl h
 
 -- freeing a slot in use
-freed_kept : (slots : ℕ) (heap : Heap) (r : Ref) → slots ≤ 2 ^ 16 → InUse heap r → AddsUp slots heap → AddsUp slots (freed heap r)
+freed_kept : (slots : ℕ) (heap : Heap) (r : Ref) → slots ≤ most_slots → InUse heap r → AddsUp slots heap → AddsUp slots (freed heap r)
 unfolding freed
 freed_kept slots heap r small is_used h = record {
   size = length-set heap.slots (slot_of r) _ ∙ h.size;
@@ -81,7 +81,7 @@ freed_kept slots heap r small is_used h = record {
 }
 
 -- each effect of a step
-moves_kept : (slots : ℕ) (heap after : Heap) (due : Option Ref) → slots ≤ 2 ^ 16 → ((r : Ref) → due ≡ Some r → InUse heap r) → HeapMoves heap due after →
+moves_kept : (slots : ℕ) (heap after : Heap) (due : Option Ref) → slots ≤ most_slots → ((r : Ref) → due ≡ Some r → InUse heap r) → HeapMoves heap due after →
     AddsUp slots heap → AddsUp slots after
 moves_kept slots heap after due small is_used Stays h = h
 moves_kept slots heap after due small is_used (Takes node) h = taken_kept slots heap node h
@@ -117,7 +117,7 @@ settled_limbo state s o after (Ends d is a) = limbo_in_use _ _ _ _
 settled_limbo state s o after (Sweeps spent) = limbo_in_use _ _ _ _
 
 -- each step keeps that
-pub sound_after : (slots : ℕ) → slots ≤ 2 ^ 16 → (state : State) (s : Step) → IsSound slots state → (o : Outcome) (after : State) → Moves state s o after → IsSound slots after
+pub sound_after : (slots : ℕ) → slots ≤ most_slots → (state : State) (s : Step) → IsSound slots state → (o : Outcome) (after : State) → Moves state s o after → IsSound slots after
 sound_after slots small state s h o after m = record {
   heap = moves_kept slots state.heap after.heap (ripe state.epoch state.limbo) small (ripe_in_use (InUse state.heap) state.epoch state.limbo (h.limbo))
       (heap_moves state s o after m) (h.heap);

@@ -1,5 +1,5 @@
 -- The machine: one atomic step, and runs of steps.
-use Rattle.std.specs.Prelude.{ℕ, zero, suc, ◌+◌, ◌==◌, ◌≤◌, ◌^◌, ◌||◌, ◌&&◌, Bool, true, false, not, nat_lt, nat_le, is_some, List, [], ◌∷◌, map, Option, Some, None, option_map}
+use Rattle.std.specs.Prelude.{ℕ, zero, suc, ◌+◌, ◌-◌, ◌==◌, ◌≤◌, ◌^◌, ◌||◌, ◌&&◌, Bool, true, false, not, nat_lt, nat_le, is_some, List, [], ◌∷◌, map, Option, Some, None, option_map}
 use Rattle.std.specs.Prelude.{unwrap_or, Result, Ok, Err, if◌then◌else◌}
 use Rattle.std.specs.List.{list_any}
 use Rattle.ctrie_base.specs.declared.kinds.Kind.{Kind}
@@ -24,6 +24,7 @@ use Rattle.machine_model.specs.States.{State, first_state, handle_limit, root_at
 use Rattle.machine_model.specs.Operations.{first_line, action_of, kind_of}
 use Rattle.machine_model.specs.Acting.{gone, ended}
 use Rattle.machine_model.specs.Counting.{settled}
+use Rattle.slot_arena.specs.Refs.{most_slots}
 
 -- what a step gives: its outcome and the state after it, or a refusal
 abbrev pub Answer : Type 0
@@ -247,10 +248,10 @@ taken_from state (s ∷ steps) = if is_taken_step (next state s) then s ∷ take
 abbrev pub taken_steps : Bounds → List Step → List Step
 taken_steps limits steps = taken_from (first_state limits) steps
 
--- how many steps a machine takes at most that lives long
+-- how many steps a machine takes at most that lives long: of two, one at most draws a birth, but for the slots that are in use at the end
 abbrev pub longest_life : ℕ
-longest_life = 2 ^ 47
+longest_life = 2 ^ 45 - 2 ^ 21
 
 -- the bounds are in range
 abbrev pub AreBounds : Bounds → Type 0
-AreBounds limits = (2 ≤ limits.slots) × (limits.slots ≤ 65536) × (1 ≤ limits.actors) × (limits.actors ≤ 64) × (limits.steps ≤ longest_life)
+AreBounds limits = (2 ≤ limits.slots) × (limits.slots ≤ most_slots) × (1 ≤ limits.actors) × (limits.actors ≤ 64) × (limits.steps ≤ longest_life)

@@ -40,6 +40,6 @@ pub use records::{Carried, Closing, Commit, Entrant, Moment, Progress, Publicati
 pub use repairs::{CleanLine, Climb, ClimbLine, RenewLine};
 pub use roots::{Complete, CompleteLine, Descriptor, Root, RootLine, RootWord};
 pub use runs::{late_put, put_and_get, refused_for_want_of_slots};
-pub use slot_arena::{Node, Prev, Ref};
+pub use slot_arena::{NodeRef, Prev, Ref};
 pub use steps::{Bounds, Limits, Outcome, Step};
 pub use walking::WalkLine;

@@ -18,13 +18,13 @@ pub struct Limits {
 /// What bounds a machine: its sizes, and how long it lives.
 #[derive(Clone, Copy)]
 pub struct Bounds {
-    /// The number of slots.
+    /// The number of slots, 2 to 1,048,576.
     pub slots: u32,
     /// The number of actors.
     pub actors: u8,
     /// The hash of keys.
     pub hash: HashKind,
-    /// How many steps it takes, at most 2^47.
+    /// How many steps it takes, at most 2^45 - 2^21.
     pub steps: u64,
 }
 

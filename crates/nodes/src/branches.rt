@@ -6,9 +6,9 @@ ghost use Rattle.slot_arena.specs.Heaps.{entries_of};
 ghost use Rattle.nodes.specs.Builders.{inserted, updated, removed, renewed, contracted};
 ghost use Rattle.nodes.specs.Contents.{InsertsPair, UpdatesPair, RemovesPair, KeepsContent};
 
-use crate::entries::{all_of, joined, with_replaced, without};
+use crate::entries::{all_of, with_replaced, without};
 use crate::levels::position_of;
-use slot_arena::{Node, Ref};
+use slot_arena::{Node, Ref, joined};
 
 /// The branch with an entry more, in the place of its flag.
 pub fn inserted(flag: u32, bitmap: u32, entries: &[Ref], entry: Ref) -> Node

@@ -1,35 +1,15 @@
 //! The entries of a node.
 
-ghost use Rattle.std.specs.Prelude.{◌≡◌, ◌+◌, ◌<◌, ◌≤◌, ◌++◌, ◌↔◌, IsTrue, length, remove, slice_set};
+ghost use Rattle.std.specs.Prelude.{◌≡◌, ◌<◌, ◌≤◌, ◌↔◌, IsTrue, length, remove, slice_set};
 ghost use Rattle.slot_arena.specs.Heaps.{entries_from};
 
-use arrayvec::ArrayVec;
-use slot_arena::Ref;
-
-/// How many entries a node has room for.
-pub const MOST_ENTRIES: usize = 32;
-
-/// The entries of a branch, or the singles of a list.
-pub(crate) type Entries = ArrayVec<Ref, MOST_ENTRIES>;
+use slot_arena::{Entries, MOST_ENTRIES, Ref, joined};
 
 /// Whether a node of these entries has room for one more.
 pub fn has_room(entries: &[Ref]) -> bool
     ensures { IsTrue result ↔ (length entries.now < MOST_ENTRIES) }
 {
     entries.len() < MOST_ENTRIES
-}
-
-/// The references of three slices, one behind the other, as entries.
-pub(crate) fn joined(front: &[Ref], middle: &[Ref], back: &[Ref]) -> Entries
-    requires { length front.now + length middle.now + length back.now ≤ 32 }
-    ensures entries { result ≡ entries_from (front.now ++ middle.now ++ back.now) }
-    ensures all { result.items ≡ front.now ++ middle.now ++ back.now }
-{
-    let mut entries = ArrayVec::new();
-    let _ = entries.try_extend_from_slice(front);
-    let _ = entries.try_extend_from_slice(middle);
-    let _ = entries.try_extend_from_slice(back);
-    entries
 }
 
 /// These references as entries.

@@ -11,7 +11,8 @@ mod lists;
 mod pairs;
 
 pub use branches::{compressed, contracted, inserted, removed, renewed, updated};
-pub use entries::{MOST_ENTRIES, has_room};
+pub use entries::has_room;
 pub use levels::{flag_of, has_flag, index_in, list_depth, parting, position_of};
 pub use lists::{list_inserted, list_removed, list_updated};
 pub use pairs::{dual, rung};
+pub use slot_arena::MOST_ENTRIES;

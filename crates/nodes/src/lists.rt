@@ -5,8 +5,8 @@ ghost use Rattle.slot_arena.specs.Heaps.{entries_of};
 ghost use Rattle.nodes.specs.Builders.{list_inserted, list_updated, list_removed};
 ghost use Rattle.nodes.specs.Contents.{InsertsPair, UpdatesPair, RemovesPair};
 
-use crate::entries::{joined, with_replaced, without};
-use slot_arena::{Node, Ref};
+use crate::entries::{with_replaced, without};
+use slot_arena::{Node, Ref, joined};
 
 /// The list with a single more, at its end.
 pub fn list_inserted(singles: &[Ref], single: Ref) -> Node

@@ -28,7 +28,7 @@ use crate::went::Went;
 use ctrie_base::Kind;
 use epochs::Heap;
 use key_finding::{Change, Entered, Found, KeyReply, Tried, after_entry, after_listed, after_main};
-use slot_arena::{Node, Ref};
+use slot_arena::{NodeRef, Ref};
 use trie_parts::{Next, above, current, node_at};
 
 impl KeyOp {
@@ -217,7 +217,7 @@ fn tomb_at(heap: &Heap, at: Ref) -> Option<Ref>
     ensures { (operation : Operation) (path : List ARef) (former : Option ℕ) → after_update operation path former (node_at heap.now.heap at) ≡ changed_line operation path former result }
 {
     match node_at(heap, at) {
-        Some(Node::Tomb { single }) => Some(*single),
+        Some(NodeRef::Tomb { single }) => Some(*single),
         _ => None,
     }
 }

@@ -21,6 +21,6 @@ pub use key_finding::KeyReply;
 pub use key_op::{BelowAt, KeyAt, KeyOp};
 pub use laws::{acts_of_key, tells_key};
 pub use trie_parts::{
-    KeyCall, Publication, changed_at, entries_at, entry_at, flag_of, generation_at, node_at,
-    release_all,
+    KeyCall, Publication, changed_at, entries_at, entry_at, flag_of, generation_at, make_changed,
+    node_at, release_all,
 };

@@ -1,5 +1,5 @@
 -- How many steps of the sweep it takes to free slots, where no operation runs.
-use Rattle.std.specs.Prelude.{◌≡◌, ◌≢◌, ◌≤◌, ◌+◌, ◌*◌, ◌-◌, ◌^◌, ◌&&◌, ℕ, zero, suc, Bool, true, false, nat_le, is_some, All, List, [], ◌∷◌, ◌++◌, filter, length, map, slice_index_or, Option}
+use Rattle.std.specs.Prelude.{◌≡◌, ◌≢◌, ◌≤◌, ◌+◌, ◌*◌, ◌-◌, ◌&&◌, ℕ, zero, suc, Bool, true, false, nat_le, is_some, All, List, [], ◌∷◌, ◌++◌, filter, length, map, slice_index_or, Option}
 use Rattle.std.specs.Prelude.{Some, None, Ok, if◌then◌else◌}
 use Rattle.std.specs.List.{list_any}
 use Rattle.std.proofs.Common.{refl, sym, ap, subst, arith, eq-eqb, leb-true, leb-false, ◌∙◌}
@@ -40,6 +40,7 @@ use Rattle.proof_alone.specs.Beneath.proof_memory.proofs.Safety.Base.{begin_time
 use Rattle.proof_alone.specs.Beneath.proof_memory.proofs.Safety.States.{IsSafe}
 use Rattle.proof_straight.specs.Resting.{IsOfRun}
 use Rattle.proof_alone.proofs.Runs.{by_run}
+use Rattle.proof_alone.specs.Beneath.slot_arena.specs.Refs.{most_slots}
 
 -- ---- how far it is to the next slot
 
@@ -100,7 +101,7 @@ none_pinned (None ∷ xs) zero idle = refl
 none_pinned (None ∷ xs) (suc k) idle = none_pinned xs k idle
 none_pinned (Some operation ∷ xs) k idle = absurd (false≢true (sym idle))
 
-module _ (state : State) (I : IsSafe state) (small : length state.heap.slots ≤ 2 ^ 16) (lies : LimboLies state) (idle : is_busy state ≡ false)
+module _ (state : State) (I : IsSafe state) (small : length state.heap.slots ≤ most_slots) (lies : LimboLies state) (idle : is_busy state ≡ false)
     (z : Zeroed) (limbo : List Zeroed) (first : state.limbo ≡ z ∷ limbo) where
   abbrev pins : List (Option ℕ)
   pins = map pin_of state.actors

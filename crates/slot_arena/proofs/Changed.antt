@@ -6,7 +6,7 @@ use Rattle.std.proofs.lemmas.List.{get_or-set_same, get_or-set_other, get_or_def
 use Rattle.std.proofs.lemmas.List.Sums.{sum_by-set, sum_by-le, count_by-le-length}
 use Rattle.slot_arena.specs.declared.refs.Ref.{Ref}
 use Rattle.slot_arena.specs.declared.nodes.Slot.{Slot}
-use Rattle.slot_arena.specs.Refs.{ref_to, slot_of, birth_of}
+use Rattle.slot_arena.specs.Refs.{ref_to, slot_of, birth_of, most_slots}
 use Rattle.slot_arena.specs.declared.nodes.Prev.{Prev}
 use Rattle.slot_arena.specs.declared.nodes.Prev.TheVariants as prev
 use Rattle.slot_arena.specs.Heaps.{node_of, refs_of_node, refs_of_prev, refs_of_slot}
@@ -80,18 +80,18 @@ narrow_times r (Some slot) few =
 
 -- no count comes near 2^32
 pub counts_small : (slots : List (Option Slot)) (counts : List ℕ) (free : Chain) (used : ℕ) (outside : List Ref) → IsKept slots counts free used outside → (k : ℕ) →
-    slice_index counts k ≤ 33 * 2 ^ 16 + 2 ^ 31
+    slice_index counts k ≤ 33 * most_slots + 2 ^ 31
 counts_small slots counts free used outside kept k = by_slot (get_or slots k None) refl
   where
     each : (r : Ref) → All (λ o. times r (refs_of_slot o) ≤ 33) slots
     each r i d within = subst (λ o. times r (refs_of_slot o) ≤ 33) (get_or_default slots i None d within) (narrow_times r (get_or slots i None) (kept.narrow i))
 
-    by_slot : (o : Option Slot) → get_or slots k None ≡ o → slice_index counts k ≤ 33 * 2 ^ 16 + 2 ^ 31
+    by_slot : (o : Option Slot) → get_or slots k None ≡ o → slice_index counts k ≤ 33 * most_slots + 2 ^ 31
     by_slot None none = let zero_count = kept.unused k none in omega arith
     by_slot (Some slot) some =
         let within = used_within slots k (ap is_some some) in
         let few = kept.few in
-        let small : k < 2 ^ 16 = omega arith in
+        let small : k < most_slots = omega arith in
         let r : Ref = ref_to slot.birth k in
         let is = exact_live slots counts outside kept.exact r (live_ref slots k slot some small) in
         let at = ap (slice_index counts) (slot_of_ref slot.birth k small) in

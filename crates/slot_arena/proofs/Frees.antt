@@ -1,5 +1,5 @@
 -- A slot is freed.
-use Rattle.std.proofs.Common.{◌≡◌, ℕ, ◌+◌, ◌<◌, ◌≤◌, ◌^◌, true, cond, List, [], ◌∷◌, length, get_or, set, slice_index, All, Option, Some, None, is_some, sym, ap, ◌∙◌, inl, inr, arith}
+use Rattle.std.proofs.Common.{◌≡◌, ℕ, ◌+◌, ◌<◌, ◌≤◌, true, cond, List, [], ◌∷◌, length, get_or, set, slice_index, All, Option, Some, None, is_some, sym, ap, ◌∙◌, inl, inr, arith}
 use Rattle.std.proofs.lemmas.Bool.{cases_eq, cases_Bool, false≢true}
 use Rattle.std.proofs.lemmas.List.{length-set}
 use Rattle.std.proofs.lemmas.List.Elements.{All-nil}
@@ -7,7 +7,7 @@ use Rattle.std.proofs.lemmas.List.Sums.{get_or-le-sum_by}
 use Rattle.slot_arena.specs.Cells.{birth_of_slot}
 use Rattle.slot_arena.specs.declared.refs.Ref.{Ref}
 use Rattle.slot_arena.specs.declared.nodes.Slot.{Slot}
-use Rattle.slot_arena.specs.Refs.{slot_of}
+use Rattle.slot_arena.specs.Refs.{slot_of, birth_limit}
 use Rattle.slot_arena.specs.Heaps.{node_of, refs_of_node, refs_of_slot}
 use Rattle.slot_arena.specs.Times.{times}
 use Rattle.slot_arena.specs.Tallies.{naming}
@@ -77,6 +77,6 @@ module _
       in_use = let was = ap (λ (o : Option Slot). cond {A = ℕ} (is_some o) 1 0) at in let is = kept.in_use in omega (arith, used_set slots (slot_of r) None within);
       all = let is = kept.all in omega (arith, length-set slots (slot_of r) None, ap length put);
       narrow = each_set (λ i o. length (refs_of_node (node_of o)) ≤ 32) slots (slot_of r) None within (omega arith) (λ i other. kept.narrow i);
-      born = each_set (λ i o. birth_of_slot o < 2 ^ 48) slots (slot_of r) None within (omega arith) (λ i other. kept.born i);
+      born = each_set (λ i o. birth_of_slot o < birth_limit) slots (slot_of r) None within (omega arith) (λ i other. kept.born i);
       held = kept.held;
     }

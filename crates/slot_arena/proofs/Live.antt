@@ -1,11 +1,11 @@
 -- References that name slots in use.
-use Rattle.std.proofs.Common.{◌≡◌, ℕ, ◌<◌, ◌^◌, ◌==◌, true, false, List, [], ◌∷◌, length, get_or, All, Option, Some, None, refl, sym, ap, ◌∙◌, subst, inl, inr, arith, eq-eqb, eqb-true}
+use Rattle.std.proofs.Common.{◌≡◌, ℕ, ◌<◌, ◌==◌, true, false, List, [], ◌∷◌, length, get_or, All, Option, Some, None, refl, sym, ap, ◌∙◌, subst, inl, inr, arith, eq-eqb, eqb-true}
 use Rattle.std.proofs.lemmas.Bool.{cases_eq, cases_lt, false≢true}
 use Rattle.std.proofs.lemmas.List.{get_or_past}
 use Rattle.std.proofs.lemmas.List.Elements.{All-nil, All-cons, All-head, All-tail}
 use Rattle.slot_arena.specs.declared.refs.Ref.{Ref}
 use Rattle.slot_arena.specs.declared.nodes.Slot.{Slot}
-use Rattle.slot_arena.specs.Refs.{ref_to, slot_of, birth_of}
+use Rattle.slot_arena.specs.Refs.{ref_to, slot_of, birth_of, most_slots}
 use Rattle.slot_arena.specs.Times.{times}
 use Rattle.slot_arena.specs.Tallies.{naming}
 use Rattle.slot_arena.specs.Arenas.{has_birth}
@@ -14,10 +14,10 @@ use Rattle.slot_arena.specs.Cells.{birth_of_slot}
 use Rattle.slot_arena.proofs.Times.{once, once_same, once_other, times-cons}
 use Rattle.slot_arena.proofs.Namings.{naming-cons}
 
-pub slot_of_ref : (birth slot : ℕ) → slot < 2 ^ 16 → slot_of (ref_to birth slot) ≡ slot
+pub slot_of_ref : (birth slot : ℕ) → slot < most_slots → slot_of (ref_to birth slot) ≡ slot
 slot_of_ref birth slot small = omega arith
 
-pub birth_of_ref : (birth slot : ℕ) → slot < 2 ^ 16 → birth_of (ref_to birth slot) ≡ birth
+pub birth_of_ref : (birth slot : ℕ) → slot < most_slots → birth_of (ref_to birth slot) ≡ birth
 birth_of_ref birth slot small = omega arith
 
 pub same_ref : (q r : Ref) → slot_of q ≡ slot_of r → birth_of q ≡ birth_of r → q ≡ r
@@ -53,13 +53,13 @@ all_within slots n (r ∷ rs) size all =
     All-cons (λ (q : Ref). slot_of q < n) r rs (omega arith) (all_within slots n rs size (All-tail (λ (q : Ref). live slots q ≡ true) r rs all))
 
 -- a slot in use is named by its reference
-pub live_ref : (slots : List (Option Slot)) (k : ℕ) (slot : Slot) → get_or slots k None ≡ Some slot → k < 2 ^ 16 → live slots (ref_to slot.birth k) ≡ true
+pub live_ref : (slots : List (Option Slot)) (k : ℕ) (slot : Slot) → get_or slots k None ≡ Some slot → k < most_slots → live slots (ref_to slot.birth k) ≡ true
 live_ref slots k slot is small =
     ap (λ i. has_birth (birth_of (ref_to slot.birth k)) (get_or slots i None)) (slot_of_ref slot.birth k small) ∙ ap (has_birth (birth_of (ref_to slot.birth k))) is
     ∙ eq-eqb slot.birth (birth_of (ref_to slot.birth k)) (sym (birth_of_ref slot.birth k small))
 
 -- the same by the birth that is read there
-pub live_read : (slots : List (Option Slot)) (k birth : ℕ) → birth ≡ birth_of_slot (get_or slots k None) → (birth ≡ 0 → ⊥) → k < 2 ^ 16 → live slots (ref_to birth k) ≡ true
+pub live_read : (slots : List (Option Slot)) (k birth : ℕ) → birth ≡ birth_of_slot (get_or slots k None) → (birth ≡ 0 → ⊥) → k < most_slots → live slots (ref_to birth k) ≡ true
 live_read slots k birth is there small = by_slot (get_or slots k None) refl
   where
     by_slot : (o : Option Slot) → get_or slots k None ≡ o → live slots (ref_to birth k) ≡ true

@@ -1,5 +1,5 @@
 -- A slot is made.
-use Rattle.std.proofs.Common.{◌≡◌, ℕ, ◌+◌, ◌<◌, ◌≤◌, ◌^◌, true, cond, List, [], ◌∷◌, length, get_or, set, slice_index, All, Option, Some, None, is_some, refl, sym, ap, ◌∙◌, inl, inr, arith}
+use Rattle.std.proofs.Common.{◌≡◌, ℕ, ◌+◌, ◌<◌, ◌≤◌, true, cond, List, [], ◌∷◌, length, get_or, set, slice_index, All, Option, Some, None, is_some, refl, sym, ap, ◌∙◌, inl, inr, arith}
 use Rattle.std.proofs.lemmas.Bool.{cases_eq}
 use Rattle.std.proofs.lemmas.List.{length-set}
 use Rattle.std.proofs.lemmas.List.Elements.{All-nil}
@@ -8,7 +8,7 @@ use Rattle.slot_arena.specs.declared.refs.Ref.{Ref}
 use Rattle.slot_arena.specs.declared.nodes.Node.{Node}
 use Rattle.slot_arena.specs.declared.nodes.Prev.TheVariants as prev
 use Rattle.slot_arena.specs.declared.nodes.Slot.{Slot}
-use Rattle.slot_arena.specs.Refs.{slot_of, birth_of}
+use Rattle.slot_arena.specs.Refs.{slot_of, birth_of, most_slots, birth_limit}
 use Rattle.slot_arena.specs.Heaps.{node_of, refs_of_node, refs_of_slot}
 use Rattle.slot_arena.specs.Times.{times}
 use Rattle.slot_arena.specs.Tallies.{naming}
@@ -40,7 +40,7 @@ module _
     (slots : List (Option Slot)) (counts counts' : List ℕ) (free free' : Chain) (used : ℕ) (outside : List Ref) (kept : IsKept slots counts free used outside)
     (k birth : ℕ) (node : Node) (first : free.slots ≡ k ∷ free'.slots) (size : free'.size ≡ free.size) (below : k < free.size) (once_only : times k free'.slots ≡ 0)
     (sizes : length counts' ≡ length counts) (raised : (i : ℕ) → slice_index counts' i ≡ slice_index counts i + naming i (refs_of_node node))
-    (all : All (λ q. live slots q ≡ true) (refs_of_node node)) (few : length (refs_of_node node) ≤ 32) (fits : birth < 2 ^ 48)
+    (all : All (λ q. live slots q ≡ true) (refs_of_node node)) (few : length (refs_of_node node) ≤ 32) (fits : birth < birth_limit)
   where
     abbrev made : Option Slot
     made = Some (record { birth = birth; node = node; prev = prev.None })
@@ -84,7 +84,7 @@ module _
       in_use = let was = ap (λ (o : Option Slot). cond {A = ℕ} (is_some o) 1 0) empty in let is = kept.in_use in omega (arith, used_set slots k made within);
       all = let is = kept.all in omega (arith, length-set slots k made, ap length first);
       narrow = each_set (λ i o. length (refs_of_node (node_of o)) ≤ 32) slots k made within few (λ i other. kept.narrow i);
-      born = each_set (λ i o. birth_of_slot o < 2 ^ 48) slots k made within fits (λ i other. kept.born i);
+      born = each_set (λ i o. birth_of_slot o < birth_limit) slots k made within fits (λ i other. kept.born i);
       held = kept.held;
     }
 
@@ -92,7 +92,7 @@ module _
     abbrev held : Ref
     held = ref_to birth k
 
-    small : k < 2 ^ 16
+    small : k < most_slots
     small = let is = kept.few in omega (arith, within)
 
     held_live : live (set slots k made) held ≡ true

@@ -81,25 +81,19 @@ zeros_trans a b c first second slot free =
     let later = second slot free in let sooner = first slot later.0 in (sooner.0, sooner.1 ∙ later.1)
 
 -- a count that is written has its slot noted, or is zero where it was
-pub zeros_written : (a b : Tally) (k v : ℕ) (counts noted : List ℕ) (ticks : ℕ) → NotesZeros a b → b.counts ≡ a.counts → counts ≡ set a.counts k v → noted ≡ b.noted → k < length a.counts →
-    (0 < times k b.noted) ⊎ ((slice_index a.counts k == 0) ≡ (v == 0)) → NotesZeros a (record { counts = counts; noted = noted; ticks = ticks })
-zeros_written a b k v counts noted ticks before same is notes within why slot free = elim (cases_eq slot k) [
+pub zeros_written : (a : Tally) (k v : ℕ) (counts noted : List ℕ) (ticks : ℕ) → ((slot : ℕ) → times slot noted ≡ 0 → times slot a.noted ≡ 0) → counts ≡ set a.counts k v → k < length a.counts →
+    (0 < times k noted) ⊎ ((slice_index a.counts k == 0) ≡ (v == 0)) → NotesZeros a (record { counts = counts; noted = noted; ticks = ticks })
+zeros_written a k v counts noted ticks before is within why slot free = elim (cases_eq slot k) [
   | inl here ↦ (
-    was.0,
+    before slot free,
     elim why [
-      | inl some ↦ let here_too = ap (λ s. times s b.noted) here in absurd (omega (arith, free'))
+      | inl some ↦ let here_too = ap (λ s. times s noted) here in absurd (omega (arith, free))
       | inr equal ↦ ap (λ s. slice_index a.counts s == 0) here ∙ equal
           ∙ ap (λ x. x == 0) (sym (ap (λ cs. slice_index cs slot) is ∙ ap (λ s. slice_index (set a.counts k v) s) here ∙ get_or-set_same a.counts k v 0 within))
     ],
   )
-  | inr other ↦ (was.0, ap (λ x. x == 0) (sym (ap (λ cs. slice_index cs slot) is ∙ get_or-set_other a.counts k slot v 0 other)))
+  | inr other ↦ (before slot free, ap (λ x. x == 0) (sym (ap (λ cs. slice_index cs slot) is ∙ get_or-set_other a.counts k slot v 0 other)))
 ]
-  where
-    free' : times slot b.noted ≡ 0
-    free' = ap (times slot) (sym notes) ∙ free
-
-    was : (times slot a.noted ≡ 0) × ((slice_index a.counts slot == 0) ≡ (slice_index b.counts slot == 0))
-    was = before slot free'
 
 pub zeros_same : (a : Tally) → NotesZeros a a
 zeros_same a slot free = (free, refl)

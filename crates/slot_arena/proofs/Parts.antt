@@ -83,14 +83,14 @@ prev_found (b ∷ bs) (n ∷ ns) [] k d h = absurd (false≢true h)
 prev_found (b ∷ bs) (n ∷ ns) (p ∷ ps) zero d h = prev_in (b == 0) b n p h
 prev_found (b ∷ bs) (n ∷ ns) (p ∷ ps) (suc k) d h = prev_found bs ns ps k d h
 
-pub cleared : (bs : List ℕ) (ns : List Node) (ps : List Prev) (k : ℕ) → slots_from (set bs k 0) ns ps ≡ set (slots_from bs ns ps) k None
-cleared [] ns ps k = refl
-cleared (b ∷ bs) [] ps zero = refl
-cleared (b ∷ bs) [] ps (suc k) = refl
-cleared (b ∷ bs) (n ∷ ns) [] zero = refl
-cleared (b ∷ bs) (n ∷ ns) [] (suc k) = refl
-cleared (b ∷ bs) (n ∷ ns) (p ∷ ps) zero = refl
-cleared (b ∷ bs) (n ∷ ns) (p ∷ ps) (suc k) = ap (λ s. slot_from b n p ∷ s) (cleared bs ns ps k)
+pub cleared : (bs : List ℕ) (ns : List Node) (ps : List Prev) (k : ℕ) (n : Node) → slots_from (set bs k 0) (set ns k n) ps ≡ set (slots_from bs ns ps) k None
+cleared [] ns ps k m = refl
+cleared (b ∷ bs) [] ps zero m = refl
+cleared (b ∷ bs) [] ps (suc k) m = refl
+cleared (b ∷ bs) (n ∷ ns) [] zero m = refl
+cleared (b ∷ bs) (n ∷ ns) [] (suc k) m = refl
+cleared (b ∷ bs) (n ∷ ns) (p ∷ ps) zero m = refl
+cleared (b ∷ bs) (n ∷ ns) (p ∷ ps) (suc k) m = ap (λ s. slot_from b n p ∷ s) (cleared bs ns ps k m)
 
 born : (test : Bool) (b : ℕ) (n : Node) (p : Prev) → (b == 0) ≡ test → 0 < b → slot_if test b n p ≡ Some (record { birth = b; node = n; prev = p })
 born true b n p e h = let none = eqb-true b 0 e in absurd (omega arith)

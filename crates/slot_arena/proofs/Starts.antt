@@ -8,7 +8,7 @@ use Rattle.std.proofs.lemmas.List.Sums.{sum_by-cons}
 use Rattle.slot_arena.specs.Cells.{birth_of_slot}
 use Rattle.slot_arena.specs.declared.refs.Ref.{Ref}
 use Rattle.slot_arena.specs.declared.nodes.Slot.{Slot}
-use Rattle.slot_arena.specs.Refs.{slot_of, birth_of}
+use Rattle.slot_arena.specs.Refs.{slot_of, birth_of, most_slots}
 use Rattle.slot_arena.specs.Heaps.{node_of, refs_of_node, refs_of_slot}
 use Rattle.slot_arena.specs.Times.{times}
 use Rattle.slot_arena.specs.Arenas.{has_birth}
@@ -31,7 +31,7 @@ none_summed : (f : Option Slot → ℕ) (n : ℕ) → f None ≡ 0 → sum_by f 
 none_summed f zero e = refl
 none_summed f (suc n) e = omega (arith, sum_by-cons f None (replicate n None), none_summed f n e)
 
-pub start_kept : (n : ℕ) → n ≤ 65536 → IsKept (replicate n None) (replicate n 0) (record { slots = range_with_len 0 n; size = n; ticks = n }) 0 []
+pub start_kept : (n : ℕ) → n ≤ most_slots → IsKept (replicate n None) (replicate n 0) (record { slots = range_with_len 0 n; size = n; ticks = n }) 0 []
 start_kept n few = record {
   few = omega (arith, length-replicate {A = Option Slot} n None);
   sizes = length-replicate n 0 ∙ sym (length-replicate {A = Option Slot} n None);

@@ -1,11 +1,11 @@
 -- What a word of a slot in use refers to is changed.
-use Rattle.std.proofs.Common.{◌≡◌, ℕ, ◌+◌, ◌<◌, ◌≤◌, ◌^◌, ◌==◌, true, cond, List, length, get_or, set, slice_index, All, Option, Some, None, is_some, sym, ap, ◌∙◌, inl, inr, arith}
+use Rattle.std.proofs.Common.{◌≡◌, ℕ, ◌+◌, ◌<◌, ◌≤◌, ◌==◌, true, cond, List, length, get_or, set, slice_index, All, Option, Some, None, is_some, sym, ap, ◌∙◌, inl, inr, arith}
 use Rattle.std.proofs.lemmas.Bool.{cases_eq}
 use Rattle.std.proofs.lemmas.List.{length-set}
 use Rattle.slot_arena.specs.Cells.{birth_of_slot}
 use Rattle.slot_arena.specs.declared.refs.Ref.{Ref}
 use Rattle.slot_arena.specs.declared.nodes.Slot.{Slot}
-use Rattle.slot_arena.specs.Refs.{slot_of, birth_of}
+use Rattle.slot_arena.specs.Refs.{slot_of, birth_of, birth_limit}
 use Rattle.slot_arena.specs.Heaps.{node_of, refs_of_node, refs_of_slot}
 use Rattle.slot_arena.specs.Times.{times}
 use Rattle.slot_arena.specs.Tallies.{naming}
@@ -48,6 +48,6 @@ module _
       in_use = let was = ap (λ (o : Option Slot). cond {A = ℕ} (is_some o) 1 0) at in let is = kept.in_use in omega (arith, used_set slots k (Some slot') within);
       all = let is = kept.all in omega (arith, length-set slots k (Some slot'));
       narrow = each_set (λ i o. length (refs_of_node (node_of o)) ≤ 32) slots k (Some slot') within few (λ i other. kept.narrow i);
-      born = each_set (λ i o. birth_of_slot o < 2 ^ 48) slots k (Some slot') within (omega (arith, kept.born k, ap birth_of_slot at)) (λ i other. kept.born i);
+      born = each_set (λ i o. birth_of_slot o < birth_limit) slots k (Some slot') within (omega (arith, kept.born k, ap birth_of_slot at)) (λ i other. kept.born i);
       held = kept.held;
     }

@@ -1,11 +1,11 @@
 -- Which slots wait for nothing to refer to them, by counts.
-use Rattle.std.proofs.Common.{◌≡◌, ℕ, ◌<◌, ◌^◌, ◌==◌, Bool, true, false, cond, List, get_or, slice_index, Option, Some, None}
+use Rattle.std.proofs.Common.{◌≡◌, ℕ, ◌<◌, ◌==◌, Bool, true, false, cond, List, get_or, slice_index, Option, Some, None}
 use Rattle.std.proofs.Common.{is_some, refl, sym, ap, subst, ◌∙◌, ◌⊎◌, inl, inr, arith, eq-eqb, eqb-true}
 use Rattle.std.proofs.lemmas.Bool.{cases_Bool}
 use Rattle.slot_arena.specs.Cells.{birth_of_slot}
 use Rattle.slot_arena.specs.declared.refs.Ref.{Ref}
 use Rattle.slot_arena.specs.declared.nodes.Slot.{Slot}
-use Rattle.slot_arena.specs.Refs.{ref_to, slot_of, birth_of}
+use Rattle.slot_arena.specs.Refs.{ref_to, slot_of, birth_of, most_slots}
 use Rattle.std.proofs.lemmas.Bool.{false≢true}
 use Rattle.std.proofs.lemmas.Option.{none-some, same_Some}
 use Rattle.slot_arena.specs.Heaps.{Heap}
@@ -35,7 +35,7 @@ module _ (heap : Heap) (counts : List ℕ) (free : Chain) (used : ℕ) (outside 
   count_at slot some =
       let within = used_within heap.slots k (ap is_some some) in
       let few = kept.few in
-      let small : k < 2 ^ 16 = omega arith in
+      let small : k < most_slots = omega arith in
       count_found heap outside (ref_to slot.birth k) ∙ exact_live heap.slots counts outside kept.exact (ref_to slot.birth k) (live_ref heap.slots k slot some small)
       ∙ ap (slice_index counts) (slot_of_ref slot.birth k small)
 
@@ -123,7 +123,7 @@ waits_live arena r is = live_shown arena.heap r (by_slot (get_or arena.heap.slot
   where
     by_test : (slot : Slot) (b : Bool) → get_or arena.heap.slots (slot_of r) None ≡ Some slot → cond b (Some (ref_to slot.birth (slot_of r))) None ≡ Some r → live arena.heap.slots r ≡ true
     by_test slot true some at =
-        let small : slot_of r < 2 ^ 16 = omega arith in
+        let small : slot_of r < most_slots = omega arith in
         ap (has_birth (birth_of r)) some ∙ eq-eqb slot.birth (birth_of r) (sym (birth_of_ref slot.birth (slot_of r) small) ∙ ap birth_of (same_Some (ref_to slot.birth (slot_of r)) r at))
     by_test slot false some at = absurd (none-some r at)
 

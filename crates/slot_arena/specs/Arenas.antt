@@ -5,7 +5,7 @@ use Rattle.slot_arena.specs.declared.refs.Ref.{Ref}
 use Rattle.slot_arena.specs.declared.nodes.Node.{Node}
 use Rattle.slot_arena.specs.declared.nodes.Node.TheVariants.{Indirection, Branch, Single, Tomb, List as Listed}
 use Rattle.slot_arena.specs.declared.nodes.Slot.{Slot}
-use Rattle.slot_arena.specs.Refs.{ref_to, birth_of}
+use Rattle.slot_arena.specs.Refs.{ref_to, birth_of, most_slots}
 use Rattle.slot_arena.specs.Heaps.{Heap, stored}
 use Rattle.slot_arena.specs.Counts.{count_of}
 use Rattle.slot_arena.specs.Times.{times}
@@ -61,7 +61,7 @@ NotesWaiting before after = (slot : ℕ) → times slot after.noted ≡ 0 → (t
 
 -- as many slots as an arena may have
 abbrev pub AreSlots : ℕ → Type 0
-AreSlots slots = (2 ≤ slots) × (slots ≤ 65536)
+AreSlots slots = (2 ≤ slots) × (slots ≤ most_slots)
 
 -- an arena of so many slots, all free
 abbrev pub new_arena : ℕ → Contents

@@ -3,7 +3,7 @@ use Rattle.std.specs.Prelude.{◌≡◌, ℕ, ◌+◌, ◌<◌, ◌≤◌, ◌^�
 use Rattle.std.specs.List.{sum_by}
 use Rattle.slot_arena.specs.declared.refs.Ref.{Ref}
 use Rattle.slot_arena.specs.declared.nodes.Slot.{Slot}
-use Rattle.slot_arena.specs.Refs.{slot_of, birth_of}
+use Rattle.slot_arena.specs.Refs.{slot_of, birth_of, most_slots, birth_limit}
 use Rattle.slot_arena.specs.Heaps.{node_of, refs_of_node, refs_of_slot}
 use Rattle.slot_arena.specs.Times.{times}
 use Rattle.slot_arena.specs.Chains.{Chain}
@@ -22,7 +22,7 @@ abbrev pub counted : List (Option Slot) → List ℕ → Ref → ℕ
 counted slots counts r = if live slots r then slice_index counts (slot_of r) else 0
 
 pub record IsKept (slots : List (Option Slot)) (counts : List ℕ) (free : Chain) (used : ℕ) (outside : List Ref) : Type 0 where
-  pub few : length slots ≤ 2 ^ 16
+  pub few : length slots ≤ most_slots
   pub sizes : length counts ≡ length slots
   pub chained : free.size ≡ length slots
   -- counts are exact, and nothing stands anywhere that doesn't name a slot in use
@@ -32,7 +32,7 @@ pub record IsKept (slots : List (Option Slot)) (counts : List ℕ) (free : Chain
   pub in_use : used ≡ count_by is_some slots
   pub all : length free.slots + used ≡ length slots
   -- so that each birth fits a reference
-  pub born : (slot : ℕ) → birth_of_slot (slice_index_or slots slot None) < 2 ^ 48
+  pub born : (slot : ℕ) → birth_of_slot (slice_index_or slots slot None) < birth_limit
   -- so that no count overflows
   pub narrow : (slot : ℕ) → length (refs_of_node (node_of (slice_index_or slots slot None))) ≤ 32
   pub held : (r : ℕ) → times r outside ≤ 2 ^ 31

@@ -2,10 +2,13 @@ pub mod Refs
 pub mod Heaps
 pub mod Counts
 pub mod Times
+pub mod Entries
 pub mod Tallies
 pub mod Chains
 pub mod Ticking
 pub mod Cells
+pub mod Views
+pub mod Pools
 pub mod Arenas
 pub mod Kept
 pub mod WordSwaps

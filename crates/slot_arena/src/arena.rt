@@ -1,22 +1,25 @@
 //! The arena: slots, counts of references, free slots.
 
 ghost use Rattle.std.specs.Prelude.{◌≡◌, ◌+◌, ◌<◌, ◌≤◌, ◌^◌, ◌==◌, ◌∷◌, ◌++◌, [], length, true, false, IsTrue, option_map, MatchOption, ◌↔◌, IfSome, IfOk, IfErr, ◌⊎◌, if◌then◌else◌};
-ghost use Rattle.slot_arena.specs.Refs.{slot_of};
+ghost use Rattle.slot_arena.specs.Refs.{slot_of, most_slots, birth_limit};
 ghost use Rattle.slot_arena.specs.Heaps.{node_at, prev_at, main_at, refs_of_node, refs_of_prev, refs_of_option, stored, next_ref, in_use, taken, with_main, with_prev, freed};
 ghost use Rattle.slot_arena.specs.Counts.{count_of};
 ghost use Rattle.slot_arena.specs.Times.{times, without};
 ghost use Rattle.slot_arena.specs.Ticking.{TakesUpTo};
-ghost use Rattle.slot_arena.specs.Arenas.{IsLive, AreLive, is_live, waiting, is_indirection, is_main_node, NotesWaiting};
-ghost use Rattle.slot_arena.specs.Arenas.{new_arena, AreSlots};
+ghost use Rattle.slot_arena.specs.Arenas.{IsLive, AreLive, is_live, waiting, is_indirection, is_main_node, NotesWaiting, new_arena, AreSlots};
+ghost use Rattle.slot_arena.specs.Entries.{Fits, coming as coming_entries, changed_branch};
+ghost use Rattle.slot_arena.specs.Views.{viewed};
 ghost use Rattle.slot_arena.specs.WordSwaps.{coming, StandsIn, with_word};
 
 use crate::cells::Cells;
+use crate::entries::{EntryChange, joined};
 use crate::free_slots::FreeSlots;
-use crate::nodes::{Node, Prev, refs_of, refs_of_prev};
-use crate::refs::Ref;
+use crate::lists::TakenOut;
+use crate::nodes::{Node, NodeRef, Prev, refs_in, refs_of, refs_of_prev};
+use crate::refs::{MOST_SLOTS, Ref};
 use crate::tally::Tally;
 use crate::word_swaps::WordSwap;
-use ctrie_base::{Change, Refusal, Ticks, Trace};
+use ctrie_base::{Refusal, Ticks, Trace};
 use std::alloc::Global;
 use std::marker::Model;
 use std::slice::from_ref;
@@ -24,9 +27,8 @@ use std::slice::from_ref;
 /// Slots with nodes in them, each with its count of references. Where a call is handed a reference,
 /// that names a slot in use.
 ///
-/// A call notes few slots (clauses `few`): its own, the one of a `prev` word, and those that a node names,
-/// which are at most 32. It looks at few links, counts and notes (clauses `ticks`), however many slots there
-/// are. A look at what stands in a slot counts none.
+/// A call notes few slots (clauses `few`): its own, the one of a `prev` word, and at most 32 that a node names. It looks
+/// at few links, counts and notes (clauses `ticks`), however many slots there are; a look at what stands in a slot counts none.
 pub struct Arena {
     cells: Cells,
     tally: Tally,
@@ -62,16 +64,16 @@ impl Model for Arena {
 }
 
 impl Arena {
-    /// An arena of so many slots, all free: from 2 to 65,536. All memory is taken here.
+    /// An arena of so many slots, all free: from 2 to 1,048,576. All memory is taken here.
     pub fn new(alloc: Global, slots: u32) -> Result<Arena, Refusal>
         ensures made { IfOk result (λ arena. (arena ≡ new_arena slots) × AreSlots slots) }
         ensures refused { IfErr result (λ refusal. (refusal ≡ Refusal.BadLimits × ¬ AreSlots slots) ⊎ (refusal ≡ Refusal.Memory × AreSlots slots)) }
     {
-        if slots < 2 || slots > 65536 {
+        if slots < 2 || slots > MOST_SLOTS {
             return Err(Refusal::BadLimits);
         }
         Ok(Arena {
-            cells: Cells::new(alloc, slots as usize)?,
+            cells: Cells::new(alloc, slots)?,
             tally: Tally::new(alloc, slots as usize)?,
             free: FreeSlots::new(alloc, slots)?,
             births: 0,
@@ -84,7 +86,7 @@ impl Arena {
     /// outside; None where no slot is free.
     #[inline(always)]
     pub fn make_held(&mut self, node: Node) -> Option<Ref>
-        requires births { self.old.heap.births + 1 < 2 ^ 48 }
+        requires births { self.old.heap.births + 1 < birth_limit }
         requires live { AreLive self.old.heap (refs_of_node node) }
         ensures made { result ≡ next_ref self.old.heap }
         ensures heap { self.new.heap ≡ taken self.old.heap node }
@@ -107,18 +109,49 @@ impl Arena {
         Some(made)
     }
 
+    /// The same for a branch of this bitmap whose entries are what a node refers to, with one of them changed.
+    #[inline(always)]
+    pub fn make_changed(&mut self, from: Ref, bitmap: u32, change: EntryChange) -> Option<Ref>
+        requires births { self.old.heap.births + 1 < birth_limit }
+        requires from_live { IsLive self.old.heap from }
+        requires fits { Fits change (refs_of_node (node_at self.old.heap from)) }
+        requires live { AreLive self.old.heap (coming_entries change) }
+        ensures made { result ≡ next_ref self.old.heap }
+        ensures heap { self.new.heap ≡ taken self.old.heap (changed_branch bitmap change (node_at self.old.heap from)) }
+        ensures outside { self.new.outside ≡ refs_of_option result ++ self.old.outside }
+        ensures lives { IfSome result (IsLive self.new.heap) }
+        ensures stay { (q : Ref) → IsLive self.old.heap q → IsLive self.new.heap q }
+        ensures noted { NotesWaiting self.old self.new }
+        ensures few { length self.new.noted ≤ length self.old.noted + 32 }
+        ensures ticks { TakesUpTo 36 self.old.ticks self.new.ticks }
+    {
+        let slot = self.free.take()?;
+        let (front, back) = change.staying(refs_in(self.cells.node(from.slot())));
+        let coming = change.coming();
+        self.tally.raise_parts(front, coming, back);
+        self.tally.begin(slot);
+        let entries = joined(front, coming, back);
+        self.births += 1;
+        self.used += 1;
+        self.cells
+            .fill(slot, self.births, Node::Branch { bitmap, entries });
+        let made = Ref::new(self.births, slot);
+        self.outside = self.outside.with_first(&made);
+        Some(made)
+    }
+
     /// The node.
-    pub fn look(&self, at: Ref) -> &Node
+    pub fn look(&self, at: Ref) -> NodeRef<'_>
         requires { IsLive self.now.heap at }
-        ensures { result.now ≡ node_at self.now.heap at }
+        ensures { viewed result ≡ node_at self.now.heap at }
     {
         self.cells.node(at.slot())
     }
 
     /// The node that stands in the slot, whatever its birth, if the slot is in use.
     #[tactic(auto, unfolding(crate::specs::Heaps::stored))]
-    pub fn stored_node(&self, at: Ref) -> Option<&Node>
-        ensures { option_map (λ node. node.now) result ≡ option_map (λ slot. slot.node) (stored self.now.heap at) }
+    pub fn stored_node(&self, at: Ref) -> Option<NodeRef<'_>>
+        ensures { option_map viewed result ≡ option_map (λ slot. slot.node) (stored self.now.heap at) }
     {
         self.cells.stored_node(at.slot())
     }
@@ -138,7 +171,7 @@ impl Arena {
         ensures { result ≡ main_at self.now.heap at }
     {
         match self.look(at) {
-            Node::Indirection { main, .. } => *main,
+            NodeRef::Indirection { main, .. } => *main,
             _ => unreachable!(),
         }
     }
@@ -275,7 +308,7 @@ impl Arena {
     {
         let slot = at.slot();
         let prev = self.cells.prev(slot);
-        self.tally.lower_all(refs_of(self.cells.node(slot)));
+        self.tally.lower_all(refs_in(self.cells.node(slot)));
         self.tally.lower_all(refs_of_prev(&prev));
         self.tally.note(slot);
         self.cells.clear(slot);
@@ -302,7 +335,7 @@ impl Arena {
     }
 
     /// Takes a slot out of the notes, if one is noted.
-    pub fn take_noted(&mut self) -> Option<u16>
+    pub fn take_noted(&mut self) -> Option<u32>
         ensures heap { self.new.heap ≡ self.old.heap }
         ensures outside { self.new.outside ≡ self.old.outside }
         ensures noted { MatchOption result ((self.old.noted ≡ []) × (self.new.noted ≡ []))
@@ -313,7 +346,7 @@ impl Arena {
     }
 
     /// The reference to a slot, where it is in use and nothing refers to it.
-    pub fn waiting(&mut self, slot: u16) -> Option<Ref>
+    pub fn waiting(&mut self, slot: u32) -> Option<Ref>
         requires { slot < length self.old.heap.slots }
         ensures waiting { result ≡ waiting self.old slot }
         ensures live { IfSome result (λ r. (slot_of r ≡ slot) × IsLive self.old.heap r) }
@@ -330,7 +363,7 @@ impl Arena {
     /// How many slots there are.
     pub fn len(&self) -> usize
         ensures size { result ≡ length self.now.heap.slots }
-        ensures few { result ≤ 65536 }
+        ensures few { result ≤ most_slots }
     {
         let _ = &self.used;
         self.cells.len()
@@ -364,13 +397,4 @@ impl Arena {
     {
         Ticks::sum(self.free.ticks(), self.tally.ticks())
     }
-}
-
-/// The list without the first item that is this one.
-struct TakenOut;
-
-impl Change<Ref, Ref> for TakenOut {
-    ghost use Rattle.slot_arena.specs.Times.{without};
-
-    ghost after = { λ refs one. without one refs };
 }

@@ -1,12 +1,14 @@
 //! What stands in the slots.
 
 ghost use Rattle.std.specs.Prelude.{◌≡◌, ◌<◌, length, replicate, slice_index_or, slice_set, option_map, is_some, IsSome, Some, None, IfOk};
-ghost use Rattle.slot_arena.specs.Heaps.{node_of, prev_of, with_main_word, main_changed, prev_changed};
+ghost use Rattle.slot_arena.specs.Heaps.{node_of, prev_of, main_changed, prev_changed};
 ghost use Rattle.slot_arena.specs.Cells.{birth_of_slot};
+ghost use Rattle.slot_arena.specs.Views.{viewed};
 ghost use Rattle.slot_arena.specs.WordSwaps.{word_changed};
 
-use crate::nodes::{Node, Prev, Slot};
+use crate::nodes::{Node, NodeRef, Prev, Slot};
 use crate::refs::Ref;
+use crate::stored_nodes::StoredNodes;
 use crate::word_swaps::WordSwap;
 use std::alloc::{AllocError, Global};
 use std::marker::Model;
@@ -15,7 +17,7 @@ use std::marker::Model;
 /// doesn't matter.
 pub(crate) struct Cells {
     births: Vec<u64>,
-    nodes: Vec<Node>,
+    nodes: StoredNodes,
     prevs: Vec<Prev>,
 }
 
@@ -36,20 +38,20 @@ impl Model for Cells {
 
     ghost Value = { List (Option Slot) };
 
-    ghost view = { λ c. slots_from c.births.items c.nodes.items c.prevs.items };
+    ghost view = { λ c. slots_from c.births.items c.nodes c.prevs.items };
 
-    ghost invariant = { λ c. (length c.nodes.items ≡ length c.births.items) × (length c.prevs.items ≡ length c.births.items) };
+    ghost invariant = { λ c. (length c.nodes ≡ length c.births.items) × (length c.prevs.items ≡ length c.births.items) };
 }
 
 impl Cells {
     /// So many slots, none in use.
-    pub(crate) fn new(alloc: Global, slots: usize) -> Result<Cells, AllocError>
+    pub(crate) fn new(alloc: Global, slots: u32) -> Result<Cells, AllocError>
         ensures { IfOk result (λ cells. cells ≡ replicate slots None) }
     {
         Ok(Cells {
-            births: vec![in alloc; 0; slots]?,
-            nodes: unused_nodes(alloc, slots)?,
-            prevs: vec![in alloc; Prev::None; slots]?,
+            births: vec![in alloc; 0; slots as usize]?,
+            nodes: StoredNodes::new(alloc, slots)?,
+            prevs: vec![in alloc; Prev::None; slots as usize]?,
         })
     }
 
@@ -61,7 +63,7 @@ impl Cells {
     }
 
     /// The birth of what stands in a slot, 0 where it isn't in use.
-    pub(crate) fn birth(&self, slot: u16) -> u64
+    pub(crate) fn birth(&self, slot: u32) -> u64
         requires { slot < length self.now }
         ensures birth { result ≡ birth_of_slot (slice_index_or self.now slot None) }
         ensures unused { result ≡ 0 → slice_index_or self.now slot None ≡ None }
@@ -70,15 +72,15 @@ impl Cells {
     }
 
     /// The node that stands in a slot.
-    pub(crate) fn node(&self, slot: u16) -> &Node
+    pub(crate) fn node(&self, slot: u32) -> NodeRef<'_>
         requires { IsSome (slice_index_or self.now slot None) }
-        ensures { result.now ≡ node_of (slice_index_or self.now slot None) }
+        ensures { viewed result ≡ node_of (slice_index_or self.now slot None) }
     {
-        &self.nodes[slot as usize]
+        self.nodes.get(slot)
     }
 
     /// The `prev` word that stands in a slot.
-    pub(crate) fn prev(&self, slot: u16) -> Prev
+    pub(crate) fn prev(&self, slot: u32) -> Prev
         requires { IsSome (slice_index_or self.now slot None) }
         ensures { result ≡ prev_of (slice_index_or self.now slot None) }
     {
@@ -86,8 +88,8 @@ impl Cells {
     }
 
     /// The node that stands in a slot, if it is in use.
-    pub(crate) fn stored_node(&self, slot: u16) -> Option<&Node>
-        ensures { option_map (λ node. node.now) result ≡ option_map (λ slot. slot.node) (slice_index_or self.now slot None) }
+    pub(crate) fn stored_node(&self, slot: u32) -> Option<NodeRef<'_>>
+        ensures { option_map viewed result ≡ option_map (λ slot. slot.node) (slice_index_or self.now slot None) }
     {
         if self.is_used(slot) {
             Some(self.node(slot))
@@ -97,7 +99,7 @@ impl Cells {
     }
 
     /// The `prev` word that stands in a slot; None where it isn't in use.
-    pub(crate) fn stored_prev(&self, slot: u16) -> Prev
+    pub(crate) fn stored_prev(&self, slot: u32) -> Prev
         ensures { result ≡ prev_of (slice_index_or self.now slot None) }
     {
         if self.is_used(slot) {
@@ -108,7 +110,7 @@ impl Cells {
     }
 
     /// Whether there is such a slot, and it is in use.
-    fn is_used(&self, slot: u16) -> bool
+    fn is_used(&self, slot: u32) -> bool
         ensures { result ≡ is_some (slice_index_or self.now slot None) }
     {
         if slot as usize >= self.len() {
@@ -119,26 +121,26 @@ impl Cells {
 
     /// Puts a node into a slot, under a birth.
     #[inline(always)]
-    pub(crate) fn fill(&mut self, slot: u16, birth: u64, node: Node)
+    pub(crate) fn fill(&mut self, slot: u32, birth: u64, node: Node)
         requires within { slot < length self.old }
         requires born { 0 < birth }
         ensures { self.new ≡ slice_set self.old slot (Some (record { birth = birth; node = node; prev = Prev.None })) }
     {
         self.births[slot as usize] = birth;
-        self.nodes[slot as usize] = node;
+        self.nodes.put(slot, node);
         self.prevs[slot as usize] = Prev::None;
     }
 
     /// Changes the main word of an indirection.
-    pub(crate) fn set_main(&mut self, slot: u16, main: Ref)
+    pub(crate) fn set_main(&mut self, slot: u32, main: Ref)
         requires { slot < length self.old }
         ensures { self.new ≡ slice_set self.old slot (option_map (main_changed main) (slice_index_or self.old slot None)) }
     {
-        set_main_word(&mut self.nodes[slot as usize], main);
+        self.nodes.set_main(slot, main);
     }
 
     /// Changes the `prev` word of a main node.
-    pub(crate) fn set_prev(&mut self, slot: u16, prev: Prev)
+    pub(crate) fn set_prev(&mut self, slot: u32, prev: Prev)
         requires { slot < length self.old }
         ensures { self.new ≡ slice_set self.old slot (option_map (prev_changed prev) (slice_index_or self.old slot None)) }
     {
@@ -146,7 +148,7 @@ impl Cells {
     }
 
     /// Replaces a word.
-    pub(crate) fn set_word(&mut self, slot: u16, swap: WordSwap)
+    pub(crate) fn set_word(&mut self, slot: u32, swap: WordSwap)
         requires { slot < length self.old }
         ensures { self.new ≡ slice_set self.old slot (option_map (word_changed swap) (slice_index_or self.old slot None)) }
     {
@@ -157,30 +159,11 @@ impl Cells {
     }
 
     /// Takes a slot out of use.
-    pub(crate) fn clear(&mut self, slot: u16)
+    pub(crate) fn clear(&mut self, slot: u32)
         requires { slot < length self.old }
         ensures { self.new ≡ slice_set self.old slot None }
     {
         self.births[slot as usize] = 0;
+        self.nodes.clear(slot);
     }
-}
-
-/// Changes the main word of an indirection.
-fn set_main_word(node: &mut Node, word: Ref)
-    ensures { node.new ≡ with_main_word word node.old }
-{
-    if let Node::Indirection { main, .. } = node {
-        *main = word;
-    }
-}
-
-/// So many nodes, for slots that aren't in use.
-fn unused_nodes(alloc: Global, count: usize) -> Result<Vec<Node>, AllocError>
-    ensures { IfOk result (λ nodes. length nodes.items ≡ count) }
-{
-    let mut nodes = Vec::with_capacity(alloc, count)?;
-    for _ in 0..count {
-        nodes.push(Node::Single { key: 0, value: 0 })?;
-    }
-    Ok(nodes)
 }

@@ -4,6 +4,7 @@ ghost use Rattle.std.specs.Prelude.{◌≡◌, ℕ, ◌+◌, ◌<◌, ◌≤◌,
 ghost use Rattle.std.specs.List.{range_with_len};
 ghost use Rattle.slot_arena.specs.Times.{times};
 ghost use Rattle.slot_arena.specs.Ticking.{TakesUpTo};
+ghost use Rattle.slot_arena.specs.Refs.{most_slots};
 
 use crate::links::Links;
 use ctrie_base::{Change, Ticks, Trace};
@@ -16,24 +17,25 @@ use std::marker::Model;
 pub(crate) struct FreeSlots {
     links: Links,
     end: u32,
-    slots: Trace<u16>,
+    slots: Trace<u32>,
 }
 
 impl Model for FreeSlots {
     ghost use Rattle.std.specs.Prelude.{◌≡◌, ◌+◌, ◌≤◌, ℕ, length};
     ghost use Rattle.slot_arena.specs.Chains.{Chain, LeadsTo};
+    ghost use Rattle.slot_arena.specs.Refs.{most_slots};
 
     ghost Value = { Chain };
 
     ghost view = { λ f. record { slots = f.slots.items; size = f.end; ticks = f.links.ticks } };
 
-    ghost invariant = { λ f. LeadsTo f.links.words f.end f.end f.slots.items × (length f.links.words ≡ f.end + 1) × (f.end ≤ 65536) };
+    ghost invariant = { λ f. LeadsTo f.links.words f.end f.end f.slots.items × (length f.links.words ≡ f.end + 1) × (f.end ≤ most_slots) };
 }
 
 impl FreeSlots {
     /// The slots from 0 on, so many.
     pub(crate) fn new(alloc: Global, slots: u32) -> Result<FreeSlots, AllocError>
-        requires { slots ≤ 65536 }
+        requires { slots ≤ most_slots }
         ensures { IfOk result (λ free. free ≡ record { slots = range_with_len 0 slots; size = slots; ticks = slots }) }
     {
         let mut links = Links::new(alloc, slots as usize + 1)?;
@@ -48,7 +50,7 @@ impl FreeSlots {
     }
 
     /// Takes the first one.
-    pub(crate) fn take(&mut self) -> Option<u16>
+    pub(crate) fn take(&mut self) -> Option<u32>
         ensures slots { MatchOption result ((self.old.slots ≡ []) × (self.new.slots ≡ []))
             (λ slot. (self.old.slots ≡ slot ∷ self.new.slots) × (slot < self.old.size) × (times slot self.new.slots ≡ 0)) }
         ensures size { self.new.size ≡ self.old.size }
@@ -62,11 +64,11 @@ impl FreeSlots {
         let next = self.links.read(first as usize);
         self.links.write(end, next);
         self.slots = self.slots.rest();
-        Some(first as u16)
+        Some(first)
     }
 
     /// Puts a slot in front.
-    pub(crate) fn put(&mut self, slot: u16)
+    pub(crate) fn put(&mut self, slot: u32)
         requires within { slot < self.old.size }
         requires apart { times slot self.old.slots ≡ 0 }
         ensures slots { self.new.slots ≡ slot ∷ self.old.slots }
@@ -76,7 +78,7 @@ impl FreeSlots {
         let end = self.end as usize;
         let first = self.links.read(end);
         self.links.write(slot as usize, first);
-        self.links.write(end, slot as u32);
+        self.links.write(end, slot);
         self.slots = self.slots.with_first(&slot);
     }
 
@@ -91,7 +93,7 @@ impl FreeSlots {
 /// The numbers below one.
 struct Below;
 
-impl Change<u16, u32> for Below {
+impl Change<u32, u32> for Below {
     ghost use Rattle.std.specs.List.{range_with_len};
 
     ghost after = { λ _ count. range_with_len 0 count };

@@ -3,16 +3,20 @@
 
 mod arena;
 mod cells;
+mod entries;
 mod free_slots;
 mod links;
 mod lists;
 mod nodes;
 mod refs;
+mod rows;
+mod stored_nodes;
 mod tally;
 mod word_swaps;
 
 pub use arena::Arena;
+pub use entries::{Entries, EntryChange, MOST_ENTRIES, joined};
 pub use links::{Flags, Links};
 pub use lists::Refs;
-pub use nodes::{Node, Prev, Slot};
-pub use refs::Ref;
+pub use nodes::{Node, NodeRef, Prev, Slot};
+pub use refs::{MOST_SLOTS, Ref};

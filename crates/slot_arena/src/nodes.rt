@@ -2,6 +2,7 @@
 
 ghost use Rattle.std.specs.Prelude.{◌≡◌, ◌≤◌, length};
 ghost use Rattle.slot_arena.specs.Heaps.{refs_of_node, refs_of_prev};
+ghost use Rattle.slot_arena.specs.Views.{viewed};
 
 use crate::refs::Ref;
 use arrayvec::ArrayVec;
@@ -32,6 +33,34 @@ pub enum Node {
     /// A main node: the singles of keys with one hash.
     List {
         singles: ArrayVec<Ref, 32>,
+    },
+}
+
+/// A node that stands in a slot, as it is lent.
+#[derive(Clone, Copy, Debug)]
+pub enum NodeRef<'a> {
+    /// A place of the trie whose main node may be replaced.
+    Indirection {
+        generation: u64,
+        main: &'a Ref,
+    },
+    /// A main node: an entry, an indirection or a single, for each one of the bitmap, by rising index.
+    Branch {
+        bitmap: u32,
+        entries: &'a ArrayVec<Ref, 32>,
+    },
+    /// A key and its value.
+    Single {
+        key: u64,
+        value: u64,
+    },
+    /// A main node in whose place the single is to stand.
+    Tomb {
+        single: &'a Ref,
+    },
+    /// A main node: the singles of keys with one hash.
+    List {
+        singles: &'a ArrayVec<Ref, 32>,
     },
 }
 
@@ -67,6 +96,20 @@ pub(crate) fn refs_of(node: &Node) -> &[Ref]
         Node::Single { .. } => &[],
         Node::Tomb { single } => from_ref(single),
         Node::List { singles } => singles.as_slice(),
+    }
+}
+
+/// The references that stand in a node of a slot.
+pub(crate) fn refs_in(node: NodeRef<'_>) -> &[Ref]
+    ensures refs { result.now ≡ refs_of_node (viewed node.entry) }
+    ensures few { length result.now ≤ 32 }
+{
+    match node {
+        NodeRef::Indirection { main, .. } => from_ref(main),
+        NodeRef::Branch { entries, .. } => entries.as_slice(),
+        NodeRef::Single { .. } => &[],
+        NodeRef::Tomb { single } => from_ref(single),
+        NodeRef::List { singles } => singles.as_slice(),
     }
 }
 

@@ -14,7 +14,7 @@ use std::marker::Model;
 /// looks at one slot, and counts one tick of its own; one that is given references, one for each.
 pub(crate) struct Tally {
     counts: Vec<u32>,
-    noted: Vec<u16>,
+    noted: Vec<u32>,
     /// Whether the slot is noted, by slot: so the list never lacks room.
     is_noted: Vec<bool>,
     ticks: Ticks,
@@ -56,7 +56,7 @@ impl Tally {
     }
 
     /// The count of a slot.
-    pub(crate) fn count(&mut self, slot: u16) -> u32
+    pub(crate) fn count(&mut self, slot: u32) -> u32
         requires { slot < length self.old.counts }
         ensures count { result ≡ slice_index self.old.counts slot }
         ensures same { self.new ≡ record self.old { ticks = self.old.ticks + 1 } }
@@ -66,7 +66,7 @@ impl Tally {
     }
 
     /// Gives a slot without references its first one, which isn't noted.
-    pub(crate) fn begin(&mut self, slot: u16)
+    pub(crate) fn begin(&mut self, slot: u32)
         requires { slot < length self.old.counts }
         ensures { self.new ≡ record self.old { counts = slice_set self.old.counts slot 1; ticks = self.old.ticks + 1 } }
     {
@@ -75,7 +75,7 @@ impl Tally {
     }
 
     /// Notes a slot.
-    pub(crate) fn note(&mut self, slot: u16)
+    pub(crate) fn note(&mut self, slot: u32)
         requires { slot < length self.old.counts }
         ensures counts { self.new.counts ≡ self.old.counts }
         ensures noted { 0 < times slot self.new.noted }
@@ -88,7 +88,8 @@ impl Tally {
     }
 
     /// Lists a slot among the noted ones.
-    fn enlist(&mut self, slot: u16)
+    #[inline(never)]
+    fn enlist(&mut self, slot: u32)
         requires { slot < length self.old.counts }
         ensures counts { self.new.counts ≡ self.old.counts }
         ensures noted { 0 < times slot self.new.noted }
@@ -112,7 +113,7 @@ impl Tally {
     }
 
     /// Takes a noted slot out of the notes.
-    pub(crate) fn take_noted(&mut self) -> Option<u16>
+    pub(crate) fn take_noted(&mut self) -> Option<u32>
         ensures counts { self.new.counts ≡ self.old.counts }
         ensures noted { MatchOption result ((self.old.noted ≡ []) × (self.new.noted ≡ []))
             (λ slot. (self.old.noted ≡ self.new.noted ++ slot ∷ []) × (times slot self.new.noted ≡ 0) × (slot < length self.new.counts)) }
@@ -125,7 +126,7 @@ impl Tally {
     }
 
     /// Counts one reference more to a slot.
-    pub(crate) fn raise(&mut self, slot: u16)
+    pub(crate) fn raise(&mut self, slot: u32)
         requires within { slot < length self.old.counts }
         requires room { slice_index self.old.counts slot + 1 < 2 ^ 32 }
         ensures counts { self.new.counts ≡ slice_set self.old.counts slot (slice_index self.old.counts slot + 1) }
@@ -134,11 +135,29 @@ impl Tally {
         ensures ticks { self.new.ticks ≡ self.old.ticks + 1 }
     {
         let count = self.counts[slot as usize];
-        self.set_count(slot, count + 1);
+        self.counts[slot as usize] = count + 1;
+        if count == 0 {
+            self.enlist(slot);
+        }
+        self.ticks.add();
+    }
+
+    /// Counts one reference more to a slot that has some.
+    fn raise_more(&mut self, slot: u32)
+        requires within { slot < length self.old.counts }
+        requires room { slice_index self.old.counts slot + 1 < 2 ^ 32 }
+        requires some { 0 < slice_index self.old.counts slot }
+        ensures counts { self.new.counts ≡ slice_set self.old.counts slot (slice_index self.old.counts slot + 1) }
+        ensures zeros { NotesZeros self.old self.new }
+        ensures noted { self.new.noted ≡ self.old.noted }
+        ensures ticks { self.new.ticks ≡ self.old.ticks + 1 }
+    {
+        self.counts[slot as usize] += 1;
+        self.ticks.add();
     }
 
     /// Counts one reference less to a slot.
-    fn lower(&mut self, slot: u16)
+    fn lower(&mut self, slot: u32)
         requires within { slot < length self.old.counts }
         requires some { 0 < slice_index self.old.counts slot }
         ensures counts { self.new.counts ≡ slice_set self.old.counts slot (slice_index self.old.counts slot - 1) }
@@ -146,23 +165,11 @@ impl Tally {
         ensures few { length self.new.noted ≤ length self.old.noted + 1 }
         ensures ticks { self.new.ticks ≡ self.old.ticks + 1 }
     {
-        let count = self.counts[slot as usize];
-        self.set_count(slot, count - 1);
-    }
-
-    /// Changes a count, and notes the slot where it reaches or leaves zero.
-    fn set_count(&mut self, slot: u16, count: u32)
-        requires { slot < length self.old.counts }
-        ensures counts { self.new.counts ≡ slice_set self.old.counts slot count }
-        ensures noted { NotesZeros self.old self.new }
-        ensures few { length self.new.noted ≤ length self.old.noted + 1 }
-        ensures ticks { self.new.ticks ≡ self.old.ticks + 1 }
-    {
-        let was_zero = self.counts[slot as usize] == 0;
-        if was_zero != (count == 0) {
+        let count = self.counts[slot as usize] - 1;
+        self.counts[slot as usize] = count;
+        if count == 0 {
             self.enlist(slot);
         }
-        self.counts[slot as usize] = count;
         self.ticks.add();
     }
 
@@ -181,6 +188,22 @@ impl Tally {
         }
     }
 
+    /// The same of references to slots that are counted as often already, so that no count leaves zero.
+    pub(crate) fn raise_all_more(&mut self, refs: &[Ref])
+        requires within { All (λ r. slot_of r < length self.old.counts) refs.now }
+        requires room { (slot : ℕ) → slice_index self.old.counts slot + length refs.now < 2 ^ 32 }
+        requires some { (slot : ℕ) → naming slot refs.now ≤ slice_index self.old.counts slot }
+        ensures size { length self.new.counts ≡ length self.old.counts }
+        ensures counts { (slot : ℕ) → slice_index self.new.counts slot ≡ slice_index self.old.counts slot + naming slot refs.now }
+        ensures zeros { NotesZeros self.old self.new }
+        ensures noted { self.new.noted ≡ self.old.noted }
+        ensures ticks { self.new.ticks ≡ self.old.ticks + length refs.now }
+    {
+        for one in refs {
+            self.raise_more(one.slot());
+        }
+    }
+
     /// Counts each of these references one less to the slot that it names.
     pub(crate) fn lower_all(&mut self, refs: &[Ref])
         requires within { All (λ r. slot_of r < length self.old.counts) refs.now }
@@ -194,6 +217,25 @@ impl Tally {
         for one in refs {
             self.lower(one.slot());
         }
+    }
+
+    /// Counts each of these references one more to the slot that it names; those in front and behind are counted as often
+    /// already.
+    pub(crate) fn raise_parts(&mut self, front: &[Ref], middle: &[Ref], back: &[Ref])
+        requires within_front { All (λ r. slot_of r < length self.old.counts) front.now }
+        requires within_middle { All (λ r. slot_of r < length self.old.counts) middle.now }
+        requires within_back { All (λ r. slot_of r < length self.old.counts) back.now }
+        requires room { (slot : ℕ) → slice_index self.old.counts slot + (length front.now + length middle.now + length back.now) < 2 ^ 32 }
+        requires some { (slot : ℕ) → naming slot front.now + naming slot back.now ≤ slice_index self.old.counts slot }
+        ensures size { length self.new.counts ≡ length self.old.counts }
+        ensures counts { (slot : ℕ) → slice_index self.new.counts slot ≡ slice_index self.old.counts slot + (naming slot front.now + naming slot middle.now + naming slot back.now) }
+        ensures noted { NotesZeros self.old self.new }
+        ensures few { length self.new.noted ≤ length self.old.noted + length middle.now }
+        ensures ticks { self.new.ticks ≡ self.old.ticks + (length front.now + length middle.now + length back.now) }
+    {
+        self.raise_all_more(front);
+        self.raise_all(middle);
+        self.raise_all_more(back);
     }
 
     /// How often a slot was looked at.

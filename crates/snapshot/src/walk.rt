@@ -27,7 +27,7 @@ use ctrie_base::{Kind, Refusal};
 use epochs::Heap;
 use history::Reply;
 use root_asking::Roots;
-use slot_arena::{Node, Ref};
+use slot_arena::{NodeRef, Ref};
 use std::alloc::{AllocError, Global};
 use trie_parts::{Next, Read, RootWord, Work, entries_at, node_at};
 
@@ -213,14 +213,14 @@ impl Walk {
     {
         let entry = self.todo.first();
         match node_at(heap, entry) {
-            Some(Node::Indirection { .. }) => {
+            Some(NodeRef::Indirection { .. }) => {
                 self.todo.drop_first();
                 work.swap.read.begin(entry);
                 self.at = WalkAt::Read;
                 Next::More(Kind::Look)
             }
-            Some(Node::Single { key, value }) => {
-                self.pairs.push(*key, *value);
+            Some(NodeRef::Single { key, value }) => {
+                self.pairs.push(key, value);
                 self.todo.drop_first();
                 self.go_on()
             }

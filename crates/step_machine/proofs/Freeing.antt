@@ -1,5 +1,5 @@
 -- How many steps of the sweep it takes to free slots, where no operation runs.
-use Rattle.std.specs.Prelude.{◌≡◌, ◌≤◌, ◌+◌, ◌*◌, ◌-◌, ◌^◌, ◌&&◌, ℕ, zero, suc, Bool, true, false, nat_le, is_some, All, List, [], ◌∷◌, ◌++◌, filter, length, map, slice_index_or, Option, Some, None}
+use Rattle.std.specs.Prelude.{◌≡◌, ◌≤◌, ◌+◌, ◌*◌, ◌-◌, ◌&&◌, ℕ, zero, suc, Bool, true, false, nat_le, is_some, All, List, [], ◌∷◌, ◌++◌, filter, length, map, slice_index_or, Option, Some, None}
 use Rattle.std.specs.Prelude.{Result, Ok, Err, if◌then◌else◌}
 use Rattle.std.specs.List.{list_any}
 use Rattle.std.proofs.Common.{refl, sym, ap, subst, arith, eq-eqb, leb-true, leb-false, ◌∙◌}
@@ -46,6 +46,7 @@ use Rattle.step_machine.specs.Callers.{AreNeeded, HasLimbo, Reclaims, ReclaimsUn
 use Rattle.step_machine.specs.Machines.{IsTaken, Taken, state_of, with_step}
 use Rattle.step_machine.specs.Reclaiming.{SweepsFew, SweepsUpTo, steps_for_a_slot}
 use Rattle.step_machine.proofs.Sweeping.{nearer, step_by}
+use Rattle.step_machine.specs.Beneath.slot_arena.specs.Refs.{most_slots}
 
 -- ---- how far it is to the next slot
 
@@ -106,7 +107,7 @@ none_pinned (None ∷ xs) zero idle = refl
 none_pinned (None ∷ xs) (suc k) idle = none_pinned xs k idle
 none_pinned (Some operation ∷ xs) k idle = absurd (false≢true (sym idle))
 
-module _ (state : State) (I : IsSafe state) (small : length state.heap.slots ≤ 2 ^ 16) (lies : LimboLies state) (idle : is_busy state ≡ false)
+module _ (state : State) (I : IsSafe state) (small : length state.heap.slots ≤ most_slots) (lies : LimboLies state) (idle : is_busy state ≡ false)
     (z : Zeroed) (limbo : List Zeroed) (first : state.limbo ≡ z ∷ limbo) where
   abbrev pins : List (Option ℕ)
   pins = map pin_of state.actors
@@ -204,7 +205,7 @@ until_at_most : (machine : Taken) → until machine ≤ 2 * machine.limits.actor
 until_at_most machine =
     ripe_most machine.limits.actors (state_of machine).cursor (state_of machine).epoch (counts_along (bounded machine.limits) machine.steps) (state_of machine).limbo
 
-near_move : (state : State) → IsSafe state → length state.heap.slots ≤ 2 ^ 16 → LimboLies state → is_busy state ≡ false → (z : Zeroed) (limbo : List Zeroed) →
+near_move : (state : State) → IsSafe state → length state.heap.slots ≤ most_slots → LimboLies state → is_busy state ≡ false → (z : Zeroed) (limbo : List Zeroed) →
     state.limbo ≡ z ∷ limbo → (o : Outcome) (after : State) → Moves state step.Sweep o after → Nears (length (map pin_of state.actors)) state after × (is_busy after ≡ false)
 near_move state I small lies idle z limbo first o after (Sweeps spent) = (sweep_nears state I small lies idle z limbo first, idle)
 

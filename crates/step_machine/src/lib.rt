@@ -10,6 +10,7 @@ mod machine;
 mod numbers;
 mod records;
 mod rooming;
+mod sizes;
 mod taking;
 
 pub use callers::GO_LIMIT;

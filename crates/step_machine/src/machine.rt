@@ -8,7 +8,7 @@ ghost use Rattle.history.specs.declared.calls.Access.TheVariants.{ReadOnly};
 ghost use Rattle.history.specs.declared.replies.Reply.TheVariants.{NoSlots};
 ghost use Rattle.machine_model.specs.declared.operations.Operation.{Operation};
 ghost use Rattle.machine_model.specs.States.{root_at, operation_of};
-ghost use Rattle.machine_model.specs.Limits.{AreLimits, bounded};
+ghost use Rattle.machine_model.specs.Limits.{AreLimits};
 ghost use Rattle.machine_model.specs.Records.{order_of};
 ghost use Rattle.machine_model.specs.Contents.{content_at};
 ghost use Rattle.machine_core.specs.Finding.{found_along};
@@ -24,17 +24,15 @@ ghost use Rattle.step_machine.specs.Taking.{walked};
 ghost use Rattle.step_machine.specs.Memory.{UsesWhatItNames, FreesLate, DrawsNew};
 
 use crate::rooming::{make_room, touch_room};
+use crate::sizes::{are_limits, bounds_of};
 use crate::taking::{take, walk};
 use chronicle::Chronicle;
 use ctrie_base::{Kind, Refusal, Ticks};
 use history::{Access, Event};
 use machine_core::Core;
-use machine_model::{Bounds, Limits, Outcome, Step};
+use machine_model::{Limits, Outcome, Step};
 use std::alloc::Global;
 use std::marker::Model;
-
-/// How many steps a machine takes at most.
-const STEP_LIMIT: u64 = 1 << 40;
 
 /// A map that many actors change step by step, with all that was done to it. At first handle 0 is open,
 /// writable and empty, and no step was taken.
@@ -70,12 +68,15 @@ impl Model for Machine {
 impl Machine {
     /// A machine of these sizes. `BadLimits` exactly where one of them is out of range, and else only
     /// `Memory`: nothing is made then.
-    #[tactic(auto, unfolding(machine_model::specs::States::first_state, machine_model::specs::Machine::run_from))]
+    #[tactic(auto, using(crate::proofs::Bounds::refuses), unfolding(machine_model::specs::States::first_state, machine_model::specs::Machine::run_from))]
     pub fn new(alloc: Global, limits: Limits) -> Result<Machine, Refusal>
         ensures made { IfOk result (λ machine. machine ≡ fresh limits) }
         ensures in_range { OnOk result (AreLimits limits) }
         ensures refused { IfErr result (λ refusal. RefusesLimits limits refusal) }
     {
+        if !are_limits(limits) {
+            return Err(Refusal::BadLimits);
+        }
         Ok(Machine {
             limits,
             body: Core::new(alloc, bounds_of(limits))?,
@@ -379,17 +380,5 @@ impl Machine {
             steps,
         } = self;
         (steps, kept.into_events())
-    }
-}
-
-/// What bounds a machine of these sizes.
-fn bounds_of(limits: Limits) -> Bounds
-    ensures { result ≡ bounded limits }
-{
-    Bounds {
-        slots: limits.slots,
-        actors: limits.actors,
-        hash: limits.hash,
-        steps: STEP_LIMIT,
     }
 }

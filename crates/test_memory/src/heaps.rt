@@ -6,7 +6,7 @@ ghost use Rattle.slot_arena.specs.Arenas.{AreLive, IsLive};
 
 use ctrie_base::Refusal;
 use epochs::{Heap, Swept};
-use slot_arena::{Node, Prev, Ref};
+use slot_arena::{Node, NodeRef, Prev, Ref};
 use std::process::Abort;
 use std::test::Fail;
 
@@ -139,7 +139,7 @@ fn counts_references(rt: HostRuntime) -> Result<(), Fail> {
 fn swaps_words(rt: HostRuntime) -> Result<(), Fail> {
     let mut heap = Heap::new(rt.alloc(), 4, 1)?;
     let (tomb, above) = tomb_and_above(&rt, &mut heap);
-    assert!(rt; matches!(heap.look(above), Node::Indirection { generation: 7, .. }));
+    assert!(rt; matches!(heap.look(above), NodeRef::Indirection { generation: 7, .. }));
     assert!(rt; heap.main(above) == tomb, "as it was made");
     assert!(rt; heap.swap_main(above, tomb, above), "it was the tomb");
     Ok(())
@@ -149,7 +149,7 @@ fn swaps_words(rt: HostRuntime) -> Result<(), Fail> {
 fn swaps_prev_words(rt: HostRuntime) -> Result<(), Fail> {
     let mut heap = Heap::new(rt.alloc(), 4, 1)?;
     let (tomb, above) = tomb_and_above(&rt, &mut heap);
-    assert!(rt; matches!(heap.look(tomb), Node::Tomb { .. }));
+    assert!(rt; matches!(heap.look(tomb), NodeRef::Tomb { .. }));
     assert!(rt; heap.prev(tomb) == Prev::None, "decided");
     assert!(rt;
         heap.swap_prev(tomb, Prev::None, Prev::Failed(above)),
@@ -163,11 +163,11 @@ fn swaps_prev_words(rt: HostRuntime) -> Result<(), Fail> {
 fn publishes_main_nodes(rt: HostRuntime) -> Result<(), Fail> {
     let mut heap = Heap::new(rt.alloc(), 4, 1)?;
     let (tomb, above) = tomb_and_above(&rt, &mut heap);
-    assert!(rt; matches!(heap.look(above), Node::Indirection { generation: 7, .. }));
+    assert!(rt; matches!(heap.look(above), NodeRef::Indirection { generation: 7, .. }));
     assert!(rt; heap.publish(above, tomb, tomb), "it was the tomb");
     assert!(rt; heap.stored_prev(tomb) == Prev::Pending(tomb), "pending");
     assert!(rt;
-        matches!(heap.stored_node(tomb), Some(Node::Tomb { .. })),
+        matches!(heap.stored_node(tomb), Some(NodeRef::Tomb { .. })),
         "the node is as before"
     );
     Ok(())

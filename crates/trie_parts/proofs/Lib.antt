@@ -4,3 +4,4 @@ pub mod Unmade
 pub mod Insides
 pub mod Handles
 pub mod Ends
+pub mod Coming

@@ -1,13 +1,11 @@
 -- What a step of a program does to the heap and to its private list.
-use Rattle.std.specs.Prelude.{◌≡◌, ℕ, ◌+◌, ◌≤◌, List, length}
+use Rattle.std.specs.Prelude.{◌≡◌, ◌+◌, ◌≤◌, List, length}
 use Rattle.slot_arena.specs.declared.refs.Ref.{Ref}
-use Rattle.slot_arena.specs.Heaps.{Heap, next_ref}
 use Rattle.slot_arena.specs.Arenas.{IsLive}
 use Rattle.slot_arena.specs.Ticking.{TakesUpTo}
 use Rattle.slot_arena.specs.Times.{times}
 use Rattle.epochs.specs.Memories.{Memory, KeepsEpochs}
 use Rattle.trie_parts.specs.Beneath.machine_model.specs.declared.actions.Action.{Action}
-use Rattle.trie_parts.specs.Beneath.machine_model.specs.declared.actions.Action.TheVariants as act
 use Rattle.trie_parts.specs.Beneath.machine_model.specs.Acting.{private_after}
 use Rattle.gcas.specs.Acted.{acted_heap}
 use Rattle.trie_parts.specs.Here.{at_heap, no_state}

@@ -1,5 +1,5 @@
 -- What a step of a program of the map comes to.
-use Rattle.std.specs.Prelude.{◌≡◌, ◌+◌, ◌<◌, ◌^◌, List, length, Option, Some, None}
+use Rattle.std.specs.Prelude.{◌≡◌, ◌+◌, ◌<◌, List, length, Option, Some, None}
 use Rattle.ctrie_base.specs.declared.kinds.Kind.{Kind}
 use Rattle.slot_arena.specs.declared.refs.Ref.{Ref}
 use Rattle.slot_arena.specs.declared.nodes.Node.{Node}
@@ -19,6 +19,7 @@ use Rattle.gcas.specs.declared.next.Next.TheVariants.{More, AskRoot, Done}
 use Rattle.gcas.specs.declared.read.Read.{Read as Running}
 use Rattle.gcas.specs.declared.read.ReadAt.{ReadAt}
 use Rattle.gcas.specs.Reads.{IsAsking, ReadsAlong, read_of as running}
+use Rattle.slot_arena.specs.Refs.{birth_limit}
 
 abbrev pub IsAskingRead : Option Read → Type 0
 IsAskingRead None = ⊥
@@ -53,7 +54,7 @@ ReadsInside heap access before after (Done k main) =
 
 -- what a node that is made asks: that what it is to refer to is in use, and that the private list isn't full
 abbrev pub CanMake : Heap → List Ref → Node → Type 0
-CanMake heap private node = (heap.births + 1 < 2 ^ 48) × AreLive heap (refs_of_node node) × (length private < 33)
+CanMake heap private node = (heap.births + 1 < birth_limit) × AreLive heap (refs_of_node node) × (length private < 33)
 
 -- the step was the program's last one
 abbrev pub IsLast : {T : Type 0} → Next T → Type 0

@@ -4,11 +4,7 @@ ghost use Rattle.std.specs.Prelude.{◌≡◌, ◌++◌, insert, remove, slice_s
 ghost use Rattle.slot_arena.specs.Heaps.{entries_from};
 
 use arrayvec::ArrayVec;
-use nodes::MOST_ENTRIES;
-use slot_arena::Ref;
-
-/// The entries of a branch, or the singles of a list, in place.
-pub type Entries = ArrayVec<Ref, MOST_ENTRIES>;
+use slot_arena::{Entries, Ref};
 
 /// These references as the entries of a node.
 pub(crate) fn entries_from(refs: &[Ref]) -> Entries

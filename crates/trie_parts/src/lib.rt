@@ -3,7 +3,7 @@
 //!
 //! Each call computes the definition of the same name (`Heaps` of `slot_arena`, `Builders` of `nodes`,
 //! `Paths` of `machine_model`), for every heap, path and position, so that none of them asks for
-//! anything. None takes memory.
+//! anything but those that make nodes. None takes memory.
 #![tactic(auto)]
 
 mod calls;
@@ -15,14 +15,14 @@ mod private;
 mod work;
 
 pub use calls::{KeyCall, Task};
-pub use entries::Entries;
 pub use gcas::{
     Change, Descriptor, Entrant, Next, Publication, Read, ReadAt, Root, RootWord, Site, Swap,
     generation_at,
 };
 pub use looking::{bitmap_at, entries_at, entry_at, entry_count, is_single_at, key_at, node_at};
-pub use made::{changed_at, contracted, contracted_at, renewed};
+pub use made::{changed_at, contracted, contracted_at, make_changed, renewed};
 pub use nodes::{MOST_ENTRIES, dual, flag_of, parting, rung};
 pub use paths::{above, current, is_below_root};
 pub use private::{Private, release_all};
+pub use slot_arena::Entries;
 pub use work::Work;

@@ -3,18 +3,19 @@
 
 ghost use Rattle.std.specs.Prelude.{◌≡◌, ◌≤◌, length, option_map, unwrap_or};
 ghost use Rattle.slot_arena.specs.Heaps.{node_at, entries_of, entry_at, bitmap_of, empty_branch};
+ghost use Rattle.slot_arena.specs.Views.{viewed};
 ghost use Rattle.trie_parts.specs.Beneath.machine_model.specs.Building.{key_in};
 ghost use Rattle.trie_parts.specs.Beneath.machine_model.specs.Cleaning.{is_single};
 
 use epochs::Heap;
-use slot_arena::{Node, Ref};
+use slot_arena::{NodeRef, Ref};
 use std::slice::from_ref;
 
 /// The node that stands in a slot; where none does, the definition has a branch without entries.
 #[tactic(auto, using(gcas::proofs::Stored::stands), unfolding(slot_arena::specs::Heaps::node_at))]
 #[inline(always)]
-pub fn node_at(heap: &Heap, at: Ref) -> Option<&Node>
-    ensures { node_at heap.now.heap at ≡ unwrap_or (option_map (λ node. node.now) result) empty_branch }
+pub fn node_at(heap: &Heap, at: Ref) -> Option<NodeRef<'_>>
+    ensures { node_at heap.now.heap at ≡ unwrap_or (option_map viewed result) empty_branch }
 {
     heap.stored_node(at)
 }
@@ -26,9 +27,9 @@ pub fn entries_at(heap: &Heap, main: Ref) -> &[Ref]
     ensures few { length result.now ≤ 32 }
 {
     match node_at(heap, main) {
-        Some(Node::Branch { entries, .. }) => entries.as_slice(),
-        Some(Node::List { singles }) => singles.as_slice(),
-        Some(Node::Tomb { single }) => from_ref(single),
+        Some(NodeRef::Branch { entries, .. }) => entries.as_slice(),
+        Some(NodeRef::List { singles }) => singles.as_slice(),
+        Some(NodeRef::Tomb { single }) => from_ref(single),
         _ => &[],
     }
 }
@@ -56,7 +57,7 @@ pub fn bitmap_at(heap: &Heap, at: Ref) -> u32
     ensures { result ≡ bitmap_of (node_at heap.now.heap at) }
 {
     match node_at(heap, at) {
-        Some(Node::Branch { bitmap, .. }) => *bitmap,
+        Some(NodeRef::Branch { bitmap, .. }) => bitmap,
         _ => 0,
     }
 }
@@ -66,7 +67,7 @@ pub fn key_at(heap: &Heap, at: Ref) -> u64
     ensures { result ≡ key_in (node_at heap.now.heap at) }
 {
     match node_at(heap, at) {
-        Some(Node::Single { key, .. }) => *key,
+        Some(NodeRef::Single { key, .. }) => key,
         _ => 0,
     }
 }
@@ -75,5 +76,5 @@ pub fn key_at(heap: &Heap, at: Ref) -> u64
 pub fn is_single_at(heap: &Heap, at: Ref) -> bool
     ensures { result ≡ is_single (node_at heap.now.heap at) }
 {
-    matches!(node_at(heap, at), Some(Node::Single { .. }))
+    matches!(node_at(heap, at), Some(NodeRef::Single { .. }))
 }

@@ -1,7 +1,14 @@
 //! Main nodes made from the main node before.
 
-ghost use Rattle.std.specs.Prelude.{◌≡◌, ◌<◌, ◌++◌, slice_set};
-ghost use Rattle.slot_arena.specs.Heaps.{bitmap_of, entries_of, node_at};
+ghost use Rattle.std.specs.Prelude.{◌≡◌, ◌+◌, ◌<◌, ◌≤◌, ◌++◌, length, slice_set, IfSome};
+ghost use Rattle.slot_arena.specs.Arenas.{AreLive, IsLive};
+ghost use Rattle.slot_arena.specs.Entries.{Fits, changed_branch as changed_entry, entries_after};
+ghost use Rattle.slot_arena.specs.Heaps.{bitmap_of, entries_from, entries_of, next_ref, node_at, refs_of_node, refs_of_option, taken};
+ghost use Rattle.slot_arena.specs.Refs.{birth_limit};
+ghost use Rattle.slot_arena.specs.Ticking.{TakesUpTo};
+ghost use Rattle.slot_arena.specs.declared.refs.Ref.{Ref as ARef};
+ghost use Rattle.epochs.specs.Memories.{KeepsEpochs};
+ghost use Rattle.slot_arena.specs.Views.{viewed};
 ghost use Rattle.nodes.specs.Builders.{renewed, contracted};
 ghost use Rattle.trie_parts.specs.Beneath.machine_model.specs.Building.{changed_branch, changed_list, changed};
 
@@ -9,8 +16,8 @@ use crate::entries::{entries_from, entries_from_parts, with_inserted, with_repla
 use crate::looking::{bitmap_at, entries_at, node_at};
 use epochs::Heap;
 use gcas::Change;
-use nodes::position_of;
-use slot_arena::{Node, Ref};
+use nodes::{MOST_ENTRIES, position_of};
+use slot_arena::{EntryChange, Node, NodeRef, Ref};
 
 /// A main node after the change, where `flag` is that of the call's key. What is no branch or list stays as
 /// it is.
@@ -25,26 +32,92 @@ pub fn changed_at(heap: &Heap, main: Ref, flag: u32, change: Change) -> Node
     }
 }
 
+/// Makes the main node after the change, where `flag` is that of the call's key, and holds it. None where no slot is free.
+#[inline(always)]
+pub fn make_changed(heap: &mut Heap, main: Ref, flag: u32, change: Change) -> Option<Ref>
+    requires flag { 0 < flag }
+    requires births { heap.old.heap.births + 1 < birth_limit }
+    requires main_live { IsLive heap.old.heap main }
+    requires live { AreLive heap.old.heap (refs_of_node (changed flag (node_at heap.old.heap main) change)) }
+    ensures made { result ≡ next_ref heap.old.heap }
+    ensures lives { IfSome result (IsLive heap.new.heap) }
+    ensures stay { (q : ARef) → IsLive heap.old.heap q → IsLive heap.new.heap q }
+    ensures heap { heap.new.heap ≡ taken heap.old.heap (changed flag (node_at heap.old.heap main) change) }
+    ensures outside { heap.new.outside ≡ refs_of_option result ++ heap.old.outside }
+    ensures epochs { KeepsEpochs heap.old heap.new }
+    ensures few { length heap.new.noted ≤ length heap.old.noted + 32 }
+    ensures ticks { TakesUpTo 36 heap.old.ticks heap.new.ticks }
+{
+    if let Some((bitmap, entry)) = in_place(heap, main, flag, &change) {
+        return heap.make_changed(main, bitmap, entry);
+    }
+    let node = changed_at(heap, main, flag, change);
+    heap.make_held(node)
+}
+
+/// The change as that of one entry of a branch, with the bitmap then, where it is one.
+#[inline(always)]
+fn in_place(heap: &Heap, main: Ref, flag: u32, change: &Change) -> Option<(u32, EntryChange)>
+    requires { 0 < flag }
+    ensures { IfSome result (λ made. Fits made.1 (refs_of_node (node_at heap.now.heap main)) × (length (refs_of_node (node_at heap.now.heap main)) ≤ 32)
+        × (changed flag (node_at heap.now.heap main) change.now ≡ changed_entry made.0 made.1 (node_at heap.now.heap main))) }
+{
+    match node_at(heap, main) {
+        Some(NodeRef::Branch { bitmap, entries }) => {
+            entry_change(flag, bitmap, entries.as_slice(), change)
+        }
+        _ => None,
+    }
+}
+
+/// The same of a branch of this bitmap and these entries.
+#[inline(always)]
+fn entry_change(
+    flag: u32,
+    bitmap: u32,
+    entries: &[Ref],
+    change: &Change,
+) -> Option<(u32, EntryChange)>
+    requires { 0 < flag }
+    ensures { IfSome result (λ made. Fits made.1 entries.now
+        × (changed_branch flag bitmap entries.now change.now ≡ Node.Branch made.0 (entries_from (entries_after made.1 entries.now)))) }
+{
+    match *change {
+        Change::Insert { single } => {
+            let position = position_of(flag, bitmap);
+            if position > entries.len() || entries.len() >= MOST_ENTRIES {
+                return None;
+            }
+            let entry = single;
+            Some((bitmap | flag, EntryChange::Insert { position, entry }))
+        }
+        Change::Update { position, entry } if position < entries.len() => {
+            Some((bitmap, EntryChange::Set { position, entry }))
+        }
+        Change::Remove { position } if position < entries.len() => {
+            Some((bitmap ^ flag, EntryChange::Remove { position }))
+        }
+        _ => None,
+    }
+}
+
 /// The node after the change.
 #[inline(always)]
-fn changed(flag: u32, node: &Node, change: Change) -> Node
+fn changed(flag: u32, node: NodeRef<'_>, change: Change) -> Node
     requires { 0 < flag }
-    ensures { result ≡ changed flag node.now change }
+    ensures { result ≡ changed flag (viewed node.entry) change }
 {
     match node {
-        Node::Branch { bitmap, entries } => {
-            changed_branch(flag, *bitmap, entries.as_slice(), change)
+        NodeRef::Branch { bitmap, entries } => {
+            changed_branch(flag, bitmap, entries.as_slice(), change)
         }
-        Node::List { singles } => changed_list(singles.as_slice(), change),
-        Node::Indirection { generation, main } => Node::Indirection {
-            generation: *generation,
+        NodeRef::List { singles } => changed_list(singles.as_slice(), change),
+        NodeRef::Indirection { generation, main } => Node::Indirection {
+            generation,
             main: *main,
         },
-        Node::Single { key, value } => Node::Single {
-            key: *key,
-            value: *value,
-        },
-        Node::Tomb { single } => Node::Tomb { single: *single },
+        NodeRef::Single { key, value } => Node::Single { key, value },
+        NodeRef::Tomb { single } => Node::Tomb { single: *single },
     }
 }
 

@@ -1,8 +1,8 @@
 -- What a step does to what stands under references, and that all but what is freed stays, with its node but for the main word.
-use Rattle.std.proofs.Common.{◌≡◌, ℕ, ◌+◌, ◌^◌, ◌≤◌, ◌==◌, Bool, true, false, List, [], ◌∷◌, Option, Some, None, refl, sym, ap, ◌∙◌, subst, inl, inr, eqb-true}
+use Rattle.std.proofs.Common.{◌≡◌, ℕ, ◌+◌, ◌≤◌, ◌==◌, Bool, true, false, List, [], ◌∷◌, Option, Some, None, refl, sym, ap, ◌∙◌, subst, inl, inr, eqb-true}
 use Rattle.std.proofs.lemmas.Bool.{cases_eq, false≢true}
 use Rattle.std.proofs.lemmas.Option.{none-some, same_Some}
-use Rattle.proof_memory.specs.Beneath.slot_arena.specs.Refs.{birth_of}
+use Rattle.proof_memory.specs.Beneath.slot_arena.specs.Refs.{birth_of, most_slots}
 use Rattle.proof_memory.specs.Beneath.slot_arena.specs.declared.refs.Ref.{Ref}
 use Rattle.proof_memory.specs.Beneath.slot_arena.specs.declared.nodes.Node.{Node}
 use Rattle.proof_memory.specs.Beneath.slot_arena.specs.declared.nodes.Node.TheVariants.{Indirection, Branch, Single, Tomb, List as Listed}
@@ -99,7 +99,7 @@ module _ (S : Ref → Type 0) (heap : Heap) (due : Option Ref) (used : (r : Ref)
 
   -- ---- by what is tested
 
-  module _ (slots : ℕ) (sound : AddsUp slots heap) (small : slots ≤ 2 ^ 16) where
+  module _ (slots : ℕ) (sound : AddsUp slots heap) (small : slots ≤ most_slots) where
     takes_by : (node : Node) → AllHold S heap (action_wants (act.Make node)) → (o : Option Ref) → next_ref heap ≡ o → Does (taken heap node)
     takes_by node h None e = same_as (taken heap node) (none_taken heap node e)
     takes_by node h (Some made) e =
@@ -126,7 +126,7 @@ module _ (S : Ref → Type 0) (heap : Heap) (due : Option Ref) (used : (r : Ref)
 
 -- the effect of an action of a state
 module _ (S : Ref → Type 0) (state : State) (due : Option Ref) (used : (r : Ref) → S r → IsInUse state.heap r)
-    (slots : ℕ) (sound : AddsUp slots state.heap) (small : slots ≤ 2 ^ 16) where
+    (slots : ℕ) (sound : AddsUp slots state.heap) (small : slots ≤ most_slots) where
   root_taken_by : (main : Ref) (o : Option Ref) → AllHold S state.heap (action_wants (act.MakeRoot main)) → Does S state.heap due used (new_root_taken state main o).heap
   root_taken_by main None h = same S state.heap due used
   root_taken_by main (Some made) h = takes S state.heap due used slots sound small (Indirection state.generations main) (so refl, h)

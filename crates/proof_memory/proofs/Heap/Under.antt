@@ -1,10 +1,10 @@
 -- What stands under each reference after a write, a taking and a freeing: only what is written, taken or freed changes.
-use Rattle.std.proofs.Common.{◌≡◌, ℕ, ◌+◌, ◌^◌, ◌<◌, ◌≤◌, false, is_some, List, [], ◌∷◌, length, map, get_or, set, Option, Some, None, option_map, refl, sym, ap, ◌∙◌, subst}
+use Rattle.std.proofs.Common.{◌≡◌, ℕ, ◌+◌, ◌<◌, ◌≤◌, false, is_some, List, [], ◌∷◌, length, map, get_or, set, Option, Some, None, option_map, refl, sym, ap, ◌∙◌, subst}
 use Rattle.std.proofs.Common.{◌⊎◌, inl, inr, eq-eqb, ne_eqb, arith}
 use Rattle.std.proofs.lemmas.Bool.{cases_eq, false≢true}
 use Rattle.std.proofs.lemmas.List.{get_or-set_same, get_or-set_other, get_or-map, length-map}
 use Rattle.std.proofs.lemmas.Option.{none-some, same_Some}
-use Rattle.proof_memory.specs.Beneath.slot_arena.specs.Refs.{ref_to, slot_of, birth_of}
+use Rattle.proof_memory.specs.Beneath.slot_arena.specs.Refs.{ref_to, slot_of, birth_of, most_slots}
 use Rattle.proof_memory.specs.Beneath.slot_arena.specs.declared.refs.Ref.{Ref}
 use Rattle.proof_memory.specs.Beneath.slot_arena.specs.declared.nodes.Node.{Node}
 use Rattle.proof_memory.specs.Beneath.slot_arena.specs.declared.nodes.Prev.{Prev}
@@ -146,7 +146,7 @@ fresh_slot heap node = record { birth = heap.births + 1; node = node; prev = pre
 
 -- the first free slot is free, and a slot
 abbrev pub IsFree : Heap → ℕ → Type 0
-IsFree heap slot = (slot < length heap.slots) × (get_or heap.slots slot None ≡ None) × (slot < 2 ^ 16)
+IsFree heap slot = (slot < length heap.slots) × (get_or heap.slots slot None ≡ None) × (slot < most_slots)
 
 module _ (heap : Heap) (node : Node) (slot : ℕ) (free : List ℕ) (first : IsFree heap slot) where
   abbrev fresh : Ref
@@ -191,13 +191,13 @@ empty_slot : (o : Option Slot) → is_some o ≡ false → o ≡ None
 empty_slot None e = refl
 empty_slot (Some slot) e = absurd (false≢true (sym e))
 
-first_is_free : (slots : ℕ) (heap : Heap) → AddsUp slots heap → slots ≤ 2 ^ 16 → (slot : ℕ) (free : List ℕ) → heap.free ≡ slot ∷ free → IsFree heap slot
+first_is_free : (slots : ℕ) (heap : Heap) → AddsUp slots heap → slots ≤ most_slots → (slot : ℕ) (free : List ℕ) → heap.free ≡ slot ∷ free → IsFree heap slot
 first_is_free slots heap h small slot free e =
     let (flagged, unused) = first_free (map is_some heap.slots) slot free (rw e at (h.rest)) in
     let within : slot < length heap.slots = rw length-map at flagged in
     (within, empty_slot _ (sym (get_or-map is_some heap.slots slot None false within) ∙ unused), omega (arith, h.size))
 
-module _ (slots : ℕ) (heap : Heap) (sound : AddsUp slots heap) (small : slots ≤ 2 ^ 16) (node : Node) (made : Ref) where
+module _ (slots : ℕ) (heap : Heap) (sound : AddsUp slots heap) (small : slots ≤ most_slots) (node : Node) (made : Ref) where
   -- by what is free
   taken_by : (free : List ℕ) → heap.free ≡ free → ref_in heap.births free ≡ Some made →
       (standing (take_from heap node free) made ≡ Some (fresh_slot heap node)) × (standing heap made ≡ None) × ((r : Ref) → (r ≡ made → ⊥) → standing (take_from heap node free) r ≡ standing heap r)

@@ -1,8 +1,8 @@
 -- At rest, with limbo empty, the slots in use are exactly the reachable ones: on the way up levels fall, and on one level from main nodes to their indirection.
-use Rattle.std.proofs.Common.{◌≡◌, ℕ, ◌+◌, ◌-◌, ◌*◌, ◌^◌, ◌<◌, ◌≤◌, ◌==◌, Bool, true, false, [], Contains, refl, sym, ap, ◌∙◌, subst, inl, inr, ne_eqb, arith}
+use Rattle.std.proofs.Common.{◌≡◌, ℕ, ◌+◌, ◌-◌, ◌*◌, ◌<◌, ◌≤◌, ◌==◌, Bool, true, false, [], Contains, refl, sym, ap, ◌∙◌, subst, inl, inr, ne_eqb, arith}
 use Rattle.std.proofs.lemmas.Bool.{false≢true, eqb-false}
 use Rattle.std.proofs.lemmas.List.Elements.{All-contains, Contains-append_cases}
-use Rattle.proof_memory.specs.Beneath.slot_arena.specs.Refs.{birth_of}
+use Rattle.proof_memory.specs.Beneath.slot_arena.specs.Refs.{birth_of, most_slots}
 use Rattle.proof_memory.specs.Beneath.slot_arena.specs.declared.refs.Ref.{Ref}
 use Rattle.proof_memory.specs.Beneath.slot_arena.specs.declared.nodes.Node.{Node}
 use Rattle.proof_memory.specs.Beneath.slot_arena.specs.declared.nodes.Node.TheVariants.{Indirection, Branch, Single, Tomb, List as Listed}
@@ -33,7 +33,7 @@ step_down false n = n
 module _ (state : State) (I : IsSafe state) (lv : Ref → ℕ) (h : HasLevels lv state) where
   -- no reference in use is greater
   abbrev top : ℕ
-  top = (state.heap.births + 1) * 2 ^ 16
+  top = (state.heap.births + 1) * most_slots
 
   abbrev down : Ref → ℕ
   down r = step_down (is_indirection (node_at state.heap r)) (1 + (top - r))

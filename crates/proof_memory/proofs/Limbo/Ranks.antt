@@ -1,11 +1,11 @@
 -- At rest, with limbo empty, each slot in use is reached, where some measure falls on the way up.
-use Rattle.std.proofs.Common.{◌≡◌, ℕ, zero, suc, ◌+◌, ◌^◌, ◌<◌, ◌==◌, Bool, true, false, cond, is_some, List, [], ◌∷◌, ◌++◌, map, flat_map, count_by, get_or, Contains, Option}
+use Rattle.std.proofs.Common.{◌≡◌, ℕ, zero, suc, ◌+◌, ◌<◌, ◌==◌, Bool, true, false, cond, is_some, List, [], ◌∷◌, ◌++◌, map, flat_map, count_by, get_or, Contains, Option}
 use Rattle.std.proofs.Common.{Some, None, refl, sym, ap, ◌∙◌, subst, ◌⊎◌, inl, inr, ne_eqb, arith}
 use Rattle.std.specs.List.{list_any}
 use Rattle.std.proofs.lemmas.Bool.{cases_eq, true≢false, or_parts}
 use Rattle.std.proofs.lemmas.List.Elements.{Contains-append_right, Contains-append_cases}
 use Rattle.std.proofs.lemmas.List.Sums.{sum_by-cons}
-use Rattle.proof_memory.specs.Beneath.slot_arena.specs.Refs.{ref_to}
+use Rattle.proof_memory.specs.Beneath.slot_arena.specs.Refs.{ref_to, most_slots}
 use Rattle.proof_memory.specs.Beneath.slot_arena.specs.declared.refs.Ref.{Ref}
 use Rattle.proof_memory.specs.Beneath.slot_arena.specs.declared.nodes.Slot.{Slot}
 use Rattle.proof_memory.specs.Beneath.slot_arena.specs.Heaps.{stored, heap_refs, refs_of_slot}
@@ -84,7 +84,7 @@ module _ (state : State) (I : IsSafe state) (zeros : HasZeros state) (empty : st
   referrer_at k None e r c = none_contained r c
   referrer_at k (Some slot) e r c =
       let within = found_within state.heap.slots k slot e in
-      let small : k < 2 ^ 16 = omega (arith, I.small, I.sound.heap.size) in (
+      let small : k < most_slots = omega (arith, I.small, I.sound.heap.size) in (
         ref_to slot.birth k,
         slot,
         standing_from state.heap (ref_to slot.birth k) slot (ap (λ i. get_or state.heap.slots i None) (slot_of_ref slot.birth k small) ∙ e) (sym (birth_of_ref slot.birth k small)),

@@ -1,11 +1,11 @@
 -- The first state's memory is safe.
-use Rattle.std.proofs.Common.{◌≡◌, ℕ, zero, suc, ◌+◌, ◌^◌, ◌≤◌, ◌++◌, Contains, get_or, set, replicate, Option, Some, None, refl, sym, ap, ◌∙◌, subst, inl, inr, eq-eqb, arith}
+use Rattle.std.proofs.Common.{◌≡◌, ℕ, zero, suc, ◌+◌, ◌≤◌, ◌++◌, Contains, get_or, set, replicate, Option, Some, None, refl, sym, ap, ◌∙◌, subst, inl, inr, eq-eqb, arith}
 use Rattle.std.specs.Prelude.{count_ones}
 use Rattle.std.proofs.lemmas.Bool.{cases_eq, le-leb, false≢true}
 use Rattle.std.proofs.lemmas.Nat.{ones_le_self}
 use Rattle.std.proofs.lemmas.Option.{none-some, same_Some}
 use Rattle.std.proofs.lemmas.List.Elements.{All-nil}
-use Rattle.proof_memory.specs.Beneath.slot_arena.specs.Refs.{ref_to, slot_of, birth_of}
+use Rattle.proof_memory.specs.Beneath.slot_arena.specs.Refs.{ref_to, slot_of, birth_of, most_slots}
 use Rattle.proof_memory.specs.Beneath.slot_arena.specs.declared.refs.Ref.{Ref}
 use Rattle.proof_memory.specs.Beneath.slot_arena.specs.declared.nodes.Node.{Node}
 use Rattle.proof_memory.specs.Beneath.slot_arena.specs.declared.nodes.Node.TheVariants.{Indirection}
@@ -41,7 +41,7 @@ record IsRight (slots : ℕ) (heap : Heap) : Type 0 where
   nodes : (r : Ref) (slot : Slot) → standing heap r ≡ Some slot → SlotHolds (IsInUse heap) heap slot
 
 -- taking a slot keeps that
-module _ (slots : ℕ) (small : slots ≤ 2 ^ 16) (heap : Heap) (h : IsRight slots heap) (node : Node) (wants : AllHold (IsInUse heap) heap (action_wants (act.Make node))) where
+module _ (slots : ℕ) (small : slots ≤ most_slots) (heap : Heap) (h : IsRight slots heap) (node : Node) (wants : AllHold (IsInUse heap) heap (action_wants (act.Make node))) where
   effect : Effect (AllHold (IsInUse heap) heap) (standing heap) (standing (taken heap node)) heap.births (taken heap node).births None
   effect = takes (IsInUse heap) heap None (λ r u. u) slots (h.adds_up) small node wants
 
@@ -79,7 +79,7 @@ right_empty slots = record {
 }
 
 -- the two slots that are taken at first
-module _ (n : ℕ) (small : suc (suc n) ≤ 2 ^ 16) where
+module _ (n : ℕ) (small : suc (suc n) ≤ most_slots) where
   abbrev slots : ℕ
   slots = suc (suc n)
 
@@ -114,7 +114,7 @@ module _ (n : ℕ) (small : suc (suc n) ≤ 2 ^ 16) where
 abbrev FirstIsRight : ℕ → Type 0
 FirstIsRight slots = IsRight slots (first_heap slots) × Holds (IsInUse (first_heap slots)) (first_heap slots) (Is (ref_to 2 1) AnIndirection)
 
-first_right : (slots : ℕ) → 2 ≤ slots → slots ≤ 2 ^ 16 → FirstIsRight slots
+first_right : (slots : ℕ) → 2 ≤ slots → slots ≤ most_slots → FirstIsRight slots
 first_right zero low small = absurd (omega arith)
 first_right (suc zero) low small = absurd (omega arith)
 first_right (suc (suc n)) low small = (right_two n small, root_right n small)
@@ -147,14 +147,14 @@ safe_at_first limits ok =
     }
 
 -- what stands under other references stood there before the two nodes were made
-one_other : (n : ℕ) (small : suc (suc n) ≤ 2 ^ 16) (r : Ref) → (r ≡ ref_to 2 1 → ⊥) → standing (first_heap (suc (suc n))) r ≡ standing (one_taken n small) r
+one_other : (n : ℕ) (small : suc (suc n) ≤ most_slots) (r : Ref) → (r ≡ ref_to 2 1 → ⊥) → standing (first_heap (suc (suc n))) r ≡ standing (one_taken n small) r
 one_other n small = (taken_all (suc (suc n)) (one_taken n small) (taken_kept (suc (suc n)) (empty_heap (suc (suc n))) empty_branch (empty_adds_up (suc (suc n)))) small
     (Indirection 0 (ref_to 1 0)) (ref_to 2 1) (second_ref n small)).2
 
-empty_other : (n : ℕ) (small : suc (suc n) ≤ 2 ^ 16) (r : Ref) → (r ≡ ref_to 1 0 → ⊥) → standing (one_taken n small) r ≡ standing (empty_heap (suc (suc n))) r
+empty_other : (n : ℕ) (small : suc (suc n) ≤ most_slots) (r : Ref) → (r ≡ ref_to 1 0 → ⊥) → standing (one_taken n small) r ≡ standing (empty_heap (suc (suc n))) r
 empty_other n small = (taken_all (suc (suc n)) (empty_heap (suc (suc n))) (empty_adds_up (suc (suc n))) small empty_branch (ref_to 1 0) refl).2
 
-first_stands_in : (P : Ref → Slot → Type 0) (n : ℕ) → suc (suc n) ≤ 2 ^ 16 →
+first_stands_in : (P : Ref → Slot → Type 0) (n : ℕ) → suc (suc n) ≤ most_slots →
     ((birth : ℕ) → P (ref_to 2 1) (record { birth = birth; node = Indirection 0 (ref_to 1 0); prev = prev.None })) →
     ((birth : ℕ) → P (ref_to 1 0) (record { birth = birth; node = empty_branch; prev = prev.None })) →
     (r : Ref) (slot : Slot) → standing (first_heap (suc (suc n))) r ≡ Some slot → P r slot
@@ -175,7 +175,7 @@ first_stands_in P n small at_root at_branch r slot found = elim (cases_eq r (ref
 -- ---- what stands at first
 
 -- P holds of the root and of its branch, and so of all
-pub first_stands : (P : Ref → Slot → Type 0) (slots : ℕ) → 2 ≤ slots → slots ≤ 2 ^ 16 →
+pub first_stands : (P : Ref → Slot → Type 0) (slots : ℕ) → 2 ≤ slots → slots ≤ most_slots →
     ((birth : ℕ) → P (ref_to 2 1) (record { birth = birth; node = Indirection 0 (ref_to 1 0); prev = prev.None })) →
     ((birth : ℕ) → P (ref_to 1 0) (record { birth = birth; node = empty_branch; prev = prev.None })) →
     (r : Ref) (slot : Slot) → standing (first_heap slots) r ≡ Some slot → P r slot
@@ -185,7 +185,7 @@ first_stands P (suc (suc n)) low small = first_stands_in P n small
 
 -- ---- each of the two slots is referred to
 
-first_counted : (n : ℕ) → suc (suc n) ≤ 2 ^ 16 → (state : State) → state.heap ≡ first_heap (suc (suc n)) → (root : Root) → root_at state 0 ≡ Some root →
+first_counted : (n : ℕ) → suc (suc n) ≤ most_slots → (state : State) → state.heap ≡ first_heap (suc (suc n)) → (root : Root) → root_at state 0 ≡ Some root →
     Contains (refs_of_root (Some root)) (ref_to 2 1) → (r : Ref) → IsInUse state.heap r → Contains (heap_refs state.heap ++ outside state) r
 first_counted n small state heap root word holds r (slot, found) = elim (cases_eq r (ref_to 2 1)) [
   | inl is_root ↦ counted_in_root state 0 r root word (subst (Contains (refs_of_root (Some root))) (sym is_root) holds)
@@ -198,7 +198,7 @@ first_counted n small state heap root word holds r (slot, found) = elim (cases_e
       ]
 ]
 
-first_counted_by : (slots : ℕ) → 2 ≤ slots → slots ≤ 2 ^ 16 → (state : State) → state.heap ≡ first_heap slots → (root : Root) → root_at state 0 ≡ Some root →
+first_counted_by : (slots : ℕ) → 2 ≤ slots → slots ≤ most_slots → (state : State) → state.heap ≡ first_heap slots → (root : Root) → root_at state 0 ≡ Some root →
     Contains (refs_of_root (Some root)) (ref_to 2 1) → (r : Ref) → IsInUse state.heap r → Contains (heap_refs state.heap ++ outside state) r
 first_counted_by zero low small = absurd (omega arith)
 first_counted_by (suc zero) low small = absurd (omega arith)

@@ -1,7 +1,7 @@
 -- The laws on references and look-ups, from safe memory.
-use Rattle.std.proofs.Common.{◌≡◌, ℕ, ◌^◌, ◌<◌, [], All, Contains, get_or, Option, Some, None, refl, sym, ap, ◌∙◌, arith}
+use Rattle.std.proofs.Common.{◌≡◌, ℕ, ◌<◌, [], All, Contains, get_or, Option, Some, None, refl, sym, ap, ◌∙◌, arith}
 use Rattle.std.proofs.lemmas.List.Elements.{All-contains, All-append}
-use Rattle.proof_memory.specs.Beneath.slot_arena.specs.Refs.{ref_to, slot_of}
+use Rattle.proof_memory.specs.Beneath.slot_arena.specs.Refs.{ref_to, slot_of, most_slots}
 use Rattle.proof_memory.specs.Beneath.slot_arena.specs.declared.refs.Ref.{Ref}
 use Rattle.proof_memory.specs.Beneath.slot_arena.specs.declared.nodes.Slot.{Slot}
 use Rattle.proof_memory.specs.Beneath.slot_arena.specs.Heaps.{stored, refs_of_node, refs_of_prev, refs_of_slot}
@@ -46,7 +46,7 @@ module _ (state : State) (I : IsSafe state) where
   pub stored_stands : (q : Ref) (slot : Slot) → stored state.heap q ≡ Some slot → standing state.heap (ref_to slot.birth (slot_of q)) ≡ Some slot
   unfolding stored
   stored_stands q slot e =
-      let small : slot_of q < 2 ^ 16 = omega arith in
+      let small : slot_of q < most_slots = omega arith in
       standing_from state.heap (ref_to slot.birth (slot_of q)) slot
       (ap (λ k. get_or state.heap.slots k None) (slot_of_ref slot.birth (slot_of q) small) ∙ e) (sym (birth_of_ref slot.birth (slot_of q) small))
 

@@ -1,10 +1,10 @@
 -- Memory is safe: what is taken for a node of a kind is one, after every step. One invariant for nodes, root words, lines and private lists.
-use Rattle.std.proofs.Common.{◌≡◌, ℕ, ◌+◌, ◌^◌, ◌<◌, ◌≤◌, true, nat_le, is_some, List, [], ◌∷◌, ◌++◌, All, Contains, length, get_or, Option, Some, None, refl, sym, ap, ◌∙◌, subst}
+use Rattle.std.proofs.Common.{◌≡◌, ℕ, ◌+◌, ◌<◌, ◌≤◌, true, nat_le, is_some, List, [], ◌∷◌, ◌++◌, All, Contains, length, get_or, Option, Some, None, refl, sym, ap, ◌∙◌, subst}
 use Rattle.std.proofs.Common.{◌⊎◌, inl, inr, leb-true, arith}
 use Rattle.std.proofs.lemmas.Bool.{cases_eq, false≢true}
 use Rattle.std.proofs.lemmas.Option.{none-some, same_Some, cond_some}
 use Rattle.std.proofs.lemmas.List.Elements.{All-head, Contains-append_left, Contains-append_right, Contains-get_or}
-use Rattle.proof_memory.specs.Beneath.slot_arena.specs.Refs.{slot_of, birth_of}
+use Rattle.proof_memory.specs.Beneath.slot_arena.specs.Refs.{slot_of, birth_of, most_slots}
 use Rattle.proof_memory.specs.Beneath.slot_arena.specs.declared.refs.Ref.{Ref}
 use Rattle.proof_memory.specs.Beneath.slot_arena.specs.declared.nodes.Node.{Node}
 use Rattle.proof_memory.specs.Beneath.slot_arena.specs.declared.nodes.Node.TheVariants.{Indirection, Branch, Single, Tomb, List as Listed}
@@ -39,7 +39,7 @@ use Rattle.proof_memory.specs.Beneath.slot_arena.proofs.Live.{slot_of_ref, birth
 
 pub record IsSafe (state : State) : Type 0 where
   pub sound : IsSound state.limits.slots state
-  pub small : state.limits.slots ≤ 2 ^ 16
+  pub small : state.limits.slots ≤ most_slots
   -- no slot in use has a birth that is still to be drawn
   pub births : (r : Ref) (slot : Slot) → standing state.heap r ≡ Some slot → birth_of r ≤ state.heap.births
   pub zeros : AllZero state
@@ -139,11 +139,11 @@ ripe_old (z ∷ limbo) now epoch r e g h =
     omega arith
 
 -- a reference into a list of slots stands
-pub stands_in_use : (heap : Heap) (r : Ref) → length heap.slots ≤ 2 ^ 16 → InUse heap r → IsInUse heap r
+pub stands_in_use : (heap : Heap) (r : Ref) → length heap.slots ≤ most_slots → InUse heap r → IsInUse heap r
 unfolding stored
 stands_in_use heap r small (k, slot, at_k, e) =
     let within = found_within heap.slots k slot at_k in
-    let k_small : k < 2 ^ 16 = omega arith in
+    let k_small : k < most_slots = omega arith in
     let its_slot : slot_of r ≡ k = ap slot_of e ∙ slot_of_ref slot.birth (0 + k) (omega arith) ∙ zero_add k in
     let its_birth : birth_of r ≡ slot.birth = ap birth_of e ∙ birth_of_ref slot.birth (0 + k) (omega arith) in
     (slot, standing_from heap r slot (ap (λ i. get_or heap.slots i None) its_slot ∙ at_k) (sym its_birth))
@@ -170,7 +170,7 @@ module _ (state after : State) (epoch : ℕ) (low : epoch ≤ state.epoch) (high
       )
 
   -- what is made is safe
-  pub made_safe : (sound : IsSound state.limits.slots state) → state.limits.slots ≤ 2 ^ 16 → (made : Ref) (slot : Slot) → standing state.heap made ≡ None →
+  pub made_safe : (sound : IsSound state.limits.slots state) → state.limits.slots ≤ most_slots → (made : Ref) (slot : Slot) → standing state.heap made ≡ None →
       standing after.heap made ≡ Some slot → Safe after epoch made
   made_safe sound small made slot none found =
       record { used = (slot, found); guarded = guard_kept made (λ k d within same. absurd (none_stands (get_or state.limbo k d).at same (sound.limbo k d within))) }

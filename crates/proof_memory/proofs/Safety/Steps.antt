@@ -1,5 +1,5 @@
 -- Each step keeps memory safe, and the first state's memory is.
-use Rattle.std.proofs.Common.{◌≡◌, ℕ, zero, suc, ◌+◌, ◌^◌, ◌≤◌, true, nat_le, List, ◌++◌, map, All, length, get_or, Option, Some, None, refl, sym, ap, ◌∙◌, subst, inl, inr, arith}
+use Rattle.std.proofs.Common.{◌≡◌, ℕ, zero, suc, ◌+◌, ◌≤◌, true, nat_le, List, ◌++◌, map, All, length, get_or, Option, Some, None, refl, sym, ap, ◌∙◌, subst, inl, inr, arith}
 use Rattle.std.proofs.lemmas.Bool.{cond_both, or_cases}
 use Rattle.std.proofs.lemmas.Option.{none-some, same_Some}
 use Rattle.std.proofs.lemmas.List.Elements.{All-weaker, All-push, All-nil}
@@ -51,6 +51,7 @@ use Rattle.proof_memory.specs.Making.{made_node}
 use Rattle.proof_memory.proofs.Safety.States.{IsSafe, heaped, word_in, open_word, in_private, node_in, prev_in, stands_in_use, carries, made_safe, used_of, slots_after, births_after}
 use Rattle.machine_model.proofs.Grown.{node_standing}
 use Rattle.proof_memory.specs.Beneath.epochs.proofs.Running.{sweep_rises}
+use Rattle.proof_memory.specs.Beneath.slot_arena.specs.Refs.{most_slots}
 
 -- ---- what a step does at its end
 
@@ -292,7 +293,7 @@ module _ (state : State) (I : IsSafe state) where
   pub safe_after : (s : Step) (o : Outcome) (after : State) → Moves state s o after → IsSafe after
   safe_after s o after m = record {
     sound = subst (λ (l : Bounds). IsSound l.slots after) (sym (limits_kept state s o after m)) (sound_after state.limits.slots (I.small) state s (I.sound) o after m);
-    small = subst (λ (l : Bounds). l.slots ≤ 2 ^ 16) (sym (limits_kept state s o after m)) (I.small);
+    small = subst (λ (l : Bounds). l.slots ≤ most_slots) (sym (limits_kept state s o after m)) (I.small);
     births = births_after _ _ _ _ _ _ ((step_effect s o after m).3) (I.births);
     zeros = zeros_after s o after m;
     recent = recent_after state (I.recent) s o after m;

@@ -8,7 +8,7 @@ use Rattle.proof_obstruction_free.specs.Beneath.slot_arena.specs.declared.refs.R
 use Rattle.proof_obstruction_free.specs.Beneath.slot_arena.specs.declared.nodes.Node.TheVariants.{Indirection, Branch, Single, Tomb}
 use Rattle.proof_obstruction_free.specs.Beneath.slot_arena.specs.Heaps.{entries_from, entries_of, bitmap_of, no_ref}
 use Rattle.proof_obstruction_free.specs.Beneath.nodes.specs.Builders.{contracted}
-use Rattle.proof_obstruction_free.specs.Beneath.nodes.proofs.Parts.{whole}
+use Rattle.proof_obstruction_free.specs.Beneath.slot_arena.proofs.Joining.{whole}
 use Rattle.proof_obstruction_free.specs.Beneath.proof_memory.specs.Wants.{is_branch, is_indirection}
 use Rattle.proof_obstruction_free.specs.Beneath.proof_generations.proofs.Falling.NoRef.{no_node}
 use Rattle.proof_obstruction_free.specs.Alone.{Lone, Has, node}

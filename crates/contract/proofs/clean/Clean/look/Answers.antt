@@ -7,6 +7,7 @@ use Rattle.trie_parts.specs.Here.{at_heap}
 use Rattle.contract.specs.Cleaning.{clean_line}
 use Rattle.contract.proofs.Looks.{looked}
 use Rattle.contract.proofs.clean.Clean.look.Goals as goal
+use Rattle.slot_arena.specs.Views.{viewed}
 
 pub returns-in-Some-Branch-clause-follows : goal.returns-in-Some-Branch-clause-follows
 returns-in-Some-Branch-clause-follows c =
@@ -14,7 +15,7 @@ returns-in-Some-Branch-clause-follows c =
     λ state hashes operation path s place.
     let here = at_heap state c.args.heap.now.heap hashes in
     looked here operation (line.Clean (clean.Main path main)) (clean_next here path main []) (clean_line path s None c.go_through.new.self) place c.go_through.result refl refl
-    (ap (clean_after_main here path main) (c.in-Some-Branch.ensures ∙ c.in-Some-Branch.field-0-is)) (c.go_through.ensures.follows state hashes path s)
+    (ap (clean_after_main here path main) (c.in-Some-Branch.ensures ∙ ap viewed c.in-Some-Branch.field-0-is)) (c.go_through.ensures.follows state hashes path s)
 
 pub returns-in-None-clause-follows : goal.returns-in-None-clause-follows
 returns-in-None-clause-follows c =

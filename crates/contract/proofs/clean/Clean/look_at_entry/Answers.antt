@@ -1,5 +1,6 @@
 use Rattle.std.specs.Prelude.{◌≡◌, ◌∷◌, ◌++◌, [], length, None, refl}
-use Rattle.std.proofs.Common.{◌∙◌}
+use Rattle.slot_arena.specs.Views.{viewed}
+use Rattle.std.proofs.Common.{ap, ◌∙◌}
 use Rattle.slot_arena.specs.Heaps.{entry_at}
 use Rattle.contract.specs.Beneath.machine_model.specs.declared.lines.Line.TheVariants as line
 use Rattle.contract.specs.Beneath.machine_model.specs.declared.repairs.CleanLine.TheVariants as clean
@@ -20,4 +21,4 @@ returns-in-Some-Single-clause-follows c =
     λ state hashes operation path.
     let here = at_heap state heap hashes in
     looked here operation (line.Clean (clean.Entry path main done)) (clean_next here path main (done ++ entry ∷ [])) (clean_line path s None c.put.new.self) s.read.at c.put.result refl refl
-    (single_kept here path main done entry _ _ e (c.in-Some-Single.ensures ∙ c.in-Some-Single.field-0-is)) (c.put.ensures.follows state hashes path s)
+    (single_kept here path main done entry _ _ e (c.in-Some-Single.ensures ∙ ap viewed c.in-Some-Single.field-0-is)) (c.put.ensures.follows state hashes path s)

@@ -1,15 +1,16 @@
-use Rattle.std.proofs.Common.{◌≡◌, ◌≤◌, ◌^◌, [], length, refl, ap, subst, arith}
+use Rattle.std.proofs.Common.{◌≡◌, ◌≤◌, [], length, refl, ap, subst, arith}
 use Rattle.std.proofs.lemmas.List.{nil_from_length}
 use Rattle.epochs.specs.Limbo.{limbo_after}
 use Rattle.epochs.specs.Memories.{Memory, staying}
 use Rattle.epochs.proofs.Staying.{length-limbo_of}
 use Rattle.epochs.proofs.Settled.{settled_already, stays_already}
 use Rattle.epochs.proofs.heap.Heap.settle.Goals as goal
+use Rattle.slot_arena.specs.Refs.{most_slots}
 
 -- nothing is noted, so nothing has to be done
 pub returns-else-noted_len-ne0 : goal.returns-else-noted_len-ne0
 returns-else-noted_len-ne0 c =
-    let small : length c.self.inside.arena.heap.slots ≤ 2 ^ 16 = omega (arith, c.len.ensures.size, c.len.ensures.few) in
+    let small : length c.self.inside.arena.heap.slots ≤ most_slots = omega (arith, c.len.ensures.size, c.len.ensures.few) in
     let none : c.self.inside.arena.noted ≡ [] = nil_from_length c.self.inside.arena.noted (omega (arith, c.noted_len.ensures.noted, c.if-noted_len-ne0.false)) in
     record {
       limbo = subst (λ (m : Memory). m.limbo ≡ limbo_after m.heap m.outside m.epoch m.limbo) c.self.view_is

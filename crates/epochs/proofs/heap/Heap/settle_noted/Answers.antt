@@ -1,4 +1,4 @@
-use Rattle.std.proofs.Common.{◌≤◌, ◌^◌, length, sym, ap, ◌∙◌, subst, arith}
+use Rattle.std.proofs.Common.{◌≤◌, length, sym, ap, ◌∙◌, subst, arith}
 use Rattle.std.proofs.lemmas.List.Sorted.{length_permutation}
 use Rattle.slot_arena.specs.Heaps.{Heap}
 use Rattle.epochs.specs.Limbo.{limbo_after, newly_zero}
@@ -8,22 +8,23 @@ use Rattle.epochs.specs.Memories.{Memory, IsMemory, limbo_of, staying}
 use Rattle.epochs.proofs.Staying.{length-limbo_of}
 use Rattle.epochs.proofs.Settled.{single, within, settled, settled_lists, after_settling, length_settled, still_empty, no_more}
 use Rattle.epochs.proofs.heap.Heap.settle_noted.Goals as goal
+use Rattle.slot_arena.specs.Refs.{most_slots}
 
 pub enter_all-requires-clause-within : goal.enter_all-requires-clause-within
 enter_all-requires-clause-within c =
-    let small : length c.self.inside.arena.heap.slots ≤ 2 ^ 16 = omega (arith, c.len.ensures.size, c.len.ensures.few) in
+    let small : length c.self.inside.arena.heap.slots ≤ most_slots = omega (arith, c.len.ensures.size, c.len.ensures.few) in
     within c.self.inside.arena c.self.inside.bags.bags c.sift.new.bags.bags c.sift.new.fresh.refs c.sort.new.self.refs c.self.invariant.0.lists c.sift.ensures.sifted
     c.sort.ensures.permutation c.sort.ensures.sorted small
 
 pub enter_all-requires-clause-single : goal.enter_all-requires-clause-single
 enter_all-requires-clause-single c k =
-    let small : length c.self.inside.arena.heap.slots ≤ 2 ^ 16 = omega (arith, c.len.ensures.size, c.len.ensures.few) in
+    let small : length c.self.inside.arena.heap.slots ≤ most_slots = omega (arith, c.len.ensures.size, c.len.ensures.few) in
     single c.self.inside.arena c.self.inside.bags.bags c.sift.new.bags.bags c.sift.new.fresh.refs c.sort.new.self.refs c.self.invariant.0.lists c.sift.ensures.sifted
     c.sort.ensures.permutation c.sort.ensures.sorted small k
 
 pub invariant_of-self : goal.invariant_of-self
 invariant_of-self c =
-    let small : length c.self.inside.arena.heap.slots ≤ 2 ^ 16 = omega (arith, c.len.ensures.size, c.len.ensures.few) in
+    let small : length c.self.inside.arena.heap.slots ≤ most_slots = omega (arith, c.len.ensures.size, c.len.ensures.few) in
     let after : Bags = after_settling c.self.inside.arena c.self.inside.bags.bags c.sift.new.bags.bags c.sift.new.fresh.refs c.sort.new.self.refs c.self.invariant.0.lists
     c.sift.ensures.sifted c.sort.ensures.permutation c.sort.ensures.sorted small in
     let memory = c.self.invariant.0 in
@@ -55,7 +56,7 @@ invariant_of-self c =
 
 pub returns : goal.returns
 returns c =
-    let small : length c.self.inside.arena.heap.slots ≤ 2 ^ 16 = omega (arith, c.len.ensures.size, c.len.ensures.few) in
+    let small : length c.self.inside.arena.heap.slots ≤ most_slots = omega (arith, c.len.ensures.size, c.len.ensures.few) in
     record {
       limbo =
           ap (limbo_of c.self.inside.epoch) c.enter_all.ensures.bags

@@ -8,13 +8,6 @@ returns-then-first-self-clause-first c = sym (ap (λ (b : Ringed). b.bags.oldest
     ∙ first_none c.self.inside.next.words c.self.inside.back.words c.self.inside.is_in.marks c.self.inside.size c.self.inside.first c.self.inside.second c.self.inside.third c.self.inside.len
     c.self.inside.oldest.items c.self.inside.middle.items c.self.inside.present.items c.self.invariant c.read-first.result c.read-first.ensures.link c.if-first-self.true
 
-pub overflow_cast-result : goal.overflow_cast-result
-overflow_cast-result c =
-    let found = first_some c.self.inside.next.words c.self.inside.back.words c.self.inside.is_in.marks c.self.inside.size c.self.inside.first c.self.inside.second c.self.inside.third
-    c.self.inside.len c.self.inside.oldest.items c.self.inside.middle.items c.self.inside.present.items c.self.invariant c.read-first.result c.read-first.ensures.link c.if-first-self.false in
-    let few = c.self.invariant.few in
-    omega arith
-
 pub returns-clause-first : goal.returns-clause-first
 returns-clause-first c =
     let found = first_some c.self.inside.next.words c.self.inside.back.words c.self.inside.is_in.marks c.self.inside.size c.self.inside.first c.self.inside.second c.self.inside.third

@@ -42,7 +42,7 @@ lower_all-requires-clause-within c =
     let has = live_inside _ _ c.self.view_is c.args.at c.requires.live in
     let seen = slot_seen c.self.inside.cells at has in
     let slot : Slot = seen.0 in
-    let node_is : c.refs_of.result.now ≡ refs_of_node slot.node = c.refs_of.ensures.refs
+    let node_is : c.refs_in.result.now ≡ refs_of_node slot.node = c.refs_in.ensures.refs
     ∙ ap refs_of_node (c.node.ensures ∙ ap (λ k. node_of (get_or c.self.inside.cells k None)) c.slot-slot.ensures ∙ ap node_of seen.1) in
     let part : (q : Ref) → times q (refs_of_slot (Some slot)) ≤ found c.self.inside.cells c.self.inside.outside.items q =
     slot_part c.self.inside.cells c.self.inside.tally.counts c.self.inside.free c.self.inside.used c.self.inside.outside.items c.self.invariant at has in
@@ -57,7 +57,7 @@ lower_all-requires-clause-some c i =
     let has = live_inside _ _ c.self.view_is c.args.at c.requires.live in
     let seen = slot_seen c.self.inside.cells at has in
     let slot : Slot = seen.0 in
-    let node_is : c.refs_of.result.now ≡ refs_of_node slot.node = c.refs_of.ensures.refs
+    let node_is : c.refs_in.result.now ≡ refs_of_node slot.node = c.refs_in.ensures.refs
     ∙ ap refs_of_node (c.node.ensures ∙ ap (λ k. node_of (get_or c.self.inside.cells k None)) c.slot-slot.ensures ∙ ap node_of seen.1) in
     let part : (q : Ref) → times q (refs_of_slot (Some slot)) ≤ found c.self.inside.cells c.self.inside.outside.items q =
     slot_part c.self.inside.cells c.self.inside.tally.counts c.self.inside.free c.self.inside.used c.self.inside.outside.items c.self.invariant at has in
@@ -85,7 +85,7 @@ lower_all-requires-2-clause-some c i =
     let has = live_inside _ _ c.self.view_is c.args.at c.requires.live in
     let seen = slot_seen c.self.inside.cells at has in
     let slot : Slot = seen.0 in
-    let node_is : c.refs_of.result.now ≡ refs_of_node slot.node = c.refs_of.ensures.refs
+    let node_is : c.refs_in.result.now ≡ refs_of_node slot.node = c.refs_in.ensures.refs
     ∙ ap refs_of_node (c.node.ensures ∙ ap (λ k. node_of (get_or c.self.inside.cells k None)) c.slot-slot.ensures ∙ ap node_of seen.1) in
     let prev_is : c.refs_of_prev.result.now ≡ refs_of_prev slot.prev = c.refs_of_prev.ensures
     ∙ ap refs_of_prev (c.prev-prev.ensures ∙ ap (λ k. prev_of (get_or c.self.inside.cells k None)) c.slot-slot.ensures ∙ ap prev_of seen.1) in
@@ -136,7 +136,7 @@ invariant_of-self c =
     let has = live_inside _ _ c.self.view_is c.args.at c.requires.live in
     let seen = slot_seen c.self.inside.cells at has in
     let slot : Slot = seen.0 in
-    let node_is : c.refs_of.result.now ≡ refs_of_node slot.node = c.refs_of.ensures.refs
+    let node_is : c.refs_in.result.now ≡ refs_of_node slot.node = c.refs_in.ensures.refs
     ∙ ap refs_of_node (c.node.ensures ∙ ap (λ k. node_of (get_or c.self.inside.cells k None)) c.slot-slot.ensures ∙ ap node_of seen.1) in
     let prev_is : c.refs_of_prev.result.now ≡ refs_of_prev slot.prev = c.refs_of_prev.ensures
     ∙ ap refs_of_prev (c.prev-prev.ensures ∙ ap (λ k. prev_of (get_or c.self.inside.cells k None)) c.slot-slot.ensures ∙ ap prev_of seen.1) in

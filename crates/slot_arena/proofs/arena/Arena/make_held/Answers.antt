@@ -1,21 +1,16 @@
-use Rattle.std.proofs.Common.{◌≡◌, ℕ, ◌+◌, ◌<◌, ◌==◌, ◌^◌, ◌∷◌, true, length, get_or, set, slice_index, All, Option, Some, None, refl, sym, ap, ◌∙◌, subst, inl, inr, arith, eq-eqb}
-use Rattle.std.proofs.lemmas.Bool.{cases_eq}
-use Rattle.std.proofs.lemmas.List.{get_or-set_same, get_or-set_other}
-use Rattle.slot_arena.specs.Refs.{ref_to, slot_of, birth_of}
+use Rattle.std.proofs.Common.{◌≡◌, ℕ, ◌+◌, ◌<◌, ◌∷◌, true, length, get_or, set, All, Some, None, refl, sym, ap, ◌∙◌, subst, arith}
+use Rattle.slot_arena.specs.Refs.{ref_to, slot_of, birth_of, most_slots}
 use Rattle.slot_arena.specs.Heaps.{Heap, refs_of_node}
-use Rattle.slot_arena.specs.Times.{times}
 use Rattle.slot_arena.specs.Tallies.{Tally, naming}
 use Rattle.slot_arena.specs.Arenas.{Contents, IsLive, NotesWaiting}
 use Rattle.slot_arena.specs.Kept.{live, IsKept}
 use Rattle.slot_arena.proofs.Live.{all_within}
 use Rattle.slot_arena.proofs.Changed.{counts_small}
-use Rattle.slot_arena.proofs.Waiting.{born, waits_by, notes_by}
-use Rattle.slot_arena.proofs.Reading.{live_seen, all_seen, taken_none, taken_first}
+use Rattle.slot_arena.proofs.Reading.{all_seen, taken_none, taken_first}
 use Rattle.slot_arena.proofs.Makes.{make_held_kept, first_unused}
-use Rattle.slot_arena.proofs.Written.{born_set, live_stays}
-use Rattle.slot_arena.proofs.Reading.{live_shown}
-use Rattle.slot_arena.proofs.Changed.{live_here}
-use Rattle.slot_arena.proofs.Live.{slot_of_ref, birth_of_ref}
+use Rattle.slot_arena.proofs.Making.{made_lives, made_notes, made_stays}
+use Rattle.slot_arena.specs.declared.nodes.Slot.{Slot}
+use Rattle.slot_arena.proofs.Live.{slot_of_ref}
 use Rattle.slot_arena.specs.declared.nodes.Prev.TheVariants as prev
 use Rattle.slot_arena.specs.Arenas.{has_birth}
 use Rattle.slot_arena.proofs.Reading.{live_is}
@@ -78,7 +73,6 @@ returns-clause-heap c =
 
 pub returns-clause-noted : goal.returns-clause-noted
 returns-clause-noted c =
-    let at : ℕ = c.in_ok-slot.slot in
     let was : Contents = record {
       heap = record { slots = c.self.inside.cells; free = c.self.inside.free.slots; births = c.self.inside.births };
       outside = c.self.inside.outside.items;
@@ -91,40 +85,30 @@ returns-clause-noted c =
       noted = c.begin.new.self.noted;
       ticks = 0;
     } in
-    let empty = first_unused c.self.inside.cells c.self.inside.tally.counts c.self.inside.free c.self.inside.used c.self.inside.outside.items c.self.invariant at c.take.new.self.slots
-    c.in_ok-slot.ensures.slots.0 in
-    let counts_are = ap (λ (t : Tally). t.counts) c.begin.ensures in
-    let sizes = c.raise_all.ensures.size ∙ c.self.invariant.sizes in
-    let below : at < length c.raise_all.new.self.counts = let is = c.self.invariant.chained in let least = c.in_ok-slot.ensures.slots.1 in omega arith in
+    let slot : Slot = record { birth = c.self.inside.births + 1; node = c.args.node; prev = prev.None } in
     subst (λ (a : Contents). NotesWaiting a now) c.self.view_is
-    (notes_by was now c.self.inside.tally.counts c.begin.new.self.counts c.self.inside.free c.take.new.self c.self.inside.used (c.self.inside.used + 1) c.self.invariant (invariant_of-self-2 c)
-    (λ k none.
-    let step = c.raise_all.ensures.noted k (sym (ap (λ (t : Tally). times k t.noted) c.begin.ensures) ∙ none) in (
-      step.0,
-      elim (cases_eq k at) [
-        | inl same ↦
-            ap (λ o. waits_by k (born o) (slice_index c.self.inside.tally.counts k == 0)) (ap (λ i. get_or c.self.inside.cells i None) same ∙ empty)
-            ∙ sym (waits_not k (born (get_or c.fill.new.self k None)) (slice_index c.begin.new.self.counts k)
-            (ap (λ cs. slice_index cs k) counts_are ∙ ap (slice_index (set c.raise_all.new.self.counts at 1)) same ∙ get_or-set_same c.raise_all.new.self.counts at 1 0 below))
-        | inr other ↦
-            ap (λ o. waits_by k o (slice_index c.self.inside.tally.counts k == 0)) (born_set c.self.inside.cells at k _ other ∙ sym (ap (λ s. born (get_or s k None)) c.fill.ensures))
-            ∙ ap (waits_by k (born (get_or c.fill.new.self k None)))
-            (step.1 ∙ sym (ap (λ n. n == 0) (ap (λ cs. slice_index cs k) counts_are ∙ get_or-set_other c.raise_all.new.self.counts at k 1 0 other)))
-      ],
-    )))
-  where
-    waits_not : (k : ℕ) (o : Option ℕ) (n : ℕ) → n ≡ 1 → waits_by k o (n == 0) ≡ None
-    waits_not k None n e = refl
-    waits_not k (Some birth) n e = ap (λ m. waits_by k (Some birth) (m == 0)) e
+    (made_notes was now c.self.inside.tally c.raise_all.new.self c.begin.new.self c.self.inside.free c.take.new.self c.self.inside.used (c.self.inside.used + 1) c.in_ok-slot.slot slot
+    c.self.invariant c.in_ok-slot.ensures.slots.0 c.fill.ensures (invariant_of-self-2 c) c.raise_all.ensures.noted refl (ap (λ (t : Tally). t.noted) c.begin.ensures)
+    (ap (λ (t : Tally). t.counts) c.begin.ensures)
+    (let is = c.self.invariant.chained in let least = c.in_ok-slot.ensures.slots.1 in omega (arith, c.raise_all.ensures.size, c.self.invariant.sizes)))
 
 pub returns-clause-stay : goal.returns-clause-stay
 returns-clause-stay c q has =
-    let slots = ap (λ (a : Contents). a.heap.slots) c.self.view_is in
-    let was : live c.self.inside.cells q ≡ true = ap (λ s. live s q) slots ∙ live_seen c.args.self.now.heap q has in
-    let empty = first_unused c.self.inside.cells c.self.inside.tally.counts c.self.inside.free c.self.inside.used c.self.inside.outside.items c.self.invariant c.in_ok-slot.slot
-    c.take.new.self.slots c.in_ok-slot.ensures.slots.0 in
-    live_shown (record { slots = c.fill.new.self; free = c.take.new.self.slots; births = c.self.inside.births + 1 }) q
-    (ap (λ s. live s q) c.fill.ensures ∙ live_stays c.self.inside.cells c.in_ok-slot.slot _ q was empty)
+    let was : Contents = record {
+      heap = record { slots = c.self.inside.cells; free = c.self.inside.free.slots; births = c.self.inside.births };
+      outside = c.self.inside.outside.items;
+      noted = c.self.inside.tally.noted;
+      ticks = c.self.inside.free.ticks + c.self.inside.tally.ticks;
+    } in
+    let now : Contents = record {
+      heap = record { slots = c.fill.new.self; free = c.take.new.self.slots; births = c.self.inside.births + 1 };
+      outside = c.with_first-self-inside.result.items;
+      noted = c.begin.new.self.noted;
+      ticks = 0;
+    } in
+    let slot : Slot = record { birth = c.self.inside.births + 1; node = c.args.node; prev = prev.None } in
+    made_stays was now c.self.inside.tally c.raise_all.new.self c.begin.new.self c.self.inside.free c.take.new.self c.self.inside.used (c.self.inside.used + 1) c.in_ok-slot.slot slot
+    c.self.invariant c.in_ok-slot.ensures.slots.0 c.fill.ensures q (subst (λ (a : Contents). IsLive a.heap q) (sym c.self.view_is) has)
 
 pub returns-in_err-slot-clause-stay : goal.returns-in_err-slot-clause-stay
 returns-in_err-slot-clause-stay c q has = subst (λ (h : Heap).
@@ -132,20 +116,28 @@ returns-in_err-slot-clause-stay c q has = subst (λ (h : Heap).
 
 pub returns-clause-lives : goal.returns-clause-lives
 returns-clause-lives c =
-    let k : ℕ = c.in_ok-slot.slot in
-    let b : ℕ = c.self.inside.births + 1 in
-    let small : k < 2 ^ 16 = let few = c.self.invariant.few in let is = c.self.invariant.chained in let below = c.in_ok-slot.ensures.slots.1 in omega arith in
-    let within : k < length c.self.inside.cells = let is = c.self.invariant.chained in let below = c.in_ok-slot.ensures.slots.1 in omega arith in
-    live_shown (record { slots = c.fill.new.self; free = c.take.new.self.slots; births = b }) c.new-made.result
-    (ap (λ r. live c.fill.new.self r) c.new-made.ensures ∙ ap (λ s. live s (ref_to b k)) c.fill.ensures
-    ∙ live_here c.self.inside.cells k (Some (record { birth = b; node = c.args.node; prev = prev.None })) (ref_to b k) within (slot_of_ref b k small)
-    ∙ eq-eqb b (birth_of (ref_to b k)) (sym (birth_of_ref b k small)))
+    let was : Contents = record {
+      heap = record { slots = c.self.inside.cells; free = c.self.inside.free.slots; births = c.self.inside.births };
+      outside = c.self.inside.outside.items;
+      noted = c.self.inside.tally.noted;
+      ticks = c.self.inside.free.ticks + c.self.inside.tally.ticks;
+    } in
+    let now : Contents = record {
+      heap = record { slots = c.fill.new.self; free = c.take.new.self.slots; births = c.self.inside.births + 1 };
+      outside = c.with_first-self-inside.result.items;
+      noted = c.begin.new.self.noted;
+      ticks = 0;
+    } in
+    let slot : Slot = record { birth = c.self.inside.births + 1; node = c.args.node; prev = prev.None } in
+    subst (λ r. IsLive now.heap r) (sym c.new-made.ensures)
+    (made_lives was now c.self.inside.tally c.raise_all.new.self c.begin.new.self c.self.inside.free c.take.new.self c.self.inside.used (c.self.inside.used + 1) c.in_ok-slot.slot slot
+    c.self.invariant c.in_ok-slot.ensures.slots.0 c.fill.ensures c.in_ok-slot.ensures.slots.1)
 
 pub returns-clause-fresh : goal.returns-clause-fresh
 returns-clause-fresh c =
     let k : ℕ = c.in_ok-slot.slot in
     let b : ℕ = c.self.inside.births + 1 in
-    let small : k < 2 ^ 16 = let few = c.self.invariant.few in let is = c.self.invariant.chained in let below = c.in_ok-slot.ensures.slots.1 in omega arith in
+    let small : k < most_slots = let few = c.self.invariant.few in let is = c.self.invariant.chained in let below = c.in_ok-slot.ensures.slots.1 in omega arith in
     let empty = first_unused c.self.inside.cells c.self.inside.tally.counts c.self.inside.free c.self.inside.used c.self.inside.outside.items c.self.invariant k c.take.new.self.slots
     c.in_ok-slot.ensures.slots.0 in
     live_is c.args.self.now.heap c.new-made.result ∙ ap (λ (a : Contents). live a.heap.slots c.new-made.result) (sym c.self.view_is) ∙ ap (live c.self.inside.cells) c.new-made.ensures

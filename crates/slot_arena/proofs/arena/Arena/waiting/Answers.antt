@@ -1,5 +1,5 @@
-use Rattle.std.proofs.Common.{◌<◌, ◌^◌, get_or, Some, None, inl, inr, sym, ap, ◌∙◌, arith}
-use Rattle.slot_arena.specs.Refs.{slot_of}
+use Rattle.std.proofs.Common.{◌<◌, length, get_or, Some, None, inl, inr, sym, ap, ◌∙◌, arith}
+use Rattle.slot_arena.specs.Refs.{slot_of, most_slots}
 use Rattle.slot_arena.specs.Heaps.{Heap}
 use Rattle.slot_arena.specs.Cells.{birth_of_slot}
 use Rattle.slot_arena.specs.Arenas.{Contents, waiting}
@@ -30,7 +30,8 @@ returns-clause-waiting c =
 
 pub returns-clause-live : goal.returns-clause-live
 returns-clause-live c =
-    let small : c.args.slot < 2 ^ 16 = omega arith in (
+    let few = c.self.invariant.few in
+    let small : c.args.slot < most_slots = omega (arith, ap (λ (a : Contents). length a.heap.slots) c.self.view_is) in (
       ap slot_of c.new.ensures ∙ slot_of_ref c.birth-birth.result c.args.slot small,
       live_shown c.args.self.now.heap c.new.result
           (ap (λ r. live c.args.self.now.heap.slots r) c.new.ensures

@@ -6,12 +6,12 @@ use Rattle.slot_arena.proofs.Parts.{within, used_within, prev_found}
 use Rattle.slot_arena.proofs.cells.Cells.prev.Goals as goal
 
 pub index-requires : goal.index-requires
-index-requires c = let parts = within c.self.inside.births.items c.self.inside.nodes.items c.self.inside.prevs.items c.args.slot
-    (used_within (slots_from c.self.inside.births.items c.self.inside.nodes.items c.self.inside.prevs.items) c.args.slot
+index-requires c = let parts = within c.self.inside.births.items c.self.inside.nodes c.self.inside.prevs.items c.args.slot
+    (used_within (slots_from c.self.inside.births.items c.self.inside.nodes c.self.inside.prevs.items) c.args.slot
     (subst (λ (s : List (Option Slot)). IsSome (get_or s c.args.slot None)) (sym c.self.view_is) c.requires)) in omega arith
 
 pub returns : goal.returns
 returns c =
-    c.index.ensures ∙ prev_found c.self.inside.births.items c.self.inside.nodes.items c.self.inside.prevs.items c.args.slot c.index.result.now
+    c.index.ensures ∙ prev_found c.self.inside.births.items c.self.inside.nodes c.self.inside.prevs.items c.args.slot c.index.result.now
     (subst (λ (s : List (Option Slot)). IsSome (get_or s c.args.slot None)) (sym c.self.view_is) c.requires)
     ∙ ap (λ (s : List (Option Slot)). prev_of (get_or s c.args.slot None)) c.self.view_is

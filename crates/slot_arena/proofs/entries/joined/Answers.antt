@@ -1,7 +1,7 @@
 use Rattle.std.proofs.Common.{◌≡◌, ◌++◌, arith, ap, ◌∙◌}
 use Rattle.std.proofs.lemmas.Grind.{common_steps}
-use Rattle.nodes.proofs.Parts.{three}
-use Rattle.nodes.proofs.entries.joined.Goals as goal
+use Rattle.slot_arena.proofs.Joining.{three}
+use Rattle.slot_arena.proofs.entries.joined.Goals as goal
 
 pub returns-clause-entries : goal.returns-clause-entries
 returns-clause-entries c =

@@ -1,0 +1,67 @@
+//! The entries of a branch, and changes of them.
+
+ghost use Rattle.std.specs.Prelude.{◌≡◌, ◌+◌, ◌<◌, ◌≤◌, ◌++◌, length};
+ghost use Rattle.slot_arena.specs.Heaps.{entries_from};
+ghost use Rattle.slot_arena.specs.Entries.{Fits, coming, entries_after};
+
+use crate::refs::Ref;
+use arrayvec::ArrayVec;
+use std::slice::from_ref;
+
+/// How many entries a node has room for.
+pub const MOST_ENTRIES: usize = 32;
+
+/// The entries of a branch, or the singles of a list.
+pub type Entries = ArrayVec<Ref, MOST_ENTRIES>;
+
+/// A change of one entry of a branch.
+#[derive(Clone, Copy, Debug)]
+pub enum EntryChange {
+    /// Another entry at this position.
+    Set { position: usize, entry: Ref },
+    /// An entry more at this position.
+    Insert { position: usize, entry: Ref },
+    /// The entry at this position goes.
+    Remove { position: usize },
+}
+
+impl EntryChange {
+    /// The entry that comes, if one does.
+    #[inline(always)]
+    pub(crate) fn coming(&self) -> &[Ref]
+        ensures { result.now ≡ coming self.now }
+    {
+        match self {
+            EntryChange::Set { entry, .. } | EntryChange::Insert { entry, .. } => from_ref(entry),
+            EntryChange::Remove { .. } => &[],
+        }
+    }
+
+    /// The entries that stay, in front of the position and behind it.
+    #[inline(always)]
+    pub(crate) fn staying<'a>(&self, entries: &'a [Ref]) -> (&'a [Ref], &'a [Ref])
+        requires { Fits self.now entries.now }
+        ensures { result.0.now ++ coming self.now ++ result.1.now ≡ entries_after self.now entries.now }
+    {
+        match *self {
+            EntryChange::Set { position, .. } | EntryChange::Remove { position } => {
+                (&entries[..position], &entries[position + 1..])
+            }
+            EntryChange::Insert { position, .. } => (&entries[..position], &entries[position..]),
+        }
+    }
+}
+
+/// The references of three slices, one behind the other, as entries.
+#[inline(always)]
+pub fn joined(front: &[Ref], middle: &[Ref], back: &[Ref]) -> Entries
+    requires { length front.now + length middle.now + length back.now ≤ 32 }
+    ensures entries { result ≡ entries_from (front.now ++ middle.now ++ back.now) }
+    ensures all { result.items ≡ front.now ++ middle.now ++ back.now }
+{
+    let mut entries = ArrayVec::new();
+    let _ = entries.try_extend_from_slice(front);
+    let _ = entries.try_extend_from_slice(middle);
+    let _ = entries.try_extend_from_slice(back);
+    entries
+}

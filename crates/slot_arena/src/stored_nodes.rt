@@ -1,0 +1,158 @@
+//! The nodes of the slots: what is small stands in a cell for each slot, and the entries of branches and lists in rows of a pool.
+
+ghost use Rattle.std.specs.Prelude.{◌≡◌, ◌<◌, length, replicate, slice_index_or, slice_set, IfOk};
+ghost use Rattle.slot_arena.specs.Heaps.{empty_branch, with_main_word};
+ghost use Rattle.slot_arena.specs.Pools.{CanGiveBack, CanPut, IsPlaced, given_back, no_node, with_main_cell};
+ghost use Rattle.slot_arena.specs.Views.{viewed};
+
+use crate::nodes::{Node, NodeRef};
+use crate::refs::Ref;
+use crate::rows::Rows;
+use std::alloc::{AllocError, Global};
+use std::marker::Model;
+
+/// A node, with the row of its entries in place of these.
+#[derive(Clone, Copy)]
+pub(crate) enum Cell {
+    Indirection { generation: u64, main: Ref },
+    Branch { bitmap: u32, row: u32 },
+    Single { key: u64, value: u64 },
+    Tomb { single: Ref },
+    List { row: u32 },
+}
+
+const _: () = prove!(size_of::<Cell>() == 24);
+
+/// What stands in a slot without a node.
+const NO_NODE: Cell = Cell::Single { key: 0, value: 0 };
+
+/// A node for each slot. Each row is that of one cell, or spare.
+pub(crate) struct StoredNodes {
+    cells: Vec<Cell>,
+    rows: Rows,
+}
+
+impl Drop for StoredNodes {
+    fn drop(self) {
+        let StoredNodes { cells: _, rows: _ } = self;
+    }
+}
+
+impl Model for StoredNodes {
+    ghost use Rattle.std.specs.Prelude.{List, map};
+    ghost use Rattle.slot_arena.specs.declared.nodes.Node.{Node};
+    ghost use Rattle.slot_arena.specs.Pools.{HasRows, node_in};
+
+    ghost Value = { List Node };
+
+    ghost view = { λ n. map (node_in n.rows.rows) n.cells.items };
+
+    ghost invariant = { λ n. HasRows n.cells.items n.rows };
+}
+
+impl StoredNodes {
+    /// So many slots, each without a node.
+    pub(crate) fn new(alloc: Global, slots: u32) -> Result<StoredNodes, AllocError>
+        ensures { IfOk result (λ nodes. nodes ≡ replicate slots no_node) }
+    {
+        Ok(StoredNodes {
+            cells: vec![in alloc; NO_NODE; slots as usize]?,
+            rows: Rows::new(alloc, slots)?,
+        })
+    }
+
+    /// The node of a slot.
+    pub(crate) fn get(&self, slot: u32) -> NodeRef<'_>
+        requires { slot < length self.now }
+        ensures { viewed result ≡ slice_index_or self.now slot empty_branch }
+    {
+        match &self.cells[slot as usize] {
+            Cell::Indirection { generation, main } => NodeRef::Indirection {
+                generation: *generation,
+                main,
+            },
+            Cell::Branch { bitmap, row } => NodeRef::Branch {
+                bitmap: *bitmap,
+                entries: self.rows.get(*row),
+            },
+            Cell::Single { key, value } => NodeRef::Single {
+                key: *key,
+                value: *value,
+            },
+            Cell::Tomb { single } => NodeRef::Tomb { single },
+            Cell::List { row } => NodeRef::List {
+                singles: self.rows.get(*row),
+            },
+        }
+    }
+
+    /// Puts a node into a slot, in place of what stands there.
+    #[inline(always)]
+    pub(crate) fn put(&mut self, slot: u32, node: Node)
+        requires { slot < length self.old }
+        ensures { self.new ≡ slice_set self.old slot node }
+    {
+        let before = self.cells[slot as usize];
+        give_back(&mut self.rows, before);
+        self.cells[slot as usize] = place(&mut self.rows, node);
+    }
+
+    /// Takes the node out of a slot.
+    pub(crate) fn clear(&mut self, slot: u32)
+        requires { slot < length self.old }
+        ensures { self.new ≡ slice_set self.old slot no_node }
+    {
+        let before = self.cells[slot as usize];
+        give_back(&mut self.rows, before);
+        self.cells[slot as usize] = NO_NODE;
+    }
+
+    /// Changes the main word of an indirection.
+    pub(crate) fn set_main(&mut self, slot: u32, main: Ref)
+        requires { slot < length self.old }
+        ensures { self.new ≡ slice_set self.old slot (with_main_word main (slice_index_or self.old slot empty_branch)) }
+    {
+        set_main_word(&mut self.cells[slot as usize], main);
+    }
+}
+
+/// Changes the main word of an indirection.
+fn set_main_word(cell: &mut Cell, word: Ref)
+    ensures { cell.new ≡ with_main_cell word cell.old }
+{
+    if let Cell::Indirection { main, .. } = cell {
+        *main = word;
+    }
+}
+
+/// A cell for a node, whose entries are put into a row.
+#[inline(always)]
+fn place(rows: &mut Rows, node: Node) -> Cell
+    requires { CanPut rows.old }
+    ensures { IsPlaced rows.old node result rows.new }
+{
+    match node {
+        Node::Indirection { generation, main } => Cell::Indirection { generation, main },
+        Node::Branch { bitmap, entries } => Cell::Branch {
+            bitmap,
+            row: rows.put(entries),
+        },
+        Node::Single { key, value } => Cell::Single { key, value },
+        Node::Tomb { single } => Cell::Tomb { single },
+        Node::List { singles } => Cell::List {
+            row: rows.put(singles),
+        },
+    }
+}
+
+/// The row of a cell that goes, if it has one, is spare from now on.
+#[inline(always)]
+fn give_back(rows: &mut Rows, cell: Cell)
+    requires { CanGiveBack cell rows.old }
+    ensures { rows.new ≡ given_back cell rows.old }
+{
+    match cell {
+        Cell::Branch { row, .. } | Cell::List { row } => rows.give_back(row),
+        _ => {}
+    }
+}
