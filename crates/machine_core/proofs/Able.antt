@@ -42,6 +42,7 @@ use Rattle.machine_core.specs.Seen.{operation_at}
 use Rattle.proof_records.specs.Laws.{LineHasRoom, MakesNode}
 use Rattle.machine_core.proofs.Claims.{Lives, read_claims, root_live}
 use Rattle.machine_core.proofs.Conditions.{Finds, IsLineOf, can_key, can_copy, can_walk, met, told}
+use Rattle.slot_arena.specs.Refs.{birth_limit}
 
 -- ---- the line of a program that runs
 
@@ -133,7 +134,7 @@ pub can_step : (state : State) (memory : Memory) (table : Table) (generation : �
     let operation = operation_at table p u in
     Lives memory.heap (line_wants there.limits.hash operation.call operation.access operation.line) → Lives memory.heap (action_wants (action_of there operation)) →
     LineHasRoom operation.line → (MakesNode (action_of there operation) → length operation.private < 33) →
-    IsSound u.program p → IsReadyBeside memory table.roots p.key.work.private → memory.heap.births + 1 < 2 ^ 48 → p.copy.attempt < 2 ^ 64 - 1 → generation < 2 ^ 64 - 1 →
+    IsSound u.program p → IsReadyBeside memory table.roots p.key.work.private → memory.heap.births + 1 < birth_limit → p.copy.attempt < 2 ^ 64 - 1 → generation < 2 ^ 64 - 1 →
     CanStep (scene memory table generation p) u.program
 can_step state memory table generation p u line action room makes sound ready births attempts generations =
     let there : State = at_scene state (scene memory table generation p) in

@@ -71,7 +71,7 @@ can_there parts actor u h kept seat =
       held = λ r. private_held parts.heap parts.table.roots (seen parts).actors actor operation kept.tied at r;
       room = λ r. omega (arith, few_held parts.heap (seen parts) h kept.tied r);
     })
-    (omega (arith, bounds.births, bounds.steps))
+    (omega (arith, bounds.births, bounds.steps, bounds.slots))
     (omega (arith, attempt, bounds.steps))
     (omega (arith, bounds.generations, bounds.steps))
 

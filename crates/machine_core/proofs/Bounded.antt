@@ -1,5 +1,5 @@
 -- The numbers of a machine are bounded along each run.
-use Rattle.std.proofs.Common.{◌≡◌, ℕ, ◌+◌, ◌≤◌, false, List, [], ◌∷◌, ◌++◌, Option, Some, None, Ok, refl, sym, ap, ◌∙◌, subst, arith, leb-false, map}
+use Rattle.std.proofs.Common.{◌≡◌, ℕ, ◌+◌, ◌*◌, ◌≤◌, false, length, List, [], ◌∷◌, ◌++◌, Option, Some, None, Ok, refl, sym, ap, ◌∙◌, subst, arith, leb-false, map}
 use Rattle.history.specs.declared.calls.Call.{Call}
 use Rattle.slot_arena.specs.declared.refs.Ref.{Ref}
 use Rattle.slot_arena.specs.declared.nodes.Node.{Node}
@@ -11,11 +11,13 @@ use Rattle.machine_model.specs.declared.steps.Outcome.{Outcome}
 use Rattle.machine_model.specs.declared.steps.Step.{Step}
 use Rattle.machine_model.specs.declared.steps.Step.TheVariants as step
 use Rattle.machine_model.specs.Calls.{handle_of}
-use Rattle.slot_arena.specs.Heaps.{Heap, empty_branch, with_main, taken, take_from, freed}
+use Rattle.std.proofs.lemmas.List.FromFn.{length-range_with_len}
+use Rattle.slot_arena.specs.Heaps.{Heap, empty_branch, with_main, with_prev, taken, take_from, freed}
 use Rattle.slot_arena.specs.Refs.{ref_to}
 use Rattle.slot_arena.specs.declared.nodes.Node.TheVariants.{Indirection}
 use Rattle.machine_model.specs.States.{State, empty_heap, first_state}
 use Rattle.machine_model.specs.Operations.{action_of}
+use Rattle.slot_arena.specs.declared.nodes.Prev.{Prev}
 use Rattle.slot_arena.specs.declared.nodes.Prev.TheVariants as prev
 use Rattle.epochs.specs.Sweeping.{Reclaimer, ripe, sweep_by}
 use Rattle.machine_model.specs.Acting.{acted, new_root_taken, attempt_after, operation_after}
@@ -28,8 +30,6 @@ use Rattle.machine_model.proofs.HeapMoves.{HeapMoves, Stays, Takes, Publishes, R
 use Rattle.machine_model.specs.Moves.{Begins, Goes, Ends, Sweeps}
 use Rattle.machine_model.specs.Moves.{Moves, begun_operation}
 use Rattle.machine_model.proofs.Slots.{sound_along}
-use Rattle.machine_core.specs.Beneath.proof_memory.proofs.Heap.Effects.{births_prev}
-use Rattle.machine_core.specs.Beneath.proof_memory.proofs.Heap.Under.{main_births}
 use Rattle.machine_core.specs.Beneath.proof_memory.proofs.Safety.Steps.{gone_epoch}
 use Rattle.machine_core.specs.Beneath.proof_generations.proofs.Counter.Drawn.{aborted_generations, completed_generations, offered_generations}
 use Rattle.machine_core.specs.Bounds.{IsBounded}
@@ -61,10 +61,6 @@ steps_after state s o after m =
 
 -- ---- births
 
-freed_births : (heap : Heap) (r : Ref) → (freed heap r).births ≡ heap.births
-unfolding freed
-freed_births heap r = refl
-
 -- taking a slot draws at most one
 take_births : (heap : Heap) (node : Node) (free : List ℕ) → (take_from heap node free).births ≤ heap.births + 1
 take_births heap node [] = omega arith
@@ -77,15 +73,40 @@ taken_births heap node = take_births heap node heap.free
 pub taken_most : (before after : Heap) (node : Node) → after ≡ taken before node → after.births ≤ before.births + 1
 taken_most before after node is = omega (arith, ap (λ (h : Heap). h.births) is, taken_births before node)
 
--- a step draws at most one
-heap_births : (heap : Heap) (due : Option Ref) (after : Heap) → HeapMoves heap due after → after.births ≤ heap.births + 1
-heap_births heap due after Stays = omega arith
-heap_births heap due after (Takes node) = taken_births heap node
-heap_births heap due after (Publishes indirection replaced fresh e) = omega (arith, births_prev (with_main heap indirection fresh) fresh (prev.Pending replaced), main_births heap indirection fresh)
-heap_births heap due after (Restores indirection main previous e) = omega (arith, main_births heap indirection previous)
-heap_births heap due after (Commit indirection main previous told e) = omega (arith, births_prev heap main prev.None)
-heap_births heap due after (Fail indirection main previous told e) = omega (arith, births_prev heap main (prev.Failed previous))
-heap_births heap due after (Frees r e) = omega (arith, freed_births heap r)
+-- what a step that draws a birth adds to, and one that frees a slot
+abbrev turnover : Heap → ℕ
+turnover heap = 2 * heap.births + length heap.free
+
+main_turnover : (heap : Heap) (r m : Ref) → turnover (with_main heap r m) ≡ turnover heap
+unfolding with_main
+main_turnover heap r m = refl
+
+prev_turnover : (heap : Heap) (r : Ref) (p : Prev) → turnover (with_prev heap r p) ≡ turnover heap
+unfolding with_prev
+prev_turnover heap r p = refl
+
+freed_turnover : (heap : Heap) (r : Ref) → turnover (freed heap r) ≡ turnover heap + 1
+unfolding freed
+freed_turnover heap r = omega arith
+
+take_turnover : (heap : Heap) (node : Node) (free : List ℕ) → heap.free ≡ free → turnover (take_from heap node free) ≤ turnover heap + 1
+take_turnover heap node [] is = omega arith
+take_turnover heap node (slot ∷ free) is = omega (arith, ap length is)
+
+taken_turnover : (heap : Heap) (node : Node) → turnover (taken heap node) ≤ turnover heap + 1
+unfolding taken
+taken_turnover heap node = take_turnover heap node heap.free refl
+
+-- a step draws a birth, and takes a slot for it, or frees a slot, or does neither
+heap_turnover : (heap : Heap) (due : Option Ref) (after : Heap) → HeapMoves heap due after → turnover after ≤ turnover heap + 1
+heap_turnover heap due after Stays = omega arith
+heap_turnover heap due after (Takes node) = taken_turnover heap node
+heap_turnover heap due after (Publishes indirection replaced fresh e) =
+    omega (arith, prev_turnover (with_main heap indirection fresh) fresh (prev.Pending replaced), main_turnover heap indirection fresh)
+heap_turnover heap due after (Restores indirection main previous e) = omega (arith, main_turnover heap indirection previous)
+heap_turnover heap due after (Commit indirection main previous told e) = omega (arith, prev_turnover heap main prev.None)
+heap_turnover heap due after (Fail indirection main previous told e) = omega (arith, prev_turnover heap main (prev.Failed previous))
+heap_turnover heap due after (Frees r e) = omega (arith, freed_turnover heap r)
 
 -- ---- generations
 
@@ -182,7 +203,7 @@ few_attempts limits =
 record Grows (limits : Bounds) (state : State) : Type 0 where
   limits_same : state.limits ≡ limits
   steps : state.steps ≤ limits.steps
-  births : state.heap.births ≤ state.steps + 2
+  births : turnover state.heap ≤ state.steps + limits.slots + 2
   generations : state.generations ≤ state.steps + 1
   epoch : state.epoch ≤ state.steps
   begins : state.begun ≤ state.steps
@@ -193,8 +214,9 @@ unfolding first_state
 grows_at_first limits = record {
   limits_same = refl;
   steps = omega arith;
-  births = let once = taken_births (empty_heap limits.slots) empty_branch in
-      let twice = taken_births (taken (empty_heap limits.slots) empty_branch) (Indirection 0 (ref_to 1 0)) in omega (arith, once, twice);
+  births = let once = taken_turnover (empty_heap limits.slots) empty_branch in
+      let twice = taken_turnover (taken (empty_heap limits.slots) empty_branch) (Indirection 0 (ref_to 1 0)) in
+      omega (arith, once, twice, length-range_with_len 0 limits.slots);
   generations = omega arith;
   epoch = omega arith;
   begins = omega arith;
@@ -208,7 +230,7 @@ grows_after limits state s o after m h =
     record {
       limits_same = same ∙ h.limits_same;
       steps = omega (arith, steps_after state s o after m, ap (λ (l : Bounds). l.steps) (same ∙ h.limits_same));
-      births = omega (arith, heap_births state.heap (ripe state.epoch state.limbo) after.heap (heap_moves state s o after m), h.births, counted);
+      births = omega (arith, heap_turnover state.heap (ripe state.epoch state.limbo) after.heap (heap_moves state s o after m), h.births, counted);
       generations = omega (arith, generations_after state s o after m, h.generations, counted);
       epoch = omega (arith, epoch_after state s o after m, h.epoch, counted);
       begins = omega (arith, begins_after state s o after m, one_if_begin_most s, h.begins, counted);
@@ -226,7 +248,7 @@ bounded_along limits ok steps =
     record {
       slots = omega (arith, sound.heap.size, ok.1);
       steps = omega (arith, h.steps, ok.4);
-      births = h.births;
+      births = omega (arith, h.births, sound.heap.size);
       generations = h.generations;
       epoch = h.epoch;
       attempts = λ actor operation is. of_running FewAttempts (run limits steps) (few_attempts limits steps) actor operation is;

@@ -1,5 +1,5 @@
 -- A call that is carried out at once comes to what its steps come to.
-use Rattle.std.proofs.Common.{arith, ◌≡◌, ℕ, ◌+◌, ◌*◌, ◌<◌, ◌≤◌, ◌^◌, false, true, Option, List, [], Some, None, refl, sym, ap, ◌∙◌, subst}
+use Rattle.std.proofs.Common.{arith, ◌≡◌, ℕ, ◌+◌, ◌*◌, ◌<◌, ◌≤◌, ◌^◌, true, Option, List, [], Some, None, Ok, refl, sym, ap, ◌∙◌, subst}
 use Rattle.history.specs.declared.calls.Call.{Call}
 use Rattle.history.specs.declared.replies.Reply.{Reply}
 use Rattle.slot_arena.specs.declared.refs.Ref.{Ref}
@@ -14,7 +14,7 @@ use Rattle.machine_model.specs.Calls.{changed_reply, inserts, key_of, when_found
 use Rattle.machine_model.specs.declared.finding.WhenFound.TheVariants.{Removes}
 use Rattle.machine_model.specs.Counting.{outside}
 use Rattle.machine_model.specs.Keys.{FitsKey}
-use Rattle.machine_model.specs.Machine.{begin_denial, is_busy}
+use Rattle.machine_model.specs.declared.steps.Outcome.TheVariants.{Ended}
 use Rattle.machine_model.specs.Records.{first_record}
 use Rattle.machine_model.specs.States.{State, key_hash}
 use Rattle.proof_straight.specs.Changes.{parts_at, with_change, with_pair, with_single}
@@ -40,15 +40,15 @@ use Rattle.machine_core.specs.Drafting.{CanSwap, IsDraft, KeepsRecords}
 use Rattle.machine_core.specs.Keeping.{IsCore, IsKept}
 use Rattle.machine_core.specs.Pairing.{IsPaired}
 use Rattle.machine_core.specs.Seen.{seen}
-use Rattle.machine_core.specs.Straight.{CarriesBy, CarriesOut, IsClear}
-use Rattle.machine_core.proofs.AtRest.{can_swap_there, entry_lives, ready_at}
+use Rattle.machine_core.specs.Straight.{CanGo, CarriesFrom, CarriesOut, IsFit, LeadsTo}
+use Rattle.machine_core.proofs.Tries.{can_swap_there, entry_lives}
 use Rattle.machine_core.proofs.Bounded.{taken_run}
 use Rattle.machine_core.proofs.Ends.{alike}
 use Rattle.machine_core.proofs.Kept.{kept_alike}
 
 -- ---- a run leads to what a call comes to
 
-goes_run : (state : State) (actor : ℕ) (call : Call) (n : ℕ) (now : State) → IsOfRun state → FitsKey (step.Begin actor call) → GoesOn state actor call n now → IsOfRun now
+pub goes_run : (state : State) (actor : ℕ) (call : Call) (n : ℕ) (now : State) → IsOfRun state → FitsKey (step.Begin actor call) → GoesOn state actor call n now → IsOfRun now
 goes_run state actor call n now run fits (starts is) = taken_run state now (step.Begin actor call) _ is fits run
 goes_run state actor call n now run fits (walks {n = m} {before} earlier is) = taken_run before now (step.Go actor) _ is tt (goes_run state actor call m before run fits earlier)
 
@@ -59,14 +59,17 @@ comes_run state actor call n answer after run fits h = taken_run h.last after (s
 -- ---- the parts
 
 -- the heap at rest has come as far as a call that makes its first change
-pub first_drafted : (parts : Parts) → IsCore parts → IsDraft (seen parts) (first_draft (seen parts)) parts.heap
-first_drafted parts core = record {
+pub drafted_first : (parts : Parts) → IsKept parts → parts.heap.noted ≡ [] → IsDraft (seen parts) (first_draft (seen parts)) parts.heap
+drafted_first parts kept settled = record {
   heap = refl;
   limbo = refl;
-  held = λ r. omega (arith, ap (λ n. n) (alike parts.heap (seen parts) core.kept.tied r), times-append r (outside (seen parts)) []);
+  held = λ r. omega (arith, ap (λ n. n) (alike parts.heap (seen parts) kept.tied r), times-append r (outside (seen parts)) []);
   epoch = refl;
-  settled = core.settled;
+  settled = settled;
 }
+
+pub first_drafted : (parts : Parts) → IsCore parts → IsDraft (seen parts) (first_draft (seen parts)) parts.heap
+first_drafted parts core = drafted_first parts core.kept core.settled
 
 -- the parts over this heap, behind a call of so many steps
 abbrev pub counted : Parts → Memory → ℕ → Parts
@@ -86,9 +89,11 @@ state_over state draft memory n is same = rw (is.heap, is.limbo, is.epoch, same)
 seen_then : (before : Parts) (memory : Memory) (draft : Draft) (n : ℕ) → ComesAsFar before memory draft → seen (counted before memory n) ≡ after_call (seen before) draft n
 seen_then before memory draft n to = state_over (seen before) draft memory n to.draft_is to.records.0
 
-kept_then : (before : Parts) (memory : Memory) (draft : Draft) (n : ℕ) → IsCore before → ComesAsFar before memory draft → IsKept (counted before memory n)
-kept_then before memory draft n core to =
-    kept_alike before (counted before memory n) (record {
+-- over such a heap all is kept, however many operations have begun and steps were taken
+pub kept_over : (before : Parts) (memory : Memory) (draft : Draft) (begun steps : ℕ) → IsKept before → ComesAsFar before memory draft →
+    IsKept (record before { heap = memory; begun = begun; steps = steps })
+kept_over before memory draft begun steps kept to =
+    kept_alike before (record before { heap = memory; begun = begun; steps = steps }) (record {
       limits = refl;
       table = refl;
       actors = refl;
@@ -97,33 +102,36 @@ kept_then before memory draft n core to =
         arith,
         to.draft_is.held r,
         ap (λ (held : List Ref). times r (held_with (seen before) held)) to.private,
-        alike before.heap (seen before) core.kept.tied r,
+        alike before.heap (seen before) kept.tied r,
         times-append r (outside (seen before)) [],
       );
       pins = to.records.1;
-    }) core.kept
+    }) kept
 
--- the call is carried out, in so many steps between its begin and its end
-pub carried : (before after : Parts) (memory : Memory) (draft : Draft) (actor : ℕ) (call : Call) (n all : ℕ) (reply : Reply) → ComesAsFar before memory draft →
-    after ≡ counted before memory all → all ≡ n + 2 → Comes (seen before) actor call n reply (after_call (seen before) draft (n + 2)) →
-    CarriesOut (seen before) actor call reply (seen after)
-carried before after memory draft actor call n all reply to is many comes =
-    (n, subst (Comes (seen before) actor call n reply) (sym (ap seen (is ∙ ap (counted before memory) many) ∙ seen_then before memory draft (n + 2) to)) comes)
+-- what the call comes to from the second state it comes to from the start
+comes_from : (start now : State) (actor : ℕ) (call : Call) (depth n : ℕ) (answer : Reply) (after : State) → LeadsTo start now actor call depth → 4 * depth + 3 ≤ n →
+    Comes now actor call n answer after → CarriesOut start actor call answer after
+comes_from start now actor call depth n answer after to long h =
+    let (m, longer, goes) = to.passes n h.last long h.goes in (m, record { last = h.last; goes = goes; ends = h.ends ∙ ap (λ id. Ok (Ended id answer, after)) to.begun })
 
--- and leaves a core
-pub core_then : (before after : Parts) (memory : Memory) (draft : Draft) (actor : ℕ) (call : Call) (n all : ℕ) (reply : Reply) → IsCore before → FitsKey (step.Begin actor call) →
-    ComesAsFar before memory draft → after ≡ counted before memory all → all ≡ n + 2 → Comes (seen before) actor call n reply (after_call (seen before) draft (n + 2)) → IsCore after
-core_then before after memory draft actor call n all reply core fits to is many comes =
-    subst IsCore (sym (is ∙ ap (counted before memory) many)) (record {
-      run = subst IsOfRun (sym (seen_then before memory draft (n + 2) to)) (comes_run (seen before) actor call n reply _ core.run fits comes);
-      kept = kept_then before memory draft (n + 2) core to;
-      settled = to.draft_is.settled;
-    })
+-- the call is carried out, in so many steps between its begin and its end, and leaves a core
+pub carried : (start : State) (before after : Parts) (memory : Memory) (draft : Draft) (actor : ℕ) (call : Call) (depth n all : ℕ) (reply : Reply) → IsKept before →
+    LeadsTo start (seen before) actor call depth → FitsKey (step.Begin actor call) → ComesAsFar before memory draft → after ≡ counted before memory all → all ≡ n + 2 → 4 * depth + 3 ≤ n →
+    Comes (seen before) actor call n reply (after_call (seen before) draft (n + 2)) → CarriesFrom start actor call reply after
+carried start before after memory draft actor call depth n all reply kept leads fits to is many long comes =
+    let (m, so) = comes_from start (seen before) actor call depth n reply (after_call (seen before) draft (n + 2)) leads long comes in
+    let counts : after ≡ counted before memory (n + 2) = is ∙ ap (counted before memory) many in (
+      (m, subst (Comes start actor call m reply) (sym (ap seen counts ∙ seen_then before memory draft (n + 2) to)) so),
+      subst IsCore (sym counts) (record {
+        run = subst IsOfRun (sym (seen_then before memory draft (n + 2) to)) (comes_run start actor call m reply _ leads.run fits so);
+        kept = kept_over before memory draft (before.begun + 1) (before.steps + (n + 2)) kept to;
+        settled = to.draft_is.settled;
+      }),
+    )
 
 -- ---- a single that is put where the way down ends
 
-module _ (state : State) (actor : ℕ) (call : Call) (root : Ref) (run : IsOfRun state) (rest : is_busy state ≡ false) (allowed : begin_denial state actor call ≡ None)
-    (clear : IsClear state call root) (keyed : IsKeyed call) where
+module _ (state : State) (actor : ℕ) (call : Call) (root : Ref) (can : CanGo state actor call root 0) (keyed : IsKeyed call) where
   abbrev EndsOf : Place → Type 0
   EndsOf place = EndsAt state.heap root (key_hash state (key_of call)) (key_of call) place
 
@@ -136,8 +144,8 @@ module _ (state : State) (actor : ℕ) (call : Call) (root : Ref) (run : IsOfRun
 
   pub can_swap_at : (place : Place) (nodes : ℕ) → EndsOf place → nodes ≤ 32 → CanSwap state.heap place.indirection place.main nodes
   can_swap_at place nodes ends few =
-      can_swap_there state run Writable (key_hash state (key_of call)) root place.depth place.indirection place.main ends.here.bitmap ends.here.entries nodes actor call allowed clear.word
-      (ends.leads Writable) ends.main ends.here.branch (omega (arith, few, clear.slots)) few
+      can_swap_there state.heap root can.trie Writable (key_hash state (key_of call)) place.depth place.indirection place.main ends.here.bitmap ends.here.entries nodes
+      can.ready.rests.free (omega (arith, few, can.births)) (ends.leads Writable) ends.main ends.here.branch (omega (arith, few, can.slots))
 
   -- where the key's own single stands
   finds_own : (place : Place) (value : ℕ) → EndsOf place → place.entry ≡ Own value → Finds state call root place.depth place.indirection place.position value 1
@@ -162,15 +170,15 @@ module _ (state : State) (actor : ℕ) (call : Call) (root : Ref) (run : IsOfRun
       (after_call state (with_change state call place.depth place.indirection (with_single state call) (putting entry place.position (with_single state call).newest))
       (steps_down place.depth (looks_at entry) + 7 + 2))
   puts_straight place (Own value) ends is sets =
-      let can = can_swap_at place 2 ends (omega arith) in
+      let swap = can_swap_at place 2 ends (omega arith) in
       comes_without_record state (first_record state.limits) actor call _ _ _ _
-      (sets_straight state (first_record state.limits) actor call root place.depth place.indirection place.position value 1 (ready_at state actor call root run rest allowed clear.word)
-      (first_is_record state) keyed (finds_own place value ends is) sets (subst (IsLive state.heap) ends.main can.main_live) can.free (omega (arith, clear.steps, ends.deep)))
+      (sets_straight state (first_record state.limits) actor call root place.depth place.indirection place.position value 1 can.ready
+      (first_is_record state) keyed (finds_own place value ends is) sets (subst (IsLive state.heap) ends.main swap.main_live) swap.free (omega (arith, can.steps, ends.deep)))
   puts_straight place Vacant ends is puts =
-      let can = can_swap_at place 2 ends (omega arith) in
+      let swap = can_swap_at place 2 ends (omega arith) in
       comes_without_record state (first_record state.limits) actor call _ _ _ _
-      (inserts_straight state (first_record state.limits) actor call root place.depth place.indirection 0 (ready_at state actor call root run rest allowed clear.word)
-      (first_is_record state) keyed (misses_vacant place ends is) puts (has_room place ends) (subst (IsLive state.heap) ends.main can.main_live) can.free (omega (arith, clear.steps, ends.deep)))
+      (inserts_straight state (first_record state.limits) actor call root place.depth place.indirection 0 can.ready
+      (first_is_record state) keyed (misses_vacant place ends is) puts (has_room place ends) (subst (IsLive state.heap) ends.main swap.main_live) swap.free (omega (arith, can.steps, ends.deep)))
   puts_straight place Other ends is puts = absurd puts
 
   -- where the single of another key stands in its place
@@ -188,8 +196,7 @@ module _ (state : State) (actor : ℕ) (call : Call) (root : Ref) (run : IsOfRun
       let here = subst (IsHere state.heap (main_at state.heap place.indirection) (flag_of (key_hash state (key_of call)) place.depth) (key_of call) place.position) other (here_at place ends) in
       subst (λ main. IsLive state.heap (entry_at state.heap main place.position)) (sym ends.main)
       (subst (λ position. IsLive state.heap (entry_at state.heap (main_at state.heap place.indirection) position)) (sym here.at)
-      (entry_lives state run Writable (key_hash state (key_of call)) root place.depth place.indirection here.bitmap here.entries actor call allowed clear.word (ends.leads Writable) here.branch
-      here.stands.0))
+      (entry_lives state.heap root can.trie Writable (key_hash state (key_of call)) place.depth place.indirection here.bitmap here.entries (ends.leads Writable) here.branch here.stands.0))
 
   -- the call puts it beside that one
   pub parts_beside : (place : Place) (levels : ℕ) → EndsOf place → place.entry ≡ Other → inserts call ≡ true →
@@ -198,11 +205,11 @@ module _ (state : State) (actor : ℕ) (call : Call) (root : Ref) (run : IsOfRun
       (after_call state (with_change state call place.depth place.indirection (with_pair state call root place.depth place.indirection place.position levels)
       (change.Update place.position (with_pair state call root place.depth place.indirection place.position levels).newest)) (steps_down place.depth 1 + 2 * levels + 9 + 2))
   parts_beside place levels ends is puts parts few =
-      let can = can_swap_at place 28 ends (omega arith) in
+      let swap = can_swap_at place 28 ends (omega arith) in
       comes_without_record state (first_record state.limits) actor call _ _ _ _
-      (parts_straight state (first_record state.limits) actor call root place.depth place.indirection place.position 1 levels (ready_at state actor call root run rest allowed clear.word)
-      (first_is_record state) keyed (misses_other place ends is) puts parts (subst (IsLive state.heap) ends.main can.main_live) (omega (arith, can.free, few))
-      (omega (arith, clear.steps, ends.deep, few)))
+      (parts_straight state (first_record state.limits) actor call root place.depth place.indirection place.position 1 levels can.ready
+      (first_is_record state) keyed (misses_other place ends is) puts parts (subst (IsLive state.heap) ends.main swap.main_live) (omega (arith, swap.free, few))
+      (omega (arith, can.steps, ends.deep, few)))
 
   -- the call takes it out
   pub removes_at : (place : Place) (value more : ℕ) → EndsOf place → place.entry ≡ Own value → when_found call value ≡ Removes →
@@ -210,11 +217,11 @@ module _ (state : State) (actor : ℕ) (call : Call) (root : Ref) (run : IsOfRun
       Comes state actor call (steps_down place.depth (1 + more) + 6) (changed_reply call (Some value))
       (after_call state (with_change state call place.depth place.indirection (first_draft state) (change.Remove place.position)) (steps_down place.depth (1 + more) + 6 + 2))
   removes_at place value more ends is removes leaves few =
-      let can = can_swap_at place 1 ends (omega arith) in
+      let swap = can_swap_at place 1 ends (omega arith) in
       comes_without_record state (first_record state.limits) actor call _ _ _ _
-      (removes_straight state (first_record state.limits) actor call root place.depth place.indirection place.position value 1 more (ready_at state actor call root run rest allowed clear.word)
-      (first_is_record state) keyed (finds_own place value ends is) removes leaves (subst (IsLive state.heap) ends.main can.main_live) can.free
-      (omega (arith, clear.steps, ends.deep, few)))
+      (removes_straight state (first_record state.limits) actor call root place.depth place.indirection place.position value 1 more can.ready
+      (first_is_record state) keyed (finds_own place value ends is) removes leaves (subst (IsLive state.heap) ends.main swap.main_live) swap.free
+      (omega (arith, can.steps, ends.deep, few)))
 
   -- the call leaves it as it is
   pub answers_at : (place : Place) (entry : Entry) (answer : Reply) → EndsOf place → place.entry ≡ entry → IsAnswer call entry answer →
@@ -222,93 +229,85 @@ module _ (state : State) (actor : ℕ) (call : Call) (root : Ref) (run : IsOfRun
   answers_at place (Own value) answer ends is answers =
       comes_without_record state (first_record state.limits) actor call _ _ _ _
       (answers_straight state (first_record state.limits) actor call root place.depth place.indirection place.position value 1 answer
-      (ready_at state actor call root run rest allowed clear.word) (first_is_record state) keyed (finds_own place value ends is) answers (omega (arith, clear.steps, ends.deep)))
+      can.ready (first_is_record state) keyed (finds_own place value ends is) answers (omega (arith, can.steps, ends.deep)))
   answers_at place Vacant answer ends is (never, replies) =
       subst (λ r. Comes state actor call (steps_down place.depth 0) r (after_call state (first_draft state) (steps_down place.depth 0 + 2))) (sym replies)
       (comes_without_record state (first_record state.limits) actor call _ _ _ _
       (misses_straight state (first_record state.limits) actor call root place.depth place.indirection site.Absent 0
-      (ready_at state actor call root run rest allowed clear.word) (first_is_record state) keyed (misses_vacant place ends is) never (omega (arith, clear.steps, ends.deep))))
+      can.ready (first_is_record state) keyed (misses_vacant place ends is) never (omega (arith, can.steps, ends.deep))))
   answers_at place Other answer ends is (never, replies) =
       subst (λ r. Comes state actor call (steps_down place.depth 1) r (after_call state (first_draft state) (steps_down place.depth 1 + 2))) (sym replies)
       (comes_without_record state (first_record state.limits) actor call _ _ _ _
       (misses_straight state (first_record state.limits) actor call root place.depth place.indirection (site.Beside place.position) 1
-      (ready_at state actor call root run rest allowed clear.word) (first_is_record state) keyed (misses_other place ends is) never (omega (arith, clear.steps, ends.deep))))
+      can.ready (first_is_record state) keyed (misses_other place ends is) never (omega (arith, can.steps, ends.deep))))
 
 -- a call that put its key's single is carried out
-pub put_done : (before after : Parts) (memory : Memory) (actor : ℕ) (call : Call) (root : Ref) (place : Place) (key looks : ℕ) (former : Option ℕ) (reply : Reply) → IsCore before →
-    is_busy (seen before) ≡ false → begin_denial (seen before) actor call ≡ None → IsClear (seen before) call root → IsKeyed call →
+pub put_done : (start : State) (before after : Parts) (memory : Memory) (actor : ℕ) (call : Call) (root : Ref) (place : Place) (key looks : ℕ) (former : Option ℕ) (reply : Reply) →
+    IsFit before actor call root 0 → LeadsTo start (seen before) actor call place.depth → IsKeyed call →
     EndsAt (seen before).heap root (key_hash (seen before) (key_of call)) (key_of call) place → IsPut call place.entry → key ≡ key_of call → key < 2 ^ 64 →
     IsDraft (seen before)
     (with_change (seen before) call place.depth place.indirection (with_single (seen before) call) (putting place.entry place.position (with_single (seen before) call).newest)) memory →
     KeepsRecords before.heap memory → looks ≡ looks_at place.entry → after ≡ counted before memory (4 * place.depth + looks + 13) → former ≡ value_in place.entry →
-    reply ≡ changed_reply call former → CarriesBy before actor call reply after
-put_done before after memory actor call root place key looks former reply core rest allowed clear keyed ends puts own fits is records many counts was replies =
+    reply ≡ changed_reply call former → CarriesFrom start actor call reply after
+put_done start before after memory actor call root place key looks former reply fit leads keyed ends puts own fits is records many counts was replies =
     let state = seen before in
     let draft = with_change state call place.depth place.indirection (with_single state call) (putting place.entry place.position (with_single state call).newest) in
     let to : ComesAsFar before memory draft = record { draft_is = is; private = refl; records = records } in
-    let comes = puts_straight state actor call root core.run rest allowed clear keyed place place.entry ends refl puts in
+    let comes = puts_straight state actor call root fit.can keyed place place.entry ends refl puts in
     let answers : reply ≡ changed_reply call (value_in place.entry) = replies ∙ ap (changed_reply call) was in
-    let steps : 4 * place.depth + looks + 13 ≡ steps_down place.depth (looks_at place.entry) + 7 + 2 = omega (arith, many) in (
-      subst (λ r. CarriesOut state actor call r (seen after)) (sym answers)
-          (carried before after memory draft actor call (steps_down place.depth (looks_at place.entry) + 7) (4 * place.depth + looks + 13) (changed_reply call (value_in place.entry)) to counts
-          steps comes),
-      core_then before after memory draft actor call (steps_down place.depth (looks_at place.entry) + 7) (4 * place.depth + looks + 13) (changed_reply call (value_in place.entry)) core
-          (subst (λ k. k < 2 ^ 64) own fits) to counts steps comes,
-    )
+    let steps : 4 * place.depth + looks + 13 ≡ steps_down place.depth (looks_at place.entry) + 7 + 2 = omega (arith, many) in
+    subst (λ r. CarriesFrom start actor call r after) (sym answers)
+    (carried start before after memory draft actor call place.depth (steps_down place.depth (looks_at place.entry) + 7) (4 * place.depth + looks + 13)
+    (changed_reply call (value_in place.entry)) fit.kept leads (subst (λ k. k < 2 ^ 64) own fits) to counts steps (omega arith) comes)
 
 -- a call that put its key's single beside another is carried out
-pub part_done : (before after : Parts) (memory : Memory) (actor : ℕ) (call : Call) (root : Ref) (place : Place) (key levels : ℕ) (reply : Reply) → IsCore before →
-    is_busy (seen before) ≡ false → begin_denial (seen before) actor call ≡ None → IsClear (seen before) call root → IsKeyed call →
+pub part_done : (start : State) (before after : Parts) (memory : Memory) (actor : ℕ) (call : Call) (root : Ref) (place : Place) (key levels : ℕ) (reply : Reply) → IsFit before actor call root 0 →
+    LeadsTo start (seen before) actor call place.depth → IsKeyed call →
     EndsAt (seen before).heap root (key_hash (seen before) (key_of call)) (key_of call) place → place.entry ≡ Other → inserts call ≡ true → key ≡ key_of call → key < 2 ^ 64 →
     IsPaired (seen before) call root place.depth place.indirection place.position levels memory → KeepsRecords before.heap memory →
-    after ≡ counted before memory (4 * place.depth + 2 * levels + 16) → reply ≡ changed_reply call None → CarriesBy before actor call reply after
-part_done before after memory actor call root place key levels reply core rest allowed clear keyed ends other puts own fits paired records counts replies =
+    after ≡ counted before memory (4 * place.depth + 2 * levels + 16) → reply ≡ changed_reply call None → CarriesFrom start actor call reply after
+part_done start before after memory actor call root place key levels reply fit leads keyed ends other puts own fits paired records counts replies =
     let state = seen before in
     let draft =
     with_change state call place.depth place.indirection (with_pair state call root place.depth place.indirection place.position levels)
     (change.Update place.position (with_pair state call root place.depth place.indirection place.position levels).newest) in
     let to : ComesAsFar before memory draft = record { draft_is = paired.draft; private = refl; records = records } in
-    let comes = parts_beside state actor call root core.run rest allowed clear keyed place levels ends other puts paired.parts paired.few in
-    let steps : 4 * place.depth + 2 * levels + 16 ≡ steps_down place.depth 1 + 2 * levels + 9 + 2 = omega arith in (
-      subst (λ r. CarriesOut state actor call r (seen after)) (sym replies)
-          (carried before after memory draft actor call (steps_down place.depth 1 + 2 * levels + 9) (4 * place.depth + 2 * levels + 16) (changed_reply call None) to counts steps comes),
-      core_then before after memory draft actor call (steps_down place.depth 1 + 2 * levels + 9) (4 * place.depth + 2 * levels + 16) (changed_reply call None) core
-          (subst (λ k. k < 2 ^ 64) own fits) to counts steps comes,
-    )
+    let comes = parts_beside state actor call root fit.can keyed place levels ends other puts paired.parts paired.few in
+    let steps : 4 * place.depth + 2 * levels + 16 ≡ steps_down place.depth 1 + 2 * levels + 9 + 2 = omega arith in
+    subst (λ r. CarriesFrom start actor call r after) (sym replies)
+    (carried start before after memory draft actor call place.depth (steps_down place.depth 1 + 2 * levels + 9) (4 * place.depth + 2 * levels + 16) (changed_reply call None) fit.kept leads
+    (subst (λ k. k < 2 ^ 64) own fits) to counts steps (omega arith) comes)
 
 -- a call that took its key out is carried out
-pub remove_done : (before after : Parts) (memory : Memory) (actor : ℕ) (call : Call) (root : Ref) (place : Place) (key more : ℕ) (former : Option ℕ) (reply : Reply) → IsCore before →
-    is_busy (seen before) ≡ false → begin_denial (seen before) actor call ≡ None → IsClear (seen before) call root → IsKeyed call →
+pub remove_done : (start : State) (before after : Parts) (memory : Memory) (actor : ℕ) (call : Call) (root : Ref) (place : Place) (key more : ℕ) (former : Option ℕ) (reply : Reply) →
+    IsFit before actor call root 0 → LeadsTo start (seen before) actor call place.depth → IsKeyed call →
     EndsAt (seen before).heap root (key_hash (seen before) (key_of call)) (key_of call) place → (entry : Entry) → place.entry ≡ entry → IsRemoval call entry →
     more ≤ 1 → Leaves (seen before).heap place.depth place.indirection place.position more → key ≡ key_of call → key < 2 ^ 64 →
     IsDraft (seen before) (with_change (seen before) call place.depth place.indirection (first_draft (seen before)) (change.Remove place.position)) memory →
     KeepsRecords before.heap memory → after ≡ counted before memory (4 * place.depth + more + 13) → former ≡ value_in place.entry →
-    reply ≡ changed_reply call former → CarriesBy before actor call reply after
-remove_done before after memory actor call root place key more former reply core rest allowed clear keyed ends Vacant same removes few leaves own fits is records counts was replies = absurd removes
-remove_done before after memory actor call root place key more former reply core rest allowed clear keyed ends Other same removes few leaves own fits is records counts was replies = absurd removes
-remove_done before after memory actor call root place key more former reply core rest allowed clear keyed ends (Own value) same removes few leaves own fits is records counts was replies =
+    reply ≡ changed_reply call former → CarriesFrom start actor call reply after
+remove_done start before after memory actor call root place key more former reply fit leads keyed ends Vacant same removes few leaves own fits is records counts was replies = absurd removes
+remove_done start before after memory actor call root place key more former reply fit leads keyed ends Other same removes few leaves own fits is records counts was replies = absurd removes
+remove_done start before after memory actor call root place key more former reply fit leads keyed ends (Own value) same removes few leaves own fits is records counts was replies =
     let state = seen before in
     let draft = with_change state call place.depth place.indirection (first_draft state) (change.Remove place.position) in
     let to : ComesAsFar before memory draft = record { draft_is = is; private = refl; records = records } in
-    let comes = removes_at state actor call root core.run rest allowed clear keyed place value more ends same removes leaves few in
+    let comes = removes_at state actor call root fit.can keyed place value more ends same removes leaves few in
     let answers : reply ≡ changed_reply call (Some value) = replies ∙ ap (changed_reply call) (was ∙ ap value_in same) in
-    let steps : 4 * place.depth + more + 13 ≡ steps_down place.depth (1 + more) + 6 + 2 = omega arith in (
-      subst (λ r. CarriesOut state actor call r (seen after)) (sym answers)
-          (carried before after memory draft actor call (steps_down place.depth (1 + more) + 6) (4 * place.depth + more + 13) (changed_reply call (Some value)) to counts steps comes),
-      core_then before after memory draft actor call (steps_down place.depth (1 + more) + 6) (4 * place.depth + more + 13) (changed_reply call (Some value)) core
-          (subst (λ k. k < 2 ^ 64) own fits) to counts steps comes,
-    )
+    let steps : 4 * place.depth + more + 13 ≡ steps_down place.depth (1 + more) + 6 + 2 = omega arith in
+    subst (λ r. CarriesFrom start actor call r after) (sym answers)
+    (carried start before after memory draft actor call place.depth (steps_down place.depth (1 + more) + 6) (4 * place.depth + more + 13) (changed_reply call (Some value)) fit.kept leads
+    (subst (λ k. k < 2 ^ 64) own fits) to counts steps (omega arith) comes)
 
 -- a call that changed nothing is carried out
-pub leave_done : (before after : Parts) (actor : ℕ) (call : Call) (root : Ref) (place : Place) (looks : ℕ) (answer : Reply) → IsCore before →
-    is_busy (seen before) ≡ false → begin_denial (seen before) actor call ≡ None → IsClear (seen before) call root → IsKeyed call →
+pub leave_done : (start : State) (before after : Parts) (actor : ℕ) (call : Call) (root : Ref) (place : Place) (looks : ℕ) (answer : Reply) → IsFit before actor call root 0 →
+    LeadsTo start (seen before) actor call place.depth → IsKeyed call →
     EndsAt (seen before).heap root (key_hash (seen before) (key_of call)) (key_of call) place → IsAnswer call place.entry answer → key_of call < 2 ^ 64 →
-    looks ≡ looks_at place.entry → after ≡ counted before before.heap (4 * place.depth + looks + 6) → CarriesBy before actor call answer after
-leave_done before after actor call root place looks answer core rest allowed clear keyed ends answers fits many counts =
+    looks ≡ looks_at place.entry → after ≡ counted before before.heap (4 * place.depth + looks + 6) → CarriesFrom start actor call answer after
+leave_done start before after actor call root place looks answer fit leads keyed ends answers fits many counts =
     let state = seen before in
-    let to : ComesAsFar before before.heap (first_draft state) = record { draft_is = first_drafted before core; private = refl; records = (refl, refl) } in
-    let comes = answers_at state actor call root core.run rest allowed clear keyed place place.entry answer ends refl answers in
-    let steps : 4 * place.depth + looks + 6 ≡ steps_down place.depth (looks_at place.entry) + 2 = omega (arith, many) in (
-      carried before after before.heap (first_draft state) actor call (steps_down place.depth (looks_at place.entry)) (4 * place.depth + looks + 6) answer to counts steps comes,
-      core_then before after before.heap (first_draft state) actor call (steps_down place.depth (looks_at place.entry)) (4 * place.depth + looks + 6) answer core fits to counts steps comes,
-    )
+    let to : ComesAsFar before before.heap (first_draft state) = record { draft_is = drafted_first before fit.kept fit.settled; private = refl; records = (refl, refl) } in
+    let comes = answers_at state actor call root fit.can keyed place place.entry answer ends refl answers in
+    let steps : 4 * place.depth + looks + 6 ≡ steps_down place.depth (looks_at place.entry) + 2 = omega (arith, many) in
+    carried start before after before.heap (first_draft state) actor call place.depth (steps_down place.depth (looks_at place.entry)) (4 * place.depth + looks + 6) answer fit.kept leads fits to
+    counts steps (omega arith) comes

@@ -1,5 +1,5 @@
 -- What a step of an operation's programs asks is what its line takes its references for.
-use Rattle.std.proofs.Common.{◌≡◌, ℕ, ◌+◌, ◌<◌, ◌^◌, List, length, Option, Some, None, refl, sym, ap, subst, ◌∙◌}
+use Rattle.std.proofs.Common.{◌≡◌, ℕ, ◌+◌, ◌<◌, List, length, Option, Some, None, refl, sym, ap, subst, ◌∙◌}
 use Rattle.history.specs.declared.calls.Access.{Access}
 use Rattle.history.specs.declared.calls.Access.TheVariants.{Writable, ReadOnly}
 use Rattle.slot_arena.specs.declared.refs.Ref.{Ref}
@@ -73,6 +73,7 @@ use Rattle.machine_core.specs.Beneath.snapshot.specs.Walks.{CanWalkAt, walk_line
 use Rattle.machine_core.specs.Beneath.trie_parts.specs.declared.work.Work.{Work}
 use Rattle.proof_records.specs.Laws.{LineHasRoom, MakesNode}
 use Rattle.machine_core.proofs.Claims.{Lives, node_live, offer_live}
+use Rattle.slot_arena.specs.Refs.{birth_limit}
 
 -- ---- a READ
 
@@ -100,7 +101,7 @@ can_read heap r here (met main previous offer is) h = subst (CanReadAt heap r.in
 pub record Finds (heap : Heap) (private : List Ref) (state : State) (operation : Operation) (l : Line) : Type 0 where
   pub reads : (r : Defined) → read_of l ≡ Some r → Lives heap (read_wants r.indirection r.line)
   pub does : Lives heap (action_wants (line_action state operation l))
-  pub births : heap.births + 1 < 2 ^ 48
+  pub births : heap.births + 1 < birth_limit
   pub room : LineHasRoom l
   pub makes : MakesNode (line_action state operation l) → length private < 33
 

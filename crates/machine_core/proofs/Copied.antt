@@ -1,5 +1,5 @@
 -- A copy, a clear or a close that is carried out at once comes to what its steps come to.
-use Rattle.std.proofs.Common.{arith, ◌≡◌, ℕ, ◌+◌, ◌<◌, ◌≤◌, ◌==◌, ◌||◌, ◌^◌, true, false, is_some, List, [], ◌∷◌, get_or, length, Option, Some, None, if◌then◌else◌}
+use Rattle.std.proofs.Common.{arith, ◌≡◌, ℕ, ◌+◌, ◌<◌, ◌≤◌, ◌==◌, ◌||◌, true, false, is_some, List, [], ◌∷◌, get_or, length, Option, Some, None, if◌then◌else◌}
 use Rattle.std.proofs.Common.{refl, sym, ap, ◌∙◌, subst, eq-eqb, ne_eqb}
 use Rattle.std.proofs.lemmas.List.Elements.{All-cons, All-nil}
 use Rattle.std.specs.Prelude.{unwrap_or}
@@ -12,6 +12,7 @@ use Rattle.history.specs.declared.calls.Call.{Call}
 use Rattle.history.specs.declared.replies.Reply.{Reply}
 use Rattle.slot_arena.specs.declared.refs.Ref.{Ref}
 use Rattle.slot_arena.specs.Arenas.{AreLive, IsLive}
+use Rattle.slot_arena.specs.Refs.{birth_limit}
 use Rattle.slot_arena.specs.Heaps.{Heap, empty_branch, main_at, main_of, prev_at, taken}
 use Rattle.arrayvec.specs.ArrayVec.{ArrayVec}
 use Rattle.slot_arena.specs.declared.nodes.Node.{Node}
@@ -210,8 +211,8 @@ pub made_twice : (before middle after : Parts) → middle ≡ record before { he
 made_twice before middle after first second = second ∙ ap (λ (p : Parts). record p { heap = after.heap; generations = after.generations }) first
 
 -- once a node was made there is room for another
-pub room_again : (heap after : Heap) (node : Node) → HasEmptySlots heap → 2 ≤ length heap.free → heap.births + 2 < 2 ^ 48 → after ≡ taken heap node →
-    (1 ≤ length after.free) × (after.births + 1 < 2 ^ 48)
+pub room_again : (heap after : Heap) (node : Node) → HasEmptySlots heap → 2 ≤ length heap.free → heap.births + 2 < birth_limit → after ≡ taken heap node →
+    (1 ≤ length after.free) × (after.births + 1 < birth_limit)
 room_again heap after node empty free births is =
     let takes = takes_one heap after node empty (omega (arith, free)) is in
     (omega (arith, free, takes.fewer, ap (λ (h : Heap). length h.free) is), omega (arith, births, births_more heap after node empty (omega (arith, free)) is))

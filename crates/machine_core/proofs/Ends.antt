@@ -1,5 +1,5 @@
 -- The end of each step, and a step of the sweep.
-use Rattle.std.proofs.Common.{◌≡◌, ℕ, ◌+◌, ◌-◌, ◌≤◌, ◌^◌, nat_le, Bool, true, false, cond, List, [], ◌∷◌, length, map, drop, slice_index_or, Option, Some, None, Ok, refl, sym, ap, ◌∙◌, subst}
+use Rattle.std.proofs.Common.{◌≡◌, ℕ, ◌+◌, ◌-◌, ◌≤◌, nat_le, Bool, true, false, cond, List, [], ◌∷◌, length, map, drop, slice_index_or, Option, Some, None, Ok, refl, sym, ap, ◌∙◌, subst}
 use Rattle.std.proofs.lemmas.Option.{none-some, same_Some}
 use Rattle.slot_arena.specs.declared.refs.Ref.{Ref}
 use Rattle.slot_arena.specs.declared.nodes.Slot.{Slot}
@@ -22,6 +22,7 @@ use Rattle.machine_core.specs.Beneath.proof_memory.proofs.Heap.Under.{freed_befo
 use Rattle.machine_core.specs.Beneath.rdcss_root.specs.Holding.{root_refs}
 use Rattle.machine_core.specs.Ties.{IsTied, private_refs}
 use Rattle.machine_core.proofs.Steps.{sweep_answer}
+use Rattle.slot_arena.specs.Refs.{most_slots}
 
 -- ---- limbo
 
@@ -64,7 +65,7 @@ none_freed pins r = by (nat_le r.cursor (length pins))
     by false = refl
 
 -- whether what is freed left limbo at once, or at the end of the step, comes to the same
-left_by : (pins : List (Option ℕ)) (r : Reclaimer) (held : List Ref) (due : Option Ref) → length r.heap.slots ≤ 2 ^ 16 → ripe r.epoch r.limbo ≡ due →
+left_by : (pins : List (Option ℕ)) (r : Reclaimer) (held : List Ref) (due : Option Ref) → length r.heap.slots ≤ most_slots → ripe r.epoch r.limbo ≡ due →
     (let done = sweep_by pins r due in limbo_after done.1.heap held done.1.epoch (drop (freed_by done.0) r.limbo) ≡ limbo_after done.1.heap held done.1.epoch r.limbo)
 left_by pins r held None small e = ap (λ n. limbo_after (sweep_by pins r None).1.heap held (sweep_by pins r None).1.epoch (drop n r.limbo)) (none_freed pins r)
 left_by pins r held (Some at) small e =
@@ -75,7 +76,7 @@ left_by pins r held (Some at) small e =
     ∙ ap (λ x. limbo_after (freed r.heap x) held r.epoch (z ∷ rest)) (sym there)
     ∙ ap (λ l. limbo_after (freed r.heap at) held r.epoch l) (sym is)
 
-pub left : (pins : List (Option ℕ)) (r : Reclaimer) (held : List Ref) (did : Swept) (after : Reclaimer) → length r.heap.slots ≤ 2 ^ 16 → (did, after) ≡ swept_once pins r →
+pub left : (pins : List (Option ℕ)) (r : Reclaimer) (held : List Ref) (did : Swept) (after : Reclaimer) → length r.heap.slots ≤ most_slots → (did, after) ≡ swept_once pins r →
     limbo_after after.heap held after.epoch (drop (freed_by did) r.limbo) ≡ limbo_after after.heap held after.epoch r.limbo
 left pins r held did after small e =
     subst (λ (done : Swept × Reclaimer). limbo_after done.1.heap held done.1.epoch (drop (freed_by done.0) r.limbo) ≡ limbo_after done.1.heap held done.1.epoch r.limbo)
@@ -101,7 +102,7 @@ swept_state : (state : State) (before middle after : Memory) (did : Swept) → S
 swept_state state before middle after did to = rw (to.heap, to.epoch, to.cursor) refl
 
 -- is the definition's step
-pub sweeps : (state : State) (before middle after : Memory) (did : Swept) → is_spent state ≡ false → length state.heap.slots ≤ 2 ^ 16 →
+pub sweeps : (state : State) (before middle after : Memory) (did : Swept) → is_spent state ≡ false → length state.heap.slots ≤ most_slots →
     IsTied before state.roots state.actors → SweptTo state before middle after did → next state step.Sweep ≡ Ok (outcome.Swept did, stepped state after)
 sweeps state before middle after did unspent small tied to =
     let r : Reclaimer = reclaimer_of state in

@@ -35,6 +35,8 @@ pub mod Keeps
 pub mod Sorting
 pub mod Offerers
 pub mod Roomed
+pub mod Tries
+pub mod Passed
 pub mod Descent
 pub mod Drafts
 pub mod Rooted
@@ -42,6 +44,9 @@ pub mod Changes
 pub mod Paired
 pub mod AtRest
 pub mod Carried
+pub mod Renewed
+pub mod Downward
+pub mod WayDown
 pub mod Rerooted
 pub mod Copied
 pub mod Sorted

@@ -148,7 +148,7 @@ pub record IsLinked (before : Memory) (made : List Ref) (generation hash from de
 -- ---- where both singles stand
 
 -- the first of them is made
-pub can_begin : (memory : Memory) (indirection main : Ref) (made : List Ref) (n m : ℕ) → made ≡ [] → n ≤ 32 → m ≤ n → CanSwap memory.heap indirection main n → CanMake memory made m
+pub can_begin : (memory : Memory) (indirection main : Ref) (made : List Ref) (n m : ℕ) → made ≡ [] → n ≤ 33 → m ≤ n → CanSwap memory.heap indirection main n → CanMake memory made m
 can_begin memory indirection main made n m none few less can = record {
   empty = can.empty;
   free = omega (arith, can.free, less);
@@ -158,7 +158,7 @@ can_begin memory indirection main made n m none few less can = record {
 }
 
 -- behind all that was made a main node can be swapped in
-pub can_swap_still : (before after : Memory) (made made' : List Ref) (indirection main : Ref) (n nodes more : ℕ) → made ≡ [] → n ≤ 32 → nodes + more ≤ n → CanSwap before.heap indirection main n →
+pub can_swap_still : (before after : Memory) (made made' : List Ref) (indirection main : Ref) (n nodes more : ℕ) → made ≡ [] → n ≤ 33 → nodes + more ≤ n → CanSwap before.heap indirection main n →
     Makes nodes before made after made' → CanSwap after.heap indirection main more
 can_swap_still before after made made' indirection main n nodes more none few less can makes =
     let left = makes.can more (can_begin before indirection main made n (nodes + more) none few less can) in

@@ -1,5 +1,5 @@
 -- How little the parts of a step note and look at, and what that makes of the whole step.
-use Rattle.std.proofs.Common.{arith, ◌≡◌, ℕ, ◌+◌, ◌-◌, ◌*◌, ◌≤◌, ◌^◌, List, [], length, drop, Option, Some, None, refl, sym, ap, subst, ◌∙◌}
+use Rattle.std.proofs.Common.{arith, ◌≡◌, ℕ, ◌+◌, ◌-◌, ◌*◌, ◌≤◌, List, [], length, drop, Option, Some, None, refl, sym, ap, subst, ◌∙◌}
 use Rattle.std.specs.Prelude.{slice_get}
 use Rattle.std.proofs.lemmas.Option.{same_Some}
 use Rattle.slot_arena.specs.Ticking.{TakesUpTo}
@@ -26,6 +26,7 @@ use Rattle.machine_core.specs.Work.{ActsLittle, NotesUpTo, WorksLittle, WorksUpT
 use Rattle.machine_core.proofs.Crossing.{sweeping_pays}
 use Rattle.machine_core.proofs.Ends.{left}
 use Rattle.machine_core.proofs.Kept.{operation_there, seat_of}
+use Rattle.slot_arena.specs.Refs.{most_slots}
 
 -- ---- parts of a step
 
@@ -97,7 +98,7 @@ one_freed (swept.Advanced epoch) = omega arith
 one_freed swept.Freed = omega arith
 
 -- a step of the sweep, whose freed slot leaves limbo before it is settled
-pub swept_little : (before middle after : Memory) (did : Swept) → length before.heap.slots ≤ 2 ^ 16 →
+pub swept_little : (before middle after : Memory) (did : Swept) → length before.heap.slots ≤ most_slots →
     (did, record { heap = middle.heap; limbo = before.limbo; epoch = middle.epoch; cursor = middle.cursor }) ≡ swept_once before.pins (reclaimer_of before) →
     middle.limbo ≡ drop (freed_by did) before.limbo → length middle.noted ≤ 34 → TakesUpTo 44 before.ticks middle.ticks →
     after.limbo ≡ limbo_after middle.heap middle.outside middle.epoch middle.limbo → middle.ticks ≤ after.ticks →

@@ -1,5 +1,5 @@
 -- What bounds the numbers of a machine, and what a step that may lack memory comes to.
-use Rattle.std.specs.Prelude.{◌≡◌, ℕ, ◌+◌, ◌≤◌, ◌⊎◌, true, length, Option, Some, None, Result, Ok, Err}
+use Rattle.std.specs.Prelude.{◌≡◌, ℕ, ◌+◌, ◌*◌, ◌≤◌, ◌⊎◌, true, length, Option, Some, None, Result, Ok, Err}
 use Rattle.ctrie_base.specs.declared.refusals.Refusal.{Refusal}
 use Rattle.ctrie_base.specs.declared.refusals.Refusal.TheVariants as refuse
 use Rattle.machine_model.specs.declared.operations.Operation.{Operation}
@@ -10,12 +10,13 @@ use Rattle.machine_model.specs.Calls.{needs_read_only}
 use Rattle.machine_model.specs.States.{State, operation_of}
 use Rattle.machine_model.specs.Counting.{settled}
 use Rattle.machine_model.specs.Machine.{Answer, next, is_taken_step, longest_life, AreBounds}
+use Rattle.slot_arena.specs.Refs.{most_slots}
 
--- no number outgrows its type: most grow by at most 1 in each step, of which there are at most 2^47
+-- No number outgrows its type: most grow by at most 1 in each step. A step draws a birth or frees a slot, and not both, so about every other one draws a birth.
 pub record IsBounded (state : State) : Type 0 where
-  pub slots : length state.heap.slots ≤ 65536
+  pub slots : length state.heap.slots ≤ most_slots
   pub steps : state.steps ≤ longest_life
-  pub births : state.heap.births ≤ state.steps + 2
+  pub births : 2 * state.heap.births + length state.heap.free ≤ state.steps + length state.heap.slots + 2
   pub generations : state.generations ≤ state.steps + 1
   pub epoch : state.epoch ≤ state.steps
   pub attempts : (actor : ℕ) (operation : Operation) → operation_of state actor ≡ Some operation → operation.attempt ≤ state.steps

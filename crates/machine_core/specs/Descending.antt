@@ -44,10 +44,10 @@ pub record IsBelow (heap : Heap) (main : Ref) (flag generation : ℕ) (below : R
   pub is : node_at heap below ≡ Indirection generation word
 
 -- what a look into a main node for the key finds
-abbrev pub Finds : Heap → (main : Ref) → (flag key generation : ℕ) → Onward → Type 0
-Finds heap main flag key generation (Below below) = IsBelow heap main flag generation below
-Finds heap main flag key generation (Here position entry) = IsHere heap main flag key position entry
-Finds heap main flag key generation Barred = Unit {0}
+abbrev pub Finds : Heap → (main : Ref) → (flag key : ℕ) → Onward → Type 0
+Finds heap main flag key (Below below generation) = IsBelow heap main flag generation below
+Finds heap main flag key (Here position entry) = IsHere heap main flag key position entry
+Finds heap main flag key Barred = Unit {0}
 
 -- the hash leads from the root down to the place's indirection, where this stands for the key
 pub record EndsAt (heap : Heap) (root : Ref) (hash key : ℕ) (place : Place) : Type 0 where

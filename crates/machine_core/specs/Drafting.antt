@@ -1,5 +1,5 @@
 -- A heap on which a call that runs alone does its changes one after the other.
-use Rattle.std.specs.Prelude.{◌≡◌, ℕ, ◌+◌, ◌<◌, ◌≤◌, ◌^◌, true, [], length}
+use Rattle.std.specs.Prelude.{◌≡◌, ℕ, ◌+◌, ◌<◌, ◌≤◌, true, [], length}
 use Rattle.slot_arena.specs.declared.refs.Ref.{Ref}
 use Rattle.slot_arena.specs.Heaps.{Heap, node_at, main_at, refs_of_node}
 use Rattle.slot_arena.specs.Arenas.{IsLive, AreLive, is_indirection}
@@ -8,6 +8,7 @@ use Rattle.epochs.specs.Memories.{Memory}
 use Rattle.machine_model.specs.States.{State}
 use Rattle.proof_straight.specs.Drafts.{Draft, held_with}
 use Rattle.proof_straight.specs.Running.{HasEmptySlots}
+use Rattle.slot_arena.specs.Refs.{birth_limit}
 
 -- the heap has come as far as the draft of a call that began in this state
 pub record IsDraft (state : State) (draft : Draft) (memory : Memory) : Type 0 where
@@ -25,7 +26,7 @@ KeepsRecords before after = (after.cursor ≡ before.cursor) × (after.pins ≡ 
 pub record CanSwap (heap : Heap) (indirection main : Ref) (nodes : ℕ) : Type 0 where
   pub empty : HasEmptySlots heap
   pub free : nodes ≤ length heap.free
-  pub births : heap.births + nodes < 2 ^ 48
+  pub births : heap.births + nodes < birth_limit
   pub live : IsLive heap indirection
   pub kind : is_indirection (node_at heap indirection) ≡ true
   pub over : main_at heap indirection ≡ main

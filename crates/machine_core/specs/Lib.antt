@@ -11,6 +11,7 @@ pub mod Keeping
 pub mod Numbering
 pub mod Pairing
 pub mod Reading
+pub mod Renewing
 pub mod Rooming
 pub mod Rooting
 pub mod Seen
@@ -20,5 +21,6 @@ pub mod Straight
 pub mod Sweeping
 pub mod Ties
 pub mod Told
+pub mod Tries
 pub mod Walking
 pub mod Work

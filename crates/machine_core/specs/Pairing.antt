@@ -1,9 +1,10 @@
 -- Two keys whose ways part below: how the way down to both is made.
-use Rattle.std.specs.Prelude.{◌≡◌, ℕ, ◌+◌, ◌<◌, ◌≤◌, ◌^◌, List, length}
+use Rattle.std.specs.Prelude.{◌≡◌, ℕ, ◌+◌, ◌<◌, ◌≤◌, List, length}
 use Rattle.history.specs.declared.calls.Call.{Call}
 use Rattle.slot_arena.specs.declared.refs.Ref.{Ref}
 use Rattle.slot_arena.specs.Arenas.{IsLive}
 use Rattle.slot_arena.specs.Heaps.{node_at}
+use Rattle.slot_arena.specs.Refs.{birth_limit}
 use Rattle.epochs.specs.Memories.{Memory}
 use Rattle.machine_model.specs.declared.building.Change.TheVariants as change
 use Rattle.machine_model.specs.States.{State}
@@ -17,9 +18,9 @@ use Rattle.machine_core.specs.Drafting.{IsDraft, KeepsRecords}
 pub record CanMake (memory : Memory) (made : List Ref) (nodes : ℕ) : Type 0 where
   pub empty : HasEmptySlots memory.heap
   pub free : nodes ≤ length memory.heap.free
-  pub births : memory.heap.births + nodes < 2 ^ 48
+  pub births : memory.heap.births + nodes < birth_limit
   pub held : AreHeld made memory
-  pub room : length made + nodes ≤ 32
+  pub room : length made + nodes ≤ 33
 
 -- so many nodes were made, which are held, and what was live stands as before
 pub record Makes (many : ℕ) (before : Memory) (made : List Ref) (after : Memory) (made' : List Ref) : Type 0 where

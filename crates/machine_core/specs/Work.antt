@@ -1,4 +1,6 @@
--- How much work a step is: how often it looks at a link, a flag, a count, a note or an entry of a list.
+-- How much work a step is: how often it looks at a link, a flag, a count, a note or an entry of a list of the heap.
+-- What else a step looks at isn't counted, and is little by what there is of it: its own actor, the records of all actors, 64 at most,
+-- the root words and numbers of handles, 256 at most, and what its walk has collected. A core has nothing else: no history, and no list that grows but a walk's.
 use Rattle.std.specs.Prelude.{◌≡◌, ℕ, ◌+◌, ◌*◌, ◌≤◌, not, List, filter, length}
 use Rattle.slot_arena.specs.Ticking.{TakesUpTo}
 use Rattle.epochs.specs.declared.limbo.Zeroed.{Zeroed}

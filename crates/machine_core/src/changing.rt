@@ -15,12 +15,12 @@ ghost use Rattle.machine_core.specs.Drafting.{CanSwap, IsDraft, KeepsRecords};
 
 use crate::calls::{absent_reply, inserts, when_found};
 use crate::descending::{Entry, Place};
-use crate::drafting::{make, swap_in};
+use crate::drafting::{make, swap_changed};
 use epochs::Heap;
 use history::{Call, Reply};
 use machine_model::{Change, WhenFound};
-use running::{changed_at, entries_at, entry_at, node_at};
-use slot_arena::{Node, Ref};
+use running::{entries_at, entry_at, node_at};
+use slot_arena::{Node, NodeRef, Ref};
 
 /// What a call does where the way down to its key ends.
 #[derive(Drop)]
@@ -74,7 +74,7 @@ pub fn more_looks(heap: &Heap, place: &Place, _key: u64) -> Option<u64>
     }
     let other = entry_at(heap, place.main, 1usize.saturating_sub(place.position));
     match node_at(heap, other) {
-        Some(Node::Indirection { .. }) => Some(1),
+        Some(NodeRef::Indirection { .. }) => Some(1),
         _ => None,
     }
 }
@@ -103,8 +103,14 @@ pub fn put_single(heap: &mut Heap, place: Place, key: u64, value: u64)
 {
     let single = make(heap, Node::Single { key, value });
     let change = putting(place.entry, place.position, single);
-    let node = changed_at(heap, place.main, place.flag, change);
-    swap_in(heap, place.indirection, place.main, node, &[single]);
+    swap_changed(
+        heap,
+        place.indirection,
+        place.main,
+        place.flag,
+        change,
+        &[single],
+    );
 }
 
 /// Takes the key's own single out where the way down ends.
@@ -119,6 +125,5 @@ pub fn take_out(heap: &mut Heap, place: Place, _key: u64)
     let change = Change::Remove {
         position: place.position,
     };
-    let node = changed_at(heap, place.main, place.flag, change);
-    swap_in(heap, place.indirection, place.main, node, &[]);
+    swap_changed(heap, place.indirection, place.main, place.flag, change, &[]);
 }

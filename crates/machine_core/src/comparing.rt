@@ -12,7 +12,7 @@ use crate::mains::{logical_main, root_of};
 use crate::parts::Parts;
 use epochs::Heap;
 use running::node_at;
-use slot_arena::{Node, Ref};
+use slot_arena::{NodeRef, Ref};
 use std::alloc::AllocError;
 
 /// The keys of which the two handles' maps may have different values: each key of which they have is among them.
@@ -89,7 +89,7 @@ fn main_below(heap: &Heap, entry: Option<Ref>) -> Option<Ref>
 {
     let at = entry?;
     match node_at(heap, at) {
-        Some(Node::Indirection { .. }) => Some(logical_main(heap, at)),
+        Some(NodeRef::Indirection { .. }) => Some(logical_main(heap, at)),
         _ => None,
     }
 }
@@ -101,8 +101,8 @@ fn add_single(keys: &mut Vec<u64>, heap: &Heap, entry: Option<Ref>) -> Result<()
     let Some(at) = entry else {
         return Ok(());
     };
-    if let Some(Node::Single { key, .. }) = node_at(heap, at) {
-        keys.push(*key)?;
+    if let Some(NodeRef::Single { key, .. }) = node_at(heap, at) {
+        keys.push(key)?;
     }
     Ok(())
 }

@@ -12,7 +12,7 @@ use crate::parts::Parts;
 use epochs::Heap;
 use history::Pairs;
 use running::{entries_at, node_at};
-use slot_arena::{Node, Ref};
+use slot_arena::{NodeRef, Ref};
 use std::alloc::{AllocError, Global};
 
 /// A root, 13 levels of indirections below it, and the singles.
@@ -42,11 +42,11 @@ fn gather(pairs: &mut Vec<(u64, u64)>, levels: u32, heap: &Heap, at: Ref) -> Res
         return Ok(());
     }
     match node_at(heap, at) {
-        Some(Node::Single { key, value }) => {
-            pairs.push((*key, *value))?;
+        Some(NodeRef::Single { key, value }) => {
+            pairs.push((key, value))?;
             Ok(())
         }
-        Some(Node::Indirection { .. }) => {
+        Some(NodeRef::Indirection { .. }) => {
             gather_each(pairs, levels - 1, heap, logical_main(heap, at))
         }
         _ => Ok(()),

@@ -18,14 +18,14 @@ use epochs::Heap;
 use history::{Call, Reply};
 use machine_model::Descriptor;
 use running::node_at;
-use slot_arena::{Node, Ref};
+use slot_arena::{Node, NodeRef, Ref};
 
 /// The main node of a root, where it is decided.
 pub fn decided_main(heap: &Heap, root: Ref) -> Option<Ref>
     ensures { IfSome result (λ main. IsOverDecided heap.now.heap root main) }
 {
     match node_at(heap, root) {
-        Some(Node::Indirection { main, .. }) => {
+        Some(NodeRef::Indirection { main, .. }) => {
             if is_decided(heap, *main) {
                 Some(*main)
             } else {

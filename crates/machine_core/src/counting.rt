@@ -13,7 +13,7 @@ use crate::mains::{logical_main, root_of};
 use crate::parts::Parts;
 use epochs::Heap;
 use running::{entries_at, node_at};
-use slot_arena::{Node, Ref};
+use slot_arena::{NodeRef, Ref};
 
 /// How many pairs the map of an open handle has.
 pub fn count_of(parts: &Parts, handle: u16) -> u64
@@ -35,8 +35,8 @@ fn count(levels: u32, heap: &Heap, at: Ref) -> u64
         return 0;
     }
     match node_at(heap, at) {
-        Some(Node::Single { .. }) => 1,
-        Some(Node::Indirection { .. }) => count_each(levels - 1, heap, logical_main(heap, at)),
+        Some(NodeRef::Single { .. }) => 1,
+        Some(NodeRef::Indirection { .. }) => count_each(levels - 1, heap, logical_main(heap, at)),
         _ => 0,
     }
 }

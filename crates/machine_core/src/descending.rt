@@ -9,7 +9,7 @@ use crate::contents::MOST_LEVELS;
 use crate::mains::{has_flag, main_at, position_of};
 use epochs::Heap;
 use running::{entry_at, flag_of, node_at};
-use slot_arena::{Node, Prev, Ref};
+use slot_arena::{NodeRef, Prev, Ref};
 
 /// What stands for a key in the place of its flag in a branch.
 #[derive(Clone, Copy)]
@@ -37,9 +37,10 @@ pub struct Place {
 }
 
 /// How the way goes on behind a main node.
+#[derive(Clone, Copy)]
 pub enum Onward {
-    /// By this indirection.
-    Below(Ref),
+    /// By this indirection, of this generation.
+    Below { at: Ref, generation: u64 },
     /// It ends here.
     Here { position: usize, entry: Entry },
     /// Something stands in it.
@@ -50,15 +51,18 @@ pub enum Onward {
 pub fn look_down(heap: &Heap, root: Ref, hash: u64, key: u64) -> Option<Place>
     ensures { IfSome result (λ place. EndsAt heap.now.heap root hash key place) }
 {
-    let Some(Node::Indirection { generation, .. }) = node_at(heap, root) else {
+    let Some(NodeRef::Indirection { generation, .. }) = node_at(heap, root) else {
         return None;
     };
     let mut indirection = root;
     for depth in 0..MOST_LEVELS {
         let main = main_at(heap, indirection);
         let flag = flag_of(hash, depth as usize);
-        match look_in(heap, main, flag, key, *generation) {
-            Onward::Below(below) => indirection = below,
+        match look_in(heap, main, flag, key) {
+            Onward::Below {
+                at,
+                generation: its,
+            } if its == generation => indirection = at,
             Onward::Here { position, entry } => {
                 return Some(Place {
                     indirection,
@@ -69,24 +73,25 @@ pub fn look_down(heap: &Heap, root: Ref, hash: u64, key: u64) -> Option<Place>
                     entry,
                 });
             }
-            Onward::Barred => return None,
+            _ => return None,
         }
     }
     None
 }
 
 /// What a decided branch has for the key, whose flag is this one at its depth.
-fn look_in(heap: &Heap, main: Ref, flag: u32, key: u64, generation: u64) -> Onward
-    ensures { Finds heap.now.heap main flag key generation result }
+#[inline(always)]
+pub fn look_in(heap: &Heap, main: Ref, flag: u32, key: u64) -> Onward
+    ensures { Finds heap.now.heap main flag key result }
 {
-    let Some(Node::Branch { bitmap, .. }) = node_at(heap, main) else {
+    let Some(NodeRef::Branch { bitmap, .. }) = node_at(heap, main) else {
         return Onward::Barred;
     };
     if !is_decided(heap, main) {
         return Onward::Barred;
     }
-    let position = position_of(flag, *bitmap);
-    if !has_flag(*bitmap, flag) {
+    let position = position_of(flag, bitmap);
+    if !has_flag(bitmap, flag) {
         return Onward::Here {
             position,
             entry: Entry::Vacant,
@@ -94,20 +99,15 @@ fn look_in(heap: &Heap, main: Ref, flag: u32, key: u64, generation: u64) -> Onwa
     }
     let at = entry_at(heap, main, position);
     match node_at(heap, at) {
-        Some(Node::Single { key: own, value }) if *own == key => Onward::Here {
+        Some(NodeRef::Single { key: own, value }) if own == key => Onward::Here {
             position,
-            entry: Entry::Own(*value),
+            entry: Entry::Own(value),
         },
-        Some(Node::Single { .. }) => Onward::Here {
+        Some(NodeRef::Single { .. }) => Onward::Here {
             position,
             entry: Entry::Other,
         },
-        Some(
-            Node::Indirection {
-                generation: its,
-                ..
-            },
-        ) if *its == generation => Onward::Below(at),
+        Some(NodeRef::Indirection { generation, .. }) => Onward::Below { at, generation },
         _ => Onward::Barred,
     }
 }

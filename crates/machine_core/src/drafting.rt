@@ -1,23 +1,27 @@
 //! What a call that runs alone changes of the heap: nodes are made, and the last one is swapped in and committed. Limbo is
 //! brought up to date behind each.
 
-ghost use Rattle.std.specs.Prelude.{◌≡◌, ◌+◌, ◌<◌, ◌≤◌, ◌^◌, ◌∷◌, ◌++◌, [], true, length};
+ghost use Rattle.std.specs.Prelude.{◌≡◌, ◌+◌, ◌<◌, ◌≤◌, ◌∷◌, ◌++◌, [], true, length};
 ghost use Rattle.slot_arena.specs.Heaps.{main_at, node_at, prev_at, refs_of_node, taken};
 ghost use Rattle.slot_arena.specs.Arenas.{AreLive, IsLive, is_indirection, is_main_node};
 ghost use Rattle.slot_arena.specs.declared.refs.Ref.{Ref as ARef};
+ghost use Rattle.machine_model.specs.Building.{changed};
 ghost use Rattle.machine_model.specs.States.{State};
 ghost use Rattle.proof_straight.specs.Drafts.{Draft, next_made, swapped_in, with_commit, with_made, with_published};
 ghost use Rattle.machine_core.specs.Beneath.trie_parts.specs.Holding.{AreHeld};
 ghost use Rattle.machine_core.specs.Drafting.{CanSwap, IsDraft, KeepsRecords};
+ghost use Rattle.slot_arena.specs.Refs.{birth_limit};
 
 use epochs::Heap;
+use machine_model::Change;
 use running::release_all;
 use slot_arena::{Node, Prev, Ref};
 
 /// Makes a node, and holds it.
+#[inline(always)]
 pub fn make(heap: &mut Heap, node: Node) -> Ref
     requires free { 1 ≤ length heap.old.heap.free }
-    requires births { heap.old.heap.births + 1 < 2 ^ 48 }
+    requires births { heap.old.heap.births + 1 < birth_limit }
     requires live { AreLive heap.old.heap (refs_of_node node) }
     ensures drafts { (state : State) (draft : Draft) → IsDraft state draft heap.old → IsDraft state (with_made state draft node) heap.new }
     ensures made { result ≡ next_made heap.old.heap }
@@ -45,6 +49,52 @@ pub fn swap_in(heap: &mut Heap, indirection: Ref, main: Ref, node: Node, made: &
     ensures records { KeepsRecords heap.old heap.new }
 {
     let fresh = make(heap, node);
+    publish(heap, indirection, main, fresh, made);
+    commit(heap, main, fresh);
+}
+
+/// Makes the main node after a change of this one, where `flag` is that of the call's key, and holds it.
+pub fn make_changed(heap: &mut Heap, main: Ref, flag: u32, change: Change) -> Ref
+    requires lit { 0 < flag }
+    requires free { 1 ≤ length heap.old.heap.free }
+    requires births { heap.old.heap.births + 1 < birth_limit }
+    requires main_live { IsLive heap.old.heap main }
+    requires live { AreLive heap.old.heap (refs_of_node (changed flag (node_at heap.old.heap main) change)) }
+    ensures drafts { (state : State) (draft : Draft) → IsDraft state draft heap.old → IsDraft state (with_made state draft (changed flag (node_at heap.old.heap main) change)) heap.new }
+    ensures made { result ≡ next_made heap.old.heap }
+    ensures heap { heap.new.heap ≡ taken heap.old.heap (changed flag (node_at heap.old.heap main) change) }
+    ensures outside { heap.new.outside ≡ result ∷ heap.old.outside }
+    ensures lives { IsLive heap.new.heap result }
+    ensures stay { (q : ARef) → IsLive heap.old.heap q → IsLive heap.new.heap q }
+    ensures records { KeepsRecords heap.old heap.new }
+{
+    let Some(made) = running::make_changed(heap, main, flag, change) else {
+        unreachable!()
+    };
+    heap.settle();
+    made
+}
+
+/// Makes the main node after a change of an indirection's main node, swaps it in over that, and commits it. What was made for it is
+/// held no more.
+pub fn swap_changed(
+    heap: &mut Heap,
+    indirection: Ref,
+    main: Ref,
+    flag: u32,
+    change: Change,
+    made: &[Ref],
+)
+    requires lit { 0 < flag }
+    requires can { CanSwap heap.old.heap indirection main 1 }
+    requires live { AreLive heap.old.heap (refs_of_node (changed flag (node_at heap.old.heap main) change)) }
+    requires kind { is_main_node (changed flag (node_at heap.old.heap main) change) ≡ true }
+    requires held { AreHeld made.now heap.old }
+    ensures drafts { (state : State) (draft : Draft) → IsDraft state draft heap.old → draft.private ≡ made.now →
+        IsDraft state (swapped_in state (with_made state draft (changed flag (node_at heap.old.heap main) change)) indirection main) heap.new }
+    ensures records { KeepsRecords heap.old heap.new }
+{
+    let fresh = make_changed(heap, main, flag, change);
     publish(heap, indirection, main, fresh, made);
     commit(heap, main, fresh);
 }

@@ -6,7 +6,7 @@ ghost use Rattle.machine_core.specs.Comparing.{entries_below};
 
 use epochs::Heap;
 use running::{entries_at, node_at};
-use slot_arena::{Node, Ref};
+use slot_arena::{NodeRef, Ref};
 
 /// The index of an entry of no branch, which comes behind those of a branch, and where none is left.
 const NO_BRANCH: u32 = 32;
@@ -75,7 +75,7 @@ impl<'a> Left<'a> {
 /// The flags of a branch.
 fn flags_of(heap: &Heap, main: Ref) -> u32 {
     match node_at(heap, main) {
-        Some(Node::Branch { bitmap, .. }) => *bitmap,
+        Some(NodeRef::Branch { bitmap, .. }) => bitmap,
         _ => 0,
     }
 }

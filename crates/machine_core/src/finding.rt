@@ -11,7 +11,7 @@ use crate::mains::{has_flag, logical_main, position_of, root_of};
 use crate::parts::Parts;
 use epochs::Heap;
 use running::{entry_at, flag_of, node_at};
-use slot_arena::{Node, Ref};
+use slot_arena::{NodeRef, Ref};
 
 /// What a main node says of a key.
 pub enum Found {
@@ -45,14 +45,14 @@ fn look_in(heap: &Heap, flag: u32, key: u64, main: Ref) -> Found
     ensures { meant result ≡ look_in (node_at heap.now.heap) flag key (node_at heap.now.heap main) }
 {
     match node_at(heap, main) {
-        Some(Node::Branch { bitmap, .. }) => {
-            if !has_flag(*bitmap, flag) {
+        Some(NodeRef::Branch { bitmap, .. }) => {
+            if !has_flag(bitmap, flag) {
                 return Found::Absent;
             }
-            look_at(heap, key, entry_at(heap, main, position_of(flag, *bitmap)))
+            look_at(heap, key, entry_at(heap, main, position_of(flag, bitmap)))
         }
-        Some(Node::Tomb { single }) => look_at(heap, key, *single),
-        Some(Node::List { singles }) => look_among(heap, key, singles.as_slice()),
+        Some(NodeRef::Tomb { single }) => look_at(heap, key, *single),
+        Some(NodeRef::List { singles }) => look_among(heap, key, singles.as_slice()),
         _ => Found::Absent,
     }
 }
@@ -75,8 +75,8 @@ fn look_at(heap: &Heap, key: u64, entry: Ref) -> Found
     ensures { meant result ≡ look_at key entry (node_at heap.now.heap entry) }
 {
     match node_at(heap, entry) {
-        Some(Node::Single { key: own, value }) if *own == key => Found::Has(*value),
-        Some(Node::Indirection { .. }) => Found::Below(entry),
+        Some(NodeRef::Single { key: own, value }) if own == key => Found::Has(value),
+        Some(NodeRef::Indirection { .. }) => Found::Below(entry),
         _ => Found::Absent,
     }
 }

@@ -12,6 +12,7 @@
 //! | `rooming` | memory for what a walk meets | none: the definition knows no memory |
 //! | `counting`, `picking`, `listing`, `comparing`, `differing` | what is told of maps without a list of all; `selection`, `selecting`, `entries` help | `Contents` |
 //! | `straight`, `descending`, `changing`, `drafting` | calls that run alone, at once: all of one, the way down to its key, the change there, the heap | what its steps come to (`proof_straight`) |
+//! | `renewing` | the branches that such a call renews on its way down | the same, and what it finds behind that |
 //! | `copying`, `rooting` | the same of snapshots, freezes, clears and closes: all of one, the root words | the same |
 #![tactic(auto)]
 
@@ -39,6 +40,7 @@ mod pairing;
 mod parts;
 mod picking;
 mod reading;
+mod renewing;
 mod rooming;
 mod rooting;
 mod selecting;
@@ -54,4 +56,5 @@ pub use calls::key_fits;
 pub use differing::Difference;
 pub use machine::Core;
 pub use proof_records::{one_place_a_step, tellings_fit};
+pub use starting::LONGEST_LIFE;
 pub use telling::{Begun, Ended, Stepped};

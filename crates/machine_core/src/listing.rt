@@ -15,7 +15,7 @@ use crate::selection::Selection;
 use epochs::Heap;
 use history::Pairs;
 use running::{entries_at, node_at};
-use slot_arena::{Node, Ref};
+use slot_arena::{NodeRef, Ref};
 use std::alloc::AllocError;
 
 /// The first pairs of the handle's map whose keys come after the last one, `room` of them at most, by rising key.
@@ -47,8 +47,8 @@ fn select(selection: &mut Selection, levels: u32, heap: &Heap, at: Ref) -> Resul
         return Ok(());
     }
     match node_at(heap, at) {
-        Some(Node::Single { key, value }) => selection.add(*key, *value),
-        Some(Node::Indirection { .. }) => {
+        Some(NodeRef::Single { key, value }) => selection.add(key, value),
+        Some(NodeRef::Indirection { .. }) => {
             select_each(selection, levels - 1, heap, logical_main(heap, at))
         }
         _ => Ok(()),

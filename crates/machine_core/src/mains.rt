@@ -1,7 +1,7 @@
 //! Roots and logical main nodes, looked up without a condition.
 
 ghost use Rattle.std.specs.Prelude.{◌≡◌};
-ghost use Rattle.slot_arena.specs.Heaps.{logical_main, main_at};
+ghost use Rattle.slot_arena.specs.Heaps.{bitmap_of, logical_main, main_at, node_at};
 ghost use Rattle.ctrie_base.specs.Paths.{position_of};
 ghost use Rattle.machine_core.specs.Beneath.nodes.specs.Levels.{has_flag};
 ghost use Rattle.machine_model.specs.States.{root_of};
@@ -9,7 +9,7 @@ ghost use Rattle.machine_model.specs.States.{root_of};
 use epochs::Heap;
 use machine_model::RootWord;
 use running::node_at;
-use slot_arena::{Node, Prev, Ref};
+use slot_arena::{NodeRef, Prev, Ref};
 
 /// The root that stands while an offer does.
 pub fn root_of(word: RootWord) -> Ref
@@ -26,7 +26,7 @@ pub fn main_at(heap: &Heap, indirection: Ref) -> Ref
     ensures { result ≡ main_at heap.now.heap indirection }
 {
     match node_at(heap, indirection) {
-        Some(Node::Indirection { main, .. }) => *main,
+        Some(NodeRef::Indirection { main, .. }) => *main,
         _ => Ref::default(),
     }
 }
@@ -39,6 +39,16 @@ pub fn logical_main(heap: &Heap, indirection: Ref) -> Ref
     match heap.stored_prev(main) {
         Prev::None => main,
         Prev::Pending(previous) | Prev::Failed(previous) => previous,
+    }
+}
+
+/// The bitmap of a branch.
+pub fn bitmap_at(heap: &Heap, main: Ref) -> u32
+    ensures { result ≡ bitmap_of (node_at heap.now.heap main) }
+{
+    match node_at(heap, main) {
+        Some(NodeRef::Branch { bitmap, .. }) => bitmap,
+        _ => 0,
     }
 }
 

@@ -18,20 +18,21 @@ ghost use Rattle.machine_core.specs.Pairing.{CanMake, IsMade, IsPaired, Makes};
 ghost use Rattle.machine_core.specs.declared.descending.Entry.TheVariants.{Other};
 
 use crate::descending::Place;
-use crate::drafting::{make, swap_in};
+use crate::drafting::{make, swap_changed};
 use arrayvec::ArrayVec;
 use ctrie_base::HashKind;
 use epochs::Heap;
 use machine_model::Change;
 use nodes::{dual, list_depth, parting, rung};
-use running::{changed_at, entry_at, node_at};
-use slot_arena::{Node, Ref};
+use running::{entry_at, node_at};
+use slot_arena::{Node, NodeRef, Ref};
 
-/// The slots that a call has made: at most two for each level, two more, and the topmost indirection.
-type Made = ArrayVec<Ref, 32>;
+/// The slots that a call has made: at most two for each level, two more, and the topmost indirection; or an indirection for
+/// each entry of a branch, and the new branch.
+pub type Made = ArrayVec<Ref, 33>;
 
 /// Makes a node, and holds it with those made before.
-fn make_more(heap: &mut Heap, made: &mut Made, node: Node) -> Ref
+pub fn make_more(heap: &mut Heap, made: &mut Made, node: Node) -> Ref
     requires can { CanMake heap.old made.old.items 1 }
     requires live { AreLive heap.old.heap (refs_of_node node) }
     ensures drafts { (state : State) (draft : Draft) (newest : ARef) → IsMade state draft heap.old made.old.items newest → IsMade state (with_made state draft node) heap.new made.new.items result }
@@ -84,7 +85,7 @@ fn hash_at(heap: &Heap, hashes: HashKind, single: Ref) -> u64
     ensures { result ≡ hash_of hashes (key_in (node_at heap.now.heap single)) }
 {
     match node_at(heap, single) {
-        Some(Node::Single { key, .. }) => hashes.hash(*key),
+        Some(NodeRef::Single { key, .. }) => hashes.hash(key),
         _ => hashes.hash(0),
     }
 }
@@ -127,7 +128,13 @@ pub fn put_beside(
         position: place.position,
         entry: top,
     };
-    let node = changed_at(heap, place.main, place.flag, change);
-    swap_in(heap, place.indirection, place.main, node, made.as_slice());
+    swap_changed(
+        heap,
+        place.indirection,
+        place.main,
+        place.flag,
+        change,
+        made.as_slice(),
+    );
     (depth - from) as u64
 }

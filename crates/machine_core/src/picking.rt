@@ -12,7 +12,7 @@ use crate::mains::{logical_main, root_of};
 use crate::parts::Parts;
 use epochs::Heap;
 use running::{entries_at, node_at};
-use slot_arena::{Node, Ref};
+use slot_arena::{NodeRef, Ref};
 
 /// A pair of the handle's map, whichever is reached first.
 pub fn first_of(parts: &Parts, handle: u16) -> Option<(u64, u64)>
@@ -31,8 +31,8 @@ fn pick(levels: u32, heap: &Heap, at: Ref) -> Option<(u64, u64)>
         return None;
     }
     match node_at(heap, at) {
-        Some(Node::Single { key, value }) => Some((*key, *value)),
-        Some(Node::Indirection { .. }) => pick_among(levels - 1, heap, logical_main(heap, at)),
+        Some(NodeRef::Single { key, value }) => Some((key, value)),
+        Some(NodeRef::Indirection { .. }) => pick_among(levels - 1, heap, logical_main(heap, at)),
         _ => None,
     }
 }

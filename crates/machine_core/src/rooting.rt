@@ -3,6 +3,7 @@
 ghost use Rattle.std.specs.Prelude.{◌≡◌, ◌+◌, ◌<◌, ◌≤◌, ◌^◌, ◌∷◌, [], None, length};
 ghost use Rattle.slot_arena.specs.Arenas.{AreLive, IsLive};
 ghost use Rattle.slot_arena.specs.Heaps.{taken};
+ghost use Rattle.slot_arena.specs.Refs.{birth_limit};
 ghost use Rattle.slot_arena.specs.declared.nodes.Node.TheVariants.{Indirection};
 ghost use Rattle.slot_arena.specs.declared.refs.Ref.{Ref as ARef};
 ghost use Rattle.machine_model.specs.Acting.{opened, opened_root};
@@ -31,7 +32,7 @@ use slot_arena::{Node, Ref};
 /// Makes a root of the next generation over a main node, and holds it.
 pub fn make_root(parts: &mut Parts, main: Ref) -> Ref
     requires free { 1 ≤ length parts.old.heap.heap.free }
-    requires births { parts.old.heap.heap.births + 1 < 2 ^ 48 }
+    requires births { parts.old.heap.heap.births + 1 < birth_limit }
     requires generations { parts.old.generations + 1 < 2 ^ 64 }
     requires live { AreLive parts.old.heap.heap (main ∷ []) }
     ensures courses { (course : Course) → IsCourse course parts.old → IsCourse (with_new_root course main) parts.new }

@@ -22,18 +22,18 @@ use handle_table::Handles;
 use history::Access;
 use machine_model::{Bounds, Root, RootWord};
 use running::{Programs, Roots};
-use slot_arena::{Node, Ref};
+use slot_arena::{MOST_SLOTS, Node, Ref};
 use std::alloc::{AllocError, Global};
 
 /// How many steps a machine takes at most that lives long.
-const LONGEST_LIFE: u64 = 1 << 47;
+pub const LONGEST_LIFE: u64 = (1 << 45) - (1 << 21);
 
 /// Whether the bounds are in range.
 pub fn are_bounds(bounds: Bounds) -> bool
     ensures { IsTrue result ↔ AreBounds bounds }
 {
     2 <= bounds.slots
-        && bounds.slots <= 65_536
+        && bounds.slots <= MOST_SLOTS
         && 1 <= bounds.actors
         && bounds.actors <= 64
         && bounds.steps <= LONGEST_LIFE

@@ -4,3 +4,5 @@ pub mod RenewalNoted
 pub mod RenewedCall
 pub mod Transplants
 pub mod Renews
+pub mod NewEntries
+pub mod Passing

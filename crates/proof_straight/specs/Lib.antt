@@ -7,4 +7,5 @@ pub mod Recorded
 pub mod Changes
 pub mod Copies
 pub mod Renewals
+pub mod Passing
 pub mod Laws

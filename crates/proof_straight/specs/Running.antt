@@ -1,5 +1,5 @@
 -- A call that runs alone, from its begin to its end, and when it can be done at once.
-use Rattle.std.specs.Prelude.{◌≡◌, ℕ, zero, suc, ◌<◌, ◌≤◌, ◌^◌, false, List, [], ◌∷◌, length, replicate, slice_index_or, Option, None, Ok}
+use Rattle.std.specs.Prelude.{◌≡◌, ℕ, zero, suc, ◌<◌, ◌≤◌, false, List, [], ◌∷◌, length, replicate, slice_index_or, Option, None, Ok}
 use Rattle.proof_straight.specs.Beneath.ctrie_base.specs.declared.kinds.Kind.{Kind}
 use Rattle.proof_straight.specs.Beneath.history.specs.declared.calls.Call.{Call}
 use Rattle.proof_straight.specs.Beneath.history.specs.declared.calls.Call.TheVariants as call
@@ -19,6 +19,7 @@ use Rattle.machine_model.specs.Counting.{outside}
 use Rattle.machine_model.specs.Machine.{next, begin_denial, is_busy, run_from}
 use Rattle.machine_model.specs.Records.{Record, is_placed, noted, record_from}
 use Rattle.machine_model.specs.Tellings.{told_in}
+use Rattle.proof_straight.specs.Beneath.slot_arena.specs.Refs.{most_slots}
 
 -- The actor's call began in this state, and went on alone for so many steps to that one.
 pub data GoesOn (state : State) (actor : ℕ) (call : Call) : ℕ → State → Type 0 where
@@ -54,7 +55,7 @@ AreEmpty slots (slot ∷ free) = (slot < length slots) × (slice_index_or slots 
 
 -- the free slots are empty ones
 pub record HasEmptySlots (heap : Heap) : Type 0 where
-  pub few : length heap.slots ≤ 2 ^ 16
+  pub few : length heap.slots ≤ most_slots
   pub empty : AreEmpty heap.slots heap.free
 
 -- limbo is up to date

@@ -3,6 +3,7 @@
 ghost use Rattle.proof_straight.specs.Laws.{AnswersStraight, MissesStraight, CrowdedStraight, SetsStraight, InsertsStraight, RemovesStraight, PartsStraight, ContractsStraight};
 ghost use Rattle.proof_straight.specs.Laws.{FreezesStraight, SnapsStraight, ClearsStraight, ClosesStraight};
 ghost use Rattle.proof_straight.specs.Renewals.{RenewsStraight};
+ghost use Rattle.proof_straight.specs.Passing.{PassesRenewal};
 ghost use Rattle.proof_straight.specs.Running.{ComesByRun};
 ghost use Rattle.proof_straight.specs.Resting.{LimboUpToDate, FreeSlotsEmpty};
 
@@ -85,4 +86,9 @@ pub fn comes_by_run()
 /// branch is renewed.
 pub fn renews_straight()
     ensures { RenewsStraight }
+{}
+
+/// A law: behind such a renewal the call goes on like one in that state, and comes by the same states.
+pub fn passes_renewal()
+    ensures { PassesRenewal }
 {}

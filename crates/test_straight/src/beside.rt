@@ -3,7 +3,7 @@
 use crate::draws::Draws;
 use ctrie_base::{HashKind, Refusal};
 use history::{Call, Reply};
-use machine_core::Core;
+use machine_core::{Core, Stepped};
 use machine_model::{Bounds, Step};
 use std::test::Fail;
 
@@ -19,18 +19,27 @@ const MOST_SWEEPS: u64 = 1 << 20;
 /// How many calls are made in each test.
 const CALLS: u64 = 250_000;
 
-/// A call from its begin to its end, step by step.
-fn step_through(core: &mut Core, call: Call) -> Result<Reply, Refusal> {
+/// How many calls went at once, and how many of these renewed a branch.
+#[derive(Clone, Copy)]
+struct Counts {
+    at_once: u64,
+    renewing: u64,
+}
+
+/// A call from its begin to its end, step by step; and whether it swapped a node in that is no change of its key.
+fn step_through(core: &mut Core, call: Call) -> Result<(Reply, bool), Refusal> {
     let Ok(_) = core.begin(ACTOR, call) else {
         return Err(Refusal::ActorBusy);
     };
+    let mut repairs = false;
     for _ in 0..MOST_STEPS {
         if !core.goes_on(ACTOR) {
             break;
         }
-        let Ok(_) = core.walk(ACTOR) else {
+        let Ok(stepped) = core.walk(ACTOR) else {
             return Err(Refusal::Memory);
         };
+        repairs |= is_repair(stepped);
     }
     if core.goes_on(ACTOR) {
         return Err(Refusal::Spent);
@@ -38,7 +47,15 @@ fn step_through(core: &mut Core, call: Call) -> Result<Reply, Refusal> {
     let Ok(ended) = core.end(ACTOR) else {
         return Err(Refusal::Idle);
     };
-    Ok(ended.reply)
+    Ok((ended.reply, repairs))
+}
+
+/// The step swapped a node in that is no change of a key.
+fn is_repair(stepped: Stepped) -> bool {
+    match stepped.progress.published {
+        Some(publication) => publication.changer.is_none(),
+        None => false,
+    }
 }
 
 /// The same at once; none where that doesn't go.
@@ -92,44 +109,57 @@ fn hold_the_same(one: &Core, other: &Core, handle: u16) -> Result<bool, Refusal>
     }
 }
 
-/// One call of both, and a sweep behind it now and then; tells whether it went at once, and none where the two differ.
-fn call_both(one: &mut Core, other: &mut Core, draws: &mut Draws) -> Result<Option<bool>, Refusal> {
+/// One call of both, and a sweep behind it now and then; counts it where it went at once. It tells whether the two are alike
+/// behind it.
+fn call_both(
+    one: &mut Core,
+    other: &mut Core,
+    draws: &mut Draws,
+    counts: &mut Counts,
+) -> Result<bool, Refusal> {
     let call = draws.call(one.handles_taken() < 4);
     let step = Step::Begin { actor: ACTOR, call };
     if one.denial(step) != other.denial(step) {
-        return Ok(None);
+        return Ok(false);
     }
     if one.denial(step).is_some() {
-        return Ok(Some(false));
+        return Ok(true);
     }
-    let reply = step_through(other, call)?;
-    let (same, went) = match at_once(one, call)? {
-        Some(reply) => (reply, true),
-        None => (step_through(one, call)?, false),
+    let (reply, repairs) = step_through(other, call)?;
+    let same = match at_once(one, call)? {
+        Some(reply) => {
+            counts.at_once = counts.at_once.saturating_add(1);
+            counts.renewing = counts.renewing.saturating_add(u64::from(repairs));
+            reply
+        }
+        None => step_through(one, call)?.0,
     };
     if draws.below(2) == 0 {
         one.reclaim();
         sweep(other)?;
     }
-    if !reply.is_same(&same) || !are_alike(one, other, call.handle(), draws.key()) {
-        return Ok(None);
-    }
-    Ok(Some(went))
+    Ok(reply.is_same(&same) && are_alike(one, other, call.handle(), draws.key()))
 }
 
-/// Calls of both; tells how many went at once, and none where the two differ.
-fn call_often(one: &mut Core, other: &mut Core, draws: &mut Draws) -> Result<Option<u64>, Refusal> {
-    let mut at_once: u64 = 0;
+/// Calls of both, counted; none where the two differ.
+fn call_often(
+    one: &mut Core,
+    other: &mut Core,
+    draws: &mut Draws,
+) -> Result<Option<Counts>, Refusal> {
+    let mut counts = Counts {
+        at_once: 0,
+        renewing: 0,
+    };
     for n in 0..CALLS {
-        match call_both(one, other, draws)? {
-            Some(went) => at_once = at_once.saturating_add(u64::from(went)),
-            None => return Ok(None),
+        if !call_both(one, other, draws, &mut counts)? {
+            return Ok(None);
         }
         if n % 500 == 0 && !hold_the_same(one, other, draws.handle())? {
             return Ok(None);
         }
     }
-    Ok(Some(at_once))
+    Ok(Some(counts))
 }
 
 fn bounds(slots: u32, hash: HashKind) -> Bounds {
@@ -146,8 +176,8 @@ fn bounds(slots: u32, hash: HashKind) -> Bounds {
 fn wide(rt: HostRuntime) -> Result<(), Fail> {
     let mut one = Core::new(rt.alloc(), bounds(4096, HashKind::Wide))?;
     let mut other = Core::new(rt.alloc(), bounds(4096, HashKind::Wide))?;
-    let count = call_often(&mut one, &mut other, &mut Draws::new(1))?;
-    assert!(rt; count.is_some_and(|n| n > CALLS / 2));
+    let counts = call_often(&mut one, &mut other, &mut Draws::new(1))?;
+    assert!(rt; counts.is_some_and(|c| c.at_once > CALLS / 2 && c.renewing > CALLS / 100));
     Ok(())
 }
 
@@ -156,8 +186,8 @@ fn wide(rt: HostRuntime) -> Result<(), Fail> {
 fn fold(rt: HostRuntime) -> Result<(), Fail> {
     let mut one = Core::new(rt.alloc(), bounds(2048, HashKind::Fold))?;
     let mut other = Core::new(rt.alloc(), bounds(2048, HashKind::Fold))?;
-    let count = call_often(&mut one, &mut other, &mut Draws::new(2))?;
-    assert!(rt; count.is_some_and(|n| n > CALLS / 2));
+    let counts = call_often(&mut one, &mut other, &mut Draws::new(2))?;
+    assert!(rt; counts.is_some_and(|c| c.at_once > CALLS / 2 && c.renewing > CALLS / 100));
     Ok(())
 }
 
@@ -166,8 +196,8 @@ fn fold(rt: HostRuntime) -> Result<(), Fail> {
 fn low(rt: HostRuntime) -> Result<(), Fail> {
     let mut one = Core::new(rt.alloc(), bounds(2048, HashKind::Low))?;
     let mut other = Core::new(rt.alloc(), bounds(2048, HashKind::Low))?;
-    let count = call_often(&mut one, &mut other, &mut Draws::new(3))?;
-    assert!(rt; count.is_some_and(|n| n > CALLS / 50));
+    let counts = call_often(&mut one, &mut other, &mut Draws::new(3))?;
+    assert!(rt; counts.is_some_and(|c| c.at_once > CALLS / 50));
     Ok(())
 }
 
@@ -176,7 +206,7 @@ fn low(rt: HostRuntime) -> Result<(), Fail> {
 fn scarce(rt: HostRuntime) -> Result<(), Fail> {
     let mut one = Core::new(rt.alloc(), bounds(160, HashKind::Wide))?;
     let mut other = Core::new(rt.alloc(), bounds(160, HashKind::Wide))?;
-    let count = call_often(&mut one, &mut other, &mut Draws::new(4))?;
-    assert!(rt; count.is_some());
+    let counts = call_often(&mut one, &mut other, &mut Draws::new(4))?;
+    assert!(rt; counts.is_some());
     Ok(())
 }

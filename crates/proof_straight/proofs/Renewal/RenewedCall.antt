@@ -46,7 +46,7 @@ use Rattle.proof_straight.proofs.Renewal.Renewing.{Renewed, Stood, branch_in, ne
 use Rattle.proof_straight.proofs.Way.Rooted.{alone_at, calm_at, comes_keyed}
 use Rattle.proof_straight.proofs.Way.Seeking.{again, at_main, looked}
 use Rattle.proof_straight.proofs.Change.Slots.{fresh_committed, generation_stays, indirection_stands, made_slot, node_again, others_stay, same_stored, slots_stay_empty}
-use Rattle.proof_straight.proofs.Change.Slots.{standing_indirection, stored_node, takes}
+use Rattle.proof_straight.proofs.Change.Slots.{same_free, standing_indirection, stored_node, takes}
 use Rattle.proof_straight.proofs.Change.SwapsIn.{swaps_in}
 use Rattle.proof_straight.proofs.Way.Unchanged.{fits_at}
 use Rattle.std.proofs.lemmas.List.{append-nil}
@@ -241,6 +241,24 @@ module _ (state : State) (past : Record) (k : ℕ) (call : Call) (root : Ref) (r
     | inr differ ↦
         let (slot, stands) = standing_indirection state.heap r g w at in (w, node_again state.heap after.heap r slot stands (stays_now r slot stands differ) ∙ at)
   ]
+
+  pub branch_now : node_at after.heap fresh ≡ new_branch
+  branch_now = stored_node after.heap fresh _ (fresh_committed draft.heap indirection main fresh own.over (made_slot done.draft.heap new_branch) at_indirection made.newest apart there)
+
+  -- what stood once all entries were renewed stands
+  pub later_stays : (r : Ref) (slot : Slot) → stored done.draft.heap r ≡ Some slot → (slot_of r ≡ slot_of indirection → ⊥) → stored after.heap r ≡ Some slot
+  later_stays r slot at differ =
+      let t = takes done.draft.heap new_branch all_renewed.is.empty enough in
+      others_stay draft.heap indirection main fresh own.over (made_slot done.draft.heap new_branch) at_indirection made.newest apart there r differ (t.apart r slot at) ∙ t.others r slot at
+
+  pub fewer_now : length state.heap.free ≡ renewal_slots state root entries.items + 1 + length after.heap.free
+  fewer_now =
+      omega (
+        arith,
+        all_renewed.fewer,
+        (takes done.draft.heap new_branch all_renewed.is.empty enough).fewer,
+        ap length (same_free draft.heap indirection main fresh own.over (made_slot done.draft.heap new_branch) at_indirection made.newest apart there),
+      )
 
   -- ---- the main node is read again
 

@@ -75,26 +75,26 @@ module _ (state : State) (past : Record) (k : ℕ) (call : Call) (root : Ref) (r
     (free : renewal_slots state root entries.items + 1 ≤ length state.heap.free)
     (apart : (d : ℕ) (r : Ref) → ComesDown state call root d r → d < depth → slot_of r ≡ slot_of indirection → ⊥)
     (lasts : state.steps + (4 * depth + 4 + steps_of_renewal state root entries) + 2 ≤ state.limits.steps) where
-  abbrev now : State
+  abbrev pub now : State
   now = renewed_state state root indirection bitmap entries
 
-  abbrev fresh : Ref
+  abbrev pub fresh : Ref
   fresh = (with_renewal state root indirection bitmap entries).newest
 
-  abbrev now_past : Record
+  abbrev pub now_past : Record
   now_past = renewed_record past (renewed_in state root entries depth) fresh
 
-  now_ready : IsReady now (suc k) call root
+  pub now_ready : IsReady now (suc k) call root
   now_ready = record {
     rests = now_rests state past k call root ready is keyed writes depth indirection bitmap entries generation word down entry leads other renewable live free;
     allowed = still_allowed state now.heap now.limbo now.steps (suc k) call (keyed_opens call keyed) (omega (arith, lasts)) (omega (arith, lasts)) ready.allowed;
     word = ready.word;
   }
 
-  now_is : IsRecordOf now now_past
+  pub now_is : IsRecordOf now now_past
   now_is = record { moments = is.moments; unplaced = is.unplaced }
 
-  way : (w : Leads now.heap (begun_operation now call).access (key_hash now (key_of call)) root depth indirection) × (path_along w ≡ path_along down)
+  pub way : (w : Leads now.heap (begun_operation now call).access (key_hash now (key_of call)) root depth indirection) × (path_along w ≡ path_along down)
   way =
       let indirection_here = indirection_is state past k call root ready is keyed writes depth indirection bitmap entries generation word down entry leads other renewable live free in
       leads_stays state.heap now.heap indirection indirection_here.0 indirection_here.1 indirection_here.2
@@ -103,13 +103,13 @@ module _ (state : State) (past : Record) (k : ℕ) (call : Call) (root : Ref) (r
       (begun_operation state call).access (key_hash state (key_of call)) root
       (generation_now state past k call root ready is keyed writes depth indirection bitmap entries generation word down entry leads other renewable live free) depth indirection down apart
 
-  now_alone : Alone now k
+  pub now_alone : Alone now k
   now_alone = alone_at now k call root now_ready
 
-  now_calm : IsCalm now (first_draft now)
+  pub now_calm : IsCalm now (first_draft now)
   now_calm = calm_at now (suc k) call root now_ready
 
-  now_fits : k < length now_past.moments
+  pub now_fits : k < length now_past.moments
   now_fits = fits_at now now_past k call root now_ready now_is
 
   abbrev now_before : IsBefore now now_past k call root now_alone now_calm depth indirection
@@ -124,19 +124,19 @@ module _ (state : State) (past : Record) (k : ℕ) (call : Call) (root : Ref) (r
       (comes_keyed state past k call root ready keyed) depth indirection down
       ∙ sym way.1 ∙ sym (path_is_along now now_past k call root now_alone now_calm now_fits (comes_keyed now now_past k call root now_ready keyed) depth indirection way.0)
 
-  main_is : main_at now.heap indirection ≡ fresh
+  pub main_is : main_at now.heap indirection ≡ fresh
   main_is = main_now state past k call root ready is keyed writes depth indirection bitmap entries generation word down entry leads other renewable live free
 
   abbrev here : ℕ
   here = 4 * depth + 5 + renewal_steps state root entries.items
 
-  abbrev many : ℕ
+  abbrev pub many : ℕ
   many = suc (suc (suc (suc (suc (suc (suc (suc here)))))))
 
   abbrev operation_here : Operation
   operation_here = on_line (rooted state call root) (with_renewal state root indirection bitmap entries) (line.Key (key.Main was_before.path fresh))
 
-  abbrev operation_there : Operation
+  abbrev pub operation_there : Operation
   operation_there = on_line (rooted now call root) (first_draft now) (line.Key (key.Main now_before.path (main_at now.heap indirection)))
 
   same_op : operation_here ≡ operation_there
@@ -169,7 +169,7 @@ module _ (state : State) (past : Record) (k : ℕ) (call : Call) (root : Ref) (r
       ∙ ap (λ m. with_read (begun_record now now_past k call) k (now.steps + suc (4 * depth + 1)) m) (sym main_is)
 
   -- this call comes there
-  here_comes : GoesAlone state past (suc k) call many (stand now k (first_draft now) operation_there (now.steps + suc (4 * depth + 3)))
+  pub here_comes : GoesAlone state past (suc k) call many (stand now k (first_draft now) operation_there (now.steps + suc (4 * depth + 3)))
       (looked now now_past k call root now_alone now_calm now_fits depth indirection)
   here_comes =
       let lands = reads_branch state past k call root ready is keyed writes depth indirection bitmap entries generation word down entry leads other renewable live free (omega (arith, lasts)) in
@@ -178,7 +178,7 @@ module _ (state : State) (past : Record) (k : ℕ) (call : Call) (root : Ref) (r
       (subst (λ o. GoesAlone state past (suc k) call many (stand now k (first_draft now) o (state.steps + suc many)) read_record_here) same_op lands))
 
   -- and so does the other
-  there_comes : GoesAlone now now_past (suc k) call (4 * depth + 3) (stand now k (first_draft now) operation_there (now.steps + suc (4 * depth + 3)))
+  pub there_comes : GoesAlone now now_past (suc k) call (4 * depth + 3) (stand now k (first_draft now) operation_there (now.steps + suc (4 * depth + 3)))
       (looked now now_past k call root now_alone now_calm now_fits depth indirection)
   there_comes =
       at_main now now_past k call root now_alone now_calm now_fits depth indirection now_before

@@ -71,7 +71,7 @@ module _ (state : State) (past : Record) (actor : ℕ) (c : Call) where
 module _ (state : State) (past : Record) (other : State) (other_past : Record) (actor : ℕ) (c : Call) (a b : ℕ) (there : State) (so_far : Record)
     (comes : GoesAlone state past actor c a there so_far) (other_comes : GoesAlone other other_past actor c b there so_far) where
   -- what the other one does from there on this one does too
-  abbrev Follows : ℕ → State → Record → Type 0
+  abbrev pub Follows : ℕ → State → Record → Type 0
   Follows n t r = (n < b) ⊎ ((m : ℕ) × (m + b ≡ n + a) × GoesAlone state past actor c m t r)
 
   here : (t : State) (r : Record) → GoesAlone other other_past actor c b t r → GoesAlone state past actor c a t r
@@ -99,7 +99,7 @@ module _ (state : State) (past : Record) (other : State) (other_past : Record) (
   begins_by t r h (inl less) = inl less
   begins_by t r h (inr more) = from_here 0 t r (omega (arith, more)) h
 
-  follows : (n : ℕ) (t : State) (r : Record) → GoesAlone other other_past actor c n t r → Follows n t r
+  pub follows : (n : ℕ) (t : State) (r : Record) → GoesAlone other other_past actor c n t r → Follows n t r
   follows n t r (begins is) = begins_by t r (begins is) (cases_lt 0 b)
   follows n t r (goes {n = m} {before} {so_far = q} {kind} earlier is) = goes_by m before t q kind earlier (follows m before q earlier) is (cases_lt (suc m) b)
 

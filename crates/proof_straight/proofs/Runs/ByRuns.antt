@@ -49,10 +49,16 @@ comes_by_run state past actor c n answer after recorded h =
 
 -- ---- where no record is kept
 
-goes_without_record : (state : State) (past : Record) (actor : ℕ) (c : Call) (n : ℕ) (now : State) (so_far : Record) → GoesAlone state past actor c n now so_far →
+pub goes_without_record : (state : State) (past : Record) (actor : ℕ) (c : Call) (n : ℕ) (now : State) (so_far : Record) → GoesAlone state past actor c n now so_far →
     GoesOn state actor c n now
 goes_without_record state past actor c n now so_far (begins is) = starts is
 goes_without_record state past actor c n now so_far (goes {n = m} {before} {so_far = r} earlier is) = walks (goes_without_record state past actor c m before r earlier) is
+
+-- and with a record it goes on as it does without one
+pub goes_with_record : (state : State) (past : Record) (actor : ℕ) (c : Call) (n : ℕ) (now : State) → GoesOn state actor c n now → (so_far : Record) × GoesAlone state past actor c n now so_far
+goes_with_record state past actor c n now (starts is) = (noted past state.steps (told_in state (step.Begin actor c)), begins is)
+goes_with_record state past actor c n now (walks {n = m} {before} earlier is) =
+    let (so_far, alone) = goes_with_record state past actor c m before earlier in (noted so_far before.steps (told_in before (step.Go actor)), goes alone is)
 
 -- a call comes to the same without the record
 pub comes_without_record : (state : State) (past : Record) (actor : ℕ) (c : Call) (n : ℕ) (answer : Reply) (after : State) (recorded : Record) →

@@ -1,4 +1,5 @@
-use Rattle.std.proofs.Common.{arith, ◌∙◌}
+use Rattle.std.proofs.Common.{ap, arith, ◌∙◌}
+use Rattle.slot_arena.specs.Views.{viewed}
 use Rattle.machine_core.proofs.Changes.{leaves_at_root, leaves_indirection, leaves_others}
 use Rattle.machine_core.proofs.changing.more_looks.Goals as goal
 use Rattle.machine_core.proofs.changing.more_looks.Goals.{then-place-eq0-via-then-place-eq0, then-place-eq0-via-else-place-eq0+then-entries_at-ne2}
@@ -26,5 +27,5 @@ returns-in-Some-Indirection c =
       omega arith,
       leaves_indirection heap place.main place.indirection place.flag c.args._key place.position place.depth place.entry c.requires.main c.requires.here c.entries_at.result.now
           c.entry_at-other.result c.saturating_sub.result c.entries_at.ensures.entries (omega (arith, c.if-place-eq0.false)) (omega (arith, c.if-entries_at-ne2.false)) c.entry_at-other.ensures
-          (omega (arith, c.saturating_sub.ensures)) (c.in-Some-Indirection.ensures ∙ c.in-Some-Indirection.field-0-is),
+          (omega (arith, c.saturating_sub.ensures)) (c.in-Some-Indirection.ensures ∙ ap viewed c.in-Some-Indirection.field-0-is),
     )

@@ -1,24 +1,28 @@
 use Rattle.std.proofs.Common.{refl}
 use Rattle.slot_arena.specs.Heaps.{node_at}
 use Rattle.machine_model.specs.declared.building.Change.TheVariants as change
+use Rattle.machine_model.specs.Building.{changed}
 use Rattle.proof_straight.specs.Drafts.{first_draft}
 use Rattle.machine_core.proofs.Changes.{changed_is_main, changed_live, main_changed}
 use Rattle.machine_core.proofs.changing.take_out.Goals as goal
 
-pub swap_in-requires-clause-live : goal.swap_in-requires-clause-live
-swap_in-requires-clause-live c =
+pub swap_changed-requires-clause-live : goal.swap_changed-requires-clause-live
+swap_changed-requires-clause-live c =
     let heap = c.args.heap.now.heap in
-    changed_live heap c.args.place.flag c.requires.here.bitmap c.requires.here.entries (node_at heap c.args.place.main) c.changed_at-node.result (change.Remove c.args.place.position)
-    c.requires.here.branch c.changed_at-node.ensures tt c.requires.can.entries tt
+    changed_live heap c.args.place.flag c.requires.here.bitmap c.requires.here.entries (node_at heap c.args.place.main)
+    (changed c.args.place.flag (node_at c.args.heap.now.heap c.args.place.main) (change.Remove c.args.place.position)) (change.Remove c.args.place.position)
+    c.requires.here.branch refl tt c.requires.can.entries tt
 
-pub swap_in-requires-clause-kind : goal.swap_in-requires-clause-kind
-swap_in-requires-clause-kind c =
-    changed_is_main c.args.place.flag c.requires.here.bitmap c.requires.here.entries (node_at c.args.heap.now.heap c.args.place.main) c.changed_at-node.result
-    (change.Remove c.args.place.position) c.requires.here.branch c.changed_at-node.ensures
+pub swap_changed-requires-clause-kind : goal.swap_changed-requires-clause-kind
+swap_changed-requires-clause-kind c =
+    changed_is_main c.args.place.flag c.requires.here.bitmap c.requires.here.entries (node_at c.args.heap.now.heap c.args.place.main)
+    (changed c.args.place.flag (node_at c.args.heap.now.heap c.args.place.main) (change.Remove c.args.place.position))
+    (change.Remove c.args.place.position) c.requires.here.branch refl
 
 pub returns-clause-drafts : goal.returns-clause-drafts
 returns-clause-drafts c state call is key flag =
     let place = c.args.place in
-    main_changed state call place.depth place.indirection place.main place.flag c.args._key c.changed_at-node.result (first_draft state) (change.Remove place.position)
-    (change.Remove place.position) c.args.heap.now.heap c.swap_in.new.heap is.heap c.requires.can.over key flag refl c.changed_at-node.ensures
-    (c.swap_in.ensures.drafts state (first_draft state) is refl)
+    main_changed state call place.depth place.indirection place.main place.flag c.args._key
+    (changed c.args.place.flag (node_at c.args.heap.now.heap c.args.place.main) (change.Remove c.args.place.position)) (first_draft state) (change.Remove place.position)
+    (change.Remove place.position) c.args.heap.now.heap c.swap_changed.new.heap is.heap c.requires.can.over key flag refl refl
+    (c.swap_changed.ensures.drafts state (first_draft state) is refl)

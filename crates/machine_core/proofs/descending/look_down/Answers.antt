@@ -1,11 +1,12 @@
 use Rattle.std.proofs.Common.{ap, subst, ◌∙◌}
+use Rattle.slot_arena.specs.Views.{viewed}
 use Rattle.slot_arena.specs.Heaps.{generation_of, main_at}
 use Rattle.machine_core.specs.Descending.{IsBelow}
 use Rattle.machine_core.proofs.Descent.{starts, further}
 use Rattle.machine_core.proofs.descending.look_down.Goals as goal
 
 pub loop-depth-init : goal.loop-depth-init
-loop-depth-init c = starts c.args.heap.now.heap c.args.root c.args.hash (c.in-Some-Indirection.ensures ∙ c.in-Some-Indirection.field-0-is)
+loop-depth-init c = starts c.args.heap.now.heap c.args.root c.args.hash (c.in-Some-Indirection.ensures ∙ ap viewed c.in-Some-Indirection.field-0-is)
 
 pub returns-in-Here : goal.returns-in-Here
 returns-in-Here c = record {
@@ -20,7 +21,8 @@ returns-in-Here c = record {
 pub loop-depth-preserved : goal.loop-depth-preserved
 loop-depth-preserved c =
     let heap = c.args.heap.now.heap in
-    further heap c.args.root c.args.hash c.loop-depth.depth c.loop-depth.indirection c.in-Some-Indirection.generation c.in-Below.below
-    (ap generation_of (c.in-Some-Indirection.ensures ∙ c.in-Some-Indirection.field-0-is)) c.loop-depth.invariant
-    (subst (λ flag. IsBelow heap (main_at heap c.loop-depth.indirection) flag c.in-Some-Indirection.generation c.in-Below.below) c.flag_of-flag.ensures.flag
-    (subst (λ main. IsBelow heap main c.flag_of-flag.result c.in-Some-Indirection.generation c.in-Below.below) c.main_at-main.ensures c.in-Below.ensures))
+    further heap c.args.root c.args.hash c.loop-depth.depth c.loop-depth.indirection c.in-Some-Indirection.generation c.in-Below.at
+    (ap generation_of (c.in-Some-Indirection.ensures ∙ ap viewed c.in-Some-Indirection.field-0-is)) c.loop-depth.invariant
+    (subst (λ flag. IsBelow heap (main_at heap c.loop-depth.indirection) flag c.in-Some-Indirection.generation c.in-Below.at) c.flag_of-flag.ensures.flag
+    (subst (λ main. IsBelow heap main c.flag_of-flag.result c.in-Some-Indirection.generation c.in-Below.at) c.main_at-main.ensures
+    (subst (λ g. IsBelow heap c.main_at-main.result c.flag_of-flag.result g c.in-Below.at) c.if-its-generation.true c.in-Below.ensures)))

@@ -40,8 +40,8 @@ link_down-top-requires-clause-can c =
     (can_begin c.args.heap.now c.args.place.indirection c.args.place.main c.new-made.result.items 28 (1 + (1 + nodes)) c.new-made.ensures (omega arith)
     (omega (arith, within.0, within.1)) c.requires.can))
 
-pub swap_in-requires-clause-can : goal.swap_in-requires-clause-can
-swap_in-requires-clause-can c =
+pub swap_changed-requires-clause-can : goal.swap_changed-requires-clause-can
+swap_changed-requires-clause-can c =
     let within = (depth_within c.args.hashes c.hash_at-old_hash.result c.hash-hash.result c.args.place.depth c.parting-depth.result
     (c.parting-depth.ensures ∙ ap (λ e. parting (e - (c.args.place.depth + 1)) c.hash_at-old_hash.result c.hash-hash.result (c.args.place.depth + 1)) c.list_depth.ensures.depth)) in
     can_swap_still c.args.heap.now c.link_down-top.new.heap c.new-made.result.items c.link_down-top.new.made.items c.args.place.indirection c.args.place.main 28
@@ -52,8 +52,8 @@ swap_in-requires-clause-can c =
     c.make_more-both.new.heap c.link_down-top.new.heap c.make_more-single.new.made.items c.make_more-both.new.made.items c.link_down-top.new.made.items refl c.make_more-both.ensures.makes
     c.link_down-top.ensures.makes))
 
-pub swap_in-requires-clause-live : goal.swap_in-requires-clause-live
-swap_in-requires-clause-live c =
+pub swap_changed-requires-clause-live : goal.swap_changed-requires-clause-live
+swap_changed-requires-clause-live c =
     let after = c.link_down-top.new.heap.heap in
     let place = c.args.place in
     let makes = (makes_on 1 (1 + (2 * (c.parting-depth.result - (c.args.place.depth + 1)) + 1)) (1 + (1 + (2 * (c.parting-depth.result - (c.args.place.depth + 1)) + 1))) c.args.heap.now
@@ -61,11 +61,12 @@ swap_in-requires-clause-live c =
     (makes_on 1 (2 * (c.parting-depth.result - (c.args.place.depth + 1)) + 1) (1 + (2 * (c.parting-depth.result - (c.args.place.depth + 1)) + 1)) c.make_more-single.new.heap
     c.make_more-both.new.heap c.link_down-top.new.heap c.make_more-single.new.made.items c.make_more-both.new.made.items c.link_down-top.new.made.items refl c.make_more-both.ensures.makes
     c.link_down-top.ensures.makes)) in
-    changed_live after place.flag c.requires.here.bitmap c.requires.here.entries (node_at after place.main) c.changed_at-node.result (change.Update place.position c.link_down-top.result)
-    (makes.nodes place.main c.requires.can.main_live ∙ c.requires.here.branch) c.changed_at-node.ensures tt (swap_in-requires-clause-can c).entries c.link_down-top.ensures.lives
+    changed_live after place.flag c.requires.here.bitmap c.requires.here.entries (node_at after place.main)
+    (changed place.flag (node_at c.link_down-top.new.heap.heap place.main) (change.Update place.position c.link_down-top.result)) (change.Update place.position c.link_down-top.result)
+    (makes.nodes place.main c.requires.can.main_live ∙ c.requires.here.branch) refl tt (swap_changed-requires-clause-can c).entries c.link_down-top.ensures.lives
 
-pub swap_in-requires-clause-held : goal.swap_in-requires-clause-held
-swap_in-requires-clause-held c r =
+pub swap_changed-requires-clause-held : goal.swap_changed-requires-clause-held
+swap_changed-requires-clause-held c r =
     let within = (depth_within c.args.hashes c.hash_at-old_hash.result c.hash-hash.result c.args.place.depth c.parting-depth.result
     (c.parting-depth.ensures ∙ ap (λ e. parting (e - (c.args.place.depth + 1)) c.hash_at-old_hash.result c.hash-hash.result (c.args.place.depth + 1)) c.list_depth.ensures.depth)) in
     let makes = (makes_on 1 (1 + (2 * (c.parting-depth.result - (c.args.place.depth + 1)) + 1)) (1 + (1 + (2 * (c.parting-depth.result - (c.args.place.depth + 1)) + 1))) c.args.heap.now
@@ -120,11 +121,13 @@ returns-clause-drafts c state call root is key value flag kind g =
     record {
       parts = sym finds.deep_is ∙ far;
       few = omega (arith, within.1);
-      draft = main_changed state call depth place.indirection place.main place.flag c.args.key c.changed_at-node.result (with_pair state call root depth place.indirection place.position levels)
-          (change.Update place.position (with_pair state call root depth place.indirection place.position levels).newest) (change.Update place.position top.result) heap c.swap_in.new.heap
+      draft = main_changed state call depth place.indirection place.main place.flag c.args.key
+          (changed place.flag (node_at c.link_down-top.new.heap.heap place.main) (change.Update place.position c.link_down-top.result))
+          (with_pair state call root depth place.indirection place.position levels)
+          (change.Update place.position (with_pair state call root depth place.indirection place.position levels).newest) (change.Update place.position top.result) heap c.swap_changed.new.heap
           is.heap c.requires.can.over key flag (ap (change.Update place.position) (sym way.newest_is))
-          (c.changed_at-node.ensures ∙ ap (λ x. changed place.flag x (change.Update place.position top.result)) (makes.nodes place.main c.requires.can.main_live))
-          (c.swap_in.ensures.drafts state (with_pair state call root depth place.indirection place.position levels) way.draft_is (way.private ∙ sym c.as_slice.ensures.value));
+          (ap (λ x. changed place.flag x (change.Update place.position top.result)) (makes.nodes place.main c.requires.can.main_live))
+          (c.swap_changed.ensures.drafts state (with_pair state call root depth place.indirection place.position levels) way.draft_is (way.private ∙ sym c.as_slice.ensures.value));
     }
 
 pub returns-clause-few : goal.returns-clause-few

@@ -2,18 +2,17 @@ use Rattle.std.proofs.Common.{arith, refl, sym, ap, ◌∙◌}
 use Rattle.machine_model.specs.States.{key_hash}
 use Rattle.nodes.specs.Levels.{flag_of}
 use Rattle.machine_core.specs.Seen.{seen}
-use Rattle.machine_core.proofs.Bounded.{bounded}
-use Rattle.machine_core.proofs.Carried.{can_swap_at, first_drafted, other_lives, part_done}
+use Rattle.machine_core.proofs.Carried.{can_swap_at, drafted_first, other_lives, part_done}
 use Rattle.machine_core.proofs.straight.part.Goals as goal
 
 pub put_beside-levels-requires-clause-can : goal.put_beside-levels-requires-clause-can
 put_beside-levels-requires-clause-can c =
-    can_swap_at (seen c.args.parts.now) c.args._actor c.args.call c.args.root c.requires.core.run c.requires.rest c.requires.allowed c.requires.clear c.requires.keyed c.args.place 28
+    can_swap_at (seen c.args.parts.now) c.args._actor c.args.call c.args.root c.requires.fit.can c.requires.keyed c.args.place 28
     c.requires.ends (omega arith)
 
 pub put_beside-levels-requires-clause-old : goal.put_beside-levels-requires-clause-old
 put_beside-levels-requires-clause-old c =
-    other_lives (seen c.args.parts.now) c.args._actor c.args.call c.args.root c.requires.core.run c.requires.rest c.requires.allowed c.requires.clear c.requires.keyed c.args.place
+    other_lives (seen c.args.parts.now) c.args._actor c.args.call c.args.root c.requires.fit.can c.requires.keyed c.args.place
     c.requires.ends c.requires.other
 
 pub overflow_add-depth : goal.overflow_add-depth
@@ -23,18 +22,18 @@ pub overflow_add-depth-2 : goal.overflow_add-depth-2
 overflow_add-depth-2 c = omega (arith, c.requires.ends.deep, c.put_beside-levels.ensures.few)
 
 pub count_call-requires-clause-begun : goal.count_call-requires-clause-begun
-count_call-requires-clause-begun c = let bounds = bounded (seen c.args.parts.now) c.requires.core.run in omega (arith, bounds.begins, bounds.steps)
+count_call-requires-clause-begun c = omega (arith, c.requires.fit.can.begun)
 
 pub count_call-requires-clause-steps : goal.count_call-requires-clause-steps
 count_call-requires-clause-steps c =
-    let bounds = bounded (seen c.args.parts.now) c.requires.core.run in omega (arith, bounds.steps, c.requires.ends.deep, c.put_beside-levels.ensures.few)
+    omega (arith, c.requires.fit.can.steps, c.requires.fit.can.life, c.requires.ends.deep, c.put_beside-levels.ensures.few)
 
 pub returns : goal.returns
-returns c =
+returns c start leads =
     let before = c.args.parts.now in
-    part_done before c.count_call.new.parts c.put_beside-levels.new.heap c.args._actor c.args.call c.args.root c.args.place c.key_of-key.result c.put_beside-levels.result
-    c.changed_reply.result c.requires.core c.requires.rest c.requires.allowed c.requires.clear c.requires.keyed c.requires.ends c.requires.other c.requires.puts c.key_of-key.ensures
+    part_done start before c.count_call.new.parts c.put_beside-levels.new.heap c.args._actor c.args.call c.args.root c.args.place c.key_of-key.result c.put_beside-levels.result
+    c.changed_reply.result c.requires.fit leads c.requires.keyed c.requires.ends c.requires.other c.requires.puts c.key_of-key.ensures
     c.key_of-key.type_inv
-    (c.put_beside-levels.ensures.drafts (seen before) c.args.call c.args.root (first_drafted before c.requires.core) (sym c.key_of-key.ensures) (sym c.value_of.ensures)
+    (c.put_beside-levels.ensures.drafts (seen before) c.args.call c.args.root (drafted_first before c.requires.fit.kept c.requires.fit.settled) (sym c.key_of-key.ensures) (sym c.value_of.ensures)
     (c.requires.ends.flag ∙ ap (λ k. flag_of (key_hash (seen before) k) c.args.place.depth) (sym c.key_of-key.ensures)) refl (sym c.generation_at-generation.ensures))
     c.put_beside-levels.ensures.records c.count_call.ensures c.changed_reply.ensures

@@ -1,0 +1,42 @@
+use Rattle.std.proofs.Common.{[], ◌∷◌, ◌++◌, ap, sym, ◌∙◌, ◌≡◌, ◌≤◌, List, refl, subst}
+use Rattle.slot_arena.specs.Arenas.{is_main_node}
+use Rattle.slot_arena.specs.Heaps.{node_at}
+use Rattle.machine_model.specs.Building.{changed}
+use Rattle.slot_arena.specs.declared.refs.Ref.{Ref}
+use Rattle.slot_arena.specs.Times.{times}
+use Rattle.proof_straight.specs.Drafts.{next_made, with_made, with_published}
+use Rattle.machine_core.proofs.Drafts.{can_then, held_more, made_then}
+use Rattle.machine_core.proofs.drafting.swap_changed.Goals as goal
+
+pub publish-requires-clause-kind : goal.publish-requires-clause-kind
+publish-requires-clause-kind c =
+    let node = changed c.args.flag (node_at c.args.heap.now.heap c.args.main) c.args.change in
+    (can_then c.args.heap.now.heap c.make_changed-fresh.new.heap.heap node c.args.indirection c.args.main 0 c.requires.can c.make_changed-fresh.ensures.heap
+    c.make_changed-fresh.ensures.stay).kind
+
+pub publish-requires-clause-over : goal.publish-requires-clause-over
+publish-requires-clause-over c =
+    let node = changed c.args.flag (node_at c.args.heap.now.heap c.args.main) c.args.change in
+    (can_then c.args.heap.now.heap c.make_changed-fresh.new.heap.heap node c.args.indirection c.args.main 0 c.requires.can c.make_changed-fresh.ensures.heap
+    c.make_changed-fresh.ensures.stay).over
+
+pub publish-requires-clause-fresh_kind : goal.publish-requires-clause-fresh_kind
+publish-requires-clause-fresh_kind c =
+    let node = changed c.args.flag (node_at c.args.heap.now.heap c.args.main) c.args.change in
+    ap is_main_node (made_then c.args.heap.now.heap c.make_changed-fresh.new.heap.heap node c.args.indirection c.args.main 0 c.requires.can c.make_changed-fresh.ensures.heap
+    c.make_changed-fresh.ensures.stay c.make_changed-fresh.result c.make_changed-fresh.ensures.made)
+    ∙ c.requires.kind
+
+pub publish-requires-clause-held : goal.publish-requires-clause-held
+publish-requires-clause-held c r =
+    subst (λ (held : List Ref). times r (c.args.made.now ++ c.make_changed-fresh.result ∷ []) ≤ times r held) (sym c.make_changed-fresh.ensures.outside)
+    (held_more c.args.made.now c.args.heap.now.outside c.make_changed-fresh.result c.requires.held r)
+
+pub returns-clause-drafts : goal.returns-clause-drafts
+returns-clause-drafts c state draft is private =
+    let node = changed c.args.flag (node_at c.args.heap.now.heap c.args.main) c.args.change in
+    let own : c.make_changed-fresh.result ≡ next_made draft.heap = c.make_changed-fresh.ensures.made ∙ ap next_made is.heap in
+    c.commit.ensures.drafts state (with_published state (with_made state draft node) c.args.indirection c.args.main)
+    (c.publish.ensures.drafts state (with_made state draft node) (c.make_changed-fresh.ensures.drafts state draft is)
+    (ap (λ (held : List Ref). held ++ next_made draft.heap ∷ []) private ∙ ap (λ (r : Ref). c.args.made.now ++ r ∷ []) (sym own)) (sym own))
+    refl (sym own)

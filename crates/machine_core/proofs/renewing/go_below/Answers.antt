@@ -1,0 +1,52 @@
+use Rattle.std.proofs.Common.{ap, sym, subst, ◌∙◌}
+use Rattle.slot_arena.specs.Heaps.{entry_at, node_at}
+use Rattle.machine_core.specs.Drafting.{CanSwap}
+use Rattle.machine_core.specs.Renewing.{AreOverLive, IsBranch}
+use Rattle.machine_core.specs.Seen.{seen}
+use Rattle.machine_core.proofs.Carried.{drafted_first}
+use Rattle.machine_core.proofs.Downward.{branch_here, can_swap_here, over, over_live_here}
+use Rattle.machine_core.proofs.WayDown.{on_kept, on_renewed, place_is}
+use Rattle.machine_core.proofs.renewing.go_below.Goals as goal
+
+pub returns-then-not-is_old : goal.returns-then-not-is_old
+returns-then-not-is_old c start node on =
+    let parts = c.args.parts.now in
+    let at = c.position_of-position.result in
+    on_kept start parts c.args._actor c.args.call c.args.root c.args._place.now node c.args.depth c.args.indirection on c.requires.further c.generation_at-generation.result at
+    c.entry_at-entry.result c.generation_at-generation.ensures
+    (place_is (seen parts) c.args.call c.args.depth c.args.indirection c.main_at-main.result c.key_of.result c.key_hash.result c.flag_of-flag.result c.bitmap_at.result at
+    c.main_at-main.ensures c.key_of.ensures c.key_hash.ensures c.flag_of-flag.ensures.flag c.bitmap_at.ensures c.position_of-position.ensures)
+    (c.entry_at-entry.ensures ∙ ap (λ m. entry_at parts.heap.heap m at) c.main_at-main.ensures) (sym c.is_old.ensures ∙ c.if-not-is_old.true)
+
+pub renew-steps-requires-clause-can : goal.renew-steps-requires-clause-can
+renew-steps-requires-clause-can c =
+    subst (λ m. CanSwap c.args.parts.now.heap.heap c.args.indirection m 33) (sym c.main_at-main.ensures)
+    (can_swap_here c.requires.on.0 (seen c.args.parts.now) c.args._actor c.args.call c.args.root c.args._place.now c.requires.on.1 c.args.depth c.args.indirection c.requires.on.2.is
+    c.requires.further)
+
+pub renew-steps-requires-clause-branch : goal.renew-steps-requires-clause-branch
+renew-steps-requires-clause-branch c =
+    subst (IsBranch c.args.parts.now.heap.heap) (sym c.main_at-main.ensures)
+    (branch_here c.requires.on.0 (seen c.args.parts.now) c.args._actor c.args.call c.args.root c.args._place.now c.requires.on.1 c.args.depth c.args.indirection c.requires.on.2.is
+    c.requires.further)
+
+pub renew-steps-requires-clause-over : goal.renew-steps-requires-clause-over
+renew-steps-requires-clause-over c =
+    subst (AreOverLive c.args.parts.now.heap.heap) (sym c.main_at-main.ensures)
+    (over_live_here c.requires.on.0 (seen c.args.parts.now) c.args._actor c.args.call c.args.root c.args._place.now c.requires.on.1 c.args.depth c.args.indirection c.requires.on.2.is
+    c.requires.further)
+
+pub returns : goal.returns
+returns c start node on =
+    let parts = c.args.parts.now in
+    let at = c.position_of-position.result in
+    let o = over start (seen parts) c.args._actor c.args.call c.args.root c.args._place.now node c.args.depth c.args.indirection on.is c.requires.further in
+    on_renewed start parts c.args._actor c.args.call c.args.root c.args._place.now node c.args.depth c.args.indirection on c.requires.further c.generation_at-generation.result at
+    c.entry_at-entry.result c.generation_at-generation.ensures
+    (place_is (seen parts) c.args.call c.args.depth c.args.indirection c.main_at-main.result c.key_of.result c.key_hash.result c.flag_of-flag.result c.bitmap_at.result at
+    c.main_at-main.ensures c.key_of.ensures c.key_hash.ensures c.flag_of-flag.ensures.flag c.bitmap_at.ensures c.position_of-position.ensures)
+    (c.entry_at-entry.ensures ∙ ap (λ m. entry_at parts.heap.heap m at) c.main_at-main.ensures) (sym c.is_old.ensures ∙ c.if-not-is_old.false) c.renew-steps.new.heap c.renew-steps.result
+    c.main_at-fresh.result c.entry_at.result
+    (c.renew-steps.ensures.renews (seen parts) c.args.root o.1.bitmap o.1.entries (drafted_first parts on.kept on.settled) (sym c.generation_at-generation.ensures)
+    (ap (node_at parts.heap.heap) c.main_at-main.ensures ∙ o.1.branch))
+    c.renew-steps.ensures.records c.main_at-fresh.ensures c.entry_at.ensures
