@@ -1,5 +1,5 @@
--- A call that is carried out from rest with the sweep behind it, seen in the map.
-use Rattle.std.specs.Prelude.{◌≡◌, ◌+◌, ◌*◌, ◌<◌, ◌≤◌, ◌^◌, ℕ, Bool, true, false, nat_le, [], None, Ok}
+-- A call that is carried out from rest with the sweep behind it, seen in its handles.
+use Rattle.std.specs.Prelude.{◌≡◌, ◌+◌, ◌*◌, ◌<◌, ◌≤◌, ◌^◌, ℕ, Bool, true, false, nat_le, [], length, None, Ok}
 use Rattle.std.proofs.Common.{refl, sym, ap, subst, arith, leb-false, leb-true, ◌∙◌}
 use Rattle.history.specs.declared.calls.Call.{Call}
 use Rattle.history.specs.declared.calls.Call.TheVariants as call
@@ -14,11 +14,10 @@ use Rattle.proof_alone.specs.Calls.{Acts, CallsDo, CanCall, Does, EnoughSlotsFor
 use Rattle.proof_alone.specs.Sweeps.{Sweeps, SweepsLeave, Swept, most_sweeps, steps_for_a_slot}
 use Rattle.ctrie_map.specs.Beneath.proof_straight.specs.Resting.{IsOfRun}
 use Rattle.ctrie_map.specs.Beneath.proof_straight.specs.Running.{Comes}
-use Rattle.ctrie_map.specs.Changes.{HasLife, IsTight}
-use Rattle.ctrie_map.specs.Cores.{IsCalm, the_actor}
-use Rattle.ctrie_map.specs.Costs.{WorksUpTo, work_of_call}
-use Rattle.ctrie_map.specs.Maps.{free_of, handles_of}
-use Rattle.ctrie_map.specs.Performing.{Answers, IsChange, Performs}
+use Rattle.ctrie_map.specs.Beneath.map_worlds.specs.Worlds.{world_of}
+use Rattle.ctrie_map.specs.Cores.{Carries, IsCalm, IsTight, Replies, TakesUpTo, is_worn_out, the_actor}
+use Rattle.ctrie_map.specs.Costs.{work_of_call}
+use Rattle.ctrie_map.specs.Performing.{IsChange}
 use Rattle.ctrie_map.proofs.Denying.{not_denied}
 
 short : (c : Call) → IsChange c → IsNoWalk c
@@ -33,7 +32,7 @@ few_steps (call.Snapshot h) = omega arith
 few_steps (call.Freeze h) = omega arith
 few_steps c = omega arith
 
-module _ (before : State) (c : Call) (calm : IsCalm before) (run : IsOfRun before) (change : IsChange c) (allowed : begin_denial before the_actor c ≡ None) (life : HasLife before)
+module _ (before : State) (c : Call) (calm : IsCalm before) (run : IsOfRun before) (change : IsChange c) (allowed : begin_denial before the_actor c ≡ None) (life : is_worn_out before ≡ false)
     (fits : key_of c < 2 ^ 64) where
   pub can : CanCall before the_actor c
   can = record { of_run = run; rest = calm.rest; allowed = allowed; short = short c change; fits = fits; left = grind (arith, life) }
@@ -61,24 +60,31 @@ module _ (before : State) (c : Call) (calm : IsCalm before) (run : IsOfRun befor
           record { one = ap (λ (l : Bounds). l.actors) same ∙ calm.one; life = ap (λ (l : Bounds). l.steps) same ∙ calm.life; rest = swept.rest; clean = clean }
 
       module _ (out : RefusedIfOut) (enough : EnoughSlotsForCalls) where
-        tight_by : (b : Bool) → nat_le (slots_of c) (free_of before) ≡ b → answer ≡ NoSlots → IsTight (slots_of c) before
-        tight_by true e none = absurd (enough before the_actor c can (leb-true (slots_of c) (free_of before) e) comes.0 answer middle comes.1 none)
-        tight_by false e none = leb-false (slots_of c) (free_of before) e
+        tight_by : (b : Bool) → nat_le (slots_of c) (length before.heap.free) ≡ b → answer ≡ NoSlots → IsTight (slots_of c) before
+        tight_by true e none = absurd (enough before the_actor c can (leb-true (slots_of c) (length before.heap.free) e) comes.0 answer middle comes.1 none)
+        tight_by false e none = leb-false (slots_of c) (length before.heap.free) e
 
         runs_out : answer ≡ NoSlots → RunsOut before the_actor c
         runs_out none = out before the_actor c can comes.0 middle (subst (λ a. Comes before the_actor c comes.0 a middle) none comes.1)
 
-        answers : (a : Reply) → answer ≡ a → Acts before c a middle → Answers before c a after
-        answers NoSlots is acts = (tight_by (nat_le (slots_of c) (free_of before)) refl is, runs_out is, (swept.limits ∙ does.limits, swept.world ∙ acts))
-        answers a is acts = (acts.0, handles_of middle, acts.1, (swept.limits ∙ does.limits, swept.world))
+        answers : (a : Reply) → answer ≡ a → Acts before c a middle → Replies before c a after
+        answers NoSlots is acts = (tight_by (nat_le (slots_of c) (length before.heap.free)) refl is, runs_out is, (swept.limits ∙ does.limits, swept.world ∙ acts))
+        answers a is acts = (acts.0, world_of middle, acts.1, (swept.limits ∙ does.limits, swept.world))
 
-        pub performs : Performs (Ok answer) before c after
-        performs = ((not_denied before run calm.rest calm.one c change allowed, life), answers answer refl does.acts)
+        pub performs : Carries (Ok answer) before c after
+        performs = (not_denied before run calm.rest calm.one c change allowed, life, answers answer refl does.acts)
 
-      pub works : WorksUpTo (work_of_call c) before after
+      pub works : TakesUpTo (work_of_call c) before after
       works =
           let one : middle.limits.actors ≡ 1 = ap (λ (l : Bounds). l.actors) does.limits ∙ calm.one in
-          let few : way.0 + 5 * free_of middle ≤ 5 * (free_of after + 1) =
-          subst (λ a. way.0 + steps_for_a_slot a * free_of middle ≤ steps_for_a_slot a * (free_of after + 1)) one swept.few in
+          let few : way.0 + 5 * length middle.heap.free ≤ 5 * (length after.heap.free + 1) =
+          subst (λ a. way.0 + steps_for_a_slot a * length middle.heap.free ≤ steps_for_a_slot a * (length after.heap.free + 1)) one swept.few in
           let so_far = swept.steps in let rises = does.rises in let steps = does.steps in let slots = does.slots in
           (omega (arith, so_far, rises), omega (arith, so_far, few, steps, slots))
+
+      pub slots_left : length before.heap.free ≤ length after.heap.free + (slots_of c + 1)
+      slots_left =
+          let one : middle.limits.actors ≡ 1 = ap (λ (l : Bounds). l.actors) does.limits ∙ calm.one in
+          let few : way.0 + 5 * length middle.heap.free ≤ 5 * (length after.heap.free + 1) =
+          subst (λ a. way.0 + steps_for_a_slot a * length middle.heap.free ≤ steps_for_a_slot a * (length after.heap.free + 1)) one swept.few in
+          let slots = does.slots in omega (arith, few, slots)

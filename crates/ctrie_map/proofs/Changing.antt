@@ -11,16 +11,15 @@ use Rattle.history.specs.declared.calls.Access.TheVariants.{Writable, ReadOnly}
 use Rattle.history.specs.declared.calls.Call.{Call}
 use Rattle.history.specs.declared.replies.Reply.{Reply}
 use Rattle.history.specs.declared.replies.Reply.TheVariants.{Crowded, NoSlots}
-use Rattle.history.specs.Effects.{changing, effect, naming, with_access}
+use Rattle.history.specs.Effects.{changing, naming, with_access}
 use Rattle.history.specs.Worlds.{HandleMap, HandleState, KeyMap}
-use Rattle.proof_alone.specs.Calls.{RunsOut, slots_of}
 use Rattle.ctrie_map.specs.declared.errors.MapError.{MapError}
 use Rattle.ctrie_map.specs.declared.errors.MapError.TheVariants as error
-use Rattle.ctrie_map.specs.Changes.{Changes, HasLife, IsTight, Refuses}
-use Rattle.ctrie_map.specs.Cores.{the_actor}
+use Rattle.ctrie_map.specs.Changes.{Changes, HasLife, LacksSlots, Refuses, changes_map, denial_in}
 use Rattle.ctrie_map.specs.Maps.{MapState, Becomes, Stays, handles_of}
-use Rattle.ctrie_map.specs.Performing.{Answers, IsBegun, Performs}
-use Rattle.ctrie_map.proofs.Denying.{told_of}
+use Rattle.machine_model.specs.Calls.{handle_of, opens_handle}
+use Rattle.ctrie_map.specs.Performing.{Answers, IsBegun, Performs, effect_among}
+use Rattle.ctrie_map.proofs.Denying.{IsDenial, told_by}
 
 -- ---- results
 
@@ -85,9 +84,13 @@ module _ (world : HandleMap) (handle : ℕ) (change : KeyMap → Reply × KeyMap
 
 -- ---- what a call comes to
 
+-- only these deny a call
+pub told_of : (before : MapState) (c : Call) (told : MapError) → denial_in before c ≡ Some told → IsDenial told
+told_of before c told e = told_by (changes_map c) (opens_handle c) (map.get (handles_of before) (handle_of c)) (map.len (handles_of before)) told e
+
 module _ {A : Type 0} (said : Result Reply MapError → Result A MapError) (full : said (Ok NoSlots) ≡ Err error.Full) (crowded : said (Ok Crowded) ≡ Err error.Crowded)
     (as_told : (why : MapError) → said (Err why) ≡ Err why) (before : MapState) (handle : ℕ) (c : Call) (change : KeyMap → Reply × KeyMap)
-    (is : (opens : Option ℕ) → effect (hash_of before.limits.hash) (handles_of before) c opens ≡ changing (handles_of before) handle change) (Crowds : Type 0)
+    (is : (opens : Option ℕ) → effect_among (hash_of before.core.limits.hash) (handles_of before) c opens ≡ changing (handles_of before) handle change) (Crowds : Type 0)
     (Told : A → KeyMap → Type 0) (to : KeyMap → KeyMap) where
   -- it is crowded there, or the change is done
   abbrev pub Outcome : KeyMap → Type 0
@@ -100,7 +103,7 @@ module _ {A : Type 0} (said : Result Reply MapError → Result A MapError) (full
   module _ (outcome : (m : KeyMap) → Writes (handles_of before) handle m → Outcome m) (after : MapState) where
     -- the three ways of an answer
     data Way (answer : Reply) : Type 0 where
-      wants : IsTight (slots_of c) before → RunsOut before the_actor c → Stays before after → said (Ok answer) ≡ Err error.Full → Way answer
+      wants : LacksSlots before c → Stays before after → said (Ok answer) ≡ Err error.Full → Way answer
       crowds : Crowds → Stays before after → said (Ok answer) ≡ Err error.Crowded → Way answer
       does : (m : KeyMap) (a : A) → Writes (handles_of before) handle m → Told a m → Becomes before (naming (handles_of before) handle Writable (to m)) after →
           said (Ok answer) ≡ Ok a → Way answer
@@ -114,18 +117,18 @@ module _ {A : Type 0} (said : Result Reply MapError → Result A MapError) (full
     by_outcome answer m at e becomes (inr (a, told, so, there)) =
         does m a at so (subst (λ n. Becomes before (naming (handles_of before) handle Writable n) after) there becomes) (ap (λ r. said (Ok r)) e ∙ told)
 
-    by_effect : (answer : Reply) (opens : Option ℕ) (next : HandleMap) → effect (hash_of before.limits.hash) (handles_of before) c opens ≡ Some (answer, next) →
+    by_effect : (answer : Reply) (opens : Option ℕ) (next : HandleMap) → effect_among (hash_of before.core.limits.hash) (handles_of before) c opens ≡ Some (answer, next) →
         Becomes before next after → Way answer
     by_effect answer opens next effect_is becomes =
         let (m, at, e, there) = says (handles_of before) handle change answer next (sym (is opens) ∙ effect_is) in
         by_outcome answer m at e (subst (λ w. Becomes before w after) there becomes) (outcome m at)
 
     way : (answer : Reply) → Answers before c answer after → Way answer
-    way NoSlots p = wants p.0 p.1 p.2 full
+    way NoSlots p = wants p.0 p.1 full
     way answer p = by_effect answer p.0 p.1 p.2 p.3
 
     by_way : (answer : Reply) → IsBegun before c → Way answer → Comes after (said (Ok answer))
-    by_way answer begun (wants tight out stays e) = subst (Comes after) (sym e) (begun.0, begun.1, tight, out, stays)
+    by_way answer begun (wants lacks stays e) = subst (Comes after) (sym e) (begun.0, begun.1, lacks, stays)
     by_way answer begun (crowds crowd stays e) = subst (Comes after) (sym e) (begun.0, begun.1, crowd, stays)
     by_way answer begun (does m a at so becomes e) = subst (Comes after) (sym e) (begun.1, (m, at, so, becomes))
 

@@ -7,16 +7,13 @@ use Rattle.history.specs.declared.calls.Call.TheVariants as call
 use Rattle.history.specs.declared.replies.Reply.{Reply}
 use Rattle.history.specs.declared.replies.Reply.TheVariants.{Closed, NoSlots}
 use Rattle.history.specs.Worlds.{HandleMap, HandleState}
-use Rattle.proof_alone.specs.Calls.{RunsOut}
 use Rattle.ctrie_map.specs.declared.errors.MapError.{MapError}
 use Rattle.ctrie_map.specs.declared.errors.MapError.TheVariants as error
-use Rattle.ctrie_map.specs.Changes.{Closes, HasLife, IsTight, Refuses}
-use Rattle.ctrie_map.specs.Cores.{the_actor}
+use Rattle.ctrie_map.specs.Changes.{Closes, HasLife, LacksSlots, Refuses}
 use Rattle.ctrie_map.specs.Maps.{MapState, Becomes, Stays, handles_of}
 use Rattle.ctrie_map.specs.Performing.{Answers, IsBegun, Performs}
 use Rattle.ctrie_map.specs.Telling.{done_in}
-use Rattle.ctrie_map.proofs.Changing.{ComesTo, done_so, refused_so}
-use Rattle.ctrie_map.proofs.Denying.{told_of}
+use Rattle.ctrie_map.proofs.Changing.{ComesTo, done_so, refused_so, told_of}
 
 module _ (before : MapState) (h : ℕ) (after : MapState) where
   abbrev CloseDone : Unit {0} → Type 0
@@ -26,7 +23,7 @@ module _ (before : MapState) (h : ℕ) (after : MapState) where
   CloseRefused = Refuses before (call.Close h) ⊥ after
 
   data Way (answer : Reply) : Type 0 where
-    wants : IsTight 0 before → RunsOut before the_actor (call.Close h) → Stays before after → answer ≡ NoSlots → Way answer
+    wants : LacksSlots before (call.Close h) → Stays before after → answer ≡ NoSlots → Way answer
     does : Closes before h after → answer ≡ Closed → Way answer
 
   by_shown : (answer : Reply) (next : HandleMap) (shown : Option HandleState) → map.get (handles_of before) h ≡ shown →
@@ -38,14 +35,14 @@ module _ (before : MapState) (h : ℕ) (after : MapState) where
       does (shown, at, subst (λ w. Becomes before w after) (ap (λ p. p.1) (sym same)) becomes) (ap (λ p. p.0) (sym same))
 
   way : (answer : Reply) → Answers before (call.Close h) answer after → Way answer
-  way NoSlots p = wants p.0 p.1 p.2 refl
+  way NoSlots p = wants p.0 p.1 refl
   way answer p = by_shown answer p.1 (map.get (handles_of before) h) refl p.2 p.3
 
   abbrev Comes : Result (Unit {0}) MapError → Type 0
   Comes = ComesTo CloseDone CloseRefused
 
   by_way : (answer : Reply) → IsBegun before (call.Close h) → Way answer → Comes (done_in (Ok answer))
-  by_way answer begun (wants tight out stays e) = subst (λ a. Comes (done_in (Ok a))) (sym e) (begun.0, begun.1, tight, out, stays)
+  by_way answer begun (wants lacks stays e) = subst (λ a. Comes (done_in (Ok a))) (sym e) (begun.0, begun.1, lacks, stays)
   by_way answer begun (does closes e) = subst (λ a. Comes (done_in (Ok a))) (sym e) (begun.1, closes)
 
   by_error : (why : MapError) → Performs (Err why) before (call.Close h) after → Comes (Err why)

@@ -1,4 +1,4 @@
--- What denies a call in the machine is what denies it in the map.
+-- What denies a call in the machine is what denies a call of the core.
 use Rattle.std.specs.Prelude.{◌≡◌, ◌⊎◌, ℕ, Bool, true, false, not, ◌&&◌, is_some, nat_le, if◌then◌else◌, List, [], ◌∷◌, Option, Some, None, option_map, Err}
 use Rattle.std.specs.FinMap as map
 use Rattle.std.specs.List.{list_any}
@@ -23,10 +23,9 @@ use Rattle.ctrie_map.specs.Beneath.map_worlds.proofs.Shown.{shows_roots}
 use Rattle.ctrie_map.specs.declared.errors.MapError.{MapError}
 use Rattle.ctrie_map.specs.declared.errors.MapError.TheVariants as error
 use Rattle.ctrie_map.specs.Beneath.proof_straight.specs.Resting.{IsOfRun}
-use Rattle.ctrie_map.specs.Changes.{denial_by, denial_in, is_frozen, is_worn_out}
-use Rattle.ctrie_map.specs.Cores.{the_actor}
-use Rattle.ctrie_map.specs.Maps.{MapState, handles_of}
-use Rattle.ctrie_map.specs.Performing.{IsChange, Performs, of_refusal}
+use Rattle.ctrie_map.specs.Cores.{Carries, core_denial, is_worn_out, the_actor}
+use Rattle.ctrie_map.specs.Denials.{denial_by, is_frozen}
+use Rattle.ctrie_map.specs.Performing.{IsChange, of_refusal}
 
 -- ---- the machine's reasons, at rest
 
@@ -118,11 +117,11 @@ module _ (state : State) (run : IsOfRun state) (rest : is_busy state ≡ false) 
         ∙ ap (λ n. reasons true false access writes false false opens (nat_le handle_limit n) spent) (taken_at_rest)
 
     -- so it is due in the map
-    pub due : Due (denial_in state c) (is_spent state) (begin_denial state the_actor c)
+    pub due : Due (core_denial state c) (is_spent state) (begin_denial state the_actor c)
     due =
         let world = world_of state in
         let spent = is_spent state in
-        let at : denial_in state c
+        let at : core_denial state c
         ≡ denial_by (needs_writable c) (opens_handle c) (option_map (named_at state (handle_of c)) (root_at state (handle_of c))) (map.len world) =
         ap (λ s. denial_by (needs_writable c) (opens_handle c) s (map.len world)) (shows_roots state (handle_of c)) in
         let by_root = denial_by (needs_writable c) (opens_handle c) (option_map (named_at state (handle_of c)) (root_at state (handle_of c))) (map.len world) in
@@ -150,38 +149,38 @@ IsDenial error.ReadOnly = Unit {0}
 IsDenial error.HandlesFull = Unit {0}
 IsDenial told = ⊥
 
-pub told_of : (before : MapState) (c : Call) (told : MapError) → denial_in before c ≡ Some told → IsDenial told
-told_of before c told e = elim (denied_with (needs_writable c) (opens_handle c) (map.get (handles_of before) (handle_of c)) (map.len (handles_of before)) told e) [
+pub told_by : (writes opens : Bool) (o : Option HandleState) (taken : ℕ) (told : MapError) → denial_by writes opens o taken ≡ Some told → IsDenial told
+told_by writes opens o taken told e = elim (denied_with writes opens o taken told e) [
   | inl is ↦ subst IsDenial (sym is) tt
   | inr (inl is) ↦ subst IsDenial (sym is) tt
   | inr (inr is) ↦ subst IsDenial (sym is) tt
 ]
 
-told_so : (told : MapError) (before : MapState) (c : Call) → (told ≡ error.NoHandle) ⊎ ((told ≡ error.ReadOnly) ⊎ (told ≡ error.HandlesFull)) →
-    denial_in before c ≡ Some told → Performs (Err told) before c before
-told_so told before c (inl is) e = rw is (subst (λ t. denial_in before c ≡ Some t) is e, refl)
-told_so told before c (inr (inl is)) e = rw is (subst (λ t. denial_in before c ≡ Some t) is e, refl)
-told_so told before c (inr (inr is)) e = rw is (subst (λ t. denial_in before c ≡ Some t) is e, refl)
+told_so : (told : MapError) (before : State) (c : Call) → (told ≡ error.NoHandle) ⊎ ((told ≡ error.ReadOnly) ⊎ (told ≡ error.HandlesFull)) →
+    core_denial before c ≡ Some told → Carries (Err told) before c before
+told_so told before c (inl is) e = rw is (subst (λ t. core_denial before c ≡ Some t) is e, refl)
+told_so told before c (inr (inl is)) e = rw is (subst (λ t. core_denial before c ≡ Some t) is e, refl)
+told_so told before c (inr (inr is)) e = rw is (subst (λ t. core_denial before c ≡ Some t) is e, refl)
 
 -- a map whose core has taken all its steps is worn out
 worn_when_spent : (state : State) → is_spent state ≡ true → is_worn_out state ≡ true
 worn_when_spent state spent = grind (arith, spent)
 
 module _ (state : State) (run : IsOfRun state) (rest : is_busy state ≡ false) (one : state.limits.actors ≡ 1) (c : Call) (change : IsChange c) where
-  performs_by : (d : Option MapError) (why : Refusal) → denial_in state c ≡ d → Due d (is_spent state) (Some why) → Performs (Err (of_refusal why)) state c state
+  performs_by : (d : Option MapError) (why : Refusal) → core_denial state c ≡ d → Due d (is_spent state) (Some why) → Carries (Err (of_refusal why)) state c state
   performs_by (Some told) why e due_so =
-      subst (λ t. Performs (Err t) state c state) (sym due_so)
-      (told_so told state c (denied_with (needs_writable c) (opens_handle c) (map.get (handles_of state) (handle_of c)) (map.len (handles_of state)) told e) e)
+      subst (λ t. Carries (Err t) state c state) (sym due_so)
+      (told_so told state c (denied_with (needs_writable c) (opens_handle c) (map.get (world_of state) (handle_of c)) (map.len (world_of state)) told e) e)
   performs_by None why e due_so = rw due_so.0 (e, worn_when_spent state due_so.1, refl)
 
   -- a call that is denied
-  pub denied : (why : Refusal) → begin_denial state the_actor c ≡ Some why → Performs (Err (of_refusal why)) state c state
-  denied why e = performs_by (denial_in state c) why refl (subst (Due (denial_in state c) (is_spent state)) e (due state run rest one c change))
+  pub denied : (why : Refusal) → begin_denial state the_actor c ≡ Some why → Carries (Err (of_refusal why)) state c state
+  denied why e = performs_by (core_denial state c) why refl (subst (Due (core_denial state c) (is_spent state)) e (due state run rest one c change))
 
   -- a call that isn't
-  pub not_denied : begin_denial state the_actor c ≡ None → denial_in state c ≡ None
-  not_denied e = none_by (denial_in state c) refl (subst (Due (denial_in state c) (is_spent state)) e (due state run rest one c change))
+  pub not_denied : begin_denial state the_actor c ≡ None → core_denial state c ≡ None
+  not_denied e = none_by (core_denial state c) refl (subst (Due (core_denial state c) (is_spent state)) e (due state run rest one c change))
     where
-      none_by : (d : Option MapError) → denial_in state c ≡ d → Due d (is_spent state) None → denial_in state c ≡ None
+      none_by : (d : Option MapError) → core_denial state c ≡ d → Due d (is_spent state) None → core_denial state c ≡ None
       none_by None is due_so = is
       none_by (Some told) is due_so = absurd due_so

@@ -12,6 +12,7 @@ use Rattle.machine_model.specs.States.{State, root_at}
 use Rattle.ctrie_map.specs.Beneath.map_worlds.proofs.Shown.{states_show}
 use Rattle.machine_core.proofs.Found.{found_along_is}
 use Rattle.machine_core.specs.Finding.{found_along}
+use Rattle.ctrie_map.specs.Beneath.map_worlds.specs.Worlds.{world_of}
 use Rattle.ctrie_map.specs.Beneath.proof_straight.specs.Resting.{IsOfRun}
 use Rattle.ctrie_map.specs.Beneath.proof_order.specs.Laws.Orders.{Names}
 use Rattle.history.specs.declared.replies.Reply.{Reply}
@@ -20,7 +21,7 @@ use Rattle.ctrie_map.specs.declared.errors.MapError.TheVariants as error
 use Rattle.ctrie_map.specs.Calling.{IsRead}
 use Rattle.ctrie_map.specs.Maps.{MapState, handles_of}
 use Rattle.ctrie_map.specs.Performing.{of_refusal}
-use Rattle.ctrie_map.specs.Reading.{RefusesReading, read_of, reading}
+use Rattle.ctrie_map.specs.Reading.{RefusesReading, core_reading, read_of, reading}
 
 -- one thing is told
 pub same_told : {A : Type 0} (r : Result A MapError) (a b : A) → r ≡ Ok a → r ≡ Ok b → a ≡ b
@@ -31,7 +32,7 @@ same_told (Ok x) a b e h =
 same_told (Err why) a b e h = absurd (cc e)
 
 -- what is read can be worked on
-mapped_by : {A B : Type 0} (f : A → B) (shown : Option HandleState) (read : KeyMap → A) (a : A) → read_of read shown ≡ Ok a → read_of (λ m. f (read m)) shown ≡ Ok (f a)
+pub mapped_by : {A B : Type 0} (f : A → B) (shown : Option HandleState) (read : KeyMap → A) (a : A) → read_of read shown ≡ Ok a → read_of (λ m. f (read m)) shown ≡ Ok (f a)
 mapped_by f None read a e = cc e
 mapped_by f (Some shown) read a e = let same : read shown.pairs ≡ a = cc e in ap (λ x. Ok (f x)) same
 
@@ -57,52 +58,49 @@ read_refused state h read other why (inl e) = inl (sym (refused state h read oth
 read_refused state h read other why (inr e) = inr (ap Err e.0, readable_so (map.get (handles_of state) h) read other e.1)
 
 -- entries are counted
-len_by : (shown : Option HandleState) (entries : List (ℕ × ℕ)) → read_of (λ m. map.entries m) shown ≡ Ok entries → read_of (λ m. map.len m) shown ≡ Ok (length entries)
+pub len_by : (shown : Option HandleState) (entries : List (ℕ × ℕ)) → read_of (λ m. map.entries m) shown ≡ Ok entries → read_of (λ m. map.len m) shown ≡ Ok (length entries)
 len_by None entries e = cc e
 len_by (Some shown) entries e = let same : map.entries shown.pairs ≡ entries = cc e in ap Ok (map.len-entries shown.pairs ∙ ap length same)
 
-pub len_read : (state : MapState) (h : ℕ) (entries : List (ℕ × ℕ)) → reading state h (λ m. map.entries m) ≡ Ok entries → reading state h (λ m. map.len m) ≡ Ok (length entries)
-len_read state h entries e = len_by (map.get (handles_of state) h) entries e
-
--- what could be read can be, whatever is read
-pub refuses_alike : {A B : Type 0} (state : MapState) (h : ℕ) (read : KeyMap → A) (other : KeyMap → B) (why : MapError) → RefusesReading (reading state h read) why →
-    RefusesReading (reading state h other) why
-refuses_alike state h read other why (inl e) = inl (refused state h read other why e)
-refuses_alike state h read other why (inr e) = inr (e.0, readable_so (map.get (handles_of state) h) read other e.1)
+-- what could be read of the core can be, whatever is read
+pub refuses_alike : {A B : Type 0} (state : State) (h : ℕ) (read : KeyMap → A) (other : KeyMap → B) (why : MapError) → RefusesReading (core_reading state h read) why →
+    RefusesReading (core_reading state h other) why
+refuses_alike state h read other why (inl e) = inl (refused_by (map.get (world_of state) h) read other why e)
+refuses_alike state h read other why (inr e) = inr (e.0, readable_so (map.get (world_of state) h) read other e.1)
 
 module _ (state : State) (run : IsOfRun state) (h : ℕ) where
-  shown_so : Names (root_at state h) (content_at state h) (map.get (handles_of state) h)
+  shown_so : Names (root_at state h) (content_at state h) (map.get (world_of state) h)
   shown_so =
-      subst (λ s. Names (root_at s h) (content_at s h) (map.get (handles_of s) h)) (sym run.is) (states_show state.limits run.steps run.limits run.keys h)
+      subst (λ s. Names (root_at s h) (content_at s h) (map.get (world_of s) h)) (sym run.is) (states_show state.limits run.steps run.limits run.keys h)
 
   closed_by : {A : Type 0} (read : KeyMap → A) (o : Option Root) (pairs : List (ℕ × ℕ)) (shown : Option HandleState) → o ≡ None → Names o pairs shown → read_of read shown ≡ Err error.NoHandle
   closed_by read None pairs shown e names = ap (read_of read) names
   closed_by read (Some root) pairs shown e names = cc e
 
   -- nothing is read of a handle that isn't open
-  pub closed : {A : Type 0} (read : KeyMap → A) → root_at state h ≡ None → reading state h read ≡ Err error.NoHandle
-  closed read e = closed_by read (root_at state h) (content_at state h) (map.get (handles_of state) h) e shown_so
+  pub closed : {A : Type 0} (read : KeyMap → A) → root_at state h ≡ None → core_reading state h read ≡ Err error.NoHandle
+  closed read e = closed_by read (root_at state h) (content_at state h) (map.get (world_of state) h) e shown_so
 
   value_by : (key : ℕ) (o : Option Root) (pairs : List (ℕ × ℕ)) (shown : Option HandleState) → IsSome o → Names o pairs shown → read_of (λ m. map.get m key) shown ≡ Ok (map.find nat_cmp key pairs)
   value_by key None pairs shown some names = cc some
   value_by key (Some root) pairs shown some (m, is, same) = ap (read_of (λ n. map.get n key)) is ∙ ap Ok (map.get-entries m key ∙ ap (map.find nat_cmp key) same)
 
-  pub value_read : (key : ℕ) → IsSome (root_at state h) → reading state h (λ m. map.get m key) ≡ Ok (found_along state h key)
+  pub value_read : (key : ℕ) → IsSome (root_at state h) → core_reading state h (λ m. map.get m key) ≡ Ok (found_along state h key)
   value_read key some =
-      value_by key (root_at state h) (content_at state h) (map.get (handles_of state) h) some shown_so ∙ ap Ok (sym (found_along_is state run h key some))
+      value_by key (root_at state h) (content_at state h) (map.get (world_of state) h) some shown_so ∙ ap Ok (sym (found_along_is state run h key some))
 
   entries_by : (o : Option Root) (pairs : List (ℕ × ℕ)) (shown : Option HandleState) → IsSome o → Names o pairs shown → read_of (λ m. map.entries m) shown ≡ Ok pairs
   entries_by None pairs shown some names = cc some
   entries_by (Some root) pairs shown some (m, is, same) = ap (read_of (λ n. map.entries n)) is ∙ ap Ok same
 
-  pub entries_read : IsSome (root_at state h) → reading state h (λ m. map.entries m) ≡ Ok (content_at state h)
-  entries_read some = entries_by (root_at state h) (content_at state h) (map.get (handles_of state) h) some shown_so
+  pub entries_read : IsSome (root_at state h) → core_reading state h (λ m. map.entries m) ≡ Ok (content_at state h)
+  entries_read some = entries_by (root_at state h) (content_at state h) (map.get (world_of state) h) some shown_so
 
   is_open : (o : Option Root) → (o ≡ None → ⊥) → IsSome o
   is_open None there = absurd (there refl)
   is_open (Some root) there = refl
 
   -- what is refused is told so
-  pub refuses : (why : Refusal) (told : MapError) → told ≡ of_refusal why → RefusesContent state h why → RefusesReading (reading state h (λ m. map.entries m)) told
+  pub refuses : (why : Refusal) (told : MapError) → told ≡ of_refusal why → RefusesContent state h why → RefusesReading (core_reading state h (λ m. map.entries m)) told
   refuses why told e (inl none) = inl (closed (λ m. map.entries m) none.0 ∙ ap Err (sym (e ∙ ap of_refusal none.1)))
   refuses why told e (inr lacking) = inr (e ∙ ap of_refusal lacking.1, subst IsOk (sym (entries_read (is_open (root_at state h) lacking.0))) refl)

@@ -17,7 +17,7 @@ use Rattle.ctrie_map.proofs.Changing.{ComesTo, Writes, comes, done_so, refused_s
 
 module _ (before : MapState) (h k v : ℕ) where
   abbrev hash : ℕ → ℕ
-  hash = hash_of before.limits.hash
+  hash = hash_of before.core.limits.hash
 
   -- ---- put
 

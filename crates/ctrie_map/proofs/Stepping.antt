@@ -9,7 +9,7 @@ use Rattle.history.specs.declared.replies.Reply.{Reply}
 use Rattle.machine_model.specs.declared.operations.Operation.{Operation}
 use Rattle.machine_model.specs.declared.steps.Outcome.{Outcome}
 use Rattle.machine_model.specs.declared.steps.Outcome.TheVariants.{Began, Went, Ended}
-use Rattle.machine_model.specs.declared.steps.Step.TheVariants.{Begin, Go, Sweep}
+use Rattle.machine_model.specs.declared.steps.Step.TheVariants.{Begin, Go}
 use Rattle.machine_model.specs.Calls.{needs_read_only}
 use Rattle.machine_model.specs.Machine.{Answer, is_busy, is_spent, next}
 use Rattle.machine_model.specs.States.{State, operation_of}
@@ -17,7 +17,7 @@ use Rattle.machine_core.specs.Bounds.{Answers, Applies, Walks}
 use Rattle.machine_core.specs.Sweeping.{Reclaims, at_first, one_more}
 use Rattle.machine_core.specs.Work.{Worked}
 use Rattle.proof_alone.specs.Calls.{CallsBegin, CallsGoOn, CanCall, IsNoWalk, LeadsOn, steps_of}
-use Rattle.proof_alone.specs.Sweeps.{Sweeps, SweepsLeave, Swept, most_sweeps, sweeps, unswept}
+use Rattle.proof_alone.specs.Sweeps.{Sweeps, SweepsLeave, most_sweeps, sweeps, unswept}
 use Rattle.proof_alone.proofs.Going.{steps_so_far}
 use Rattle.ctrie_map.specs.Beneath.proof_straight.specs.Resting.{IsOfRun}
 use Rattle.ctrie_map.specs.Beneath.proof_straight.specs.Running.{Comes, GoesOn, starts, walks}

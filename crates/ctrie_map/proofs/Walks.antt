@@ -18,10 +18,11 @@ use Rattle.ctrie_map.specs.Beneath.proof_contents.proofs.Values.Crowds.{sorted_d
 use Rattle.ctrie_map.specs.Beneath.proof_straight.specs.Resting.{IsOfRun}
 use Rattle.ctrie_map.specs.declared.errors.MapError.{MapError}
 use Rattle.ctrie_map.specs.declared.errors.MapError.TheVariants as error
-use Rattle.ctrie_map.specs.Maps.{MapState, handles_of}
+use Rattle.ctrie_map.specs.Beneath.map_worlds.specs.Worlds.{world_of}
+use Rattle.ctrie_map.specs.Maps.{MapState}
 use Rattle.ctrie_map.specs.Performing.{of_refusal}
-use Rattle.ctrie_map.specs.Reading.{Compares, IsOneOf, Reads, RefusesComparing, read_of, reading}
-use Rattle.ctrie_map.proofs.Lookups.{closed, entries_read, len_read, mapped, same_told, value_read}
+use Rattle.ctrie_map.specs.Reading.{ComparesOf, IsOneOf, Reads, ReadsOf, RefusesComparingOf, core_reading, read_of, reading}
+use Rattle.ctrie_map.proofs.Lookups.{closed, entries_read, len_by, mapped, mapped_by, same_told, value_read}
 
 -- ---- one pair
 
@@ -70,25 +71,26 @@ shown_map None pairs e = absurd (cc e)
 shown_map (Some shown) pairs e = (shown.pairs, refl)
 
 module _ (state : State) (run : IsOfRun state) where
-  pub counted : (h : ℕ) → IsSome (root_at state h) → reading state h (λ m. map.len m) ≡ Ok (length (content_at state h))
-  counted h some = len_read state h (content_at state h) (entries_read state run h some)
+  pub counted : (h : ℕ) → IsSome (root_at state h) → core_reading state h (λ m. map.len m) ≡ Ok (length (content_at state h))
+  counted h some = len_by (map.get (world_of state) h) (content_at state h) (entries_read state run h some)
 
-  pub one_read : (h : ℕ) (first : Option (ℕ × ℕ)) → IsSome (root_at state h) → core.IsOneOf (content_at state h) first → Reads state h IsOneOf (Ok first)
-  one_read h first some one = one_by (map.get (handles_of state) h) (content_at state h) first (entries_read state run h some) one
+  pub one_read : (h : ℕ) (first : Option (ℕ × ℕ)) → IsSome (root_at state h) → core.IsOneOf (content_at state h) first → ReadsOf (core_reading state h (λ s. s)) IsOneOf (Ok first)
+  one_read h first some one = one_by (map.get (world_of state) h) (content_at state h) first (entries_read state run h some) one
 
-  map_read : (h : ℕ) → IsSome (root_at state h) → (m : KeyMap) × (reading state h (λ s. s) ≡ Ok m)
-  map_read h some = shown_map (map.get (handles_of state) h) (content_at state h) (entries_read state run h some)
+  map_read : (h : ℕ) → IsSome (root_at state h) → (m : KeyMap) × (core_reading state h (λ s. s) ≡ Ok m)
+  map_read h some = shown_map (map.get (world_of state) h) (content_at state h) (entries_read state run h some)
 
   looked_up : (h : ℕ) (some : IsSome (root_at state h)) → found_along state h ≡ map.get (map_read h some).0
   looked_up h some =
       let m = map_read h some in
       let each : (key : ℕ) → found_along state h key ≡ map.get m.0 key = λ key.
-      same_told (reading state h (λ (n : KeyMap). map.get n key)) (found_along state h key) (map.get m.0 key) (value_read state run h key some)
-      (mapped (λ (n : KeyMap). map.get n key) state h (λ s. s) m.0 m.1) in
+      same_told (core_reading state h (λ (n : KeyMap). map.get n key)) (found_along state h key) (map.get m.0 key) (value_read state run h key some)
+      (mapped_by (λ (n : KeyMap). map.get n key) (map.get (world_of state) h) (λ s. s) m.0 m.1) in
       λ i key. each key i
 
   pub compares : (older newer : ℕ) (differences : List Difference) → IsSome (root_at state older) → IsSome (root_at state newer) →
-      AreDifferences (found_along state older) (found_along state newer) differences → Compares state older newer differences
+      AreDifferences (found_along state older) (found_along state newer) differences →
+      ComparesOf (core_reading state older (λ s. s)) (core_reading state newer (λ s. s)) differences
   compares older newer differences one other are =
       let m = map_read older one in
       let n = map_read newer other in (
@@ -100,11 +102,12 @@ module _ (state : State) (run : IsOfRun state) where
             (subst (λ g. AreDifferences (found_along state older) g differences) (looked_up newer other) are),
       )
 
-  pub refuses_comparing : (older newer : ℕ) (why : Refusal) (told : MapError) → told ≡ of_refusal why → RefusesEither state older newer why → RefusesComparing state older newer told
+  pub refuses_comparing : (older newer : ℕ) (why : Refusal) (told : MapError) → told ≡ of_refusal why → RefusesEither state older newer why →
+      RefusesComparingOf (core_reading state older (λ s. s)) (core_reading state newer (λ s. s)) told
   refuses_comparing older newer why told e (inl (none, which)) = inl (e ∙ ap of_refusal none, by_handle which)
     where
       by_handle : (root_at state older ≡ None) ⊎ (root_at state newer ≡ None) →
-          (reading state older (λ s. s) ≡ Err error.NoHandle) ⊎ (reading state newer (λ s. s) ≡ Err error.NoHandle)
+          (core_reading state older (λ s. s) ≡ Err error.NoHandle) ⊎ (core_reading state newer (λ s. s) ≡ Err error.NoHandle)
       by_handle (inl at) = inl (closed state run older (λ s. s) at)
       by_handle (inr at) = inr (closed state run newer (λ s. s) at)
   refuses_comparing older newer why told e (inr (lacking, one, other)) =

@@ -1,21 +1,22 @@
 -- What calls do that change a map, and why they are refused.
-use Rattle.std.specs.Prelude.{◌≡◌, ◌<◌, ◌+◌, ℕ, Bool, true, false, ◌&&◌, nat_le, Option, Some, None, if◌then◌else◌}
+use Rattle.std.specs.Prelude.{◌≡◌, ℕ, Bool, true, false, Option, Some, None, if◌then◌else◌}
 use Rattle.std.specs.FinMap as map
 use Rattle.ctrie_base.specs.Hashes.{hash_of}
 use Rattle.history.specs.declared.calls.Access.{Access}
-use Rattle.history.specs.declared.calls.Access.TheVariants.{Writable, ReadOnly as Frozen}
+use Rattle.history.specs.declared.calls.Access.TheVariants.{Writable}
 use Rattle.history.specs.declared.calls.Call.{Call}
+use Rattle.history.specs.declared.calls.Call.TheVariants.{Get, Put, PutIfAbsent, Replace, ReplaceIf, Remove, RemoveIf, Clear, Snapshot, Freeze, Close, Entries, Count}
 use Rattle.history.specs.Effects.{has_value, is_crowded, naming}
 use Rattle.history.specs.Worlds.{HandleMap, HandleState, KeyMap}
 use Rattle.machine_model.specs.Calls.{handle_of, needs_writable, opens_handle}
-use Rattle.machine_model.specs.States.{handle_limit}
-use Rattle.ctrie_map.specs.Beneath.proof_obstruction_free.specs.Laws.{most_steps_alone}
 use Rattle.proof_alone.specs.Calls.{RunsOut, slots_of}
-use Rattle.proof_alone.specs.Sweeps.{most_sweeps}
 use Rattle.ctrie_map.specs.declared.errors.MapError.{MapError}
-use Rattle.ctrie_map.specs.declared.errors.MapError.TheVariants.{NoHandle, ReadOnly, HandlesFull, Crowded, Full, WornOut}
-use Rattle.ctrie_map.specs.Cores.{the_actor}
-use Rattle.ctrie_map.specs.Maps.{MapState, Becomes, Stays, free_of, handles_of}
+use Rattle.ctrie_map.specs.declared.errors.MapError.TheVariants.{Crowded, Full, WornOut}
+use Rattle.ctrie_map.specs.declared.names.Name.{Name}
+use Rattle.ctrie_map.specs.Cores.{IsTight, is_worn_out, the_actor}
+use Rattle.ctrie_map.specs.Denials.{denial_by}
+use Rattle.ctrie_map.specs.Maps.{MapState, Becomes, Stays, handles_of}
+use Rattle.ctrie_map.specs.Names.{name_at}
 
 -- ---- what is changed
 
@@ -25,11 +26,11 @@ Changes before handle Told change after =
     (m : KeyMap) × (map.get (handles_of before) handle ≡ Some (record { access = Writable; pairs = m })) × Told m
     × Becomes before (naming (handles_of before) handle Writable (change m)) after
 
--- The copy is a new handle of this kind, with the map that the writable handle has now.
+-- The copy is a new handle of this kind, with the map that the handle has now, whatever its own kind.
 abbrev pub Copies : MapState → ℕ → Access → ℕ → MapState → Type 0
 Copies before handle access copy after =
-    (m : KeyMap) × (map.get (handles_of before) handle ≡ Some (record { access = Writable; pairs = m })) × (map.get (handles_of before) copy ≡ None)
-    × Becomes before (naming (handles_of before) copy access m) after
+    (shown : HandleState) × (map.get (handles_of before) handle ≡ Some shown) × (map.get (handles_of before) copy ≡ None)
+    × Becomes before (naming (handles_of before) copy access shown.pairs) after
 
 -- The handle was open, and isn't there any more.
 abbrev pub Closes : MapState → ℕ → MapState → Type 0
@@ -38,12 +39,12 @@ Closes before handle after =
 
 -- the key has a value, or fewer than 32 other keys have its hash
 abbrev pub HasRoom : MapState → ℕ → KeyMap → Type 0
-HasRoom before key m = is_crowded (hash_of before.limits.hash) m key ≡ false
+HasRoom before key m = is_crowded (hash_of before.core.limits.hash) m key ≡ false
 
 -- the key has no value in this writable map, and 32 other keys have its hash
 abbrev pub IsCrowdedAt : MapState → ℕ → ℕ → Type 0
 IsCrowdedAt before handle key =
-    (m : KeyMap) × (map.get (handles_of before) handle ≡ Some (record { access = Writable; pairs = m })) × (is_crowded (hash_of before.limits.hash) m key ≡ true)
+    (m : KeyMap) × (map.get (handles_of before) handle ≡ Some (record { access = Writable; pairs = m })) × (is_crowded (hash_of before.core.limits.hash) m key ≡ true)
 
 -- nothing is asked of the map
 abbrev pub IsAny : KeyMap → Type 0
@@ -64,41 +65,57 @@ removed_if_it_has key value m = if has_value m key value then map.remove m key e
 
 -- ---- why not
 
-abbrev pub is_frozen : Access → Bool
-is_frozen Writable = false
-is_frozen Frozen = true
-
--- a call on a handle, which writes, or opens another handle; so many are open
-abbrev pub denial_by : Bool → Bool → Option HandleState → ℕ → Option MapError
-denial_by writes opens None taken = Some NoHandle
-denial_by writes opens (Some shown) taken =
-    if writes && is_frozen shown.access then Some ReadOnly else (if opens && nat_le handle_limit taken then Some HandlesFull else None)
+-- the call may change the handle's map: a copy doesn't
+abbrev pub changes_map : Call → Bool
+changes_map (Snapshot h) = false
+changes_map (Freeze h) = false
+changes_map call = needs_writable call
 
 -- why a call isn't even begun where these handles are open
 abbrev pub denial_among : HandleMap → Call → Option MapError
-denial_among handles call = denial_by (needs_writable call) (opens_handle call) (map.get handles (handle_of call)) (map.len handles)
+denial_among handles call = denial_by (changes_map call) (opens_handle call) (map.get handles (handle_of call)) (map.len handles)
 
 abbrev pub denial_in : MapState → Call → Option MapError
 denial_in before call = denial_among (handles_of before) call
 
--- fewer slots are reached by no handle
-abbrev pub IsTight : ℕ → MapState → Type 0
-IsTight enough before = free_of before < enough
-
--- no more steps are left than a call may take with the sweep behind it: in all a map takes 2^47
-abbrev pub is_worn_out : MapState → Bool
-is_worn_out before = nat_le before.limits.steps (before.steps + (1 + most_steps_alone + most_sweeps before))
-
+-- more steps are left than a call may take with the sweep behind it
 abbrev pub HasLife : MapState → Type 0
-HasLife before = is_worn_out before ≡ false
+HasLife before = is_worn_out before.core ≡ false
+
+-- the same call of another handle: a freeze is a snapshot under a read-only name
+abbrev pub on_handle : ℕ → Call → Call
+on_handle h (Get _ k) = Get h k
+on_handle h (Put _ k v) = Put h k v
+on_handle h (PutIfAbsent _ k v) = PutIfAbsent h k v
+on_handle h (Replace _ k v) = Replace h k v
+on_handle h (ReplaceIf _ k a b) = ReplaceIf h k a b
+on_handle h (Remove _ k) = Remove h k
+on_handle h (RemoveIf _ k v) = RemoveIf h k v
+on_handle h (Clear _) = Clear h
+on_handle h (Snapshot _) = Snapshot h
+on_handle h (Freeze _) = Snapshot h
+on_handle h (Close _) = Close h
+on_handle h (Entries _) = Entries h
+on_handle h (Count _) = Count h
+
+-- the core's handle for which a name stands
+abbrev pub core_of : Option Name → ℕ
+core_of None = 0
+core_of (Some name) = name.core
+
+-- the core's call by which a call is carried out
+abbrev pub core_call : MapState → Call → Call
+core_call before call = on_handle (core_of (name_at before.names (handle_of call))) call
+
+-- Fewer slots were free than such a call may take, and it came to where it was to make a node, and none was.
+abbrev pub LacksSlots : MapState → Call → Type 0
+LacksSlots before call = IsTight (slots_of call) before.core × RunsOut before.core the_actor (core_call before call)
 
 -- Why a call was refused for which there may be such a denial, and whose key may be crowded. All maps stay as they are. Where it wasn't begun, nothing has changed.
--- For want of slots it is refused only where fewer were free than it may take, and it came to where it was to make a node and none was.
 abbrev pub RefusedBy : Option MapError → Call → Type 0 → MapState → MapState → MapError → Type 0
-RefusedBy denial call Crowds before after Full =
-    (denial ≡ None) × HasLife before × IsTight (slots_of call) before × RunsOut before the_actor call × Stays before after
+RefusedBy denial call Crowds before after Full = (denial ≡ None) × HasLife before × LacksSlots before call × Stays before after
 RefusedBy denial call Crowds before after Crowded = (denial ≡ None) × HasLife before × Crowds × Stays before after
-RefusedBy denial call Crowds before after WornOut = (denial ≡ None) × (is_worn_out before ≡ true) × (after ≡ before)
+RefusedBy denial call Crowds before after WornOut = (denial ≡ None) × (is_worn_out before.core ≡ true) × (after ≡ before)
 RefusedBy denial call Crowds before after error = (denial ≡ Some error) × (after ≡ before)
 
 abbrev pub Refuses : MapState → Call → Type 0 → MapState → MapError → Type 0

@@ -1,10 +1,11 @@
 -- How much work a call does, in steps.
-use Rattle.std.specs.Prelude.{◌+◌, ◌*◌, ◌≤◌, ℕ}
+use Rattle.std.specs.Prelude.{◌+◌, ◌*◌, ℕ}
 use Rattle.history.specs.declared.calls.Call.{Call}
 use Rattle.ctrie_map.specs.Beneath.proof_obstruction_free.specs.Laws.{most_steps_alone}
 use Rattle.ctrie_map.specs.Beneath.proof_obstruction_free.specs.Slots.{most_makes_alone, most_steps_of_copies}
 use Rattle.proof_alone.specs.Calls.{slots_of, steps_of}
-use Rattle.ctrie_map.specs.Maps.{MapState, free_of}
+use Rattle.ctrie_map.specs.Cores.{TakesUpTo}
+use Rattle.ctrie_map.specs.Maps.{MapState}
 
 -- that of a call which takes so many steps and slots at most: a step begins it, and the sweep takes five for each slot, and for one more
 abbrev pub work_of : ℕ → ℕ → ℕ
@@ -22,7 +23,7 @@ work_of_a_close = work_of 1 0
 
 -- At most so much work is done, and five steps of it for each slot by which more are free behind it than before.
 abbrev pub WorksUpTo : ℕ → MapState → MapState → Type 0
-WorksUpTo most before after = (before.steps ≤ after.steps) × (after.steps + 5 * free_of before ≤ before.steps + most + 5 * free_of after)
+WorksUpTo most before after = TakesUpTo most before.core after.core
 
 -- by the call of the core
 abbrev pub work_of_call : Call → ℕ

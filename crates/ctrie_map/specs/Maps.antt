@@ -1,4 +1,4 @@
--- What contracts see of a map: the state of its core. What they say of it they say by the maps that its handles name, and by its free slots.
+-- What contracts see of a map: the state of its core, and its handles' names. What they say of it they say by the maps that its handles name, and by its free slots.
 use Rattle.std.specs.Prelude.{◌≡◌, ◌⊎◌, ◌+◌, ◌≤◌, ℕ, length}
 use Rattle.ctrie_base.specs.declared.hashes.HashKind.{HashKind}
 use Rattle.history.specs.Worlds.{HandleMap, first_world}
@@ -6,21 +6,33 @@ use Rattle.machine_model.specs.States.{State}
 use Rattle.ctrie_map.specs.Beneath.map_worlds.specs.Worlds.{world_of}
 use Rattle.ctrie_map.specs.declared.errors.MapError.{MapError}
 use Rattle.ctrie_map.specs.declared.errors.MapError.TheVariants.{BadSizes, Memory}
+use Rattle.ctrie_map.specs.Beneath.slot_arena.specs.Refs.{most_slots}
+use Rattle.ctrie_map.specs.Cores.{IsCalm}
+use Rattle.ctrie_map.specs.Names.{AreNamesOf, NameTable, handles_under}
 
-abbrev pub MapState : Type 0
-MapState = State
+pub record MapState : Type 0 where
+  pub core : State
+  pub names : NameTable
+
+abbrev pub map_with : State → NameTable → MapState
+map_with core names = record { core = core; names = names }
 
 -- the open handles, each with its kind and its finite map
 abbrev pub handles_of : MapState → HandleMap
-handles_of = world_of
+handles_of map = handles_under map.names (world_of map.core)
 
 -- how many slots no open handle reaches
 abbrev pub free_of : MapState → ℕ
-free_of map = length map.heap.free
+free_of map = length map.core.heap.free
+
+-- between two calls: the core is calm, and its handles are named
+pub record IsWhole (map : MapState) : Type 0 where
+  pub calm : IsCalm map.core
+  pub named : AreNamesOf (world_of map.core) map.names
 
 -- the map has these handles then; hash and slots are as before
 abbrev pub Becomes : MapState → HandleMap → MapState → Type 0
-Becomes before handles after = (after.limits ≡ before.limits) × (handles_of after ≡ handles)
+Becomes before handles after = (after.core.limits ≡ before.core.limits) × (handles_of after ≡ handles)
 
 -- no handle and no map has changed
 abbrev pub Stays : MapState → MapState → Type 0
@@ -29,10 +41,10 @@ Stays before after = Becomes before (handles_of before) after
 -- a new map: handle 0 is open, writable and empty, and takes two slots
 abbrev pub IsNew : ℕ → HashKind → MapState → Type 0
 IsNew slots hash made =
-    (made.limits.hash ≡ hash) × (made.limits.slots ≡ slots) × (handles_of made ≡ first_world) × (made.steps ≡ 0) × (free_of made + 2 ≡ slots)
+    (made.core.limits.hash ≡ hash) × (made.core.limits.slots ≡ slots) × (handles_of made ≡ first_world) × (made.core.steps ≡ 0) × (free_of made + 2 ≡ slots)
 
 abbrev pub AreSlots : ℕ → Type 0
-AreSlots slots = (2 ≤ slots) × (slots ≤ 65536)
+AreSlots slots = (2 ≤ slots) × (slots ≤ most_slots)
 
 -- why there is none
 abbrev pub RefusesSizes : ℕ → MapError → Type 0

@@ -1,19 +1,23 @@
--- What a call of the core comes to, seen in the map.
-use Rattle.std.specs.Prelude.{◌≡◌, ℕ, true, Option, Some, None, Result, Ok, Err}
+-- What a call comes to, seen in the map.
+use Rattle.std.specs.Prelude.{◌≡◌, ℕ, true, Option, Some, None, option_and_then, Result, Ok, Err, if◌then◌else◌}
+use Rattle.std.specs.FinMap as map
 use Rattle.ctrie_base.specs.Hashes.{hash_of}
 use Rattle.ctrie_base.specs.declared.refusals.Refusal.{Refusal}
 use Rattle.ctrie_base.specs.declared.refusals.Refusal.TheVariants as refuse
+use Rattle.history.specs.declared.calls.Access.{Access}
+use Rattle.history.specs.declared.calls.Access.TheVariants.{Writable, ReadOnly as Frozen}
 use Rattle.history.specs.declared.calls.Call.{Call}
-use Rattle.history.specs.declared.calls.Call.TheVariants.{Get, Entries, Count}
+use Rattle.history.specs.declared.calls.Call.TheVariants.{Get, Put, PutIfAbsent, Replace, ReplaceIf, Remove, RemoveIf, Clear, Snapshot, Freeze, Entries, Count}
 use Rattle.history.specs.declared.replies.Reply.{Reply}
-use Rattle.history.specs.declared.replies.Reply.TheVariants.{NoSlots}
-use Rattle.history.specs.Effects.{Effect}
-use Rattle.proof_alone.specs.Calls.{RunsOut, slots_of}
+use Rattle.history.specs.declared.replies.Reply.TheVariants.{NoSlots, Opened}
+use Rattle.history.specs.Effects.{effect, map_of, naming}
+use Rattle.history.specs.Worlds.{HandleMap}
 use Rattle.ctrie_map.specs.declared.errors.MapError.{MapError}
 use Rattle.ctrie_map.specs.declared.errors.MapError.TheVariants.{NoHandle, ReadOnly, HandlesFull, BadSizes, WornOut, Memory}
-use Rattle.ctrie_map.specs.Changes.{HasLife, IsTight, denial_in, is_worn_out}
-use Rattle.ctrie_map.specs.Cores.{the_actor}
+use Rattle.ctrie_map.specs.Changes.{HasLife, LacksSlots, denial_in}
+use Rattle.ctrie_map.specs.Cores.{is_worn_out}
 use Rattle.ctrie_map.specs.Maps.{MapState, Becomes, Stays, handles_of}
+use Rattle.ctrie_map.specs.Names.{IsNextFree, NameTable}
 
 -- any call but get, entries and count
 abbrev pub IsChange : Call → Type 0
@@ -22,15 +26,49 @@ IsChange (Entries h) = ⊥
 IsChange (Count h) = ⊥
 IsChange call = Unit {0}
 
+-- a call that may change the map of its handle
+abbrev pub IsOnMap : Call → Type 0
+IsOnMap (Put h k v) = Unit {0}
+IsOnMap (PutIfAbsent h k v) = Unit {0}
+IsOnMap (Replace h k v) = Unit {0}
+IsOnMap (ReplaceIf h k a b) = Unit {0}
+IsOnMap (Remove h k) = Unit {0}
+IsOnMap (RemoveIf h k v) = Unit {0}
+IsOnMap (Clear h) = Unit {0}
+IsOnMap call = ⊥
+
+-- the call that opens a copy of this kind
+abbrev pub copy_call : Access → ℕ → Call
+copy_call Writable handle = Snapshot handle
+copy_call Frozen handle = Freeze handle
+
+-- a handle that is opened has the next number
+abbrev pub GivesNext : NameTable → Reply → Type 0
+GivesNext names (Opened number) = IsNextFree names number
+GivesNext names reply = Unit {0}
+
 -- it is begun
 abbrev pub IsBegun : MapState → Call → Type 0
 IsBegun before call = (denial_in before call ≡ None) × HasLife before
 
+-- a copy of the map of an open handle, under a number that isn't open
+abbrev pub copying_any : HandleMap → ℕ → Option ℕ → Access → Option (Reply × HandleMap)
+copying_any w h opens access = option_and_then (λ m. option_and_then (λ n. if map.contains_key w n then None else Some (Opened n, naming w n access m)) opens) (map_of w h)
+
+-- A call's reply, and the handles after it; none where it has no effect among these handles. Else than in a history, a read-only map can be copied.
+abbrev pub effect_among : (ℕ → ℕ) → HandleMap → Call → Option ℕ → Option (Reply × HandleMap)
+effect_among hash w (Snapshot h) opens = copying_any w h opens Writable
+effect_among hash w (Freeze h) opens = copying_any w h opens Frozen
+effect_among hash w call opens = effect hash w call opens
+
+abbrev pub EffectAmong : (ℕ → ℕ) → HandleMap → Call → Option ℕ → Reply → HandleMap → Type 0
+EffectAmong hash w call opens answer next = effect_among hash w call opens ≡ Some (answer, next)
+
 -- this is its reply, and what it does
 abbrev pub Answers : MapState → Call → Reply → MapState → Type 0
-Answers before call NoSlots after = IsTight (slots_of call) before × RunsOut before the_actor call × Stays before after
+Answers before call NoSlots after = LacksSlots before call × Stays before after
 Answers before call answer after =
-    (opens : Option ℕ) × (next : _) × Effect (hash_of before.limits.hash) (handles_of before) call opens answer next × Becomes before next after
+    (opens : Option ℕ) × (next : _) × EffectAmong (hash_of before.core.limits.hash) (handles_of before) call opens answer next × Becomes before next after
 
 -- what the map tells of a refusal of the core
 abbrev pub of_refusal : Refusal → MapError
@@ -44,5 +82,5 @@ of_refusal refusal = Memory
 -- what it comes to
 abbrev pub Performs : Result Reply MapError → MapState → Call → MapState → Type 0
 Performs (Ok answer) before call after = IsBegun before call × Answers before call answer after
-Performs (Err WornOut) before call after = (denial_in before call ≡ None) × (is_worn_out before ≡ true) × (after ≡ before)
+Performs (Err WornOut) before call after = (denial_in before call ≡ None) × (is_worn_out before.core ≡ true) × (after ≡ before)
 Performs (Err error) before call after = (denial_in before call ≡ Some error) × (after ≡ before)

@@ -1,7 +1,7 @@
 //! The call that compares two handles' maps.
 
 ghost use Rattle.std.specs.Prelude.{IfOk, IfErr};
-ghost use Rattle.ctrie_map.specs.Reading.{Compares, RefusesComparing};
+ghost use Rattle.ctrie_map.specs.Reading.{Compares, ComparesOf, RefusesComparing, RefusesComparingOf, core_reading};
 
 use crate::errors::MapError;
 use crate::handle::Handle;
@@ -16,14 +16,15 @@ impl Map {
         ensures differences { IfOk result (λ differences. Compares self.now older newer differences.items) }
         ensures refused { IfErr result (RefusesComparing self.now older newer) }
     {
-        differences_in(&self.core, older.number(), newer.number())
+        let (older, newer) = (self.name_of(older)?, self.name_of(newer)?);
+        differences_in(&self.core, older.core, newer.core)
     }
 }
 
 /// The differences of two handles' maps.
 fn differences_in(core: &Core, older: u16, newer: u16) -> Result<Vec<Difference>, MapError>
-    ensures differences { IfOk result (λ differences. Compares core.now.state older newer differences.items) }
-    ensures refused { IfErr result (RefusesComparing core.now.state older newer) }
+    ensures differences { IfOk result (λ differences. ComparesOf (core_reading core.now.state older (λ shown. shown)) (core_reading core.now.state newer (λ shown. shown)) differences.items) }
+    ensures refused { IfErr result (RefusesComparingOf (core_reading core.now.state older (λ shown. shown)) (core_reading core.now.state newer (λ shown. shown))) }
 {
     let _ = core.limits();
     Ok(core.differences(older, newer)?)

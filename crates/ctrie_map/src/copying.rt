@@ -5,34 +5,34 @@ ghost use Rattle.history.specs.declared.calls.Access.TheVariants.{Writable, Read
 ghost use Rattle.history.specs.declared.calls.Call.TheVariants.{Close, Freeze, Snapshot};
 ghost use Rattle.ctrie_map.specs.Changes.{Closes, Copies, HasLife, Refuses};
 ghost use Rattle.ctrie_map.specs.Costs.{WorksUpTo, work_of_a_close, work_of_a_copy};
+ghost use Rattle.ctrie_map.specs.Names.{IsNextFree};
 
 use crate::errors::MapError;
 use crate::handle::Handle;
 use crate::map::Map;
 use crate::telling::{done, opened};
-use history::Call;
+use history::{Access, Call};
 
 impl Map {
-    /// Opens a writable copy. It is changed on its own, as is the map that was copied.
+    /// Opens a writable copy, of a read-only map too. It is changed on its own, as is the map that was copied. Its number is
+    /// the next one behind the number that was given last, round about, that isn't open.
     pub fn snapshot(&mut self, handle: Handle) -> Result<Handle, MapError>
         ensures done { IfOk result (λ copy. HasLife self.old × Copies self.old handle Writable copy self.new) }
+        ensures next { IfOk result (IsNextFree self.old.names) }
         ensures refused { IfErr result (Refuses self.old (Snapshot handle) ⊥ self.new) }
         ensures work { WorksUpTo work_of_a_copy self.old self.new }
     {
-        opened(self.perform(Call::Snapshot {
-            handle: handle.number(),
-        }))
+        opened(self.open(handle.number(), Access::Writable))
     }
 
-    /// Opens a read-only copy.
+    /// Opens a read-only copy, with a number as `snapshot` gives it.
     pub fn freeze(&mut self, handle: Handle) -> Result<Handle, MapError>
         ensures done { IfOk result (λ copy. HasLife self.old × Copies self.old handle ReadOnly copy self.new) }
+        ensures next { IfOk result (IsNextFree self.old.names) }
         ensures refused { IfErr result (Refuses self.old (Freeze handle) ⊥ self.new) }
         ensures work { WorksUpTo work_of_a_copy self.old self.new }
     {
-        opened(self.perform(Call::Freeze {
-            handle: handle.number(),
-        }))
+        opened(self.open(handle.number(), Access::ReadOnly))
     }
 
     /// Takes the handle away, and its map. What only this map had is free again then. It wants no slot, so it is never

@@ -1,9 +1,11 @@
 //! Why a call was refused.
 
 ghost use Rattle.std.specs.Prelude.{◌≡◌};
+ghost use Rattle.ctrie_map.specs.declared.errors.MapError.TheVariants.{Memory};
 ghost use Rattle.ctrie_map.specs.Performing.{of_refusal};
 
 use ctrie_base::Refusal;
+use std::alloc::AllocError;
 use thiserror::Error;
 
 /// Why a call was refused. No map has changed then.
@@ -12,26 +14,27 @@ pub enum MapError {
     /// The handle isn't open.
     #[error("the handle isn't open")]
     NoHandle,
-    /// A change, a snapshot or a freeze of a read-only map.
+    /// A change by a read-only handle, or a restore of it.
     #[error("the map is read-only")]
     ReadOnly,
-    /// A snapshot or a freeze while 256 handles are open.
+    /// A snapshot, a freeze, a `restore`, a `put_all` or a `retain` while 256 handles are open.
     #[error("256 handles are open")]
     HandlesFull,
-    /// The key has no value, and 32 other keys have its hash.
+    /// The key has no value and is to get one, and 32 other keys have its hash.
     #[error("too many keys have this hash")]
     Crowded,
     /// The call came to where it was to make a node, and no slot was free. It comes only where fewer than
-    /// `SLOTS_FOR_A_CALL` slots were free before the call, or 23 where it is a clear or a copy.
+    /// `SLOTS_FOR_A_CALL` slots were free before the call, or 23 where it is a clear or a copy, or 24 and 571 a pair where
+    /// it is a `put_all`, or a `retain` that doesn't want so many pairs.
     #[error("no slot is free")]
     Full,
-    /// The number of slots isn't from 2 to 65,536.
+    /// The number of slots isn't from 2 to 1,048,576.
     #[error("the number of slots is out of range")]
     BadSizes,
-    /// A map takes 2^47 steps in its life. It can still be read.
+    /// A map takes 2^45 - 2^21 steps in its life. It can still be read.
     #[error("the map is worn out")]
     WornOut,
-    /// Memory was refused to a new map, or to a list that a call answers.
+    /// Memory was refused to a new map, or to a list that a call makes.
     #[error("no memory")]
     Memory,
 }
@@ -48,5 +51,13 @@ impl From<Refusal> for MapError {
             Refusal::BadLimits => MapError::BadSizes,
             _ => MapError::Memory,
         }
+    }
+}
+
+impl From<AllocError> for MapError {
+    ghost from_gives = { λ refused error. error ≡ Memory };
+
+    fn from(_refused: AllocError) -> MapError {
+        MapError::Memory
     }
 }

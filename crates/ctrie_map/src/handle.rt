@@ -4,8 +4,9 @@ ghost use Rattle.std.specs.Prelude.{◌≡◌};
 
 use std::marker::Model;
 
-/// Names a map of a `Map`. It is a number: once it is closed, a later copy may get the same one, and then a handle that
-/// was kept names that copy. Nothing tells a handle of one `Map` from one of another.
+/// Names a map of a `Map`. It is a number from 0 to 255. New handles count on, round about, past those that are open: so one
+/// that is closed is refused until the count comes to its number again, and names that copy then. Nothing tells a handle of
+/// one `Map` from one of another.
 #[derive(Clone, Copy, Debug, PartialEq, Eq)]
 pub struct Handle {
     number: u16,

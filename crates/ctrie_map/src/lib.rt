@@ -1,24 +1,35 @@
 //! A map of numbers with snapshots, for programs: each call's contract is that of the finite map.
 #![tactic(auto)]
 
+mod batches;
 mod calling;
 mod comparing;
 mod copying;
+mod drafts;
 mod errors;
+mod filling;
 mod handle;
+mod handles;
 mod map;
+mod named_calls;
+mod names;
 mod performing;
 mod popping;
 mod putting;
 mod reading;
 mod removing;
 mod replacing;
+mod restoring;
+mod retaining;
+mod sharding;
 pub mod telling;
+mod updating;
 mod walking;
 
 pub use ctrie_base::HashKind;
 pub use errors::MapError;
 pub use handle::Handle;
+pub use handles::OpenHandles;
 pub use machine_core::Difference;
 pub use map::Map;
 pub use reading::SLOTS_FOR_A_CALL;

@@ -1,15 +1,17 @@
-//! The map, and the one way by which its calls reach the core below it.
+//! The map, and the one way by which its changes reach the core below it.
 
 ghost use Rattle.std.specs.Prelude.{◌≡◌, IfOk, IfErr, OnOk};
-ghost use Rattle.ctrie_map.specs.Costs.{WorksUpTo, work_of_call};
+ghost use Rattle.ctrie_map.specs.Costs.{WorksUpTo, work_of_a_copy, work_of_call};
 ghost use Rattle.ctrie_map.specs.Maps.{AreSlots, IsNew, RefusesSizes};
-ghost use Rattle.ctrie_map.specs.Performing.{IsChange, Performs};
+ghost use Rattle.ctrie_map.specs.Performing.{GivesNext, IsChange, Performs, copy_call};
 
 use crate::errors::MapError;
-use crate::performing::{ACTOR, LIFE, perform};
+use crate::named_calls::{change, close, open};
+use crate::names::Names;
+use crate::performing::ACTOR;
 use ctrie_base::HashKind;
-use history::{Call, Reply};
-use machine_core::Core;
+use history::{Access, Call, Reply};
+use machine_core::{Core, LONGEST_LIFE};
 use machine_model::Bounds;
 use std::alloc::Global;
 use std::marker::Model;
@@ -19,29 +21,29 @@ use std::marker::Model;
 /// memory is taken when it is made: no call takes more, but those that list.
 pub struct Map {
     pub(crate) core: Core,
+    pub(crate) names: Names,
 }
 
 /// It is written out, so that its proof is this crate's. That of a derived drop is made anew in each program, with those of
 /// all types below.
 impl Drop for Map {
     fn drop(self) {
-        let Map { core: _ } = self;
+        let Map { core: _, names: _ } = self;
     }
 }
 
 impl Model for Map {
-    ghost use Rattle.ctrie_map.specs.Cores.{IsCalm};
-    ghost use Rattle.ctrie_map.specs.Maps.{MapState};
+    ghost use Rattle.ctrie_map.specs.Maps.{IsWhole, MapState, map_with};
 
     ghost Value = { MapState };
 
-    ghost view = { λ m. m.core.state };
+    ghost view = { λ m. map_with m.core.state m.names };
 
-    ghost invariant = { λ m. IsCalm m.core.state };
+    ghost invariant = { λ m. IsWhole (map_with m.core.state m.names) };
 }
 
 impl Map {
-    /// A map with the given number of slots for nodes, from 2 to 65,536, and hash of keys. Handle 0 is open, writable
+    /// A map with the given number of slots for nodes, from 2 to 1,048,576, and hash of keys. Handle 0 is open, writable
     /// and empty.
     pub fn new(alloc: Global, slots: u32, hash: HashKind) -> Result<Map, MapError>
         ensures made { IfOk result (IsNew slots hash) }
@@ -54,10 +56,11 @@ impl Map {
                 slots,
                 actors: ACTOR,
                 hash,
-                steps: LIFE,
+                steps: LONGEST_LIFE,
             },
         )?;
-        Ok(Map { core })
+        let names = Names::new(alloc)?;
+        Ok(Map { core, names })
     }
 
     /// A call from its begin to its end.
@@ -66,6 +69,20 @@ impl Map {
         ensures performs { Performs result self.old call self.new }
         ensures work { WorksUpTo (work_of_call call) self.old self.new }
     {
-        perform(&mut self.core, call)
+        match call {
+            Call::Snapshot { handle } => self.open(handle, Access::Writable),
+            Call::Freeze { handle } => self.open(handle, Access::ReadOnly),
+            Call::Close { handle } => close(&mut self.core, &mut self.names, handle),
+            call => change(&mut self.core, &self.names, call),
+        }
+    }
+
+    /// Opens a copy of this kind.
+    pub(crate) fn open(&mut self, handle: u16, access: Access) -> Result<Reply, MapError>
+        ensures performs { Performs result self.old (copy_call access handle) self.new }
+        ensures next { IfOk result (GivesNext self.old.names) }
+        ensures work { WorksUpTo work_of_a_copy self.old self.new }
+    {
+        open(&mut self.core, &mut self.names, handle, access)
     }
 }

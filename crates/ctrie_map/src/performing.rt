@@ -1,14 +1,14 @@
 //! One call of the core below a map, from its begin to its end, and the sweep behind it.
 
-ghost use Rattle.std.specs.Prelude.{◌≡◌, ◌<◌, ◌+◌, ℕ, false, []};
+ghost use Rattle.std.specs.Prelude.{◌≡◌, ◌<◌, ◌≤◌, ◌+◌, ℕ, false, [], length};
 ghost use Rattle.machine_model.specs.Machine.{is_busy};
-ghost use Rattle.proof_alone.specs.Calls.{CanCall};
+ghost use Rattle.proof_alone.specs.Calls.{CanCall, slots_of};
 ghost use Rattle.proof_alone.specs.Sweeps.{Sweeps, most_sweeps};
 ghost use Rattle.ctrie_map.specs.Beneath.proof_straight.specs.Running.{Comes};
-ghost use Rattle.ctrie_map.specs.Changes.{is_worn_out};
-ghost use Rattle.ctrie_map.specs.Cores.{IsCalm, the_actor};
-ghost use Rattle.ctrie_map.specs.Costs.{WorksUpTo, work_of_call};
-ghost use Rattle.ctrie_map.specs.Performing.{IsChange, Performs};
+ghost use Rattle.ctrie_map.specs.Cores.{Carries, IsCalm, TakesUpTo, is_worn_out, life_left, the_actor};
+ghost use Rattle.ctrie_map.specs.Costs.{work_of_call};
+ghost use Rattle.ctrie_map.specs.Drafts.{is_worn_out_by};
+ghost use Rattle.ctrie_map.specs.Performing.{IsChange};
 
 use crate::errors::MapError;
 use history::{Call, Reply};
@@ -18,23 +18,44 @@ use machine_model::{Bounds, Step};
 /// The one actor of a map's core.
 pub(crate) const ACTOR: u8 = 1;
 
-/// How many steps a map takes in its life.
-pub(crate) const LIFE: u64 = 1 << 47;
-
 /// How many steps a call takes at most, with its begin.
 const CALL_STEPS: u64 = 3_963;
+
+/// How many steps a snapshot takes at most, with the sweep behind it, but for what becomes free by it.
+pub(crate) const COPY_STEPS: u64 = 144;
 
 /// How many steps of the sweep there are at most for a slot.
 const SLOT_SWEEPS: u64 = 5;
 
-/// Whether no more steps are left than a call may take with the sweep behind it.
-fn is_worn_out(core: &Core) -> bool
+/// How many more steps are left than a call may take with the sweep behind it.
+pub(crate) fn life_left(core: &Core) -> u64
     requires { IsCalm core.now.state }
-    ensures { result ≡ is_worn_out core.now.state }
+    ensures { result ≡ life_left core.now.state }
 {
     let Bounds { slots, steps, .. } = core.limits();
     let most = CALL_STEPS + SLOT_SWEEPS * (u64::from(slots) + 1);
-    steps.saturating_sub(core.steps_taken()) <= most
+    steps
+        .saturating_sub(core.steps_taken())
+        .saturating_sub(most)
+}
+
+/// Whether no more steps are left than a call may take with the sweep behind it.
+pub(crate) fn is_worn_out(core: &Core) -> bool
+    requires { IsCalm core.now.state }
+    ensures { result ≡ is_worn_out core.now.state }
+{
+    life_left(core) == 0
+}
+
+/// Whether no more steps are left than so much work takes, with the slots in use that may become free by it, and a call
+/// behind it.
+pub(crate) fn is_worn_out_by(core: &Core, work: u64) -> bool
+    requires { IsCalm core.now.state }
+    ensures { result ≡ is_worn_out_by work core.now.state }
+{
+    let slots = core.limits().slots;
+    let used = u64::from(slots).saturating_sub(u64::from(core.free_slots()));
+    life_left(core) <= work.saturating_add(SLOT_SWEEPS * used)
 }
 
 /// Carries a call out step by step.
@@ -86,8 +107,9 @@ pub(crate) fn perform(core: &mut Core, call: Call) -> Result<Reply, MapError>
     requires calm { IsCalm core.old.state }
     requires change { IsChange call }
     ensures calm { IsCalm core.new.state }
-    ensures performs { Performs result core.old.state call core.new.state }
-    ensures work { WorksUpTo (work_of_call call) core.old.state core.new.state }
+    ensures carries { Carries result core.old.state call core.new.state }
+    ensures work { TakesUpTo (work_of_call call) core.old.state core.new.state }
+    ensures slots { length core.old.state.heap.free ≤ length core.new.state.heap.free + (slots_of call + 1) }
 {
     let _ = core.limits();
     if let Some(refusal) = core.denial(Step::Begin { actor: ACTOR, call }) {

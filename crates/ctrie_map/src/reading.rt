@@ -1,17 +1,21 @@
 //! Calls that change nothing.
 
-ghost use Rattle.std.specs.Prelude.{◌≡◌, ◌+◌, false, length, nat_le, IfOk, IfErr, Ok};
+ghost use Rattle.std.specs.Prelude.{◌≡◌, ◌+◌, length, nat_eq, nat_le, IfOk, IfErr, Ok, None, Some};
 ghost use Rattle.std.specs.FinMap as map;
-ghost use Rattle.machine_model.specs.Machine.{is_busy};
 ghost use Rattle.proof_alone.specs.Sweeps.{UsesReached};
 ghost use Rattle.ctrie_map.specs.Beneath.slot_arena.specs.Heaps.{in_use};
+ghost use Rattle.ctrie_map.specs.Cores.{is_worn_out, life_left};
 ghost use Rattle.ctrie_map.specs.Maps.{free_of, handles_of};
 ghost use Rattle.ctrie_map.specs.Beneath.proof_obstruction_free.specs.Slots.{most_makes_alone};
-ghost use Rattle.ctrie_map.specs.Reading.{RefusesReading, reading};
+ghost use Rattle.ctrie_map.specs.Reading.{RefusesReading, core_reading, reading};
+ghost use Rattle.ctrie_map.specs.Names.{name_at};
+ghost use Rattle.ctrie_map.specs.declared.errors.MapError.TheVariants.{NoHandle};
 
 use crate::errors::MapError;
 use crate::handle::Handle;
 use crate::map::Map;
+use crate::names::Name;
+use crate::performing::life_left;
 use machine_core::Core;
 
 /// So many free slots are enough for any call.
@@ -22,7 +26,8 @@ impl Map {
     pub fn get(&self, handle: Handle, key: u64) -> Result<Option<u64>, MapError>
         ensures { result ≡ reading self.now handle (λ m. map.get m key) }
     {
-        value_in(&self.core, handle.number(), key)
+        let name = self.name_of(handle)?;
+        value_in(&self.core, name.core, key)
     }
 
     /// Whether the key has a value. It takes no memory.
@@ -38,35 +43,56 @@ impl Map {
         ensures entries { IfOk result (λ entries. reading self.now handle (λ m. map.entries m) ≡ Ok entries.items) }
         ensures refused { IfErr result (RefusesReading (reading self.now handle (λ m. map.entries m))) }
     {
-        entries_in(&self.core, handle.number())
+        let name = self.name_of(handle)?;
+        entries_in(&self.core, name.core)
+    }
+
+    /// The name of an open handle.
+    pub(crate) fn name_of(&self, handle: Handle) -> Result<Name, MapError>
+        ensures named { IfOk result (λ name. name_at self.now.names handle ≡ Some name) }
+        ensures open { IfErr result (λ error. (name_at self.now.names handle ≡ None) × (error ≡ NoHandle)) }
+    {
+        match self.names.find(handle.number()) {
+            Some(name) => Ok(name),
+            None => Err(MapError::NoHandle),
+        }
     }
 
     /// How many handles are open.
     pub fn handles(&self) -> u32
         ensures { result ≡ map.len (handles_of self.now) }
     {
-        handles_in(&self.core)
+        u32::from(self.names.many())
     }
 
     /// How many slots there are in all.
     pub fn slots(&self) -> u32
-        ensures { result ≡ self.now.limits.slots }
+        ensures { result ≡ self.now.core.limits.slots }
     {
         self.core.limits().slots
     }
 
-    /// How many steps its calls have taken, of the 2^47 of its life.
+    /// How many steps its calls have taken, of the 2^45 - 2^21 of its life.
     pub fn steps_taken(&self) -> u64
-        ensures { result ≡ self.now.steps }
+        ensures { result ≡ self.now.core.steps }
     {
         self.core.steps_taken()
+    }
+
+    /// How many steps its calls may take yet before a change is refused as `WornOut`: that is, where it is 0. A `restore`, a
+    /// `put_all` and a `retain` want their own steps besides.
+    pub fn life_left(&self) -> u64
+        ensures left { result ≡ life_left self.now.core }
+        ensures worn_out { is_worn_out self.now.core ≡ nat_eq result 0 }
+    {
+        life_left(&self.core)
     }
 
     /// How many slots no open handle reaches: those in use are just what the open handles reach.
     pub fn free(&self) -> u32
         ensures free { result ≡ free_of self.now }
-        ensures reached { UsesReached self.now }
-        ensures all { length (in_use self.now.heap) + result ≡ self.now.limits.slots }
+        ensures reached { UsesReached self.now.core }
+        ensures all { length (in_use self.now.core.heap) + result ≡ self.now.core.limits.slots }
     {
         let _ = self.core.limits();
         proof_alone::clean_is_reached();
@@ -81,9 +107,9 @@ impl Map {
     }
 }
 
-/// The value of a key in a handle's map.
+/// The value of a key in a map of the core.
 fn value_in(core: &Core, handle: u16, key: u64) -> Result<Option<u64>, MapError>
-    ensures { result ≡ reading core.now.state handle (λ m. map.get m key) }
+    ensures { result ≡ core_reading core.now.state handle (λ m. map.get m key) }
 {
     let _ = core.limits();
     match core.value_at(handle, key) {
@@ -92,20 +118,11 @@ fn value_in(core: &Core, handle: u16, key: u64) -> Result<Option<u64>, MapError>
     }
 }
 
-/// The pairs of a handle's map.
-fn entries_in(core: &Core, handle: u16) -> Result<Vec<(u64, u64)>, MapError>
-    ensures entries { IfOk result (λ entries. reading core.now.state handle (λ m. map.entries m) ≡ Ok entries.items) }
-    ensures refused { IfErr result (RefusesReading (reading core.now.state handle (λ m. map.entries m))) }
+/// The pairs of a map of the core.
+pub(crate) fn entries_in(core: &Core, handle: u16) -> Result<Vec<(u64, u64)>, MapError>
+    ensures entries { IfOk result (λ entries. core_reading core.now.state handle (λ m. map.entries m) ≡ Ok entries.items) }
+    ensures refused { IfErr result (RefusesReading (core_reading core.now.state handle (λ m. map.entries m))) }
 {
     let _ = core.limits();
     Ok(core.content(handle)?.into_vec())
-}
-
-/// The number of open handles, where no operation runs.
-fn handles_in(core: &Core) -> u32
-    requires { is_busy core.now.state ≡ false }
-    ensures { result ≡ map.len (handles_of core.now.state) }
-{
-    let _ = core.limits();
-    core.handles_taken()
 }

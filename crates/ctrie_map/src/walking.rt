@@ -3,7 +3,7 @@
 ghost use Rattle.std.specs.Prelude.{◌≡◌, ◌≤◌, nat_eq, length, Ok, IfOk, IfErr};
 ghost use Rattle.std.specs.FinMap as map;
 ghost use Rattle.machine_core.specs.Reading.{next_of};
-ghost use Rattle.ctrie_map.specs.Reading.{IsOneOf, Reads, RefusesReading, reading};
+ghost use Rattle.ctrie_map.specs.Reading.{IsOneOf, Reads, ReadsOf, RefusesReading, core_reading, reading};
 
 use crate::errors::MapError;
 use crate::handle::Handle;
@@ -15,7 +15,8 @@ impl Map {
     pub fn count(&self, handle: Handle) -> Result<u64, MapError>
         ensures { result ≡ reading self.now handle (λ m. map.len m) }
     {
-        count_in(&self.core, handle.number())
+        let name = self.name_of(handle)?;
+        count_in(&self.core, name.core)
     }
 
     /// Whether no key has a value. It ends at the first key that has one, and takes no memory.
@@ -29,7 +30,8 @@ impl Map {
     pub fn first(&self, handle: Handle) -> Result<Option<(u64, u64)>, MapError>
         ensures { Reads self.now handle IsOneOf result }
     {
-        first_in(&self.core, handle.number())
+        let name = self.name_of(handle)?;
+        first_in(&self.core, name.core)
     }
 
     /// The next keys after this one with their values, `room` of them at most, in ascending order of keys; from the first
@@ -46,13 +48,14 @@ impl Map {
         ensures few { IfOk result (λ entries. length entries.items ≤ room) }
         ensures refused { IfErr result (RefusesReading (reading self.now handle (λ m. next_of after room (map.entries m)))) }
     {
-        entries_after(&self.core, handle.number(), after, room)
+        let name = self.name_of(handle)?;
+        entries_after(&self.core, name.core, after, room)
     }
 }
 
 /// How many keys of a handle's map have a value.
 fn count_in(core: &Core, handle: u16) -> Result<u64, MapError>
-    ensures { result ≡ reading core.now.state handle (λ m. map.len m) }
+    ensures { result ≡ core_reading core.now.state handle (λ m. map.len m) }
 {
     let _ = core.limits();
     match core.count(handle) {
@@ -63,7 +66,7 @@ fn count_in(core: &Core, handle: u16) -> Result<u64, MapError>
 
 /// A key of a handle's map with its value.
 fn first_in(core: &Core, handle: u16) -> Result<Option<(u64, u64)>, MapError>
-    ensures { Reads core.now.state handle IsOneOf result }
+    ensures { ReadsOf (core_reading core.now.state handle (λ shown. shown)) IsOneOf result }
 {
     let _ = core.limits();
     match core.first(handle) {
@@ -79,9 +82,9 @@ fn entries_after(
     after: Option<u64>,
     room: usize,
 ) -> Result<Vec<(u64, u64)>, MapError>
-    ensures entries { IfOk result (λ entries. reading core.now.state handle (λ m. next_of after room (map.entries m)) ≡ Ok entries.items) }
+    ensures entries { IfOk result (λ entries. core_reading core.now.state handle (λ m. next_of after room (map.entries m)) ≡ Ok entries.items) }
     ensures few { IfOk result (λ entries. length entries.items ≤ room) }
-    ensures refused { IfErr result (RefusesReading (reading core.now.state handle (λ m. next_of after room (map.entries m)))) }
+    ensures refused { IfErr result (RefusesReading (core_reading core.now.state handle (λ m. next_of after room (map.entries m)))) }
 {
     let _ = core.limits();
     Ok(core.part(handle, after, room)?.into_vec())

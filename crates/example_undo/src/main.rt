@@ -1,15 +1,18 @@
-//! Undo: before each change a snapshot is taken, and to undo is to go on with it.
+//! Undo: before each change the sheet is frozen, and to undo is to restore it from that copy.
 #![tactic(auto)]
 
 use ctrie_map::{Handle, HashKind, Map, MapError};
 use std::alloc::Global;
 use std::process::ExitCode;
 
-/// A sheet of numbered cells, and the snapshots to which it can go back.
+/// So many handles may be open: a restore takes one more for the moment.
+const MOST_HANDLES: u32 = 255;
+
+/// A sheet of numbered cells, and the copies to which it can go back.
 #[derive(Drop)]
 struct Sheet {
     map: Map,
-    now: Handle,
+    cells: Handle,
     before: Vec<Handle>,
 }
 
@@ -17,19 +20,22 @@ impl Sheet {
     fn new(alloc: Global, slots: u32) -> Result<Sheet, MapError> {
         Ok(Sheet {
             map: Map::new(alloc, slots, HashKind::Fold)?,
-            now: Handle::first(),
+            cells: Handle::first(),
             before: Vec::new(alloc),
         })
     }
 
     /// Sets a cell, so that it can be undone. Where that is refused there is nothing to undo.
     fn set(&mut self, cell: u64, value: u64) -> Result<(), MapError> {
-        let copy = self.map.snapshot(self.now)?;
+        if self.map.handles() >= MOST_HANDLES {
+            return Err(MapError::HandlesFull);
+        }
+        let copy = self.map.freeze(self.cells)?;
         if self.before.push(copy).is_err() {
             let _ = self.map.close(copy);
             return Err(MapError::Memory);
         }
-        match self.map.put(self.now, cell, value) {
+        match self.map.put(self.cells, cell, value) {
             Ok(_) => Ok(()),
             Err(error) => {
                 let _ = self.before.pop();
@@ -39,20 +45,21 @@ impl Sheet {
         }
     }
 
-    /// Goes back by one change, if there is one. Where the close is refused, it has gone back all the same.
+    /// Goes back by one change, if there is one. Where the restore is refused, nothing has changed; where the close is, it has gone
+    /// back all the same.
     fn undo(&mut self) -> Result<bool, MapError> {
-        let Some(copy) = self.before.pop() else {
+        let Some(copy) = self.before.last().copied() else {
             return Ok(false);
         };
-        let last = self.now;
-        self.now = copy;
-        self.map.close(last)?;
+        self.map.restore(self.cells, copy)?;
+        let _ = self.before.pop();
+        self.map.close(copy)?;
         Ok(true)
     }
 
     /// Writes the cells and how many slots are free.
     fn tell<R: Print>(&self, rt: &R, what: &str) -> Result<(), MapError> {
-        let cells = self.map.entries(self.now)?;
+        let cells = self.map.entries(self.cells)?;
         let free = self.map.free();
         let _ = print!(rt; "{what}:");
         for (cell, value) in cells.as_slice() {

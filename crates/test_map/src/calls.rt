@@ -72,3 +72,19 @@ fn begins_empty(rt: HostRuntime) -> Result<(), Fail> {
     assert_eq!(rt; map.steps_taken(), 0);
     Ok(())
 }
+
+/// The later of two pairs of one key counts. A copy that was taken before stays.
+#[test]
+fn puts_all(rt: HostRuntime) -> Result<(), Fail> {
+    let all = Handle::first();
+    let mut map = map_of_two(rt.alloc())?;
+    let frozen = map.freeze(all)?;
+    map.put_all(all, &[(5, 51), (7, 70), (7, 71)])?;
+    assert_eq!(rt;
+        map.entries(all)?.as_slice(),
+        [(5, 51), (6, 60), (7, 71)].as_slice()
+    );
+    assert_eq!(rt; map.count(frozen)?, 2);
+    assert_eq!(rt; map.handles(), 2);
+    Ok(())
+}

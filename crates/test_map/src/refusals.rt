@@ -12,6 +12,15 @@ fn refuses_a_closed_handle(rt: HostRuntime) -> Result<(), Fail> {
     assert_eq!(rt; map.close(other).err(), Some(MapError::NoHandle));
     assert_eq!(rt; map.get(other, 1).err(), Some(MapError::NoHandle));
     assert_eq!(rt; map.count(other).err(), Some(MapError::NoHandle));
+    assert_eq!(rt; map.is_writable(other).err(), Some(MapError::NoHandle));
+    assert_eq!(rt;
+        map.restore(Handle::first(), other).err(),
+        Some(MapError::NoHandle)
+    );
+    assert_eq!(rt;
+        map.restore(other, Handle::first()).err(),
+        Some(MapError::NoHandle)
+    );
     Ok(())
 }
 
@@ -21,7 +30,10 @@ fn refuses_a_frozen_handle(rt: HostRuntime) -> Result<(), Fail> {
     let frozen = map.freeze(Handle::first())?;
     assert_eq!(rt; map.put(frozen, 1, 1).err(), Some(MapError::ReadOnly));
     assert_eq!(rt; map.clear(frozen).err(), Some(MapError::ReadOnly));
-    assert_eq!(rt; map.snapshot(frozen).err(), Some(MapError::ReadOnly));
+    assert_eq!(rt;
+        map.restore(frozen, Handle::first()).err(),
+        Some(MapError::ReadOnly)
+    );
     Ok(())
 }
 
@@ -50,7 +62,7 @@ fn refuses_sizes(rt: HostRuntime) -> Result<(), Fail> {
         Some(MapError::BadSizes)
     );
     assert_eq!(rt;
-        Map::new(rt.alloc(), 65_537, HashKind::Low).err(),
+        Map::new(rt.alloc(), 1_048_577, HashKind::Low).err(),
         Some(MapError::BadSizes)
     );
     Ok(())
@@ -71,6 +83,28 @@ fn refuses_without_slots(rt: HostRuntime) -> Result<(), Fail> {
     Ok(())
 }
 
+/// Where one of them is refused none is put: eight slots can't hold seven keys, and 32 keys of one hash are the most.
+#[test]
+fn puts_none(rt: HostRuntime) -> Result<(), Fail> {
+    let all = Handle::first();
+    let mut small = Map::new(rt.alloc(), 8, HashKind::Low)?;
+    let pairs = [(0, 0), (1, 1), (2, 2), (3, 3), (4, 4), (5, 5), (6, 6)];
+    assert_eq!(rt; small.put_all(all, &pairs).err(), Some(MapError::Full));
+    assert_eq!(rt; small.count(all)?, 0);
+    assert_eq!(rt; small.free(), 6);
+    let mut map = Map::new(rt.alloc(), 512, HashKind::Block)?;
+    for key in 0..31 {
+        map.put(all, key, key)?;
+    }
+    let two = [(31, 1), (32, 1)];
+    assert_eq!(rt; map.put_all(all, &two).err(), Some(MapError::Crowded));
+    assert_eq!(rt; map.get(all, 31)?, None);
+    assert_eq!(rt; map.handles(), 1);
+    let frozen = map.freeze(all)?;
+    assert_eq!(rt; map.put_all(frozen, &two).err(), Some(MapError::ReadOnly));
+    Ok(())
+}
+
 /// A 257th handle.
 #[test]
 fn refuses_handles_without_end(rt: HostRuntime) -> Result<(), Fail> {
@@ -80,6 +114,10 @@ fn refuses_handles_without_end(rt: HostRuntime) -> Result<(), Fail> {
         map.freeze(all)?;
     }
     assert_eq!(rt; map.freeze(all).err(), Some(MapError::HandlesFull));
+    assert_eq!(rt;
+        map.restore(all, Handle::new(7)).err(),
+        Some(MapError::HandlesFull)
+    );
     assert_eq!(rt; map.handles(), 256);
     Ok(())
 }

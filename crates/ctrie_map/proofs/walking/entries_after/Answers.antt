@@ -3,14 +3,15 @@ use Rattle.std.specs.FinMap as map
 use Rattle.std.proofs.lemmas.Result.{err_from_is_err_and}
 use Rattle.machine_model.specs.Contents.{content_at}
 use Rattle.machine_core.specs.Reading.{next_of}
-use Rattle.ctrie_map.proofs.Lookups.{entries_read, mapped, refuses, refuses_alike}
+use Rattle.ctrie_map.specs.Beneath.map_worlds.specs.Worlds.{world_of}
+use Rattle.ctrie_map.proofs.Lookups.{entries_read, mapped_by, refuses, refuses_alike}
 use Rattle.ctrie_map.proofs.Walks.{few_next}
 use Rattle.ctrie_map.proofs.walking.entries_after.Goals as goal
 
 pub returns-clause-entries : goal.returns-clause-entries
 returns-clause-entries c =
     let state = c.args.core.now.state in
-    mapped (next_of c.args.after c.args.room) state c.args.handle (λ m. map.entries m) (content_at state c.args.handle)
+    mapped_by (next_of c.args.after c.args.room) (map.get (world_of state) c.args.handle) (λ m. map.entries m) (content_at state c.args.handle)
     (entries_read state c.limits.ensures.of_run c.args.handle c.in_ok-part.ensures.open)
     ∙ ap Ok (sym (c.into_vec.ensures ∙ c.in_ok-part.ensures.exact))
 

@@ -1,15 +1,15 @@
 use Rattle.std.proofs.Common.{subst}
-use Rattle.history.specs.declared.calls.Call.TheVariants.{Freeze}
-use Rattle.ctrie_map.specs.Performing.{Performs}
+use Rattle.history.specs.declared.calls.Access.TheVariants.{ReadOnly}
+use Rattle.ctrie_map.specs.Performing.{Performs, copy_call}
 use Rattle.ctrie_map.proofs.Copies.{freeze_done, freeze_refused}
 use Rattle.ctrie_map.proofs.map.Map.freeze.Goals as goal
 
 pub returns-clause-done : goal.returns-clause-done
 returns-clause-done c =
-    freeze_done c.args.self.now c.args.handle c.perform.new.self c.perform.result c.opened.result c.opened.ensures
-    (subst (λ h. Performs c.perform.result c.args.self.now (Freeze h) c.perform.new.self) c.number.ensures c.perform.ensures.performs)
+    freeze_done c.args.self.now c.args.handle c.«open».new.self c.«open».result c.opened.result c.opened.ensures
+    (subst (λ h. Performs c.«open».result c.args.self.now (copy_call ReadOnly h) c.«open».new.self) c.number.ensures c.«open».ensures.performs)
 
 pub returns-clause-refused : goal.returns-clause-refused
 returns-clause-refused c =
-    freeze_refused c.args.self.now c.args.handle c.perform.new.self c.perform.result c.opened.result c.opened.ensures
-    (subst (λ h. Performs c.perform.result c.args.self.now (Freeze h) c.perform.new.self) c.number.ensures c.perform.ensures.performs)
+    freeze_refused c.args.self.now c.args.handle c.«open».new.self c.«open».result c.opened.result c.opened.ensures
+    (subst (λ h. Performs c.«open».result c.args.self.now (copy_call ReadOnly h) c.«open».new.self) c.number.ensures c.«open».ensures.performs)

@@ -1,0 +1,46 @@
+use Rattle.std.proofs.Common.{Ok, sym, subst, ◌∙◌}
+use Rattle.std.proofs.lemmas.Result.{err_from_is_err_and}
+use Rattle.history.specs.declared.calls.Call.TheVariants.{Snapshot}
+use Rattle.ctrie_map.specs.Cores.{Carries}
+use Rattle.ctrie_map.specs.Performing.{copy_call}
+use Rattle.ctrie_map.proofs.ByName.{copy_refused, full, not_open, on_copy, opened, unopened}
+use Rattle.ctrie_map.proofs.named_calls.«open».Goals as goal
+
+pub returns-in_default-clause-performs : goal.returns-in_default-clause-performs
+returns-in_default-clause-performs c =
+    not_open c.args.core.now.state c.args.names.now c.requires.whole c.args.handle (copy_call c.args.access c.args.handle) (on_copy c.args.handle c.args.access)
+    (sym c.find.ensures ∙ c.in_default.is)
+
+pub returns-in_default-next_free-clause-performs : goal.returns-in_default-next_free-clause-performs
+returns-in_default-next_free-clause-performs c =
+    full c.args.core.now.state c.args.names.now c.requires.whole c.args.handle c.in-Some.name (sym c.find.ensures ∙ c.in-Some.is) c.args.access c.in_default-next_free.ensures.none
+
+pub returns-in_err-reply-clause-performs : goal.returns-in_err-reply-clause-performs
+returns-in_err-reply-clause-performs c =
+    let p = err_from_is_err_and c.from_residual.result c.from_residual.ensures.1 in
+    rw (p.1, p.2) ((copy_refused c.args.core.now.state c.args.names.now c.requires.whole c.args.handle c.in-Some.name (sym c.find.ensures ∙ c.in-Some.is) c.args.access
+    c.in_err-reply.field-0.0 c.perform.new.core.state c.in_err-reply.ensures.carries).performs)
+
+pub returns-in-Opened-clause-whole : goal.returns-in-Opened-clause-whole
+returns-in-Opened-clause-whole c = record {
+  calm = c.perform.ensures.calm;
+  named = rw c.give.ensures ((opened c.args.core.now.state c.args.names.now c.requires.whole c.args.handle c.in-Some.name (sym c.find.ensures ∙ c.in-Some.is) c.args.access
+      c.in-Some-next_free.number c.in-Some-next_free.ensures.next.within c.in-Some-next_free.ensures.next.free c.in-Opened.core c.perform.new.core.state
+      (subst (λ a. Carries (Ok a) c.args.core.now.state (Snapshot c.in-Some.name.core) c.perform.new.core.state) c.in-Opened.is c.in_ok-reply.ensures.carries)).named);
+}
+
+pub returns-in-Opened-clause-performs : goal.returns-in-Opened-clause-performs
+returns-in-Opened-clause-performs c =
+    rw c.give.ensures ((opened c.args.core.now.state c.args.names.now c.requires.whole c.args.handle c.in-Some.name (sym c.find.ensures ∙ c.in-Some.is) c.args.access
+    c.in-Some-next_free.number c.in-Some-next_free.ensures.next.within c.in-Some-next_free.ensures.next.free c.in-Opened.core c.perform.new.core.state
+    (subst (λ a. Carries (Ok a) c.args.core.now.state (Snapshot c.in-Some.name.core) c.perform.new.core.state) c.in-Opened.is c.in_ok-reply.ensures.carries)).performs)
+
+pub returns-in_default-2 : goal.returns-in_default-2
+returns-in_default-2 c =
+    let u = unopened c.args.core.now.state c.args.names.now c.requires.whole c.args.handle c.in-Some.name (sym c.find.ensures ∙ c.in-Some.is) c.args.access c.in_ok-reply.reply
+    c.perform.new.core.state c.in_default-2.not-Opened c.in_ok-reply.ensures.carries in record {
+      whole = record { calm = c.perform.ensures.calm; named = u.0.named };
+      performs = u.0.performs;
+      next = u.1;
+      work = c.perform.ensures.work;
+    }

@@ -1,0 +1,11 @@
+use Rattle.std.proofs.Common.{◌-◌, ◌≤◌, length}
+use Rattle.ctrie_map.proofs.Sifted.{IsSifting}
+use Rattle.ctrie_map.proofs.retaining.leave_unwanted.Given as goal
+
+-- what is still to be asked decides over the whole
+abbrev pub invariant-loop-at : goal.invariant-loop-at
+invariant-loop-at g l =
+    goal.F-IsAlwaysCallable g l.f × (l.many ≤ l.at) × (l.at ≤ length l.pairs.items) × IsSifting (goal.F-step g) l.fn.f l.fn.pairs.items l.f l.pairs.items l.at l.many
+
+abbrev pub decreases-loop-at : goal.decreases-loop-at
+decreases-loop-at g l = length l.pairs.items - l.at

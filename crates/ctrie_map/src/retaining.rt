@@ -1,0 +1,86 @@
+//! Keys that are taken out together, all or none, by what the caller's closure says of them.
+
+ghost use Rattle.std.specs.Prelude.{◌≡◌, ◌<◌, ◌+◌, ℕ, IfOk, IfErr, List, if◌then◌else◌, length, slice_set};
+ghost use Rattle.ctrie_map.specs.Maps.{IsWhole, map_with};
+ghost use Rattle.ctrie_map.specs.Retaining.{RefusesRetain, Retains, Sifts, WorksByUnwanted};
+
+use crate::batches::{Batch, change_all, name_to_copy};
+use crate::errors::MapError;
+use crate::handle::Handle;
+use crate::map::Map;
+use crate::names::Names;
+use crate::reading::entries_in;
+use machine_core::Core;
+
+impl Map {
+    /// Keeps the pairs that `f` wants: it takes all others out, or none. `f` is asked of each pair once, in ascending order of
+    /// keys, before anything changes, and of none where the handle isn't open or is read-only, where 256 handles are open, since
+    /// this takes one more for the moment, or where there is no memory for a list of the pairs. It is `Full` only where fewer than
+    /// 24 slots and 571 for each unwanted pair are free, and `WornOut` where fewer steps are left than so many changes may take:
+    /// no map has changed then, and `remove` may do for some of the pairs. Where all are wanted, nothing changes, and no step is
+    /// taken.
+    pub fn retain<F: FnMut(u64, u64) -> bool>(
+        &mut self,
+        handle: Handle,
+        f: F,
+    ) -> Result<(), MapError>
+        requires { F.IsAlwaysCallable f }
+        ensures retains { IfOk result (λ _. Retains F.step f self.old handle self.new) }
+        ensures refused { IfErr result (RefusesRetain F.step f self.old handle self.new) }
+        ensures work { WorksByUnwanted F.step f self.old handle self.new }
+    {
+        retain(&mut self.core, &mut self.names, handle.number(), f)
+    }
+}
+
+/// The same of a map's parts.
+fn retain<F: FnMut(u64, u64) -> bool>(
+    core: &mut Core,
+    names: &mut Names,
+    handle: u16,
+    f: F,
+) -> Result<(), MapError>
+    requires callable { F.IsAlwaysCallable f }
+    requires whole { IsWhole (map_with core.old.state names.old) }
+    ensures whole { IsWhole (map_with core.new.state names.new) }
+    ensures retains { IfOk result (λ _. Retains F.step f (map_with core.old.state names.old) handle (map_with core.new.state names.new)) }
+    ensures refused { IfErr result (RefusesRetain F.step f (map_with core.old.state names.old) handle (map_with core.new.state names.new)) }
+    ensures work { WorksByUnwanted F.step f (map_with core.old.state names.old) handle (map_with core.new.state names.new) }
+{
+    let name = name_to_copy(names, handle)?;
+    let mut pairs = entries_in(core, name.core)?;
+    leave_unwanted(&mut pairs, f);
+    if pairs.is_empty() {
+        return Ok(());
+    }
+    change_all(core, names, handle, name, Batch::Removes, pairs.as_slice())
+}
+
+/// Leaves the pairs that `f` doesn't want, asking it of one after the other.
+fn leave_unwanted<F: FnMut(u64, u64) -> bool>(pairs: &mut Vec<(u64, u64)>, mut f: F)
+    requires { F.IsAlwaysCallable f }
+    ensures { (wanted : List (ℕ × ℕ)) × Sifts F.step f pairs.old.items wanted pairs.new.items }
+{
+    let mut many = 0;
+    let mut at = 0;
+    while at < pairs.len() {
+        let (key, value) = pairs[at];
+        let wants = f(key, value);
+        many = settle(pairs, many, (key, value), wants);
+        at += 1;
+    }
+    pairs.truncate(many);
+}
+
+/// Puts a pair that isn't wanted behind the first `many` ones. How many these are then.
+fn settle(pairs: &mut Vec<(u64, u64)>, many: usize, pair: (u64, u64), wants: bool) -> usize
+    requires { many < length pairs.old.items }
+    ensures settled { pairs.new.items ≡ (if wants then pairs.old.items else slice_set pairs.old.items many pair) }
+    ensures counted { result ≡ (if wants then many else many + 1) }
+{
+    if wants {
+        return many;
+    }
+    pairs[many] = pair;
+    many + 1
+}
