@@ -29,7 +29,7 @@ module _ {W C A : Type 0} (answers : ℕ → W → C → A → W → Type 0) (se
   have_followed board owner seat [] stand = tt
   have_followed board owner seat (p ∷ ps) stand = (stand.0.followed, have_followed board owner seat ps stand.1)
 
-module _ {S W C A : Type 0} (answers : ℕ → W → C → A → W → Type 0) (slot_of : Logged W C A → ℕ → Option S) (slots seats : ℕ) (first : W) where
+module _ {S W C A : Type 0} (answers : ℕ → W → C → A → W → Type 0) (slot_of : Logged W C A → ℕ → Option S) (word_of : ℕ → ℕ) (slots seats : ℕ) (first : W) where
   -- what the last state says of the board and of the seat that has all numbers
   pub record IsClosed (ps : List (Part W C A)) (board : Logged W C A) : Type 0 where
     pub first_is : board.first ≡ first
@@ -38,16 +38,16 @@ module _ {S W C A : Type 0} (answers : ℕ → W → C → A → W → Type 0) (
     pub followed : HaveFollowed answers board ps
     pub once : (number : ℕ) → times_in number ps ≤ 1
 
-  module _ (s : State S (View S W C A)) (kept : IsKept answers slot_of slots seats first s) (id : ℕ) (ps : List (Part W C A)) (at_seat : get_elem? s.views id ≡ some (crew_view ps))
+  module _ (s : State S (View S W C A)) (kept : IsKept answers slot_of word_of slots seats first s) (id : ℕ) (ps : List (Part W C A)) (at_seat : get_elem? s.views id ≡ some (crew_view ps))
       (all : AreAll seats ps) where
     stand : ArePartsOf answers seats kept.board kept.owner id ps
     stand = kept.parts id (crew_view ps) at_seat
 
     -- who is inside has a number, which is here: so it is this seat, and outside
-    still_busy : (i : ℕ) → i < slots → (slice_index s.words i ≡ 0 → ⊥) → ⊥
+    still_busy : (i : ℕ) → i < slots → (slice_index s.words (word_of i) ≡ 0 → ⊥) → ⊥
     still_busy i range busy =
         let h = kept.held i range busy in
-        let its = noted_word slot_of slots kept.board s.words (number_of h.view.parts) i h.view.has (kept.noted h.holder h.view h.at) h.has in
+        let its = noted_word slot_of word_of slots kept.board s.words (number_of h.view.parts) i h.view.has (kept.noted h.holder h.view h.at) h.has in
         let theirs = kept.parts h.holder h.view h.at in
         let owned = number_owned answers seats kept.board kept.owner h.holder h.view.parts theirs its.1 in
         let number = all (number_of h.view.parts) its.1 (number_low answers seats kept.board kept.owner h.holder h.view.parts theirs its.1) in
@@ -55,8 +55,8 @@ module _ {S W C A : Type 0} (answers : ℕ → W → C → A → W → Type 0) (
         let same = some-injective _ _ (sym h.at ∙ ap (λ n. get_elem? s.views n) here ∙ at_seat) in
         subst (λ (v : View S W C A). HasSlot i v.has) same h.has
 
-    is_free : (i : ℕ) → i < slots → slice_index s.words i ≡ 0
-    is_free i range = elim (cases_eq (slice_index s.words i) 0) [ inl free ↦ free | inr busy ↦ absurd (still_busy i range busy) ]
+    is_free : (i : ℕ) → i < slots → slice_index s.words (word_of i) ≡ 0
+    is_free i range = elim (cases_eq (slice_index s.words (word_of i)) 0) [ inl free ↦ free | inr busy ↦ absurd (still_busy i range busy) ]
 
     closed : IsClosed ps kept.board
     closed = record {
@@ -67,7 +67,7 @@ module _ {S W C A : Type 0} (answers : ℕ → W → C → A → W → Type 0) (
       once = λ number. omega (arith, kept.once number, times_in_one number s.views id (crew_view ps) at_seat);
     }
 
-  pub closes : (id : ℕ) (ps : List (Part W C A)) (ws : List ℕ) (xs : List S) → AreAll seats ps → Final (Seen (IsKept answers slot_of slots seats first) id (crew_view ps)) ws xs →
+  pub closes : (id : ℕ) (ps : List (Part W C A)) (ws : List ℕ) (xs : List S) → AreAll seats ps → Final (Seen (IsKept answers slot_of word_of slots seats first) id (crew_view ps)) ws xs →
       (board : Logged W C A) × AreSlotsOf slot_of slots board xs × IsClosed ps board
   closes id ps ws xs all last =
       let s = last.0 in

@@ -48,8 +48,8 @@ module _ {W C A : Type 0} (answers : ℕ → W → C → A → W → Type 0) (se
 
 -- ---- other views of seats that are outside
 
-module _ {S W C A : Type 0} (answers : ℕ → W → C → A → W → Type 0) (slot_of : Logged W C A → ℕ → Option S) (slots seats : ℕ) (first : W) where
-  module _ (s : State S (View S W C A)) (kept : IsKept answers slot_of slots seats first s) (views : List (View S W C A)) (owner : ℕ → ℕ) where
+module _ {S W C A : Type 0} (answers : ℕ → W → C → A → W → Type 0) (slot_of : Logged W C A → ℕ → Option S) (word_of : ℕ → ℕ) (slots seats : ℕ) (first : W) where
+  module _ (s : State S (View S W C A)) (kept : IsKept answers slot_of word_of slots seats first s) (views : List (View S W C A)) (owner : ℕ → ℕ) where
     -- who is inside in the new views was so in the old ones
     abbrev AreOld : Type 0
     AreOld = (seat : ℕ) (view : View S W C A) → get_elem? views seat ≡ some view → (view.has ≡ []) ⊎ (get_elem? s.views seat ≡ some view)
@@ -67,13 +67,13 @@ module _ {S W C A : Type 0} (answers : ℕ → W → C → A → W → Type 0) (
     held_by : AreStill → (i : ℕ) → IsHeld i s.views → IsHeld i views
     held_by still i h = record { holder = h.holder; view = h.view; at = still h.holder h.view h.at (λ none. subst (λ xs. HasSlot i xs) none h.has); has = h.has }
 
-    noted_by : AreOld → (seat : ℕ) (view : View S W C A) → get_elem? views seat ≡ some view → AreNoted slot_of slots kept.board s.words (number_of view.parts) view.has
+    noted_by : AreOld → (seat : ℕ) (view : View S W C A) → get_elem? views seat ≡ some view → AreNoted slot_of word_of slots kept.board s.words (number_of view.parts) view.has
     noted_by old seat view at = elim (old seat view at) [
-      | inl out ↦ subst (λ xs. AreNoted slot_of slots kept.board s.words (number_of view.parts) xs) (sym out) tt
+      | inl out ↦ subst (λ xs. AreNoted slot_of word_of slots kept.board s.words (number_of view.parts) xs) (sym out) tt
       | inr was ↦ kept.noted seat view was
     ]
 
-    kept_by : AreOld → AreStill → HaveParts → AreOnce → IsKept answers slot_of slots seats first (record { words = s.words; homes = s.homes; views = views })
+    kept_by : AreOld → AreStill → HaveParts → AreOnce → IsKept answers slot_of word_of slots seats first (record { words = s.words; homes = s.homes; views = views })
     kept_by old still parts once = record {
       board = kept.board;
       owner = owner;
@@ -114,8 +114,8 @@ each_moved answers seats board owner seat number to (p ∷ ps) stand others = (
   each_moved answers seats board owner seat number to ps stand.1 others.1,
 )
 
-module _ {S W C A : Type 0} (answers : ℕ → W → C → A → W → Type 0) (slot_of : Logged W C A → ℕ → Option S) (slots seats : ℕ) (first : W) (s : State S (View S W C A))
-    (kept : IsKept answers slot_of slots seats first s)
+module _ {S W C A : Type 0} (answers : ℕ → W → C → A → W → Type 0) (slot_of : Logged W C A → ℕ → Option S) (word_of : ℕ → ℕ) (slots seats : ℕ) (first : W) (s : State S (View S W C A))
+    (kept : IsKept answers slot_of word_of slots seats first s)
     (id : ℕ) (p : Part W C A) (ps : List (Part W C A)) (others : AreOthers p.number ps) (at_seat : get_elem? s.views id ≡ some (crew_view (p ∷ ps))) where
   abbrev shorter : List (View S W C A)
   shorter = slice_set s.views id (crew_view ps)
@@ -129,7 +129,7 @@ module _ {S W C A : Type 0} (answers : ℕ → W → C → A → W → Type 0) (
   stand : ArePartsOf answers seats kept.board kept.owner id (p ∷ ps)
   stand = kept.parts id (crew_view (p ∷ ps)) at_seat
 
-  cut_old : AreOld answers slot_of slots seats first s kept cut_views cut_owner
+  cut_old : AreOld answers slot_of word_of slots seats first s kept cut_views cut_owner
   cut_old seat view at = elim (at_push shorter (crew_view (p ∷ [])) view seat at) [
     | inl h ↦ elim (at_set s.views id seat (crew_view ps) view h) [
       | inl g ↦ inl (ap (λ (v : View S W C A). v.has) (sym g.1))
@@ -138,7 +138,7 @@ module _ {S W C A : Type 0} (answers : ℕ → W → C → A → W → Type 0) (
     | inr h ↦ inl (ap (λ (v : View S W C A). v.has) (sym h.1))
   ]
 
-  cut_still : AreStill answers slot_of slots seats first s kept cut_views cut_owner
+  cut_still : AreStill answers slot_of word_of slots seats first s kept cut_views cut_owner
   cut_still seat view at busy =
       at_longer shorter _ seat view (set_else s.views id seat (crew_view ps) (not_outside s.views seat id view (p ∷ ps) at busy at_seat) ∙ at)
 
@@ -153,14 +153,14 @@ module _ {S W C A : Type 0} (answers : ℕ → W → C → A → W → Type 0) (
     | inr h ↦ each_with answers seats kept.board kept.owner cut_owner seat seat view.parts (kept.parts seat view h.1) (λ number own. cut_else seat number h.0 own)
   ]
 
-  cut_parts : HaveParts answers slot_of slots seats first s kept cut_views cut_owner
+  cut_parts : HaveParts answers slot_of word_of slots seats first s kept cut_views cut_owner
   cut_parts seat view at = elim (at_push shorter (crew_view (p ∷ [])) view seat at) [
     | inl h ↦ cut_parts_old seat view h
     | inr h ↦ subst (λ (v : View S W C A). ArePartsOf answers seats kept.board cut_owner seat v.parts) h.1
         (stand_with answers seats kept.board kept.owner cut_owner id seat p stand.0 (moved_here p.number (length shorter) kept.owner ∙ sym h.0), tt)
   ]
 
-  cut_once : AreOnce answers slot_of slots seats first s kept cut_views cut_owner
+  cut_once : AreOnce answers slot_of word_of slots seats first s kept cut_views cut_owner
   cut_once n = omega (
     arith,
     kept.once n,
@@ -170,13 +170,13 @@ module _ {S W C A : Type 0} (answers : ℕ → W → C → A → W → Type 0) (
     times_cons n p [],
   )
 
-  cut_kept : IsKept answers slot_of slots seats first (record { words = s.words; homes = s.homes; views = cut_views })
-  cut_kept = kept_by answers slot_of slots seats first s kept cut_views cut_owner cut_old cut_still cut_parts cut_once
+  cut_kept : IsKept answers slot_of word_of slots seats first (record { words = s.words; homes = s.homes; views = cut_views })
+  cut_kept = kept_by answers slot_of word_of slots seats first s kept cut_views cut_owner cut_old cut_still cut_parts cut_once
 
-pub cut_allowed : {S W C A : Type 0} (answers : ℕ → W → C → A → W → Type 0) (slot_of : Logged W C A → ℕ → Option S) (slots seats : ℕ) (first : W) (id : ℕ) (p : Part W C A)
+pub cut_allowed : {S W C A : Type 0} (answers : ℕ → W → C → A → W → Type 0) (slot_of : Logged W C A → ℕ → Option S) (word_of : ℕ → ℕ) (slots seats : ℕ) (first : W) (id : ℕ) (p : Part W C A)
     (ps : List (Part W C A)) → AreOthers p.number ps →
-    Splits (IsKept answers slot_of slots seats first) id (crew_view (p ∷ ps)) (crew_view ps) (crew_view (p ∷ []))
-cut_allowed answers slot_of slots seats first id p ps others s kept at_seat = cut_kept answers slot_of slots seats first s kept id p ps others at_seat
+    Splits (IsKept answers slot_of word_of slots seats first) id (crew_view (p ∷ ps)) (crew_view ps) (crew_view (p ∷ []))
+cut_allowed answers slot_of word_of slots seats first id p ps others s kept at_seat = cut_kept answers slot_of word_of slots seats first s kept id p ps others at_seat
 
 -- ---- gathering
 
@@ -190,8 +190,8 @@ merged_here from to owner number own = rw (eq-eqb (owner number) from own) refl
 merged_else : (from to : ℕ) (owner : ℕ → ℕ) (number seat : ℕ) → owner number ≡ seat → (seat ≡ from → ⊥) → merged from to owner number ≡ seat
 merged_else from to owner number seat own apart = rw (ne_eqb (owner number) from (λ same. apart (sym own ∙ same))) own
 
-module _ {S W C A : Type 0} (answers : ℕ → W → C → A → W → Type 0) (slot_of : Logged W C A → ℕ → Option S) (slots seats : ℕ) (first : W) (s : State S (View S W C A))
-    (kept : IsKept answers slot_of slots seats first s)
+module _ {S W C A : Type 0} (answers : ℕ → W → C → A → W → Type 0) (slot_of : Logged W C A → ℕ → Option S) (word_of : ℕ → ℕ) (slots seats : ℕ) (first : W) (s : State S (View S W C A))
+    (kept : IsKept answers slot_of word_of slots seats first s)
     (id other : ℕ) (ps qs : List (Part W C A)) (at_seat : get_elem? s.views id ≡ some (crew_view ps))
     (apart : other ≡ id → ⊥) (at_other : get_elem? (slice_set s.views id (crew_view (ps ++ qs))) other ≡ some (crew_view qs)) where
   abbrev grown : List (View S W C A)
@@ -214,13 +214,13 @@ module _ {S W C A : Type 0} (answers : ℕ → W → C → A → W → Type 0) (
     | inr h ↦ elim (at_set s.views id seat (crew_view (ps ++ qs)) view h.1) [ inl g ↦ inl g | inr g ↦ inr (inr (h.0, g.1)) ]
   ]
 
-  join_old : AreOld answers slot_of slots seats first s kept joined owned
+  join_old : AreOld answers slot_of word_of slots seats first s kept joined owned
   join_old seat view at = elim (joined_at seat view at) [
     | inl h ↦ inl (ap (λ (v : View S W C A). v.has) (sym h.1))
     | inr g ↦ elim g [ inl h ↦ inl (ap (λ (v : View S W C A). v.has) (sym h.1)) | inr h ↦ inr h.1 ]
   ]
 
-  join_still : AreStill answers slot_of slots seats first s kept joined owned
+  join_still : AreStill answers slot_of word_of slots seats first s kept joined owned
   join_still seat view at busy =
       set_else grown other seat (crew_view []) (not_outside s.views seat other view qs at busy was_other)
       ∙ set_else s.views id seat (crew_view (ps ++ qs)) (not_outside s.views seat id view ps at busy at_seat) ∙ at
@@ -230,7 +230,7 @@ module _ {S W C A : Type 0} (answers : ℕ → W → C → A → W → Type 0) (
       (each_with answers seats kept.board kept.owner owned id id ps (kept.parts id (crew_view ps) at_seat) (λ number own. merged_else other id kept.owner number id own (λ same. apart (sym same))))
       (each_with answers seats kept.board kept.owner owned other id qs (kept.parts other (crew_view qs) was_other) (λ number own. merged_here other id kept.owner number own))
 
-  join_parts : HaveParts answers slot_of slots seats first s kept joined owned
+  join_parts : HaveParts answers slot_of word_of slots seats first s kept joined owned
   join_parts seat view at = elim (joined_at seat view at) [
     | inl h ↦ subst (λ (v : View S W C A). ArePartsOf answers seats kept.board owned seat v.parts) h.1
         (subst (λ n. ArePartsOf answers seats kept.board owned n (ps ++ qs)) (sym h.0) join_both)
@@ -240,7 +240,7 @@ module _ {S W C A : Type 0} (answers : ℕ → W → C → A → W → Type 0) (
     ]
   ]
 
-  join_once : AreOnce answers slot_of slots seats first s kept joined owned
+  join_once : AreOnce answers slot_of word_of slots seats first s kept joined owned
   join_once n = omega (
     arith,
     kept.once n,
@@ -249,12 +249,13 @@ module _ {S W C A : Type 0} (answers : ℕ → W → C → A → W → Type 0) (
     times_append n ps qs,
   )
 
-  join_kept : IsKept answers slot_of slots seats first (record { words = s.words; homes = s.homes; views = joined })
-  join_kept = kept_by answers slot_of slots seats first s kept joined owned join_old join_still join_parts join_once
+  join_kept : IsKept answers slot_of word_of slots seats first (record { words = s.words; homes = s.homes; views = joined })
+  join_kept = kept_by answers slot_of word_of slots seats first s kept joined owned join_old join_still join_parts join_once
 
-pub join_allowed : {S W C A : Type 0} (answers : ℕ → W → C → A → W → Type 0) (slot_of : Logged W C A → ℕ → Option S) (slots seats : ℕ) (first : W) (id other : ℕ) (ps qs : List (Part W C A)) →
-    Joins (IsKept answers slot_of slots seats first) id (crew_view ps) other (crew_view qs) (gathered (crew_view ps) (crew_view qs)) (crew_view [])
-join_allowed answers slot_of slots seats first id other ps qs s kept at_seat apart at_other = join_kept answers slot_of slots seats first s kept id other ps qs at_seat apart at_other
+pub join_allowed : {S W C A : Type 0} (answers : ℕ → W → C → A → W → Type 0) (slot_of : Logged W C A → ℕ → Option S) (word_of : ℕ → ℕ) (slots seats : ℕ) (first : W)
+    (id other : ℕ) (ps qs : List (Part W C A)) →
+    Joins (IsKept answers slot_of word_of slots seats first) id (crew_view ps) other (crew_view qs) (gathered (crew_view ps) (crew_view qs)) (crew_view [])
+join_allowed answers slot_of word_of slots seats first id other ps qs s kept at_seat apart at_other = join_kept answers slot_of word_of slots seats first s kept id other ps qs at_seat apart at_other
 
 -- ---- the start
 
@@ -272,15 +273,15 @@ module _ {W C A : Type 0} (answers : ℕ → W → C → A → W → Type 0) (se
 abbrev pub AreSlotsOf : {S W C A : Type 0} → (Logged W C A → ℕ → Option S) → ℕ → Logged W C A → List S → Type 0
 AreSlotsOf slot_of slots board xs = (i : ℕ) → i < slots → (x : _) × (get_elem? xs i ≡ some x) × (slot_of board i ≡ some x)
 
-module _ {S W C A : Type 0} (answers : ℕ → W → C → A → W → Type 0) (slot_of : Logged W C A → ℕ → Option S) (slots seats : ℕ) (first : W) where
+module _ {S W C A : Type 0} (answers : ℕ → W → C → A → W → Type 0) (slot_of : Logged W C A → ℕ → Option S) (word_of : ℕ → ℕ) (slots seats : ℕ) (first : W) where
   abbrev start : Logged W C A
   start = fresh first
 
   abbrev start_view : View S W C A
   start_view = first_view start seats
 
-  pub opening_kept : (words : List ℕ) (xs : List S) → length words ≡ slots → ((i : ℕ) → slice_index words i ≡ 0) → AreSlotsOf slot_of slots (fresh first) xs →
-      IsKept answers slot_of slots seats first (opening words xs (first_view (fresh first) seats))
+  pub opening_kept : (words : List ℕ) (xs : List S) → ((i : ℕ) → i < slots → word_of i < length words) → ((i : ℕ) → slice_index words i ≡ 0) → AreSlotsOf slot_of slots (fresh first) xs →
+      IsKept answers slot_of word_of slots seats first (opening words xs (first_view (fresh first) seats))
   opening_kept words xs size all_zero there = record {
     board = fresh first;
     owner = λ a. 0;
@@ -289,9 +290,9 @@ module _ {S W C A : Type 0} (answers : ℕ → W → C → A → W → Type 0) (
     legal = refl;
     calls = All-nil (λ (e : Entry C A). (1 ≤ e.seat) × (e.seat ≤ seats));
     home = λ i within free. let h = there i within in (h.0, at_map some xs i h.0 h.1, h.2);
-    held = λ i within busy. absurd (busy (all_zero i));
+    held = λ i within busy. absurd (busy (all_zero (word_of i)));
     noted = λ seat view at. let here = alone start_view view seat at in
-        subst (λ (v : View S W C A). AreNoted slot_of slots (fresh first) words (number_of v.parts) v.has) here.1 tt;
+        subst (λ (v : View S W C A). AreNoted slot_of word_of slots (fresh first) words (number_of v.parts) v.has) here.1 tt;
     parts = λ seat view at. let here = alone start_view view seat at in
         subst (λ (v : View S W C A). ArePartsOf answers seats (fresh first) (λ a. 0) seat v.parts) here.1
         (subst (λ n. ArePartsOf answers seats (fresh first) (λ a. 0) n (crew (fresh first) 1 seats)) (sym here.0)
@@ -301,24 +302,24 @@ module _ {S W C A : Type 0} (answers : ℕ → W → C → A → W → Type 0) (
 
   -- ---- a seat without a number
 
-  module _ (s : State S (View S W C A)) (kept : IsKept answers slot_of slots seats first s) where
+  module _ (s : State S (View S W C A)) (kept : IsKept answers slot_of word_of slots seats first s) where
     abbrev with_one : List (View S W C A)
     with_one = s.views ++ crew_view [] ∷ []
 
-    sit_old : AreOld answers slot_of slots seats first s kept with_one kept.owner
+    sit_old : AreOld answers slot_of word_of slots seats first s kept with_one kept.owner
     sit_old seat view at = elim (at_push s.views (crew_view []) view seat at) [ inl h ↦ inr h | inr h ↦ inl (ap (λ (v : View S W C A). v.has) (sym h.1)) ]
 
-    sit_parts : HaveParts answers slot_of slots seats first s kept with_one kept.owner
+    sit_parts : HaveParts answers slot_of word_of slots seats first s kept with_one kept.owner
     sit_parts seat view at = elim (at_push s.views (crew_view []) view seat at) [
       | inl h ↦ kept.parts seat view h
       | inr h ↦ subst (λ (v : View S W C A). ArePartsOf answers seats kept.board kept.owner seat v.parts) h.1 tt
     ]
 
-    sit_kept : IsKept answers slot_of slots seats first (record { words = s.words; homes = s.homes; views = with_one })
-    sit_kept = kept_by answers slot_of slots seats first s kept with_one kept.owner sit_old (λ seat view at busy. at_longer s.views _ seat view at) sit_parts
+    sit_kept : IsKept answers slot_of word_of slots seats first (record { words = s.words; homes = s.homes; views = with_one })
+    sit_kept = kept_by answers slot_of word_of slots seats first s kept with_one kept.owner sit_old (λ seat view at busy. at_longer s.views _ seat view at) sit_parts
         (λ n. omega (arith, kept.once n, times_pushed n s.views (crew_view [])))
 
-  pub sit_allowed : (size : ℕ) (before : Place S W C A) → Enters (IsKept answers slot_of slots seats first) size 0 (λ n w. has_sat (step size 0 0 0 none) before n (w, []))
+  pub sit_allowed : (size : ℕ) (before : Place S W C A) → Enters (IsKept answers slot_of word_of slots seats first) size 0 (λ n w. has_sat (step size 0 0 0 none) before n (w, []))
   sit_allowed size before s kept full low = (crew_view [], sit_kept s kept, refl)
 
 -- the numbers of a crew are distinct

@@ -41,13 +41,13 @@ none_left (x ∷ rest) n is none = absurd (omega (arith, is, none))
 
 -- ---- one seat more
 
-module _ {X W C A : Type 0} (answers : ℕ → W → C → A → W → Type 0) (slot_of : Logged W C A → ℕ → Option X) (slots seats : ℕ) (first : W) where
+module _ {X W C A : Type 0} (answers : ℕ → W → C → A → W → Type 0) (slot_of : Logged W C A → ℕ → Option X) (word_of : ℕ → ℕ) (slots seats : ℕ) (first : W) where
   pub gather_allowed : (id other : ℕ) (me him : Place X W C A) (ps qs : List (Part W C A)) → me ≡ (crew_view ps, []) → him ≡ (crew_view qs, []) →
-      Joins (IsKept answers slot_of slots seats first) id me.0 other him.0 (gathered me.0 him.0) (crew_view [])
+      Joins (IsKept answers slot_of word_of slots seats first) id me.0 other him.0 (gathered me.0 him.0) (crew_view [])
   gather_allowed id other me him ps qs is his =
-      let Mine : Place X W C A → Type 0 = λ m. Joins (IsKept answers slot_of slots seats first) id m.0 other him.0 (gathered m.0 him.0) (crew_view []) in
-      let His : Place X W C A → Type 0 = λ h. Joins (IsKept answers slot_of slots seats first) id (crew_view ps) other h.0 (gathered (crew_view ps) h.0) (crew_view []) in
-      subst Mine (sym is) (subst His (sym his) (join_allowed answers slot_of slots seats first id other ps qs))
+      let Mine : Place X W C A → Type 0 = λ m. Joins (IsKept answers slot_of word_of slots seats first) id m.0 other him.0 (gathered m.0 him.0) (crew_view []) in
+      let His : Place X W C A → Type 0 = λ h. Joins (IsKept answers slot_of word_of slots seats first) id (crew_view ps) other h.0 (gathered (crew_view ps) h.0) (crew_view []) in
+      subst Mine (sym is) (subst His (sym his) (join_allowed answers slot_of word_of slots seats first id other ps qs))
 
 module _ {X S W C A : Type 0} (of : S → Seated W C A) where
   pub gathered_one : (me him after : Place X W C A) (seats : List S) (s : S) (alone : Seated W C A) → me ≡ (crew_view (parts_of of seats), []) → alone ≡ of s →
@@ -74,8 +74,8 @@ module _ {S W C A : Type 0} (answers : ℕ → W → C → A → W → Type 0) (
   each_followed board (s ∷ seats) have zero t e = subst (λ x. HasFollowed answers (of x).number (of x).seen board) (same_Some s t e) have.0
   each_followed board (s ∷ seats) have (suc k) t e = each_followed board seats have.1 k t e
 
-module _ {X S W C A : Type 0} (answers : ℕ → W → C → A → W → Type 0) (slot_of : Logged W C A → ℕ → Option X) (slots : ℕ) (of : S → Seated W C A) where
-  from_closed : (gate : Room W) (seats : List S) (board : Logged W C A) → IsClosed answers slot_of slots gate.seats gate.first (parts_of of seats) board →
+module _ {X S W C A : Type 0} (answers : ℕ → W → C → A → W → Type 0) (slot_of : Logged W C A → ℕ → Option X) (word_of : ℕ → ℕ) (slots : ℕ) (of : S → Seated W C A) where
+  from_closed : (gate : Room W) (seats : List S) (board : Logged W C A) → IsClosed answers slot_of word_of slots gate.seats gate.first (parts_of of seats) board →
       IsGathered answers of gate seats board.object
   from_closed gate seats board closed = record {
     last = board;
@@ -90,14 +90,14 @@ module _ {X S W C A : Type 0} (answers : ℕ → W → C → A → W → Type 0)
   -- the board at the end, and what the slots have of it
   pub gathers : (gate : Room W) (most : ℕ) (first : W) (id : ℕ) (me : Place X W C A) (seats yielded : List S) (ws : List ℕ) (xs : List X) →
       most ≡ gate.seats → first ≡ gate.first → yielded ≡ seats → me ≡ (crew_view (parts_of of yielded), []) → AreHere of gate.seats seats →
-      Final (Seen (IsKept answers slot_of slots most first) id me.0) ws xs →
+      Final (Seen (IsKept answers slot_of word_of slots most first) id me.0) ws xs →
       (board : Logged W C A) × AreSlotsOf slot_of slots board xs × IsGathered answers of gate seats board.object
   gathers gate most first id me seats yielded ws xs number start whole is here last =
       let all : AreAll gate.seats (parts_of of yielded) = are_all answers of gate.seats yielded (subst (λ ys. AreHere of gate.seats ys) (sym whole) here) in
-      let seen = subst (λ (m : Place X W C A). Final (Seen (IsKept answers slot_of slots most first) id m.0) ws xs) is last in
-      let done = closes answers slot_of slots gate.seats gate.first id (parts_of of yielded) ws xs all
-      (subst (λ n. Final (Seen (IsKept answers slot_of slots n gate.first) id (crew_view (parts_of of yielded))) ws xs) number
-      (subst (λ o. Final (Seen (IsKept answers slot_of slots most o) id (crew_view (parts_of of yielded))) ws xs) start seen)) in
+      let seen = subst (λ (m : Place X W C A). Final (Seen (IsKept answers slot_of word_of slots most first) id m.0) ws xs) is last in
+      let done = closes answers slot_of word_of slots gate.seats gate.first id (parts_of of yielded) ws xs all
+      (subst (λ n. Final (Seen (IsKept answers slot_of word_of slots n gate.first) id (crew_view (parts_of of yielded))) ws xs) number
+      (subst (λ o. Final (Seen (IsKept answers slot_of word_of slots most o) id (crew_view (parts_of of yielded))) ws xs) start seen)) in
       (done.0, done.1, subst (λ ys. IsGathered answers of gate ys done.0.object) whole (from_closed gate yielded done.0 done.2))
 
 -- the object that lay in one slot

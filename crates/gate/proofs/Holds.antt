@@ -7,22 +7,25 @@ use Rattle.atomic_table.specs.Table.{Allows, step, rest}
 use Rattle.atomic_table.specs.Seated.{TableId}
 use Rattle.gate.specs.Logs.{Logged, IsLegal, HasFollowed, HasCalled, HasWorked}
 use Rattle.gate.specs.Views.{Place, HasSlot, holding, outside, IsOf, HasTaken, has_entered, has_left, HasLeft, Commits}
-use Rattle.gate.specs.Rules.{IsKept, only_slot}
+use Rattle.gate.specs.Rules.{IsKept, only_slot, same_word}
 use Rattle.gate.specs.Seats.{Seated}
 use Rattle.gate.specs.Calls.{IsCalled, HasHeard}
 use Rattle.gate.proofs.Crews.{AreSlotsOf}
-use Rattle.gate.proofs.Keeping.{enter_allowed}
+use Rattle.gate.proofs.Keeping.{AreApart, enter_allowed}
 use Rattle.gate.proofs.Leaving.{leave_allowed}
 
 -- ---- gates of whatever slots
 
-module _ {S W C A : Type 0} (answers : ℕ → W → C → A → W → Type 0) (slot_of : Logged W C A → ℕ → Option S) (slots seats : ℕ) (first : W) where
-  pub exchange_allowed : (size i id number : ℕ) (me : Place S W C A) → size ≡ slots → i < slots → IsOf number me →
-      Allows (IsKept answers slot_of slots seats first) size id me i (λ n. either (n == 0) number n) (has_entered (step size i 0 number none) me)
-  exchange_allowed size i id number me same within is =
-      let View : Place S W C A → Type 0 = λ m. Allows (IsKept answers slot_of slots seats first) slots id m i (λ n. either (n == 0) number n) (has_entered (step slots i 0 number none) m) in
-      let Sized : ℕ → Type 0 = λ k. Allows (IsKept answers slot_of slots seats first) k id me i (λ n. either (n == 0) number n) (has_entered (step k i 0 number none) me) in
-      subst Sized (sym same) (subst View (ap (λ v. (v, me.1)) (sym is.2)) (enter_allowed answers slot_of slots seats first i id number is.0 is.1 me.1 within))
+module _ {S W C A : Type 0} (answers : ℕ → W → C → A → W → Type 0) (slot_of : Logged W C A → ℕ → Option S) (word_of : ℕ → ℕ) (single_word : AreApart word_of) (slots seats : ℕ) (first : W) where
+  pub exchange_allowed : (slot_at : ℕ → ℕ) (size i id number : ℕ) (me : Place S W C A) → size ≡ slots → i < slots → slot_at (word_of i) ≡ i → IsOf number me →
+      Allows (IsKept answers slot_of word_of slots seats first) size id me (word_of i) (λ n. either (n == 0) number n) (has_entered slot_at (step size (word_of i) 0 number none) me)
+  exchange_allowed slot_at size i id number me same within its is =
+      let View : Place S W C A → Type 0 = λ m. Allows (IsKept answers slot_of word_of slots seats first) slots id m (word_of i) (λ n. either (n == 0) number n)
+      (has_entered slot_at (step slots (word_of i) 0 number none) m) in
+      let Sized : ℕ → Type 0 = λ k. Allows (IsKept answers slot_of word_of slots seats first) k id me (word_of i) (λ n. either (n == 0) number n)
+      (has_entered slot_at (step k (word_of i) 0 number none) me) in
+      subst Sized (sym same)
+      (subst View (ap (λ v. (v, me.1)) (sym is.2)) (enter_allowed answers slot_of word_of single_word slots seats first slot_at i id number is.0 is.1 me.1 within its))
 
 -- ---- gates of one slot
 
@@ -43,11 +46,12 @@ module _ {O C A : Type 0} (answers : ℕ → O → C → A → O → Type 0) whe
 
   pub store_allowed : (seats : ℕ) (first : O) (size id number : ℕ) (me : Place (Logged O C A) O C A) (seen found now : Logged O C A) → size ≡ 1 →
       me ≡ (holding number seen ((0, found) ∷ []), (0, now) ∷ []) → HasWorked answers number found now →
-      Allows (IsKept answers only_slot 1 seats first) size id me 0 (λ n. 0) (λ n. has_left answers only_slot (step size 0 0 0 none) me 0)
+      Allows (IsKept answers only_slot same_word 1 seats first) size id me 0 (λ n. 0) (λ n. has_left answers only_slot (step size 0 0 0 none) me 0)
   store_allowed seats first size id number me seen found now same is worked =
-      let At : Place (Logged O C A) O C A → Type 0 = λ m. Allows (IsKept answers only_slot 1 seats first) 1 id m 0 (λ n. 0) (λ n. has_left answers only_slot (step 1 0 0 0 none) m 0) in
-      let Sized : ℕ → Type 0 = λ k. Allows (IsKept answers only_slot 1 seats first) k id me 0 (λ n. 0) (λ n. has_left answers only_slot (step k 0 0 0 none) me 0) in
-      subst Sized (sym same) (subst At (sym is) (leave_allowed answers only_slot 1 seats first 0 id number seen found now [] [] (λ has. has) tt (one_commit number found now worked)))
+      let At : Place (Logged O C A) O C A → Type 0 = λ m. Allows (IsKept answers only_slot same_word 1 seats first) 1 id m 0 (λ n. 0) (λ n. has_left answers only_slot (step 1 0 0 0 none) m 0) in
+      let Sized : ℕ → Type 0 = λ k. Allows (IsKept answers only_slot same_word 1 seats first) k id me 0 (λ n. 0) (λ n. has_left answers only_slot (step k 0 0 0 none) me 0) in
+      subst Sized (sym same)
+      (subst At (sym is) (leave_allowed answers only_slot same_word (λ i j same. same) 1 seats first 0 id number seen found now [] [] (λ has. has) tt (one_commit number found now worked)))
 
 -- the table of such a gate at the start
 pub one_open : (i : ℕ) → slice_index (0 ∷ []) i ≡ 0

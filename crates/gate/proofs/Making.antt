@@ -65,14 +65,14 @@ module _ {S W C A : Type 0} where
   pub left_over : (me rest : Place S W C A) (start : Logged W C A) (n most : ℕ) → n < most → Left me start n most → rest ≡ (rest_of me.0, me.1) → Left rest start (n + 1) most
   left_over me rest start n most within is cut = cut ∙ ap (λ m. (rest_of m.0, m.1)) (cut_view me start n most within is)
 
-module _ {S W C A : Type 0} (answers : ℕ → W → C → A → W → Type 0) (slot_of : Logged W C A → ℕ → Option S) (slots seats : ℕ) (first : W) where
+module _ {S W C A : Type 0} (answers : ℕ → W → C → A → W → Type 0) (slot_of : Logged W C A → ℕ → Option S) (word_of : ℕ → ℕ) (slots seats : ℕ) (first : W) where
   pub split_allowed : (id : ℕ) (me : Place S W C A) (start : Logged W C A) (n most : ℕ) → n < most → Left me start n most →
-      Splits (IsKept answers slot_of slots seats first) id me.0 (rest_of me.0) (first_of me.0)
+      Splits (IsKept answers slot_of word_of slots seats first) id me.0 (rest_of me.0) (first_of me.0)
   split_allowed id me start n most within is =
       let ps = crew start (n + 1 + 1) (most - (n + 1)) in
-      let At : Place S W C A → Type 0 = λ m. Splits (IsKept answers slot_of slots seats first) id m.0 (rest_of m.0) (first_of m.0) in
+      let At : Place S W C A → Type 0 = λ m. Splits (IsKept answers slot_of word_of slots seats first) id m.0 (rest_of m.0) (first_of m.0) in
       subst At (sym (cut_view me start n most within is))
-      (cut_allowed answers slot_of slots seats first id (part (n + 1) start) ps (crew_others start (most - (n + 1)) (n + 1 + 1) (n + 1) (omega arith)))
+      (cut_allowed answers slot_of word_of slots seats first id (part (n + 1) start) ps (crew_others start (most - (n + 1)) (n + 1 + 1) (n + 1) (omega arith)))
 
 -- ---- fresh seats
 

@@ -18,6 +18,10 @@ abbrev pub only_slot : {W C A : Type 0} → Logged W C A → ℕ → Option (Log
 only_slot board zero = some board
 only_slot board (suc i) = none
 
+-- a slot's word where each has the word of its own number
+abbrev pub same_word : ℕ → ℕ
+same_word i = i
+
 module _ {W C A : Type 0} where
   -- the numbers from this one on, so many of them, which know this board
   abbrev pub crew : Logged W C A → ℕ → ℕ → List (Part W C A)
@@ -76,30 +80,31 @@ module _ {S W C A : Type 0} (slot_of : Logged W C A → ℕ → Option S) where
   abbrev pub IsHome : Logged W C A → List (Option S) → ℕ → Type 0
   IsHome board homes i = (x : S) × (get_elem? homes i ≡ some (some x)) × (slot_of board i ≡ some x)
 
-module _ {S W C A : Type 0} (slot_of : Logged W C A → ℕ → Option S) (slots : ℕ) where
+-- `word_of` is which word says who has the slot
+module _ {S W C A : Type 0} (slot_of : Logged W C A → ℕ → Option S) (word_of : ℕ → ℕ) (slots : ℕ) where
   -- the slot's word has the number, and what was found in the slot is still what the board has there
   pub record IsNoted (board : Logged W C A) (words : List ℕ) (number : ℕ) (x : ℕ × S) : Type 0 where
     pub within : x.0 < slots
     pub stands : slot_of board x.0 ≡ some x.1
-    pub word : slice_index words x.0 ≡ number
+    pub word : slice_index words (word_of x.0) ≡ number
     pub low : 1 ≤ number
 
   abbrev pub AreNoted : Logged W C A → List ℕ → ℕ → List (ℕ × S) → Type 0
   AreNoted board words number [] = Unit {0}
   AreNoted board words number (x ∷ xs) = IsNoted board words number x × AreNoted board words number xs
 
-module _ {S W C A : Type 0} (answers : ℕ → W → C → A → W → Type 0) (slot_of : Logged W C A → ℕ → Option S) (slots seats : ℕ) where
+module _ {S W C A : Type 0} (answers : ℕ → W → C → A → W → Type 0) (slot_of : Logged W C A → ℕ → Option S) (word_of : ℕ → ℕ) (slots seats : ℕ) where
   -- There is one board. Each number belongs to one seat, stands there once, and the seat knows of it all that the board tells. A slot with the word 0 is at
   -- home, and else with the seat of the number that the word names.
   pub record IsKept (first : W) (s : State S (View S W C A)) : Type 0 where
     pub board : Logged W C A
     pub owner : ℕ → ℕ
-    pub words : length s.words ≡ slots
+    pub words : (i : ℕ) → i < slots → word_of i < length s.words
     pub first_is : board.first ≡ first
     pub legal : IsLegal answers board
     pub calls : AreSeated seats board.log
-    pub home : (i : ℕ) → i < slots → slice_index s.words i ≡ 0 → IsHome slot_of board s.homes i
-    pub held : (i : ℕ) → i < slots → (slice_index s.words i ≡ 0 → ⊥) → IsHeld i s.views
-    pub noted : (seat : ℕ) (view : View S W C A) → get_elem? s.views seat ≡ some view → AreNoted slot_of slots board s.words (number_of view.parts) view.has
+    pub home : (i : ℕ) → i < slots → slice_index s.words (word_of i) ≡ 0 → IsHome slot_of board s.homes i
+    pub held : (i : ℕ) → i < slots → (slice_index s.words (word_of i) ≡ 0 → ⊥) → IsHeld i s.views
+    pub noted : (seat : ℕ) (view : View S W C A) → get_elem? s.views seat ≡ some view → AreNoted slot_of word_of slots board s.words (number_of view.parts) view.has
     pub parts : (seat : ℕ) (view : View S W C A) → get_elem? s.views seat ≡ some view → ArePartsOf answers seats board owner seat view.parts
     pub once : (number : ℕ) → times_in_all number s.views ≤ 1

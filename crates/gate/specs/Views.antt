@@ -53,9 +53,13 @@ module _ {S W C A : Type 0} where
   abbrev pub HasTaken : ℕ → Place S W C A → Place S W C A → Type 0
   HasTaken i before after = (x : S) × (after ≡ (record { has = (i, x) ∷ before.0.has; parts = before.0.parts }, (i, x) ∷ before.1))
 
-  -- where the word was 0 the seat has taken the slot, else nothing has changed
-  abbrev pub has_entered : Step S → Place S W C A → ℕ → Place S W C A → Type 0
-  has_entered step before found after = (found ≡ 0 → HasTaken step.word before after) × ((found ≡ 0 → ⊥) → after ≡ before)
+  -- where the slot's word was 0 the seat has taken it, else nothing has changed
+  abbrev pub HasTried : ℕ → Place S W C A → ℕ → Place S W C A → Type 0
+  HasTried i before found after = (found ≡ 0 → HasTaken i before after) × ((found ≡ 0 → ⊥) → after ≡ before)
+
+  -- `slot_at` is which slot has the word
+  abbrev pub has_entered : (ℕ → ℕ) → Step S → Place S W C A → ℕ → Place S W C A → Type 0
+  has_entered slot_at step before found after = HasTried (slot_at step.word) before found after
 
   -- ---- giving a slot back in which nothing is new
 

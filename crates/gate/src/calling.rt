@@ -1,5 +1,5 @@
 //! The calls of a seat.
-ghost use Rattle.std.specs.Prelude.{◌≡◌, ◌≤◌, ◌↔◌, length, IsTrue};
+ghost use Rattle.std.specs.Prelude.{◌≡◌, ◌≤◌, ◌↔◌, length, IsTrue, IfSome, IfNone};
 ghost use Rattle.gate.specs.Seats.{IsSeatOf};
 ghost use Rattle.gate.specs.Calls.{IsCalled, HasHeard};
 
@@ -7,6 +7,7 @@ use crate::gates::Gate;
 use crate::marks::Mark;
 use crate::objects::Object;
 use crate::seats::Seat;
+use crate::waiting::Waiting;
 use std::sync::Wait;
 
 impl<O: Object<C, A> + Drop, C: Copy, A: Drop> Gate<O, C, A> {
@@ -16,13 +17,33 @@ impl<O: Object<C, A> + Drop, C: Copy, A: Drop> Gate<O, C, A> {
         requires { IsSeatOf self.now seat.old }
         ensures { IsCalled O.answers seat.old call result seat.new }
     {
-        self.enter(rt, &mut seat.pass, seat.number, O::is_midway(&call));
+        let mut waiting = Waiting::new(O::is_midway(&call));
+        for _ in rt.forever() {
+            if let Some(answer) = self.try_call(seat, call) {
+                return answer;
+            }
+            waiting.pause(rt, &self.table.shared, 0);
+        }
+        unreachable!()
+    }
+
+    /// Has the seat's call performed if the gate is open. With `None` it was shut: nothing was called, and the seat has seen
+    /// what it had.
+    #[inline(always)]
+    pub fn try_call(&self, seat: &mut Seat<O, C, A>, call: C) -> Option<A>
+        requires { IsSeatOf self.now seat.old }
+        ensures called { IfSome result (λ answer. IsCalled O.answers seat.old call answer seat.new) }
+        ensures shut { IfNone result (seat.new ≡ seat.old) }
+    {
+        if !self.try_enter(&mut seat.pass, seat.number) {
+            return None;
+        }
         let board = seat.pass.slot_mut(&self.table.shared, 0);
         let answer = board.call(seat.number, call);
         seat.seen = Mark::of(board);
         seat.last = board.calls();
         self.leave(&mut seat.pass);
-        answer
+        Some(answer)
     }
 
     /// Tells whether so many calls have been made, as `Seat::last` numbers them. All that it found stands before what the
@@ -32,11 +53,30 @@ impl<O: Object<C, A> + Drop, C: Copy, A: Drop> Gate<O, C, A> {
         ensures heard { HasHeard O.answers seat.old seat.new }
         ensures told { IsTrue result ↔ calls ≤ length seat.new.seen.log }
     {
-        self.enter(rt, &mut seat.pass, seat.number, false);
+        let mut waiting = Waiting::new(false);
+        for _ in rt.forever() {
+            if let Some(heard) = self.try_hear(seat, calls) {
+                return heard;
+            }
+            waiting.pause(rt, &self.table.shared, 0);
+        }
+        unreachable!()
+    }
+
+    /// The same if the gate is open. With `None` it was shut, and the seat has seen what it had.
+    pub fn try_hear(&self, seat: &mut Seat<O, C, A>, calls: u64) -> Option<bool>
+        requires { IsSeatOf self.now seat.old }
+        ensures heard { IfSome result (λ heard. HasHeard O.answers seat.old seat.new) }
+        ensures told { IfSome result (λ heard. IsTrue heard ↔ calls ≤ length seat.new.seen.log) }
+        ensures shut { IfNone result (seat.new ≡ seat.old) }
+    {
+        if !self.try_enter(&mut seat.pass, seat.number) {
+            return None;
+        }
         let board = seat.pass.slot_mut(&self.table.shared, 0);
         seat.seen = Mark::of(board);
         seat.last = board.calls();
         self.leave(&mut seat.pass);
-        calls <= seat.last
+        Some(calls <= seat.last)
     }
 }

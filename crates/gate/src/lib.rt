@@ -24,6 +24,6 @@ pub use laws::{
 pub use marks::{Mark, Tells};
 pub use naming::{Name, NamedGate, NamedSeat};
 pub use objects::{Entry, Object};
-pub use rules::{Cut, Enter, Gather, Part, Sit, View};
+pub use rules::{Cut, Gather, Part, Sit, View};
 pub use seats::{HoldsSeat, Seat};
-pub use waiting::Waiting;
+pub use waiting::{SHORT_WAITS, Waiting, short_pause};

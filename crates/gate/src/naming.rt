@@ -2,7 +2,7 @@
 //!
 //! A name stands for one gate, so the type of a named seat says whose seat it is: it may lie in any container, go
 //! through any channel, and be called without a premise.
-ghost use Rattle.std.specs.Prelude.{◌≡◌, ◌≤◌, ◌↔◌, All, IfOk, IfErr, IsTrue, length};
+ghost use Rattle.std.specs.Prelude.{◌≡◌, ◌≤◌, ◌↔◌, All, IfOk, IfErr, IfSome, IfNone, IsTrue, length};
 ghost use Rattle.atomic_table.specs.Seated.{TableId, table_id_coded};
 ghost use Rattle.gate.specs.Logs.{saturated};
 ghost use Rattle.gate.specs.Naming.{no_gate};
@@ -136,12 +136,29 @@ impl<N: Name, O: Object<C, A> + Drop, C: Copy, A: Drop> NamedGate<N, O, C, A> {
         self.gate.call(rt, &mut seat.seat, call)
     }
 
+    /// As `Gate::try_call`.
+    pub fn try_call(&self, seat: &mut NamedSeat<N, O, C, A>, call: C) -> Option<A>
+        ensures called { IfSome result (λ answer. IsCalled O.answers seat.old call answer seat.new) }
+        ensures shut { IfNone result (seat.new ≡ seat.old) }
+    {
+        self.gate.try_call(&mut seat.seat, call)
+    }
+
     /// As `Gate::hear`.
     pub fn hear<R: Wait>(&self, rt: &R, seat: &mut NamedSeat<N, O, C, A>, calls: u64) -> bool
         ensures heard { HasHeard O.answers seat.old seat.new }
         ensures told { IsTrue result ↔ calls ≤ length seat.new.seen.log }
     {
         self.gate.hear(rt, &mut seat.seat, calls)
+    }
+
+    /// As `Gate::try_hear`.
+    pub fn try_hear(&self, seat: &mut NamedSeat<N, O, C, A>, calls: u64) -> Option<bool>
+        ensures heard { IfSome result (λ heard. HasHeard O.answers seat.old seat.new) }
+        ensures told { IfSome result (λ heard. IsTrue heard ↔ calls ≤ length seat.new.seen.log) }
+        ensures shut { IfNone result (seat.new ≡ seat.old) }
+    {
+        self.gate.try_hear(&mut seat.seat, calls)
     }
 }
 

@@ -3,7 +3,7 @@
 //! Each slot has a word, which is 0, or the number of the seat that has the slot and works on it in place.
 ghost use Rattle.std.specs.Prelude.{[]};
 ghost use Rattle.gate.specs.Views.{has_entered, has_left, has_sat, rest_of, first_of, gathered, crew_view};
-ghost use Rattle.gate.specs.Rules.{IsKept, first_view, only_slot};
+ghost use Rattle.gate.specs.Rules.{IsKept, first_view, only_slot, same_word};
 
 use crate::boards::Board;
 use crate::marks::Mark;
@@ -40,7 +40,7 @@ pub(crate) type Knows<O, C, A> = View<Board<O, C, A>, O, C, A>;
 pub struct Rule;
 
 impl<O: Object<C, A>, C, A> TableRule<Board<O, C, A>, Knows<O, C, A>, Terms<O, C, A>> for Rule {
-    ghost holds = { λ terms s. IsKept O.answers only_slot 1 terms.seats terms.first.first s };
+    ghost holds = { λ terms s. IsKept O.answers only_slot same_word 1 terms.seats terms.first.first s };
 
     ghost first = { λ terms. first_view terms.first terms.seats };
 }
@@ -49,7 +49,7 @@ impl<O: Object<C, A>, C, A> TableRule<Board<O, C, A>, Knows<O, C, A>, Terms<O, C
 pub struct Enter;
 
 impl<S, W, C, A> Play<S, View<S, W, C, A>> for Enter {
-    ghost then = { has_entered };
+    ghost then = { has_entered same_word };
 }
 
 /// The word becomes 0, and the slot is given back, by which the seat's call is made.

@@ -17,7 +17,7 @@ const NAP: u64 = 20;
 const SHORT_PAUSES: u32 = 16;
 
 /// How often it does, before it waits as long as the others.
-const SHORT_WAITS: u32 = 256;
+pub const SHORT_WAITS: u32 = 256;
 
 /// How often a seat has waited for a slot.
 #[derive(Drop)]
@@ -34,6 +34,7 @@ impl Waiting {
     }
 
     /// Waits a while for the slot of this word.
+    #[cold]
     pub fn pause<R: Wait, S, V, K, P: TableRule<S, V, K>>(
         &mut self,
         rt: &R,
@@ -44,7 +45,7 @@ impl Waiting {
     {
         if self.short_waits > 0 {
             self.short_waits -= 1;
-            pause(SHORT_PAUSES);
+            short_pause();
         } else {
             pause(PAUSES);
             sleep(rt, shared, word);
@@ -61,6 +62,11 @@ fn sleep<R: Wait, S, V, K, P: TableRule<S, V, K>>(rt: &R, shared: &Shared<S, V, 
             shared.park_timeout(rt, word, inside, Duration::from_micros(NAP));
         }
     }
+}
+
+/// The pauses of a seat in the midst of something.
+pub fn short_pause() {
+    pause(SHORT_PAUSES);
 }
 
 /// So many pauses.

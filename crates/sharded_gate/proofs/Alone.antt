@@ -12,7 +12,7 @@ use Rattle.gate.specs.Seats.{Seated}
 use Rattle.gate.specs.Views.{HasTaken, holding, outside}
 use Rattle.sharded_gate.specs.Shards.{LoggedShard, AnswersAlone, calls_about}
 use Rattle.sharded_gate.specs.Rules.{Knows, ShardPlace, MayGive, MayRelease, HasGiven, HasSeen}
-use Rattle.sharded_gate.specs.Seats.{IsShardSeated, seen_in}
+use Rattle.sharded_gate.specs.Seats.{ShardSeated, IsShardSeated, seen_in}
 use Rattle.sharded_gate.proofs.Commits.{one_commits}
 use Rattle.sharded_gate.proofs.Given.{HasMade, has_made}
 use Rattle.sharded_gate.proofs.Shares.{of_shard}
@@ -32,6 +32,14 @@ module _ {O C A : Type 0} where
   pub put_away : (number : ℕ) (seen : Logged (List O) C A) (views : List (Knows O C A)) (me : ShardPlace O C A) → me ≡ (outside number seen, []) → views ≡ me.0 ∷ [] →
       views ≡ outside number seen ∷ []
   put_away number seen views me is put = put ∙ ap (λ m. m.0 ∷ []) is
+
+  -- a seat that is where it was
+  pub stays : (id later_id : TableId) (number shard : ℕ) (seen : Logged (List O) C A) (views later : List (Knows O C A)) (before : ShardSeated O C A) →
+      record { seat = record { gate = id; number = number; seen = seen_in views }; shard = shard } ≡ before → later_id ≡ id → views ≡ outside number seen ∷ [] → later ≡ outside number seen ∷ [] →
+      ◌≡◌ {A = ShardSeated O C A} (record { seat = record { gate = later_id; number = number; seen = seen_in later }; shard = shard }) before
+  stays id later_id number shard seen views later before view same was is =
+      ap (λ (i : TableId). record { seat = record { gate = i; number = number; seen = seen_in later }; shard = shard }) same
+      ∙ ap (λ (vs : List (Knows O C A)). record { seat = record { gate = id; number = number; seen = seen_in vs }; shard = shard }) (is ∙ sym was) ∙ view
 
   pub seated_again : (about : C → Option ℕ) (number shard last : ℕ) (now : Logged (List O) C A) (log : List (Entry C A)) (views : List (Knows O C A)) → views ≡ outside number now ∷ [] →
       1 ≤ number → calls_about about shard now.log ≡ log → last ≡ saturated (length log) → IsShardSeated about views number shard last

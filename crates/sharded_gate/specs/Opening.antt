@@ -1,15 +1,17 @@
 -- A new sharded gate and its seats.
-use Rattle.std.specs.Prelude.{◌≡◌, ℕ, ◌≤◌, List, [], All, length, map, vec_capacity}
+use Rattle.std.specs.Prelude.{◌≡◌, ℕ, ◌<◌, ◌≤◌, ◌^◌, List, [], All, length, map, vec_capacity}
 use Rattle.std.specs.Global.{Vec}
 use Rattle.atomic_table.specs.Seated.{TableId}
 use Rattle.gate.specs.Seats.{Room, Seated}
 use Rattle.gate.specs.Opening.{IsMade}
 use Rattle.sharded_gate.specs.declared.rules.ShardTerms.{ShardTerms}
+use Rattle.sharded_gate.specs.Rules.{word_of_shard}
 use Rattle.sharded_gate.specs.Seats.{ShardSeated}
 
--- the table has a word and a slot for each shard, of which there are some, and there is room for them when they come out
+-- the table has a slot and its words for each shard, of which there are some, and there is room for them when they come out
 pub record IsSharded {O : Type 0} (id : TableId) (key terms : ShardTerms O) (shards : ℕ) (spare : Vec O) : Type 0 where
-  pub words : id.words ≡ shards
+  pub words : id.words ≡ word_of_shard shards
+  pub bound : word_of_shard shards < 2 ^ 64
   pub slots : id.slots ≡ shards
   pub key_is : key ≡ terms
   pub many : length terms.first ≡ shards

@@ -1,8 +1,8 @@
 -- The rule of a sharded gate: that of gates, with a slot for each shard.
-use Rattle.std.specs.Prelude.{◌≡◌, ℕ, List, ◌∷◌, Option, length}
+use Rattle.std.specs.Prelude.{◌≡◌, ℕ, ◌*◌, ◌/◌, List, ◌∷◌, Option, length}
 use Rattle.atomic_table.specs.Table.{State, Step}
 use Rattle.gate.specs.declared.rules.View.{View}
-use Rattle.gate.specs.Views.{Place, HasSlot, AreSameSlots, holding, Commits, HasLeft, HasLooked}
+use Rattle.gate.specs.Views.{Place, HasSlot, AreSameSlots, holding, Commits, HasLeft, HasLooked, has_entered}
 use Rattle.gate.specs.Rules.{IsKept}
 use Rattle.gate.specs.Logs.{Logged}
 use Rattle.sharded_gate.specs.Shards.{LoggedShard, shard_of}
@@ -14,10 +14,25 @@ Knows O C A = View (LoggedShard O C A) (List O) C A
 abbrev pub ShardPlace : Type 0 → Type 0 → Type 0 → Type 0
 ShardPlace O C A = Place (LoggedShard O C A) (List O) C A
 
+-- how many words a shard has, of which the first one tells who has it: the others keep the words of two shards apart
+abbrev pub spacing : ℕ
+spacing = 16
+
+abbrev pub word_of_shard : ℕ → ℕ
+word_of_shard shard = shard * spacing
+
+-- the shard that has this word
+abbrev pub shard_at : ℕ → ℕ
+shard_at word = word / spacing
+
+-- where its word was 0 the seat has taken the shard, else nothing has changed
+abbrev pub has_taken : {O C A : Type 0} → Step (LoggedShard O C A) → ShardPlace O C A → ℕ → ShardPlace O C A → Type 0
+has_taken step before found after = has_entered shard_at step before found after
+
 module _ {O C A : Type 0} (answers : ℕ → List O → C → A → List O → Type 0) (about : ℕ → C → Option ℕ) where
   -- the rule, where the whole was these shards first, and there are so many seats
   abbrev pub IsShared : List O → ℕ → State (LoggedShard O C A) (Knows O C A) → Type 0
-  IsShared first seats s = IsKept answers (shard_of (length first) (about (length first))) (length first) seats first s
+  IsShared first seats s = IsKept answers (shard_of (length first) (about (length first))) word_of_shard (length first) seats first s
 
   -- the seat has made its call by what it gave back, or none
   abbrev pub HasGiven : ℕ → ShardPlace O C A → ShardPlace O C A → Type 0

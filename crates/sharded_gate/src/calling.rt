@@ -1,19 +1,16 @@
 //! The calls of a seat.
-ghost use Rattle.std.specs.Prelude.{◌≡◌, ◌≤◌, ◌<◌, ◌↔◌, ◌+◌, [], Some, None, length, IsTrue};
+ghost use Rattle.std.specs.Prelude.{◌≡◌, ◌≤◌, ◌<◌, ◌↔◌, Some, None, IfSome, IfNone, length, IsTrue};
 ghost use Rattle.gate.specs.Calls.{IsCalled, HasHeard};
-ghost use Rattle.gate.specs.Logs.{saturated};
 ghost use Rattle.gate.specs.Seats.{IsSeatOf};
-ghost use Rattle.gate.specs.Views.{crew_view, holding, outside};
-ghost use Rattle.sharded_gate.specs.Hands.{AreFrom, HasAll, HasPerformed};
-ghost use Rattle.sharded_gate.specs.Rules.{HasGiven, MayGive};
+ghost use Rattle.sharded_gate.specs.Hands.{AreFrom, HasPerformed};
 ghost use Rattle.sharded_gate.specs.Shards.{calls_about, is_about};
 
 use crate::gates::{ShardCount, ShardedGate, ShardedSeat};
 use crate::hands::Hand;
-use crate::rules::Pass;
+use crate::rules::{Pass, SPACING};
 use crate::sharded::Sharded;
 use atomic_table::Badge;
-use gate::Entry;
+use gate::{Entry, Waiting};
 use std::mem;
 use std::sync::Wait;
 
@@ -26,61 +23,84 @@ impl<O: Sharded<C, A> + Drop, C: Copy, A: Drop> ShardedGate<O, C, A> {
         ensures called { IsCalled O.answers seat.old.seat call result seat.new.seat }
         ensures about { IsTrue (is_about (O.about (length self.now.first) call) seat.new.shard) }
     {
+        let mut waiting = Waiting::new(O::is_midway(&call));
+        for _ in rt.forever() {
+            if let Some(answer) = self.try_call(seat, call) {
+                return answer;
+            }
+            self.wait(rt, &mut waiting, O::shard_about(&call, self.shards));
+        }
+        unreachable!()
+    }
+
+    /// Has the seat's call performed if what it is about is at home: the shard, or all shards, of which the first to be
+    /// taken is tried once, and each other one for a short while. With `None` another seat had it: nothing was called, and
+    /// the seat has seen what it had.
+    #[inline(always)]
+    pub fn try_call(&self, seat: &mut ShardedSeat<O, C, A>, call: C) -> Option<A>
+        requires { IsSeatOf self.now seat.old.seat }
+        ensures called { IfSome result (λ answer. IsCalled O.answers seat.old.seat call answer seat.new.seat) }
+        ensures about { IfSome result (λ answer. IsTrue (is_about (O.about (length self.now.first) call) seat.new.shard)) }
+        ensures shut { IfNone result (seat.new ≡ seat.old) }
+    {
         match O::shard_about(&call, self.shards) {
-            Some(shard) => self.call_one(rt, seat, shard, call),
-            None => self.call_all(rt, seat, call),
+            Some(shard) => self.call_one(seat, shard, call),
+            None => self.call_all(seat, call),
         }
     }
 
     /// The same, about this shard alone.
     #[inline(always)]
-    fn call_one<R: Wait>(&self, rt: &R, seat: &mut ShardedSeat<O, C, A>, shard: usize, call: C) -> A
+    fn call_one(&self, seat: &mut ShardedSeat<O, C, A>, shard: usize, call: C) -> Option<A>
         requires seat { IsSeatOf self.now seat.old.seat }
         requires within { shard < length self.now.first }
         requires about { O.about (length self.now.first) call ≡ Some shard }
-        ensures called { IsCalled O.answers seat.old.seat call result seat.new.seat }
-        ensures shard { seat.new.shard ≡ shard }
+        ensures called { IfSome result (λ answer. IsCalled O.answers seat.old.seat call answer seat.new.seat) }
+        ensures shard { IfSome result (λ answer. seat.new.shard ≡ shard) }
+        ensures shut { IfNone result (seat.new ≡ seat.old) }
     {
         let mut pass = mem::replace(&mut seat.badge, Badge::blank()).into_seat();
-        self.enter(rt, &mut pass, shard, seat.number, O::is_midway(&call));
+        if !self.try_enter(&mut pass, shard, seat.number) {
+            seat.badge = pass.into_badge();
+            return None;
+        }
         let board = pass.slot_mut(&self.table.shared, shard);
         let answer = board.call(seat.number, call);
         let calls = board.calls();
         self.give(&mut pass, shard);
         seat.badge = pass.into_badge();
         seat.last = ShardCount { shard, calls };
-        answer
+        Some(answer)
     }
 
     /// The same, about all shards.
-    fn call_all<R: Wait>(&self, rt: &R, seat: &mut ShardedSeat<O, C, A>, call: C) -> A
+    fn call_all(&self, seat: &mut ShardedSeat<O, C, A>, call: C) -> Option<A>
         requires seat { IsSeatOf self.now seat.old.seat }
         requires about { O.about (length self.now.first) call ≡ None }
-        ensures called { IsCalled O.answers seat.old.seat call result seat.new.seat }
+        ensures called { IfSome result (λ answer. IsCalled O.answers seat.old.seat call answer seat.new.seat) }
+        ensures shut { IfNone result (seat.new ≡ seat.old) }
     {
         let mut pass = mem::replace(&mut seat.badge, Badge::blank()).into_seat();
-        self.enter_all(rt, &mut pass, seat.number, O::is_midway(&call));
+        if !self.enter_all(&mut pass, seat.number) {
+            seat.badge = pass.into_badge();
+            return None;
+        }
         let (mut pass, answer) = self.perform_all(pass, seat.number, call);
         let calls = pass.slot_mut(&self.table.shared, 0).calls();
         self.give(&mut pass, 0);
-        self.release_all(&mut pass);
+        self.release_from(&mut pass, 1);
         seat.badge = pass.into_badge();
         seat.last = ShardCount { shard: 0, calls };
-        answer
+        Some(answer)
     }
 
-    /// Takes all shards, one after another in one order for all seats, so that none waits for one that waits for it. With
-    /// the first one taken the seat is in the midst of something.
-    fn enter_all<R: Wait>(&self, rt: &R, pass: &mut Pass<O, C, A>, number: u8, is_midway: bool)
-        requires seat { pass.old.table_id ≡ self.now.id }
-        requires outside { (seen : _) × (pass.old.me ≡ (outside number seen, [])) }
-        ensures seat { pass.new.table_id ≡ pass.old.table_id }
-        ensures all { HasAll (length self.now.first) pass.old.me pass.new.me }
+    /// Waits a while for the shard, or for the one that is taken first where it is about all.
+    #[cold]
+    fn wait<R: Wait>(&self, rt: &R, waiting: &mut Waiting, about: Option<usize>)
+        requires { IfSome about (λ shard. shard < length self.now.first) }
     {
-        for n in 0..self.shards {
-            let is_midway = is_midway || n > 0;
-            self.enter(rt, pass, self.shards - 1 - n, number, is_midway);
-        }
+        let shard = about.unwrap_or(self.shards - 1);
+        waiting.pause(rt, &self.table.shared, shard * SPACING);
     }
 
     /// Performs the call on the shards, which the seat has all.
@@ -108,18 +128,6 @@ impl<O: Sharded<C, A> + Drop, C: Copy, A: Drop> ShardedGate<O, C, A> {
         (hand.into_pass(), answer)
     }
 
-    /// Gives back all shards but the first, in which nothing is new.
-    fn release_all(&self, pass: &mut Pass<O, C, A>)
-        requires seat { pass.old.table_id ≡ self.now.id }
-        requires inside { (number : _) × (seen : _) × (slots : _) × (pass.old.me ≡ (holding number seen slots, slots)) × (AreFrom 1 slots) × (length slots + 1 ≡ length self.now.first) }
-        ensures seat { pass.new.table_id ≡ pass.old.table_id }
-        ensures outside { pass.new.me ≡ (crew_view pass.old.me.0.parts, []) }
-    {
-        for shard in 1..self.shards {
-            self.release(pass, shard);
-        }
-    }
-
     /// Tells whether so many calls about a shard have been made, as `ShardedSeat::last` numbers them. All that it found
     /// stands before what the seat calls next, so who is told the number of a call comes behind it.
     pub fn hear<R: Wait>(&self, rt: &R, seat: &mut ShardedSeat<O, C, A>, count: ShardCount) -> bool
@@ -127,17 +135,46 @@ impl<O: Sharded<C, A> + Drop, C: Copy, A: Drop> ShardedGate<O, C, A> {
         ensures heard { HasHeard O.answers seat.old.seat seat.new.seat }
         ensures told { count.shard < length self.now.first → IsTrue result ↔ count.calls ≤ length (calls_about (O.about (length self.now.first)) count.shard seat.new.seat.seen.log) }
     {
-        let shard = if count.shard < self.shards {
-            count.shard
-        } else {
-            0
-        };
+        let mut waiting = Waiting::new(false);
+        for _ in rt.forever() {
+            if let Some(heard) = self.try_hear(seat, count) {
+                return heard;
+            }
+            self.wait(rt, &mut waiting, Some(self.shard_heard(count)));
+        }
+        unreachable!()
+    }
+
+    /// The same if the shard is at home. With `None` another seat had it, and the seat has seen what it had.
+    pub fn try_hear(&self, seat: &mut ShardedSeat<O, C, A>, count: ShardCount) -> Option<bool>
+        requires { IsSeatOf self.now seat.old.seat }
+        ensures heard { IfSome result (λ heard. HasHeard O.answers seat.old.seat seat.new.seat) }
+        ensures told { count.shard < length self.now.first → IfSome result (λ heard.
+            IsTrue heard ↔ count.calls ≤ length (calls_about (O.about (length self.now.first)) count.shard seat.new.seat.seen.log)) }
+        ensures shut { IfNone result (seat.new ≡ seat.old) }
+    {
+        let shard = self.shard_heard(count);
         let mut pass = mem::replace(&mut seat.badge, Badge::blank()).into_seat();
-        self.enter(rt, &mut pass, shard, seat.number, false);
+        if !self.try_enter(&mut pass, shard, seat.number) {
+            seat.badge = pass.into_badge();
+            return None;
+        }
         let calls = pass.slot_mut(&self.table.shared, shard).calls();
         self.look(&mut pass, shard);
         seat.badge = pass.into_badge();
         seat.last = ShardCount { shard, calls };
-        count.calls <= calls
+        Some(count.calls <= calls)
+    }
+
+    /// The shard of this count, or the first where there is none.
+    fn shard_heard(&self, count: ShardCount) -> usize
+        ensures within { result < length self.now.first }
+        ensures its { count.shard < length self.now.first → result ≡ count.shard }
+    {
+        if count.shard < self.shards {
+            count.shard
+        } else {
+            0
+        }
     }
 }

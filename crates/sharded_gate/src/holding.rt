@@ -1,40 +1,18 @@
 //! Taking shards, and giving them back.
-ghost use Rattle.std.specs.Prelude.{◌≡◌, ◌<◌, false, length, IsTrue};
-ghost use Rattle.gate.specs.Views.{IsOf, HasTaken, released};
+ghost use Rattle.std.specs.Prelude.{◌≡◌, ◌<◌, ◌+◌, [], false, length, IsTrue};
+ghost use Rattle.gate.specs.Views.{IsOf, HasTaken, crew_view, holding, outside, released};
+ghost use Rattle.sharded_gate.specs.Hands.{AreFrom, HasAll};
 ghost use Rattle.sharded_gate.specs.Rules.{MayGive, MayRelease, HasGiven, HasSeen};
 
 use crate::gates::ShardedGate;
-use crate::rules::{Give, Look, Pass, Release};
+use crate::rules::{Give, Look, Pass, Release, SPACING, Take};
 use crate::sharded::Sharded;
-use gate::{Enter, Waiting};
-use std::sync::Wait;
+use gate::{SHORT_WAITS, short_pause};
 
 impl<O: Sharded<C, A>, C, A> ShardedGate<O, C, A> {
-    /// Waits until the shard is at home, and takes it. A seat in the midst of something waits less long between two
-    /// tries.
-    #[inline(always)]
-    pub(crate) fn enter<R: Wait>(
-        &self,
-        rt: &R,
-        pass: &mut Pass<O, C, A>,
-        shard: usize,
-        number: u8,
-        is_midway: bool,
-    )
-        requires seat { pass.old.table_id ≡ self.now.id }
-        requires number { IsOf number pass.old.me }
-        requires within { shard < length self.now.first }
-        ensures seat { pass.new.table_id ≡ pass.old.table_id }
-        ensures inside { HasTaken shard pass.old.me pass.new.me }
-    {
-        if !self.try_enter(pass, shard, number) {
-            self.wait_and_enter(rt, pass, shard, number, is_midway);
-        }
-    }
-
     /// Takes the shard if it is at home, and tells whether it was.
     #[inline(always)]
-    fn try_enter(&self, pass: &mut Pass<O, C, A>, shard: usize, number: u8) -> bool
+    pub(crate) fn try_enter(&self, pass: &mut Pass<O, C, A>, shard: usize, number: u8) -> bool
         requires seat { pass.old.table_id ≡ self.now.id }
         requires number { IsOf number pass.old.me }
         requires within { shard < length self.now.first }
@@ -45,34 +23,58 @@ impl<O: Sharded<C, A>, C, A> ShardedGate<O, C, A> {
         let found = self
             .table
             .shared
-            .compare_exchange::<Enter>(pass, shard, 0, number as u64);
+            .compare_exchange::<Take>(pass, shard * SPACING, 0, number as u64);
         found == 0
     }
 
-    /// The same, again and again.
-    #[cold]
-    fn wait_and_enter<R: Wait>(
-        &self,
-        rt: &R,
-        pass: &mut Pass<O, C, A>,
-        shard: usize,
-        number: u8,
-        is_midway: bool,
-    )
+    /// The same, by so many tries at most.
+    fn enter_by_tries(&self, pass: &mut Pass<O, C, A>, shard: usize, number: u8, tries: u32) -> bool
         requires seat { pass.old.table_id ≡ self.now.id }
         requires number { IsOf number pass.old.me }
         requires within { shard < length self.now.first }
         ensures seat { pass.new.table_id ≡ pass.old.table_id }
-        ensures inside { HasTaken shard pass.old.me pass.new.me }
+        ensures inside { IsTrue result → HasTaken shard pass.old.me pass.new.me }
+        ensures shut { result ≡ false → pass.new.me ≡ pass.old.me }
     {
-        let mut waiting = Waiting::new(is_midway);
-        for _ in rt.forever() {
-            waiting.pause(rt, &self.table.shared, shard);
+        for _ in 0..tries {
             if self.try_enter(pass, shard, number) {
-                return;
+                return true;
+            }
+            short_pause();
+        }
+        false
+    }
+
+    /// Takes all shards, one after another in one order for all seats. Where the first one is taken, or another one for
+    /// long, it gives back what it has, and tells that it has none.
+    pub(crate) fn enter_all(&self, pass: &mut Pass<O, C, A>, number: u8) -> bool
+        requires seat { pass.old.table_id ≡ self.now.id }
+        requires outside { (seen : _) × (pass.old.me ≡ (outside number seen, [])) }
+        ensures seat { pass.new.table_id ≡ pass.old.table_id }
+        ensures all { IsTrue result → HasAll (length self.now.first) pass.old.me pass.new.me }
+        ensures none { result ≡ false → pass.new.me ≡ pass.old.me }
+    {
+        for n in 0..self.shards {
+            let shard = self.shards - 1 - n;
+            let tries = if n == 0 { 1 } else { SHORT_WAITS };
+            if !self.enter_by_tries(pass, shard, number, tries) {
+                self.release_from(pass, shard + 1);
+                return false;
             }
         }
-        unreachable!()
+        true
+    }
+
+    /// Gives back the shards from this one on, which are all that the seat has, and in which nothing is new.
+    pub(crate) fn release_from(&self, pass: &mut Pass<O, C, A>, first: usize)
+        requires seat { pass.old.table_id ≡ self.now.id }
+        requires inside { (number : _) × (seen : _) × (slots : _) × (pass.old.me ≡ (holding number seen slots, slots)) × (AreFrom first slots) × (length slots + first ≡ length self.now.first) }
+        ensures seat { pass.new.table_id ≡ pass.old.table_id }
+        ensures outside { pass.new.me ≡ (crew_view pass.old.me.0.parts, []) }
+    {
+        for shard in first..self.shards {
+            self.release(pass, shard);
+        }
     }
 
     /// Gives back the shard that was taken last, with the seat's call made or none.
@@ -84,7 +86,7 @@ impl<O: Sharded<C, A>, C, A> ShardedGate<O, C, A> {
         ensures seat { pass.new.table_id ≡ pass.old.table_id }
         ensures given { HasGiven O.answers O.about (length self.now.first) pass.old.me pass.new.me }
     {
-        self.table.shared.store::<Give>(pass, shard, 0);
+        self.table.shared.store::<Give>(pass, shard * SPACING, 0);
     }
 
     /// Gives back the shard that was taken last, in which nothing is new, and sees the whole.
@@ -95,17 +97,17 @@ impl<O: Sharded<C, A>, C, A> ShardedGate<O, C, A> {
         ensures seat { pass.new.table_id ≡ pass.old.table_id }
         ensures seen { HasSeen O.answers O.about (length self.now.first) pass.old.me pass.new.me }
     {
-        self.table.shared.store::<Look>(pass, shard, 0);
+        self.table.shared.store::<Look>(pass, shard * SPACING, 0);
     }
 
     /// The same, and sees nothing.
-    pub(crate) fn release(&self, pass: &mut Pass<O, C, A>, shard: usize)
+    fn release(&self, pass: &mut Pass<O, C, A>, shard: usize)
         requires seat { pass.old.table_id ≡ self.now.id }
         requires within { shard < length self.now.first }
         requires inside { MayRelease shard pass.old.me }
         ensures seat { pass.new.table_id ≡ pass.old.table_id }
         ensures released { pass.new.me ≡ released pass.old.me }
     {
-        self.table.shared.store::<Release>(pass, shard, 0);
+        self.table.shared.store::<Release>(pass, shard * SPACING, 0);
     }
 }

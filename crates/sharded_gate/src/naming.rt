@@ -1,6 +1,6 @@
 //! A gate and its seats under one name, so that a seat may lie in any container, go through any channel, and be called
 //! without a premise.
-ghost use Rattle.std.specs.Prelude.{◌≡◌, ◌≤◌, ◌<◌, ◌↔◌, All, IfOk, IfErr, IsTrue, length};
+ghost use Rattle.std.specs.Prelude.{◌≡◌, ◌≤◌, ◌<◌, ◌↔◌, All, IfOk, IfErr, IfSome, IfNone, IsTrue, length};
 ghost use Rattle.gate.specs.Calls.{IsCalled, HasHeard};
 ghost use Rattle.gate.specs.Logs.{saturated};
 ghost use Rattle.gate.specs.Finishing.{AreOf};
@@ -128,6 +128,15 @@ impl<N: Name, O: Sharded<C, A> + Drop, C: Copy, A: Drop> NamedShardedGate<N, O, 
         self.gate.call(rt, &mut seat.seat, call)
     }
 
+    /// As `ShardedGate::try_call`.
+    pub fn try_call(&self, seat: &mut NamedShardedSeat<N, O, C, A>, call: C) -> Option<A>
+        ensures called { IfSome result (λ answer. IsCalled O.answers seat.old.seat call answer seat.new.seat) }
+        ensures about { IfSome result (λ answer. IsTrue (is_about (O.about (length self.now.first) call) seat.new.shard)) }
+        ensures shut { IfNone result (seat.new ≡ seat.old) }
+    {
+        self.gate.try_call(&mut seat.seat, call)
+    }
+
     /// As `ShardedGate::hear`.
     pub fn hear<R: Wait>(
         &self,
@@ -139,6 +148,20 @@ impl<N: Name, O: Sharded<C, A> + Drop, C: Copy, A: Drop> NamedShardedGate<N, O, 
         ensures told { count.shard < length self.now.first → IsTrue result ↔ count.calls ≤ length (calls_about (O.about (length self.now.first)) count.shard seat.new.seat.seen.log) }
     {
         self.gate.hear(rt, &mut seat.seat, count)
+    }
+
+    /// As `ShardedGate::try_hear`.
+    pub fn try_hear(
+        &self,
+        seat: &mut NamedShardedSeat<N, O, C, A>,
+        count: ShardCount,
+    ) -> Option<bool>
+        ensures heard { IfSome result (λ heard. HasHeard O.answers seat.old.seat seat.new.seat) }
+        ensures told { count.shard < length self.now.first → IfSome result (λ heard.
+            IsTrue heard ↔ count.calls ≤ length (calls_about (O.about (length self.now.first)) count.shard seat.new.seat.seen.log)) }
+        ensures shut { IfNone result (seat.new ≡ seat.old) }
+    {
+        self.gate.try_hear(&mut seat.seat, count)
     }
 }
 

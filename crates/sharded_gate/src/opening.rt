@@ -9,7 +9,7 @@ ghost use Rattle.sharded_gate.specs.Shards.{fresh_shard};
 
 use crate::boards::Shard;
 use crate::gates::{ShardCount, ShardedGate, ShardedSeat};
-use crate::rules::{Knows, Pass, ShardRule, ShardTerms};
+use crate::rules::{Knows, Pass, SPACING, ShardRule, ShardTerms};
 use crate::sharded::Sharded;
 use atomic_table::Table;
 use gate::{Cut, Mark, Tells};
@@ -43,7 +43,10 @@ impl<O: Sharded<C, A> + Drop, C: Drop, A: Drop> ShardedGate<O, C, A> {
         let Ok(boards) = Vec::with_capacity(alloc, count) else {
             return Err(shards);
         };
-        let Ok(words) = vec![in alloc; 0u64; count] else {
+        let Some(spaced) = count.checked_mul(SPACING) else {
+            return Err(shards);
+        };
+        let Ok(words) = vec![in alloc; 0u64; spaced] else {
             return Err(shards);
         };
         match Table::new(alloc, words.as_slice(), on_boards(shards, boards), &terms) {

@@ -2,13 +2,17 @@
 ghost use Rattle.gate.specs.Logs.{fresh};
 ghost use Rattle.gate.specs.Rules.{first_view};
 ghost use Rattle.gate.specs.Views.{has_released};
-ghost use Rattle.sharded_gate.specs.Rules.{IsShared, has_given, has_seen};
+ghost use Rattle.sharded_gate.specs.Rules.{IsShared, has_given, has_seen, has_taken};
 
 use crate::boards::Shard;
 use crate::sharded::Sharded;
 use atomic_table::{Play, TableRule};
 use gate::{Mark, View};
 use std::collections::LinkedList;
+
+/// How many words a shard has, of which the first one tells who has it. The others keep the words of two shards in lines of
+/// the cache of their own, which processors fetch by twos, so that no call slows down those about other shards.
+pub(crate) const SPACING: usize = 16;
 
 /// What the table is told when it is made.
 #[derive(Drop)]
@@ -40,6 +44,13 @@ impl<O: Sharded<C, A>, C, A> TableRule<Shard<O, C, A>, Knows<O, C, A>, ShardTerm
     ghost holds = { λ terms s. IsShared O.answers O.about terms.first terms.seats s };
 
     ghost first = { λ terms. first_view (fresh terms.first) terms.seats };
+}
+
+/// The word becomes the seat's number where it was 0, and the seat takes the shard.
+pub struct Take;
+
+impl<O, C, A> Play<Shard<O, C, A>, Knows<O, C, A>> for Take {
+    ghost then = { has_taken };
 }
 
 /// The word becomes 0, and the shard is given back, by which the seat's call is made.

@@ -13,4 +13,6 @@ mod pools;
 #[cfg(test)]
 mod threads;
 #[cfg(test)]
+mod trying;
+#[cfg(test)]
 mod wanting;

@@ -1,11 +1,11 @@
 use Rattle.std.proofs.Common.{rules, ◌≡◌, ◌+◌, ◌<◌, ◌∷◌, [], ◌++◌, vec_len, vec_capacity, ◌∙◌, arith}
-use Rattle.gate.specs.Rules.{only_slot}
+use Rattle.gate.specs.Rules.{only_slot, same_word}
 use Rattle.gate.proofs.Making.{split_allowed, left_over, seat_is_fresh, one_more_fresh}
 use Rattle.gate.proofs.opening.seat_all.Goals as goal
 
 pub split_seat-pass-requires : goal.split_seat-pass-requires
 split_seat-pass-requires g c =
-    (c.loop-n.invariant.table, search rules, split_allowed g.O.Object.answers only_slot 1 _ _ _ _ _ c.loop-n.n _ c.loop-n-test.true c.loop-n.invariant.rest)
+    (c.loop-n.invariant.table, search rules, split_allowed g.O.Object.answers only_slot same_word 1 _ _ _ _ _ c.loop-n.n _ c.loop-n-test.true c.loop-n.invariant.rest)
 
 pub loop-n-preserved : goal.loop-n-preserved
 loop-n-preserved g c =

@@ -5,6 +5,7 @@ use Rattle.gate.specs.Seats.{Seated}
 use Rattle.gate.proofs.Making.{split_allowed, cut_off, left_over, seat_is_fresh, one_more_fresh}
 use Rattle.sharded_gate.specs.Opening.{seats_of}
 use Rattle.sharded_gate.specs.Seats.{ShardSeated, seen_in}
+use Rattle.sharded_gate.specs.Rules.{word_of_shard}
 use Rattle.sharded_gate.specs.Shards.{shard_of}
 use Rattle.sharded_gate.proofs.Alone.{put_away}
 use Rattle.sharded_gate.proofs.Beginnings.{seats_push}
@@ -13,7 +14,8 @@ use Rattle.sharded_gate.proofs.opening.seat_all.Goals as goal
 pub split_seat-pass-requires : goal.split_seat-pass-requires
 split_seat-pass-requires g c =
     let many = length c.args.table.now.shared.key.first in
-    (c.loop-n.invariant.table, c.requires.table.0, split_allowed g.O.Sharded.answers (shard_of many (g.O.Sharded.about many)) many _ _ _ _ _ c.loop-n.n _ c.loop-n-test.true c.loop-n.invariant.rest)
+    let rest = c.loop-n.invariant.rest in
+    (c.loop-n.invariant.table, c.requires.table.0, split_allowed g.O.Sharded.answers (shard_of many (g.O.Sharded.about many)) word_of_shard many _ _ _ _ _ c.loop-n.n _ c.loop-n-test.true rest)
 
 pub loop-n-preserved : goal.loop-n-preserved
 loop-n-preserved g c =

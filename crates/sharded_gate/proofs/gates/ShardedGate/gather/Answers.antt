@@ -5,6 +5,7 @@ use Rattle.gate.specs.Seats.{IsSeatOf}
 use Rattle.gate.specs.Finishing.{IsGathered}
 use Rattle.gate.proofs.Crews.{sit_allowed}
 use Rattle.gate.proofs.Ends.{of_each, next_at, moved_on, none_left, gather_allowed, gathered_one, gathers}
+use Rattle.sharded_gate.specs.Rules.{word_of_shard}
 use Rattle.sharded_gate.specs.Shards.{shard_of}
 use Rattle.sharded_gate.proofs.Beginnings.{whole_is}
 use Rattle.sharded_gate.proofs.gates.ShardedGate.gather.Goals as goal
@@ -13,7 +14,8 @@ pub load_new_seat-all-requires : goal.load_new_seat-all-requires
 load_new_seat-all-requires g c =
     let many = length c.self.inside.table.shared.key.first in (
       omega (arith, c.self.invariant.words, c.self.invariant.any),
-      sit_allowed g.O.Sharded.answers (shard_of many (g.O.Sharded.about many)) many _ _ _ (first_view (fresh c.self.inside.table.shared.key.first) c.self.inside.table.shared.key.seats, []),
+      sit_allowed g.O.Sharded.answers (shard_of many (g.O.Sharded.about many)) word_of_shard many _ _ _
+          (first_view (fresh c.self.inside.table.shared.key.first) c.self.inside.table.shared.key.seats, []),
     )
 
 pub loop-seat-init : goal.loop-seat-init
@@ -28,7 +30,7 @@ join_seat-requires g c =
     let at = next_at _ _ _ _ c.in-Some.seat inv.2 c.in-Some.ensures.steps.0 in
     let its = of_each (λ s. IsSeatOf c.args.self (g.S.HoldsShardedSeat.seat s)) _ _ _ c.requires.seats at in
     let here = c.into_pass-pass.ensures.table ∙ ap (λ s. s.gate) c.into_seat.ensures ∙ its ∙ ap (λ r. r.id) (sym c.self.view_is) in
-    let allowed = gather_allowed g.O.Sharded.answers (shard_of many (g.O.Sharded.about many)) many _ _ _ _ _ _ _ _ inv.0 c.into_pass-pass.ensures.view in
+    let allowed = gather_allowed g.O.Sharded.answers (shard_of many (g.O.Sharded.about many)) word_of_shard many _ _ _ _ _ _ _ _ inv.0 c.into_pass-pass.ensures.view in
     (inv.1, here, ap (λ m. m.1) c.into_pass-pass.ensures.view, omega (arith, c.self.invariant.words, c.self.invariant.any), allowed)
 
 pub loop-seat-preserved : goal.loop-seat-preserved
@@ -54,7 +56,7 @@ returns g c =
     let v = c.self.view_is in
     let many = length c.self.inside.table.shared.key.first in
     let xs = c.close_with.result.slots.items in
-    let out = gathers g.O.Sharded.answers (shard_of many (g.O.Sharded.about many)) many g.S.HoldsShardedSeat.seat c.args.self c.self.inside.table.shared.key.seats
+    let out = gathers g.O.Sharded.answers (shard_of many (g.O.Sharded.about many)) word_of_shard many g.S.HoldsShardedSeat.seat c.args.self c.self.inside.table.shared.key.seats
     c.self.inside.table.shared.key.first _ c.loop-seat.all.me
     c.args.seats.items c.loop-seat.yielded _ xs
     (ap (λ t. t.seats) c.self.invariant.key_is ∙ ap (λ r. r.seats) v) (ap (λ t. t.first) c.self.invariant.key_is ∙ ap (λ r. r.first) v) whole inv.0 c.requires.all

@@ -1,4 +1,4 @@
-use Rattle.std.proofs.Common.{rules, ◌≡◌, List, map, replicate, length, vec_len, ap, sym, subst, ◌∙◌}
+use Rattle.std.proofs.Common.{rules, ◌≡◌, ◌<◌, List, map, replicate, length, vec_len, ap, sym, subst, ◌∙◌, arith}
 use Rattle.std.proofs.lemmas.List.{length-replicate}
 use Rattle.std.proofs.lemmas.List.Elements.{All-same}
 use Rattle.atomic_table.specs.Table.{opening}
@@ -8,6 +8,7 @@ use Rattle.gate.specs.Seats.{Seated}
 use Rattle.gate.proofs.Crews.{opening_kept}
 use Rattle.gate.proofs.Making.{all_fresh}
 use Rattle.sharded_gate.specs.Shards.{LoggedShard, fresh_shard, shard_of}
+use Rattle.sharded_gate.specs.Rules.{word_of_shard}
 use Rattle.sharded_gate.specs.Seats.{ShardSeated}
 use Rattle.sharded_gate.proofs.Beginnings.{all_zero, start_slots, all_from_map, objects_back}
 use Rattle.sharded_gate.proofs.gates.ShardedGate.new.Goals as goal
@@ -18,13 +19,15 @@ new-requires g c =
     let many = length first in
     let slot_of = shard_of {O = g.row.O.Denot} {A = g.row.A.Denot} many (g.O.Sharded.about many) in
     let boards : c.on_boards.result.items ≡ map (λ o. fresh_shard o) first = c.on_boards.ensures ∙ ap (λ os. map (λ o. fresh_shard o) os) (sym c.whole_of.ensures) in
-    let words : c.as_slice.result.now ≡ replicate c.len-count.result 0 = c.as_slice.ensures.value ∙ c.in-Ok-vec.ensures.items_if_clones_equal (λ y same. same) in
+    let spaced = c.in-Some.spaced in
+    let places : spaced ≡ word_of_shard c.len-count.result = search rules in
+    let words : c.as_slice.result.now ≡ replicate spaced 0 = c.as_slice.ensures.value ∙ c.in-Ok-vec.ensures.items_if_clones_equal (λ y same. same) in
     let long : vec_len c.args.shards ≡ length c.args.shards.items = search rules in
     let count : c.len-count.result ≡ many = c.len-count.ensures ∙ long ∙ sym (ap (λ os. length os) c.whole_of.ensures) in
-    subst (λ ws. IsKept g.O.Sharded.answers slot_of many c.args.seats first (opening ws c.on_boards.result.items (first_view (fresh first) c.args.seats))) (sym words)
-    (subst (λ xs. IsKept g.O.Sharded.answers slot_of many c.args.seats first (opening (replicate c.len-count.result 0) xs (first_view (fresh first) c.args.seats))) (sym boards)
-    (opening_kept g.O.Sharded.answers slot_of many c.args.seats first (replicate c.len-count.result 0) (map (λ o. fresh_shard o) first) (length-replicate c.len-count.result 0 ∙ count)
-    (all_zero c.len-count.result) (start_slots (g.O.Sharded.about many) first)))
+    subst (λ ws. IsKept g.O.Sharded.answers slot_of word_of_shard many c.args.seats first (opening ws c.on_boards.result.items (first_view (fresh first) c.args.seats))) (sym words)
+    (subst (λ xs. IsKept g.O.Sharded.answers slot_of word_of_shard many c.args.seats first (opening (replicate spaced 0) xs (first_view (fresh first) c.args.seats))) (sym boards)
+    (opening_kept g.O.Sharded.answers slot_of word_of_shard many c.args.seats first (replicate spaced 0) (map (λ o. fresh_shard o) first)
+    (λ i within. subst (λ n. word_of_shard i < n) (sym (length-replicate spaced 0)) (omega (arith, within, count, places))) (all_zero spaced) (start_slots (g.O.Sharded.about many) first)))
 
 pub returns-in-Ok-new-clause-seats : goal.returns-in-Ok-new-clause-seats
 returns-in-Ok-new-clause-seats g c =

@@ -1,5 +1,6 @@
-use Rattle.std.proofs.Common.{rules, length, ap, sym, ◌∙◌}
-use Rattle.sharded_gate.proofs.Tables.{slots_many, word_within, key_within, may_enter}
+use Rattle.std.proofs.Common.{rules, length, ap, sym, subst, ◌∙◌}
+use Rattle.gate.specs.Views.{HasTaken}
+use Rattle.sharded_gate.proofs.Tables.{slots_many, word_within, key_within, may_enter, at_its_word}
 use Rattle.sharded_gate.proofs.gates.ShardedGate.try_enter.Goals as goal
 
 pub compare_exchange-found-requires : goal.compare_exchange-found-requires
@@ -15,4 +16,5 @@ compare_exchange-found-requires g c = (
 )
 
 pub returns-clause-inside : goal.returns-clause-inside
-returns-clause-inside g c was_open = c.compare_exchange-found.ensures.2.0 (search (rules, was_open))
+returns-clause-inside g c was_open =
+    subst (λ i. HasTaken i c.args.pass.now.me c.compare_exchange-found.new.seat.me) (at_its_word c.args.shard) (c.compare_exchange-found.ensures.2.0 (search (rules, was_open)))

@@ -1,7 +1,7 @@
 use Rattle.std.proofs.Common.{rules, length, ap, sym, subst, ◌∙◌, arith}
 use Rattle.sharded_gate.proofs.Tables.{shards_many}
 use Rattle.sharded_gate.proofs.Whole.{HasFrom, may_release_one, one_fewer, all_released}
-use Rattle.sharded_gate.proofs.gates.ShardedGate.release_all.Goals as goal
+use Rattle.sharded_gate.proofs.gates.ShardedGate.release_from.Goals as goal
 
 pub loop-shard-init : goal.loop-shard-init
 loop-shard-init g c =
