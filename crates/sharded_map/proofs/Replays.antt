@@ -1,0 +1,78 @@
+-- A log of a map in shards replays on finite maps.
+use Rattle.std.proofs.Common.{List, [], ◌∷◌, Ok, Err, sym, ap, subst}
+use Rattle.ctrie_base.specs.Hashes.{hash_of}
+use Rattle.ctrie_base.specs.declared.hashes.HashKind.{HashKind}
+use Rattle.history.specs.declared.calls.Call.{Call}
+use Rattle.history.specs.declared.calls.Call.TheVariants.{Get, Entries, Count}
+use Rattle.history.specs.declared.replies.Reply.{Reply}
+use Rattle.history.specs.declared.replies.Reply.TheVariants.{NoSlots}
+use Rattle.ctrie_map.specs.declared.errors.MapError.{MapError}
+use Rattle.ctrie_map.specs.declared.errors.MapError.TheVariants.{WornOut}
+use Rattle.ctrie_map.specs.Maps.{MapState}
+use Rattle.ctrie_map.specs.Performing.{EffectAmong}
+use Rattle.gate.specs.Finishing.{IsGathered}
+use Rattle.gate.specs.Logs.{Leads}
+use Rattle.gate.specs.Seats.{Room, Seated}
+use Rattle.gate.proofs.Placing.{others_leave_own_calls}
+use Rattle.sharded_map.specs.declared.asks.Ask.{Ask}
+use Rattle.sharded_map.specs.declared.asks.Ask.TheVariants.{Do, Handles, Free}
+use Rattle.sharded_map.specs.declared.asks.Request.{Request}
+use Rattle.sharded_map.specs.Answering.{AnswersAll, ChangesAll, IsAnswered, MapAnswers}
+use Rattle.sharded_map.specs.Asks.{MapEntry, Told}
+use Rattle.sharded_map.specs.Finishing.{AreInOneOrder}
+use Rattle.sharded_map.specs.Laws.{CallsReplay}
+use Rattle.sharded_map.specs.Replaying.{ChangesWorld, IsShown, Replays, Shows}
+use Rattle.sharded_map.specs.Shards.{AreShards, world_of_all}
+
+module _ (hash : HashKind) (before after : List MapState) where
+  reply_shows : (call : Call) (answer : Reply) → ChangesAll hash before call (Ok answer) after → ChangesWorld (hash_of hash) (world_of_all before) call (Ok answer) (world_of_all after)
+  reply_shows call NoSlots p = (p.0.0, p.2.1)
+  reply_shows call answer p = (p.1.0, subst (λ w. EffectAmong (hash_of hash) (world_of_all before) call p.1.0 answer w) (sym p.1.3.1) p.1.2)
+
+  error_shows : (call : Call) (why : MapError) → ChangesAll hash before call (Err why) after → ChangesWorld (hash_of hash) (world_of_all before) call (Err why) (world_of_all after)
+  error_shows call WornOut p = (p.0, ap world_of_all p.2)
+  error_shows call why p = (p.0, ap world_of_all p.1)
+
+  change_shows : (call : Call) (told : Told) → ChangesAll hash before call told after → ChangesWorld (hash_of hash) (world_of_all before) call told (world_of_all after)
+  change_shows call (Ok answer) p = reply_shows call answer p
+  change_shows call (Err why) p = error_shows call why p
+
+  shows : (ask : Ask) (told : Told) → AnswersAll hash before ask told after → Shows (hash_of hash) (world_of_all before) ask told (world_of_all after)
+  shows (Do (Get h k)) told p = (ap world_of_all p.0.0, p.0.1)
+  shows (Do (Entries h)) told p = (ap world_of_all p.0.0, p.0.1)
+  shows (Do (Count h)) told p = (ap world_of_all p.0.0, p.0.1)
+  shows (Do call) told p = change_shows call told p.0
+  shows Handles told p = (ap world_of_all p.0, p.1)
+  shows Free told p = ap world_of_all p.0
+
+  shown : (request : Request) (told : Told) → IsAnswered hash before request told after → IsShown hash (world_of_all before) request told (world_of_all after)
+  shown request told p = record {
+    shows = λ e. shows request.ask told (p.answered e);
+    strange = λ apart. let (none, same) = p.strange apart in (none, ap world_of_all same);
+  }
+
+-- calls that lead from the shards of one map replay from its world
+replays : (hash : HashKind) (start : List MapState) (log : List MapEntry) (last : List MapState) → AreShards hash start → Leads MapAnswers start log last →
+    Replays hash (world_of_all start) log (world_of_all last) × AreShards hash last
+replays hash start [] last are same = (ap world_of_all same, subst (AreShards hash) (sym same) are)
+replays hash start (e ∷ es) last are (next, answered, leads) =
+    let answer = answered hash are in
+    let (more, still) = replays hash next es last answer.shards leads in
+    ((world_of_all next, shown hash start next e.call e.answer answer, more), still)
+
+pub calls_replay : CallsReplay
+calls_replay hash seen are legal = replays hash seen.first seen.log seen.object are legal
+
+-- so do all calls at the end
+pub in_one_order : {S : Type 0} (of : S → Seated (List MapState) Request Told) (hash : HashKind) (shared : Room (List MapState)) (seats : List S) (made : List MapState) →
+    AreShards hash shared.first → IsGathered MapAnswers of shared seats made → AreInOneOrder of hash shared seats made
+in_one_order of hash shared seats made are all =
+    let first : AreShards hash all.last.first = subst (AreShards hash) (sym all.first) are in
+    let (more, still) = replays hash all.last.first all.last.log all.last.object first all.legal in record {
+      order = all.last.log;
+      replays = subst (λ (m : List MapState). Replays hash (world_of_all shared.first) all.last.log (world_of_all m)) (sym all.object_is)
+          (subst (λ (f : List MapState). Replays hash (world_of_all f) all.last.log (world_of_all all.last.object)) all.first more);
+      own = λ k s at. others_leave_own_calls MapAnswers (of s).number (of s).seen all.last (all.followed k s at);
+      seated = all.calls;
+      shards = subst (AreShards hash) (sym all.object_is) still;
+    }

@@ -1,0 +1,57 @@
+-- What is asked of a map in shards, what is told, and which shard a request is about.
+use Rattle.std.specs.Prelude.{ℕ, ◌*◌, ◌/◌, ◌%◌, ◌^◌, Option, Some, None, Result, option_map}
+use Rattle.ctrie_base.specs.Hashes.{hash_of}
+use Rattle.ctrie_base.specs.declared.hashes.HashKind.{HashKind}
+use Rattle.history.specs.declared.calls.Call.{Call}
+use Rattle.history.specs.declared.calls.Call.TheVariants.{Get, Put, PutIfAbsent, Replace, ReplaceIf, Remove, RemoveIf}
+use Rattle.history.specs.declared.replies.Reply.{Reply}
+use Rattle.machine_model.specs.Calls.{handle_of}
+use Rattle.gate.specs.declared.objects.Entry.{Entry}
+use Rattle.ctrie_map.specs.declared.errors.MapError.{MapError}
+use Rattle.sharded_map.specs.declared.asks.Ask.{Ask}
+use Rattle.sharded_map.specs.declared.asks.Ask.TheVariants.{Do}
+use Rattle.sharded_map.specs.declared.asks.Request.{Request}
+
+abbrev pub Told : Type 0
+Told = Result Reply MapError
+
+-- a call, as the log tells of it
+abbrev pub MapEntry : Type 0
+MapEntry = Entry Request Told
+
+-- this is asked of a map with this hash
+abbrev pub asking : HashKind → Ask → Request
+asking hash ask = record { ask = ask; hash = hash }
+
+-- the one key that a call is about
+abbrev pub key_in : Call → Option ℕ
+key_in (Get h k) = Some k
+key_in (Put h k v) = Some k
+key_in (PutIfAbsent h k v) = Some k
+key_in (Replace h k v) = Some k
+key_in (ReplaceIf h k a b) = Some k
+key_in (Remove h k) = Some k
+key_in (RemoveIf h k v) = Some k
+key_in call = None
+
+abbrev pub key_asked : Ask → Option ℕ
+key_asked (Do call) = key_in call
+key_asked ask = None
+
+-- the handle that is asked for, if one is
+abbrev pub handle_asked : Ask → ℕ
+handle_asked (Do call) = handle_of call
+handle_asked ask = 0
+
+-- The shard of a hash, of so many: by the six top bits of its product with 2^64 over the golden ratio. All bits of the hash bear on these, so each shard has its
+-- share of each branch of the trie, whose levels go by the hash's own bits.
+abbrev pub shard_of : ℕ → ℕ → ℕ
+shard_of shards hash = hash * 11400714819323198485 % 2 ^ 64 / 2 ^ 58 % shards
+
+-- the shard of a key
+abbrev pub place_of : HashKind → ℕ → ℕ → ℕ
+place_of hash shards key = shard_of shards (hash_of hash key)
+
+-- the shard that a request is about; none where it is about all
+abbrev pub about : ℕ → Request → Option ℕ
+about shards request = option_map (λ key. place_of request.hash shards key) (key_asked request.ask)

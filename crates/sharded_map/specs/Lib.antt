@@ -1,0 +1,15 @@
+pub mod Beneath
+pub mod Uniting
+pub mod Seats
+pub mod Visits
+pub mod Asks
+pub mod Shards
+pub mod Answering
+pub mod Turning
+pub mod Asking
+pub mod Summing
+pub mod Wholes
+pub mod Replaying
+pub mod Laws
+pub mod Finishing
+pub mod Opening
