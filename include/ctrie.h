@@ -12,11 +12,9 @@
  *     if (ctrie_get(&map, 0, 7, &value) == CTRIE_YES) printf("%llu\n", (unsigned long long)value);
  *     ctrie_free(&map);
  *
- * Handles are numbers that are used again: once one is closed, a later copy may get the same number, and one that was
- * kept names that copy then.
- *
- * A map's memory is what ctrie_new took, until ctrie_free: some 325 bytes a slot and 26 kB, however long it
- * lives. Beside it ctrie_count and ctrie_entries take memory for a list of the pairs, and give it back at their end.
+ * A map's memory is what ctrie_new took, until ctrie_free: some 346 bytes a slot and 26 kB, however long it lives.
+ * Of these 78 bytes a slot are written at once, and 264 for as many slots as there were branches at the same time.
+ * Beside it ctrie_entries, ctrie_diff and ctrie_put_all take memory for a list, and give it back at their end.
  *
  * Each call answers a code: CTRIE_DONE, CTRIE_NO or CTRIE_YES where it was done, else why it was refused. A call that
  * is refused changes no map. What a call has to tell beside its code it writes where the last pointer says, and only
@@ -50,7 +48,11 @@ extern "C" {
 #define CTRIE_MUST_USE
 #endif
 
-/* Holds a map, or none. */
+/* Holds a map, or none.
+
+   Its handles are numbers from 0 to 255. Each new one is the next number behind the one that was given last, round
+   about, that isn't open. So a handle that was closed is refused until the count comes round to its number, and names
+   that copy from then on, which nothing tells from the old one. A handle of one map is taken by another. */
 struct ctrie {
     void *at;
 };
@@ -62,14 +64,15 @@ enum ctrie_code {
     CTRIE_NO = 0,           /* it is done, and tells no: there is no value, or it isn't so */
     CTRIE_YES = 1,          /* it is done, and tells yes: there is a value, or it is so */
     CTRIE_NO_HANDLE = 2,    /* the handle isn't open */
-    CTRIE_READ_ONLY = 3,    /* a change, a snapshot or a freeze of a read-only map */
-    CTRIE_HANDLES_FULL = 4, /* a snapshot or a freeze while 256 handles are open */
+    CTRIE_READ_ONLY = 3,    /* a change by a read-only handle */
+    CTRIE_HANDLES_FULL = 4, /* a snapshot, a freeze, a restore or a put_all while 256 are open */
     CTRIE_CROWDED = 5,      /* the key has no value, and 32 other keys have its hash */
     CTRIE_FULL = 6,         /* the call was to make a node, and no slot was free; it comes only where fewer than
-                               CTRIE_SLOTS_FOR_A_CALL were before it, or 23 where it is a clear, snapshot or freeze */
-    CTRIE_BAD_SIZES = 7,    /* the number of slots isn't from 2 to 65,536 */
-    CTRIE_WORN_OUT = 8,     /* less work is left than a call may take, of 2^47 steps in all; the map can be read */
-    CTRIE_MEMORY = 9,       /* malloc refused; only of ctrie_new and ctrie_entries */
+                               CTRIE_SLOTS_FOR_A_CALL were before it, or 23 where it is a clear, snapshot, freeze or
+                               restore, or 24 and 571 a pair where it is a put_all */
+    CTRIE_BAD_SIZES = 7,    /* the number of slots isn't from 2 to 1,048,576 */
+    CTRIE_WORN_OUT = 8,     /* less work is left than a call may take, of 2^45 - 2^21 steps; the map can be read */
+    CTRIE_MEMORY = 9,       /* malloc refused; only of ctrie_new, ctrie_entries, ctrie_diff and ctrie_put_all */
     CTRIE_NO_MAP = 11,      /* no map is held */
     CTRIE_HAS_MAP = 12,     /* ctrie_new where a map is held already, which stays */
     CTRIE_BAD_HASH = 13     /* ctrie_new with another number than those of enum ctrie_hash */
@@ -88,6 +91,15 @@ enum ctrie_hash {
 /* A key with its value. */
 struct ctrie_pair {
     uint64_t key, value;
+};
+
+/* A key of which two maps have different values. */
+struct ctrie_difference {
+    uint64_t key;
+    uint64_t before; /* its value in the older map, or 0 */
+    uint64_t after;  /* its value in the newer map, or 0 */
+    bool was_there;  /* whether it has a value in the older map */
+    bool is_there;   /* whether it has one in the newer map */
 };
 
 /* How far a listing has come. */
@@ -128,7 +140,7 @@ static inline const char *ctrie_error(uint32_t code) {
 
 /* ---- a map */
 
-/* Makes a map with the given number of slots for nodes, from 2 to 65,536, and hash of keys. DONE, BAD_SIZES, MEMORY,
+/* Makes a map with the given number of slots for nodes, from 2 to 1,048,576, and hash of keys. DONE, BAD_SIZES, MEMORY,
    HAS_MAP, BAD_HASH. */
 CTRIE_MUST_USE
 uint32_t ctrie_new(struct ctrie *map, uint32_t slots, uint32_t hash);
@@ -145,6 +157,14 @@ uint32_t ctrie_get(struct ctrie *map, uint16_t handle, uint64_t key, uint64_t *v
 /* YES where the key has a value, else NO. NO_HANDLE. */
 CTRIE_MUST_USE
 uint32_t ctrie_contains(struct ctrie *map, uint16_t handle, uint64_t key);
+
+/* YES where the handle is open, else NO. */
+CTRIE_MUST_USE
+uint32_t ctrie_is_open(struct ctrie *map, uint16_t handle);
+
+/* YES where the handle's map may be changed by it, NO where it is read-only. NO_HANDLE. */
+CTRIE_MUST_USE
+uint32_t ctrie_is_writable(struct ctrie *map, uint16_t handle);
 
 /* YES with a key and its value, whichever is found first, or NO where no key has a value. NO_HANDLE. */
 CTRIE_MUST_USE
@@ -170,9 +190,29 @@ CTRIE_MUST_USE
 uint32_t ctrie_entries(struct ctrie *map, uint16_t handle, struct ctrie_cursor *cursor, struct ctrie_pair *pairs,
                        size_t room, uint64_t *count);
 
+/* DONE with how many keys have different values in two handles' maps, and the first of these in ascending order, as
+   many as there is room for. Without room, where NULL may stand for their place, it only counts. What both maps share
+   is skipped: where one was copied from the other, the work goes by what was changed since, and not by what is there.
+   It takes memory for a list of what it compares. NO_HANDLE, MEMORY.
+
+       struct ctrie_difference differences[64];
+       uint64_t count;
+       if (ctrie_diff(&map, older, newer, differences, 64, &count) != CTRIE_DONE) return 1;
+       for (uint64_t i = 0; i < count && i < 64; i++) use(&differences[i]);
+
+   Where the count is more than there was room for, a call with so much room tells them all. */
+CTRIE_MUST_USE
+uint32_t ctrie_diff(struct ctrie *map, uint16_t older, uint16_t newer, struct ctrie_difference *differences,
+                    size_t room, uint64_t *count);
+
 /* DONE with how many handles are open. */
 CTRIE_MUST_USE
 uint32_t ctrie_handles(struct ctrie *map, uint32_t *handles);
+
+/* DONE with how many handles are open, and the first of these in ascending order, as many as there is room for: 256 are
+   enough for all. Without room NULL may stand for their place. */
+CTRIE_MUST_USE
+uint32_t ctrie_open_handles(struct ctrie *map, uint16_t *handles, size_t room, uint32_t *count);
 
 /* DONE with how many slots there are in all. */
 CTRIE_MUST_USE
@@ -182,8 +222,8 @@ uint32_t ctrie_slots(struct ctrie *map, uint32_t *slots);
 CTRIE_MUST_USE
 uint32_t ctrie_free_slots(struct ctrie *map, uint32_t *free);
 
-/* ---- changing: NO_HANDLE, READ_ONLY, FULL, WORN_OUT, NO_MAP; CROWDED only where it is said. No memory is taken. For
-   the place of the value before NULL may stand */
+/* ---- changing: NO_HANDLE, READ_ONLY, FULL, WORN_OUT, NO_MAP; others only where it is said, and no memory but there.
+   For the place of the value before NULL may stand */
 
 /* Sets the key's value. YES with the value before, or NO where it had none. CROWDED. */
 CTRIE_MUST_USE
@@ -192,6 +232,12 @@ uint32_t ctrie_put(struct ctrie *map, uint16_t handle, uint64_t key, uint64_t va
 /* Sets the value of a key that has none. NO where it had none, or YES with the value that it has. CROWDED. */
 CTRIE_MUST_USE
 uint32_t ctrie_put_if_absent(struct ctrie *map, uint16_t handle, uint64_t key, uint64_t value, uint64_t *before);
+
+/* Sets the values of all these keys, or of none: where it is refused, no map has changed. Of pairs of one key the last
+   one counts. For the moment this takes one more handle, and memory for a list of the pairs. For the place of no pairs
+   NULL may stand. DONE. CROWDED, HANDLES_FULL, MEMORY. */
+CTRIE_MUST_USE
+uint32_t ctrie_put_all(struct ctrie *map, uint16_t handle, const struct ctrie_pair *pairs, size_t count);
 
 /* Sets the value of a key that has one. YES with the value before, or NO where it has none. */
 CTRIE_MUST_USE
@@ -217,9 +263,9 @@ uint32_t ctrie_pop(struct ctrie *map, uint16_t handle, struct ctrie_pair *pair);
 CTRIE_MUST_USE
 uint32_t ctrie_clear(struct ctrie *map, uint16_t handle);
 
-/* ---- handles: refused as changes are, and HANDLES_FULL. No memory is taken */
+/* ---- handles: NO_HANDLE, HANDLES_FULL, FULL, WORN_OUT, NO_MAP; READ_ONLY only where it is said. No memory is taken */
 
-/* DONE with the handle of a writable copy. */
+/* DONE with the handle of a writable copy, of a read-only map too. */
 CTRIE_MUST_USE
 uint32_t ctrie_snapshot(struct ctrie *map, uint16_t handle, uint16_t *copy);
 
@@ -227,10 +273,15 @@ uint32_t ctrie_snapshot(struct ctrie *map, uint16_t handle, uint16_t *copy);
 CTRIE_MUST_USE
 uint32_t ctrie_freeze(struct ctrie *map, uint16_t handle, uint16_t *copy);
 
-/* Takes the handle away, and its map. DONE; never READ_ONLY, FULL or HANDLES_FULL. */
+/* The handle has the copy's map from now on, and the copy stays; by the same handle nothing changes. For the
+   moment this takes one more handle. DONE; READ_ONLY where the handle is, whatever the copy is. */
+CTRIE_MUST_USE
+uint32_t ctrie_restore(struct ctrie *map, uint16_t handle, uint16_t copy);
+
+/* Takes the handle away, and its map. DONE; never FULL or HANDLES_FULL. */
 uint32_t ctrie_close(struct ctrie *map, uint16_t handle);
 
-/* ---- NULL for the place of a value: the library itself has to have one */
+/* ---- NULL for a place that nothing is written to or read from: the library itself has to have one */
 
 CTRIE_MUST_USE
 static inline uint32_t ctrie_get_or_null(struct ctrie *map, uint16_t handle, uint64_t key, uint64_t *value) {
@@ -265,11 +316,34 @@ static inline uint32_t ctrie_remove_or_null(struct ctrie *map, uint16_t handle, 
     return ctrie_remove(map, handle, key, before ? before : &unwanted);
 }
 
+CTRIE_MUST_USE
+static inline uint32_t ctrie_diff_or_null(struct ctrie *map, uint16_t older, uint16_t newer,
+                                          struct ctrie_difference *differences, size_t room, uint64_t *count) {
+    struct ctrie_difference unwanted;
+    return ctrie_diff(map, older, newer, differences ? differences : &unwanted, differences ? room : 0, count);
+}
+
+CTRIE_MUST_USE
+static inline uint32_t ctrie_open_handles_or_null(struct ctrie *map, uint16_t *handles, size_t room, uint32_t *count) {
+    uint16_t unwanted;
+    return ctrie_open_handles(map, handles ? handles : &unwanted, handles ? room : 0, count);
+}
+
+CTRIE_MUST_USE
+static inline uint32_t ctrie_put_all_or_null(struct ctrie *map, uint16_t handle, const struct ctrie_pair *pairs,
+                                             size_t count) {
+    const struct ctrie_pair none = {0, 0};
+    return ctrie_put_all(map, handle, pairs ? pairs : &none, pairs ? count : 0);
+}
+
 #define ctrie_get ctrie_get_or_null
 #define ctrie_put ctrie_put_or_null
 #define ctrie_put_if_absent ctrie_put_if_absent_or_null
 #define ctrie_replace ctrie_replace_or_null
 #define ctrie_remove ctrie_remove_or_null
+#define ctrie_diff ctrie_diff_or_null
+#define ctrie_open_handles ctrie_open_handles_or_null
+#define ctrie_put_all ctrie_put_all_or_null
 
 #ifdef __cplusplus
 }

@@ -10,7 +10,8 @@
 
 It prints 250 300. A `Map` is a dictionary of whole numbers from 0 to 2^64 - 1, in a given number of slots for nodes, whose memory is what
 it took at first. A snapshot or a freeze of it is one too, in the same slots: it has what the map has at that moment, by as many steps
-whatever that is, and changes on its own or never. Entries are listed in ascending order of keys.
+whatever that is, and changes on its own or never. A map goes back to a copy by `restore`, `diff` tells what has changed since, and `put_all`
+sets several keys, all or none. Entries are listed in ascending order of keys.
 
 A key or value out of range is refused with OverflowError, one that is no whole number with TypeError. A call that is refused changes
 nothing, and raises an `Error`. A map and its copies are used on the thread that made the map, and not in a child made by fork.
@@ -26,16 +27,21 @@ import os
 import threading
 import weakref
 from ctypes import POINTER, PyDLL, Structure, byref, c_bool, c_size_t, c_uint16, c_uint32, c_uint64, c_void_p
-from typing import Any, Dict, ItemsView, Iterator, MutableMapping, Optional, Tuple, Type, TypeVar, Union, ValuesView, overload
+from typing import (
+    Any, Dict, ItemsView, Iterable, Iterator, List, Mapping, MutableMapping, NamedTuple, Optional, Tuple, Type, TypeVar, Union, ValuesView,
+    overload,
+)
 
 __all__ = [
-    "Map", "Copy", "Hash", "Error", "NoHandle", "ReadOnly", "HandlesFull", "Crowded", "Full", "BadSizes", "WornOut", "OutOfMemory", "Closed",
-    "WrongThread",
+    "Map", "Copy", "Difference", "Hash", "Error", "NoHandle", "ReadOnly", "HandlesFull", "Crowded", "Full", "BadSizes", "WornOut",
+    "OutOfMemory", "Closed", "WrongThread",
 ]
 __version__ = "0.1.0"
 
 # So many entries are listed at once.
 _ROOM = 4096
+# So many handles are open at most.
+_HANDLES = 256
 _Default = TypeVar("_Default")
 _View = TypeVar("_View", bound="_Handle")
 
@@ -65,7 +71,7 @@ class Full(Error):
 
 
 class BadSizes(Error, ValueError):
-    """The number of slots isn't from 2 to 65,536."""
+    """The number of slots isn't from 2 to 1,048,576."""
 
 
 class WornOut(Error):
@@ -73,7 +79,7 @@ class WornOut(Error):
 
 
 class OutOfMemory(Error, MemoryError):
-    """There is no memory for the map, or for a list of its entries."""
+    """There is no memory for the map, or for a list that a call makes."""
 
 
 class Closed(Error):
@@ -101,6 +107,10 @@ class _Pair(Structure):
     _fields_ = [("key", c_uint64), ("value", c_uint64)]
 
 
+class _Difference(Structure):
+    _fields_ = [("key", c_uint64), ("before", c_uint64), ("after", c_uint64), ("was_there", c_bool), ("is_there", c_bool)]
+
+
 class _Cursor(Structure):
     _fields_ = [("last", c_uint64), ("begun", c_bool)]
 
@@ -110,16 +120,23 @@ _CALLS: Dict[str, Tuple[Any, ...]] = {
     "new": (c_uint32, c_uint32),
     "get": (c_uint16, c_uint64, POINTER(c_uint64)),
     "contains": (c_uint16, c_uint64),
+    "is_writable": (c_uint16,),
+    "first": (c_uint16, POINTER(_Pair)),
     "count": (c_uint16, POINTER(c_uint64)),
     "entries": (c_uint16, POINTER(_Cursor), POINTER(_Pair), c_size_t, POINTER(c_uint64)),
+    "diff": (c_uint16, c_uint16, POINTER(_Difference), c_size_t, POINTER(c_uint64)),
+    "open_handles": (POINTER(c_uint16), c_size_t, POINTER(c_uint32)),
     "slots": (POINTER(c_uint32),),
     "free_slots": (POINTER(c_uint32),),
     "put": (c_uint16, c_uint64, c_uint64, POINTER(c_uint64)),
     "put_if_absent": (c_uint16, c_uint64, c_uint64, POINTER(c_uint64)),
+    "put_all": (c_uint16, POINTER(_Pair), c_size_t),
     "remove": (c_uint16, c_uint64, POINTER(c_uint64)),
+    "pop": (c_uint16, POINTER(_Pair)),
     "clear": (c_uint16,),
     "snapshot": (c_uint16, POINTER(c_uint16)),
     "freeze": (c_uint16, POINTER(c_uint16)),
+    "restore": (c_uint16, c_uint16),
     "close": (c_uint16,),
 }
 _YES = 1
@@ -195,6 +212,18 @@ class _Owner:
         return code == _YES
 
 
+class Difference(NamedTuple):
+    """A key of which two maps have different values, with both; None is for a key that has none."""
+
+    key: int
+    before: Optional[int]
+    after: Optional[int]
+
+
+def _difference(told: _Difference) -> Difference:
+    return Difference(told.key, told.before if told.was_there else None, told.after if told.is_there else None)
+
+
 class _Items(ItemsView[int, int]):
     _mapping: _Handle
 
@@ -217,10 +246,31 @@ class _Handle(MutableMapping[int, int]):
         # None once it is closed: the number may be another copy's then.
         self._handle: Optional[int] = handle
 
-    def _call(self, name: str, *words: Any) -> bool:
+    @property
+    def handle(self) -> int:
+        """The number by which the library knows it. Once it is closed, that may be another copy's, and isn't told."""
         if self._handle is None:
             raise NoHandle(NoHandle.__doc__)
-        return self._owner.call(name, self._handle, *words)
+        return self._handle
+
+    @property
+    def is_open(self) -> bool:
+        """Whether neither it nor its map is closed."""
+        return self._handle is not None and self._owner.is_open()
+
+    @property
+    def is_writable(self) -> bool:
+        """Whether it may be changed, as all but a frozen copy."""
+        return self._call("is_writable")
+
+    def _handle_beside(self, other: _Handle) -> int:
+        """Returns the other's handle, if it is one of the same map: the library can't tell."""
+        if other._owner is not self._owner:
+            raise ValueError("it is a copy of another map")
+        return other.handle
+
+    def _call(self, name: str, *words: Any) -> bool:
+        return self._owner.call(name, self.handle, *words)
 
     def _told(self, name: str, *words: int) -> Optional[int]:
         """Returns the value that a call tells, if it tells one."""
@@ -255,9 +305,14 @@ class _Handle(MutableMapping[int, int]):
         return self._call("contains", _number(key))  # type: ignore[arg-type]
 
     def __len__(self) -> int:
+        """Counts the keys by a walk over them all."""
         count = c_uint64()
         self._call("count", byref(count))
         return count.value
+
+    def __bool__(self) -> bool:
+        """Returns whether a key has a value, by a walk to the first one."""
+        return self._call("first", byref(_Pair()))
 
     def __iter__(self) -> Iterator[int]:
         """Goes through the keys, 4,096 at a time. A map may change in between: then it goes on after the key that it came to. A frozen
@@ -298,17 +353,47 @@ class _Handle(MutableMapping[int, int]):
             raise KeyError(key)
         return default if value is None else value
 
-    def setdefault(self, key: int, default: int = 0) -> int:
-        """Sets the value of a key that has none, and returns the value that it has then."""
-        value = self._told("put_if_absent", key, default)
-        return default if value is None else value
+    def popitem(self) -> Tuple[int, int]:
+        """Removes a key, whichever is found first, and returns it with its value; a KeyError where there is none."""
+        pair = _Pair()
+        if not self._call("pop", byref(pair)):
+            raise KeyError("no key has a value")
+        return pair.key, pair.value
+
+    def setdefault(self, key: int, default: Optional[int] = None) -> int:
+        """Sets the value of a key that has none, and returns the value that it has then; a TypeError where it has none, and there is no
+        default: no value is None."""
+        value = self._told("get", key) if default is None else self._told("put_if_absent", key, default)
+        return operator.index(default) if value is None else value  # type: ignore[arg-type]
+
+    def put_all(self, pairs: Union[Mapping[int, int], Iterable[Tuple[int, int]]]) -> None:
+        """Sets the values of all these keys, or of none. (`update` sets one after the other, as a dictionary's, and what it has set before
+        a refusal stays.) For the moment it takes one more handle, and slots for what it sets beside what was there."""
+        entries = [(_number(key), _number(value)) for key, value in dict(pairs).items()]
+        self._call("put_all", (_Pair * max(len(entries), 1))(*entries), len(entries))
 
     def clear(self) -> None:
         """Removes all keys, by as many steps whatever there is."""
         self._call("clear")
 
+    def diff(self, newer: _Handle) -> List[Difference]:
+        """Returns the keys of which this map and a newer one, a copy of the same map, have different values, in ascending order. Its work
+        goes by what was changed from one to the other, whatever else is there."""
+        handle, room, count = self._handle_beside(newer), _ROOM, c_uint64(_ROOM + 1)
+        while True:
+            found = (_Difference * room)()
+            self._call("diff", handle, found, room, byref(count))
+            if count.value <= room:
+                return [_difference(it) for it in found[: count.value]]
+            room = count.value
+
+    def restore(self, copy: _Handle) -> None:
+        """Goes back to what the copy has, which is one of the same map, a frozen one too, and stays. For the moment it takes one more
+        handle."""
+        self._call("restore", self._handle_beside(copy))
+
     def snapshot(self) -> Copy:
-        """Returns a copy that can be changed."""
+        """Returns a copy that can be changed, of a frozen one too."""
         return self._copied("snapshot")
 
     def freeze(self) -> Copy:
@@ -334,8 +419,8 @@ class Copy(_Handle):
 
     def close(self) -> None:
         """Gives the handle back, and what slots the copy alone has."""
-        if self._handle is not None and self._owner.is_open():
-            self._owner.call("close", self._handle)
+        if self.is_open:
+            self._call("close")
         self._handle = None
 
     def __del__(self) -> None:
@@ -346,7 +431,7 @@ class Copy(_Handle):
 
 
 class Map(_Handle):
-    """A map with the given number of slots for nodes, from 2 to 65,536, some 1.6 for each key.
+    """A map with the given number of slots for nodes, from 2 to 1,048,576, some 1.6 for each key.
 
     It is open until it is closed, by close(), by the end of a `with` or as nothing refers to it or to a copy of it any more. Closed, it
     and its copies raise `Closed`."""
@@ -369,6 +454,12 @@ class Map(_Handle):
     def free_slots(self) -> int:
         """How many slots neither the map nor an open copy has."""
         return self._slots("free_slots")
+
+    def open_handles(self) -> List[int]:
+        """Returns the handles that are open, in ascending order: the map's own, which is 0, and one of each copy."""
+        handles, count = (c_uint16 * _HANDLES)(), c_uint32()
+        self._owner.call("open_handles", handles, _HANDLES, byref(count))
+        return handles[: count.value]
 
     def _slots(self, name: str) -> int:
         count = c_uint32()

@@ -36,9 +36,26 @@ class Calls(unittest.TestCase):
         call = self.random.choice([
             lambda it: it.__setitem__(key, value), lambda it: it.pop(key), lambda it: it.pop(key, None), lambda it: it.__delitem__(key),
             lambda it: it.setdefault(key, value), lambda it: it.update({key: value, 7: 9}), lambda it: it[key],
-            lambda it: it.get(key, value), lambda it: key in it, len,
+            lambda it: it.get(key, value), lambda it: key in it, len, bool,
         ])
         self.assertEqual(self.answer(lambda: call(one)), self.answer(lambda: call(like)))
+
+    def put_several(self, one, like):
+        pairs = [(self.random.randrange(200), self.random.randrange(5)) for _ in range(self.random.randrange(9))]
+        one.put_all(self.random.choice((pairs, iter(pairs), dict(pairs))))
+        like.update(pairs)
+
+    def go_back(self, one, like):
+        copied, as_copied, _ = self.random.choice(self.copies)
+        one.restore(copied)
+        entries = dict(as_copied)
+        like.clear()
+        like.update(entries)
+
+    def compare(self, one, like):
+        newer, newer_like, _ = self.random.choice(self.copies)
+        keys = sorted(key for key in {*like, *newer_like} if like.get(key) != newer_like.get(key))
+        self.assertEqual(one.diff(newer), [(key, like.get(key), newer_like.get(key)) for key in keys])
 
     def copy_one(self, one, like):
         if self.random.random() < 0.5:
@@ -51,7 +68,7 @@ class Calls(unittest.TestCase):
             at = self.random.randrange(len(self.copies))
             one, like, is_frozen = self.copies[at]
             drawn = self.random.random()
-            if drawn < 0.01 and not is_frozen:
+            if drawn < 0.01:
                 self.copy_one(one, like)
             elif drawn < 0.02 and one is not self.map:
                 del self.copies[at]
@@ -59,8 +76,14 @@ class Calls(unittest.TestCase):
             elif drawn < 0.021 and not is_frozen:
                 one.clear()
                 like.clear()
+            elif drawn < 0.03:
+                self.compare(one, like)
             elif is_frozen:
                 self.assertEqual(one.get(3), like.get(3))
+            elif drawn < 0.035:
+                self.go_back(one, like)
+            elif drawn < 0.05:
+                self.put_several(one, like)
             else:
                 self.change(one, like)
             if drawn > 0.98:
@@ -68,25 +91,51 @@ class Calls(unittest.TestCase):
         for one, like, _ in self.copies:
             self.assertEqual((one, list(one), list(one.values())), (like, sorted(like), [like[key] for key in sorted(like)]))
 
+    def test_items_are_taken_out(self):
+        like = {key * key: key for key in range(100)}
+        self.map.update(like)
+        while like:
+            key, value = self.map.popitem()
+            self.assertEqual((like.pop(key), len(self.map), bool(self.map)), (value, len(like), bool(like)))
+        self.assertRaises(KeyError, self.map.popitem)
+
+    def test_no_default(self):
+        self.assertRaises(TypeError, self.map.setdefault, 1)
+        self.assertRaises(TypeError, self.map.setdefault, 1, "1")
+        self.assertEqual((self.map.setdefault(1, 2), self.map.setdefault(1), dict(self.map)), (2, 2, {1: 2}))
+
 
 class Refusals(unittest.TestCase):
     def test_each_refusal_is_an_error(self):
         with ctrie.Map(64) as one:
             with one.freeze() as frozen:
-                for call in (frozen.clear, lambda: frozen.update({1: 1}), lambda: frozen.pop(1)):
+                for call in (
+                    frozen.clear, lambda: frozen.update({1: 1}), lambda: frozen.pop(1), frozen.popitem, lambda: frozen.put_all({1: 1}),
+                    lambda: frozen.restore(one),
+                ):
                     self.assertRaises(ctrie.ReadOnly, call)
-            self.assertRaises(ctrie.NoHandle, lambda: frozen[1])
+            for call in (lambda: frozen[1], lambda: one.restore(frozen), lambda: one.diff(frozen), lambda: frozen.diff(one)):
+                self.assertRaises(ctrie.NoHandle, call)
+            one[1] = 10
+            self.assertRaises(ctrie.Full, lambda: one.put_all(zip(range(64), range(64))))
+            self.assertEqual(dict(one), {1: 10})
+            # As a dictionary's, this keeps what was set before.
             self.assertRaises(ctrie.Full, lambda: one.update(zip(range(64), range(64))))
+            self.assertEqual(one[1], 1)
         self.assertRaises(ctrie.Closed, lambda: one[1])
         self.assertRaises(ctrie.Closed, one.freeze)
         with ctrie.Map(4096, ctrie.Hash.LOW) as one:
             self.assertRaises(ctrie.Crowded, lambda: one.update((high << 32, 0) for high in range(33)))
             self.assertEqual(len(one), 32)
             copies = [one.snapshot() for _ in range(255)]
-            self.assertRaises(ctrie.HandlesFull, one.snapshot)
+            for call in (one.snapshot, lambda: one.restore(copies[0]), lambda: one.put_all({0: 1})):
+                self.assertRaises(ctrie.HandlesFull, call)
             copies.pop().close()
             one.freeze().close()
-        for slots in (-1, 1, 65_537, 2**32 + 64):
+            one.put_all({0: 1})
+            one.restore(copies[0])
+            self.assertEqual(one[0], 0)
+        for slots in (-1, 1, 1_048_577, 2**32 + 64):
             self.assertRaises(ctrie.BadSizes, ctrie.Map, slots)
         self.assertTrue(issubclass(ctrie.BadSizes, ValueError) and issubclass(ctrie.OutOfMemory, MemoryError))
         self.assertRaises(ValueError, ctrie.Map, 64, 4)
@@ -94,7 +143,10 @@ class Refusals(unittest.TestCase):
     def test_only_whole_numbers_of_64_bits(self):
         with ctrie.Map(64) as one:
             for number in (-1, 2**64):
-                for call in (lambda: one[number], lambda: number in one, lambda: one.update({number: 1}), lambda: one.update({1: number})):
+                for call in (
+                    lambda: one[number], lambda: number in one, lambda: one.update({number: 1}), lambda: one.update({1: number}),
+                    lambda: one.put_all({1: 1, number: 1}), lambda: one.put_all({1: 1, 2: number}),
+                ):
                     self.assertRaises(OverflowError, call)
             for other in ("1", 1.0, None):
                 self.assertRaises(TypeError, lambda: one.get(other))
@@ -120,6 +172,30 @@ class Refusals(unittest.TestCase):
 
 
 class Lives(unittest.TestCase):
+    def test_copies_of_another_map(self):
+        with ctrie.Map(64) as one, ctrie.Map(64) as other, other.freeze() as copied:
+            for call in (lambda: one.restore(other), lambda: one.restore(copied), lambda: one.diff(other), lambda: copied.diff(one)):
+                self.assertRaises(ValueError, call)
+
+    def test_which_are_open(self):
+        one = ctrie.Map(64)
+        copied, frozen = one.snapshot(), one.freeze()
+        self.assertEqual([it.is_writable for it in (one, copied, frozen, frozen.snapshot())], [True, True, False, True])
+        self.assertEqual(one.open_handles(), [one.handle, copied.handle, frozen.handle])
+        copied.close()
+        self.assertEqual([it.is_open for it in (one, copied, frozen)], [True, False, True])
+        self.assertEqual(one.open_handles(), [0, 2])
+        self.assertRaises(ctrie.NoHandle, lambda: copied.handle)
+        self.assertRaises(ctrie.NoHandle, lambda: copied.is_writable)
+        one.close()
+        self.assertEqual([it.is_open for it in (one, copied, frozen)], [False, False, False])
+        self.assertRaises(ctrie.Closed, one.open_handles)
+
+    def test_more_differences_than_there_is_room_for_at_first(self):
+        with ctrie.Map(65_536) as one, one.freeze() as before:
+            one.put_all((key, key + 1) for key in range(10_000))
+            self.assertEqual(before.diff(one), [(key, None, key + 1) for key in range(10_000)])
+
     def test_a_handle_isnt_used_after_its_close(self):
         with ctrie.Map(256) as one:
             first = one.freeze()

@@ -1,6 +1,7 @@
 /* The memory of a map is what ctrie_new took. `c` runs it: a million changes, freezes and closes on a thousand keys
-   allocate nothing, and at most a hundredth more is resident behind them than behind the first ten thousand. It is linked
-   with -Wl,--wrap=malloc,--wrap=realloc, so that both are counted here. */
+   allocate nothing, and at most a hundredth more is resident behind them than behind the first ten thousand. Where no
+   memory is given, a call that makes a list says so, and changes nothing. It is linked with
+   -Wl,--wrap=malloc,--wrap=realloc, so that both are counted and refused here. */
 #include <ctrie.h>
 #include <stdio.h>
 #include <stdlib.h>
@@ -8,6 +9,7 @@
 enum { KEYS = 1000, SLOTS = 65536, WARM = 10000, CALLS = 1000000 };
 
 static unsigned long allocations = 0;
+static bool refusing = false;
 
 void *__real_malloc(size_t size);
 void *__real_realloc(void *old, size_t size);
@@ -16,12 +18,12 @@ void *__wrap_realloc(void *old, size_t size);
 
 void *__wrap_malloc(size_t size) {
     allocations++;
-    return __real_malloc(size);
+    return refusing ? NULL : __real_malloc(size);
 }
 
 void *__wrap_realloc(void *old, size_t size) {
     allocations++;
-    return __real_realloc(old, size);
+    return refusing ? NULL : __real_realloc(old, size);
 }
 
 /* What the map should hold: the value of each key, or 0 where it has none. Values are from 1 on. */
@@ -119,6 +121,27 @@ static long resident(void) {
     return size;
 }
 
+/* A key that no other call sets. */
+static void without_memory(void) {
+    const struct ctrie_pair pair = {KEYS, 3};
+    struct ctrie_cursor cursor = CTRIE_START;
+    struct ctrie_pair entry = {7, 7};
+    struct ctrie_difference difference = {7, 7, 7, true, true};
+    uint16_t before = 0;
+    uint64_t count = 7, value = 0;
+    told(ctrie_freeze(&map, now, &before));
+    told(ctrie_put(&map, now, KEYS, 2, NULL));
+    refusing = true;
+    expect(ctrie_entries(&map, now, &cursor, &entry, 1, &count) == CTRIE_MEMORY);
+    expect(ctrie_diff(&map, before, now, &difference, 1, &count) == CTRIE_MEMORY);
+    expect(ctrie_put_all(&map, now, &pair, 1) == CTRIE_MEMORY);
+    refusing = false;
+    expect(!cursor.begun && entry.key == 7 && difference.key == 7 && count == 7);
+    expect(told(ctrie_get(&map, now, KEYS, &value)) && value == 2);
+    told(ctrie_remove(&map, now, KEYS, NULL));
+    told(ctrie_close(&map, before));
+}
+
 static void run_until(unsigned long end) {
     while (calls < end) {
         if (drawn() % 50 == 0) copy();
@@ -138,6 +161,7 @@ int main(void) {
     run_until(CALLS);
     many = resident();
     taken = allocations - taken;
+    without_memory();
     told(ctrie_count(&map, now, &count));
     for (int i = 0; i < KEYS; i++) there += plain[i] != 0;
     expect(count == there);

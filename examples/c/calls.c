@@ -31,6 +31,48 @@ static void lists_no_map(void) {
     printf("  %llu: %llu\n", (unsigned long long)pair.key, (unsigned long long)pair.value);
 }
 
+static void tells_a_value(bool there, uint64_t value) {
+    if (there) printf(" %llu", (unsigned long long)value);
+    else printf(" none");
+}
+
+static void compares(uint16_t older, uint16_t newer, size_t room) {
+    struct ctrie_difference differences[4];
+    uint64_t count = 99;
+    TELL("diff", ctrie_diff(&map, older, newer, differences, room, &count), count);
+    for (uint64_t i = 0; i < count && i < room; i++) {
+        printf("  %llu:", (unsigned long long)differences[i].key);
+        tells_a_value(differences[i].was_there, differences[i].before);
+        tells_a_value(differences[i].is_there, differences[i].after);
+        printf("\n");
+    }
+}
+
+/* All or none: 64 keys more have no room in 64 slots. */
+static void sets_several(uint16_t frozen) {
+    const struct ctrie_pair three[3] = {{1, 12}, {4, 40}, {1, 13}};
+    struct ctrie_pair many[64];
+    uint64_t value = 99;
+    for (uint64_t i = 0; i < 64; i++) many[i].key = 100 + i, many[i].value = i;
+    TELL("put all", ctrie_put_all(&map, 0, three, 3), 0);
+    TELL("put all", ctrie_put_all(&map, 0, many, 64), 0);
+    TELL("put all", ctrie_put_all(&map, 0, NULL, 0), 0);
+    TELL("put all of a frozen one", ctrie_put_all(&map, frozen, three, 3), 0);
+    TELL("remove", ctrie_remove(&map, 0, 2, &value), value);
+    compares(frozen, 0, 4);
+    compares(0, frozen, 2);
+    compares(0, 0, 4);
+    TELL("diff", ctrie_diff(&map, frozen, 0, NULL, 0, &value), value);
+    TELL("diff", ctrie_diff(&map, frozen, 9, NULL, 0, &value), value);
+}
+
+static void lists_handles(size_t room) {
+    uint16_t handles[4] = {99, 99, 99, 99};
+    uint32_t count = 99;
+    TELL("open handles", ctrie_open_handles(&map, handles, room, &count), count);
+    for (size_t i = 0; i < 4; i++) printf("  %u\n", (unsigned)handles[i]);
+}
+
 /* The value isn't told where NULL stands for its place. */
 static void tells_no_value(void) {
     TELL("put", ctrie_put(&map, 0, 5, 50, NULL), 0);
@@ -45,7 +87,7 @@ static void tells_no_value(void) {
 int main(void) {
     uint64_t value = 99;
     uint32_t number = 99;
-    uint16_t copy = 99, frozen = 99;
+    uint16_t copy = 99, frozen = 99, thawed = 99;
     struct ctrie_pair pair = {99, 99};
     printf("version %u\n", (unsigned)ctrie_version());
     for (uint32_t code = 0; code < 15; code++) printf("code %u: %s\n", (unsigned)code, ctrie_error(code));
@@ -76,9 +118,10 @@ int main(void) {
     TELL("contains", ctrie_contains(&map, copy, 1), 0);
     TELL("clear", ctrie_clear(&map, 0), 0);
     TELL("clear of a frozen one", ctrie_clear(&map, frozen), 0);
-    TELL("snapshot of a frozen one", ctrie_snapshot(&map, frozen, &copy), copy);
+    TELL("snapshot of a frozen one", ctrie_snapshot(&map, frozen, &thawed), thawed);
     TELL("count", ctrie_count(&map, 0, &value), value);
     TELL("count", ctrie_count(&map, copy, &value), value);
+    TELL("count", ctrie_count(&map, thawed, &value), value);
     TELL("count", ctrie_count(&map, 9, &value), value);
     TELL("first", ctrie_first(&map, 0, &pair), pair.value);
     TELL("first", ctrie_first(&map, copy, &pair), pair.value);
@@ -90,11 +133,24 @@ int main(void) {
     lists(frozen, 2);
     lists(frozen, 4);
     lists(frozen, 0);
+    TELL("is writable", ctrie_is_writable(&map, frozen), 0);
+    TELL("is writable", ctrie_is_writable(&map, copy), 0);
+    TELL("restore", ctrie_restore(&map, 0, frozen), 0);
+    TELL("restore of a frozen one", ctrie_restore(&map, frozen, 0), 0);
+    TELL("count", ctrie_count(&map, 0, &value), value);
+    TELL("is open", ctrie_is_open(&map, frozen), 0);
+    TELL("is open", ctrie_is_open(&map, 9), 0);
+    sets_several(frozen);
+    lists_handles(4);
+    lists_handles(2);
+    TELL("open handles", ctrie_open_handles(&map, NULL, 0, &number), number);
     TELL("close", ctrie_close(&map, frozen), 0);
     TELL("close again", ctrie_close(&map, frozen), 0);
     TELL("close", ctrie_close(&map, copy), 0);
     ctrie_free(&map);
     ctrie_free(&map);
     TELL("free slots of no map", ctrie_free_slots(&map, &number), number);
+    compares(0, 0, 0);
+    lists_handles(1);
     return 0;
 }

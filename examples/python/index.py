@@ -1,6 +1,6 @@
 """An index of words: PYTHONPATH=python python3 examples/python/index.py
 
-It counts words, keeps a snapshot of what was before each as an undo list, and lists a frozen copy while it goes on.
+It counts words, keeps a freeze of what was before each as an undo list, lists a frozen copy while it goes on, and goes back.
 """
 import ctrie
 
@@ -16,7 +16,7 @@ def main():
     with ctrie.Map(256) as index:
         undo = []
         for word in TEXT.split():
-            undo.append(index.snapshot())
+            undo.append(index.freeze())
             key = words.index(word)
             index[key] = index.get(key, 0) + 1
         with index.freeze() as frozen:
@@ -28,6 +28,10 @@ def main():
                 frozen[0] = 0
             except ctrie.ReadOnly as refused:
                 print("refused:", refused)
+        differences = undo[3].diff(index)
+        print("changed since then:", ", ".join(f"{words[key]} {before} {after}" for key, before, after in differences))
+        index.restore(undo[3])
+        print("back there:", told(index))
 
 
 main()

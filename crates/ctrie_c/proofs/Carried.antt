@@ -1,8 +1,8 @@
 -- What the map's contract says of its answer holds of what the code tells.
 use Rattle.std.proofs.Common.{◌≡◌, ◌<◌, ℕ, sym, subst}
 use Rattle.std.specs.Prelude.{Option, Some, Result}
-use Rattle.ctrie_map.specs.declared.errors.MapError.{MapError}
-use Rattle.ctrie_map.specs.Maps.{MapState}
+use Rattle.shared_map.specs.Beneath.ctrie_map.specs.declared.errors.MapError.{MapError}
+use Rattle.shared_map.specs.Beneath.ctrie_map.specs.Maps.{MapState}
 use Rattle.ctrie_c.specs.Answers.{Does, code_limit}
 
 -- the handle, and the map that was taken out of its box

@@ -1,4 +1,9 @@
 pub mod Behind
 pub mod Carried
+pub mod Filled
+pub mod HeldMaps
+pub mod HeldSeats
 pub mod HeldValues
+pub mod Together
 pub mod Values
+pub mod Tries

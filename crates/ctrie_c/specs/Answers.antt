@@ -1,8 +1,8 @@
 -- What an export's code tells.
 use Rattle.std.specs.Prelude.{◌≡◌, ◌<◌, ℕ, Bool, true, false, nat_eq, Option, Some, None, Result, Ok, Err, if◌then◌else◌}
-use Rattle.ctrie_map.specs.declared.errors.MapError.{MapError}
-use Rattle.ctrie_map.specs.declared.errors.MapError.TheVariants.{NoHandle, ReadOnly, HandlesFull, Crowded, Full, BadSizes, WornOut, Memory}
-use Rattle.ctrie_map.specs.Maps.{MapState}
+use Rattle.shared_map.specs.Beneath.ctrie_map.specs.declared.errors.MapError.{MapError}
+use Rattle.shared_map.specs.Beneath.ctrie_map.specs.declared.errors.MapError.TheVariants.{NoHandle, ReadOnly, HandlesFull, Crowded, Full, BadSizes, WornOut, Memory}
+use Rattle.shared_map.specs.Beneath.ctrie_map.specs.Maps.{MapState}
 
 -- the codes by which a map's answers are told lie below
 abbrev pub code_limit : ℕ

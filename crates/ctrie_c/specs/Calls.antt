@@ -1,5 +1,6 @@
 -- What the calls do, each in the words of the map's own contract.
-use Rattle.std.specs.Prelude.{◌≡◌, ◌<◌, ◌+◌, ℕ, nat_eq, length, Bool, Option, Some, None, Result, Ok, IfOk, IfErr, if◌then◌else◌}
+use Rattle.std.specs.Prelude.{◌≡◌, ◌⊎◌, ◌<◌, ◌+◌, ℕ, nat_eq, List, length, Bool, Option, Some, None, Result, Ok, IfOk, IfErr, if◌then◌else◌}
+use Rattle.std.specs.Prelude as list
 use Rattle.std.specs.FinMap as map
 use Rattle.ctrie_base.specs.declared.hashes.HashKind.{HashKind}
 use Rattle.ctrie_base.specs.declared.hashes.HashKind.TheVariants.{Low, Fold, Wide, Block}
@@ -9,15 +10,22 @@ use Rattle.history.specs.declared.calls.Call.{Call}
 use Rattle.history.specs.declared.calls.Call.TheVariants.{Clear, Close, Freeze, Put, PutIfAbsent, Remove, RemoveIf, Replace, ReplaceIf, Snapshot}
 use Rattle.history.specs.Effects.{has_value}
 use Rattle.history.specs.Worlds.{KeyMap}
-use Rattle.ctrie_map.specs.Beneath.proof_alone.specs.Sweeps.{UsesReached}
-use Rattle.ctrie_map.specs.Beneath.slot_arena.specs.Heaps.{in_use}
-use Rattle.ctrie_map.specs.declared.errors.MapError.{MapError}
-use Rattle.ctrie_map.specs.Changes.{Changes, Closes, Copies, HasLife, HasRoom, IsAny, IsCrowdedAt, Refuses}
-use Rattle.ctrie_map.specs.Changes.{removed_if_it_has, set_if_absent, set_if_it_has, set_if_there}
-use Rattle.ctrie_map.specs.Costs.{WorksUpTo, work_of_a_change, work_of_a_close, work_of_a_copy}
-use Rattle.ctrie_map.specs.Maps.{AreSlots, IsNew, MapState, RefusesSizes, free_of, handles_of}
-use Rattle.ctrie_map.specs.Reading.{IsOneOf, Reads, reading, without}
+use Rattle.shared_map.specs.Beneath.proof_alone.specs.Sweeps.{UsesReached}
+use Rattle.shared_map.specs.Beneath.slot_arena.specs.Heaps.{in_use}
+use Rattle.shared_map.specs.Beneath.ctrie_map.specs.declared.errors.MapError.{MapError}
+use Rattle.shared_map.specs.Beneath.ctrie_map.specs.declared.errors.MapError.TheVariants.{Memory}
+use Rattle.shared_map.specs.Beneath.ctrie_map.specs.Batches.{work_of_changes}
+use Rattle.shared_map.specs.Beneath.ctrie_map.specs.Changes.{Changes, Closes, Copies, HasLife, HasRoom, IsAny, IsCrowdedAt, Refuses}
+use Rattle.shared_map.specs.Beneath.ctrie_map.specs.Changes.{removed_if_it_has, set_if_absent, set_if_it_has, set_if_there}
+use Rattle.shared_map.specs.Beneath.ctrie_map.specs.Costs.{WorksUpTo, work_of_a_change, work_of_a_close, work_of_a_copy}
+use Rattle.shared_map.specs.Beneath.ctrie_map.specs.Filling.{PutsAll, RefusesPuts}
+use Rattle.shared_map.specs.Beneath.ctrie_map.specs.Maps.{AreSlots, IsNew, MapState, RefusesSizes, free_of, handles_of}
+use Rattle.shared_map.specs.Beneath.ctrie_map.specs.Reading.{IsOneOf, Reads, reading, without, writability}
+use Rattle.shared_map.specs.Beneath.ctrie_map.specs.Restoring.{RefusesRestore, Restores}
 use Rattle.ctrie_c.specs.Answers.{bad_hash, code_limit, done_told, has_map}
+use Rattle.ctrie_c.specs.Buffers.{Fills}
+use Rattle.ctrie_c.specs.Listing.{entry_of}
+use Rattle.ctrie_c.specs.declared.listing.Pair.{Pair}
 
 -- ---- making
 
@@ -40,6 +48,12 @@ Gets handle key told old new = (told ≡ reading old handle (λ m. map.get m key
 abbrev pub Contains : ℕ → ℕ → Result Bool MapError → MapState → MapState → Type 0
 Contains handle key told old new = (told ≡ reading old handle (λ m. map.contains_key m key)) × (new ≡ old)
 
+abbrev pub TellsOpen : ℕ → Result Bool MapError → MapState → MapState → Type 0
+TellsOpen handle told old new = (told ≡ Ok (map.contains_key (handles_of old) handle)) × (new ≡ old)
+
+abbrev pub TellsWritable : ℕ → Result Bool MapError → MapState → MapState → Type 0
+TellsWritable handle told old new = (told ≡ writability old handle) × (new ≡ old)
+
 abbrev pub Counts : ℕ → Result ℕ MapError → MapState → MapState → Type 0
 Counts handle told old new = (told ≡ reading old handle (λ m. map.len m)) × (new ≡ old)
 
@@ -49,13 +63,17 @@ Finds handle told old new = Reads old handle IsOneOf told × (new ≡ old)
 abbrev pub CountsHandles : Result ℕ MapError → MapState → MapState → Type 0
 CountsHandles told old new = (told ≡ Ok (map.len (handles_of old))) × (new ≡ old)
 
+-- and these, in ascending order, as many as there is room for
+abbrev pub ListsHandles : List ℕ → List ℕ → Result ℕ MapError → MapState → MapState → Type 0
+ListsHandles before after told old new = CountsHandles told old new × Fills (map.keys (handles_of old)) before after
+
 abbrev pub CountsSlots : Result ℕ MapError → MapState → MapState → Type 0
-CountsSlots told old new = (told ≡ Ok old.limits.slots) × (new ≡ old)
+CountsSlots told old new = (told ≡ Ok old.core.limits.slots) × (new ≡ old)
 
 -- the free slots, where all others are reached by handles
 abbrev pub CountsFree : Result ℕ MapError → MapState → MapState → Type 0
 CountsFree told old new =
-    (told ≡ Ok (free_of old)) × UsesReached old × (length (in_use old.heap) + free_of old ≡ old.limits.slots) × (new ≡ old)
+    (told ≡ Ok (free_of old)) × UsesReached old.core × (length (in_use old.core.heap) + free_of old ≡ old.core.limits.slots) × (new ≡ old)
 
 -- ---- changing
 
@@ -70,6 +88,13 @@ Puts handle key value = Sets (Put handle key value) handle key (λ m. map.insert
 
 abbrev pub PutsIfAbsent : ℕ → ℕ → ℕ → Result (Option ℕ) MapError → MapState → MapState → Type 0
 PutsIfAbsent handle key value = Sets (PutIfAbsent handle key value) handle key (set_if_absent key value)
+
+-- all of these keys are set, or none; memory may be wanting for a list of them
+abbrev pub PutsThem : ℕ → List Pair → Result (Unit {0}) MapError → MapState → MapState → Type 0
+PutsThem handle pairs told old new =
+    IfOk told (λ _. PutsAll old handle (list.map entry_of pairs) new)
+    × IfErr told (λ error. RefusesPuts old handle (list.map entry_of pairs) new error ⊎ ((error ≡ Memory) × (new ≡ old)))
+    × WorksUpTo (work_of_changes (length pairs) + work_of_a_close) old new
 
 -- a change that tells the value before
 abbrev pub Exchanges : Call → ℕ → ℕ → (KeyMap → KeyMap) → Result (Option ℕ) MapError → MapState → MapState → Type 0
@@ -117,6 +142,11 @@ Snapshots handle = Opens (Snapshot handle) handle Writable
 
 abbrev pub Freezes : ℕ → Result ℕ MapError → MapState → MapState → Type 0
 Freezes handle = Opens (Freeze handle) handle ReadOnly
+
+abbrev pub RestoresIt : ℕ → ℕ → Result (Unit {0}) MapError → MapState → MapState → Type 0
+RestoresIt handle copy told old new =
+    IfOk told (λ _. Restores old handle copy new) × (handle ≡ copy → new ≡ old) × IfErr told (RefusesRestore old handle copy new)
+    × WorksUpTo (work_of_a_copy + work_of_a_close) old new
 
 abbrev pub ClosesIt : ℕ → Result (Unit {0}) MapError → MapState → MapState → Type 0
 ClosesIt handle told old new =

@@ -1,11 +1,12 @@
 -- How the pairs of a map are listed, in parts.
-use Rattle.std.specs.Prelude.{◌≡◌, ℕ, true, List, [], ◌∷◌, length, take, drop, map, Option, Some, None, Result, Ok, IfOk, IfErr, if◌then◌else◌}
+use Rattle.std.specs.Prelude.{◌≡◌, ℕ, true, List, [], ◌∷◌, length, map, Option, Some, None, Result, Ok, IfOk, IfErr, if◌then◌else◌}
 use Rattle.std.specs.FinMap as finite
-use Rattle.ctrie_map.specs.Beneath.machine_core.specs.Reading.{next_of}
-use Rattle.ctrie_map.specs.declared.errors.MapError.{MapError}
-use Rattle.ctrie_map.specs.Maps.{MapState}
-use Rattle.ctrie_map.specs.Reading.{RefusesReading, reading}
+use Rattle.shared_map.specs.Beneath.machine_core.specs.Reading.{next_of}
+use Rattle.shared_map.specs.Beneath.ctrie_map.specs.declared.errors.MapError.{MapError}
+use Rattle.shared_map.specs.Beneath.ctrie_map.specs.Maps.{MapState}
+use Rattle.shared_map.specs.Beneath.ctrie_map.specs.Reading.{RefusesReading, reading}
 use Rattle.ctrie_c.specs.Answers.{told_by}
+use Rattle.ctrie_c.specs.Buffers.{Fills}
 use Rattle.ctrie_c.specs.declared.listing.Cursor.{Cursor}
 use Rattle.ctrie_c.specs.declared.listing.Pair.{Pair}
 
@@ -21,14 +22,16 @@ behind cursor (pair ∷ pairs) = behind (record { last = pair.0; begun = true })
 abbrev pub pair_of : ℕ × ℕ → Pair
 pair_of pair = record { key = pair.0; value = pair.1 }
 
+abbrev pub entry_of : Pair → ℕ × ℕ
+entry_of pair = (pair.key, pair.value)
+
 -- none or this one
 abbrev pub pair_told : ℕ → Pair → Result (Option (ℕ × ℕ)) MapError
-pair_told code pair = told_by None (Some (pair.key, pair.value)) code
+pair_told code pair = told_by None (Some (entry_of pair)) code
 
 -- this part is written at the front of a buffer, and the cursor goes behind it
 abbrev pub Writes : List (ℕ × ℕ) → Cursor → List Pair → ℕ → Cursor → List Pair → Type 0
-Writes part cursor before count behind_it after =
-    (count ≡ length part) × (take count after ≡ map pair_of part) × (drop count after ≡ drop count before) × (behind_it ≡ behind cursor part)
+Writes part cursor before count behind_it after = (count ≡ length part) × Fills (map pair_of part) before after × (behind_it ≡ behind cursor part)
 
 -- what comes next in a handle's map, as much as there is room for
 abbrev pub reads_next : MapState → ℕ → Cursor → ℕ → Result (List (ℕ × ℕ)) MapError

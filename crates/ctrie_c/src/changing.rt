@@ -8,7 +8,7 @@ ghost use Rattle.ctrie_c.specs.Listing.{pair_told};
 use crate::codes::{NO_MAP, tell_done, tell_pair, tell_truth, tell_value};
 use crate::held::{HeldMap, give, take};
 use crate::listing::Pair;
-use ctrie_map::Handle;
+use shared_map::Handle;
 use std::alloc::Global;
 
 /// Sets the key's value, and tells the value before, if it had one.

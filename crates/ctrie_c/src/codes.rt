@@ -5,7 +5,7 @@ ghost use Rattle.ctrie_c.specs.Answers.{code_limit, refusal_of, value_told, trut
 ghost use Rattle.ctrie_c.specs.Listing.{pair_told};
 
 use crate::listing::Pair;
-use ctrie_map::{Handle, MapError};
+use shared_map::{Handle, MapError};
 
 /// Done: false, or no value.
 pub(crate) const NO: u32 = 0;

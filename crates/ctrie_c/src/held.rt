@@ -1,10 +1,10 @@
 //! What a C program holds.
 
 ghost use Rattle.std.specs.Prelude.{◌≡◌, Option, Some, None, IfSome, IfNone};
-ghost use Rattle.ctrie_map.specs.Maps.{MapState};
+ghost use Rattle.shared_map.specs.Beneath.ctrie_map.specs.Maps.{MapState};
 
 use crate::loose::Loose;
-use ctrie_map::Map;
+use shared_map::Map;
 use std::alloc::Global;
 use std::marker::Model;
 use std::ptr::null_mut;
@@ -19,8 +19,9 @@ pub struct HeldMap {
 
 impl Model for HeldMap {
     ghost use Rattle.ctrie_c.specs.Holding.{holds};
+    ghost use Rattle.shared_map.specs.Beneath.ctrie_map.specs.contracts.map.Map.{the_row};
 
-    ghost also_owns = { λ h. holds h.alloc h.at h.state };
+    ghost also_owns = { λ h. holds the_row h.alloc h.at h.state };
 }
 
 impl HeldMap {

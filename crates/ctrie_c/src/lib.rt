@@ -3,10 +3,19 @@
 
 mod changing;
 mod codes;
+mod comparing;
 mod copying;
+mod filling;
+mod handles;
 mod held;
+mod held_seats;
 mod listing;
 mod loose;
 mod making;
 mod reading;
+mod shared_changing;
+mod shared_making;
+mod shared_reading;
+mod sharing;
+mod trying;
 mod version;

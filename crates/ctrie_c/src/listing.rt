@@ -6,7 +6,7 @@ ghost use Rattle.ctrie_c.specs.Listing.{Lists, Writes, last_of};
 
 use crate::codes::{NO_MAP, refusal, tell_count};
 use crate::held::{HeldMap, give, take};
-use ctrie_map::Handle;
+use shared_map::Handle;
 use std::alloc::Global;
 
 /// A key with its value.
@@ -30,6 +30,14 @@ pub struct Cursor {
 }
 
 impl Cursor {
+    /// Before all keys.
+    pub(crate) fn start() -> Cursor {
+        Cursor {
+            last: 0,
+            begun: false,
+        }
+    }
+
     /// The last key that was listed, if one was.
     fn last_key(self) -> Option<u64>
         ensures { result ≡ last_of self }
@@ -67,7 +75,7 @@ pub extern "C" fn ctrie_entries(
 }
 
 /// Writes this part.
-fn write(part: &[(u64, u64)], cursor: &mut Cursor, pairs: &mut [Pair]) -> usize
+pub(crate) fn write(part: &[(u64, u64)], cursor: &mut Cursor, pairs: &mut [Pair]) -> usize
     requires { length part.now ≤ length pairs.old }
     ensures { Writes part.now cursor.old pairs.old result cursor.new pairs.new }
 {

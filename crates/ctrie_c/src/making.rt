@@ -5,7 +5,7 @@ ghost use Rattle.ctrie_c.specs.Calls.{Makes, kind_of};
 
 use crate::codes::{BAD_HASH, HAS_MAP, NO, refusal};
 use crate::held::{HeldMap, give, take};
-use ctrie_map::{HashKind, Map, MapError};
+use shared_map::{HashKind, Map, MapError};
 use std::alloc::Global;
 
 /// Makes a map with so many slots, whose keys are hashed so, where there is none.
@@ -51,7 +51,7 @@ fn make(alloc: Global, held: &mut HeldMap, slots: u32, kind: HashKind) -> u32
 }
 
 /// The hash of this number.
-fn kind_by(number: u32) -> Option<HashKind>
+pub(crate) fn kind_by(number: u32) -> Option<HashKind>
     ensures { result ≡ kind_of number }
 {
     match number {

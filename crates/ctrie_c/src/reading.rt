@@ -1,14 +1,14 @@
 //! Calls that change nothing.
 
 ghost use Rattle.std.specs.Prelude.{◌≡◌, nat_eq, false};
-ghost use Rattle.ctrie_c.specs.Calls.{Contains, Counts, CountsFree, CountsHandles, CountsSlots, Finds, Gets};
+ghost use Rattle.ctrie_c.specs.Calls.{Contains, Counts, CountsFree, CountsHandles, CountsSlots, Finds, Gets, TellsOpen, TellsWritable};
 ghost use Rattle.ctrie_c.specs.Answers.{Does, number_told, truth_told, value_told};
 ghost use Rattle.ctrie_c.specs.Listing.{pair_told};
 
 use crate::codes::{NO, NO_MAP, tell_count, tell_pair, tell_truth, tell_value};
 use crate::held::{HeldMap, give, take};
 use crate::listing::Pair;
-use ctrie_map::Handle;
+use shared_map::Handle;
 use std::alloc::Global;
 
 /// Tells the key's value, if it has one.
@@ -42,6 +42,36 @@ pub extern "C" fn ctrie_contains(alloc: Global, held: &mut HeldMap, handle: u16,
         None => NO_MAP,
         Some(map) => {
             let told = map.contains(Handle::new(handle), key);
+            give(held, map);
+            tell_truth(told)
+        }
+    }
+}
+
+/// Tells whether the handle is open.
+#[unsafe(no_mangle)]
+pub extern "C" fn ctrie_is_open(alloc: Global, held: &mut HeldMap, handle: u16) -> u32
+    ensures does { Does held.old.state held.new.state result (TellsOpen handle (truth_told result)) }
+{
+    match take(alloc, held) {
+        None => NO_MAP,
+        Some(map) => {
+            let told = map.is_open(Handle::new(handle));
+            give(held, map);
+            tell_truth(Ok(told))
+        }
+    }
+}
+
+/// Tells whether the handle's map may be changed by it.
+#[unsafe(no_mangle)]
+pub extern "C" fn ctrie_is_writable(alloc: Global, held: &mut HeldMap, handle: u16) -> u32
+    ensures does { Does held.old.state held.new.state result (TellsWritable handle (truth_told result)) }
+{
+    match take(alloc, held) {
+        None => NO_MAP,
+        Some(map) => {
+            let told = map.is_writable(Handle::new(handle));
             give(held, map);
             tell_truth(told)
         }

@@ -11,7 +11,7 @@ use Rattle.shared_map.specs.Replaying.{Replays}
 -- was told. Each call is one of a seat of the shared map.
 pub record AreInOneOrder {S : Type 0} (of : S → MapSeat) (shared : MapRoom) (seats : List S) (made : MapState) : Type 0 where
   pub order : List MapEntry
-  pub replays : Replays (hash_of shared.first.limits.hash) (handles_of shared.first) order (handles_of made)
+  pub replays : Replays (hash_of shared.first.core.limits.hash) (handles_of shared.first) order (handles_of made)
   pub own : (k : ℕ) (s : S) → slice_get seats k ≡ Some s → calls_of (of s).number order ≡ calls_of (of s).number (of s).seen.log
   pub seated : AreSeated shared.seats order
-  pub limits : made.limits ≡ shared.first.limits
+  pub limits : made.core.limits ≡ shared.first.core.limits

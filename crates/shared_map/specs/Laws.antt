@@ -10,4 +10,4 @@ use Rattle.shared_map.specs.Replaying.{Replays}
 abbrev pub CallsReplay : Type 0
 CallsReplay =
     (seen : MapLog) → IsLegal MapAnswers seen →
-    Replays (hash_of seen.first.limits.hash) (handles_of seen.first) seen.log (handles_of seen.object) × (seen.object.limits ≡ seen.first.limits)
+    Replays (hash_of seen.first.core.limits.hash) (handles_of seen.first) seen.log (handles_of seen.object) × (seen.object.core.limits ≡ seen.first.core.limits)

@@ -1,3 +1,4 @@
+pub mod Beneath
 pub mod Asks
 pub mod Seats
 pub mod Opening

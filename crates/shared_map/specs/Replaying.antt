@@ -4,11 +4,11 @@ use Rattle.std.specs.FinMap as map
 use Rattle.history.specs.declared.calls.Call.{Call}
 use Rattle.history.specs.declared.calls.Call.TheVariants.{Get, Entries, Count}
 use Rattle.history.specs.declared.replies.Reply.TheVariants as reply
-use Rattle.history.specs.Effects.{Effect}
 use Rattle.history.specs.Worlds.{HandleMap}
 use Rattle.ctrie_map.specs.declared.errors.MapError.TheVariants.{WornOut}
 use Rattle.ctrie_map.specs.Calling.{IsRead}
 use Rattle.ctrie_map.specs.Changes.{denial_among}
+use Rattle.ctrie_map.specs.Performing.{EffectAmong}
 use Rattle.ctrie_map.specs.Reading.{read_of}
 use Rattle.shared_map.specs.declared.asks.Ask.{Ask}
 use Rattle.shared_map.specs.declared.asks.Ask.TheVariants.{Do, Handles, Free}
@@ -18,7 +18,7 @@ module _ (hash : ℕ → ℕ) (world : HandleMap) where
   -- What is told of a change, and the world after it: the finite map's effect; or it was refused, and nothing has changed.
   abbrev pub ChangesWorld : Call → Told → HandleMap → Type 0
   ChangesWorld call (Ok reply.NoSlots) next = (denial_among world call ≡ None) × (next ≡ world)
-  ChangesWorld call (Ok answer) next = (opens : Option ℕ) × Effect hash world call opens answer next
+  ChangesWorld call (Ok answer) next = (opens : Option ℕ) × EffectAmong hash world call opens answer next
   ChangesWorld call (Err WornOut) next = (denial_among world call ≡ None) × (next ≡ world)
   ChangesWorld call (Err error) next = (denial_among world call ≡ Some error) × (next ≡ world)
 

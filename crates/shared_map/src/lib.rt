@@ -8,11 +8,12 @@ mod finishing;
 mod laws;
 mod maps;
 mod naming;
-mod telling;
+pub mod telling;
+mod trying;
 
 pub use asks::{Ask, Told};
 pub use calling::MapCalls;
-pub use ctrie_map::{Handle, HashKind, Map, MapError, SLOTS_FOR_A_CALL};
+pub use ctrie_map::{Difference, Handle, HashKind, Map, MapError, SLOTS_FOR_A_CALL};
 pub use gate::{HoldsSeat, Name};
 pub use history::{Call, Reply};
 pub use laws::calls_replay;

@@ -30,7 +30,7 @@ impl Model for SharedMap {
 
     ghost view = { λ m. m.gate };
 
-    ghost invariant = { λ m. m.slots ≡ m.gate.first.limits.slots };
+    ghost invariant = { λ m. m.slots ≡ m.gate.first.core.limits.slots };
 }
 
 impl SharedMap {
@@ -67,7 +67,7 @@ impl SharedMap {
 
     /// How many slots there are in all.
     pub fn slots(&self) -> u32
-        ensures { result ≡ self.now.first.limits.slots }
+        ensures { result ≡ self.now.first.core.limits.slots }
     {
         self.slots
     }

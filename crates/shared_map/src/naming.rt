@@ -36,7 +36,7 @@ impl<N: Name> Model for NamedMap<N> {
 
     ghost view = { λ m. m.gate };
 
-    ghost invariant = { λ m. m.slots ≡ m.gate.first.limits.slots };
+    ghost invariant = { λ m. m.slots ≡ m.gate.first.core.limits.slots };
 }
 
 impl SharedMap {
@@ -62,7 +62,7 @@ impl SharedMap {
 impl<N: Name> NamedMap<N> {
     /// As `SharedMap::slots`.
     pub fn slots(&self) -> u32
-        ensures { result ≡ self.now.first.limits.slots }
+        ensures { result ≡ self.now.first.core.limits.slots }
     {
         self.slots
     }

@@ -1,15 +1,15 @@
-//! What the calls tell of a reply, where `ctrie_map` doesn't say it.
+//! What the calls tell of a reply.
 
 ghost use Rattle.std.specs.Prelude.{◌≡◌, IfOk, IfErr, Ok, Err};
 ghost use Rattle.shared_map.specs.Telling.{contained_in, counted_in, listed_in, number_in};
 
 use crate::asks::Told;
 use ctrie_map::MapError;
-use ctrie_map::telling::found;
+pub use ctrie_map::telling::{done, found, opened, truth};
 use history::Reply;
 
 /// Whether there is a value.
-pub(crate) fn contained(told: Told) -> Result<bool, MapError>
+pub fn contained(told: Told) -> Result<bool, MapError>
     ensures { result ≡ contained_in told }
 {
     match found(told) {
@@ -19,7 +19,7 @@ pub(crate) fn contained(told: Told) -> Result<bool, MapError>
 }
 
 /// Pairs.
-pub(crate) fn listed(told: Told) -> Result<Vec<(u64, u64)>, MapError>
+pub fn listed(told: Told) -> Result<Vec<(u64, u64)>, MapError>
     ensures listed { IfOk result (λ pairs. listed_in told ≡ Ok pairs.items) }
     ensures refused { IfErr result (λ error. listed_in told ≡ Err error) }
 {
@@ -30,7 +30,7 @@ pub(crate) fn listed(told: Told) -> Result<Vec<(u64, u64)>, MapError>
 }
 
 /// How many there are.
-pub(crate) fn counted(told: Told) -> Result<u64, MapError>
+pub fn counted(told: Told) -> Result<u64, MapError>
     ensures { result ≡ counted_in told }
 {
     match told? {
@@ -40,7 +40,7 @@ pub(crate) fn counted(told: Told) -> Result<u64, MapError>
 }
 
 /// The same of what is never refused.
-pub(crate) fn number(told: Told) -> u64
+pub fn number(told: Told) -> u64
     ensures { result ≡ number_in told }
 {
     match told {

@@ -28,7 +28,8 @@ use Rattle.std.proofs.alloc.Global.TheLaws.{the_row_laws}
 use Rattle.std.proofs.raw_atomic.Walks.{proved_at, leaves}
 use Rattle.std_alloc.proofs.ResultValues.{and_tt}
 use Rattle.ctrie_c.specs.contracts.held.HeldMap as held
-use Rattle.ctrie_c.proofs.HeldValues.{Z, R, held_good, held_out, either_held}
+use Rattle.ctrie_c.proofs.HeldValues.{Z, held_good, either_held}
+use Rattle.ctrie_c.proofs.HeldMaps.{R, held_out}
 use Rattle.ctrie_c.proofs.Values.{both, Loose, loose_good, loose_in}
 use Rattle.ctrie_c.specs.contracts.held.HeldMap.into_loose.{ended, clauses}
 use Rattle.ctrie_c.specs.contracts.held.HeldMap.into_loose.Key.{name as #self}
@@ -44,7 +45,7 @@ into_loose_spec 𝓤 𝓛 𝓜 𝓡 wired =
     let Post : Val → SProp 𝓤 = (walk_of 𝓛 ended hs c).post z in let Run : List Val → SProp 𝓤 = λ ws. WpFn 𝓤 H 𝓣.C 𝓣.Λ fn ws Post in
     let Tells : Option Lr.Denot → Type 0 = λ r. IfSome r (λ l. s ≡ Some l.value) in let Lacks : Option Lr.Denot → Type 0 = λ r. IfNone r (s ≡ None) in
     qed 𝓛 ((‵ ftrue ⊛ ‵ (owns (types_at ended.signature.params κs) z.0.3 z.0.4)) ∷ raw ((c κs z.0.3).requires z.1) ∷ []) ∵
-    split ! $ move ! (1 ∷ []) $ fsplit ! $ held_out ! d z.0.4.0 (λ h ws fits. either_held ! a d.at s
+    split ! $ move ! (1 ∷ []) $ fsplit ! $ held_out ! d z.0.4.0 (λ h ws fits. either_held R ! a d.at s
     (λ is empty. let w : Val = both (ptr_val null_ptr) h in let r : Option Lr.Denot = None in
     suffices ! (Run (w ∷ [])) (subst (λ (us : List Val). ent 𝓤 (Run (w ∷ [])) (Run us)) (sym (λ i. (ws ∙ ap (λ (p : Ptr). both (ptr_val p) h ∷ []) is) i ++ [])) (id⊢ 𝓤 (Run (w ∷ [])))) $
     enter ! 𝓣.C 𝓣.Λ fn (w ∷ []) Post $ alloc_all ! (λ l. pass_all ! refl (held_good null_ptr h fits, tt) $ let Ev = env fn.locals l in

@@ -19,7 +19,8 @@ use denote.Triple.Walked.{Stays, stay_dropped, walk_of, Goes-dropped}
 use Rattle.core.proofs.alloc.Calls.{handle_tells}
 use Rattle.std.specs.Prelude.{Option, None}
 use Rattle.std.proofs.raw_atomic.Walks.{proved_at, leaves}
-use Rattle.ctrie_c.proofs.HeldValues.{Z, R, al, held_in, held_good}
+use Rattle.ctrie_c.proofs.HeldValues.{Z, al, held_good}
+use Rattle.ctrie_c.proofs.HeldMaps.{R, held_in}
 use Rattle.ctrie_c.proofs.Values.{both}
 use Rattle.ctrie_c.specs.contracts.held.HeldMap.none.{ended, clauses}
 use Rattle.ctrie_c.specs.contracts.held.HeldMap.none.Key.{name as #self}

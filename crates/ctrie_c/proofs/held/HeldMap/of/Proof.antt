@@ -20,7 +20,8 @@ use Rattle.std.specs.Prelude.{Option, Some}
 use Rattle.std.specs.contracts.impls.GlobalAllocator.TheImpl.{ghosts}
 use Rattle.std.proofs.alloc.Global.TheLaws.{the_row_laws}
 use Rattle.std.proofs.raw_atomic.Walks.{proved_at, leaves}
-use Rattle.ctrie_c.proofs.HeldValues.{Z, R, held_in}
+use Rattle.ctrie_c.proofs.HeldValues.{Z}
+use Rattle.ctrie_c.proofs.HeldMaps.{R, held_in}
 use Rattle.ctrie_c.proofs.Values.{both, Loose, loose_good, loose_out}
 use Rattle.ctrie_c.specs.contracts.held.HeldMap.of.{ended, clauses}
 use Rattle.ctrie_c.specs.contracts.held.HeldMap.of.Key.{name as #self}

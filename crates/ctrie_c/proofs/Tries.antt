@@ -1,0 +1,47 @@
+-- What a seat's contract says holds of the seat that is held.
+use Rattle.std.proofs.Common.{◌≡◌, ◌<◌, ◌∙◌, ℕ, refl, sym, subst, inl, inr}
+use Rattle.std.specs.Prelude.{Option, Some, None}
+use Rattle.shared_map.specs.declared.asks.Ask.{Ask}
+use Rattle.shared_map.specs.Asks.{Told}
+use Rattle.ctrie_c.specs.Answers.{code_limit, no_map}
+use Rattle.ctrie_c.specs.Sharing.{Asks, AsksIt, Says, Sharing, Tries, busy}
+
+-- the seat that was taken out of its box
+pub asked_by : {before after : Option Sharing} {old lent new : Sharing} {ask : Ask} {told : Told} → lent ≡ old → before ≡ Some old → after ≡ Some new → Asks ask told lent new →
+    AsksIt before after ask told
+asked_by {before} {after} {old} {lent} {new} {ask} {told} same was is asks =
+    subst (λ (b : Option Sharing). AsksIt b after ask told) (sym was)
+    (subst (λ (a : Option Sharing). AsksIt (Some old) a ask told) (sym is) (subst (λ (s : Sharing). Asks ask told s new) same asks))
+
+-- another seat was inside
+pub kept_out : {before after : Option Sharing} {old lent new : Sharing} (Holds : Sharing → Sharing → Type 0) → lent ≡ old → before ≡ Some old → after ≡ Some new → new ≡ lent →
+    Tries before after busy Holds
+kept_out {before} {after} {old} {lent} {new} Holds same was is stays =
+    subst (λ (b : Option Sharing). Tries b after busy Holds) (sym was) (subst (λ (a : Option Sharing). Tries (Some old) a busy Holds) (sym is) (inl (refl, stays ∙ same)))
+
+-- no seat is held
+pub none_held : {before after : Option Sharing} (Holds : Sharing → Sharing → Type 0) → before ≡ None → after ≡ None → Tries before after no_map Holds
+none_held {before} {after} Holds was is =
+    subst (λ (b : Option Sharing). Tries b after no_map Holds) (sym was) (subst (λ (a : Option Sharing). Tries None a no_map Holds) (sym is) refl)
+
+-- it did something, and the code tells what
+pub came_in : {before after : Option Sharing} {old lent new : Sharing} {code : ℕ} (Holds : Sharing → Sharing → Type 0) → lent ≡ old → before ≡ Some old → after ≡ Some new → code < code_limit →
+    Holds lent new → Tries before after code Holds
+came_in {before} {after} {old} {lent} {new} {code} Holds same was is low holds =
+    subst (λ (b : Option Sharing). Tries b after code Holds) (sym was)
+    (subst (λ (a : Option Sharing). Tries (Some old) a code Holds) (sym is) (inr (low, subst (λ (s : Sharing). Holds s new) same holds)))
+
+-- it didn't ask
+pub untried : (before after : Option Sharing) (code : ℕ) (Holds : Sharing → Sharing → Type 0) → Tries before after code (λ old new. ⊥) → Tries before after code Holds
+untried (Some old) (Some new) code Holds (inl out) = inl out
+untried (Some old) (Some new) code Holds (inr told) = absurd told.1
+untried (Some old) None code Holds wrong = absurd wrong
+untried None (Some new) code Holds wrong = absurd wrong
+untried None None code Holds is = is
+
+-- it asked, and this is said of what it was told
+pub tried : {A : Type 0} (says : Told → A) (before after : Option Sharing) (ask : Ask) (told : Told) (code : ℕ) (result : A) → AsksIt before after ask told → code < code_limit → result ≡ says told →
+    Tries before after code (Says says ask result)
+tried says (Some old) (Some new) ask told code result asked low is = inr (low, (asked.0, (told, is, asked.1)))
+tried says (Some old) None ask told code result asked low is = absurd asked
+tried says None after ask told code result asked low is = absurd asked

@@ -1,0 +1,107 @@
+-- What a C program holds of a shared map: a seat with a share of it; and what the calls do.
+use Rattle.std.specs.Prelude.{◌≡◌, ◌<◌, ◌≤◌, ◌⊎◌, ◌↔◌, ℕ, List, [], ◌∷◌, ◌++◌, length, take, drop, map, min, Bool, IsTrue, Option, Some, None, Result, Ok, Err, IfOk, IfErr}
+use Rattle.ctrie_base.specs.declared.hashes.HashKind.{HashKind}
+use Rattle.shared_map.specs.Beneath.ctrie_map.specs.declared.errors.MapError.{MapError}
+use Rattle.shared_map.specs.Beneath.ctrie_map.specs.declared.errors.MapError.TheVariants.{Memory}
+use Rattle.shared_map.specs.Beneath.ctrie_map.specs.Maps.{AreSlots, RefusesSizes}
+use Rattle.gate.specs.Calls.{IsCalled, HasHeard}
+use Rattle.gate.specs.Logs.{saturated}
+use Rattle.history.specs.declared.calls.Call.TheVariants.{Entries}
+use Rattle.shared_map.specs.declared.asks.Ask.{Ask}
+use Rattle.shared_map.specs.declared.asks.Ask.TheVariants.{Do}
+use Rattle.shared_map.specs.Asks.{MapAnswers, MapRoom, MapSeat, Told}
+use Rattle.shared_map.specs.Calling.{Tells}
+use Rattle.shared_map.specs.Opening.{IsNewShared}
+use Rattle.shared_map.specs.Telling.{listed_in}
+use Rattle.ctrie_c.specs.Answers.{bad_hash, code_limit, done_told, has_map, no_map}
+use Rattle.ctrie_c.specs.Listing.{pair_of}
+use Rattle.ctrie_c.specs.declared.listing.Pair.{Pair}
+
+-- the map, a seat at it, and the seats that are to be handed out yet
+pub record Sharing : Type 0 where
+  pub map : MapRoom
+  pub seat : MapSeat
+  pub spare : List MapSeat
+
+-- of a call that another seat kept from coming in, and of one that wants a seat where none is left
+abbrev pub busy : ℕ
+busy = 14
+
+abbrev pub no_seat : ℕ
+no_seat = 15
+
+-- ---- asking
+
+-- the map is the same one, and so are the seats to be handed out
+abbrev pub IsSame : Sharing → Sharing → Type 0
+IsSame old new = (new.map ≡ old.map) × (new.spare ≡ old.spare)
+
+-- the seat asked this, and was told that: its log has one entry more
+abbrev pub Asks : Ask → Told → Sharing → Sharing → Type 0
+Asks ask told old new = IsSame old new × IsCalled MapAnswers old.seat ask told new.seat
+
+abbrev pub Hears : ℕ → Bool → Sharing → Sharing → Type 0
+Hears calls heard old new = IsSame old new × HasHeard MapAnswers old.seat new.seat × (IsTrue heard ↔ calls ≤ length new.seat.seen.log)
+
+-- What a try did with the seat that is held, if there is one: nothing where another seat kept it out, and else what the code tells.
+abbrev pub Tries : Option Sharing → Option Sharing → ℕ → (Sharing → Sharing → Type 0) → Type 0
+Tries (Some old) (Some new) code Holds = ((code ≡ busy) × (new ≡ old)) ⊎ ((code < code_limit) × Holds old new)
+Tries None None code Holds = code ≡ no_map
+Tries before after code Holds = ⊥
+
+-- the seat's log has one entry more, with what is said of it
+abbrev pub Says : {A : Type 0} → (Told → A) → Ask → A → Sharing → Sharing → Type 0
+Says says ask result old new = IsSame old new × Tells says old.seat ask result new.seat
+
+-- the seat that is held asked this
+abbrev pub AsksIt : Option Sharing → Option Sharing → Ask → Told → Type 0
+AsksIt (Some old) (Some new) ask told = Asks ask told old new
+AsksIt before after ask told = ⊥
+
+-- the seat heard whether so many calls have been made
+abbrev pub HearsSo : ℕ → Result Bool MapError → Sharing → Sharing → Type 0
+HearsSo calls result old new = (heard : Bool) × (result ≡ Ok heard) × Hears calls heard old new
+
+-- how many calls the seat knows of
+abbrev pub TellsLast : Option Sharing → Option Sharing → ℕ → Result ℕ MapError → Type 0
+TellsLast (Some old) (Some new) code result = (new ≡ old) × (result ≡ Ok (saturated (length old.seat.seen.log)))
+TellsLast None None code result = code ≡ no_map
+TellsLast before after code result = ⊥
+
+-- the first of these are written at the front of a buffer, as many as there is room for
+abbrev pub IsFront : List (ℕ × ℕ) → List Pair → List Pair → Type 0
+IsFront all before after =
+    (take (min (length all) (length before)) after ≡ map pair_of (take (length before) all)) × (drop (min (length all) (length before)) after ≡ drop (min (length all) (length before)) before)
+
+-- all pairs of a handle's map were listed, and the first of them are written
+abbrev pub ListsFront : List Pair → List Pair → ℕ → Result ℕ MapError → Sharing → Sharing → Type 0
+ListsFront before after handle result old new = (told : Told) × Asks (Do (Entries handle)) told old new
+    × IfOk result (λ count. (all : List (ℕ × ℕ)) × (listed_in told ≡ Ok all) × (count ≡ length all) × IsFront all before after)
+    × IfErr result (λ error. (listed_in told ≡ Err error) × (after ≡ before))
+
+-- ---- making
+
+-- a shared map of so many slots with this hash, and so many seats, where there was none
+abbrev pub Shares : Option HashKind → ℕ → ℕ → ℕ → Option Sharing → Option Sharing → Type 0
+Shares None slots seats code before after = (code ≡ bad_hash) × (after ≡ before)
+Shares (Some kind) slots seats code (Some old) after = (code ≡ has_map) × (after ≡ Some old)
+Shares (Some kind) slots seats code None (Some made) = (code ≡ 0) × IsNewShared slots kind seats made.map (made.spare ++ made.seat ∷ []) × AreSlots slots
+Shares (Some kind) slots seats code None None =
+    ((code ≡ no_seat) × (seats ≡ 0)) ⊎ ((code < code_limit) × IfOk (done_told code) (λ _. ⊥) × IfErr (done_told code) (RefusesSizes slots))
+
+-- one of these seats is held at this map, and hands out the others
+abbrev pub HoldsOne : MapRoom → List MapSeat → ℕ → Option Sharing → Type 0
+HoldsOne room seats code (Some made) = (code ≡ 0) × (made.map ≡ room) × (seats ≡ made.spare ++ made.seat ∷ [])
+HoldsOne room seats code None = ((code ≡ no_seat) × (seats ≡ [])) ⊎ ((code < code_limit) × (done_told code ≡ Err Memory))
+
+-- the last of the seats that were to be handed out is
+abbrev pub HasHandedOut : Sharing → Sharing → Sharing → Type 0
+HasHandedOut old new other = (new.map ≡ old.map) × (new.seat ≡ old.seat) × (old.spare ≡ new.spare ++ other.seat ∷ []) × (other.map ≡ old.map) × (other.spare ≡ [])
+
+-- another seat comes of a held one, where none was held
+abbrev pub Splits : ℕ → Option Sharing → Option Sharing → Option Sharing → Option Sharing → Type 0
+Splits code held (Some other) later got = (code ≡ has_map) × (later ≡ held) × (got ≡ Some other)
+Splits code None None later got = (code ≡ no_map) × (later ≡ None) × (got ≡ None)
+Splits code (Some old) None (Some new) (Some other) = (code ≡ 0) × HasHandedOut old new other
+Splits code (Some old) None (Some new) None = (new ≡ old) × (((code ≡ no_seat) × (old.spare ≡ [])) ⊎ ((code < code_limit) × (done_told code ≡ Err Memory)))
+Splits code (Some old) None None got = ⊥

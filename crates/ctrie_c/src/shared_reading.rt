@@ -1,0 +1,169 @@
+//! Calls of a seat at a shared map that change nothing. Each tries once to come in.
+
+ghost use Rattle.std.specs.Prelude.{◌≡◌, nat_eq, false, length, Ok};
+ghost use Rattle.history.specs.declared.calls.Call.TheVariants as call;
+ghost use Rattle.shared_map.specs.Beneath.ctrie_map.specs.Telling.{found_in};
+ghost use Rattle.shared_map.specs.declared.asks.Ask.TheVariants.{Do, Free, Handles};
+ghost use Rattle.shared_map.specs.Telling.{contained_in, counted_in, number_in};
+ghost use Rattle.ctrie_c.specs.Answers.{number_told, truth_told, value_told};
+ghost use Rattle.ctrie_c.specs.Sharing.{HearsSo, IsFront, ListsFront, Says, TellsLast, Tries};
+
+use crate::codes::{NO_MAP, refusal, tell_count, tell_truth, tell_value};
+use crate::held_seats::{HeldSeat, give_seat, take_seat};
+use crate::listing::{Cursor, Pair, write};
+use crate::sharing::BUSY;
+use crate::trying::try_ask;
+use history::Call;
+use shared_map::Ask;
+use shared_map::telling::{contained, counted, found, listed, number};
+use std::alloc::Global;
+
+/// Tells the key's value, if it has one.
+#[unsafe(no_mangle)]
+pub extern "C" fn ctrie_shared_try_get(
+    alloc: Global,
+    held: &mut HeldSeat,
+    handle: u16,
+    key: u64,
+    value: &mut u64,
+) -> u32
+    ensures does { Tries held.old.state held.new.state result (Says found_in (Do (call.Get handle key)) (value_told result value.new)) }
+    ensures kept { nat_eq result 1 ≡ false → value.new ≡ value.old }
+{
+    match try_ask(alloc, held, Ask::Do(Call::Get { handle, key })) {
+        Err(code) => code,
+        Ok(told) => tell_value(found(told), value),
+    }
+}
+
+/// Tells whether the key has a value.
+#[unsafe(no_mangle)]
+pub extern "C" fn ctrie_shared_try_contains(
+    alloc: Global,
+    held: &mut HeldSeat,
+    handle: u16,
+    key: u64,
+) -> u32
+    ensures does { Tries held.old.state held.new.state result (Says contained_in (Do (call.Get handle key)) (truth_told result)) }
+{
+    match try_ask(alloc, held, Ask::Do(Call::Get { handle, key })) {
+        Err(code) => code,
+        Ok(told) => tell_truth(contained(told)),
+    }
+}
+
+/// Tells how many keys have a value.
+#[unsafe(no_mangle)]
+pub extern "C" fn ctrie_shared_try_count(
+    alloc: Global,
+    held: &mut HeldSeat,
+    handle: u16,
+    count: &mut u64,
+) -> u32
+    ensures does { Tries held.old.state held.new.state result (Says counted_in (Do (call.Count handle)) (number_told result count.new)) }
+    ensures kept { nat_eq result 0 ≡ false → count.new ≡ count.old }
+{
+    match try_ask(alloc, held, Ask::Do(Call::Count { handle })) {
+        Err(code) => code,
+        Ok(told) => tell_count(counted(told), count),
+    }
+}
+
+/// Tells how many handles are open.
+#[unsafe(no_mangle)]
+pub extern "C" fn ctrie_shared_try_handles(
+    alloc: Global,
+    held: &mut HeldSeat,
+    handles: &mut u64,
+) -> u32
+    ensures does { Tries held.old.state held.new.state result (Says (λ told. Ok (number_in told)) Handles (number_told result handles.new)) }
+    ensures kept { nat_eq result 0 ≡ false → handles.new ≡ handles.old }
+{
+    match try_ask(alloc, held, Ask::Handles) {
+        Err(code) => code,
+        Ok(told) => tell_count(Ok(number(told)), handles),
+    }
+}
+
+/// Tells how many slots no open handle reaches.
+#[unsafe(no_mangle)]
+pub extern "C" fn ctrie_shared_try_free_slots(
+    alloc: Global,
+    held: &mut HeldSeat,
+    free: &mut u64,
+) -> u32
+    ensures does { Tries held.old.state held.new.state result (Says (λ told. Ok (number_in told)) Free (number_told result free.new)) }
+    ensures kept { nat_eq result 0 ≡ false → free.new ≡ free.old }
+{
+    match try_ask(alloc, held, Ask::Free) {
+        Err(code) => code,
+        Ok(told) => tell_count(Ok(number(told)), free),
+    }
+}
+
+/// Tells how many keys have a value, and writes the first of them with their values, by rising key, as many as there is room for.
+#[unsafe(no_mangle)]
+pub extern "C" fn ctrie_shared_try_entries(
+    alloc: Global,
+    held: &mut HeldSeat,
+    handle: u16,
+    pairs: &mut [Pair],
+    count: &mut u64,
+) -> u32
+    ensures does { Tries held.old.state held.new.state result (ListsFront pairs.old pairs.new handle (number_told result count.new)) }
+    ensures kept { nat_eq result 0 ≡ false → count.new ≡ count.old }
+    ensures stays { nat_eq result 0 ≡ false → pairs.new ≡ pairs.old }
+{
+    match try_ask(alloc, held, Ask::Do(Call::Entries { handle })) {
+        Err(code) => code,
+        Ok(told) => match listed(told) {
+            Err(error) => refusal(error),
+            Ok(all) => tell_count(Ok(write_front(all.as_slice(), pairs)), count),
+        },
+    }
+}
+
+/// Writes the first of these, as many as there is room for, and tells how many there are.
+fn write_front(all: &[(u64, u64)], pairs: &mut [Pair]) -> u64
+    ensures count { result ≡ length all.now }
+    ensures front { IsFront all.now pairs.old pairs.new }
+{
+    let room = pairs.len();
+    let part = if all.len() < room { all } else { &all[..room] };
+    let _ = write(part, &mut Cursor::start(), pairs);
+    all.len() as u64
+}
+
+/// Tells how many calls the seat knows of: after a call of its own this one's number.
+#[unsafe(no_mangle)]
+pub extern "C" fn ctrie_shared_last(alloc: Global, held: &mut HeldSeat, calls: &mut u64) -> u32
+    ensures does { TellsLast held.old.state held.new.state result (number_told result calls.new) }
+    ensures kept { nat_eq result 0 ≡ false → calls.new ≡ calls.old }
+{
+    match take_seat(alloc, held) {
+        None => NO_MAP,
+        Some(seat) => {
+            let last = seat.seat.last();
+            give_seat(held, seat);
+            tell_count(Ok(last), calls)
+        }
+    }
+}
+
+/// Tells whether so many calls have been made. What the seat calls next stands behind all of them.
+#[unsafe(no_mangle)]
+pub extern "C" fn ctrie_shared_try_hear(alloc: Global, held: &mut HeldSeat, calls: u64) -> u32
+    ensures does { Tries held.old.state held.new.state result (HearsSo calls (truth_told result)) }
+{
+    match take_seat(alloc, held) {
+        None => NO_MAP,
+        Some(mut seat) => {
+            let heard = seat.try_hear(calls);
+            give_seat(held, seat);
+            match heard {
+                None => BUSY,
+                Some(heard) => tell_truth(Ok(heard)),
+            }
+        }
+    }
+}

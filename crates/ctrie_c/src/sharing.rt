@@ -1,0 +1,79 @@
+//! Seats at a shared map, each with a share of it.
+
+ghost use Rattle.std.specs.Prelude.{◌≡◌, [], IfSome, IfNone, IfOk, OnErr};
+ghost use Rattle.ctrie_c.specs.Sharing.{Asks, HasHandedOut, Hears};
+
+use shared_map::{Ask, MapSeat, SharedMap, Told};
+use std::alloc::{AllocError, Global};
+use std::marker::Model;
+use std::sync::Arc;
+
+/// Another seat is inside.
+pub(crate) const BUSY: u32 = 14;
+
+/// No seat is left.
+pub(crate) const NO_SEAT: u32 = 15;
+
+/// A seat with a share of its map, and the seats that it may hand out.
+#[derive(Drop)]
+pub(crate) struct SharingSeat {
+    pub(crate) map: Arc<SharedMap, Global>,
+    pub(crate) seat: MapSeat,
+    pub(crate) spare: Vec<MapSeat>,
+}
+
+impl Model for SharingSeat {
+    ghost use Rattle.std.specs.Arc.{arc_value};
+    ghost use Rattle.ctrie_c.specs.Sharing.{Sharing};
+    ghost use Rattle.shared_map.specs.Seats.{AreSeatsOf, IsSeatOf};
+
+    ghost Value = { Sharing };
+
+    ghost view = { λ s. record { map = arc_value s.map; seat = s.seat; spare = s.spare.items } };
+
+    ghost invariant = { λ s. IsSeatOf (arc_value s.map) s.seat × AreSeatsOf (arc_value s.map) s.spare.items };
+}
+
+impl SharingSeat {
+    /// Asks the map if no other seat is inside.
+    pub(crate) fn try_ask(&mut self, ask: Ask) -> Option<Told>
+        ensures asked { IfSome result (λ told. Asks ask told self.old self.new) }
+        ensures busy { IfNone result (self.new ≡ self.old) }
+    {
+        self.map.try_ask(&mut self.seat, ask)
+    }
+
+    /// Tells whether so many calls have been made, if no other seat is inside.
+    pub(crate) fn try_hear(&mut self, calls: u64) -> Option<bool>
+        ensures heard { IfSome result (λ heard. Hears calls heard self.old self.new) }
+        ensures busy { IfNone result (self.new ≡ self.old) }
+    {
+        self.map.try_hear(&mut self.seat, calls)
+    }
+
+    /// Another seat at the same map, where one is left.
+    pub(crate) fn hand_out(&mut self, alloc: Global) -> Result<Option<Box<SharingSeat>>, AllocError>
+        ensures handed { IfOk result (λ other. IfSome other (λ seat. HasHandedOut self.old self.new seat.value)) }
+        ensures none { IfOk result (λ other. IfNone other ((self.old.spare ≡ []) × (self.new ≡ self.old))) }
+        ensures refused { OnErr result (self.new ≡ self.old) }
+    {
+        let map = Arc::try_clone(&self.map)?;
+        let Some(seat) = self.spare.pop() else {
+            return Ok(None);
+        };
+        let spare = Vec::new(alloc);
+        match Box::new(alloc, SharingSeat { map, seat, spare }) {
+            Ok(other) => Ok(Some(other)),
+            Err(failed) => {
+                let returned = failed.value;
+                let SharingSeat {
+                    map: _,
+                    seat,
+                    spare: _,
+                } = returned;
+                let _ = self.spare.push(seat);
+                Err(AllocError)
+            }
+        }
+    }
+}

@@ -1,0 +1,117 @@
+/*
+ * A registry and counters that threads share. Four threads count their rounds in ten counters, and register how far they
+ * have come; the main thread exports the registry meanwhile, and each export is of one moment.
+ *
+ *     cc -Iinclude examples/c/shared.c out/c/lib/libctrie.a -pthread -o shared && ./shared
+ */
+#include <ctrie_shared.h>
+#include <inttypes.h>
+#include <pthread.h>
+#include <stdio.h>
+#include <stdlib.h>
+
+enum { WORKERS = 4, ROUNDS = 10000, COUNTERS = 10, EXPORTS = 100 };
+
+/* The keys: the counters have 0 to 9; the worker w registers the round that it begins at 100 + w, and then at 200 + w the
+   one that it has done. */
+enum { BEGUN = 100, DONE = 200 };
+
+struct worker {
+    pthread_t thread;
+    struct ctrie_seat *seat;
+    uint64_t number;
+};
+
+static void check(uint32_t code, const char *what) {
+    if (!CTRIE_REFUSED(code)) return;
+    fprintf(stderr, "%s: %s\n", what, ctrie_shared_error(code));
+    exit(1);
+}
+
+/* One more in a counter: again, where another thread came between. */
+static void count(struct ctrie_seat *seat, uint64_t counter) {
+    uint64_t before;
+    uint32_t code;
+    do {
+        check(ctrie_shared_get(seat, 0, counter, &before), "get");
+        code = ctrie_shared_replace_if(seat, 0, counter, before, before + 1);
+        check(code, "replace_if");
+    } while (code == CTRIE_NO);
+}
+
+static void *work(void *argument) {
+    struct worker *me = argument;
+    uint64_t round;
+    for (round = 1; round <= ROUNDS; round++) {
+        check(ctrie_shared_put(me->seat, 0, BEGUN + me->number, round, NULL), "put");
+        count(me->seat, round % COUNTERS);
+        check(ctrie_shared_put(me->seat, 0, DONE + me->number, round, NULL), "put");
+    }
+    return NULL;
+}
+
+/* The value of a key among these pairs, or 0. */
+static uint64_t value_in(const struct ctrie_pair *pairs, uint64_t many, uint64_t key) {
+    uint64_t i;
+    for (i = 0; i < many; i++)
+        if (pairs[i].key == key) return pairs[i].value;
+    return 0;
+}
+
+/* Exports the registry: whether all that it shows was so at one moment, that is, whether no worker has done a round that
+   it hasn't begun, and whether as many rounds were counted as were done, up to one more a worker. */
+static int export_is_right(struct ctrie_seat *seat) {
+    struct ctrie_pair pairs[64];
+    uint64_t many, i, begun = 0, done = 0, counted = 0;
+    uint16_t copy;
+    int right = 1;
+    check(ctrie_shared_freeze(seat, 0, &copy), "freeze");
+    check(ctrie_shared_entries(seat, copy, pairs, 64, &many), "entries");
+    check(ctrie_shared_close(seat, copy), "close");
+    for (i = 0; i < WORKERS; i++) {
+        begun += value_in(pairs, many, BEGUN + i);
+        done += value_in(pairs, many, DONE + i);
+        if (value_in(pairs, many, DONE + i) > value_in(pairs, many, BEGUN + i)) right = 0;
+    }
+    for (i = 0; i < COUNTERS; i++) counted += value_in(pairs, many, i);
+    return right && done <= counted && counted <= begun;
+}
+
+int main(void) {
+    struct ctrie_seat seats[WORKERS + 1] = {CTRIE_NO_SEAT};
+    struct ctrie_seat other = CTRIE_NO_SEAT;
+    struct worker workers[WORKERS];
+    struct ctrie_seat *mine = &seats[WORKERS];
+    uint64_t i, value, calls, wrong = 0;
+
+    check(ctrie_shared_new(seats, WORKERS + 1, 4096, CTRIE_FOLD), "new");
+    for (i = 0; i < COUNTERS; i++) check(ctrie_shared_put(mine, 0, i, 0, NULL), "put");
+    for (i = 0; i < WORKERS; i++) {
+        workers[i].seat = &seats[i];
+        workers[i].number = i;
+        if (pthread_create(&workers[i].thread, NULL, work, &workers[i])) return 1;
+    }
+    for (i = 0; i < EXPORTS; i++) wrong += !export_is_right(mine);
+    for (i = 0; i < WORKERS; i++)
+        if (pthread_join(workers[i].thread, NULL)) return 1;
+    printf("%d exports, %" PRIu64 " of them wrong\n", EXPORTS, wrong);
+
+    for (i = 0; i < COUNTERS; i++) {
+        check(ctrie_shared_get(mine, 0, i, &value), "get");
+        printf("counter %" PRIu64 ": %" PRIu64 "\n", i, value);
+    }
+    check(ctrie_shared_put(mine, 0, 7, 250, &value), "put");
+    check(ctrie_shared_last(mine, &calls), "last");
+    printf("before it %" PRIu64 "; known to all as call %s\n", value,
+           ctrie_shared_hear(&seats[0], calls) == CTRIE_YES ? "made" : "not made");
+    printf("and the next one: %s\n", ctrie_shared_hear(&seats[0], calls + 1) == CTRIE_YES ? "made" : "not made");
+
+    /* Nobody else is there now: a try comes in. */
+    printf("a try: %s\n", ctrie_shared_error(ctrie_shared_try_get(mine, 0, 7, &value)));
+    printf("one seat more: %s\n", ctrie_shared_error(ctrie_shared_split(mine, &other)));
+    for (i = 0; i <= WORKERS; i++) ctrie_shared_free(&seats[i]);
+    ctrie_shared_free(mine); /* once more, where none is held */
+    printf("after that: %s\n", ctrie_shared_error(ctrie_shared_put(mine, 0, 7, 1, NULL)));
+    printf("a map without seats: %s\n", ctrie_shared_error(ctrie_shared_open(mine, 64, CTRIE_LOW, 0)));
+    return 0;
+}

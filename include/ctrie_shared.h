@@ -1,0 +1,282 @@
+/*
+ * The map of ctrie.h, shared by threads.
+ *
+ * A shared map is used through seats, one a thread. All calls of all seats have one order, in which each is made whole
+ * on the map as the ones before it left it, and in which each seat's own stand in the order in which it made them. A
+ * call that finds another seat inside waits, for how long nothing promises: threads take turns, in no order that is
+ * promised.
+ *
+ *     struct ctrie_seat seats[4] = {CTRIE_NO_SEAT, CTRIE_NO_SEAT, CTRIE_NO_SEAT, CTRIE_NO_SEAT};
+ *     if (ctrie_shared_new(seats, 4, 1024, CTRIE_FOLD) != CTRIE_DONE) return 1;
+ *     ... each thread has one of them: ctrie_shared_put(&seats[i], 0, 7, 250, NULL) ...
+ *     for (int i = 0; i < 4; i++) ctrie_shared_free(&seats[i]);
+ *
+ * Which call may be made from where: seats of one map are used at the same time by as many threads as there are seats;
+ * one struct ctrie_seat is used by one call at a time. Another thread may go on with it where a thread's start, a join,
+ * a lock or a sequentially consistent atomic orders the two (proved of a seat, and not of the pointer that the struct
+ * is). None is used from a signal handler or the child of a fork;
+ * the struct isn't copied, but may be moved. malloc, realloc and free are as ctrie.h wants them, and may be called by
+ * several threads. What ctrie.h says else of pointers, codes and handles holds here too.
+ */
+#ifndef CTRIE_SHARED_H
+#define CTRIE_SHARED_H
+
+#include <ctrie.h>
+#include <sched.h>
+
+#ifdef __cplusplus
+extern "C" {
+#endif
+
+/* Holds a seat at a shared map, or none. */
+struct ctrie_seat {
+    void *at;
+};
+
+#define CTRIE_NO_SEAT {0}
+
+enum ctrie_shared_code {
+    CTRIE_BUSY = 14,        /* a call that tries: another seat is inside, and nothing was done */
+    CTRIE_NO_SEATS = 15     /* no seat is left to be handed out */
+};
+
+/* ---- the calls that try: each answers CTRIE_BUSY where another seat is inside, and nothing is done then. The calls
+   below, of the same names without try, call them until they come in: so a call that is to be made at once, or not at
+   all, is one of these. For the place of a value NULL may not stand here. */
+
+CTRIE_MUST_USE
+uint32_t ctrie_shared_try_get(struct ctrie_seat *seat, uint16_t handle, uint64_t key, uint64_t *value);
+CTRIE_MUST_USE
+uint32_t ctrie_shared_try_contains(struct ctrie_seat *seat, uint16_t handle, uint64_t key);
+CTRIE_MUST_USE
+uint32_t ctrie_shared_try_count(struct ctrie_seat *seat, uint16_t handle, uint64_t *count);
+CTRIE_MUST_USE
+uint32_t ctrie_shared_try_entries(struct ctrie_seat *seat, uint16_t handle, struct ctrie_pair *pairs, size_t room,
+                                  uint64_t *count);
+CTRIE_MUST_USE
+uint32_t ctrie_shared_try_handles(struct ctrie_seat *seat, uint64_t *handles);
+CTRIE_MUST_USE
+uint32_t ctrie_shared_try_free_slots(struct ctrie_seat *seat, uint64_t *free);
+CTRIE_MUST_USE
+uint32_t ctrie_shared_try_hear(struct ctrie_seat *seat, uint64_t calls);
+CTRIE_MUST_USE
+uint32_t ctrie_shared_try_put(struct ctrie_seat *seat, uint16_t handle, uint64_t key, uint64_t value, uint64_t *before);
+CTRIE_MUST_USE
+uint32_t ctrie_shared_try_put_if_absent(struct ctrie_seat *seat, uint16_t handle, uint64_t key, uint64_t value,
+                                        uint64_t *before);
+CTRIE_MUST_USE
+uint32_t ctrie_shared_try_replace(struct ctrie_seat *seat, uint16_t handle, uint64_t key, uint64_t value,
+                                  uint64_t *before);
+CTRIE_MUST_USE
+uint32_t ctrie_shared_try_replace_if(struct ctrie_seat *seat, uint16_t handle, uint64_t key, uint64_t before,
+                                     uint64_t value);
+CTRIE_MUST_USE
+uint32_t ctrie_shared_try_remove(struct ctrie_seat *seat, uint16_t handle, uint64_t key, uint64_t *before);
+CTRIE_MUST_USE
+uint32_t ctrie_shared_try_remove_if(struct ctrie_seat *seat, uint16_t handle, uint64_t key, uint64_t value);
+CTRIE_MUST_USE
+uint32_t ctrie_shared_try_clear(struct ctrie_seat *seat, uint16_t handle);
+CTRIE_MUST_USE
+uint32_t ctrie_shared_try_snapshot(struct ctrie_seat *seat, uint16_t handle, uint16_t *copy);
+CTRIE_MUST_USE
+uint32_t ctrie_shared_try_freeze(struct ctrie_seat *seat, uint16_t handle, uint16_t *copy);
+CTRIE_MUST_USE
+uint32_t ctrie_shared_try_close(struct ctrie_seat *seat, uint16_t handle);
+
+/* ---- a shared map and its seats: these don't wait */
+
+/* Makes a shared map, as ctrie_new makes one, and so many seats at it, from 1 to 255. The struct holds one, which hands
+   out the others. DONE, BAD_SIZES, MEMORY, BAD_HASH; HAS_MAP where it holds one already; NO_SEATS where there are to be
+   none. */
+CTRIE_MUST_USE
+uint32_t ctrie_shared_open(struct ctrie_seat *seat, uint32_t slots, uint32_t hash, uint8_t seats);
+
+/* Hands out one of the seats that the first struct has yet, to the second. DONE; NO_MAP where the first holds none,
+   HAS_MAP where the second does, NO_SEATS where none is left, MEMORY. */
+CTRIE_MUST_USE
+uint32_t ctrie_shared_split(struct ctrie_seat *seat, struct ctrie_seat *other);
+
+/* Frees the seat, if one is held, with those that it has not handed out. None is held then. The map is freed with the
+   last of its seats. */
+void ctrie_shared_free(struct ctrie_seat *seat);
+
+/* DONE with how many calls of all seats this one knows of: after a call of its own, this call's number in the order of
+   all. NO_MAP. */
+CTRIE_MUST_USE
+uint32_t ctrie_shared_last(struct ctrie_seat *seat, uint64_t *calls);
+
+/* Makes a shared map, and gives each of these structs, which hold none, a seat at it. DONE, BAD_SIZES, MEMORY,
+   BAD_HASH, HAS_MAP; NO_SEATS where there are none or more than 255. Where it isn't DONE all that was made is freed. */
+CTRIE_MUST_USE
+static inline uint32_t ctrie_shared_new(struct ctrie_seat *seats, size_t count, uint32_t slots, uint32_t hash) {
+    uint32_t code;
+    size_t made;
+    for (made = 0; made < count; made++)
+        if (seats[made].at) return CTRIE_HAS_MAP;
+    if (count == 0 || count > 255) return CTRIE_NO_SEATS;
+    code = ctrie_shared_open(&seats[0], slots, hash, (uint8_t)count);
+    for (made = 1; code == CTRIE_DONE && made < count; made++) code = ctrie_shared_split(&seats[0], &seats[made]);
+    if (code != CTRIE_DONE)
+        for (made = 0; made < count; made++) ctrie_shared_free(&seats[made]);
+    return code;
+}
+
+/* What a code says, in a few words. */
+static inline const char *ctrie_shared_error(uint32_t code) {
+    switch (code) {
+    case CTRIE_NO_MAP: return "no seat is held";
+    case CTRIE_HAS_MAP: return "a seat is held already";
+    case CTRIE_BUSY: return "another seat is inside";
+    case CTRIE_NO_SEATS: return "no seat is left";
+    default: return ctrie_error(code);
+    }
+}
+
+/* ---- the calls that wait: as those of ctrie.h, with the same codes; NO_MAP where no seat is held */
+
+/* How a seat waits between two tries: first by pauses, since who is inside is soon out, then by leaving the processor
+   to others, who may be inside. */
+static inline void ctrie_shared_wait(uint32_t *tries) {
+    uint32_t pause;
+    if (*tries >= 64) {
+        sched_yield();
+        return;
+    }
+    ++*tries;
+    for (pause = 0; pause < 16 * *tries; pause++) {
+#if defined(__GNUC__) && (defined(__x86_64__) || defined(__i386__))
+        __builtin_ia32_pause();
+#elif defined(__GNUC__)
+        __asm__ volatile("" ::: "memory");
+#endif
+    }
+}
+
+/* Makes this call until it comes in. */
+#define CTRIE_SHARED_WAIT(call)                       \
+    do {                                              \
+        uint32_t ctrie_tries = 0, ctrie_told;         \
+        while ((ctrie_told = (call)) == CTRIE_BUSY)   \
+            ctrie_shared_wait(&ctrie_tries);          \
+        return ctrie_told;                            \
+    } while (0)
+
+/* YES with the key's value, or NO; for the value's place NULL may stand. NO_HANDLE. */
+CTRIE_MUST_USE
+static inline uint32_t ctrie_shared_get(struct ctrie_seat *seat, uint16_t handle, uint64_t key, uint64_t *value) {
+    uint64_t unwanted;
+    CTRIE_SHARED_WAIT(ctrie_shared_try_get(seat, handle, key, value ? value : &unwanted));
+}
+
+/* YES where the key has a value, else NO. NO_HANDLE. */
+CTRIE_MUST_USE
+static inline uint32_t ctrie_shared_contains(struct ctrie_seat *seat, uint16_t handle, uint64_t key) {
+    CTRIE_SHARED_WAIT(ctrie_shared_try_contains(seat, handle, key));
+}
+
+/* DONE with how many keys have a value. Others wait while it walks over them. NO_HANDLE, MEMORY. */
+CTRIE_MUST_USE
+static inline uint32_t ctrie_shared_count(struct ctrie_seat *seat, uint16_t handle, uint64_t *count) {
+    CTRIE_SHARED_WAIT(ctrie_shared_try_count(seat, handle, count));
+}
+
+/* DONE with how many keys have a value; the first of them are written with their values in ascending order of keys,
+   as many as there is room for: all of one moment. Others wait while all are listed, in memory for all. NO_HANDLE,
+   MEMORY. */
+CTRIE_MUST_USE
+static inline uint32_t ctrie_shared_entries(struct ctrie_seat *seat, uint16_t handle, struct ctrie_pair *pairs,
+                                            size_t room, uint64_t *count) {
+    CTRIE_SHARED_WAIT(ctrie_shared_try_entries(seat, handle, pairs, room, count));
+}
+
+/* DONE with how many handles are open. */
+CTRIE_MUST_USE
+static inline uint32_t ctrie_shared_handles(struct ctrie_seat *seat, uint64_t *handles) {
+    CTRIE_SHARED_WAIT(ctrie_shared_try_handles(seat, handles));
+}
+
+/* DONE with how many slots no open handle reaches. */
+CTRIE_MUST_USE
+static inline uint32_t ctrie_shared_free_slots(struct ctrie_seat *seat, uint64_t *free) {
+    CTRIE_SHARED_WAIT(ctrie_shared_try_free_slots(seat, free));
+}
+
+/* YES where so many calls have been made, else NO. Who was told the number of another seat's call, by
+   ctrie_shared_last, and hears of it, calls behind it from then on. */
+CTRIE_MUST_USE
+static inline uint32_t ctrie_shared_hear(struct ctrie_seat *seat, uint64_t calls) {
+    CTRIE_SHARED_WAIT(ctrie_shared_try_hear(seat, calls));
+}
+
+/* As ctrie_put: NO_HANDLE, READ_ONLY, FULL, WORN_OUT, CROWDED. */
+CTRIE_MUST_USE
+static inline uint32_t ctrie_shared_put(struct ctrie_seat *seat, uint16_t handle, uint64_t key, uint64_t value,
+                                        uint64_t *before) {
+    uint64_t unwanted;
+    CTRIE_SHARED_WAIT(ctrie_shared_try_put(seat, handle, key, value, before ? before : &unwanted));
+}
+
+/* As ctrie_put_if_absent: NO_HANDLE, READ_ONLY, FULL, WORN_OUT, CROWDED. */
+CTRIE_MUST_USE
+static inline uint32_t ctrie_shared_put_if_absent(struct ctrie_seat *seat, uint16_t handle, uint64_t key,
+                                                  uint64_t value, uint64_t *before) {
+    uint64_t unwanted;
+    CTRIE_SHARED_WAIT(ctrie_shared_try_put_if_absent(seat, handle, key, value, before ? before : &unwanted));
+}
+
+/* As ctrie_replace: NO_HANDLE, READ_ONLY, FULL, WORN_OUT. */
+CTRIE_MUST_USE
+static inline uint32_t ctrie_shared_replace(struct ctrie_seat *seat, uint16_t handle, uint64_t key, uint64_t value,
+                                            uint64_t *before) {
+    uint64_t unwanted;
+    CTRIE_SHARED_WAIT(ctrie_shared_try_replace(seat, handle, key, value, before ? before : &unwanted));
+}
+
+/* As ctrie_replace_if: NO_HANDLE, READ_ONLY, FULL, WORN_OUT. A counter is a get and this, again where it tells NO. */
+CTRIE_MUST_USE
+static inline uint32_t ctrie_shared_replace_if(struct ctrie_seat *seat, uint16_t handle, uint64_t key,
+                                               uint64_t before, uint64_t value) {
+    CTRIE_SHARED_WAIT(ctrie_shared_try_replace_if(seat, handle, key, before, value));
+}
+
+/* As ctrie_remove: NO_HANDLE, READ_ONLY, FULL, WORN_OUT. */
+CTRIE_MUST_USE
+static inline uint32_t ctrie_shared_remove(struct ctrie_seat *seat, uint16_t handle, uint64_t key, uint64_t *before) {
+    uint64_t unwanted;
+    CTRIE_SHARED_WAIT(ctrie_shared_try_remove(seat, handle, key, before ? before : &unwanted));
+}
+
+/* As ctrie_remove_if: NO_HANDLE, READ_ONLY, FULL, WORN_OUT. */
+CTRIE_MUST_USE
+static inline uint32_t ctrie_shared_remove_if(struct ctrie_seat *seat, uint16_t handle, uint64_t key, uint64_t value) {
+    CTRIE_SHARED_WAIT(ctrie_shared_try_remove_if(seat, handle, key, value));
+}
+
+/* As ctrie_clear: NO_HANDLE, READ_ONLY, FULL, WORN_OUT. */
+CTRIE_MUST_USE
+static inline uint32_t ctrie_shared_clear(struct ctrie_seat *seat, uint16_t handle) {
+    CTRIE_SHARED_WAIT(ctrie_shared_try_clear(seat, handle));
+}
+
+/* As ctrie_snapshot: NO_HANDLE, HANDLES_FULL, FULL, WORN_OUT. */
+CTRIE_MUST_USE
+static inline uint32_t ctrie_shared_snapshot(struct ctrie_seat *seat, uint16_t handle, uint16_t *copy) {
+    CTRIE_SHARED_WAIT(ctrie_shared_try_snapshot(seat, handle, copy));
+}
+
+/* As ctrie_freeze: NO_HANDLE, HANDLES_FULL, FULL, WORN_OUT. */
+CTRIE_MUST_USE
+static inline uint32_t ctrie_shared_freeze(struct ctrie_seat *seat, uint16_t handle, uint16_t *copy) {
+    CTRIE_SHARED_WAIT(ctrie_shared_try_freeze(seat, handle, copy));
+}
+
+/* As ctrie_close: NO_HANDLE, WORN_OUT. */
+static inline uint32_t ctrie_shared_close(struct ctrie_seat *seat, uint16_t handle) {
+    CTRIE_SHARED_WAIT(ctrie_shared_try_close(seat, handle));
+}
+
+#ifdef __cplusplus
+}
+#endif
+
+#endif
