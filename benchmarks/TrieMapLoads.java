@@ -1,7 +1,8 @@
 // Scala's TrieMap under the loads of bench_program and bench_shared: java -cp scala-library.jar:. TrieMapLoads LOAD THREADS OPERATIONS KEYS
 // LOAD is mix (get, put, remove 6 : 6 : 4), get, put, insert (each key once, in ascending order) or copy (a snapshot that is only read, and
 // the first put after it). It makes so many operations in each of eight rounds, and prints the nanoseconds an operation of the fastest one:
-// of all threads together, as the clock on the wall has it.
+// of all threads together, as the clock on the wall has it. LOAD heap inserts KEYS spread keys, and prints the bytes a key of the heap behind
+// a collection, boxed keys and values among them, and the inserts a second.
 import scala.collection.concurrent.TrieMap;
 
 public class TrieMapLoads {
@@ -35,8 +36,27 @@ public class TrieMapLoads {
         return seen;
     }
 
+    static long collected() {
+        Runtime runtime = Runtime.getRuntime();
+        for (int n = 0; n < 5; n++) System.gc();
+        return runtime.totalMemory() - runtime.freeMemory();
+    }
+
+    static void weigh(int keys) {
+        long before = collected(), start = System.nanoTime();
+        TrieMap<Long, Long> map = new TrieMap<>();
+        for (long n = 0; n < keys; n++) map.put((n + 1) * 0x9E3779B97F4A7C15L, n);
+        double took = System.nanoTime() - start;
+        double heap = collected() - before;
+        System.out.printf("TrieMap, %d keys: %.0f bytes a key, %.0f inserts a second%n", map.size(), heap / keys, 1e9 * keys / took);
+    }
+
     public static void main(String[] words) throws Exception {
         String load = words[0];
+        if (load.equals("heap")) {
+            weigh(Integer.parseInt(words[3]));
+            return;
+        }
         int threads = Integer.parseInt(words[1]), keys = Integer.parseInt(words[3]);
         long operations = Long.parseLong(words[2]);
         double best = Double.MAX_VALUE;
