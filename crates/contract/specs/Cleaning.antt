@@ -28,17 +28,17 @@ use Rattle.contract.specs.declared.clean.Cleaned.TheVariants.{Cleaned, NoSlots, 
 -- ---- where it stands
 
 abbrev pub clean_line_at : List Ref → Swap → Option ℕ → Ref → List Ref → CleanAt → Line
-clean_line_at path s told main done at.Read = line.Clean (clean.Read path (read_of s.read told))
-clean_line_at path s told main done at.Main = line.Clean (clean.Main path main)
-clean_line_at path s told main done at.Entry = line.Clean (clean.Entry path main done)
-clean_line_at path s told main done at.Child = line.Clean (clean.Child path main done (read_of s.read told))
-clean_line_at path s told main done (at.Tomb child) = line.Clean (clean.Tomb path main done child)
-clean_line_at path s told main done at.Contracted = line.Clean (clean.Contracted path main done)
-clean_line_at path s told main done at.Swap = line.Swap purpose.Clean (swap_of s told)
+clean_line_at path s root_seen main done at.Read = line.Clean (clean.Read path (read_of s.read root_seen))
+clean_line_at path s root_seen main done at.Main = line.Clean (clean.Main path main)
+clean_line_at path s root_seen main done at.Entry = line.Clean (clean.Entry path main done)
+clean_line_at path s root_seen main done at.Child = line.Clean (clean.Child path main done (read_of s.read root_seen))
+clean_line_at path s root_seen main done (at.Tomb child) = line.Clean (clean.Tomb path main done child)
+clean_line_at path s root_seen main done at.Contracted = line.Clean (clean.Contracted path main done)
+clean_line_at path s root_seen main done at.Swap = line.Swap purpose.Clean (swap_of s root_seen)
 
 -- the definition's line of a cleaning below the end of this path, whose READ and SWAP were told this of the root's generation
 abbrev pub clean_line : List Ref → Swap → Option ℕ → Clean → Line
-clean_line path s told c = clean_line_at path s told c.main c.done.items c.at
+clean_line path s root_seen c = clean_line_at path s root_seen c.main c.done.items c.at
 
 -- the definition's line after a cleaning that came to this
 abbrev pub line_behind : Outcome → Line

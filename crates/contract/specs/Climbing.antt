@@ -35,14 +35,14 @@ abbrev pub climb_of : List Ref → Climb → Defined
 climb_of path c = record { path = path; single = c.single; former = c.former }
 
 abbrev pub climb_line_at : Swap → Option ℕ → Defined → ClimbAt → Line
-climb_line_at s told c at.Read = line.Climb (climb.Read c (read_of s.read told))
-climb_line_at s told c (at.Main main) = line.Climb (climb.Main c main)
-climb_line_at s told c (at.Contracted main) = line.Climb (climb.Contracted c main)
-climb_line_at s told c at.Swap = line.Swap (purpose.Climb c) (swap_of s told)
+climb_line_at s root_seen c at.Read = line.Climb (climb.Read c (read_of s.read root_seen))
+climb_line_at s root_seen c (at.Main main) = line.Climb (climb.Main c main)
+climb_line_at s root_seen c (at.Contracted main) = line.Climb (climb.Contracted c main)
+climb_line_at s root_seen c at.Swap = line.Swap (purpose.Climb c) (swap_of s root_seen)
 
 -- the definition's line of a climb from the end of this path, whose READ and SWAP were told this of the root's generation
 abbrev pub climb_line : List Ref → Swap → Option ℕ → Climb → Line
-climb_line path s told c = climb_line_at s told (climb_of path c) c.at
+climb_line path s root_seen c = climb_line_at s root_seen (climb_of path c) c.at
 
 -- the definition's line after a climb that came to this
 abbrev pub line_behind : Operation → Defined → Outcome → Line

@@ -27,15 +27,15 @@ use Rattle.contract.specs.declared.renew.Renewed.TheVariants.{Renewed, Lost, NoS
 -- ---- where it stands
 
 abbrev pub renew_line_at : List Ref → Swap → Option ℕ → Ref → List Ref → RenewAt → Line
-renew_line_at path s told main done at.Entry = line.Renew (renew.Entry path main done)
-renew_line_at path s told main done at.Read = line.Renew (renew.Read path main done (read_of s.read told))
-renew_line_at path s told main done (at.Link child) = line.Renew (renew.Link path main done child)
-renew_line_at path s told main done at.Branch = line.Renew (renew.Branch path main done)
-renew_line_at path s told main done at.Swap = line.Swap (purpose.Renew path) (swap_of s told)
+renew_line_at path s root_seen main done at.Entry = line.Renew (renew.Entry path main done)
+renew_line_at path s root_seen main done at.Read = line.Renew (renew.Read path main done (read_of s.read root_seen))
+renew_line_at path s root_seen main done (at.Link child) = line.Renew (renew.Link path main done child)
+renew_line_at path s root_seen main done at.Branch = line.Renew (renew.Branch path main done)
+renew_line_at path s root_seen main done at.Swap = line.Swap (purpose.Renew path) (swap_of s root_seen)
 
 -- the definition's line of a renewing of the node at the end of this path, whose READ and SWAP were told this of the root's generation
 abbrev pub renew_line : List Ref → Swap → Option ℕ → Renew → Line
-renew_line path s told r = renew_line_at path s told r.main r.done.items r.at
+renew_line path s root_seen r = renew_line_at path s root_seen r.main r.done.items r.at
 
 -- the line of the next entry behind those that are done, of a branch of so many; where all are done, that of the new branch
 abbrev pub next_of : ℕ → List Ref → Ref → List Ref → Line

@@ -96,7 +96,7 @@ impl Clean {
 
     /// Whether its next step is a READ's, where this is the SWAP of what the operation has in hand.
     pub fn is_reading(&self, swap: &Swap) -> bool
-        ensures { (path : List ARef) (told : Option ℕ) → result ≡ is_some (reading_of (clean_line path swap.now told self.now)) }
+        ensures { (path : List ARef) (root_seen : Option ℕ) → result ≡ is_some (reading_of (clean_line path swap.now root_seen self.now)) }
     {
         match &self.at {
             CleanAt::Read | CleanAt::Child => true,
@@ -107,7 +107,7 @@ impl Clean {
 
     /// The main node that its next step is to swap in, if it is such a step: the change of no operation.
     pub fn published(&self, swap: &Swap) -> Option<Publication>
-        ensures { (operation : Operation) (path : List ARef) (told : Option ℕ) → result ≡ published_by operation (clean_line path swap.now told self.now) }
+        ensures { (operation : Operation) (path : List ARef) (root_seen : Option ℕ) → result ≡ published_by operation (clean_line path swap.now root_seen self.now) }
     {
         match &self.at {
             CleanAt::Read | CleanAt::Main | CleanAt::Entry | CleanAt::Child => None,

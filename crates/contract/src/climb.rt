@@ -94,7 +94,7 @@ impl Climb {
 
     /// Whether its next step is a READ's, where this is the SWAP of what the operation has in hand.
     pub fn is_reading(&self, swap: &Swap) -> bool
-        ensures { (path : List ARef) (told : Option ℕ) → result ≡ is_some (reading_of (climb_line path swap.now told self.now)) }
+        ensures { (path : List ARef) (root_seen : Option ℕ) → result ≡ is_some (reading_of (climb_line path swap.now root_seen self.now)) }
     {
         match &self.at {
             ClimbAt::Read => true,
@@ -105,7 +105,7 @@ impl Climb {
 
     /// The main node that its next step is to swap in, if it is such a step: the change of no operation.
     pub fn published(&self, swap: &Swap) -> Option<Publication>
-        ensures { (operation : Operation) (path : List ARef) (told : Option ℕ) → result ≡ published_by operation (climb_line path swap.now told self.now) }
+        ensures { (operation : Operation) (path : List ARef) (root_seen : Option ℕ) → result ≡ published_by operation (climb_line path swap.now root_seen self.now) }
     {
         match &self.at {
             ClimbAt::Read | ClimbAt::Main { .. } | ClimbAt::Contracted { .. } => None,

@@ -25,24 +25,24 @@ use Rattle.gcas.specs.declared.read.ReadAt.TheVariants as at
 
 -- A pending node is decided by the generation of the root, which a READ on a writable handle asks for first.
 abbrev pub deciding : Access → Option ℕ → Ref → Ref → ReadLine
-deciding ReadOnly told main previous = read.Decide main previous None
+deciding ReadOnly root_seen main previous = read.Decide main previous None
 deciding Writable None main previous = read.AskRoot main previous
 deciding Writable (Some generation) main previous = read.Decide main previous (Some generation)
 
 abbrev pub line_at : Access → Option ℕ → ReadAt → ReadLine
-line_at access told at.Main = read.Main
-line_at access told (at.Prev main) = read.Prev main
-line_at access told (at.Decide main previous) = deciding access told main previous
-line_at access told (at.Restore main previous) = read.Restore main previous
-line_at access told (at.Given main) = read.Main
+line_at access root_seen at.Main = read.Main
+line_at access root_seen (at.Prev main) = read.Prev main
+line_at access root_seen (at.Decide main previous) = deciding access root_seen main previous
+line_at access root_seen (at.Restore main previous) = read.Restore main previous
+line_at access root_seen (at.Given main) = read.Main
 
 -- the definition's line on which a READ stands that was told this of the root's generation
 abbrev pub line_of : Read → Option ℕ → ReadLine
-line_of r told = line_at r.access told r.at
+line_of r root_seen = line_at r.access root_seen r.at
 
 -- the definition's READ
 abbrev pub read_of : Read → Option ℕ → Defined
-read_of r told = record { indirection = r.indirection; line = line_of r told }
+read_of r root_seen = record { indirection = r.indirection; line = line_of r root_seen }
 
 -- a READ at its beginning
 abbrev pub begun : Access → Ref → Read

@@ -33,7 +33,7 @@ swap_with r replaced fresh place line = record { indirection = r.indirection; re
 
 -- the definition's SWAP that was told this of the root's generation
 abbrev pub swap_of : Swap → Option ℕ → Defined
-swap_of s told = swap_with s.read s.replaced s.fresh s.at (line_of s.read told)
+swap_of s root_seen = swap_with s.read s.replaced s.fresh s.at (line_of s.read root_seen)
 
 -- ---- what a step comes to
 

@@ -191,18 +191,18 @@ impl Read {
     fn decide_by(
         &mut self,
         heap: &mut Heap,
-        told: Option<u64>,
+        root_seen: Option<u64>,
         main: Ref,
         previous: Ref,
     ) -> Next<Ref>
         requires { CanReadAt heap.old.heap self.old.indirection (ReadAt.Decide main previous) }
-        ensures follows { ReadsOn heap.old.heap self.old.access self.old.indirection (Decide main previous told) self.new.at result }
+        ensures follows { ReadsOn heap.old.heap self.old.access self.old.indirection (Decide main previous root_seen) self.new.at result }
         ensures same { self.new ≡ record self.old { at = self.new.at } }
-        ensures heap { heap.new.heap ≡ acted_heap heap.old.heap (read_action self.old.indirection (Decide main previous told)) }
+        ensures heap { heap.new.heap ≡ acted_heap heap.old.heap (read_action self.old.indirection (Decide main previous root_seen)) }
         ensures beside { KeepsBeside heap.old heap.new }
         ensures taken { IsAskingRoot result → ⊥ }
     {
-        let licensed = told == Some(generation_at(heap, self.indirection));
+        let licensed = root_seen == Some(generation_at(heap, self.indirection));
         let verdict = if licensed {
             Prev::None
         } else {

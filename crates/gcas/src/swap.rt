@@ -60,14 +60,14 @@ impl Swap {
 
     /// Whether its next step is its READ's.
     pub fn is_reading(&self) -> bool
-        ensures { (told : Option ℕ) → result ≡ is_some (swapping_read self.now.read.indirection (swap_of self.now told).line) }
+        ensures { (root_seen : Option ℕ) → result ≡ is_some (swapping_read self.now.read.indirection (swap_of self.now root_seen).line) }
     {
         matches!(&self.at, SwapAt::Deciding)
     }
 
     /// The main node that its next step is to swap in, if it is such a step, as the change of this operation or of none.
     pub fn published(&self, changer: Option<Entrant>) -> Option<Publication>
-        ensures { (told : Option ℕ) → result ≡ published_at changer self.now.fresh (swap_of self.now told).line }
+        ensures { (root_seen : Option ℕ) → result ≡ published_at changer self.now.fresh (swap_of self.now root_seen).line }
     {
         match &self.at {
             SwapAt::Publish => Some(Publication {

@@ -69,7 +69,7 @@ pub struct Change {
 impl Change {
     /// Whether its next step is the READ's, inside of this SWAP.
     pub fn is_reading(&self, swap: &Swap) -> bool
-        ensures { (path : List ARef) (told : Option ℕ) → result ≡ is_some (read_of (line_of path swap.now told self.now)) }
+        ensures { (path : List ARef) (root_seen : Option ℕ) → result ≡ is_some (read_of (line_of path swap.now root_seen self.now)) }
     {
         match &self.at {
             ChangeAt::Sibling { .. } | ChangeAt::Build(_) => false,
@@ -90,8 +90,8 @@ impl Change {
 
     /// The main node that its next step is to swap in, if it is such a step: the change of this operation.
     pub fn published(&self, swap: &Swap, changer: Entrant) -> Option<Publication>
-        ensures { (operation : Operation) (path : List ARef) (told : Option ℕ) → result
-            ≡ published_by (record operation { id = changer.id; access = changer.access; generation = changer.generation }) (line_of path swap.now told self.now) }
+        ensures { (operation : Operation) (path : List ARef) (root_seen : Option ℕ) → result
+            ≡ published_by (record operation { id = changer.id; access = changer.access; generation = changer.generation }) (line_of path swap.now root_seen self.now) }
     {
         match &self.at {
             ChangeAt::Sibling { .. } | ChangeAt::Build(_) => None,

@@ -87,8 +87,8 @@ acted state handle (act.ReadMain indirection) = state
 acted state handle (act.Publish indirection replaced fresh) = record state { heap = published state.heap indirection replaced fresh }
 acted state handle (act.Restore indirection main previous) = record state { heap = restored state.heap indirection main previous }
 acted state handle (act.ReadPrev main) = state
-acted state handle (act.Decide indirection main previous told) =
-    record state { heap = decided state.heap main previous (verdict state.heap indirection main previous told) }
+acted state handle (act.Decide indirection main previous root_seen) =
+    record state { heap = decided state.heap main previous (verdict state.heap indirection main previous root_seen) }
 acted state handle (act.Look at) = state
 acted state handle (act.Make node) = record state { heap = taken state.heap node }
 acted state handle (act.MakeRoot main) = new_root_taken state main (next_ref state.heap)

@@ -29,7 +29,7 @@ read_action indirection read.Main = act.ReadMain indirection
 read_action indirection (read.Prev main) = act.ReadPrev main
 read_action indirection (read.AskRoot main previous) = act.ReadRoot
 read_action indirection (read.Abort main previous offer) = act.Abort offer
-read_action indirection (read.Decide main previous told) = act.Decide indirection main previous told
+read_action indirection (read.Decide main previous root_seen) = act.Decide indirection main previous root_seen
 read_action indirection (read.Restore main previous) = act.Restore indirection main previous
 
 -- What comes after each line; the word that it reads stands last.
@@ -48,7 +48,7 @@ after_ask heap main previous (Offer offer) = Goes (read.Abort main previous offe
 
 -- the root was told to have the indirection's generation
 abbrev pub is_licensed : Heap → Ref → Option ℕ → Bool
-is_licensed heap indirection told = option_eq nat_eq told (Some (generation_at heap indirection))
+is_licensed heap indirection root_seen = option_eq nat_eq root_seen (Some (generation_at heap indirection))
 
 abbrev pub is_pending : Prev → Ref → Bool
 is_pending prev.None previous = false
@@ -68,7 +68,7 @@ verdict_by false true = Fails
 verdict_by licensed false = Overtaken licensed
 
 abbrev pub verdict : Heap → Ref → Ref → Ref → Option ℕ → Verdict
-verdict heap indirection main previous told = verdict_by (is_licensed heap indirection told) (is_pending (prev_at heap main) previous)
+verdict heap indirection main previous root_seen = verdict_by (is_licensed heap indirection root_seen) (is_pending (prev_at heap main) previous)
 
 -- after deciding: what another decided is read again
 abbrev pub after_decide : Ref → Verdict → After ReadLine Ref
@@ -88,8 +88,8 @@ read_after heap access word indirection read.Main = Goes (read.Prev (main_at hea
 read_after heap access word indirection (read.Prev main) = after_prev access main (prev_at heap main)
 read_after heap access word indirection (read.AskRoot main previous) = after_ask heap main previous word
 read_after heap access word indirection (read.Abort main previous offer) = Goes (read.AskRoot main previous)
-read_after heap access word indirection (read.Decide main previous told) =
-    after_decide main (verdict heap indirection main previous told)
+read_after heap access word indirection (read.Decide main previous root_seen) =
+    after_decide main (verdict heap indirection main previous root_seen)
 read_after heap access word indirection (read.Restore main previous) = after_restore previous (main_at heap indirection == main)
 
 abbrev pub at_indirection : Ref → After ReadLine Ref → After Read Ref
@@ -111,5 +111,5 @@ committed_so main other = None
 
 -- the main node that a step of a READ commits, if it does
 abbrev pub committed_by : Heap → Ref → ReadLine → Option Ref
-committed_by heap indirection (read.Decide main previous told) = committed_so main (verdict heap indirection main previous told)
+committed_by heap indirection (read.Decide main previous root_seen) = committed_so main (verdict heap indirection main previous root_seen)
 committed_by heap indirection line = None

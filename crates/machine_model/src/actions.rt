@@ -44,7 +44,7 @@ pub enum Action {
         indirection: Ref,
         main: Ref,
         previous: Ref,
-        told: Option<u64>,
+        root_seen: Option<u64>,
     },
     /// Looks at a slot that never changes.
     Look {

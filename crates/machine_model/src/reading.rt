@@ -36,7 +36,7 @@ pub enum ReadLine {
     Decide {
         main: Ref,
         previous: Ref,
-        told: Option<u64>,
+        root_seen: Option<u64>,
     },
     /// The node has failed: puts `previous` back in its place.
     Restore {

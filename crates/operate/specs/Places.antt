@@ -26,25 +26,25 @@ use Rattle.operate.specs.declared.key_op.BelowAt.{BelowAt}
 use Rattle.operate.specs.declared.key_op.BelowAt.TheVariants as at
 
 abbrev pub below_line : KeyOp → Option ℕ → BelowAt → Line
-below_line op told at.Read = line.Key (key.Read op.path (read_of op.work.swap.read told))
-below_line op told (at.Main main) = line.Key (key.Main op.path main)
-below_line op told (at.Entry main position) = line.Key (key.Entry op.path main position)
-below_line op told (at.Listed main position) = line.Key (key.Listed op.path main position)
-below_line op told at.Change = change_line op.path op.work.swap told op.change
-below_line op told at.Renew = renew_line op.path op.work.swap told op.renew
-below_line op told at.Clean = clean_line (above op.path) op.work.swap told op.clean
-below_line op told at.Climb = climb_line op.path op.work.swap told op.climb
-below_line op told at.End = line.End (reply_of op.reply)
-below_line op told at.Impossible = impossible
+below_line op root_seen at.Read = line.Key (key.Read op.path (read_of op.work.swap.read root_seen))
+below_line op root_seen (at.Main main) = line.Key (key.Main op.path main)
+below_line op root_seen (at.Entry main position) = line.Key (key.Entry op.path main position)
+below_line op root_seen (at.Listed main position) = line.Key (key.Listed op.path main position)
+below_line op root_seen at.Change = change_line op.path op.work.swap root_seen op.change
+below_line op root_seen at.Renew = renew_line op.path op.work.swap root_seen op.renew
+below_line op root_seen at.Clean = clean_line (above op.path) op.work.swap root_seen op.clean
+below_line op root_seen at.Climb = climb_line op.path op.work.swap root_seen op.climb
+below_line op root_seen at.End = line.End (reply_of op.reply)
+below_line op root_seen at.Impossible = impossible
 
 abbrev pub key_line_at : KeyOp → Option ℕ → KeyAt → Line
-key_line_at op told Root = line.Root (root_of op.root op.work.swap.read told)
-key_line_at op told RootAgain = line.Climb (climb.Root (climb_of op.path op.climb) (root_of op.root op.work.swap.read told))
-key_line_at op told (Down place) = below_line op told place
+key_line_at op root_seen Root = line.Root (root_of op.root op.work.swap.read root_seen)
+key_line_at op root_seen RootAgain = line.Climb (climb.Root (climb_of op.path op.climb) (root_of op.root op.work.swap.read root_seen))
+key_line_at op root_seen (Down place) = below_line op root_seen place
 
 -- the definition's line of a call whose READ was told this of the root's generation
 abbrev pub key_line : KeyOp → Option ℕ → Line
-key_line op told = key_line_at op told op.at
+key_line op root_seen = key_line_at op root_seen op.at
 
 -- the definition's line after a change was committed, of a main node that is a tomb of this single, if it is one
 abbrev pub changed_line : Operation → List Ref → Option ℕ → Option Ref → Line

@@ -27,5 +27,5 @@ pub record IsOfKey (roots : Table) (handle : ℕ) (after : Table) (action : Acti
 -- a law: so it is with each step of a call on one key
 abbrev pub ActsOfKey : Type 0
 ActsOfKey =
-    (state : State) → (operation : Operation) → (roots : Table) → (handle : ℕ) → (op : KeyOp) → (told : Option ℕ) →
-    IsOfKey roots handle (table_after roots handle op) (line_action state operation (key_line op told))
+    (state : State) → (operation : Operation) → (roots : Table) → (handle : ℕ) → (op : KeyOp) → (root_seen : Option ℕ) →
+    IsOfKey roots handle (table_after roots handle op) (line_action state operation (key_line op root_seen))

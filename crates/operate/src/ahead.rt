@@ -17,7 +17,7 @@ impl KeyOp {
     /// Whether its next step is a READ's.
     #[inline(always)]
     pub fn is_reading(&self) -> bool
-        ensures { (told : Option ℕ) → result ≡ is_some (read_of (key_line self.now told)) }
+        ensures { (root_seen : Option ℕ) → result ≡ is_some (read_of (key_line self.now root_seen)) }
     {
         match &self.at {
             KeyAt::Root => self.root.is_reading(),
@@ -40,8 +40,8 @@ impl KeyOp {
     /// The main node that its next step is to swap in, if it is such a step, for the operation with this id. It is the operation's
     /// change of its key, or where it repairs the change of none.
     pub fn published(&self, id: u64) -> Option<Publication>
-        ensures { (told : Option ℕ) (operation : Operation) → result
-            ≡ published_by (record operation { id = id; access = self.now.work.swap.read.access; generation = self.now.task.generation }) (key_line self.now told) }
+        ensures { (root_seen : Option ℕ) (operation : Operation) → result
+            ≡ published_by (record operation { id = id; access = self.now.work.swap.read.access; generation = self.now.task.generation }) (key_line self.now root_seen) }
     {
         match &self.at {
             KeyAt::Root => None,
@@ -96,7 +96,7 @@ impl KeyOp {
 
     /// The reply with which it ends by its next step, if it does.
     pub fn reply(&self) -> Option<KeyReply>
-        ensures { (told : Option ℕ) → answer_of (key_line self.now told) ≡ option_map reply_of result }
+        ensures { (root_seen : Option ℕ) → answer_of (key_line self.now root_seen) ≡ option_map reply_of result }
     {
         match &self.at {
             KeyAt::Root => None,

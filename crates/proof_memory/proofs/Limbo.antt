@@ -5,3 +5,4 @@ pub mod Zeros
 pub mod Sweeps
 pub mod Ranks
 pub mod Measure
+pub mod Nearing

@@ -48,7 +48,7 @@ complete_with offer place line = record { offer = offer; line = complete_line_at
 
 -- the definition's COMPLETE that was told this of the root's generation
 abbrev pub complete_of : Complete → Read → Option ℕ → DefinedComplete
-complete_of c r told = complete_with c.offer c.at (line_of r told)
+complete_of c r root_seen = complete_with c.offer c.at (line_of r root_seen)
 
 abbrev pub IsAskingIn : CompleteLine → Type 0
 IsAskingIn (complete.Reading line) = IsAsking line
@@ -91,8 +91,8 @@ KeepsUnlessSwapped before after roots now (at.Swap main) = Moves before after ro
 
 -- the definition's ROOT that was told this of the root's generation
 abbrev pub root_of : ReadRoot → Read → Option ℕ → RootLine
-root_of rooting.Read r told = root.Read
-root_of (rooting.Completing c) r told = root.Completing (complete_of c r told)
+root_of rooting.Read r root_seen = root.Read
+root_of (rooting.Completing c) r root_seen = root.Completing (complete_of c r root_seen)
 
 abbrev pub IsAskingRooting : RootLine → Type 0
 IsAskingRooting root.Read = ⊥

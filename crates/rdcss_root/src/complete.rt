@@ -54,7 +54,7 @@ impl Complete {
 
     /// Whether its next step is its READ's.
     pub fn is_reading(&self) -> bool
-        ensures { (r : ARead) (told : Option ℕ) → result ≡ is_some (completing_read self.now.offer (complete_of self.now r told).line) }
+        ensures { (r : ARead) (root_seen : Option ℕ) → result ≡ is_some (completing_read self.now.offer (complete_of self.now r root_seen).line) }
     {
         matches!(&self.at, CompleteAt::Reading)
     }

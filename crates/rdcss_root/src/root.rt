@@ -31,7 +31,7 @@ pub enum ReadRoot {
 impl ReadRoot {
     /// Whether its next step is its READ's.
     pub fn is_reading(&self) -> bool
-        ensures { (r : ARead) (told : Option ℕ) → result ≡ is_some (rooting_read (root_of self.now r told)) }
+        ensures { (r : ARead) (root_seen : Option ℕ) → result ≡ is_some (rooting_read (root_of self.now r root_seen)) }
     {
         match self {
             ReadRoot::Read => false,

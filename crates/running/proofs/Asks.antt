@@ -213,19 +213,19 @@ waits (Met offer) l ask = ask
 waits (Told g) l ask = ask
 
 -- where it stands matters neither to the generation that it was told nor to its call
-same_generation : (program : Program) (p : Programs) (asking : Asking) → generation_in program (record p { stage = Runs; asking = asking }) ≡ generation_in program p
+same_generation : (program : Program) (p : Programs) (asking : Asking) → generation_in program (record p { at = Runs; asking = asking }) ≡ generation_in program p
 same_generation (Key call) p asking = refl
 same_generation (Copy call) p asking = refl
 same_generation (Walk call) p asking = refl
 same_generation Close p asking = refl
 
-same_call : (program : Program) (p : Programs) (asking : Asking) → IsBegun program p → IsBegun program (record p { stage = Runs; asking = asking })
+same_call : (program : Program) (p : Programs) (asking : Asking) → IsBegun program p → IsBegun program (record p { at = Runs; asking = asking })
 same_call (Key call) p asking begun = begun
 same_call (Copy call) p asking begun = tt
 same_call (Walk call) p asking begun = tt
 same_call Close p asking begun = tt
 
-same_reads : (program : Program) (p : Programs) (asking : Asking) → ReadsOn program p → ReadsOn program (record p { stage = Runs; asking = asking })
+same_reads : (program : Program) (p : Programs) (asking : Asking) → ReadsOn program p → ReadsOn program (record p { at = Runs; asking = asking })
 same_reads (Key call) p asking stands = stands
 same_reads (Copy call) p asking stands = stands
 same_reads (Walk call) p asking stands = tt
@@ -238,13 +238,13 @@ pub steps : (job : Job) (program : Program) (before : Scene) (asking asking' : A
     table' ≡ table_after_abort before.table job.handle (abort_of asking) →
     ActsInAll before.memory before.table.roots before.programs.key.work.private (ask_action asking) memory' table'.roots before.programs.key.work.private →
     Does job program (asking_line before.programs program Runs asking) before (record { kind = k; committed = None; given = None; counts = false })
-    (record { memory = memory'; table = table'; generation = before.generation; programs = record before.programs { stage = Runs; asking = asking' } })
+    (record { memory = memory'; table = table'; generation = before.generation; programs = record before.programs { at = Runs; asking = asking' } })
 steps job program before asking asking' memory' table' k ask untold begun stands on table acts =
     let p : Programs = before.programs in
     let l : Line = program_line p None program in
     let h : Asks p.key.work.swap.read l = asks p program ask in
     let from : asking_line p program Runs asking ≡ asked_line h.main h.previous asking l = asked p program asking h in
-    let after : Scene = record { memory = memory'; table = table'; generation = before.generation; programs = record p { stage = Runs; asking = asking' } } in
+    let after : Scene = record { memory = memory'; table = table'; generation = before.generation; programs = record p { at = Runs; asking = asking' } } in
     let does : Changes job before (ask_action asking) after =
     record {
       acts = subst (λ (a : Action). ActsInAll before.memory before.table.roots p.key.work.private a memory' table'.roots p.key.work.private)

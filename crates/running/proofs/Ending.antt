@@ -107,7 +107,7 @@ rests job program scene l k action from sound none each = record {
 }
 
 -- the last step of an operation, whose stage tells it
-pub ended : (job : Job) (program : Program) (scene : Scene) (stage : Stage) (answer : Reply) → scene.programs.stage ≡ stage →
+pub ended : (job : Job) (program : Program) (scene : Scene) (stage : Stage) (answer : Reply) → scene.programs.at ≡ stage →
     ((told : Option ℕ) → stage_line scene.programs told program stage ≡ line.End answer) → IsSound program scene.programs →
     Does job program (line_for program scene.programs) scene (record { kind = kind.End; committed = None; given = None; counts = false }) scene
 ended job program scene stage answer at is sound =
@@ -117,7 +117,7 @@ ended job program scene stage answer at is sound =
     sound tt (λ state operation. record { does = refl; kind_is = refl; line_is = refl; reads = refl; keeps = refl; counts = refl })
 
 -- a step to which no machine comes
-pub stuck : (job : Job) (program : Program) (scene : Scene) → scene.programs.stage ≡ Impossible → IsSound program scene.programs →
+pub stuck : (job : Job) (program : Program) (scene : Scene) → scene.programs.at ≡ Impossible → IsSound program scene.programs →
     Does job program (line_for program scene.programs) scene (record { kind = kind.ReadRoot; committed = None; given = None; counts = false }) scene
 stuck job program scene at sound =
     rests job program scene line.Impossible kind.ReadRoot act.ReadRoot

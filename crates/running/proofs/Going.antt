@@ -65,7 +65,7 @@ pub copies : (job : Job) (call : CopyCall) (told : Option ℕ) (before : Scene) 
     let p = before.programs in
     let l = copy_line p.key.work.swap.read told p.copy in
     let task = task_for job call in
-    let after : Programs = record p { stage = stage; asking = Unasked; key = record p.key { work = work }; copy = copy } in
+    let after : Programs = record p { at = stage; asking = Unasked; key = record p.key { work = work }; copy = copy } in
     let as_task : Operation → Operation = λ operation. for_task task p.copy.attempt (mark_of before.table task) p.key.work.swap.read.access operation in
     ((state : State) (operation : Operation) →
     Leads (at_roots state before.memory.heap before.table) (as_task operation) l k (stage_line after None (Copy call) stage) work.swap.read.at) →
@@ -81,7 +81,7 @@ pub copies : (job : Job) (call : CopyCall) (told : Option ℕ) (before : Scene) 
 copies job call told before memory table generation work copy k stage leads acts acted drawn attempt kept access stands =
     let p : Programs = before.programs in
     let l : Line = copy_line p.key.work.swap.read told p.copy in
-    let after : Scene = record { memory = memory; table = table; generation = generation; programs = record p { stage = stage; asking = Unasked; key = record p.key { work = work }; copy = copy } } in
+    let after : Scene = record { memory = memory; table = table; generation = generation; programs = record p { at = stage; asking = Unasked; key = record p.key { work = work }; copy = copy } } in
     let does : Changes job before (action_on l) after = record { acts = acts; table = acted; drawn = drawn; attempt = attempt } in
     let none : SwapsNone l = copy_swaps_none p.key.work.swap.read told p.copy in
     record {
@@ -138,7 +138,7 @@ walked_same handle Count pairs = refl
 pub walks : (job : Job) (call : WalkCall) (told : Option ℕ) (before : Scene) (memory : Memory) (work : Work) (w : AWalk) (k : Kind) (stage : Stage) →
     let p = before.programs in
     let l = walk_line p.key.work.swap.read told p.walk in
-    let after : Programs = record p { stage = stage; asking = Unasked; key = record p.key { work = work }; walk = w } in
+    let after : Programs = record p { at = stage; asking = Unasked; key = record p.key { work = work }; walk = w } in
     ((state : State) (operation : Operation) →
     Leads (at_roots state before.memory.heap before.table) (on_call (walk_call job.handle call) p.key.work.swap.read.access operation) l k (stage_line after None (Walk call) stage)
     work.swap.read.at) →
@@ -157,7 +157,7 @@ walks job call told before memory work w k stage leads acts access stands =
       memory = memory;
       table = before.table;
       generation = before.generation;
-      programs = record p { stage = stage; asking = Unasked; key = record p.key { work = work }; walk = w };
+      programs = record p { at = stage; asking = Unasked; key = record p.key { work = work }; walk = w };
     } in
     let does : Changes job before (action_on l) after =
     record {
@@ -200,7 +200,7 @@ plain_action heap generation action none = (refl, refl)
 pub keys : (job : Job) (call : KeyCall) (told : Option ℕ) (before : Scene) (memory : Memory) (table : Table) (key : KeyOp) (reading : Bool) (k : Kind) (stage : Stage) →
     let p = before.programs in
     let l = key_line p.key told in
-    let after : Programs = record p { stage = stage; asking = Unasked; key = key } in
+    let after : Programs = record p { at = stage; asking = Unasked; key = key } in
     p.key.task.call ≡ call →
     reading ≡ is_some (read_of l) →
     ((state : State) (operation : Operation) → word_at state (handle_of operation.call) ≡ word_in before.table job.handle →
@@ -219,7 +219,7 @@ pub keys : (job : Job) (call : KeyCall) (told : Option ℕ) (before : Scene) (me
 keys job call told before memory table key reading k stage begun reads leads acts acted kept access task stands =
     let p : Programs = before.programs in
     let l : Line = key_line p.key told in
-    let then : Scene = record { memory = memory; table = table; generation = before.generation; programs = record p { stage = stage; asking = Unasked; key = key } } in
+    let then : Scene = record { memory = memory; table = table; generation = before.generation; programs = record p { at = stage; asking = Unasked; key = key } } in
     let word : (state : State) (operation : Operation) → word_at (at_scene state before) (handle_of (key_call job.handle call)) ≡ word_in before.table job.handle =
     λ state operation. ap (word_in before.table) (key_handle job.handle call) in
     record {

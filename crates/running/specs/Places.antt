@@ -68,17 +68,17 @@ operation_for job program table p operation =
 
 -- the line of a program that was told this of the root's generation
 abbrev pub program_line : Programs → Option ℕ → Program → Line
-program_line p told (Key call) = key_line p.key told
-program_line p told (Copy call) = copy_line p.key.work.swap.read told p.copy
-program_line p told (Walk call) = walk_line p.key.work.swap.read told p.walk
-program_line p told Close = line.End reply.Closed
+program_line p root_seen (Key call) = key_line p.key root_seen
+program_line p root_seen (Copy call) = copy_line p.key.work.swap.read root_seen p.copy
+program_line p root_seen (Walk call) = walk_line p.key.work.swap.read root_seen p.walk
+program_line p root_seen Close = line.End reply.Closed
 
 abbrev pub stage_line : Programs → Option ℕ → Program → Stage → Line
-stage_line p told program Runs = program_line p told program
-stage_line p told program (Answered answer) = line_answered answer
-stage_line p told program (Swapped answer) = line_behind answer
-stage_line p told program (Walked call) = line.End (walked_reply (walk_call 0 call) p.walk.pairs.items)
-stage_line p told program Impossible = impossible
+stage_line p root_seen program Runs = program_line p root_seen program
+stage_line p root_seen program (Answered answer) = line_answered answer
+stage_line p root_seen program (Swapped answer) = line_behind answer
+stage_line p root_seen program (Walked call) = line.End (walked_reply (walk_call 0 call) p.walk.pairs.items)
+stage_line p root_seen program Impossible = impossible
 
 -- a READ that has met this offer while it asked takes it back
 abbrev pub met_at : ReadAt → Descriptor → ReadLine
@@ -92,7 +92,7 @@ asking_line p program stage (Told generation) = stage_line p (Some generation) p
 
 -- the definition's line of an operation with this program
 abbrev pub line_for : Program → Programs → Line
-line_for program p = asking_line p program p.stage p.asking
+line_for program p = asking_line p program p.at p.asking
 
 -- only where a READ asks something is known for it
 abbrev pub IsWaiting : Asking → Line → Type 0
@@ -122,5 +122,5 @@ ReadsIn stage program p = Unit {0}
 
 pub record IsSound (program : Program) (p : Programs) : Type 0 where
   pub begun : IsBegun program p
-  pub waits : IsWaiting p.asking (stage_line p None program p.stage)
-  pub reads : ReadsIn p.stage program p
+  pub waits : IsWaiting p.asking (stage_line p None program p.at)
+  pub reads : ReadsIn p.at program p

@@ -108,7 +108,7 @@ CanStage scene program stage = Unit {0}
 
 -- What is going to be changed, or referred to, is in use, and of its kind; what lies in place has room; and what is held can be counted.
 pub record CanStep (scene : Scene) (program : Program) : Type 0 where
-  pub runs : CanStage scene program scene.programs.stage
+  pub runs : CanStage scene program scene.programs.at
   pub abort : CanAbortOn scene.memory scene.table (abort_of scene.programs.asking)
   pub ready : IsReadyBeside scene.memory scene.table.roots scene.programs.key.work.private
   pub attempts : scene.programs.copy.attempt < 2 ^ 64 - 1

@@ -38,7 +38,7 @@ impl Programs {
     {
         let mut asking = asking;
         let kind = asking.step(roots, job.handle, heap);
-        self.stage = Stage::Runs;
+        self.at = Stage::Runs;
         self.asking = asking;
         kind
     }

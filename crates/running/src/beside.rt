@@ -82,7 +82,7 @@ impl Programs {
 
     /// The program took a step of this kind, and goes on.
     pub(crate) fn go_so(&mut self, kind: Kind) -> Ran
-        ensures same { self.new ≡ record self.old { stage = Stage.Runs; asking = Asking.Unasked } }
+        ensures same { self.new ≡ record self.old { at = Stage.Runs; asking = Asking.Unasked } }
         ensures ran { result ≡ Ran.Reading kind }
     {
         self.run_on();
@@ -91,10 +91,10 @@ impl Programs {
 
     /// The program took a step of this kind, and has come to this stage.
     pub(crate) fn come_to(&mut self, stage: Stage, kind: Kind) -> Ran
-        ensures same { self.new ≡ record self.old { stage = stage; asking = Asking.Unasked } }
+        ensures same { self.new ≡ record self.old { at = stage; asking = Asking.Unasked } }
         ensures ran { result ≡ Ran.Reading kind }
     {
-        self.stage = stage;
+        self.at = stage;
         self.asking = Asking::Unasked;
         Ran::Reading(kind)
     }

@@ -39,7 +39,7 @@ pub enum Stage {
 
 /// The programs of an actor's operations, kept in place: one at most is under way.
 pub struct Programs {
-    pub(crate) stage: Stage,
+    pub(crate) at: Stage,
     pub(crate) asking: Asking,
     /// The calls on one key; its READ and its private list are those of all.
     pub(crate) key: KeyOp,
@@ -51,7 +51,7 @@ pub struct Programs {
 impl Drop for Programs {
     fn drop(self) {
         let Programs {
-            stage: _,
+            at: _,
             asking: _,
             key: _,
             copy: _,
@@ -67,7 +67,7 @@ impl Programs {
         ensures private { result.key.work.private ≡ [] }
     {
         Programs {
-            stage: Stage::Impossible,
+            at: Stage::Impossible,
             asking: Asking::Unasked,
             key: KeyOp::new(hashes),
             copy: CopyOp::new(),
@@ -146,7 +146,7 @@ impl Programs {
         ensures { Does job.now program.now (line_for program.now self.old)
             (scene heap.old roots.old generations.old self.old) result (scene heap.new roots.new generations.new self.new) }
     {
-        match &self.stage {
+        match &self.at {
             Stage::Runs => self.step_running(job, program, roots, generations, heap),
             Stage::Answered(_) => Taken::of_kind(Kind::End),
             Stage::Swapped(_) => Taken::of_kind(Kind::End),
@@ -166,7 +166,7 @@ impl Programs {
         generations: &mut u64,
         heap: &mut Heap,
     ) -> Taken
-        requires runs { self.old.stage ≡ Stage.Runs }
+        requires runs { self.old.at ≡ Stage.Runs }
         requires program { CanProgram (scene heap.old roots.old generations.old self.old) program.now }
         requires room { RoomFor program.now self.old }
         requires abort { CanAbortOn heap.old roots.old (abort_of self.old.asking) }
@@ -203,7 +203,7 @@ impl Programs {
         generations: &mut u64,
         heap: &mut Heap,
     ) -> Taken
-        requires runs { self.old.stage ≡ Stage.Runs }
+        requires runs { self.old.at ≡ Stage.Runs }
         requires untold { root_seen ≡ None → self.old.asking ≡ Asking.Unasked }
         requires program { CanProgram (scene heap.old roots.old generations.old self.old) program.now }
         requires room { RoomFor program.now self.old }
@@ -235,7 +235,7 @@ impl Programs {
         generation: u64,
         heap: &mut Heap,
     ) -> Taken
-        requires runs { self.old.stage ≡ Stage.Runs }
+        requires runs { self.old.at ≡ Stage.Runs }
         requires untold { root_seen ≡ None → self.old.asking ≡ Asking.Unasked }
         requires can { CanKey heap.old roots.old self.old.key }
         requires ready { IsReadyBeside heap.old roots.old.roots self.old.key.work.private }
@@ -259,11 +259,11 @@ impl Programs {
     /// Its program runs on, and knows nothing of the root. Where that is so already nothing is written.
     #[inline(always)]
     pub(crate) fn run_on(&mut self)
-        ensures { self.new ≡ record self.old { stage = Stage.Runs; asking = Asking.Unasked } }
+        ensures { self.new ≡ record self.old { at = Stage.Runs; asking = Asking.Unasked } }
     {
-        match &self.stage {
+        match &self.at {
             Stage::Runs => {}
-            _ => self.stage = Stage::Runs,
+            _ => self.at = Stage::Runs,
         }
         match &self.asking {
             Asking::Unasked => {}
@@ -275,9 +275,9 @@ impl Programs {
     /// and then nothing is written.
     #[inline(always)]
     fn go_by_key(&mut self, root_seen: Option<u64>, is_reading: bool, kind: Kind) -> Taken
-        requires runs { self.old.stage ≡ Stage.Runs }
+        requires runs { self.old.at ≡ Stage.Runs }
         requires untold { root_seen ≡ None → self.old.asking ≡ Asking.Unasked }
-        ensures same { self.new ≡ record self.old { stage = Stage.Runs; asking = Asking.Unasked } }
+        ensures same { self.new ≡ record self.old { at = Stage.Runs; asking = Asking.Unasked } }
         ensures taken { result ≡ taken_in is_reading kind self.old.key.work.swap.read.at }
     {
         if root_seen.is_some() {
@@ -289,10 +289,10 @@ impl Programs {
     /// The call on one key took a step of this kind, was in a READ or not, and has come to this stage.
     #[inline(always)]
     fn come_by_key(&mut self, stage: Stage, is_reading: bool, kind: Kind) -> Taken
-        ensures same { self.new ≡ record self.old { stage = stage; asking = Asking.Unasked } }
+        ensures same { self.new ≡ record self.old { at = stage; asking = Asking.Unasked } }
         ensures taken { result ≡ taken_in is_reading kind self.old.key.work.swap.read.at }
     {
-        self.stage = stage;
+        self.at = stage;
         self.asking = Asking::Unasked;
         Taken::by_key(is_reading, kind, &self.key.work.swap.read.at)
     }

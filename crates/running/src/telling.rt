@@ -26,7 +26,7 @@ impl Programs {
         ensures reply { result ≡ answer_of (line_for program self.old) }
         ensures same { self.new ≡ record self.old { walk = self.new.walk } }
     {
-        match &self.stage {
+        match &self.at {
             Stage::Runs => self.at_once(program),
             Stage::Answered(reply) => Some(key_reply(*reply)),
             Stage::Swapped(reply) => Some(reply_of(*reply)),
@@ -42,7 +42,7 @@ impl Programs {
     pub fn copy_reply(&self, program: Program) -> Result<Option<Reply>, AllocError>
         ensures { IfOk result (λ reply. reply ≡ answer_of (line_for program self.now)) }
     {
-        Ok(match &self.stage {
+        Ok(match &self.at {
             Stage::Runs => self.at_once(program),
             Stage::Answered(reply) => Some(key_reply(*reply)),
             Stage::Swapped(reply) => Some(reply_of(*reply)),
@@ -56,7 +56,7 @@ impl Programs {
     pub fn is_over(&self, program: &Program) -> bool
         ensures { result ≡ is_some (answer_of (line_for program.now self.now)) }
     {
-        match &self.stage {
+        match &self.at {
             Stage::Runs => self.is_at_end(program),
             _ => self.is_over_at(program),
         }
@@ -67,7 +67,7 @@ impl Programs {
     fn is_over_at(&self, program: &Program) -> bool
         ensures { result ≡ is_some (answer_of (line_for program.now self.now)) }
     {
-        match &self.stage {
+        match &self.at {
             Stage::Runs => self.is_at_end(program),
             Stage::Answered(_) => true,
             Stage::Swapped(_) => true,
@@ -79,7 +79,7 @@ impl Programs {
     /// The same where its program runs. Most are calls on one key: that is asked first.
     #[inline(always)]
     fn is_at_end(&self, program: &Program) -> bool
-        ensures { (told : Option ℕ) → result ≡ is_some (answer_of (program_line self.now told program.now)) }
+        ensures { (root_seen : Option ℕ) → result ≡ is_some (answer_of (program_line self.now root_seen program.now)) }
     {
         match program {
             Program::Key(_) => self.key.reply().is_some(),
@@ -90,7 +90,7 @@ impl Programs {
     /// The same, whichever program it is.
     #[inline(never)]
     fn is_at_end_of(&self, program: &Program) -> bool
-        ensures { (told : Option ℕ) → result ≡ is_some (answer_of (program_line self.now told program.now)) }
+        ensures { (root_seen : Option ℕ) → result ≡ is_some (answer_of (program_line self.now root_seen program.now)) }
     {
         match program {
             Program::Key(_) => self.key.reply().is_some(),
@@ -102,7 +102,7 @@ impl Programs {
 
     /// The reply with which the program ends by its next step, if it does.
     fn at_once(&self, program: Program) -> Option<Reply>
-        ensures { (told : Option ℕ) → answer_of (program_line self.now told program) ≡ result }
+        ensures { (root_seen : Option ℕ) → answer_of (program_line self.now root_seen program) ≡ result }
     {
         match program {
             Program::Key(_) => match self.key.reply() {
@@ -122,7 +122,7 @@ impl Programs {
     pub fn published(&self, job: &Job, program: &Program) -> Option<Publication>
         ensures { (table : Table) (operation : Operation) → result ≡ published_by (operation_for job.now program.now table self.now operation) (line_for program.now self.now) }
     {
-        match &self.stage {
+        match &self.at {
             Stage::Runs => self.published_by_program(job, program),
             Stage::Answered(_) => None,
             Stage::Swapped(_) => None,
@@ -134,8 +134,8 @@ impl Programs {
     /// The same, where its program runs.
     #[inline(always)]
     fn published_by_program(&self, job: &Job, program: &Program) -> Option<Publication>
-        ensures { (table : Table) (operation : Operation) (told : Option ℕ) →
-            published_by (operation_for job.now program.now table self.now operation) (program_line self.now told program.now) ≡ result }
+        ensures { (table : Table) (operation : Operation) (root_seen : Option ℕ) →
+            published_by (operation_for job.now program.now table self.now operation) (program_line self.now root_seen program.now) ≡ result }
     {
         match program {
             Program::Key(_) => self.key.published(job.id),
@@ -150,7 +150,7 @@ impl Programs {
         requires sound { IsSound program self.now }
         ensures { (state : State) (operation : Operation) → result ≡ kind_of (line_action state operation (line_for program self.now)) }
     {
-        match &self.stage {
+        match &self.at {
             Stage::Runs => self.running_kind(program),
             Stage::Answered(_) => Kind::End,
             Stage::Swapped(_) => Kind::End,

@@ -53,15 +53,15 @@ made_node generation (making.Empty main) = empty_branch
 made_node generation (making.Cleared main branch) = Indirection generation branch
 
 abbrev pub copy_line_at : Ref → Read → Option ℕ → CopyAt → Line
-copy_line_at root r told (at.Root l) = line.Root (root_of l r told)
-copy_line_at root r told at.Read = line.Copy (copy.Read root (read_of r told))
-copy_line_at root r told (at.Make m) = line.Copy (making_line root m)
-copy_line_at root r told (at.Offer offer) = line.Copy (copy.Offer offer.descriptor)
-copy_line_at root r told (at.Complete c) = line.Copy (copy.Complete (complete_of c r told))
+copy_line_at root r root_seen (at.Root l) = line.Root (root_of l r root_seen)
+copy_line_at root r root_seen at.Read = line.Copy (copy.Read root (read_of r root_seen))
+copy_line_at root r root_seen (at.Make m) = line.Copy (making_line root m)
+copy_line_at root r root_seen (at.Offer offer) = line.Copy (copy.Offer offer.descriptor)
+copy_line_at root r root_seen (at.Complete c) = line.Copy (copy.Complete (complete_of c r root_seen))
 
 -- the definition's line of a snapshot, freeze or clear whose READ was told this of the root's generation
 abbrev pub copy_line : Read → Option ℕ → CopyOp → Line
-copy_line r told s = copy_line_at s.root r told s.at
+copy_line r root_seen s = copy_line_at s.root r root_seen s.at
 
 -- what its step does
 abbrev pub action_on : Line → Action

@@ -10,8 +10,8 @@ use Rattle.snapshot.specs.Walks.{walk_line}
 
 -- a law: a snapshot, freeze or clear that was told this stands where it stood, but for its READ
 abbrev pub TellsCopy : Type 0
-TellsCopy = (r : Read) → (told : Option ℕ) → (s : CopyOp) → copy_line r told s ≡ with_read (line_of r told) (copy_line r None s)
+TellsCopy = (r : Read) → (root_seen : Option ℕ) → (s : CopyOp) → copy_line r root_seen s ≡ with_read (line_of r root_seen) (copy_line r None s)
 
 -- a law: so does a walk
 abbrev pub TellsWalk : Type 0
-TellsWalk = (r : Read) → (told : Option ℕ) → (w : Walk) → walk_line r told w ≡ with_read (line_of r told) (walk_line r None w)
+TellsWalk = (r : Read) → (root_seen : Option ℕ) → (w : Walk) → walk_line r root_seen w ≡ with_read (line_of r root_seen) (walk_line r None w)

@@ -40,14 +40,14 @@ on_call call access operation = record operation { call = call; access = access 
 -- ---- where it stands
 
 abbrev pub walk_line_at : Read → Option ℕ → List Ref → List (ℕ × ℕ) → WalkAt → Line
-walk_line_at r told todo pairs at.Root = line.Walk walk.Root
-walk_line_at r told todo pairs at.Read = line.Walk (walk.Read (read_of r told) todo pairs)
-walk_line_at r told todo pairs (at.Main main) = line.Walk (walk.Main main todo pairs)
-walk_line_at r told todo pairs at.Entry = line.Walk (walk.Entry todo pairs)
+walk_line_at r root_seen todo pairs at.Root = line.Walk walk.Root
+walk_line_at r root_seen todo pairs at.Read = line.Walk (walk.Read (read_of r root_seen) todo pairs)
+walk_line_at r root_seen todo pairs (at.Main main) = line.Walk (walk.Main main todo pairs)
+walk_line_at r root_seen todo pairs at.Entry = line.Walk (walk.Entry todo pairs)
 
 -- the definition's line of a walk whose READ was told this of the root's generation
 abbrev pub walk_line : Read → Option ℕ → Walk → Line
-walk_line r told w = walk_line_at r told w.todo.items w.pairs.items w.at
+walk_line r root_seen w = walk_line_at r root_seen w.todo.items w.pairs.items w.at
 
 -- it has still to begin
 abbrev pub IsAtBegin : Walk → Type 0
