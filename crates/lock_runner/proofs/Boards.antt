@@ -9,7 +9,7 @@ use Rattle.lock_runner.specs.Beneath.machine_model.specs.declared.steps.Step.The
 use Rattle.lock_runner.specs.Beneath.machine_model.specs.Limits.{bounded}
 use Rattle.lock_runner.specs.Beneath.machine_model.specs.Machine.{Answer, next, run}
 use Rattle.lock_runner.specs.Beneath.machine_model.specs.Records.{Record, record_of}
-use Rattle.step_machine.specs.Machines.{Taken, with_step}
+use Rattle.lock_runner.specs.Beneath.proof_runs.specs.Machines.{Taken, with_step}
 use Rattle.lock_runner.specs.ActorHistory.{account_of}
 use Rattle.lock_runner.specs.ActorHistory.Laws.{IsStepOf}
 use Rattle.lock_runner.specs.Boards.{account_in, is_sweep, sweeps_in, GoesOn, GoesOnWithout, HasFollowed}

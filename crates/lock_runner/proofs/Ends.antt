@@ -6,10 +6,9 @@ use Rattle.std.proofs.lemmas.List.Elements.{All-head, All-tail}
 use Rattle.std.proofs.lemmas.Option.{slice_get_within, unwrap_or-slice_get}
 use Rattle.lock_runner.specs.Beneath.machine_model.specs.declared.steps.Step.TheVariants as step
 use Rattle.lock_runner.specs.Beneath.machine_model.specs.Limits.{bounded}
-use Rattle.step_machine.specs.Machines.{Taken, past_of, AreTaken, fresh}
+use Rattle.lock_runner.specs.Beneath.proof_runs.specs.Machines.{Taken, past_of, AreTaken, fresh}
 use Rattle.step_machine.specs.declared.records.Record.{Record}
-use Rattle.step_machine.specs.Records.{IsRecordOf}
-use Rattle.step_machine.specs.Legality.{IsLegalRecord}
+use Rattle.step_machine.specs.Records.{IsRecordOf, IsLegalRecord}
 use Rattle.history.proofs.Places.{at_seam}
 use Rattle.gate.specs.Logs.{Leads}
 use Rattle.gate.specs.Seats as gate

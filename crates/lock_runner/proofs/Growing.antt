@@ -9,7 +9,7 @@ use Rattle.lock_runner.specs.Beneath.machine_model.specs.Machine.{next, next_sta
 use Rattle.lock_runner.specs.Beneath.machine_model.proofs.Moves.{moved}
 use Rattle.lock_runner.specs.Beneath.machine_model.proofs.Along.{run-append, kept_by_moves}
 use Rattle.lock_runner.specs.Beneath.machine_model.proofs.Frames.{steps_counted}
-use Rattle.step_machine.specs.Machines.{Taken, state_of}
+use Rattle.lock_runner.specs.Beneath.proof_runs.specs.Machines.{Taken, state_of}
 use Rattle.lock_runner.specs.Boards.{HasFollowed}
 
 -- one step more, or none

@@ -12,7 +12,7 @@ use Rattle.lock_runner.specs.Beneath.machine_model.specs.States.{State, operatio
 use Rattle.lock_runner.specs.Beneath.machine_model.specs.Operations.{action_of}
 use Rattle.lock_runner.specs.Beneath.machine_model.specs.Limits.{bounded}
 use Rattle.lock_runner.specs.Beneath.machine_model.specs.Machine.{next, go_unless, go_on, first_reason, is_actor, is_running, is_spent, settled_after, went}
-use Rattle.step_machine.specs.Machines.{Taken, state_of}
+use Rattle.lock_runner.specs.Beneath.proof_runs.specs.Machines.{Taken, state_of}
 use Rattle.lock_runner.specs.declared.accounts.Running.{Running}
 use Rattle.lock_runner.proofs.ActorHistory.Turns.{shown}
 use Rattle.lock_runner.proofs.ActorHistory.Sound.{told, sound_along}

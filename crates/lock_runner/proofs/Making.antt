@@ -7,7 +7,7 @@ use Rattle.lock_runner.specs.Beneath.machine_model.specs.declared.steps.Limits.{
 use Rattle.lock_runner.specs.Beneath.machine_model.specs.States.{first_state}
 use Rattle.lock_runner.specs.Beneath.machine_model.specs.Records.{record_from}
 use Rattle.atomic_table.specs.Seated.{TableId}
-use Rattle.step_machine.specs.Machines.{Taken, fresh}
+use Rattle.lock_runner.specs.Beneath.proof_runs.specs.Machines.{Taken, fresh}
 use Rattle.gate.specs.Logs.{calls_of}
 use Rattle.gate.specs.Opening as gate
 use Rattle.lock_runner.specs.declared.accounts.Answer.{Answer}

@@ -6,8 +6,8 @@ use Rattle.lock_runner.specs.Beneath.machine_model.specs.declared.steps.Step.The
 use Rattle.lock_runner.specs.Beneath.machine_model.specs.declared.steps.Outcome.{Outcome}
 use Rattle.lock_runner.specs.Beneath.machine_model.specs.Limits.{bounded}
 use Rattle.lock_runner.specs.Beneath.machine_model.specs.Machine.{next}
-use Rattle.step_machine.specs.Machines.{Taken, past_of, state_of, with_step, fresh}
-use Rattle.step_machine.proofs.Sweeping.{nearer}
+use Rattle.lock_runner.specs.Beneath.proof_runs.specs.Machines.{Taken, past_of, state_of, with_step, fresh}
+use Rattle.lock_runner.specs.Beneath.proof_runs.proofs.Sweeping.{nearer}
 use Rattle.lock_runner.specs.declared.accounts.Answer.{Answer}
 use Rattle.lock_runner.specs.declared.accounts.Running.{Running}
 use Rattle.lock_runner.specs.declared.asks.Work.{Work}

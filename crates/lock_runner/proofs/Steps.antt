@@ -19,7 +19,7 @@ use Rattle.lock_runner.specs.Beneath.machine_model.specs.Limits.{bounded}
 use Rattle.lock_runner.specs.Beneath.machine_model.proofs.Alike.{alike_along}
 use Rattle.lock_runner.proofs.ActorHistory.Sound.{sound_along}
 use Rattle.lock_runner.specs.Beneath.machine_model.specs.Machine.{next, denial_of}
-use Rattle.step_machine.specs.Machines.{Taken, past_of, state_of}
+use Rattle.lock_runner.specs.Beneath.proof_runs.specs.Machines.{Taken, past_of, state_of}
 use Rattle.lock_runner.specs.declared.accounts.Answer.{Answer}
 use Rattle.lock_runner.specs.declared.accounts.Running.{Running}
 use Rattle.lock_runner.specs.ActorHistory.{Account, begun_at, answered_at}

@@ -6,3 +6,4 @@ pub use Rattle.step_machine.specs.Beneath.slot_arena as slot_arena
 pub use Rattle.step_machine.specs.Beneath.proof_generations as proof_generations
 pub use Rattle.step_machine.specs.Beneath.proof_order as proof_order
 pub use Rattle.step_machine.specs.Beneath.proof_obstruction_free as proof_obstruction_free
+pub use Rattle.step_machine.specs.Beneath.proof_runs as proof_runs

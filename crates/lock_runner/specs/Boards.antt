@@ -2,7 +2,7 @@
 use Rattle.std.specs.Prelude.{◌≡◌, ℕ, Bool, true, false, List, ◌++◌, All, count_by}
 use Rattle.lock_runner.specs.Beneath.machine_model.specs.declared.steps.Step.{Step}
 use Rattle.lock_runner.specs.Beneath.machine_model.specs.declared.steps.Step.TheVariants as step
-use Rattle.step_machine.specs.Machines.{Taken, past_of}
+use Rattle.lock_runner.specs.Beneath.proof_runs.specs.Machines.{Taken, past_of}
 use Rattle.lock_runner.specs.ActorHistory.{Account, account_of}
 use Rattle.lock_runner.specs.ActorHistory.Laws.{IsStepOf}
 

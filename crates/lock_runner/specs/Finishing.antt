@@ -1,9 +1,8 @@
 -- The end of a runner.
 use Rattle.std.specs.Prelude.{◌≡◌, ℕ, ◌≤◌, List, Some, slice_get, sum_by, Result, Ok, Err}
 use Rattle.step_machine.specs.declared.records.Record.{Record}
-use Rattle.step_machine.specs.Machines.{Taken, past_of, AreTaken}
-use Rattle.step_machine.specs.Records.{IsRecordOf}
-use Rattle.step_machine.specs.Legality.{IsLegalRecord}
+use Rattle.lock_runner.specs.Beneath.proof_runs.specs.Machines.{Taken, past_of, AreTaken}
+use Rattle.step_machine.specs.Records.{IsRecordOf, IsLegalRecord}
 use Rattle.lock_runner.specs.ActorHistory.Answers.{AreAnswersOf, RunsNoOther}
 use Rattle.lock_runner.specs.declared.finishing.Unfinished.{Unfinished}
 use Rattle.lock_runner.specs.declared.finishing.Unfinished.TheVariants.{Missing, Memory}

@@ -5,7 +5,7 @@ use Rattle.ctrie_base.specs.declared.refusals.Refusal.TheVariants.{BadLimits, Me
 use Rattle.lock_runner.specs.Beneath.machine_model.specs.declared.steps.Limits.{Limits}
 use Rattle.lock_runner.specs.Beneath.machine_model.specs.Limits.{AreLimits}
 use Rattle.atomic_table.specs.Seated.{TableId}
-use Rattle.step_machine.specs.Machines.{fresh}
+use Rattle.lock_runner.specs.Beneath.proof_runs.specs.Machines.{fresh}
 use Rattle.gate.specs.Logs as log
 use Rattle.lock_runner.specs.Asks.{Pass}
 use Rattle.lock_runner.specs.Seats.{Room, Seated, seated}

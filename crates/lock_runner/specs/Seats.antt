@@ -2,7 +2,7 @@
 use Rattle.std.specs.Prelude.{◌≡◌, ℕ, ◌≤◌, List, Option, None, All, sum_by}
 use Rattle.lock_runner.specs.Beneath.machine_model.specs.declared.steps.Limits.{Limits}
 use Rattle.atomic_table.specs.Seated.{TableId}
-use Rattle.step_machine.specs.Machines.{Taken, fresh, state_of}
+use Rattle.lock_runner.specs.Beneath.proof_runs.specs.Machines.{Taken, fresh, state_of}
 use Rattle.lock_runner.specs.declared.accounts.Answer.{Answer}
 use Rattle.lock_runner.specs.declared.accounts.Running.{Running}
 use Rattle.gate.specs.Logs.{calls_of}

@@ -10,7 +10,7 @@ use Rattle.lock_runner.specs.Beneath.epochs.specs.declared.limbo.Swept.{Swept}
 use Rattle.lock_runner.specs.Beneath.machine_model.specs.declared.steps.Outcome.{Outcome}
 use Rattle.lock_runner.specs.Beneath.machine_model.specs.declared.steps.Outcome.TheVariants as outcome
 use Rattle.lock_runner.specs.Beneath.machine_model.specs.Machine.{next, denial_of}
-use Rattle.step_machine.specs.Machines.{Taken, state_of, with_step}
+use Rattle.lock_runner.specs.Beneath.proof_runs.specs.Machines.{Taken, state_of, with_step}
 use Rattle.lock_runner.specs.declared.accounts.Answer.{Answer}
 use Rattle.lock_runner.specs.declared.accounts.Running.{Running}
 use Rattle.lock_runner.specs.declared.seats.Stop.{Stop}

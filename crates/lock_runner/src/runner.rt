@@ -12,7 +12,7 @@ pub struct Runner {
 
 impl Model for Runner {
     ghost use Rattle.std.specs.Prelude.{◌≡◌};
-    ghost use Rattle.step_machine.specs.Machines.{fresh};
+    ghost use Rattle.lock_runner.specs.Beneath.proof_runs.specs.Machines.{fresh};
     ghost use Rattle.lock_runner.specs.Seats.{Room};
 
     ghost Value = { Room };

@@ -1,6 +1,6 @@
 //! Seats: what each thread keeps of its own calls.
 ghost use Rattle.std.specs.Prelude.{◌≡◌, max};
-ghost use Rattle.step_machine.specs.Machines.{past_of};
+ghost use Rattle.lock_runner.specs.Beneath.proof_runs.specs.Machines.{past_of};
 ghost use Rattle.lock_runner.specs.ActorHistory.Answers.{AreAnswersOf};
 ghost use Rattle.lock_runner.specs.declared.seats.Stop.TheVariants.{Memory};
 

@@ -39,8 +39,8 @@ use Rattle.running.proofs.Asks.{Asks, asked, asks, key_handle}
 use Rattle.running.proofs.Lasting.{tells}
 use Rattle.machine_core.specs.declared.parts.UnderWay.{UnderWay}
 use Rattle.machine_core.specs.Seen.{operation_at}
-use Rattle.proof_records.specs.Laws.{LineHasRoom, MakesNode}
-use Rattle.machine_core.proofs.Claims.{Lives, read_claims, root_live}
+use Rattle.machine_core.specs.Beneath.proof_records.specs.Laws.{LineHasRoom, MakesNode}
+use Rattle.proof_core.proofs.Claims.{Lives, read_claims, root_live}
 use Rattle.machine_core.proofs.Conditions.{Finds, IsLineOf, can_key, can_copy, can_walk, met, told}
 use Rattle.slot_arena.specs.Refs.{birth_limit}
 
@@ -149,8 +149,8 @@ can_step state memory table generation p u line action room makes sound ready bi
       makes = makes;
     } in
     record {
-      runs = can_stage state memory table generation p u root_ready u.program p.stage sound.begun sound.waits sound.reads finds;
-      abort = can_abort state memory table generation p u root_ready u.program p.stage p.asking sound.waits finds;
+      runs = can_stage state memory table generation p u root_ready u.program p.at sound.begun sound.waits sound.reads finds;
+      abort = can_abort state memory table generation p u root_ready u.program p.at p.asking sound.waits finds;
       ready = ready;
       attempts = attempts;
       generations = generations;

@@ -20,15 +20,16 @@ use Rattle.running.specs.Steps.{CanStep, at_scene, scene}
 use Rattle.machine_core.specs.declared.parts.Actor.{Actor}
 use Rattle.machine_core.specs.declared.parts.Parts.{Parts}
 use Rattle.machine_core.specs.declared.parts.UnderWay.{UnderWay}
-use Rattle.machine_core.specs.Bounds.{IsBounded}
-use Rattle.proof_straight.specs.Resting.{IsOfRun}
+use Rattle.proof_core.specs.Bounds.{IsBounded}
+use Rattle.machine_core.specs.Beneath.proof_straight.specs.Resting.{IsOfRun}
 use Rattle.machine_core.specs.Keeping.{IsKept, IsSeated}
 use Rattle.machine_core.specs.Seen.{actor_of, operation_at, operation_seen, seen, under_way_of}
 use Rattle.machine_core.proofs.Able.{can_step}
-use Rattle.machine_core.proofs.Bounded.{bounded}
-use Rattle.machine_core.proofs.Claims.{Lives}
-use Rattle.proof_records.specs.Laws.{MakesNode}
-use Rattle.machine_core.proofs.Held.{claims, few_held, room_left}
+use Rattle.proof_core.proofs.Bounded.{bounded}
+use Rattle.proof_core.proofs.Claims.{Lives}
+use Rattle.machine_core.specs.Beneath.proof_records.specs.Laws.{MakesNode}
+use Rattle.machine_core.proofs.Held.{few_held}
+use Rattle.proof_core.proofs.Given.{claims, room_left}
 use Rattle.machine_core.proofs.Kept.{Seat, operation_there, seat_of, found_operation}
 use Rattle.machine_core.proofs.Tied.{operation_stands, private_held}
 

@@ -15,17 +15,17 @@ use Rattle.machine_core.specs.Beneath.proof_memory.proofs.Claims.Nodes.{main_rea
 use Rattle.machine_core.specs.Beneath.proof_memory.proofs.Claims.Uses.{safe_of}
 use Rattle.machine_core.specs.Beneath.proof_memory.proofs.Holding.Lives.{in_use_lives}
 use Rattle.machine_core.specs.Beneath.proof_memory.proofs.Safety.Base.{handle_given}
-use Rattle.proof_straight.specs.Resting.{IsOfRun}
-use Rattle.proof_straight.specs.Running.{HasEmptySlots, IsAtRest, IsReady, IsUpToDate}
-use Rattle.proof_straight.proofs.Runs.Resting.{free_slots_empty, limbo_up_to_date}
+use Rattle.machine_core.specs.Beneath.proof_straight.specs.Resting.{IsOfRun}
+use Rattle.machine_core.specs.Beneath.proof_straight.specs.Running.{HasEmptySlots, IsAtRest, IsReady, IsUpToDate}
+use Rattle.machine_core.specs.Beneath.proof_straight.proofs.Runs.Resting.{free_slots_empty, limbo_up_to_date}
 use Rattle.machine_core.specs.declared.parts.Parts.{Parts}
 use Rattle.machine_core.specs.Keeping.{IsCore}
 use Rattle.machine_core.specs.Seen.{seen}
 use Rattle.machine_core.specs.Straight.{IsClear, IsFit, LeadsTo}
-use Rattle.machine_core.specs.Tries.{IsTrie}
-use Rattle.machine_core.proofs.Bounded.{bounded}
-use Rattle.machine_core.proofs.Held.{sizes}
-use Rattle.machine_core.proofs.Tries.{nodes_safe, trie_of_run}
+use Rattle.proof_core.specs.Tries.{IsTrie}
+use Rattle.proof_core.proofs.Bounded.{bounded}
+use Rattle.proof_core.proofs.Given.{sizes}
+use Rattle.proof_core.proofs.Tries.{nodes_safe, trie_of_run}
 
 pub empty_slots : (state : State) → IsOfRun state → HasEmptySlots state.heap
 empty_slots state h = subst (λ (s : State). HasEmptySlots s.heap) (sym h.is) (free_slots_empty state.limits h.steps h.limits)

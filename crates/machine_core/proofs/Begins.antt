@@ -26,17 +26,18 @@ use Rattle.running.specs.Places.{IsSound, call_for}
 use Rattle.machine_core.specs.declared.parts.Parts.{Parts}
 use Rattle.machine_core.specs.declared.parts.UnderWay.{UnderWay}
 use Rattle.machine_core.specs.Beginnings.{Begins}
-use Rattle.proof_straight.specs.Resting.{IsOfRun}
+use Rattle.machine_core.specs.Beneath.proof_straight.specs.Resting.{IsOfRun}
 use Rattle.machine_core.specs.Keeping.{AreSeated, IsKept, IsSeated, Replaces}
-use Rattle.machine_core.specs.Numbering.{KnowsNumbers, begun_on}
+use Rattle.proof_core.specs.Numbering.{KnowsNumbers, begun_on}
 use Rattle.machine_core.specs.Seen.{actors_seen, operation_at, operation_seen, seen}
-use Rattle.machine_core.specs.Ties.{IsTied, StandsAt}
-use Rattle.machine_core.proofs.Held.{begin_stands}
+use Rattle.machine_core.specs.Ties.{IsTied}
+use Rattle.proof_core.specs.Standing.{StandsAt}
+use Rattle.proof_core.proofs.Given.{begin_stands}
 use Rattle.machine_core.proofs.Kept.{replaced_seated, replaced_seen}
 use Rattle.machine_core.proofs.Knows.{offer_given, offerers_over, runs_set}
-use Rattle.machine_core.proofs.Mapped.{found_mapped}
+use Rattle.proof_core.proofs.Mapped.{found_mapped}
 use Rattle.machine_core.proofs.Marking.{remarked}
-use Rattle.machine_core.proofs.Reserved.{known_begun}
+use Rattle.proof_core.proofs.Reserved.{known_begun}
 use Rattle.machine_core.proofs.Tied.{begun_tied}
 use Rattle.machine_core.proofs.Becomes.{unset}
 

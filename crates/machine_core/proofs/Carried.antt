@@ -17,16 +17,16 @@ use Rattle.machine_model.specs.Keys.{FitsKey}
 use Rattle.machine_model.specs.declared.steps.Outcome.TheVariants.{Ended}
 use Rattle.machine_model.specs.Records.{first_record}
 use Rattle.machine_model.specs.States.{State, key_hash}
-use Rattle.proof_straight.specs.Changes.{parts_at, with_change, with_pair, with_single}
-use Rattle.proof_straight.specs.Drafts.{Draft, after_call, first_draft, held_with}
-use Rattle.proof_straight.specs.Places.{Finds, HasRoom, Leaves, Misses, beside_other, in_branch, no_entry, steps_down}
-use Rattle.proof_straight.specs.Resting.{IsOfRun}
-use Rattle.proof_straight.specs.Running.{Comes, GoesOn, IsKeyed, starts, walks}
-use Rattle.proof_straight.proofs.Change.Changes.{inserts_straight, removes_straight, sets_straight}
-use Rattle.proof_straight.proofs.Change.Parting.{parts_straight}
-use Rattle.proof_straight.proofs.Way.Unchanged.{answers_straight, misses_straight}
-use Rattle.proof_straight.proofs.Change.Recording.{first_is_record}
-use Rattle.proof_straight.proofs.Runs.ByRuns.{comes_without_record}
+use Rattle.machine_core.specs.Beneath.proof_straight.specs.Changes.{parts_at, with_change, with_pair, with_single}
+use Rattle.machine_core.specs.Beneath.proof_straight.specs.Drafts.{Draft, after_call, first_draft, held_with}
+use Rattle.machine_core.specs.Beneath.proof_straight.specs.Places.{Finds, HasRoom, Leaves, Misses, beside_other, in_branch, no_entry, steps_down}
+use Rattle.machine_core.specs.Beneath.proof_straight.specs.Resting.{IsOfRun}
+use Rattle.machine_core.specs.Beneath.proof_straight.specs.Running.{Comes, GoesOn, IsKeyed, starts, walks}
+use Rattle.machine_core.specs.Beneath.proof_straight.proofs.Change.Changes.{inserts_straight, removes_straight, sets_straight}
+use Rattle.machine_core.specs.Beneath.proof_straight.proofs.Change.Parting.{parts_straight}
+use Rattle.machine_core.specs.Beneath.proof_straight.proofs.Way.Unchanged.{answers_straight, misses_straight}
+use Rattle.machine_core.specs.Beneath.proof_straight.proofs.Change.Recording.{first_is_record}
+use Rattle.machine_core.specs.Beneath.proof_straight.proofs.Runs.ByRuns.{comes_without_record}
 use Rattle.machine_model.specs.declared.building.Change.TheVariants as change
 use Rattle.machine_model.specs.declared.building.Site.TheVariants as site
 use Rattle.machine_core.specs.declared.descending.Entry.{Entry}
@@ -36,13 +36,13 @@ use Rattle.machine_core.specs.declared.parts.Parts.{Parts}
 use Rattle.machine_core.specs.Beneath.nodes.specs.Levels.{flag_of}
 use Rattle.machine_core.specs.Changing.{IsAnswer, IsPut, IsRemoval, looks_at, putting, value_in}
 use Rattle.machine_core.specs.Descending.{EndsAt, IsHere}
-use Rattle.machine_core.specs.Drafting.{CanSwap, IsDraft, KeepsRecords}
+use Rattle.proof_core.specs.Drafting.{CanSwap, IsDraft, KeepsRecords}
 use Rattle.machine_core.specs.Keeping.{IsCore, IsKept}
 use Rattle.machine_core.specs.Pairing.{IsPaired}
 use Rattle.machine_core.specs.Seen.{seen}
 use Rattle.machine_core.specs.Straight.{CanGo, CarriesFrom, CarriesOut, IsFit, LeadsTo}
-use Rattle.machine_core.proofs.Tries.{can_swap_there, entry_lives}
-use Rattle.machine_core.proofs.Bounded.{taken_run}
+use Rattle.proof_core.proofs.Tries.{can_swap_there, entry_lives}
+use Rattle.proof_core.proofs.Bounded.{taken_run}
 use Rattle.machine_core.proofs.Ends.{alike}
 use Rattle.machine_core.proofs.Kept.{kept_alike}
 

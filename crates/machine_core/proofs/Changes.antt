@@ -13,16 +13,16 @@ use Rattle.machine_model.specs.declared.building.Change.TheVariants as change
 use Rattle.machine_model.specs.Building.{changed}
 use Rattle.machine_model.specs.Calls.{key_of, value_of}
 use Rattle.machine_model.specs.States.{State, key_hash}
-use Rattle.proof_straight.specs.Changes.{changed_main, with_change, with_single}
-use Rattle.proof_straight.specs.Drafts.{Draft, first_draft, swapped_in, with_made}
+use Rattle.machine_core.specs.Beneath.proof_straight.specs.Changes.{changed_main, with_change, with_single}
+use Rattle.machine_core.specs.Beneath.proof_straight.specs.Drafts.{Draft, first_draft, swapped_in, with_made}
 use Rattle.machine_core.specs.Beneath.nodes.specs.Levels.{flag_of}
 use Rattle.machine_core.specs.Beneath.proof_generations.proofs.Falling.MadeNodes.{ChangeFits, changed_entries}
 use Rattle.machine_core.specs.declared.descending.Entry.{Entry}
 use Rattle.machine_core.specs.declared.descending.Entry.TheVariants.{Vacant, Own, Other}
 use Rattle.machine_core.specs.Changing.{putting}
 use Rattle.machine_core.specs.Descending.{IsHere}
-use Rattle.machine_core.specs.Drafting.{IsDraft}
-use Rattle.proof_straight.specs.Places.{Leaves, an_indirection, at_root, not_two}
+use Rattle.proof_core.specs.Drafting.{IsDraft}
+use Rattle.machine_core.specs.Beneath.proof_straight.specs.Places.{Leaves, an_indirection, at_root, not_two}
 
 -- the change leaves a branch
 abbrev pub IsNoTomb : Change → Type 0

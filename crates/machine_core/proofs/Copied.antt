@@ -29,36 +29,37 @@ use Rattle.machine_model.specs.Calls.{handle_of, needs_writable}
 use Rattle.machine_model.specs.Keys.{FitsKey}
 use Rattle.machine_model.specs.Machine.{access_of, begin_denial, is_busy, is_number}
 use Rattle.machine_model.specs.States.{State, root_at, with_root, with_word, word_at, word_of}
-use Rattle.proof_straight.specs.Copies.{Course, IsSettled, first_course, with_offer}
-use Rattle.proof_straight.specs.Drafts.{Draft, after_call}
-use Rattle.proof_straight.specs.Running.{Comes, HasEmptySlots}
+use Rattle.machine_core.specs.Beneath.proof_straight.specs.Copies.{Course, IsSettled, first_course, with_offer}
+use Rattle.machine_core.specs.Beneath.proof_straight.specs.Drafts.{Draft, after_call}
+use Rattle.machine_core.specs.Beneath.proof_straight.specs.Running.{Comes, HasEmptySlots}
 use Rattle.machine_model.proofs.Found.{found_within}
 use Rattle.machine_core.specs.Beneath.proof_memory.proofs.Safety.Base.{handle_given}
-use Rattle.proof_straight.proofs.Change.Builds.{writable_at}
+use Rattle.machine_core.specs.Beneath.proof_straight.proofs.Change.Builds.{writable_at}
 use Rattle.machine_core.specs.declared.parts.Parts.{Parts}
-use Rattle.machine_core.specs.Drafting.{KeepsRecords}
+use Rattle.proof_core.specs.Drafting.{KeepsRecords}
 use Rattle.machine_core.specs.Keeping.{IsCore}
-use Rattle.machine_core.specs.Numbering.{KnowsNumbers, given_back, reserved}
+use Rattle.proof_core.specs.Numbering.{KnowsNumbers, given_back, reserved}
 use Rattle.machine_core.specs.Rooting.{HoldsBeside, IsCourse, IsOverDecided, writable}
 use Rattle.machine_core.specs.Seen.{actors_seen, seen}
 use Rattle.machine_core.specs.Straight.{CarriesBy}
 use Rattle.machine_core.proofs.AtRest.{root_lives}
 use Rattle.machine_core.proofs.Carried.{first_drafted}
-use Rattle.machine_core.proofs.Drafts.{births_more, takes_one}
-use Rattle.machine_core.proofs.Held.{few_held, sizes}
+use Rattle.proof_core.proofs.Drafts.{births_more, takes_one}
+use Rattle.machine_core.proofs.Held.{few_held}
+use Rattle.proof_core.proofs.Given.{sizes}
 use Rattle.machine_core.proofs.Rerooted.{course_done, known_at_rest}
-use Rattle.machine_core.proofs.Reserved.{given_other, given_own, given_running, given_many, reserved_is, reserved_many, reserved_running}
+use Rattle.proof_core.proofs.Reserved.{given_other, given_own, given_running, given_many, reserved_is, reserved_many, reserved_running}
 use Rattle.machine_core.proofs.Rooted.{course_counted, opened_is, some_closed, some_opened}
 use Rattle.history.specs.declared.calls.Call.TheVariants as call
 use Rattle.history.specs.declared.replies.Reply.TheVariants as reply
 use Rattle.machine_model.specs.Machine.{least_free}
 use Rattle.machine_model.specs.Records.{first_record}
-use Rattle.proof_straight.specs.Copies.{cleared, closed, frozen, snapped}
-use Rattle.proof_straight.specs.Resting.{IsOfRun}
-use Rattle.proof_straight.proofs.Roots.Copying.{clears_straight, freezes_straight, snaps_straight}
-use Rattle.proof_straight.proofs.Roots.Closing.{closes_straight}
-use Rattle.proof_straight.proofs.Change.Recording.{first_is_record}
-use Rattle.proof_straight.proofs.Runs.ByRuns.{comes_without_record}
+use Rattle.machine_core.specs.Beneath.proof_straight.specs.Copies.{cleared, closed, frozen, snapped}
+use Rattle.machine_core.specs.Beneath.proof_straight.specs.Resting.{IsOfRun}
+use Rattle.machine_core.specs.Beneath.proof_straight.proofs.Roots.Copying.{clears_straight, freezes_straight, snaps_straight}
+use Rattle.machine_core.specs.Beneath.proof_straight.proofs.Roots.Closing.{closes_straight}
+use Rattle.machine_core.specs.Beneath.proof_straight.proofs.Change.Recording.{first_is_record}
+use Rattle.machine_core.specs.Beneath.proof_straight.proofs.Runs.ByRuns.{comes_without_record}
 use Rattle.machine_core.specs.Beneath.rdcss_root.specs.Tables.{Table}
 use Rattle.machine_core.specs.Straight.{IsClear}
 use Rattle.machine_core.proofs.AtRest.{ready_at, rests_at}

@@ -8,7 +8,7 @@ use Rattle.slot_arena.specs.declared.refs.Ref.{Ref}
 use Rattle.slot_arena.specs.Heaps.{Heap, node_at, main_at, generation_at}
 use Rattle.machine_model.specs.Finding.{passes}
 use Rattle.machine_core.specs.Beneath.nodes.specs.Levels.{flag_of}
-use Rattle.proof_straight.specs.Places.{Leads, to_root, below}
+use Rattle.machine_core.specs.Beneath.proof_straight.specs.Places.{Leads, to_root, below}
 use Rattle.machine_core.specs.Descending.{IsBelow}
 
 -- the hash leads down there, whatever the handle's access

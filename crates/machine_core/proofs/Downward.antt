@@ -23,22 +23,22 @@ use Rattle.machine_core.specs.Beneath.proof_memory.specs.Wants.{AnEntry}
 use Rattle.machine_core.specs.Beneath.proof_memory.proofs.Claims.Uses.{Meets, meets_of, safe_of}
 use Rattle.machine_core.specs.Beneath.proof_memory.proofs.Holding.Lives.{in_use_lives}
 use Rattle.machine_core.specs.Beneath.proof_memory.proofs.Safety.Base.{handle_given}
-use Rattle.proof_straight.specs.Passing.{IsRenewed, MeetsOld}
-use Rattle.proof_straight.specs.Places.{HasEntry, Leads, below, entry_for, to_root}
-use Rattle.proof_straight.specs.Renewals.{is_of_other, renewal_slots, renewed_state, steps_of_renewal}
-use Rattle.proof_straight.specs.Resting.{IsOfRun}
-use Rattle.proof_straight.proofs.Change.Builds.{writable_at}
-use Rattle.proof_straight.proofs.Renewal.NewEntries.{slots_most, steps_by_slots}
-use Rattle.proof_straight.proofs.Renewal.Passing.{passes_renewal}
+use Rattle.machine_core.specs.Beneath.proof_straight.specs.Passing.{IsRenewed, MeetsOld}
+use Rattle.machine_core.specs.Beneath.proof_straight.specs.Places.{HasEntry, Leads, below, entry_for, to_root}
+use Rattle.machine_core.specs.Beneath.proof_straight.specs.Renewals.{is_of_other, renewal_slots, renewed_state, steps_of_renewal}
+use Rattle.machine_core.specs.Beneath.proof_straight.specs.Resting.{IsOfRun}
+use Rattle.machine_core.specs.Beneath.proof_straight.proofs.Change.Builds.{writable_at}
+use Rattle.machine_core.specs.Beneath.proof_straight.proofs.Renewal.NewEntries.{slots_most, steps_by_slots}
+use Rattle.machine_core.specs.Beneath.proof_straight.proofs.Renewal.Passing.{passes_renewal}
 use Rattle.machine_core.specs.declared.descending.Place.{Place}
-use Rattle.machine_core.specs.Drafting.{CanSwap}
+use Rattle.proof_core.specs.Drafting.{CanSwap}
 use Rattle.machine_core.specs.Renewing.{AreOverLive, IsBranch, IsDown, IsOver, LeadsOn, Renews}
 use Rattle.machine_core.specs.Straight.{CanGo, LeadsTo}
-use Rattle.machine_core.specs.Tries.{IsTrie}
-use Rattle.machine_core.proofs.Bounded.{bounded}
+use Rattle.proof_core.specs.Tries.{IsTrie}
+use Rattle.proof_core.proofs.Bounded.{bounded}
 use Rattle.machine_core.proofs.Carried.{goes_run}
 use Rattle.machine_core.proofs.Passed.{all_renewable, goes_past, leads_on_still, over_used}
-use Rattle.machine_core.proofs.Tries.{can_swap_there, entries_meet, entry_meets, leads_holds, leads_main, level_entry, level_over, trie_of_run, ways_apart}
+use Rattle.proof_core.proofs.Tries.{can_swap_there, entries_meet, entry_meets, leads_holds, leads_main, level_entry, level_over, trie_of_run, ways_apart}
 
 deeper : (X : ℕ → Type 0) (n : ℕ) → X (suc n) → X (n + 1)
 deeper X n x = subst X (let same : suc n ≡ n + 1 = omega arith in same) x

@@ -1,54 +1,16 @@
--- What a state of a run gives: the claims of the next action, how often references are held, who runs no operation.
-use Rattle.std.proofs.Common.{◌≡◌, ℕ, zero, suc, ◌-◌, ◌<◌, ◌≤◌, ◌^◌, ◌&&◌, true, false, nat_lt, nat_le, length, get_or, Option, Some, None, refl, sym, ap, ◌∙◌, subst, arith}
-use Rattle.std.proofs.lemmas.Bool.Decides.{nat_tests}
-use Rattle.history.specs.declared.calls.Call.{Call}
-use Rattle.history.proofs.Places.{option_untested}
+-- How often references are held in a state of a run.
+use Rattle.std.proofs.Common.{◌≡◌, suc, ◌-◌, ◌<◌, ◌≤◌, ◌^◌, get_or, Option, Some, None, refl, arith}
 use Rattle.slot_arena.specs.declared.refs.Ref.{Ref}
 use Rattle.slot_arena.specs.Times.{times}
-use Rattle.slot_arena.specs.Arenas.{IsLive}
 use Rattle.epochs.specs.Memories.{Memory}
 use Rattle.machine_model.specs.declared.operations.Operation.{Operation}
-use Rattle.machine_model.specs.States.{State, operation_of, handle_limit}
+use Rattle.machine_model.specs.States.{State}
 use Rattle.machine_model.specs.Counting.{refs_of_root, refs_of_operation}
-use Rattle.machine_model.specs.Operations.{action_of}
-use Rattle.machine_model.specs.Machine.{begin_denial, is_running}
-use Rattle.machine_model.proofs.Actors.{begin_actor}
-use Rattle.machine_core.specs.Beneath.proof_memory.specs.Wants.{AllHold, action_wants}
-use Rattle.machine_core.specs.Beneath.proof_memory.proofs.Holding.Lives.{lines_live}
-use Rattle.machine_core.specs.Beneath.proof_memory.proofs.Holding.Privates.{privates_once}
-use Rattle.machine_core.specs.Beneath.proof_memory.proofs.Holding.Sizes.{sizes_stay}
-use Rattle.proof_records.specs.Laws.{LineHasRoom, MakesNode}
-use Rattle.proof_records.proofs.Rooms.{lists_have_room}
-use Rattle.proof_straight.specs.Resting.{IsOfRun}
+use Rattle.machine_core.specs.Beneath.proof_straight.specs.Resting.{IsOfRun}
 use Rattle.machine_core.specs.Beneath.rdcss_root.specs.Holding.{IsReady}
-use Rattle.machine_core.specs.Ties.{IsTied, StandsAt}
+use Rattle.machine_core.specs.Ties.{IsTied}
 use Rattle.machine_core.proofs.Tying.{times_most, root_few}
-
--- ---- laws, at a state of a run
-
-pub claims : (state : State) (actor : ℕ) (operation : Operation) → IsOfRun state → operation_of state actor ≡ Some operation →
-    AllHold (IsLive state.heap) state.heap (action_wants (action_of state operation))
-claims state actor operation h found =
-    subst (λ (s : State). operation_of s actor ≡ Some operation → AllHold (IsLive s.heap) s.heap (action_wants (action_of s operation))) (sym h.is)
-    (λ e. lines_live state.limits h.steps actor operation h.limits e) found
-
--- there is room for what its next step adds
-pub room_left : (state : State) (actor : ℕ) (operation : Operation) → IsOfRun state → operation_of state actor ≡ Some operation →
-    LineHasRoom operation.line × (MakesNode (action_of state operation) → length operation.private < 33)
-room_left state actor operation h found =
-    subst (λ (s : State). operation_of s actor ≡ Some operation → LineHasRoom operation.line × (MakesNode (action_of s operation) → length operation.private < 33)) (sym h.is)
-    (λ e. lists_have_room state.limits h.steps actor operation h.limits e) found
-
-pub sizes : (state : State) → IsOfRun state → (length state.roots ≡ handle_limit) × (length state.actors ≡ state.limits.actors)
-sizes state h =
-    let (roots, actors) = sizes_stay state.limits h.steps in
-    (ap (λ (s : State). length s.roots) h.is ∙ roots, ap (λ (s : State). length s.actors) h.is ∙ actors)
-
-private_once : (state : State) → IsOfRun state → (actor : ℕ) (operation : Operation) (r : Ref) → operation_of state actor ≡ Some operation → times r operation.private ≤ 1
-private_once state h actor operation r found =
-    privates_once state.limits h.steps actor operation r h.limits (ap (λ (s : State). operation_of s actor) (sym h.is) ∙ found)
-
--- ---- how often references are held
+use Rattle.proof_core.proofs.Given.{private_once, sizes}
 
 operation_few : (r : Ref) (found : Option Operation) → ((operation : Operation) → found ≡ Some operation → times r operation.private ≤ 1) → times r (refs_of_operation found) ≤ 1
 operation_few r None each = omega arith
@@ -63,23 +25,3 @@ few_held memory state h tied r =
 
 pub ready_run : (memory : Memory) (state : State) → IsOfRun state → IsTied memory state.roots state.actors → IsReady memory state.roots 8
 ready_run memory state h tied = record { held = λ r. omega (arith, tied.held r); room = λ r. omega (arith, few_held memory state h tied r) }
-
--- ---- a begin
-
--- a begin that isn't denied is of an actor that runs nothing
-begin_idle : (state : State) (actor : ℕ) (call : Call) → begin_denial state actor call ≡ None → is_running state actor ≡ false
-begin_idle state actor call d = grind arith
-
-within_by : (actor actors : ℕ) → (nat_lt 0 actor && nat_le actor actors) ≡ true → (0 < actor) × (actor ≤ actors)
-within_by actor actors e = grind (arith, nat_tests)
-
-pub begin_stands : (state : State) (actor : ℕ) (call : Call) → IsOfRun state → begin_denial state actor call ≡ None → StandsAt state.actors actor None
-begin_stands state zero call h d = absurd (let (some, most) = within_by 0 state.limits.actors (begin_actor state 0 call d) in omega (arith, some))
-begin_stands state (suc n) call h d =
-    let (some, most) = within_by (suc n) state.limits.actors (begin_actor state (suc n) call d) in
-    let (roots, actors) = sizes state h in
-    record {
-      counts = omega arith;
-      within = omega (arith, most, actors);
-      is = ap (λ i. get_or state.actors i None) (let same : suc n - 1 ≡ n = omega arith in same) ∙ option_untested (operation_of state (suc n)) (begin_idle state (suc n) call d);
-    }

@@ -18,12 +18,12 @@ use Rattle.machine_core.specs.declared.parts.Actor.{Actor}
 use Rattle.machine_core.specs.declared.parts.Parts.{Parts}
 use Rattle.machine_core.specs.declared.parts.UnderWay.{UnderWay}
 use Rattle.machine_core.specs.Keeping.{AreSeated, IsKept, IsNoted, IsSeated, Replaces}
-use Rattle.machine_core.specs.Numbering.{KnowsNumbers}
+use Rattle.proof_core.specs.Numbering.{KnowsNumbers}
 use Rattle.machine_core.specs.Seen.{actor_of, actors_seen, operation_at, operation_seen, seen, under_way_of}
 use Rattle.machine_core.specs.Ties.{private_refs}
 use Rattle.machine_core.proofs.Knows.{offerers_over, runs_same}
-use Rattle.machine_core.proofs.Mapped.{found_mapped, map_replaced}
-use Rattle.machine_core.proofs.Numbering.{known_same}
+use Rattle.proof_core.proofs.Mapped.{found_mapped, map_replaced}
+use Rattle.proof_core.proofs.Numbering.{known_same}
 
 -- ---- the heap alone changed
 

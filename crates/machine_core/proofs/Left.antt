@@ -19,14 +19,14 @@ use Rattle.machine_core.specs.declared.parts.Actor.{Actor}
 use Rattle.machine_core.specs.declared.parts.Parts.{Parts}
 use Rattle.machine_core.specs.declared.parts.UnderWay.{UnderWay}
 use Rattle.machine_core.specs.Beginnings.{Leaves}
-use Rattle.proof_straight.specs.Resting.{IsOfRun}
+use Rattle.machine_core.specs.Beneath.proof_straight.specs.Resting.{IsOfRun}
 use Rattle.machine_core.specs.Keeping.{AreSeated, IsKept, IsNoted, IsSeated, Replaces}
-use Rattle.machine_core.specs.Numbering.{KnowsNumbers, ended_on}
+use Rattle.proof_core.specs.Numbering.{KnowsNumbers, ended_on}
 use Rattle.machine_core.specs.Seen.{actors_seen, operation_at, seen, under_way_of}
 use Rattle.machine_core.specs.Ties.{IsTied}
 use Rattle.machine_core.proofs.Kept.{seat_of, operation_there, replaced_seated, replaced_seen}
 use Rattle.machine_core.proofs.Knows.{offerers_over, runs_set}
-use Rattle.machine_core.proofs.Reserved.{known_ended}
+use Rattle.proof_core.proofs.Reserved.{known_ended}
 use Rattle.machine_core.proofs.Tied.{ended_tied, operation_stands, private_held}
 use Rattle.running.proofs.Asks.{handle_named}
 

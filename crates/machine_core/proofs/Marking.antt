@@ -20,7 +20,7 @@ use Rattle.machine_core.specs.declared.parts.Actor.{Actor}
 use Rattle.machine_core.specs.declared.parts.UnderWay.{UnderWay}
 use Rattle.machine_core.specs.Keeping.{AreSeated}
 use Rattle.machine_core.specs.Seen.{actors_seen, operation_at, operation_seen}
-use Rattle.machine_core.proofs.Mapped.{map_alike, map_replaced}
+use Rattle.proof_core.proofs.Mapped.{map_alike, map_replaced}
 
 -- the action marks the operation whose offer it carries out
 pub marks_carried : (state : State) (handle : ℕ) (action : Action) →

@@ -28,13 +28,13 @@ use Rattle.running.specs.Taking.{Taken}
 use Rattle.machine_core.specs.declared.parts.Actor.{Actor}
 use Rattle.machine_core.specs.declared.parts.Parts.{Parts}
 use Rattle.machine_core.specs.declared.parts.UnderWay.{UnderWay}
-use Rattle.proof_straight.specs.Resting.{IsOfRun}
+use Rattle.machine_core.specs.Beneath.proof_straight.specs.Resting.{IsOfRun}
 use Rattle.machine_core.specs.Keeping.{IsKept, KnowsOfferers}
 use Rattle.machine_core.specs.Seen.{operation_at, operation_seen, seen}
-use Rattle.machine_core.proofs.Held.{sizes}
+use Rattle.proof_core.proofs.Given.{sizes}
 use Rattle.machine_core.proofs.Kept.{operation_there, operation_under_way}
 use Rattle.machine_core.proofs.Knows.{ids}
-use Rattle.machine_core.proofs.Mapped.{found_mapped}
+use Rattle.proof_core.proofs.Mapped.{found_mapped}
 use Rattle.machine_core.proofs.Gone.{changes, number_is}
 use Rattle.machine_core.proofs.Took.{Took}
 

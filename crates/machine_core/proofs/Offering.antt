@@ -23,10 +23,10 @@ use Rattle.running.proofs.Offers.{unmarked}
 use Rattle.machine_core.specs.declared.parts.Actor.{Actor}
 use Rattle.machine_core.specs.declared.parts.Parts.{Parts}
 use Rattle.machine_core.specs.declared.parts.UnderWay.{UnderWay}
-use Rattle.proof_straight.specs.Resting.{IsOfRun}
+use Rattle.machine_core.specs.Beneath.proof_straight.specs.Resting.{IsOfRun}
 use Rattle.machine_core.specs.Keeping.{IsKept}
 use Rattle.machine_core.specs.Seen.{operation_at, seen}
-use Rattle.machine_core.proofs.Held.{sizes}
+use Rattle.proof_core.proofs.Given.{sizes}
 use Rattle.machine_core.proofs.Kept.{operation_there, operation_under_way}
 use Rattle.machine_core.proofs.Gone.{KnowsOffered, handle_is, number_is}
 use Rattle.machine_core.proofs.Tied.{operation_stands}

@@ -17,16 +17,16 @@ use Rattle.epochs.specs.Memories.{Memory}
 use Rattle.machine_model.specs.Building.{key_in, old_hash}
 use Rattle.machine_model.specs.Calls.{key_of, value_of}
 use Rattle.machine_model.specs.States.{State, key_hash}
-use Rattle.proof_records.proofs.MostHeld.{pair_within}
-use Rattle.proof_straight.specs.Changes.{parts_at, with_link, with_links, with_single}
-use Rattle.proof_straight.specs.Drafts.{Draft, first_draft, next_made, with_made}
-use Rattle.proof_straight.specs.Running.{HasEmptySlots}
+use Rattle.machine_core.specs.Beneath.proof_records.proofs.MostHeld.{pair_within}
+use Rattle.machine_core.specs.Beneath.proof_straight.specs.Changes.{parts_at, with_link, with_links, with_single}
+use Rattle.machine_core.specs.Beneath.proof_straight.specs.Drafts.{Draft, first_draft, next_made, with_made}
+use Rattle.machine_core.specs.Beneath.proof_straight.specs.Running.{HasEmptySlots}
 use Rattle.machine_core.specs.Beneath.proof_memory.proofs.Claims.Made.{by_index_all, pair_all}
 use Rattle.machine_core.specs.Beneath.trie_parts.specs.Here.{at_heap, no_state}
-use Rattle.machine_core.specs.Drafting.{CanSwap, IsDraft, KeepsRecords}
+use Rattle.proof_core.specs.Drafting.{CanSwap, IsDraft, KeepsRecords}
 use Rattle.machine_core.specs.Pairing.{CanMake, IsMade, Makes}
-use Rattle.machine_core.proofs.Claims.{one_live}
-use Rattle.machine_core.proofs.Drafts.{births_more, held_more, node_still, takes_one}
+use Rattle.proof_core.proofs.Claims.{one_live}
+use Rattle.proof_core.proofs.Drafts.{births_more, held_more, node_still, takes_one}
 
 -- ---- nodes are made
 

@@ -21,15 +21,15 @@ use Rattle.machine_core.specs.Beneath.proof_memory.specs.Wants.{AnEntry, is as h
 use Rattle.machine_core.specs.Beneath.proof_memory.proofs.Claims.Nodes.{main_read}
 use Rattle.machine_core.specs.Beneath.proof_memory.proofs.Claims.Uses.{Meets, safe_of}
 use Rattle.machine_core.specs.Beneath.proof_memory.proofs.Holding.Lives.{in_use_lives}
-use Rattle.proof_straight.specs.Renewals.{AreRenewable, IsRenewable}
-use Rattle.proof_straight.proofs.Change.Slots.{node_again, prev_stays, same_stored}
+use Rattle.machine_core.specs.Beneath.proof_straight.specs.Renewals.{AreRenewable, IsRenewable}
+use Rattle.machine_core.specs.Beneath.proof_straight.proofs.Change.Slots.{node_again, prev_stays, same_stored}
 use Rattle.machine_core.specs.declared.descending.Entry.{Entry}
 use Rattle.machine_core.specs.declared.descending.Entry.TheVariants.{Vacant, Own, Other}
 use Rattle.machine_core.specs.declared.descending.Place.{Place}
 use Rattle.machine_core.specs.Descending.{IsBelow, IsHere, Stands}
 use Rattle.machine_core.specs.Renewing.{AreDecided, EndsPast, IsDecided, IsOver, LeadsOn, here, past}
-use Rattle.machine_core.specs.Tries.{IsTrie}
-use Rattle.machine_core.proofs.Tries.{entries_meet, entry_meets, level_entry, level_over, nodes_safe, one_slot}
+use Rattle.proof_core.specs.Tries.{IsTrie}
+use Rattle.proof_core.proofs.Tries.{entries_meet, entry_meets, level_entry, level_over, nodes_safe, one_slot}
 
 -- what isn't the default stands
 single_stands : (heap : Heap) (r : Ref) (key value : ℕ) → node_at heap r ≡ Single key value → (slot : Slot) × (stored heap r ≡ Some slot)

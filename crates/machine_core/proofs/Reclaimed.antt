@@ -8,7 +8,8 @@ use Rattle.machine_core.specs.declared.parts.Parts.{Parts}
 use Rattle.machine_core.specs.Keeping.{IsCore}
 use Rattle.machine_core.specs.Seen.{seen}
 use Rattle.machine_core.specs.Sweeping.{Reclaims, at_first, one_more}
-use Rattle.machine_core.specs.Work.{WorksLittle, worked}
+use Rattle.machine_core.specs.Work.{worked}
+use Rattle.proof_core.specs.Work.{WorksLittle}
 
 -- steps of the sweep led from these parts to those, which are a core's
 pub record IsReclaimed (before now : Parts) : Type 0 where

@@ -13,10 +13,10 @@ use Rattle.slot_arena.specs.Heaps.{Heap, entries_of, entry_at, generation_at, ma
 use Rattle.nodes.specs.Builders.{renewed}
 use Rattle.epochs.specs.Memories.{Memory}
 use Rattle.machine_model.specs.States.{State}
-use Rattle.proof_straight.specs.Drafts.{Draft, first_draft, swapped_in, with_made}
-use Rattle.proof_straight.specs.Renewals.{Renewal, is_of_other, is_old, renewal_of, renewed_entries, renewed_entry}
-use Rattle.proof_straight.proofs.Renewal.NewEntries.{all_private, steps_by_slots}
-use Rattle.machine_core.specs.Drafting.{CanSwap, IsDraft}
+use Rattle.machine_core.specs.Beneath.proof_straight.specs.Drafts.{Draft, first_draft, swapped_in, with_made}
+use Rattle.machine_core.specs.Beneath.proof_straight.specs.Renewals.{Renewal, is_of_other, is_old, renewal_of, renewed_entries, renewed_entry}
+use Rattle.machine_core.specs.Beneath.proof_straight.proofs.Renewal.NewEntries.{all_private, steps_by_slots}
+use Rattle.proof_core.specs.Drafting.{CanSwap, IsDraft}
 use Rattle.machine_core.specs.Pairing.{CanMake, IsMade, Makes}
 use Rattle.machine_core.specs.Renewing.{AreOverLive, IsRenewing, IsSoFar, Renews}
 use Rattle.machine_core.proofs.Paired.{can_begin, can_fewer, made_same, makes_on}

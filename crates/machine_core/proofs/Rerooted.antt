@@ -17,16 +17,16 @@ use Rattle.machine_model.specs.Counting.{outside}
 use Rattle.machine_model.specs.Keys.{FitsKey}
 use Rattle.machine_model.specs.Machine.{is_busy, is_taken, names, pin_of}
 use Rattle.machine_model.specs.States.{State, operation_of}
-use Rattle.proof_records.proofs.Numbers.{reserves}
-use Rattle.proof_straight.specs.Copies.{Course}
-use Rattle.proof_straight.specs.Drafts.{Draft, after_call, held_with}
-use Rattle.proof_straight.specs.Running.{Comes}
+use Rattle.machine_core.specs.Beneath.proof_records.proofs.Numbers.{reserves}
+use Rattle.machine_core.specs.Beneath.proof_straight.specs.Copies.{Course}
+use Rattle.machine_core.specs.Beneath.proof_straight.specs.Drafts.{Draft, after_call, held_with}
+use Rattle.machine_core.specs.Beneath.proof_straight.specs.Running.{Comes}
 use Rattle.machine_core.specs.Beneath.rdcss_root.specs.Holding.{root_refs}
 use Rattle.machine_core.specs.Beneath.rdcss_root.specs.Tables.{Table}
 use Rattle.machine_core.specs.declared.parts.Parts.{Parts}
-use Rattle.machine_core.specs.Drafting.{KeepsRecords}
+use Rattle.proof_core.specs.Drafting.{KeepsRecords}
 use Rattle.machine_core.specs.Keeping.{AreSeated, IsCore, IsKept}
-use Rattle.machine_core.specs.Numbering.{KnowsNumbers}
+use Rattle.proof_core.specs.Numbering.{KnowsNumbers}
 use Rattle.machine_core.specs.Rooting.{IsCourse}
 use Rattle.machine_core.specs.Seen.{actors_seen, seen}
 use Rattle.machine_core.specs.Straight.{CarriesBy}

@@ -8,7 +8,7 @@ use Rattle.machine_core.specs.Beneath.snapshot.specs.declared.tasks.WalkCall.The
 use Rattle.running.specs.declared.job.Program.{Program}
 use Rattle.running.specs.declared.job.Program.TheVariants.{Key, Copy, Walk, Close}
 use Rattle.running.specs.Places.{call_for}
-use Rattle.machine_core.specs.Bounds.{Walks}
+use Rattle.proof_core.specs.Bounds.{Walks}
 use Rattle.machine_model.specs.States.{operation_of}
 use Rattle.std.proofs.Math.Seq.{map-set_same}
 use Rattle.std.proofs.lemmas.Option.{get_or_from_slice_get}
@@ -22,7 +22,7 @@ use Rattle.machine_core.specs.declared.parts.Actor.{Actor}
 use Rattle.machine_core.specs.declared.parts.Parts.{Parts}
 use Rattle.machine_core.specs.declared.parts.UnderWay.{UnderWay}
 use Rattle.machine_core.specs.Keeping.{IsKept, IsSeated, KnowsOfferers, Replaces}
-use Rattle.machine_core.specs.Numbering.{KnowsNumbers}
+use Rattle.proof_core.specs.Numbering.{KnowsNumbers}
 use Rattle.machine_core.specs.Rooming.{GivesRoom, HasRoomToStep, IsWalk, IsWalking}
 use Rattle.machine_core.specs.Seen.{actors_seen, operation_at, operation_seen, seen}
 use Rattle.machine_core.specs.Ties.{IsTied}

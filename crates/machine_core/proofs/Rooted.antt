@@ -18,13 +18,13 @@ use Rattle.machine_model.specs.Acting.{opened, opened_root}
 use Rattle.machine_model.specs.Counting.{outside, refs_of_operation}
 use Rattle.machine_model.specs.Machine.{is_number}
 use Rattle.machine_model.specs.States.{State, rewritten, root_at, with_root, with_word}
-use Rattle.proof_straight.specs.Copies.{Course, with_offer}
-use Rattle.proof_straight.specs.Drafts.{Draft, held_with, redrafted}
+use Rattle.machine_core.specs.Beneath.proof_straight.specs.Copies.{Course, with_offer}
+use Rattle.machine_core.specs.Beneath.proof_straight.specs.Drafts.{Draft, held_with, redrafted}
 use Rattle.machine_core.specs.Beneath.rdcss_root.specs.Holding.{IsReady, Moves, root_refs}
 use Rattle.machine_core.specs.Beneath.rdcss_root.specs.Tables.{Table, opened_in, with_root_in}
 use Rattle.machine_core.specs.declared.parts.Parts.{Parts}
-use Rattle.machine_core.specs.Drafting.{IsDraft}
-use Rattle.machine_core.proofs.Claims.{one_live}
+use Rattle.proof_core.specs.Drafting.{IsDraft}
+use Rattle.proof_core.proofs.Claims.{one_live}
 use Rattle.machine_core.specs.Rooting.{HoldsBeside, IsCourse, writable}
 
 -- ---- what is held

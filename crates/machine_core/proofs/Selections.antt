@@ -9,12 +9,13 @@ use Rattle.std.proofs.lemmas.List.Elements.{filter-append}
 use Rattle.std.proofs.lemmas.List.Sums.{sum_by-append}
 use Rattle.machine_model.specs.Pairs.{by_key, comes_before}
 use Rattle.machine_core.specs.declared.selection.Selection.{Selection}
-use Rattle.machine_core.specs.Reading.{is_after, next_of}
+use Rattle.proof_core.specs.Reading.{is_after, next_of}
 use Rattle.machine_core.specs.Selecting.{Takes, is_wanted, selected, selected_with}
-use Rattle.machine_core.proofs.Filtered.{filter_sorted}
+use Rattle.proof_core.proofs.Filtered.{filter_sorted}
 use Rattle.machine_core.proofs.Sorting.{pairs_order}
-use Rattle.machine_core.proofs.Gathering.{none_below, some_below, gather_more, gather_none}
-use Rattle.machine_core.proofs.Selected.{by_alike, length_sorted, take_sorted}
+use Rattle.proof_core.proofs.Gathering.{none_below, some_below, gather_more, gather_none}
+use Rattle.machine_core.proofs.Selected.{by_alike}
+use Rattle.proof_core.proofs.Firsts.{length_sorted, take_sorted}
 
 -- nothing more than what was selected
 pub nothing_taken : (s : Selection) → selected s ≡ selected_with s []

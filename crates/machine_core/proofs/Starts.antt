@@ -30,11 +30,11 @@ use Rattle.machine_core.specs.Beneath.rdcss_root.specs.Tables.{Table, new_table,
 use Rattle.machine_core.specs.declared.parts.Actor.{Actor}
 use Rattle.machine_core.specs.declared.parts.Parts.{Parts}
 use Rattle.machine_core.specs.Keeping.{AreSeated, IsKept}
-use Rattle.machine_core.specs.Numbering.{KnowsNumbers}
+use Rattle.proof_core.specs.Numbering.{KnowsNumbers}
 use Rattle.machine_core.specs.Seen.{actors_seen, operation_at, seen}
 use Rattle.machine_core.specs.Starting.{AreIdle, IsIdle}
 use Rattle.machine_core.specs.Ties.{private_refs}
-use Rattle.machine_core.proofs.Reserved.{known_first}
+use Rattle.proof_core.proofs.Reserved.{known_first}
 
 -- ---- the first two references
 

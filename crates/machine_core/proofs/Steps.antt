@@ -20,7 +20,7 @@ use Rattle.machine_model.specs.Counting.{outside, settled}
 use Rattle.machine_model.specs.Machine.{next, begin_denial, begin_unless, with_begin, go_denial, go_unless, go_on, went, is_spent, swept, settled_after, is_taken_step, denial_of}
 use Rattle.machine_model.proofs.Frames.{acted_framed}
 use Rattle.machine_model.specs.Moves.{begun_operation}
-use Rattle.machine_core.specs.Bounds.{Answers, Applies, Leads, Walks}
+use Rattle.proof_core.specs.Bounds.{Answers, Applies, Leads, Walks}
 use Rattle.machine_core.specs.Told.{TellsBegin, stepped}
 use Rattle.machine_core.specs.declared.telling.Begun.{Begun}
 use Rattle.machine_core.specs.declared.telling.Stepped.{Stepped}

@@ -12,7 +12,8 @@ use Rattle.machine_model.specs.Counting.{refs_of_operation}
 use Rattle.machine_model.specs.Machine.{pin_of}
 use Rattle.machine_model.proofs.Found.{found_within}
 use Rattle.machine_core.specs.Beneath.rdcss_root.specs.Holding.{root_refs}
-use Rattle.machine_core.specs.Ties.{IsTied, StandsAt}
+use Rattle.machine_core.specs.Ties.{IsTied}
+use Rattle.proof_core.specs.Standing.{StandsAt}
 use Rattle.machine_core.specs.Beneath.rdcss_root.proofs.Rewriting.{times_set}
 use Rattle.machine_core.proofs.Tying.{times_part}
 

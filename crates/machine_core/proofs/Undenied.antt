@@ -10,11 +10,11 @@ use Rattle.machine_model.specs.States.{operation_of}
 use Rattle.machine_model.specs.declared.operations.Operation.{Operation}
 use Rattle.machine_model.proofs.Actors.{actor_by}
 use Rattle.machine_core.specs.declared.parts.Parts.{Parts}
-use Rattle.proof_straight.specs.Resting.{IsOfRun}
+use Rattle.machine_core.specs.Beneath.proof_straight.specs.Resting.{IsOfRun}
 use Rattle.machine_core.specs.Seen.{actor_of, operation_seen, seen}
-use Rattle.machine_core.specs.Walking.{goes_on}
+use Rattle.proof_core.specs.Walking.{goes_on}
 use Rattle.machine_core.proofs.Allowed.{owner_runs}
-use Rattle.machine_core.proofs.Held.{sizes}
+use Rattle.proof_core.proofs.Given.{sizes}
 use Rattle.machine_core.proofs.Kept.{seat_of}
 use Rattle.machine_core.proofs.Underway.{by_actor}
 

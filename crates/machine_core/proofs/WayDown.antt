@@ -16,13 +16,13 @@ use Rattle.machine_model.specs.Keys.{FitsKey}
 use Rattle.machine_model.specs.Machine.{begin_denial, is_busy}
 use Rattle.machine_model.specs.States.{State, key_hash}
 use Rattle.machine_core.specs.Beneath.nodes.specs.Levels.{flag_of}
-use Rattle.proof_straight.specs.Places.{Leads, Leaves, not_two, to_root}
-use Rattle.proof_straight.specs.Renewals.{is_of_other, with_renewal}
-use Rattle.proof_straight.specs.Running.{IsKeyed}
+use Rattle.machine_core.specs.Beneath.proof_straight.specs.Places.{Leads, Leaves, not_two, to_root}
+use Rattle.machine_core.specs.Beneath.proof_straight.specs.Renewals.{is_of_other, with_renewal}
+use Rattle.machine_core.specs.Beneath.proof_straight.specs.Running.{IsKeyed}
 use Rattle.machine_core.specs.declared.descending.Place.{Place}
 use Rattle.machine_core.specs.declared.parts.Parts.{Parts}
 use Rattle.machine_core.specs.Descending.{EndsAt}
-use Rattle.machine_core.specs.Drafting.{KeepsRecords}
+use Rattle.proof_core.specs.Drafting.{KeepsRecords}
 use Rattle.machine_core.specs.Renewing.{EndsPast, IsOn, Renews}
 use Rattle.machine_core.specs.Keeping.{IsCore}
 use Rattle.machine_core.specs.Seen.{seen}

@@ -35,15 +35,15 @@ use Rattle.machine_core.specs.declared.parts.Parts.{Parts}
 use Rattle.machine_core.specs.declared.parts.UnderWay.{UnderWay}
 use Rattle.machine_core.specs.declared.telling.Ended.{Ended}
 use Rattle.machine_core.specs.declared.telling.Stepped.{Stepped}
-use Rattle.proof_straight.specs.Resting.{IsOfRun}
+use Rattle.machine_core.specs.Beneath.proof_straight.specs.Resting.{IsOfRun}
 use Rattle.machine_core.specs.Keeping.{AreSeated, IsKept}
-use Rattle.machine_core.specs.Numbering.{KnowsNumbers}
+use Rattle.proof_core.specs.Numbering.{KnowsNumbers}
 use Rattle.machine_core.specs.Seen.{operation_at, seen}
 use Rattle.machine_core.specs.Told.{TellsEnd, TellsStep}
 use Rattle.machine_core.proofs.Gone.{carried_is, gone_seen, takes}
 use Rattle.machine_core.proofs.Keeps.{marks_now, seats_now, tied_now}
 use Rattle.machine_core.proofs.Kept.{operation_there}
-use Rattle.machine_core.proofs.Numbering.{known_gone}
+use Rattle.proof_core.proofs.Numbering.{known_gone}
 use Rattle.machine_core.proofs.Offerers.{offerers_length, offerers_now}
 use Rattle.machine_core.proofs.Offering.{knows_offered}
 use Rattle.machine_core.proofs.Onward.{only_end}

@@ -12,18 +12,19 @@ use Rattle.epochs.specs.Sweeping.{swept_once}
 use Rattle.machine_model.specs.declared.operations.Operation.{Operation}
 use Rattle.machine_model.specs.Counting.{refs_of_operation}
 use Rattle.machine_model.specs.States.{State, operation_of}
-use Rattle.proof_records.proofs.Privates.{privates_short}
+use Rattle.machine_core.specs.Beneath.proof_records.proofs.Privates.{privates_short}
 use Rattle.running.specs.Taking.{Taken}
 use Rattle.machine_core.specs.declared.parts.Actor.{Actor}
 use Rattle.machine_core.specs.declared.parts.Parts.{Parts}
 use Rattle.machine_core.specs.declared.parts.UnderWay.{UnderWay}
 use Rattle.machine_core.specs.Beginnings.{Leaves}
-use Rattle.proof_straight.specs.Resting.{IsOfRun}
+use Rattle.machine_core.specs.Beneath.proof_straight.specs.Resting.{IsOfRun}
 use Rattle.machine_core.specs.Going.{Steps}
 use Rattle.machine_core.specs.Keeping.{Replaces}
 use Rattle.machine_core.specs.Seen.{operation_at, seen, under_way_of}
-use Rattle.machine_core.specs.Work.{ActsLittle, NotesUpTo, WorksLittle, WorksUpTo, crossing, held_by, ticks_of_a_step, worked}
-use Rattle.machine_core.proofs.Crossing.{sweeping_pays}
+use Rattle.machine_core.specs.Work.{ActsLittle, worked}
+use Rattle.proof_core.specs.Work.{NotesUpTo, WorksLittle, WorksUpTo, crossing, held_by, ticks_of_a_step}
+use Rattle.proof_core.proofs.Crossing.{sweeping_pays}
 use Rattle.machine_core.proofs.Ends.{left}
 use Rattle.machine_core.proofs.Kept.{operation_there, seat_of}
 use Rattle.slot_arena.specs.Refs.{most_slots}

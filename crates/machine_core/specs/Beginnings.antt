@@ -7,7 +7,7 @@ use Rattle.machine_core.specs.Beneath.trie_parts.specs.Holding.{KeepsOthers}
 use Rattle.running.specs.Places.{IsSound, call_for, generation_in, line_for}
 use Rattle.machine_core.specs.declared.parts.Actor.{Actor}
 use Rattle.machine_core.specs.declared.parts.UnderWay.{UnderWay}
-use Rattle.machine_core.specs.Work.{NotesUpTo}
+use Rattle.proof_core.specs.Work.{NotesUpTo}
 
 -- the actor begins this operation, on a handle of this kind
 pub record Begins (u : UnderWay) (access : Access) (before after : Actor) : Type 0 where

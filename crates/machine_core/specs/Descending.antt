@@ -9,7 +9,7 @@ use Rattle.slot_arena.specs.declared.refs.Ref.{Ref}
 use Rattle.slot_arena.specs.Heaps.{Heap, node_at, main_at, prev_at, entry_at}
 use Rattle.machine_model.specs.Contents.{most_levels}
 use Rattle.machine_core.specs.Beneath.nodes.specs.Levels.{flag_of, has_flag}
-use Rattle.proof_straight.specs.Places.{Leads}
+use Rattle.machine_core.specs.Beneath.proof_straight.specs.Places.{Leads}
 use Rattle.machine_core.specs.declared.descending.Entry.{Entry}
 use Rattle.machine_core.specs.declared.descending.Entry.TheVariants.{Vacant, Own, Other}
 use Rattle.machine_core.specs.declared.descending.Onward.{Onward}

@@ -10,8 +10,8 @@ use Rattle.running.specs.Places.{IsSound}
 use Rattle.machine_core.specs.declared.parts.Actor.{Actor}
 use Rattle.machine_core.specs.declared.parts.Parts.{Parts}
 use Rattle.machine_core.specs.declared.parts.UnderWay.{UnderWay}
-use Rattle.proof_straight.specs.Resting.{IsOfRun}
-use Rattle.machine_core.specs.Numbering.{KnowsNumbers}
+use Rattle.machine_core.specs.Beneath.proof_straight.specs.Resting.{IsOfRun}
+use Rattle.proof_core.specs.Numbering.{KnowsNumbers}
 use Rattle.machine_core.specs.Seen.{seen}
 use Rattle.machine_core.specs.Ties.{IsTied}
 

@@ -1,16 +1,12 @@
 pub mod Beginnings
 pub mod Beneath
-pub mod Bounds
 pub mod Changing
 pub mod Comparing
 pub mod Descending
-pub mod Drafting
 pub mod Finding
 pub mod Going
 pub mod Keeping
-pub mod Numbering
 pub mod Pairing
-pub mod Reading
 pub mod Renewing
 pub mod Rooming
 pub mod Rooting
@@ -21,6 +17,4 @@ pub mod Straight
 pub mod Sweeping
 pub mod Ties
 pub mod Told
-pub mod Tries
-pub mod Walking
 pub mod Work

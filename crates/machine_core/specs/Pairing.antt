@@ -8,11 +8,11 @@ use Rattle.slot_arena.specs.Refs.{birth_limit}
 use Rattle.epochs.specs.Memories.{Memory}
 use Rattle.machine_model.specs.declared.building.Change.TheVariants as change
 use Rattle.machine_model.specs.States.{State}
-use Rattle.proof_straight.specs.Changes.{parts_at, with_change, with_pair}
-use Rattle.proof_straight.specs.Drafts.{Draft}
-use Rattle.proof_straight.specs.Running.{HasEmptySlots}
+use Rattle.machine_core.specs.Beneath.proof_straight.specs.Changes.{parts_at, with_change, with_pair}
+use Rattle.machine_core.specs.Beneath.proof_straight.specs.Drafts.{Draft}
+use Rattle.machine_core.specs.Beneath.proof_straight.specs.Running.{HasEmptySlots}
 use Rattle.machine_core.specs.Beneath.trie_parts.specs.Holding.{AreHeld}
-use Rattle.machine_core.specs.Drafting.{IsDraft, KeepsRecords}
+use Rattle.proof_core.specs.Drafting.{IsDraft, KeepsRecords}
 
 -- so many nodes can be made, which are held with these
 pub record CanMake (memory : Memory) (made : List Ref) (nodes : ℕ) : Type 0 where

@@ -16,17 +16,17 @@ use Rattle.machine_model.specs.Contents.{most_levels}
 use Rattle.machine_model.specs.Keys.{FitsKey}
 use Rattle.machine_model.specs.declared.steps.Step.TheVariants as step
 use Rattle.machine_model.specs.States.{State, key_hash}
-use Rattle.proof_straight.specs.Drafts.{first_draft}
-use Rattle.proof_straight.specs.Places.{Leads}
-use Rattle.proof_straight.specs.Renewals.{Renewal, renewal_of, renewed_entries, steps_of_renewal, with_renewal}
-use Rattle.proof_straight.specs.Running.{IsKeyed}
+use Rattle.machine_core.specs.Beneath.proof_straight.specs.Drafts.{first_draft}
+use Rattle.machine_core.specs.Beneath.proof_straight.specs.Places.{Leads}
+use Rattle.machine_core.specs.Beneath.proof_straight.specs.Renewals.{Renewal, renewal_of, renewed_entries, steps_of_renewal, with_renewal}
+use Rattle.machine_core.specs.Beneath.proof_straight.specs.Running.{IsKeyed}
 use Rattle.machine_core.specs.Beneath.nodes.specs.Levels.{flag_of, has_flag}
 use Rattle.machine_core.specs.declared.descending.Onward.{Onward}
 use Rattle.machine_core.specs.declared.descending.Onward.TheVariants.{Below, Here, Barred}
 use Rattle.machine_core.specs.declared.descending.Place.{Place}
 use Rattle.machine_core.specs.declared.parts.Parts.{Parts}
 use Rattle.machine_core.specs.Descending.{IsHere}
-use Rattle.machine_core.specs.Drafting.{IsDraft}
+use Rattle.proof_core.specs.Drafting.{IsDraft}
 use Rattle.machine_core.specs.Keeping.{IsKept}
 use Rattle.machine_core.specs.Pairing.{Makes}
 use Rattle.machine_core.specs.Seen.{seen}

@@ -9,10 +9,10 @@ use Rattle.slot_arena.specs.Times.{times}
 use Rattle.epochs.specs.Memories.{Memory}
 use Rattle.machine_model.specs.declared.roots.Root.{Root}
 use Rattle.machine_model.specs.declared.roots.RootWord.{RootWord}
-use Rattle.proof_straight.specs.Copies.{Course}
+use Rattle.machine_core.specs.Beneath.proof_straight.specs.Copies.{Course}
 use Rattle.machine_core.specs.Beneath.rdcss_root.specs.Holding.{root_refs}
 use Rattle.machine_core.specs.declared.parts.Parts.{Parts}
-use Rattle.machine_core.specs.Drafting.{IsDraft}
+use Rattle.proof_core.specs.Drafting.{IsDraft}
 
 -- the parts have come as far as this course of a call
 pub record IsCourse (course : Course) (parts : Parts) : Type 0 where

@@ -8,13 +8,13 @@ use Rattle.machine_model.specs.declared.roots.RootWord.TheVariants.{Plain}
 use Rattle.machine_model.specs.Calls.{handle_of}
 use Rattle.machine_model.specs.Machine.{longest_life}
 use Rattle.machine_model.specs.States.{State, word_at}
-use Rattle.proof_straight.specs.Passing.{Passes}
-use Rattle.proof_straight.specs.Resting.{IsOfRun}
-use Rattle.proof_straight.specs.Running.{Comes, IsReady}
+use Rattle.machine_core.specs.Beneath.proof_straight.specs.Passing.{Passes}
+use Rattle.machine_core.specs.Beneath.proof_straight.specs.Resting.{IsOfRun}
+use Rattle.machine_core.specs.Beneath.proof_straight.specs.Running.{Comes, IsReady}
 use Rattle.machine_core.specs.declared.parts.Parts.{Parts}
 use Rattle.machine_core.specs.Keeping.{IsCore, IsKept}
 use Rattle.machine_core.specs.Seen.{seen}
-use Rattle.machine_core.specs.Tries.{IsTrie}
+use Rattle.proof_core.specs.Tries.{IsTrie}
 
 -- begun in this state the actor's call goes on alone, comes to this reply, and leaves that state
 abbrev pub CarriesOut : State → (actor : ℕ) → Call → Reply → State → Type 0

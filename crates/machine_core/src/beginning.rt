@@ -11,10 +11,10 @@ ghost use Rattle.machine_model.specs.declared.roots.RootWord.TheVariants.{Offer}
 ghost use Rattle.running.specs.Places.{call_for};
 ghost use Rattle.machine_core.specs.Beginnings.{Begins};
 ghost use Rattle.machine_core.specs.Keeping.{IsCore, IsKept};
-ghost use Rattle.machine_core.specs.Numbering.{KnowsNumbers};
+ghost use Rattle.proof_core.specs.Numbering.{KnowsNumbers};
 ghost use Rattle.machine_core.specs.Seen.{seen};
 ghost use Rattle.machine_core.specs.Told.{TellsBegin};
-ghost use Rattle.machine_core.specs.Work.{NotesUpTo};
+ghost use Rattle.proof_core.specs.Work.{NotesUpTo};
 
 use crate::calls::{is_close, opens_handle, program_of};
 use crate::handles::{least_free, note_begin};

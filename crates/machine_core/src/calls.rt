@@ -3,7 +3,7 @@
 ghost use Rattle.std.specs.Prelude.{◌≡◌, ◌<◌, ◌^◌, IsTrue};
 ghost use Rattle.machine_model.specs.Calls.{handle_of, key_of, value_of, needs_writable, needs_read_only, opens_handle, is_close};
 ghost use Rattle.machine_model.specs.Calls.{absent_reply, answers_unless, changed_reply, inserts, when_found};
-ghost use Rattle.proof_straight.specs.Running.{IsKeyed};
+ghost use Rattle.machine_core.specs.Beneath.proof_straight.specs.Running.{IsKeyed};
 ghost use Rattle.running.specs.Places.{call_for};
 
 use history::{Call, Reply};

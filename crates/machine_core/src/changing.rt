@@ -3,15 +3,15 @@
 ghost use Rattle.std.specs.Prelude.{◌≡◌, ◌<◌, ◌≤◌, IfSome};
 ghost use Rattle.slot_arena.specs.Heaps.{main_at};
 ghost use Rattle.machine_model.specs.declared.building.Change.TheVariants as change;
-ghost use Rattle.proof_straight.specs.Places.{Leaves};
+ghost use Rattle.machine_core.specs.Beneath.proof_straight.specs.Places.{Leaves};
 ghost use Rattle.machine_core.specs.Beneath.nodes.specs.Levels.{flag_of};
 ghost use Rattle.machine_model.specs.Calls.{key_of, value_of};
 ghost use Rattle.machine_model.specs.States.{State, key_hash};
-ghost use Rattle.proof_straight.specs.Changes.{with_change, with_single};
-ghost use Rattle.proof_straight.specs.Drafts.{first_draft};
+ghost use Rattle.machine_core.specs.Beneath.proof_straight.specs.Changes.{with_change, with_single};
+ghost use Rattle.machine_core.specs.Beneath.proof_straight.specs.Drafts.{first_draft};
 ghost use Rattle.machine_core.specs.Changing.{IsDeed, putting};
 ghost use Rattle.machine_core.specs.Descending.{IsHere};
-ghost use Rattle.machine_core.specs.Drafting.{CanSwap, IsDraft, KeepsRecords};
+ghost use Rattle.proof_core.specs.Drafting.{CanSwap, IsDraft, KeepsRecords};
 
 use crate::calls::{absent_reply, inserts, when_found};
 use crate::descending::{Entry, Place};

@@ -2,8 +2,8 @@
 
 ghost use Rattle.std.specs.Prelude.{◌≡◌, [], IfOk, OnOk};
 ghost use Rattle.machine_model.specs.Contents.{content_at};
-ghost use Rattle.machine_core.specs.Comparing.{Adds, main_below, pairs_from, pairs_under, single_at};
-ghost use Rattle.machine_core.specs.Reading.{Covers};
+ghost use Rattle.proof_core.specs.Comparing.{Adds, main_below, pairs_from, pairs_under, single_at};
+ghost use Rattle.proof_core.specs.Reading.{Covers};
 ghost use Rattle.machine_core.specs.Seen.{seen};
 
 use crate::contents::MOST_LEVELS;

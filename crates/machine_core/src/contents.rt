@@ -34,7 +34,7 @@ pub fn content_of(parts: &Parts, handle: u16) -> Result<Pairs, AllocError>
 
 /// Adds the pairs that are reached from an indirection or a single, within so many levels.
 #[cycle(gathering)]
-#[tactic(auto, using(crate::proofs::Gathering::gathering))]
+#[tactic(auto, using(proof_core::proofs::Gathering::gathering))]
 fn gather(pairs: &mut Vec<(u64, u64)>, levels: u32, heap: &Heap, at: Ref) -> Result<(), AllocError>
     ensures { OnOk result (pairs.new.items ≡ pairs.old.items ++ pairs_below levels heap.now.heap at) }
 {
@@ -55,7 +55,7 @@ fn gather(pairs: &mut Vec<(u64, u64)>, levels: u32, heap: &Heap, at: Ref) -> Res
 
 /// Adds the pairs that are reached from the entries of a main node, within so many levels.
 #[cycle(gathering)]
-#[tactic(auto, using(crate::proofs::Gathering::gathering))]
+#[tactic(auto, using(proof_core::proofs::Gathering::gathering))]
 fn gather_each(
     pairs: &mut Vec<(u64, u64)>,
     levels: u32,

@@ -26,7 +26,7 @@ pub fn count_of(parts: &Parts, handle: u16) -> u64
 
 /// How many pairs are reached from an indirection or a single, within so many levels.
 #[cycle(counting)]
-#[tactic(auto, using(crate::proofs::Counted::counted))]
+#[tactic(auto, using(proof_core::proofs::Counted::counted))]
 fn count(levels: u32, heap: &Heap, at: Ref) -> u64
     requires { length (pairs_below levels heap.now.heap at) < 2 ^ 64 }
     ensures { result ≡ length (pairs_below levels heap.now.heap at) }
@@ -43,7 +43,7 @@ fn count(levels: u32, heap: &Heap, at: Ref) -> u64
 
 /// How many pairs are reached from the entries of a main node, within so many levels.
 #[cycle(counting)]
-#[tactic(auto, using(crate::proofs::Counted::counted))]
+#[tactic(auto, using(proof_core::proofs::Counted::counted))]
 fn count_each(levels: u32, heap: &Heap, main: Ref) -> u64
     requires { length (flat_map (pairs_below levels heap.now.heap) (entries_of (node_at heap.now.heap main))) < 2 ^ 64 }
     ensures { result ≡ length (flat_map (pairs_below levels heap.now.heap) (entries_of (node_at heap.now.heap main))) }

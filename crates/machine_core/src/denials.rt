@@ -3,10 +3,10 @@
 ghost use Rattle.std.specs.Prelude.{◌≡◌, true};
 ghost use Rattle.machine_model.specs.Machine.{is_spent, is_access, begin_denial, go_denial, denial_of, next_kind};
 ghost use Rattle.machine_model.specs.declared.steps.Step.TheVariants as steps;
-ghost use Rattle.proof_straight.specs.Resting.{IsOfRun};
-ghost use Rattle.machine_core.specs.Numbering.{KnowsNumbers};
+ghost use Rattle.machine_core.specs.Beneath.proof_straight.specs.Resting.{IsOfRun};
+ghost use Rattle.proof_core.specs.Numbering.{KnowsNumbers};
 ghost use Rattle.machine_core.specs.Seen.{seen};
-ghost use Rattle.machine_core.specs.Walking.{goes_on};
+ghost use Rattle.proof_core.specs.Walking.{goes_on};
 
 use crate::actors::is_actor;
 use crate::calls::{is_close, needs_read_only, needs_writable, opens_handle};

@@ -8,7 +8,7 @@ ghost use Rattle.machine_model.specs.States.{root_at};
 ghost use Rattle.machine_core.specs.Comparing.{AreDifferences, difference_of};
 ghost use Rattle.machine_core.specs.Finding.{found_along};
 ghost use Rattle.machine_core.specs.Keeping.{IsCore};
-ghost use Rattle.machine_core.specs.Reading.{Covers};
+ghost use Rattle.proof_core.specs.Reading.{Covers};
 ghost use Rattle.machine_core.specs.Seen.{seen};
 
 use crate::comparing::keys_apart;

@@ -7,9 +7,9 @@ ghost use Rattle.slot_arena.specs.Arenas.{AreLive, IsLive, is_indirection, is_ma
 ghost use Rattle.slot_arena.specs.declared.refs.Ref.{Ref as ARef};
 ghost use Rattle.machine_model.specs.Building.{changed};
 ghost use Rattle.machine_model.specs.States.{State};
-ghost use Rattle.proof_straight.specs.Drafts.{Draft, next_made, swapped_in, with_commit, with_made, with_published};
+ghost use Rattle.machine_core.specs.Beneath.proof_straight.specs.Drafts.{Draft, next_made, swapped_in, with_commit, with_made, with_published};
 ghost use Rattle.machine_core.specs.Beneath.trie_parts.specs.Holding.{AreHeld};
-ghost use Rattle.machine_core.specs.Drafting.{CanSwap, IsDraft, KeepsRecords};
+ghost use Rattle.proof_core.specs.Drafting.{CanSwap, IsDraft, KeepsRecords};
 ghost use Rattle.slot_arena.specs.Refs.{birth_limit};
 
 use epochs::Heap;

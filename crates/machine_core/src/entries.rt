@@ -2,7 +2,7 @@
 
 ghost use Rattle.std.specs.Prelude.{◌≡◌, ◌<◌, ◌≤◌, ◌++◌, true, nat_lt, length};
 ghost use Rattle.slot_arena.specs.Heaps.{refs_of_option};
-ghost use Rattle.machine_core.specs.Comparing.{entries_below};
+ghost use Rattle.proof_core.specs.Comparing.{entries_below};
 
 use epochs::Heap;
 use running::{entries_at, node_at};

@@ -14,7 +14,7 @@ ghost use Rattle.machine_core.specs.Keeping.{IsCore, IsKept};
 ghost use Rattle.machine_core.specs.Rooming.{CanGo, HasRoomToStep};
 ghost use Rattle.machine_core.specs.Seen.{operation_seen, seen, under_way_of};
 ghost use Rattle.machine_core.specs.Told.{TellsStep};
-ghost use Rattle.machine_core.specs.Walking.{goes_on};
+ghost use Rattle.proof_core.specs.Walking.{goes_on};
 ghost use Rattle.machine_core.specs.Work.{ActsLittle};
 ghost use Rattle.machine_core.specs.declared.parts.Actor.{Actor as AnActor};
 ghost use Rattle.machine_core.specs.declared.parts.UnderWay.{UnderWay as AnUnderWay};

@@ -5,7 +5,7 @@ ghost use Rattle.handle_table.specs.Numbers.{running_on};
 ghost use Rattle.machine_model.specs.Calls.{handle_of};
 ghost use Rattle.machine_model.specs.Machine.{reserved_by, handles_taken, least_free, runs_on};
 ghost use Rattle.running.specs.declared.programs.Programs.{Programs};
-ghost use Rattle.machine_core.specs.Numbering.{KnowsNumbers, begun_on, ended_on, reserved};
+ghost use Rattle.proof_core.specs.Numbering.{KnowsNumbers, begun_on, ended_on, reserved};
 ghost use Rattle.machine_core.specs.Seen.{operation_at, seen};
 
 use crate::calls::is_close;

@@ -55,6 +55,6 @@ mod telling;
 pub use calls::key_fits;
 pub use differing::Difference;
 pub use machine::Core;
-pub use proof_records::{one_place_a_step, tellings_fit};
+pub use proof_core::{one_place_a_step, tellings_fit};
 pub use starting::LONGEST_LIFE;
 pub use telling::{Begun, Ended, Stepped};

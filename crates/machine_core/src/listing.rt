@@ -4,7 +4,7 @@ ghost use Rattle.std.specs.Prelude.{◌≡◌, IfOk, OnOk};
 ghost use Rattle.std.specs.List.{flat_map};
 ghost use Rattle.slot_arena.specs.Heaps.{entries_of, node_at};
 ghost use Rattle.machine_model.specs.Contents.{content_at, pairs_below};
-ghost use Rattle.machine_core.specs.Reading.{next_of};
+ghost use Rattle.proof_core.specs.Reading.{next_of};
 ghost use Rattle.machine_core.specs.Seen.{seen};
 ghost use Rattle.machine_core.specs.Selecting.{Takes};
 

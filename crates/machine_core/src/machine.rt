@@ -7,14 +7,14 @@ ghost use Rattle.machine_model.specs.States.{first_state, root_at};
 ghost use Rattle.machine_model.specs.Contents.{content_at};
 ghost use Rattle.machine_model.specs.Machine.{next, is_running, is_busy, next_kind, runs_on, begin_denial, denial_of, is_access, is_spent, access_of, handles_taken, AreBounds};
 ghost use Rattle.machine_model.specs.Refusing.{RefusesContent};
-ghost use Rattle.machine_core.specs.Bounds.{Answers, Applies, RefusesBounds};
-ghost use Rattle.proof_straight.specs.Resting.{IsOfRun};
+ghost use Rattle.proof_core.specs.Bounds.{Answers, Applies, RefusesBounds};
+ghost use Rattle.machine_core.specs.Beneath.proof_straight.specs.Resting.{IsOfRun};
 ghost use Rattle.machine_core.specs.Finding.{found_along};
 ghost use Rattle.machine_core.specs.Straight.{CarriesOut};
 ghost use Rattle.machine_core.specs.Sweeping.{Reclaims};
 ghost use Rattle.machine_core.specs.Told.{began, ended, reply_in, stepped, TellsBegin, TellsEnd, TellsStep};
-ghost use Rattle.machine_core.specs.Walking.{goes_on};
-ghost use Rattle.machine_core.specs.Work.{WorksLittle};
+ghost use Rattle.proof_core.specs.Walking.{goes_on};
+ghost use Rattle.proof_core.specs.Work.{WorksLittle};
 
 use crate::actors::{copied_reply, is_busy, next_kind};
 use crate::contents::content_of;
@@ -48,7 +48,8 @@ impl Drop for Core {
 
 impl Model for Core {
     ghost use Rattle.machine_core.specs.Keeping.{IsCore};
-    ghost use Rattle.machine_core.specs.Work.{Worked, worked};
+    ghost use Rattle.machine_core.specs.Work.{worked};
+    ghost use Rattle.proof_core.specs.Work.{Worked};
 
     ghost Value = { Worked };
 

@@ -10,10 +10,10 @@ ghost use Rattle.history.specs.declared.calls.Call.{Call};
 ghost use Rattle.machine_model.specs.Building.{key_in};
 ghost use Rattle.machine_model.specs.Calls.{key_of, value_of};
 ghost use Rattle.machine_model.specs.States.{State, key_hash};
-ghost use Rattle.proof_straight.specs.Changes.{with_links};
-ghost use Rattle.proof_straight.specs.Drafts.{Draft, first_draft, with_made};
+ghost use Rattle.machine_core.specs.Beneath.proof_straight.specs.Changes.{with_links};
+ghost use Rattle.machine_core.specs.Beneath.proof_straight.specs.Drafts.{Draft, first_draft, with_made};
 ghost use Rattle.machine_core.specs.Descending.{IsHere};
-ghost use Rattle.machine_core.specs.Drafting.{CanSwap, IsDraft, KeepsRecords};
+ghost use Rattle.proof_core.specs.Drafting.{CanSwap, IsDraft, KeepsRecords};
 ghost use Rattle.machine_core.specs.Pairing.{CanMake, IsMade, IsPaired, Makes};
 ghost use Rattle.machine_core.specs.declared.descending.Entry.TheVariants.{Other};
 

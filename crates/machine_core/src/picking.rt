@@ -4,7 +4,7 @@ ghost use Rattle.std.specs.Prelude.{◌≡◌};
 ghost use Rattle.std.specs.List.{flat_map};
 ghost use Rattle.slot_arena.specs.Heaps.{entries_of, node_at};
 ghost use Rattle.machine_model.specs.Contents.{content_at, pairs_below};
-ghost use Rattle.machine_core.specs.Reading.{IsOneOf, first_of};
+ghost use Rattle.proof_core.specs.Reading.{IsOneOf, first_of};
 ghost use Rattle.machine_core.specs.Seen.{seen};
 
 use crate::contents::MOST_LEVELS;
@@ -23,7 +23,7 @@ pub fn first_of(parts: &Parts, handle: u16) -> Option<(u64, u64)>
 
 /// The first pair that is reached from an indirection or a single, within so many levels.
 #[cycle(picking)]
-#[tactic(auto, using(crate::proofs::Picked::picked))]
+#[tactic(auto, using(proof_core::proofs::Picked::picked))]
 fn pick(levels: u32, heap: &Heap, at: Ref) -> Option<(u64, u64)>
     ensures { result ≡ first_of (pairs_below levels heap.now.heap at) }
 {
@@ -39,7 +39,7 @@ fn pick(levels: u32, heap: &Heap, at: Ref) -> Option<(u64, u64)>
 
 /// The first pair that is reached from the entries of a main node, within so many levels.
 #[cycle(picking)]
-#[tactic(auto, using(crate::proofs::Picked::picked))]
+#[tactic(auto, using(proof_core::proofs::Picked::picked))]
 fn pick_among(levels: u32, heap: &Heap, main: Ref) -> Option<(u64, u64)>
     ensures { result ≡ first_of (flat_map (pairs_below levels heap.now.heap) (entries_of (node_at heap.now.heap main))) }
 {

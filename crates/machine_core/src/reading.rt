@@ -6,7 +6,7 @@ ghost use Rattle.machine_model.specs.Refusing.{RefusesContent};
 ghost use Rattle.machine_model.specs.States.{root_at};
 ghost use Rattle.machine_core.specs.Comparing.{AreDifferences, RefusesEither};
 ghost use Rattle.machine_core.specs.Finding.{found_along};
-ghost use Rattle.machine_core.specs.Reading.{IsOneOf, next_of};
+ghost use Rattle.proof_core.specs.Reading.{IsOneOf, next_of};
 
 use crate::counting::count_of;
 use crate::differing::{Difference, differences};

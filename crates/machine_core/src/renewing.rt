@@ -4,14 +4,14 @@
 ghost use Rattle.std.specs.Prelude.{◌≡◌, ◌+◌, ◌<◌, ◌≤◌, ◌++◌, ◌∷◌, [], ℕ, true, List, IfSome, IsTrue, length};
 ghost use Rattle.arrayvec.specs.ArrayVec.{ArrayVec as AnArrayVec};
 ghost use Rattle.machine_model.specs.States.{State};
-ghost use Rattle.proof_straight.specs.Drafts.{first_draft};
-ghost use Rattle.proof_straight.specs.Renewals.{Renewal, is_of_other, is_old, renewed_entry};
+ghost use Rattle.machine_core.specs.Beneath.proof_straight.specs.Drafts.{first_draft};
+ghost use Rattle.machine_core.specs.Beneath.proof_straight.specs.Renewals.{Renewal, is_of_other, is_old, renewed_entry};
 ghost use Rattle.slot_arena.specs.Arenas.{IsLive};
 ghost use Rattle.slot_arena.specs.Heaps.{entries_of, generation_at, main_at, node_at};
 ghost use Rattle.slot_arena.specs.declared.nodes.Node.{Node as ANode};
 ghost use Rattle.slot_arena.specs.declared.nodes.Node.TheVariants.{Branch};
 ghost use Rattle.slot_arena.specs.declared.refs.Ref.{Ref as ARef};
-ghost use Rattle.machine_core.specs.Drafting.{CanSwap, IsDraft, KeepsRecords};
+ghost use Rattle.proof_core.specs.Drafting.{CanSwap, IsDraft, KeepsRecords};
 ghost use Rattle.machine_core.specs.Pairing.{CanMake, Makes};
 ghost use Rattle.machine_core.specs.Renewing.{AreDecided, AreOverLive, EndsPast, FindsPast, IsBranch, IsDecided, IsOn, IsSoFar, Renews};
 

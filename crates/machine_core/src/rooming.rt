@@ -3,7 +3,7 @@
 ghost use Rattle.std.specs.Prelude.{◌≡◌, ◌-◌, true, slice_get, IfErr, OnErr, OnOk, Some, None};
 ghost use Rattle.machine_model.specs.Machine.{go_denial};
 ghost use Rattle.machine_model.specs.States.{operation_of};
-ghost use Rattle.machine_core.specs.Bounds.{Walks};
+ghost use Rattle.proof_core.specs.Bounds.{Walks};
 ghost use Rattle.machine_core.specs.Keeping.{IsCore};
 ghost use Rattle.machine_core.specs.Rooming.{GivesRoom, HasRoomToStep, IsWalking};
 ghost use Rattle.machine_core.specs.Seen.{seen};

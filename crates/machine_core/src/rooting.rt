@@ -10,14 +10,14 @@ ghost use Rattle.machine_model.specs.Acting.{opened, opened_root};
 ghost use Rattle.machine_model.specs.Counting.{refs_of_word};
 ghost use Rattle.machine_model.specs.States.{State, root_at, with_root};
 ghost use Rattle.machine_model.specs.declared.roots.RootWord.{RootWord as AWord};
-ghost use Rattle.proof_straight.specs.Copies.{Course, with_new_root, with_offer};
-ghost use Rattle.proof_straight.specs.Drafts.{Draft, next_made, redrafted};
+ghost use Rattle.machine_core.specs.Beneath.proof_straight.specs.Copies.{Course, with_new_root, with_offer};
+ghost use Rattle.machine_core.specs.Beneath.proof_straight.specs.Drafts.{Draft, next_made, redrafted};
 ghost use Rattle.epochs.specs.Memories.{KeepsEpochs};
 ghost use Rattle.slot_arena.specs.Times.{times};
 ghost use Rattle.machine_core.specs.Beneath.rdcss_root.specs.Holding.{IsReady, root_refs};
 ghost use Rattle.machine_core.specs.Beneath.rdcss_root.specs.Tables.{opened_in, with_root_in};
-ghost use Rattle.machine_core.specs.Drafting.{IsDraft, KeepsRecords};
-ghost use Rattle.machine_core.specs.Numbering.{reserved};
+ghost use Rattle.proof_core.specs.Drafting.{IsDraft, KeepsRecords};
+ghost use Rattle.proof_core.specs.Numbering.{reserved};
 ghost use Rattle.machine_core.specs.Rooting.{HoldsBeside, IsCourse, writable};
 
 use crate::drafting::make;

@@ -3,7 +3,7 @@
 ghost use Rattle.std.specs.Prelude.{◌≡◌, ◌≤◌, []};
 ghost use Rattle.std.specs.BinaryHeap.{IsHeap, heap_items, heap_len};
 ghost use Rattle.std.proofs.Props.{props};
-ghost use Rattle.machine_core.specs.Reading.{by_both};
+ghost use Rattle.proof_core.specs.Reading.{by_both};
 
 use std::alloc::Global;
 use std::collections::BinaryHeap;

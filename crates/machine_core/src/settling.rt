@@ -5,7 +5,7 @@ ghost use Rattle.std.specs.Prelude.{◌≡◌, ◌+◌, ◌<◌, ◌^◌, ◌*�
 ghost use Rattle.machine_model.specs.Counting.{settled};
 ghost use Rattle.machine_core.specs.Seen.{seen};
 ghost use Rattle.machine_core.specs.Keeping.{IsKept};
-ghost use Rattle.machine_core.specs.Work.{WorksUpTo};
+ghost use Rattle.proof_core.specs.Work.{WorksUpTo};
 
 use crate::parts::Parts;
 

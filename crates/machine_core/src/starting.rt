@@ -41,7 +41,7 @@ pub fn are_bounds(bounds: Bounds) -> bool
 
 /// A heap of so many slots, of which the first two have an empty branch and over it the root of handle 0,
 /// which alone is held.
-#[tactic(auto, using(crate::proofs::Starts::next_first, crate::proofs::Starts::next_second, crate::proofs::Starts::first_limbo, crate::proofs::Claims::one_live))]
+#[tactic(auto, using(crate::proofs::Starts::next_first, crate::proofs::Starts::next_second, crate::proofs::Starts::first_limbo, proof_core::proofs::Claims::one_live))]
 fn first_memory(alloc: Global, slots: u32, actors: u8) -> Result<Heap, Refusal>
     requires { AreSizes slots actors }
     ensures heap { IfOk result (λ memory. memory.heap ≡ first_heap slots) }
@@ -70,7 +70,7 @@ fn first_memory(alloc: Global, slots: u32, actors: u8) -> Result<Heap, Refusal>
 }
 
 /// The handles: only 0 is open, writable over the first root, which was held before and is held still.
-#[tactic(auto, using(crate::proofs::Claims::one_live, crate::proofs::Starts::none_ready))]
+#[tactic(auto, using(proof_core::proofs::Claims::one_live, crate::proofs::Starts::none_ready))]
 fn first_table(alloc: Global, heap: &mut Heap, actors: u8) -> Result<Roots, AllocError>
     requires outside { heap.old.outside ≡ ref_to 2 1 ∷ [] }
     requires live { IsLive heap.old.heap (ref_to 2 1) }

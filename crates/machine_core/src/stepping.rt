@@ -4,12 +4,13 @@ ghost use Rattle.std.specs.Prelude.{◌≡◌, false, true, slice_get, Ok, None,
 ghost use Rattle.machine_model.specs.declared.steps.Step.TheVariants as steps;
 ghost use Rattle.machine_model.specs.Machine.{begin_denial, go_denial, next, next_kind};
 ghost use Rattle.machine_model.specs.States.{operation_of};
-ghost use Rattle.machine_core.specs.Bounds.{Walks};
+ghost use Rattle.proof_core.specs.Bounds.{Walks};
 ghost use Rattle.machine_core.specs.Keeping.{IsCore};
 ghost use Rattle.machine_core.specs.Seen.{seen};
 ghost use Rattle.machine_core.specs.Told.{TellsBegin, TellsEnd, TellsStep};
-ghost use Rattle.machine_core.specs.Walking.{goes_on};
-ghost use Rattle.machine_core.specs.Work.{worked, WorksLittle};
+ghost use Rattle.proof_core.specs.Walking.{goes_on};
+ghost use Rattle.machine_core.specs.Work.{worked};
+ghost use Rattle.proof_core.specs.Work.{WorksLittle};
 
 use crate::beginning::begin_operation;
 use crate::calls::key_fits;

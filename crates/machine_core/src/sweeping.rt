@@ -8,7 +8,8 @@ ghost use Rattle.machine_model.specs.Machine.{is_spent, next};
 ghost use Rattle.machine_core.specs.Keeping.{IsCore};
 ghost use Rattle.machine_core.specs.Seen.{seen};
 ghost use Rattle.machine_core.specs.Sweeping.{Reclaims};
-ghost use Rattle.machine_core.specs.Work.{worked, WorksLittle};
+ghost use Rattle.machine_core.specs.Work.{worked};
+ghost use Rattle.proof_core.specs.Work.{WorksLittle};
 
 use crate::denials::is_spent;
 use crate::parts::Parts;

@@ -9,7 +9,7 @@ use Rattle.machine_model.specs.declared.steps.Step.{Step}
 use Rattle.machine_model.specs.declared.steps.Step.TheVariants as step
 use Rattle.machine_model.specs.States.{State, operation_of}
 use Rattle.machine_model.specs.Machine.{next, denial_of, begin_denial, begin_unless, go_denial, go_unless, first_reason, is_spent, is_taken_step}
-use Rattle.step_machine.specs.Machines.{Taken, state_of, Applied}
+use Rattle.proof_runs.specs.Machines.{Taken, state_of, Applied}
 use Rattle.machine_core.proofs.Steps.{denied}
 
 -- none of the reasons is want of memory, so the first isn't either

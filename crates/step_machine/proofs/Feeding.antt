@@ -1,6 +1,5 @@
 -- What a step tells may be told, and what is recorded then.
 use Rattle.std.proofs.Common.{arith, ◌≡◌, ◌⊎◌, inl, inr, ◌≤◌, ℕ, true, List, Option, Some, None, Result, Ok, Err, refl, sym, ap, subst, ◌∙◌}
-use Rattle.std.proofs.lemmas.Option.{none-some, same_Some}
 use Rattle.std.specs.Prelude.{unwrap_or}
 use Rattle.ctrie_base.specs.declared.refusals.Refusal.{Refusal}
 use Rattle.ctrie_base.specs.declared.refusals.Refusal.TheVariants as refuse
@@ -20,7 +19,7 @@ use Rattle.machine_model.specs.declared.steps.Step.TheVariants as step
 use Rattle.machine_model.specs.Limits.{bounded}
 use Rattle.machine_model.specs.Machine.{begin_denial, denial_of, is_actor, is_taken_step, next}
 use Rattle.machine_model.specs.Operations.{action_of}
-use Rattle.machine_model.specs.Records.{Record, next_record, noted, noted_begin, noted_end, noted_progress}
+use Rattle.machine_model.specs.Records.{Record, next_record, noted}
 use Rattle.machine_model.specs.States.{State, operation_of}
 use Rattle.machine_model.specs.Tellings.{entrant_of, progress_of, told_by, told_in, told_of}
 use Rattle.chronicle.specs.Chronicled.{CanBegin, CanEnd, CanGo, Chronicled}
@@ -28,13 +27,13 @@ use Rattle.machine_core.specs.declared.telling.Begun.{Begun}
 use Rattle.machine_core.specs.declared.telling.Ended.{Ended}
 use Rattle.machine_core.specs.declared.telling.Stepped.{Stepped}
 use Rattle.machine_core.specs.Told.{TellsBegin, TellsEnd, TellsStep}
-use Rattle.step_machine.specs.Beneath.proof_records.specs.Tellings.{CanTell, IsKeptOf, TellingsFit}
-use Rattle.machine_core.specs.Bounds.{Answers, Applies}
-use Rattle.step_machine.specs.Machines.{Applied, Taken, state_of, with_step}
+use Rattle.step_machine.specs.Beneath.proof_records.specs.Tellings.{CanTell, TellingsFit}
+use Rattle.step_machine.specs.Beneath.proof_core.specs.Bounds.{Answers, Applies}
+use Rattle.proof_runs.specs.Machines.{Applied, Taken, state_of, with_step}
 use Rattle.step_machine.specs.Taking.{HasTaken, TakesAndTells}
 use Rattle.machine_core.proofs.Steps.{denied}
 use Rattle.step_machine.proofs.Denials.{allowed, never_memory, not_for_memory}
-use Rattle.step_machine.proofs.Bounds.{in_bounds}
+use Rattle.proof_runs.proofs.Bounds.{in_bounds}
 
 -- ---- what may be told
 

@@ -15,7 +15,7 @@ use Rattle.machine_model.specs.Machine.{AreBounds}
 use Rattle.machine_model.specs.States.{root_at, root_of, word_at, word_of}
 use Rattle.machine_core.specs.Finding.{found_along}
 use Rattle.step_machine.specs.Beneath.proof_shape.specs.Agreeing.{LookingFinds}
-use Rattle.step_machine.specs.Machines.{Taken, state_of}
+use Rattle.proof_runs.specs.Machines.{Taken, state_of}
 use Rattle.machine_model.specs.declared.steps.Bounds.{Bounds}
 use Rattle.machine_model.proofs.Along.{limits_along}
 

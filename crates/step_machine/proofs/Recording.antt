@@ -1,5 +1,5 @@
--- Runs that leave out what is denied, step by step.
-use Rattle.std.specs.Prelude.{◌≡◌, Bool, true, false, if◌then◌else◌, List, [], ◌∷◌, ◌++◌, Ok, Err}
+-- Runs that leave out what is denied, step by step, and their records.
+use Rattle.std.specs.Prelude.{◌≡◌, Bool, true, false, if◌then◌else◌, List, [], ◌∷◌, ◌++◌, Result, Ok, Err, IfOk}
 use Rattle.std.proofs.Common.{refl, sym, ap, subst, ◌∙◌}
 use Rattle.ctrie_base.specs.declared.refusals.Refusal.{Refusal}
 use Rattle.ctrie_base.specs.declared.refusals.Refusal.TheVariants as refuse
@@ -14,9 +14,12 @@ use Rattle.machine_model.specs.States.{State, first_state}
 use Rattle.machine_model.specs.Machine.{next, next_state, run_from, run, is_taken_step, taken_from}
 use Rattle.machine_model.proofs.Taken.{run-taken}
 use Rattle.machine_model.proofs.Recorded.{record-taken}
-use Rattle.step_machine.specs.Machines.{Taken, fresh, past_of, state_of, with_step, Applied}
+use Rattle.ctrie_base.specs.Hashes.{hash_of}
+use Rattle.history.specs.Orders.{Explains}
+use Rattle.step_machine.specs.Beneath.proof_order.specs.Laws.Orders.{ShowsContents, IsExplained}
+use Rattle.proof_runs.specs.Machines.{Taken, fresh, past_of, state_of, with_step, Applied}
 use Rattle.step_machine.specs.declared.records.Record.{Record}
-use Rattle.step_machine.specs.Records.{IsAfter, IsRecordOf, IsRecord}
+use Rattle.step_machine.specs.Records.{IsAfter, IsRecordOf, IsRecord, IsLegalRecord}
 
 -- its state is that of the run
 pub run_kept : (limits : Limits) (steps : List Step) (machine : Taken) → IsAfter limits steps machine → state_of machine ≡ run (bounded limits) steps
@@ -77,3 +80,18 @@ recorded limits steps machine made after r = record {
   free = r.free ∙ ap (λ state. length state.heap.free) (run_kept limits steps machine after);
   limbo = r.limbo ∙ ap (λ state. length state.limbo) (run_kept limits steps machine after);
 }
+
+-- ---- its order
+
+record_legal : (machine : Taken) → IsExplained (bounded machine.limits) (state_of machine) (past_of machine) → (made : Record) → IsRecordOf machine made → IsLegalRecord made
+record_legal machine (world, explains, shows) made is =
+    let by_hash = subst (λ (sizes : Limits). Explains (hash_of sizes.hash) (past_of machine).events (order_of (past_of machine)) world) (sym is.sizes) explains in
+    let by_events = subst (λ events. Explains (hash_of made.limits.hash) events (order_of (past_of machine)) world) (sym is.history) by_hash in
+    let by_order = subst (λ order. Explains (hash_of made.limits.hash) made.events.items order world) (sym is.order) by_events in
+    let by_sizes = subst (λ (sizes : Limits). ShowsContents world (run (bounded sizes) machine.steps)) (sym is.sizes) shows in
+    (world, by_order, subst (λ steps. ShowsContents world (run (bounded made.limits) steps)) (sym is.path) by_sizes)
+
+pub if_record_legal : {E : Type 0} (machine : Taken) → IsExplained (bounded machine.limits) (state_of machine) (past_of machine) → (result : Result Record E) → IfOk result (IsRecordOf machine) →
+    IfOk result IsLegalRecord
+if_record_legal machine explained (Ok made) is = record_legal machine explained made is
+if_record_legal machine explained (Err why) is = tt

@@ -1,12 +1,12 @@
 -- What lies below this crate, named through the nearest crates alone: crates.txt lists only these, since the toolchain goes along each of its paths.
 pub use Rattle.machine_model as machine_model
 pub use Rattle.epochs as epochs
-pub use Rattle.proof_linearizable.specs.Beneath.slot_arena as slot_arena
-pub use Rattle.proof_linearizable.specs.Beneath.proof_contents as proof_contents
-pub use Rattle.proof_linearizable.specs.Beneath.proof_commits as proof_commits
-pub use Rattle.proof_linearizable.specs.Beneath.proof_generations as proof_generations
-pub use Rattle.proof_linearizable.specs.Beneath.proof_order as proof_order
-pub use Rattle.proof_linearizable.specs.Beneath.proof_shape as proof_shape
-pub use Rattle.proof_linearizable.specs.Beneath.proof_updates as proof_updates
-pub use Rattle.proof_obstruction_free as proof_obstruction_free
+pub use Rattle.proof_runs as proof_runs
+pub use Rattle.proof_runs.specs.Beneath.slot_arena as slot_arena
+pub use Rattle.proof_runs.specs.Beneath.proof_contents as proof_contents
+pub use Rattle.proof_runs.specs.Beneath.proof_generations as proof_generations
+pub use Rattle.proof_runs.specs.Beneath.proof_order as proof_order
+pub use Rattle.proof_runs.specs.Beneath.proof_shape as proof_shape
+pub use Rattle.proof_runs.specs.Beneath.proof_obstruction_free as proof_obstruction_free
+pub use Rattle.machine_core.specs.Beneath.proof_core as proof_core
 pub use Rattle.machine_core.specs.Beneath.proof_records as proof_records

@@ -1,10 +1,3 @@
 pub mod Beneath
-pub mod Machines
-pub mod Callers
 pub mod Records
-pub mod Reclaiming
-pub mod Legality
-pub mod Ending
-pub mod Memory
-pub mod Contents
 pub mod Taking

@@ -1,12 +1,16 @@
--- What is kept of a run.
+-- What is kept of a run, and that its order is legal.
 use Rattle.std.specs.Prelude.{◌≡◌, List, length}
+use Rattle.ctrie_base.specs.Hashes.{hash_of}
+use Rattle.history.specs.Orders.{Explains}
+use Rattle.history.specs.Worlds.{HandleMap}
 use Rattle.machine_model.specs.declared.steps.Limits.{Limits}
 use Rattle.machine_model.specs.declared.steps.Step.{Step}
 use Rattle.step_machine.specs.Beneath.slot_arena.specs.Heaps.{in_use}
 use Rattle.machine_model.specs.Limits.{bounded}
 use Rattle.machine_model.specs.Machine.{run, taken_steps}
 use Rattle.machine_model.specs.Records.{order_of, record_of}
-use Rattle.step_machine.specs.Machines.{Taken, past_of, state_of}
+use Rattle.step_machine.specs.Beneath.proof_order.specs.Laws.Orders.{ShowsContents}
+use Rattle.proof_runs.specs.Machines.{Taken, past_of, state_of}
 use Rattle.step_machine.specs.declared.records.Record.{Record}
 
 -- the machine has taken those of the steps that aren't denied
@@ -32,3 +36,8 @@ pub record IsRecord (limits : Limits) (steps : List Step) (made : Record) : Type
   pub used : made.used ≡ length (in_use (run (bounded limits) steps).heap)
   pub free : made.free ≡ length (run (bounded limits) steps).heap.free
   pub limbo : made.limbo ≡ length (run (bounded limits) steps).limbo
+
+-- the order of a record is legal for its history, and leads to a world that shows the contents behind the last of its steps
+abbrev pub IsLegalRecord : Record → Type 0
+IsLegalRecord made =
+    (world : HandleMap) × Explains (hash_of made.limits.hash) made.events.items made.order.items world × ShowsContents world (run (bounded made.limits) made.steps.items)

@@ -13,7 +13,7 @@ use Rattle.machine_model.specs.Machine.{denial_of, next, run}
 use Rattle.machine_model.specs.Records.{next_record, record_of}
 use Rattle.machine_model.specs.States.{State}
 use Rattle.chronicle.specs.Chronicled.{Chronicled}
-use Rattle.step_machine.specs.Machines.{AreTaken}
+use Rattle.proof_runs.specs.Machines.{AreTaken}
 
 -- the parts of a machine that has taken these steps
 pub record HasTaken (limits : Limits) (steps : List Step) (state : State) (kept : Chronicled) : Type 0 where

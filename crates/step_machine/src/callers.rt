@@ -5,12 +5,12 @@ ghost use Rattle.machine_model.specs.declared.steps.Limits.{Limits};
 ghost use Rattle.machine_model.specs.declared.steps.Step.{Step};
 ghost use Rattle.step_machine.specs.Records.{IsAfter};
 ghost use Rattle.history.specs.declared.calls.Call.{Call};
-ghost use Rattle.step_machine.specs.Machines.{Taken, state_of};
-ghost use Rattle.step_machine.specs.Callers.{Stepped, Replies, Resumes, Completes, Reclaims};
+ghost use Rattle.proof_runs.specs.Machines.{Taken, state_of};
+ghost use Rattle.proof_runs.specs.Callers.{Stepped, Replies, Resumes, Completes, Reclaims};
 ghost use Rattle.machine_model.specs.Machine.{is_busy};
-ghost use Rattle.step_machine.specs.Reclaiming.{UsesReached, LooksSame, SweepsFew};
-ghost use Rattle.step_machine.specs.Legality.{ActedAlone, RestsIfAnswered, WentAlone};
-ghost use Rattle.step_machine.specs.Ending.{CompletesIfSure, IsSpared, ResumesIfSure};
+ghost use Rattle.proof_runs.specs.Reclaiming.{UsesReached, LooksSame, SweepsFew};
+ghost use Rattle.proof_runs.specs.Legality.{ActedAlone, RestsIfAnswered, WentAlone};
+ghost use Rattle.proof_runs.specs.Ending.{CompletesIfSure, IsSpared, ResumesIfSure};
 
 use crate::machine::Machine;
 use ctrie_base::Refusal;
@@ -42,16 +42,16 @@ impl Machine {
         let result = self.begin_and_go(actor, call);
         let _ = self.limits();
         let _ = self.steps();
-        proof_linearizable::alone_it_acts();
-        proof_obstruction_free::each_step_leads_to_its_end();
-        proof_obstruction_free::closes_end();
-        proof_obstruction_free::enough_slots_for_tries();
-        proof_obstruction_free::enough_slots_for_copies();
+        proof_runs::alone_it_acts();
+        proof_runs::each_step_leads_to_its_end();
+        proof_runs::closes_end();
+        proof_runs::enough_slots_for_tries();
+        proof_runs::enough_slots_for_copies();
         result
     }
 
     /// The same, of the steps alone.
-    #[tactic(auto, using(crate::proofs::Completing::not_begun, crate::proofs::Completing::begun))]
+    #[tactic(auto, using(proof_runs::proofs::Completing::not_begun, proof_runs::proofs::Completing::begun))]
     fn begin_and_go(&mut self, actor: u8, call: Call) -> Result<Option<Reply>, Refusal>
         ensures { Completes result self.old actor call self.new }
     {
@@ -76,16 +76,16 @@ impl Machine {
         let result = self.go_on(actor);
         let _ = self.limits();
         let _ = self.steps();
-        proof_linearizable::alone_it_acts();
-        proof_obstruction_free::each_step_leads_to_its_end();
-        proof_obstruction_free::closes_end();
-        proof_obstruction_free::enough_slots_for_tries();
-        proof_obstruction_free::enough_slots_for_copies();
+        proof_runs::alone_it_acts();
+        proof_runs::each_step_leads_to_its_end();
+        proof_runs::closes_end();
+        proof_runs::enough_slots_for_tries();
+        proof_runs::enough_slots_for_copies();
         result
     }
 
     /// The same, of the steps alone.
-    #[tactic(auto, using(crate::proofs::Going::stops), unfolding(crate::specs::Callers::going_on))]
+    #[tactic(auto, using(proof_runs::proofs::Going::stops), unfolding(proof_runs::specs::Callers::going_on))]
     fn go_on(&mut self, actor: u8) -> Result<Option<Reply>, Refusal>
         ensures { Resumes result self.old actor self.new }
     {
@@ -124,13 +124,13 @@ impl Machine {
     {
         let _ = self.limits();
         let result = self.sweep_all();
-        proof_memory::sweep_leaves();
-        proof_memory::reclaimed();
+        proof_runs::sweep_leaves();
+        proof_runs::reclaimed();
         result
     }
 
     /// Takes steps of the sweep until limbo is empty, where no operation runs.
-    #[tactic(auto, using(crate::proofs::Sweeping::unswept, crate::proofs::Sweeping::finished, crate::proofs::Sweeping::nearer))]
+    #[tactic(auto, using(proof_runs::proofs::Sweeping::unswept, proof_runs::proofs::Sweeping::finished, proof_runs::proofs::Sweeping::nearer))]
     fn sweep_all(&mut self) -> Result<(), Refusal>
         ensures { Reclaims result self.old self.new }
     {

@@ -3,7 +3,7 @@
 ghost use Rattle.machine_model.specs.Keys.{FitsKey};
 ghost use Rattle.step_machine.specs.Beneath.proof_order.specs.Laws.Orders.{IsExplained};
 ghost use Rattle.machine_model.specs.Limits.{bounded};
-ghost use Rattle.step_machine.specs.Machines.{past_of, state_of};
+ghost use Rattle.proof_runs.specs.Machines.{past_of, state_of};
 
 use crate::machine::Machine;
 use machine_model::Step;
@@ -16,7 +16,7 @@ impl Machine {
     {
         let _ = self.steps();
         let _ = self.limits();
-        proof_linearizable::every_order_is_legal();
+        proof_runs::every_order_is_legal();
     }
 
     /// The key of a step has 64 bits, since it is one of the program's.

@@ -17,5 +17,5 @@ pub use callers::GO_LIMIT;
 pub use epochs::Swept;
 pub use machine::Machine;
 pub use machine_model::{Limits, Outcome, Step};
-pub use proof_obstruction_free::{alone_it_ends, closes_end};
+pub use proof_runs::{alone_it_ends, closes_end};
 pub use records::{Record, run};

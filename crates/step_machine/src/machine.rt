@@ -12,16 +12,16 @@ ghost use Rattle.machine_model.specs.Limits.{AreLimits};
 ghost use Rattle.machine_model.specs.Records.{order_of};
 ghost use Rattle.machine_model.specs.Contents.{content_at};
 ghost use Rattle.machine_core.specs.Finding.{found_along};
-ghost use Rattle.machine_core.specs.Walking.{goes_on};
+ghost use Rattle.step_machine.specs.Beneath.proof_core.specs.Walking.{goes_on};
 ghost use Rattle.machine_model.specs.Keys.{KeysFit};
 ghost use Rattle.machine_model.specs.Machine.{denial_of, is_running, is_busy, runs_on, next_kind, is_access, access_of};
 ghost use Rattle.machine_model.specs.Refusing.{RefusesLimits, RefusesContent};
-ghost use Rattle.step_machine.specs.Machines.{Taken, fresh, past_of, state_of, AreTaken, Applied, FoundNoSlot};
-ghost use Rattle.step_machine.specs.Contents.{ChangesContents};
-ghost use Rattle.step_machine.specs.Ending.{EndsIfSure, IsNearer};
-ghost use Rattle.step_machine.specs.Legality.{IsLegalFor, LeadsToContents, HasInOrder, InOrder, IsInOrder, writable_in};
+ghost use Rattle.proof_runs.specs.Machines.{Taken, fresh, past_of, state_of, AreTaken, Applied, FoundNoSlot};
+ghost use Rattle.proof_runs.specs.Contents.{ChangesContents};
+ghost use Rattle.proof_runs.specs.Ending.{EndsIfSure, IsNearer};
+ghost use Rattle.proof_runs.specs.Legality.{IsLegalFor, LeadsToContents, HasInOrder, InOrder, IsInOrder, writable_in};
 ghost use Rattle.step_machine.specs.Taking.{walked};
-ghost use Rattle.step_machine.specs.Memory.{UsesWhatItNames, FreesLate, DrawsNew};
+ghost use Rattle.proof_runs.specs.Memory.{UsesWhatItNames, FreesLate, DrawsNew};
 
 use crate::rooming::{make_room, touch_room};
 use crate::sizes::{are_limits, bounds_of};
@@ -55,7 +55,7 @@ impl Drop for Machine {
 }
 
 impl Model for Machine {
-    ghost use Rattle.step_machine.specs.Machines.{Taken};
+    ghost use Rattle.proof_runs.specs.Machines.{Taken};
     ghost use Rattle.step_machine.specs.Taking.{HasTaken};
 
     ghost Value = { Taken };
@@ -125,11 +125,11 @@ impl Machine {
         let _ = self.limits();
         let _ = self.steps();
         machine_model::refused_for_want_alone();
-        proof_memory::references_in_use();
-        proof_memory::freed_when_zero_for_two_epochs();
-        proof_linearizable::contents_of_handles();
-        proof_obstruction_free::each_step_leads_to_its_end();
-        proof_obstruction_free::closes_end();
+        proof_runs::references_in_use();
+        proof_runs::freed_when_zero_for_two_epochs();
+        proof_runs::contents_of_handles();
+        proof_runs::each_step_leads_to_its_end();
+        proof_runs::closes_end();
         machine_core::one_place_a_step();
         result
     }
@@ -284,7 +284,7 @@ impl Machine {
     {
         let _ = self.limits();
         let _ = self.steps();
-        proof_linearizable::looking_finds();
+        proof_runs::looking_finds();
         self.looked_up(handle, key)
     }
 

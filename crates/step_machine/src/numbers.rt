@@ -3,7 +3,7 @@
 ghost use Rattle.std.specs.Prelude.{◌≡◌, ◌+◌, length};
 ghost use Rattle.step_machine.specs.Beneath.slot_arena.specs.Heaps.{in_use};
 ghost use Rattle.machine_model.specs.Machine.{handles_taken};
-ghost use Rattle.step_machine.specs.Machines.{state_of};
+ghost use Rattle.proof_runs.specs.Machines.{state_of};
 
 use crate::machine::Machine;
 

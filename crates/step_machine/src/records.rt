@@ -3,9 +3,8 @@
 ghost use Rattle.std.specs.Prelude.{◌≡◌, IfOk, IfErr, OnOk};
 ghost use Rattle.machine_model.specs.Limits.{AreLimits};
 ghost use Rattle.machine_model.specs.Refusing.{RefusesLimits};
-ghost use Rattle.step_machine.specs.Machines.{AreTaken};
-ghost use Rattle.step_machine.specs.Records.{IsAfter, IsRecordOf, IsRecord};
-ghost use Rattle.step_machine.specs.Legality.{IsLegalRecord};
+ghost use Rattle.proof_runs.specs.Machines.{AreTaken};
+ghost use Rattle.step_machine.specs.Records.{IsAfter, IsRecordOf, IsRecord, IsLegalRecord};
 
 use crate::machine::Machine;
 use ctrie_base::Refusal;

@@ -1,7 +1,7 @@
 //! Steps of the state that are told to its record.
 
 ghost use Rattle.std.specs.Prelude.{◌≡◌, ◌<◌, false, true};
-ghost use Rattle.machine_core.specs.Walking.{goes_on};
+ghost use Rattle.step_machine.specs.Beneath.proof_core.specs.Walking.{goes_on};
 ghost use Rattle.machine_model.specs.Machine.{next_kind};
 ghost use Rattle.step_machine.specs.Beneath.proof_records.specs.Tellings.{CanTell};
 ghost use Rattle.step_machine.specs.Taking.{TakesAndTells, walked};

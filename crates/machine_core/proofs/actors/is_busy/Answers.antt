@@ -2,7 +2,7 @@ use Rattle.std.proofs.Common.{sym, ap, ◌∙◌}
 use Rattle.std.specs.Prelude.{is_some}
 use Rattle.std.specs.List.{list_any}
 use Rattle.machine_core.specs.Seen.{operation_seen}
-use Rattle.machine_core.proofs.Mapped.{any_mapped}
+use Rattle.proof_core.proofs.Mapped.{any_mapped}
 use Rattle.machine_core.proofs.actors.is_busy.Goals as goal
 
 pub returns : goal.returns

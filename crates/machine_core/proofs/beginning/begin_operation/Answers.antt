@@ -8,13 +8,14 @@ use Rattle.machine_model.specs.Calls.{handle_of}
 use Rattle.machine_core.specs.Beneath.rdcss_root.proofs.Rewriting.{ready_less}
 use Rattle.machine_core.specs.declared.parts.Parts.{Parts}
 use Rattle.machine_core.specs.Beginnings.{Begins}
-use Rattle.machine_core.specs.Numbering.{begun_on}
+use Rattle.proof_core.specs.Numbering.{begun_on}
 use Rattle.machine_core.specs.Seen.{operation_seen, seen}
 use Rattle.machine_core.proofs.Begins.{BeginsAt, kept_begun, seen_begun}
-use Rattle.machine_core.proofs.Bounded.{bounded}
-use Rattle.machine_core.proofs.Held.{begin_stands, ready_run}
+use Rattle.proof_core.proofs.Bounded.{bounded}
+use Rattle.machine_core.proofs.Held.{ready_run}
+use Rattle.proof_core.proofs.Given.{begin_stands}
 use Rattle.machine_core.proofs.Kept.{at_index}
-use Rattle.machine_core.proofs.Reserved.{few_run}
+use Rattle.proof_core.proofs.Reserved.{few_run}
 use Rattle.machine_core.proofs.Tied.{pins_within}
 use Rattle.machine_core.proofs.beginning.begin_operation.Goals as goal
 

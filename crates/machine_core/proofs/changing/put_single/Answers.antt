@@ -2,11 +2,11 @@ use Rattle.std.proofs.Common.{◌∷◌, [], ◌∙◌, ◌≡◌, ap, sym}
 use Rattle.slot_arena.specs.Heaps.{node_at}
 use Rattle.slot_arena.specs.declared.nodes.Node.TheVariants.{Single}
 use Rattle.machine_model.specs.Building.{changed}
-use Rattle.proof_straight.specs.Changes.{with_single}
-use Rattle.proof_straight.specs.Drafts.{first_draft, next_made}
+use Rattle.machine_core.specs.Beneath.proof_straight.specs.Changes.{with_single}
+use Rattle.machine_core.specs.Beneath.proof_straight.specs.Drafts.{first_draft, next_made}
 use Rattle.machine_core.specs.Changing.{putting}
 use Rattle.machine_core.proofs.Changes.{changed_is_main, changed_live, main_changed, puts_live, puts_no_tomb, single_made}
-use Rattle.machine_core.proofs.Drafts.{can_then, node_then}
+use Rattle.proof_core.proofs.Drafts.{can_then, node_then}
 use Rattle.machine_core.proofs.changing.put_single.Goals as goal
 
 pub swap_changed-requires-clause-can : goal.swap_changed-requires-clause-can

@@ -3,9 +3,9 @@ use Rattle.std.specs.List.{flat_map}
 use Rattle.std.proofs.lemmas.Result.{on_ok_weaker}
 use Rattle.slot_arena.specs.declared.refs.Ref.{Ref}
 use Rattle.machine_model.specs.Contents.{pairs_below}
-use Rattle.machine_core.specs.Comparing.{Adds, entries_below, main_below, pairs_from}
-use Rattle.machine_core.specs.Reading.{Covers}
-use Rattle.machine_core.proofs.Compared.{compared, compared_nothing, covers_both, covers_more, covers_nothing, grows_none, grows_on, taken_off}
+use Rattle.proof_core.specs.Comparing.{Adds, entries_below, main_below, pairs_from}
+use Rattle.proof_core.specs.Reading.{Covers}
+use Rattle.proof_core.proofs.Compared.{compared, compared_nothing, covers_both, covers_more, covers_nothing, grows_none, grows_on, taken_off}
 use Rattle.machine_core.proofs.comparing.+comparing.Goals as goal
 
 pub compare-returns-then-levels-eq0 : goal.compare-returns-then-levels-eq0

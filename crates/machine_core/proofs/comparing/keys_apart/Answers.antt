@@ -1,7 +1,7 @@
 use Rattle.std.proofs.Common.{ap, ◌∙◌}
 use Rattle.machine_model.specs.States.{root_of, word_at}
 use Rattle.machine_core.specs.Seen.{seen}
-use Rattle.machine_core.proofs.Compared.{covers_sorted}
+use Rattle.proof_core.proofs.Compared.{covers_sorted}
 use Rattle.machine_core.proofs.comparing.keys_apart.Goals as goal
 
 pub returns : goal.returns

@@ -7,16 +7,16 @@ use Rattle.slot_arena.specs.Times.{times}
 use Rattle.slot_arena.proofs.Times.{times-cons}
 use Rattle.machine_model.specs.declared.roots.Descriptor.{Descriptor}
 use Rattle.machine_model.specs.declared.roots.RootWord.TheVariants.{Plain}
-use Rattle.proof_straight.specs.Copies.{Course, offer_of, with_new_root, with_offer}
-use Rattle.proof_straight.specs.Drafts.{first_draft, next_made, with_made}
+use Rattle.machine_core.specs.Beneath.proof_straight.specs.Copies.{Course, offer_of, with_new_root, with_offer}
+use Rattle.machine_core.specs.Beneath.proof_straight.specs.Drafts.{first_draft, next_made, with_made}
 use Rattle.machine_core.specs.declared.parts.Parts.{Parts}
-use Rattle.machine_core.specs.Drafting.{IsDraft}
+use Rattle.proof_core.specs.Drafting.{IsDraft}
 use Rattle.machine_core.specs.Rooting.{HoldsBeside, IsCourse}
 use Rattle.machine_core.proofs.Carried.{first_drafted}
 use Rattle.machine_core.specs.Seen.{seen}
 use Rattle.machine_core.proofs.AtRest.{empty_slots}
-use Rattle.machine_core.proofs.Bounded.{bounded}
-use Rattle.machine_core.proofs.Claims.{one_live}
+use Rattle.proof_core.proofs.Bounded.{bounded}
+use Rattle.proof_core.proofs.Claims.{one_live}
 use Rattle.machine_core.proofs.Copied.{clear_comes, copy_after, empty_node, holds_made, made_so, made_twice}
 use Rattle.machine_core.proofs.Copied.{offer_lives, offer_same, over_lives, room_again, root_found, settled_root}
 use Rattle.machine_core.proofs.copying.clear.Goals as goal

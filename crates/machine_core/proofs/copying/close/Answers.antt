@@ -2,12 +2,12 @@ use Rattle.std.proofs.Common.{arith, ◌≡◌, [], refl, ap, sym, ◌∙◌, �
 use Rattle.history.specs.declared.calls.Call.TheVariants as call
 use Rattle.history.specs.declared.replies.Reply.TheVariants as reply
 use Rattle.machine_model.specs.States.{with_root}
-use Rattle.proof_straight.specs.Copies.{closed}
-use Rattle.proof_straight.specs.Drafts.{first_draft}
+use Rattle.machine_core.specs.Beneath.proof_straight.specs.Copies.{closed}
+use Rattle.machine_core.specs.Beneath.proof_straight.specs.Drafts.{first_draft}
 use Rattle.machine_core.specs.Beneath.rdcss_root.specs.Tables.{Table, with_root_in}
 use Rattle.machine_core.specs.declared.parts.Parts.{Parts}
 use Rattle.machine_core.specs.Seen.{seen}
-use Rattle.machine_core.proofs.Bounded.{bounded}
+use Rattle.proof_core.proofs.Bounded.{bounded}
 use Rattle.machine_core.proofs.Carried.{first_drafted}
 use Rattle.machine_core.proofs.Copied.{close_comes, close_done, handle_small, holds_made}
 use Rattle.machine_core.proofs.Rooted.{course_counted}

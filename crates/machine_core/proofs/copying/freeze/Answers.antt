@@ -7,14 +7,14 @@ use Rattle.slot_arena.proofs.Times.{times-cons}
 use Rattle.machine_model.specs.declared.roots.Descriptor.{Descriptor}
 use Rattle.machine_model.specs.declared.roots.RootWord.TheVariants.{Plain}
 use Rattle.machine_model.specs.Machine.{least_free}
-use Rattle.proof_straight.specs.Copies.{first_course, offer_of, with_new_root, with_offer}
-use Rattle.proof_straight.specs.Drafts.{next_made}
+use Rattle.machine_core.specs.Beneath.proof_straight.specs.Copies.{first_course, offer_of, with_new_root, with_offer}
+use Rattle.machine_core.specs.Beneath.proof_straight.specs.Drafts.{next_made}
 use Rattle.machine_core.specs.declared.parts.Parts.{Parts}
 use Rattle.machine_core.specs.Rooting.{HoldsBeside, IsCourse}
 use Rattle.machine_core.specs.Straight.{CarriesBy}
 use Rattle.machine_core.specs.Seen.{seen}
-use Rattle.machine_core.proofs.Bounded.{bounded}
-use Rattle.machine_core.proofs.Claims.{one_live}
+use Rattle.proof_core.proofs.Bounded.{bounded}
+use Rattle.proof_core.proofs.Claims.{one_live}
 use Rattle.machine_core.proofs.Copied.{copy_after, first_coursed, freeze_comes, holds_made, made_so, offer_lives, offer_same}
 use Rattle.machine_core.proofs.Copied.{over_lives, root_found, settled_root}
 use Rattle.machine_core.proofs.copying.freeze.Goals as goal

@@ -3,8 +3,8 @@ use Rattle.machine_model.specs.Contents.{most_levels, pairs_below}
 use Rattle.machine_model.specs.Pairs.{comes_before}
 use Rattle.machine_model.specs.States.{root_of, word_at}
 use Rattle.machine_core.specs.Seen.{seen}
-use Rattle.machine_core.proofs.FewPairs.{few_pairs}
-use Rattle.machine_core.proofs.Selected.{length_sorted}
+use Rattle.proof_core.proofs.FewPairs.{few_pairs}
+use Rattle.proof_core.proofs.Firsts.{length_sorted}
 use Rattle.machine_core.proofs.counting.count_of.Goals as goal
 
 pub count-requires : goal.count-requires

@@ -5,10 +5,11 @@ use Rattle.machine_model.specs.Contents.{content_at}
 use Rattle.machine_core.specs.Beneath.proof_contents.proofs.Values.Crowds.{sorted_distinct}
 use Rattle.machine_core.specs.Comparing.{AreDifferences, difference_of}
 use Rattle.machine_core.specs.Finding.{found_along}
-use Rattle.machine_core.specs.Reading.{Covers}
+use Rattle.proof_core.specs.Reading.{Covers}
 use Rattle.machine_core.specs.Seen.{seen}
 use Rattle.machine_core.proofs.Differences.{add_none, are_differences, covered}
-use Rattle.machine_core.proofs.Found.{content_rises, found_along_is}
+use Rattle.machine_core.proofs.Found.{found_along_is}
+use Rattle.proof_core.proofs.Found.{content_rises}
 use Rattle.machine_core.proofs.differing.differences.Goals as goal
 
 pub returns : goal.returns

@@ -7,7 +7,7 @@ use Rattle.std.proofs.lemmas.List.Sorted.{Contains-permutation}
 use Rattle.std.proofs.lemmas.Map.Keys.{IsStrictlyIncreasing-dedup, sorted_from_strictly_increasing}
 use Rattle.machine_model.specs.Contents.{content_at}
 use Rattle.machine_core.specs.Seen.{seen}
-use Rattle.machine_core.proofs.Compared.{covers_more}
+use Rattle.proof_core.proofs.Compared.{covers_more}
 use Rattle.machine_core.proofs.differing.rising_keys.Goals as goal
 
 pub returns-clause-rising : goal.returns-clause-rising

@@ -3,8 +3,8 @@ use Rattle.slot_arena.specs.declared.refs.Ref.{Ref}
 use Rattle.slot_arena.specs.declared.nodes.Prev.TheVariants as prev
 use Rattle.slot_arena.specs.Heaps.{with_prev}
 use Rattle.slot_arena.specs.Times.{times}
-use Rattle.proof_straight.specs.Drafts.{held_with}
-use Rattle.machine_core.proofs.Drafts.{settled_draft}
+use Rattle.machine_core.specs.Beneath.proof_straight.specs.Drafts.{held_with}
+use Rattle.proof_core.proofs.Drafts.{settled_draft}
 use Rattle.machine_core.proofs.drafting.commit.Goals as goal
 
 pub returns-clause-drafts : goal.returns-clause-drafts

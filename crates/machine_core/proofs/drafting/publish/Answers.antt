@@ -5,7 +5,7 @@ use Rattle.slot_arena.specs.Arenas.{is_main_node}
 use Rattle.slot_arena.specs.Heaps.{node_at, prev_at}
 use Rattle.slot_arena.specs.Times.{times}
 use Rattle.machine_model.specs.Acting.{published}
-use Rattle.machine_core.proofs.Drafts.{is_published, last_held, none_held, published_kind, published_pending, settled_draft}
+use Rattle.proof_core.proofs.Drafts.{is_published, last_held, none_held, published_kind, published_pending, settled_draft}
 use Rattle.machine_core.proofs.drafting.publish.Goals as goal
 
 pub release_all-requires : goal.release_all-requires

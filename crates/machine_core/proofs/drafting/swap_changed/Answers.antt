@@ -4,8 +4,8 @@ use Rattle.slot_arena.specs.Heaps.{node_at}
 use Rattle.machine_model.specs.Building.{changed}
 use Rattle.slot_arena.specs.declared.refs.Ref.{Ref}
 use Rattle.slot_arena.specs.Times.{times}
-use Rattle.proof_straight.specs.Drafts.{next_made, with_made, with_published}
-use Rattle.machine_core.proofs.Drafts.{can_then, held_more, made_then}
+use Rattle.machine_core.specs.Beneath.proof_straight.specs.Drafts.{next_made, with_made, with_published}
+use Rattle.proof_core.proofs.Drafts.{can_then, held_more, made_then}
 use Rattle.machine_core.proofs.drafting.swap_changed.Goals as goal
 
 pub publish-requires-clause-kind : goal.publish-requires-clause-kind

@@ -8,7 +8,7 @@ use Rattle.running.specs.Places.{line_for}
 use Rattle.machine_model.specs.Tellings.{entrant_of}
 use Rattle.machine_core.specs.declared.parts.Actor.{Actor}
 use Rattle.machine_core.specs.declared.parts.Parts.{Parts}
-use Rattle.machine_core.specs.Numbering.{ended_on}
+use Rattle.proof_core.specs.Numbering.{ended_on}
 use Rattle.machine_core.specs.Seen.{operation_at, seen}
 use Rattle.machine_core.proofs.Kept.{at_index, operation_there, seat_of}
 use Rattle.machine_core.proofs.Left.{EndsAt, held_there, kept_ended, seen_ended}

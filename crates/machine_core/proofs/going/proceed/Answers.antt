@@ -5,7 +5,7 @@ use Rattle.ctrie_base.specs.declared.kinds.Kind.{Kind}
 use Rattle.machine_core.specs.Going.{CarriesUnless}
 use Rattle.machine_core.specs.Keeping.{IsKept}
 use Rattle.machine_core.specs.Seen.{seen}
-use Rattle.machine_core.specs.Work.{NotesUpTo, held_by}
+use Rattle.proof_core.specs.Work.{NotesUpTo, held_by}
 use Rattle.machine_core.proofs.Took.{actor_there, took}
 use Rattle.machine_core.proofs.Underway.{at_work, tells_none}
 use Rattle.machine_core.proofs.Whole.{carries_nothing, goes, kept_gone, tells}

@@ -1,6 +1,6 @@
 use Rattle.std.proofs.Common.{◌∙◌}
 use Rattle.machine_core.specs.Seen.{seen}
-use Rattle.machine_core.proofs.Numbers.{taken_counted}
+use Rattle.proof_core.proofs.Numbers.{taken_counted}
 use Rattle.machine_core.proofs.handles.handles_taken.Goals as goal
 
 pub returns : goal.returns

@@ -1,5 +1,5 @@
 use Rattle.machine_core.specs.Seen.{seen}
-use Rattle.machine_core.proofs.Numbers.{least_known}
+use Rattle.proof_core.proofs.Numbers.{least_known}
 use Rattle.machine_core.proofs.handles.least_free.Goals as goal
 
 pub returns : goal.returns

@@ -2,7 +2,7 @@ use Rattle.std.proofs.Common.{ap, ◌∙◌}
 use Rattle.machine_model.specs.Contents.{content_at, most_levels, pairs_below}
 use Rattle.machine_model.specs.Pairs.{by_key}
 use Rattle.machine_model.specs.States.{root_of}
-use Rattle.machine_core.specs.Reading.{next_of}
+use Rattle.proof_core.specs.Reading.{next_of}
 use Rattle.machine_core.specs.Seen.{seen}
 use Rattle.machine_core.proofs.Selections.{selects_next}
 use Rattle.machine_core.proofs.listing.next_of.Goals as goal

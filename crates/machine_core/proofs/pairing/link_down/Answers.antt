@@ -1,6 +1,6 @@
 use Rattle.std.proofs.Common.{arith, ◌≡◌, ◌+◌, ◌-◌, ◌*◌, suc, refl, subst}
-use Rattle.proof_straight.specs.Changes.{with_links}
-use Rattle.proof_straight.specs.Drafts.{with_made}
+use Rattle.machine_core.specs.Beneath.proof_straight.specs.Changes.{with_links}
+use Rattle.machine_core.specs.Beneath.proof_straight.specs.Drafts.{with_made}
 use Rattle.machine_core.specs.Pairing.{IsMade, Makes}
 use Rattle.machine_core.proofs.Paired.{can_fewer, links_first, links_last, links_next, makes_on, rung_lives}
 use Rattle.machine_core.proofs.pairing.link_down.Goals as goal

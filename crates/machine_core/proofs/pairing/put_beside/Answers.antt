@@ -8,8 +8,8 @@ use Rattle.machine_model.specs.declared.building.Change.TheVariants as change
 use Rattle.machine_model.specs.Building.{changed, old_hash}
 use Rattle.machine_model.specs.Calls.{key_of}
 use Rattle.machine_model.specs.States.{key_hash}
-use Rattle.proof_straight.specs.Changes.{with_pair, with_single}
-use Rattle.proof_straight.specs.Drafts.{first_draft, with_made}
+use Rattle.machine_core.specs.Beneath.proof_straight.specs.Changes.{with_pair, with_single}
+use Rattle.machine_core.specs.Beneath.proof_straight.specs.Drafts.{first_draft, with_made}
 use Rattle.machine_core.specs.Pairing.{IsMade}
 use Rattle.machine_core.proofs.Changes.{changed_live, main_changed}
 use Rattle.machine_core.proofs.Paired.{can_begin, can_swap_still, depth_within, finds_other, makes_on, pair_lives, pair_second, single_first}

@@ -2,7 +2,7 @@ use Rattle.std.proofs.Common.{◌≡◌, ◌+◌, ◌*◌, drop}
 use Rattle.std.specs.List.{flat_map}
 use Rattle.slot_arena.specs.Heaps.{entries_of, node_at}
 use Rattle.machine_model.specs.Contents.{pairs_below}
-use Rattle.machine_core.specs.Reading.{first_of}
+use Rattle.proof_core.specs.Reading.{first_of}
 use Rattle.machine_core.proofs.picking.+picking.Given as goal
 
 abbrev pub decreases-pick : goal.decreases-pick

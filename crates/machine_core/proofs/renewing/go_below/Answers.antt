@@ -1,6 +1,6 @@
 use Rattle.std.proofs.Common.{ap, sym, subst, ◌∙◌}
 use Rattle.slot_arena.specs.Heaps.{entry_at, node_at}
-use Rattle.machine_core.specs.Drafting.{CanSwap}
+use Rattle.proof_core.specs.Drafting.{CanSwap}
 use Rattle.machine_core.specs.Renewing.{AreOverLive, IsBranch}
 use Rattle.machine_core.specs.Seen.{seen}
 use Rattle.machine_core.proofs.Carried.{drafted_first}

@@ -6,12 +6,12 @@ use Rattle.machine_model.specs.Counting.{refs_of_root}
 use Rattle.machine_model.specs.declared.roots.RootWord.TheVariants.{Plain}
 use Rattle.machine_model.specs.Acting.{opened}
 use Rattle.machine_model.specs.States.{with_root}
-use Rattle.proof_straight.specs.Drafts.{redrafted}
+use Rattle.machine_core.specs.Beneath.proof_straight.specs.Drafts.{redrafted}
 use Rattle.machine_core.specs.Beneath.rdcss_root.specs.Holding.{root_refs}
 use Rattle.machine_core.specs.Beneath.rdcss_root.specs.Tables.{Table, opened_in, with_root_in}
-use Rattle.machine_core.specs.Drafting.{IsDraft}
+use Rattle.proof_core.specs.Drafting.{IsDraft}
 use Rattle.machine_core.specs.Rooting.{writable}
-use Rattle.machine_core.proofs.Drafts.{settled_over}
+use Rattle.proof_core.proofs.Drafts.{settled_over}
 use Rattle.machine_core.proofs.Rooted.{held_moved, opened_is, opened_roots, successor_lives}
 use Rattle.machine_core.proofs.rooting.carry_out.Goals as goal
 

@@ -5,7 +5,7 @@ use Rattle.machine_model.specs.States.{with_root}
 use Rattle.machine_core.specs.Beneath.rdcss_root.specs.Holding.{root_refs}
 use Rattle.machine_core.specs.Beneath.rdcss_root.specs.Tables.{Table}
 use Rattle.machine_core.specs.Rooting.{writable}
-use Rattle.machine_core.proofs.Drafts.{settled_over}
+use Rattle.proof_core.proofs.Drafts.{settled_over}
 use Rattle.machine_core.proofs.Rooted.{beside_given, held_moved}
 use Rattle.machine_core.proofs.rooting.put_offer.Goals as goal
 

@@ -1,7 +1,7 @@
 use Rattle.std.proofs.Common.{◌≡◌, [], refl, ap, set, sym, ◌∙◌}
 use Rattle.machine_model.specs.declared.roots.RootWord.TheVariants.{Offer}
 use Rattle.machine_model.specs.States.{with_root}
-use Rattle.proof_straight.specs.Drafts.{redrafted}
+use Rattle.machine_core.specs.Beneath.proof_straight.specs.Drafts.{redrafted}
 use Rattle.machine_core.specs.Beneath.rdcss_root.specs.Tables.{Table}
 use Rattle.machine_core.specs.Rooting.{writable}
 use Rattle.machine_core.proofs.Rooted.{swapped_draft, swapped_generations, swapped_roots}

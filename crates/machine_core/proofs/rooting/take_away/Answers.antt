@@ -3,7 +3,7 @@ use Rattle.slot_arena.specs.Times.{times}
 use Rattle.machine_model.specs.States.{with_root}
 use Rattle.machine_core.specs.Beneath.rdcss_root.specs.Holding.{root_refs}
 use Rattle.machine_core.specs.Beneath.rdcss_root.specs.Tables.{Table}
-use Rattle.machine_core.proofs.Drafts.{settled_over}
+use Rattle.proof_core.proofs.Drafts.{settled_over}
 use Rattle.machine_core.proofs.Rooted.{held_moved}
 use Rattle.machine_core.proofs.rooting.take_away.Goals as goal
 

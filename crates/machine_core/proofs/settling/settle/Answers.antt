@@ -3,7 +3,7 @@ use Rattle.slot_arena.specs.Times.{times}
 use Rattle.machine_core.specs.Seen.{seen}
 use Rattle.machine_core.proofs.Ends.{settles}
 use Rattle.machine_core.proofs.Kept.{kept_alike}
-use Rattle.machine_core.proofs.Crossing.{settling_pays}
+use Rattle.proof_core.proofs.Crossing.{settling_pays}
 use Rattle.machine_core.proofs.settling.settle.Goals as goal
 
 pub returns-clause-settled : goal.returns-clause-settled

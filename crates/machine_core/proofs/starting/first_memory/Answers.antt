@@ -1,6 +1,6 @@
 use Rattle.std.proofs.Common.{ap, arith}
 use Rattle.epochs.specs.Memories.{Memory}
-use Rattle.machine_core.proofs.Bounded.{taken_most}
+use Rattle.proof_core.proofs.Bounded.{taken_most}
 use Rattle.machine_core.proofs.starting.first_memory.Goals as goal
 
 pub make_held-requires-2-clause-births : goal.make_held-requires-2-clause-births

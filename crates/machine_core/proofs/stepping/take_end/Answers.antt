@@ -1,7 +1,7 @@
 use Rattle.std.proofs.Common.{arith}
 use Rattle.machine_model.specs.declared.steps.Step.TheVariants as steps
 use Rattle.machine_core.specs.Seen.{seen}
-use Rattle.machine_core.proofs.Bounded.{bounded, taken_run}
+use Rattle.proof_core.proofs.Bounded.{bounded, taken_run}
 use Rattle.machine_core.proofs.Steps.{go_leads, leads_taken}
 use Rattle.machine_core.proofs.Working.{operation_little}
 use Rattle.machine_core.proofs.stepping.take_end.Goals as goal

@@ -4,8 +4,8 @@ use Rattle.machine_model.specs.declared.steps.Step.TheVariants as steps
 use Rattle.machine_model.specs.Machine.{go_denial, next}
 use Rattle.machine_model.specs.States.{State}
 use Rattle.machine_core.specs.Seen.{seen}
-use Rattle.machine_core.specs.Work.{WorksUpTo, ticks_of_a_step}
-use Rattle.machine_core.proofs.Bounded.{bounded, taken_run}
+use Rattle.proof_core.specs.Work.{WorksUpTo, ticks_of_a_step}
+use Rattle.proof_core.proofs.Bounded.{bounded, taken_run}
 use Rattle.machine_core.proofs.Steps.{go_leads, leads_taken}
 use Rattle.machine_core.proofs.Working.{operation_little}
 use Rattle.machine_core.proofs.stepping.take_walk.Goals as goal

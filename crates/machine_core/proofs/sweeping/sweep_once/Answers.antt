@@ -2,7 +2,7 @@ use Rattle.std.proofs.Common.{◌+◌, refl, ap, ◌∙◌, arith}
 use Rattle.slot_arena.specs.Times.{times}
 use Rattle.machine_core.specs.Seen.{seen}
 use Rattle.machine_model.specs.declared.steps.Step.TheVariants as steps
-use Rattle.machine_core.proofs.Bounded.{bounded, taken_run}
+use Rattle.proof_core.proofs.Bounded.{bounded, taken_run}
 use Rattle.machine_core.proofs.Ends.{sweeps}
 use Rattle.machine_core.proofs.Kept.{kept_alike}
 use Rattle.machine_core.proofs.Working.{swept_little}

@@ -1,5 +1,5 @@
 use Rattle.std.proofs.Common.{subst}
-use Rattle.step_machine.specs.Machines.{past_of}
+use Rattle.lock_runner.specs.Beneath.proof_runs.specs.Machines.{past_of}
 use Rattle.lock_runner.specs.Seats.{Seated}
 use Rattle.lock_runner.specs.ActorHistory.Answers.{AreAnswersOf}
 use Rattle.lock_runner.proofs.Seating.{seated_answers}

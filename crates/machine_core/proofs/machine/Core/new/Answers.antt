@@ -1,6 +1,6 @@
 use Rattle.std.proofs.Common.{refl}
 use Rattle.machine_core.specs.Seen.{seen}
-use Rattle.machine_core.proofs.Bounded.{first_run}
+use Rattle.proof_core.proofs.Bounded.{first_run}
 use Rattle.machine_core.proofs.machine.Core.new.Goals as goal
 
 pub invariant_of-result : goal.invariant_of-result

@@ -1,6 +1,7 @@
-use Rattle.step_machine.proofs.Bounds.{in_bounds}
-use Rattle.step_machine.proofs.Applying.{uses_what_it_names, frees_late, draws_new, if_changes, one_place_more}
-use Rattle.step_machine.proofs.Ending.{ends_if_sure, if_nearer}
+use Rattle.proof_runs.proofs.Bounds.{in_bounds}
+use Rattle.proof_runs.proofs.Applying.{uses_what_it_names, frees_late, draws_new, if_changes}
+use Rattle.step_machine.proofs.Placing.{one_place_more}
+use Rattle.proof_runs.proofs.Ending.{ends_if_sure, if_nearer}
 use Rattle.step_machine.proofs.machine.Machine.apply.Goals as goal
 
 pub returns-clause-used : goal.returns-clause-used

@@ -1,5 +1,5 @@
-use Rattle.step_machine.proofs.Ending.{completed, enough_for_call, spares}
-use Rattle.step_machine.proofs.Legality.{acted, rests}
+use Rattle.proof_runs.proofs.Ending.{completed, enough_for_call, spares}
+use Rattle.proof_runs.proofs.Legality.{acted, rests}
 use Rattle.step_machine.proofs.machine.Machine.complete.Goals as goal
 
 pub returns-clause-alone : goal.returns-clause-alone

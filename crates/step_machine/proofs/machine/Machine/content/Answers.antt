@@ -1,4 +1,4 @@
-use Rattle.step_machine.proofs.Legality.{if_closed, if_in_order}
+use Rattle.proof_runs.proofs.Legality.{if_closed, if_in_order}
 use Rattle.step_machine.proofs.machine.Machine.content.Goals as goal
 
 pub returns-clause-in_order : goal.returns-clause-in_order

@@ -1,7 +1,7 @@
 use Rattle.std.proofs.Common.{refl}
 use Rattle.machine_model.specs.Records.{order_of}
-use Rattle.step_machine.specs.Machines.{past_of}
-use Rattle.step_machine.proofs.Legality.{legal}
+use Rattle.proof_runs.specs.Machines.{past_of}
+use Rattle.proof_runs.proofs.Legality.{legal}
 use Rattle.step_machine.proofs.machine.Machine.events.Goals as goal
 
 pub returns-clause-legal : goal.returns-clause-legal

@@ -1,5 +1,5 @@
 use Rattle.machine_model.specs.Limits.{bounded}
-use Rattle.step_machine.proofs.Bounds.{in_bounds}
+use Rattle.proof_runs.proofs.Bounds.{in_bounds}
 use Rattle.step_machine.proofs.machine.Machine.explained.Goals as goal
 
 pub returns : goal.returns

@@ -1,4 +1,4 @@
-use Rattle.step_machine.proofs.Bounds.{in_bounds}
+use Rattle.proof_runs.proofs.Bounds.{in_bounds}
 use Rattle.step_machine.proofs.Looking.{if_found}
 use Rattle.step_machine.proofs.machine.Machine.found_at.Goals as goal
 

@@ -1,8 +1,8 @@
 use Rattle.std.proofs.Common.{arith, ◌≡◌, ◌+◌, Ok, None, subst, sym}
 use Rattle.machine_model.specs.declared.steps.Outcome.TheVariants as outcome
-use Rattle.step_machine.specs.Callers.{going_on}
-use Rattle.step_machine.specs.Machines.{Taken}
-use Rattle.step_machine.proofs.Going.{goes, reached, replies, stays}
+use Rattle.proof_runs.specs.Callers.{going_on}
+use Rattle.proof_runs.specs.Machines.{Taken}
+use Rattle.proof_runs.proofs.Going.{goes, reached, replies, stays}
 use Rattle.step_machine.proofs.machine.Machine.go_on.Goals.{then-goes_on+in_ok-walk, else-goes_on+in_ok-reply+in_default}
 use Rattle.step_machine.proofs.machine.Machine.go_on.Goals as goal
 

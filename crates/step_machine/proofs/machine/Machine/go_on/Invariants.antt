@@ -1,5 +1,5 @@
 use Rattle.std.proofs.Common.{◌≡◌, Ok, None}
-use Rattle.step_machine.specs.Callers.{going_on}
+use Rattle.proof_runs.specs.Callers.{going_on}
 use Rattle.step_machine.proofs.machine.Machine.go_on.Given as goal
 
 -- the steps so far didn't end the operation

@@ -1,4 +1,4 @@
-use Rattle.step_machine.proofs.Legality.{if_record_legal}
+use Rattle.step_machine.proofs.Recording.{if_record_legal}
 use Rattle.step_machine.proofs.machine.Machine.into_record.Goals as goal
 
 pub returns-clause-legal : goal.returns-clause-legal

@@ -1,6 +1,6 @@
 use Rattle.std.proofs.Common.{◌≡◌, sym, subst}
-use Rattle.step_machine.specs.Legality.{InOrder, writable_in}
-use Rattle.step_machine.proofs.Legality.{kind_in_order}
+use Rattle.proof_runs.specs.Legality.{InOrder, writable_in}
+use Rattle.proof_runs.proofs.Legality.{kind_in_order}
 use Rattle.step_machine.proofs.machine.Machine.is_writable.Goals as goal
 
 pub returns-clause-in_order : goal.returns-clause-in_order

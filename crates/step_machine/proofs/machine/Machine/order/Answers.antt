@@ -1,4 +1,4 @@
-use Rattle.step_machine.proofs.Legality.{if_leads, if_legal}
+use Rattle.proof_runs.proofs.Legality.{if_leads, if_legal}
 use Rattle.step_machine.proofs.machine.Machine.order.Goals as goal
 
 pub returns-clause-legal : goal.returns-clause-legal

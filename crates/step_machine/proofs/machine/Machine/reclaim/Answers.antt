@@ -1,6 +1,6 @@
-use Rattle.step_machine.proofs.Bounds.{in_bounds}
-use Rattle.step_machine.proofs.Freeing.{sweeps_few}
-use Rattle.step_machine.proofs.Reclaiming.{looks_same, on_ok}
+use Rattle.proof_runs.proofs.Bounds.{in_bounds}
+use Rattle.proof_runs.proofs.Freeing.{sweeps_few}
+use Rattle.proof_runs.proofs.Reclaiming.{looks_same, on_ok}
 use Rattle.step_machine.proofs.machine.Machine.reclaim.Goals as goal
 
 pub returns-clause-few : goal.returns-clause-few

@@ -1,5 +1,5 @@
-use Rattle.step_machine.proofs.Ending.{ended, enough_for_call}
-use Rattle.step_machine.proofs.Legality.{acted_again, rests_again, spares_again}
+use Rattle.proof_runs.proofs.Ending.{ended, enough_for_call}
+use Rattle.proof_runs.proofs.Legality.{acted_again, rests_again, spares_again}
 use Rattle.step_machine.proofs.machine.Machine.resume.Goals as goal
 
 pub returns-clause-alone : goal.returns-clause-alone

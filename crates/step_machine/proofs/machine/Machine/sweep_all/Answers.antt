@@ -1,5 +1,5 @@
 use Rattle.std.proofs.Common.{arith}
-use Rattle.step_machine.proofs.Sweeping.{again, refused}
+use Rattle.proof_runs.proofs.Sweeping.{again, refused}
 use Rattle.step_machine.proofs.machine.Machine.sweep_all.Goals as goal
 
 pub returns-in_err-take : goal.returns-in_err-take

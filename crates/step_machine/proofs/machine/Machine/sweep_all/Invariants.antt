@@ -1,6 +1,6 @@
 use Rattle.std.proofs.Common.{◌-◌, ◌^◌}
-use Rattle.step_machine.specs.Machines.{state_of}
-use Rattle.step_machine.proofs.Sweeping.{IsSwept}
+use Rattle.proof_runs.specs.Machines.{state_of}
+use Rattle.proof_runs.proofs.Sweeping.{IsSwept}
 use Rattle.step_machine.proofs.machine.Machine.sweep_all.Given as goal
 
 -- steps of the sweep led here

@@ -1,4 +1,4 @@
-use Rattle.step_machine.proofs.Legality.{if_has}
+use Rattle.proof_runs.proofs.Legality.{if_has}
 use Rattle.step_machine.proofs.machine.Machine.value_at.Goals as goal
 
 pub returns-clause-in_order : goal.returns-clause-in_order

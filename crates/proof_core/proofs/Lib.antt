@@ -1,0 +1,26 @@
+-- What to cite from above.
+--
+-- Of a state of a run: its numbers are bounded (Bounded), the next action's claims hold and there is room for it (Given), what lines and actions count on (Claims), what is known of
+-- handle numbers (Numbers, Numbering, Reserved). Of a heap: what holds below a root (Tries), how a call that runs alone changes it (Drafts), what the settling takes (Crossing).
+-- Of pairs: how they are reached (Gathering, Counted, Picked, Levels), sorted (Sorted, Filtered, Firsts), found (Found), how many they are (FewPairs), in which two maps differ
+-- (Compared). Of lists: Mapped.
+pub mod Mapped
+pub mod Bounded
+pub mod Claims
+pub mod Given
+pub mod Numbers
+pub mod Numbering
+pub mod Reserved
+pub mod Tries
+pub mod Drafts
+pub mod Crossing
+pub mod Gathering
+pub mod Counted
+pub mod Sorted
+pub mod Picked
+pub mod Levels
+pub mod Filtered
+pub mod Firsts
+pub mod Found
+pub mod FewPairs
+pub mod Compared

@@ -1,0 +1,10 @@
+pub mod Beneath
+pub mod Bounds
+pub mod Numbering
+pub mod Standing
+pub mod Work
+pub mod Walking
+pub mod Reading
+pub mod Comparing
+pub mod Tries
+pub mod Drafting

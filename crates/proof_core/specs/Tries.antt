@@ -1,0 +1,18 @@
+-- What holds of a heap below a root, whatever the calls that come to it.
+use Rattle.std.specs.Prelude.{◌≡◌, ℕ, true}
+use Rattle.proof_core.specs.Beneath.slot_arena.specs.declared.refs.Ref.{Ref}
+use Rattle.proof_core.specs.Beneath.slot_arena.specs.Arenas.{is_indirection}
+use Rattle.proof_core.specs.Beneath.slot_arena.specs.Heaps.{Heap, node_at, prev_at}
+use Rattle.proof_core.specs.Beneath.proof_memory.specs.Laws.{IsInUse}
+use Rattle.proof_core.specs.Beneath.proof_memory.specs.Levels.{NodeLevel}
+use Rattle.proof_core.specs.Beneath.proof_memory.specs.Wants.{AllHold, is_formed, node_wants, prev_wants}
+
+-- What stands in a slot in use is what it is taken for, and has a level, by which no way down comes to one slot twice. The root is an indirection in use.
+pub record IsTrie (heap : Heap) (root : Ref) : Type 0 where
+  pub used : IsInUse heap root
+  pub indirection : is_indirection (node_at heap root) ≡ true
+  pub nodes : (r : Ref) → IsInUse heap r → AllHold (IsInUse heap) heap (node_wants (node_at heap r))
+  pub formed : (r : Ref) → IsInUse heap r → is_formed (node_at heap r) ≡ true
+  pub prevs : (r : Ref) → IsInUse heap r → AllHold (IsInUse heap) heap (prev_wants (prev_at heap r))
+  pub level : Ref → ℕ
+  pub levels : (r : Ref) → IsInUse heap r → NodeLevel level r (node_at heap r)

@@ -1,0 +1,115 @@
+-- A machine at rest, and one in which a single actor takes steps from there.
+use Rattle.std.specs.Prelude.{◌≡◌, ℕ, zero, suc, false, is_some, List, [], ◌∷◌, Option, Some, None, Ok, Err}
+use Rattle.std.specs.List.{list_any}
+use Rattle.std.proofs.Common.{refl, sym, ap, subst, ◌∙◌, get_or}
+use Rattle.std.proofs.lemmas.Bool.{false≢true}
+use Rattle.std.proofs.lemmas.Option.{none-some}
+use Rattle.proof_runs.specs.Beneath.ctrie_base.specs.declared.refusals.Refusal.{Refusal}
+use Rattle.proof_runs.specs.Beneath.ctrie_base.specs.declared.refusals.Refusal.TheVariants as refuse
+use Rattle.proof_runs.specs.Beneath.history.specs.declared.replies.Reply.{Reply}
+use Rattle.proof_runs.specs.Beneath.machine_model.specs.declared.operations.Operation.{Operation}
+use Rattle.proof_runs.specs.Beneath.machine_model.specs.declared.steps.Outcome.{Outcome}
+use Rattle.proof_runs.specs.Beneath.machine_model.specs.declared.steps.Outcome.TheVariants as outcome
+use Rattle.proof_runs.specs.Beneath.machine_model.specs.declared.steps.Step.{Step}
+use Rattle.proof_runs.specs.Beneath.machine_model.specs.declared.steps.Step.TheVariants as step
+use Rattle.proof_runs.specs.Beneath.machine_model.specs.Machine.{Answer, next, go_denial, go_on, go_unless, is_busy}
+use Rattle.proof_runs.specs.Beneath.machine_model.specs.Moves.{Moves}
+use Rattle.proof_runs.specs.Beneath.machine_model.specs.States.{State, operation_of}
+use Rattle.proof_runs.specs.Beneath.machine_model.proofs.Actors.{IsOf, is_of, of_others}
+use Rattle.proof_runs.specs.Beneath.machine_model.proofs.Moves.{moved}
+use Rattle.proof_runs.specs.Machines.{Taken, state_of, with_step}
+use Rattle.proof_runs.specs.Callers.{after_go, after_outcome, going_on}
+use Rattle.proof_runs.proofs.Ending.{idle_behind}
+use Rattle.proof_runs.proofs.Telling.{answered_parts, denied_parts, stepped, unanswered}
+
+-- ---- at rest
+
+none_at : (actors : List (Option Operation)) → list_any is_some actors ≡ false → (k : ℕ) (operation : Operation) → get_or actors k None ≡ Some operation → ⊥
+none_at [] rest k operation e = none-some operation e
+none_at (Some running ∷ actors) rest k operation e = false≢true (sym rest)
+none_at (None ∷ actors) rest zero operation e = none-some operation e
+none_at (None ∷ actors) rest (suc k) operation e = none_at actors rest k operation e
+
+all_idle : (actors : List (Option Operation)) → ((k : ℕ) (operation : Operation) → get_or actors k None ≡ Some operation → ⊥) → list_any is_some actors ≡ false
+all_idle [] none = refl
+all_idle (Some running ∷ actors) none = absurd (none zero running refl)
+all_idle (None ∷ actors) none = all_idle actors (λ k operation e. none (suc k) operation e)
+
+-- ---- one actor alone
+
+-- at most this actor runs an operation
+abbrev pub OnlyRuns : ℕ → State → Type 0
+OnlyRuns actor state = (other : ℕ) (operation : Operation) → operation_of state other ≡ Some operation → other ≡ actor
+
+pub only_at_rest : (state : State) → is_busy state ≡ false → (actor : ℕ) → OnlyRuns actor state
+only_at_rest state rest actor zero operation e = absurd (none-some operation e)
+only_at_rest state rest actor (suc k) operation e = absurd (none_at state.actors rest k operation e)
+
+rest_if_idle : (actor : ℕ) (state : State) → OnlyRuns actor state → operation_of state actor ≡ None → is_busy state ≡ false
+rest_if_idle actor state only idle =
+    all_idle state.actors (λ k operation e. none-some operation (sym idle ∙ ap (operation_of state) (sym (only (suc k) operation e)) ∙ e))
+
+one_actor : (a b : ℕ) (s : Step) → IsOf a s → IsOf b s → a ≡ b
+one_actor a b (step.Begin actor call) x y = sym x ∙ y
+one_actor a b (step.Go actor) x y = sym x ∙ y
+one_actor a b step.Sweep x y = absurd x
+
+only_by : (actor : ℕ) (state : State) (s : Step) (o : Outcome) (after : State) → Moves state s o after → IsOf actor s → OnlyRuns actor state → (k : ℕ) → Dec (IsOf (suc k) s) →
+    (operation : Operation) → operation_of after (suc k) ≡ Some operation → suc k ≡ actor
+only_by actor state s o after m own only k (yes his) operation e = one_actor (suc k) actor s his own
+only_by actor state s o after m own only k (no other) operation e = let (was, at, same) = of_others state s o after m k other operation e in only (suc k) was at
+
+-- its steps bring in no other
+pub still_only : (actor : ℕ) (state : State) (s : Step) (o : Outcome) (after : State) → next state s ≡ Ok (o, after) → IsOf actor s → OnlyRuns actor state → OnlyRuns actor after
+still_only actor state s o after e own only zero operation runs = absurd (none-some operation runs)
+still_only actor state s o after e own only (suc k) operation runs = only_by actor state s o after (moved state s o after e) own only k (is_of (suc k) s) operation runs
+
+-- so its operation's end leaves rest
+abbrev LeadsToRest : ℕ → ℕ → Type 0
+LeadsToRest n actor =
+    (m after : Taken) (answer : Reply) → OnlyRuns actor (state_of m) → going_on n actor m ≡ (Ok (Some answer), after) → is_busy (state_of after) ≡ false
+
+by_outcome : (n actor : ℕ) (m : Taken) (o : Outcome) (state : State) → next (state_of m) (step.Go actor) ≡ Ok (o, state) → LeadsToRest n actor → (after : Taken) (answer : Reply) →
+    OnlyRuns actor state → state_of (with_step m (step.Go actor)) ≡ state → after_outcome (going_on n actor) (with_step m (step.Go actor)) o ≡ (Ok (Some answer), after) →
+    is_busy (state_of after) ≡ false
+by_outcome n actor m (outcome.Ended id said) state e more after answer only led goes =
+    let (same, last) = answered_parts said answer (with_step m (step.Go actor)) after goes in
+    subst (λ a. is_busy (state_of a) ≡ false) last (subst (λ s. is_busy s ≡ false) (sym led) (rest_if_idle actor state only (idle_behind (state_of m) actor id said state e)))
+by_outcome n actor m (outcome.Began id) state e more after answer only led goes = more (with_step m (step.Go actor)) after answer (subst (OnlyRuns actor) (sym led) only) goes
+by_outcome n actor m (outcome.Went kind) state e more after answer only led goes = more (with_step m (step.Go actor)) after answer (subst (OnlyRuns actor) (sym led) only) goes
+by_outcome n actor m (outcome.Swept done) state e more after answer only led goes = more (with_step m (step.Go actor)) after answer (subst (OnlyRuns actor) (sym led) only) goes
+
+by_answer : (n actor : ℕ) (m : Taken) (reply : Answer) → next (state_of m) (step.Go actor) ≡ reply → LeadsToRest n actor → (after : Taken) (answer : Reply) → OnlyRuns actor (state_of m) →
+    after_go (going_on n actor) m actor reply ≡ (Ok (Some answer), after) → is_busy (state_of after) ≡ false
+by_answer n actor m (Ok (o, state)) e more after answer only goes =
+    by_outcome n actor m o state e more after answer (still_only actor (state_of m) (step.Go actor) o state e refl only) (stepped m (step.Go actor) o state e) goes
+by_answer n actor m (Err why) e more after answer only goes = absurd (denied_parts why answer m after goes)
+
+pub leads_to_rest : (n actor : ℕ) → LeadsToRest n actor
+unfolding going_on
+leads_to_rest zero actor m after answer only goes = absurd (unanswered answer m after goes)
+leads_to_rest (suc n) actor m after answer only goes = by_answer n actor m (next (state_of m) (step.Go actor)) refl (leads_to_rest n actor) after answer only goes
+
+-- ---- a begin that was denied at rest
+
+-- where the actor runs nothing its step is denied
+denied_by : (state : State) (actor : ℕ) (denial : Option Refusal) → operation_of state actor ≡ None → (why : Refusal) × (go_unless state actor denial ≡ Err why)
+denied_by state actor (Some why) idle = (why, refl)
+denied_by state actor None idle = (refuse.Idle, ap (go_on state actor) idle)
+
+idle_denied : (state : State) (actor : ℕ) → operation_of state actor ≡ None → (why : Refusal) × (next state (step.Go actor) ≡ Err why)
+unfolding next
+idle_denied state actor idle = denied_by state actor (go_denial state actor) idle
+
+idle_at_rest : (state : State) → is_busy state ≡ false → (actor : ℕ) → (found : Option Operation) → operation_of state actor ≡ found → operation_of state actor ≡ None
+idle_at_rest state rest actor None is = is
+idle_at_rest state rest zero (Some operation) is = refl
+idle_at_rest state rest (suc k) (Some operation) is = absurd (none_at state.actors rest k operation is)
+
+-- at rest nothing is answered
+pub unanswered_at_rest : (n actor : ℕ) (m after : Taken) (answer : Reply) → is_busy (state_of m) ≡ false → going_on n actor m ≡ (Ok (Some answer), after) → ⊥
+unfolding going_on
+unanswered_at_rest zero actor m after answer rest goes = unanswered answer m after goes
+unanswered_at_rest (suc n) actor m after answer rest goes =
+    let (why, denied) = idle_denied (state_of m) actor (idle_at_rest (state_of m) rest actor (operation_of (state_of m) actor) refl) in
+    denied_parts why answer m after (sym (ap (after_go (going_on n actor) m actor) denied) ∙ goes)
