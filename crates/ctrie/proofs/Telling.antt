@@ -10,7 +10,7 @@ use Rattle.ctrie.specs.Beneath.history_commands.specs.Verdicts.{IsVerdict, verdi
 use Rattle.ctrie.specs.Beneath.history_commands.specs.Explanations.{IsExplanation}
 use Rattle.ctrie.specs.Beneath.history_commands.specs.Pictures.{IsPicture}
 use Rattle.ctrie.specs.Beneath.history_commands.proofs.Explained.{verdict_by_reason, verdict_by_scene}
-use Rattle.ctrie_commands.specs.Scripts.{AppendsReport, AppendsReportPart}
+use Rattle.ctrie.specs.Beneath.script_commands.specs.Scripts.{AppendsReport, AppendsReportPart}
 use Rattle.ctrie_commands.specs.Threads.{AppendsThreadReport, AppendsThreadReportPart}
 use Rattle.ctrie_words.specs.declared.arguments.Request.TheVariants.{Check, Run, Threads, Explain, Draw}
 use Rattle.ctrie.specs.declared.outcomes.Outcome.{Outcome}

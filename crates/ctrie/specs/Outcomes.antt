@@ -6,7 +6,7 @@ use Rattle.ctrie.specs.Beneath.history_commands.specs.Faults.{status_of}
 use Rattle.ctrie.specs.Beneath.history_commands.specs.Verdicts.{IsVerdict, verdict_line, HasLineFault}
 use Rattle.ctrie.specs.Beneath.history_commands.specs.Explanations.{IsExplanation}
 use Rattle.ctrie.specs.Beneath.history_commands.specs.Pictures.{IsPicture}
-use Rattle.ctrie_commands.specs.Scripts.{IsReport, HasScriptFault}
+use Rattle.ctrie.specs.Beneath.script_commands.specs.Scripts.{IsReport, HasScriptFault}
 use Rattle.ctrie_commands.specs.Threads.{IsThreadReport, HasThreadFault}
 use Rattle.ctrie_words.specs.declared.arguments.Request.{Request}
 use Rattle.ctrie_words.specs.declared.arguments.Request.TheVariants.{Check, Run, Threads, Explain, Draw}

@@ -3,7 +3,7 @@
 ghost use Rattle.std.specs.Prelude.{◌≡◌, ◌≢◌, ◌<◌, ◌^◌, ℕ, Ok, Err, IfOk, OnOk, IfErr, IfSome};
 ghost use Rattle.std.specs.Io.KnownBytes.{Keeps, IsAtEnd};
 ghost use Rattle.counted_io.specs.Counts.{inner_of, failures};
-ghost use Rattle.ctrie_commands.specs.Legality.{AppendsJudged};
+ghost use Rattle.ctrie.specs.Beneath.script_commands.specs.Legality.{AppendsJudged};
 ghost use Rattle.ctrie.specs.Beneath.history_commands.specs.Written.{AppendsSuch, AppendsPartOf};
 ghost use Rattle.ctrie.specs.Outcomes.{Tells, HasFault, judged, done};
 

@@ -8,7 +8,7 @@ use Rattle.history.specs.declared.calls.Call.{Call}
 use Rattle.history.specs.declared.calls.Call.TheVariants.{Get}
 use Rattle.ctrie_base.specs.declared.refusals.Refusal.{Refusal}
 use Rattle.ctrie_base.specs.declared.refusals.Refusal.TheVariants.{Spent}
-use Rattle.ctrie_commands.specs.Beneath.step_machine.specs.Machines.{Taken, past_of}
+use Rattle.ctrie_commands.specs.Beneath.proof_runs.specs.Machines.{Taken, past_of}
 use Rattle.lock_runner.specs.declared.accounts.Answer.{Answer}
 use Rattle.lock_runner.specs.ActorHistory.Answers.{AreAnswersOf}
 use Rattle.lock_runner.specs.Boards.{GoesOn}

@@ -2,7 +2,7 @@
 use Rattle.std.proofs.Common.{◌≡◌, ℕ, List, [], ◌∷◌, ◌++◌, sym, ap, ◌∙◌, append_assoc}
 use Rattle.std.proofs.lemmas.List.{map-append, flat_map_more}
 use Rattle.lock_runner.specs.Seats.{Seated}
-use Rattle.ctrie_commands.specs.Reports.{denied_lines}
+use Rattle.script_commands.specs.Reports.{denied_lines}
 use Rattle.ctrie_commands.specs.declared.working.Worker.{Worker}
 use Rattle.ctrie_commands.specs.Working.{AreGathered}
 

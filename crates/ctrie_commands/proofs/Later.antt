@@ -2,7 +2,7 @@
 use Rattle.std.proofs.Common.{◌≡◌, List, ◌∙◌}
 use Rattle.std.specs.Prelude.{All}
 use Rattle.std.proofs.lemmas.List.Elements.{All-weaker}
-use Rattle.ctrie_commands.specs.Beneath.step_machine.specs.Machines.{Taken}
+use Rattle.ctrie_commands.specs.Beneath.proof_runs.specs.Machines.{Taken}
 use Rattle.lock_runner.specs.Boards.{GoesOn}
 use Rattle.lock_runner.proofs.Boards.{goes_on_more}
 use Rattle.ctrie_commands.specs.Working.{OnTheWay}

@@ -13,7 +13,7 @@ use Rattle.lock_runner.specs.Seats.{Room, Seated, IsIdle}
 use Rattle.lock_runner.specs.Opening.{fresh_seat, fresh_seats, IsMade}
 use Rattle.script_text.specs.Threads.Reading.{Reading}
 use Rattle.ctrie_commands.specs.declared.working.Worker.{Worker}
-use Rattle.ctrie_commands.specs.Reports.{denied_lines}
+use Rattle.script_commands.specs.Reports.{denied_lines}
 use Rattle.ctrie_commands.specs.Working.{IsUnused, HasPerformedAll, HasSweptAll, HasEnded, HasWorked, HaveWorked}
 use Rattle.ctrie_commands.specs.Threads.{all_denied}
 

@@ -13,8 +13,8 @@ use Rattle.history.proofs.Places.{at_within}
 use Rattle.history_text.specs.Grammar.{EventFits}
 use Rattle.ctrie_commands.specs.Beneath.machine_model.specs.declared.steps.Limits.{Limits}
 use Rattle.lock_runner.specs.ActorHistory.Answers.{AreAnswersOf}
-use Rattle.ctrie_commands.specs.Recorded.{recorded_in}
-use Rattle.ctrie_commands.specs.Beneath.step_machine.specs.Machines.{Taken, past_of}
+use Rattle.script_commands.specs.Recorded.{recorded_in}
+use Rattle.ctrie_commands.specs.Beneath.proof_runs.specs.Machines.{Taken, past_of}
 use Rattle.ctrie_commands.specs.Beneath.step_machine.specs.Records.{IsRecordOf}
 use Rattle.ctrie_commands.specs.Beneath.step_machine.specs.declared.records.Record.{Record}
 use Rattle.lock_runner.specs.Boards.{sweeps_in}
@@ -23,10 +23,10 @@ use Rattle.lock_runner.specs.Opening.{IsMade}
 use Rattle.lock_runner.specs.Finishing.{IsHere, IsMissing, IsGathered, IsFinished, recorded}
 use Rattle.script_text.specs.Threads.Reading.{Reading}
 use Rattle.ctrie_commands.specs.declared.working.Worker.{Worker}
-use Rattle.ctrie_commands.specs.Reports.{line, hash_text, event_lines, last_lines, record_report}
+use Rattle.script_commands.specs.Reports.{line, hash_text, event_lines, last_lines, record_report}
 use Rattle.ctrie_commands.specs.Working.{calls_of, Performed, answered_calls, HasEnded, Swept}
 use Rattle.ctrie_commands.specs.Threads.{with_sweeper, RunsNothing, IsPerformedBy, IsSweptBy, IsCarriedOut, all_denied, thread_report, IsReportOf}
-use Rattle.ctrie_commands.proofs.Legal.{record_text_legal}
+use Rattle.ctrie_commands.proofs.ThreadReports.{record_text_legal}
 use Rattle.ctrie_commands.proofs.Advancing.{performed_later}
 use Rattle.ctrie_commands.proofs.Swept.{swept_later}
 use Rattle.ctrie_commands.proofs.Ranks.{AreRanked, from_map, to_map, swept_by_last}

@@ -13,12 +13,12 @@ use Rattle.ctrie_base.specs.declared.refusals.Refusal.{Refusal}
 use Rattle.history.specs.declared.calls.Call.{Call}
 use Rattle.history_text.specs.Grammar.{IsShort}
 use Rattle.ctrie_commands.specs.Beneath.machine_model.specs.declared.steps.Limits.{Limits}
-use Rattle.ctrie_commands.specs.Beneath.step_machine.specs.Machines.{Taken, past_of}
+use Rattle.ctrie_commands.specs.Beneath.proof_runs.specs.Machines.{Taken, past_of}
 use Rattle.lock_runner.specs.declared.accounts.Answer.{Answer}
 use Rattle.lock_runner.specs.ActorHistory.Answers.{AreAnswersOf}
 use Rattle.lock_runner.proofs.ActorHistory.Totals.{total, total_least, total_sum}
 use Rattle.ctrie_commands.specs.Beneath.machine_model.specs.Limits.{bounded}
-use Rattle.ctrie_commands.specs.Recorded.{recorded_in}
+use Rattle.script_commands.specs.Recorded.{recorded_in}
 use Rattle.lock_runner.proofs.ActorHistory.Counted.{answered, events_counted, answered_counted}
 use Rattle.script_text.specs.declared.thread_lines.ThreadLine.{ThreadLine}
 use Rattle.script_text.specs.declared.thread_lines.ThreadLine.TheVariants.{Do, Sweep}
@@ -27,9 +27,9 @@ use Rattle.script_text.proofs.Few.{few_lines}
 use Rattle.script_text.proofs.Threads.Found.{script_found}
 use Rattle.ctrie_commands.specs.Working.{calls_in, calls_of, names_sweep, sweep_lines, Performed, None, Answered, Denied, answered_calls}
 use Rattle.ctrie_commands.specs.Threads.{IsPerformedBy, IsSweptBy, IsCarriedOut, thread_report, IsReportOf, IsThreadReport}
-use Rattle.ctrie_commands.specs.Legality.{told_in, AppendsJudged}
-use Rattle.ctrie_commands.proofs.Legal.{judged_legal}
-use Rattle.ctrie_commands.proofs.LineCounts.{thread_report_counted}
+use Rattle.script_commands.specs.Legality.{told_in, AppendsJudged}
+use Rattle.script_commands.proofs.Legal.{judged_legal}
+use Rattle.ctrie_commands.proofs.ThreadReports.{thread_report_counted}
 
 -- ---- no two actors have one line
 

@@ -5,7 +5,7 @@ use Rattle.std.proofs.lemmas.List.{take_more}
 use Rattle.std.proofs.lemmas.List.Sums.{sum_by-append, sum_by-cons}
 use Rattle.std.proofs.lemmas.List.Elements.{All-nil, All-push}
 use Rattle.ctrie_base.specs.declared.refusals.Refusal.{Refusal}
-use Rattle.ctrie_commands.specs.Beneath.step_machine.specs.Machines.{Taken}
+use Rattle.ctrie_commands.specs.Beneath.proof_runs.specs.Machines.{Taken}
 use Rattle.lock_runner.specs.Boards.{GoesOn}
 use Rattle.lock_runner.specs.Stepping.{HasGoneOn}
 use Rattle.lock_runner.proofs.Boards.{goes_on_same}

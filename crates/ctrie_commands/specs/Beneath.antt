@@ -1,8 +1,6 @@
 -- What lies below this crate, named through the nearest crates alone: crates.txt lists only these, since the toolchain goes along each of its paths.
 pub use Rattle.lock_runner.specs.Beneath.machine_model as machine_model
-pub use Rattle.lock_runner.specs.Beneath.slot_arena as slot_arena
-pub use Rattle.lock_runner.specs.Beneath.proof_generations as proof_generations
-pub use Rattle.lock_runner.specs.Beneath.proof_order as proof_order
 pub use Rattle.lock_runner.specs.Beneath.step_machine as step_machine
-pub use Rattle.lock_runner.specs.Beneath.proof_obstruction_free as proof_obstruction_free
+pub use Rattle.lock_runner.specs.Beneath.proof_runs as proof_runs
+pub use Rattle.script_commands as script_commands
 pub use Rattle.history_commands as history_commands

@@ -8,7 +8,7 @@ use Rattle.history.specs.declared.calls.Call.{Call}
 use Rattle.ctrie_base.specs.declared.refusals.Refusal.TheVariants.{Spent}
 use Rattle.ctrie_commands.specs.Beneath.machine_model.specs.declared.steps.Step.TheVariants as step
 use Rattle.ctrie_commands.specs.Beneath.machine_model.specs.Machine.{next}
-use Rattle.ctrie_commands.specs.Beneath.step_machine.specs.Machines.{Taken, past_of, state_of}
+use Rattle.ctrie_commands.specs.Beneath.proof_runs.specs.Machines.{Taken, past_of, state_of}
 use Rattle.lock_runner.specs.declared.accounts.Answer.{Answer}
 use Rattle.lock_runner.specs.ActorHistory.Answers.{AreAnswersOf}
 use Rattle.lock_runner.specs.Boards.{GoesOn}
@@ -16,7 +16,7 @@ use Rattle.lock_runner.specs.Seats.{Seated, IsIdle}
 use Rattle.script_text.specs.declared.thread_lines.ThreadLine.{ThreadLine}
 use Rattle.script_text.specs.declared.thread_lines.ThreadLine.TheVariants.{Do, Sweep}
 use Rattle.script_text.specs.Threads.Reading.{Reading}
-use Rattle.ctrie_commands.specs.Reports.{denied_lines}
+use Rattle.script_commands.specs.Reports.{denied_lines}
 use Rattle.ctrie_commands.specs.declared.working.Worker.{Worker}
 
 -- ---- what the lines name

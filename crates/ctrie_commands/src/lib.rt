@@ -1,16 +1,13 @@
-//! What the program `ctrie` does, as calls over any reader and writer: scripts for a map run, by one thread or
-//! by many. What it does with histories is passed on.
+//! What the program `ctrie` does, as calls over any reader and writer: scripts for threads, carried out by many.
+//! What it does with scripts for one thread and with histories is passed on.
 #![tactic(auto)]
 
 mod groups;
-mod reports;
-mod scripts;
-mod stepping;
 mod threads;
 mod working;
 
 pub use counted_io::Counted;
 pub use history_commands::{Fault, check_history, draw_history, explain_history};
 pub use lock_runner::{Between, Nothing};
-pub use scripts::run_script;
+pub use script_commands::run_script;
 pub use threads::run_threads;

@@ -1,6 +1,6 @@
 use Rattle.std.proofs.Common.{◌≡◌, ◌++◌, ap, ◌∙◌}
 use Rattle.std.specs.String.{string_bytes}
-use Rattle.ctrie_commands.specs.Reports.{denied_lines}
+use Rattle.script_commands.specs.Reports.{denied_lines}
 use Rattle.ctrie_commands.proofs.Gathering.{gathered_more, moved_on}
 use Rattle.ctrie_commands.proofs.threads.gathered.Goals as goal
 

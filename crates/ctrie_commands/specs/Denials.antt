@@ -1,8 +1,0 @@
--- Why a step is denied.
-use Rattle.std.specs.Prelude.{Option, Some, None, Ok, Err}
-use Rattle.ctrie_base.specs.declared.refusals.Refusal.{Refusal}
-use Rattle.ctrie_commands.specs.Beneath.machine_model.specs.Machine.{Answer}
-
-abbrev pub denial_in : Answer → Option Refusal
-denial_in (Ok done) = None
-denial_in (Err refusal) = Some refusal

@@ -1,0 +1,9 @@
+pub mod Carrying
+pub mod Telling
+pub mod Growing
+pub mod Spelled
+pub mod Endings
+pub mod Legal
+pub mod Adding
+pub mod Short
+pub mod LineCounts

@@ -1,0 +1,7 @@
+pub mod Beneath
+pub mod Legality
+pub mod Denials
+pub mod Recorded
+pub mod Reports
+pub mod Endings
+pub mod Scripts
