@@ -14,7 +14,9 @@ use Rattle.ctrie_map.specs.declared.errors.MapError.{MapError}
 use Rattle.ctrie_map.specs.declared.errors.MapError.TheVariants as error
 use Rattle.ctrie_map.specs.declared.names.Name.{Name}
 use Rattle.ctrie_map.specs.declared.batches.Batch.{Batch}
-use Rattle.ctrie_map.specs.Batches.{ChangesAll, ChangesEach, ChangesKey, HaveRoom, IsChanging, IsCrowdedAmong, RefusesBatch, RefusesKey, RefusesName, Stops, batch_denial, changed, changed_all, crowds}
+use Rattle.ctrie_map.specs.Batches.{ChangesAll, ChangesEach, ChangesKey, HasLifeFor, HaveRoom, IsChanging, IsCrowdedAmong, RefusesBatch, RefusesKey, RefusesName, RunsOutOnCopy, Stops}
+use Rattle.ctrie_map.specs.Batches.{batch_denial, changed, changed_all, crowds}
+use Rattle.ctrie_map.specs.Changes.{core_of}
 use Rattle.ctrie_map.specs.Cores.{TakesUpTo, Turns, is_worn_out}
 use Rattle.ctrie_map.specs.Costs.{work_of_a_change}
 use Rattle.ctrie_map.specs.Denials.{denial_by}
@@ -58,6 +60,7 @@ module _ (batch : Batch) (handle : ℕ) (m : KeyMap) (pairs : List (ℕ × ℕ))
     same = refl;
     room = λ r. r;
     crowded = λ c. c;
+    out = λ o. o;
     rises = omega arith;
     work = omega arith;
     slots = omega arith;
@@ -81,7 +84,7 @@ module _ (batch : Batch) (handle : ℕ) (m : KeyMap) (pairs : List (ℕ × ℕ))
 
     pub goes_on : ChangesKey batch handle pair now after → TakesUpTo work_of_a_change now after → length now.heap.free ≤ length after.heap.free + (most_makes_alone + 1) →
         IsChanging batch handle m pairs before left after
-    goes_on (n, has, room, turns) takes slots =
+    goes_on (n, has, room, turns, leads) takes slots =
         let same : n ≡ so_far = one_map (map.get (world_of now) handle) n so_far has has_now in
         let crowd : crowds batch hash so_far pair.0 ≡ false = sym (crowd_now n has) ∙ room in record {
           so_far = changed batch pair so_far;
@@ -93,6 +96,7 @@ module _ (batch : Batch) (handle : ℕ) (m : KeyMap) (pairs : List (ℕ × ℕ))
           same = changing.same;
           room = λ r. changing.room (crowd, r);
           crowded = λ c. changing.crowded (inr c);
+          out = λ o. changing.out (inr (after, (n, has, room, turns, leads), o));
           rises = omega (arith, takes.0, changing.rises);
           work = omega (arith, takes.1, changing.work);
           slots = omega (arith, slots, changing.slots);
@@ -102,7 +106,7 @@ module _ (batch : Batch) (handle : ℕ) (m : KeyMap) (pairs : List (ℕ × ℕ))
     turns_so turns = (turns.0 ∙ changing.turns.0, turns.1 ∙ changing.turns.1)
 
     pub stops_at : (why : MapError) → RefusesKey batch handle pair now after why → Stops batch handle m pairs before after why
-    stops_at error.Full p = (omega (arith, p.0, changing.slots), (so_far, turns_so p.1))
+    stops_at error.Full p = (omega (arith, p.0, changing.slots), changing.out (inl p.1), (so_far, turns_so p.2))
     stops_at error.Crowded (n, has, crowd, turns) = (changing.crowded (inl (sym (crowd_now n has) ∙ crowd)), (so_far, turns_so turns))
     stops_at why p = absurd p
 
@@ -125,13 +129,13 @@ module _ (batch : Batch) (handle : ℕ) (m : KeyMap) (pairs : List (ℕ × ℕ))
   lives_at_first left = grind (arith, left)
 
   pub stops_within : (after : State) (why : MapError) → Stops batch handle m pairs before after why → after.limits ≡ before.limits
-  stops_within after error.Full p = p.1.1.0
+  stops_within after error.Full p = p.2.1.0
   stops_within after error.Crowded p = p.1.1.0
   stops_within after why p = absurd p
 
   -- the map is there wherever it has come to
   pub stopped_there : (after : State) (why : MapError) → Stops batch handle m pairs before after why → IsSome (map.get (world_of after) handle)
-  stopped_there after error.Full p = ap (λ w. is_some (map.get w handle)) p.1.1.1 ∙ ap is_some (at_same (world_of before) handle (state_of Writable p.1.0))
+  stopped_there after error.Full p = ap (λ w. is_some (map.get w handle)) p.2.1.1 ∙ ap is_some (at_same (world_of before) handle (state_of Writable p.2.0))
   stopped_there after error.Crowded p = ap (λ w. is_some (map.get w handle)) p.1.1.1 ∙ ap is_some (at_same (world_of before) handle (state_of Writable p.1.0))
   stopped_there after why p = absurd p
 
@@ -162,6 +166,9 @@ module _ (batch : Batch) (before : State) (names : NameTable) (whole : IsWhole (
 
     pub is_frozen_there : name.access ≡ ReadOnly → batch_denial now handle ≡ Some error.ReadOnly
     is_frozen_there e = ap opening shown ∙ ap (λ a. opening (Some (state_of a m))) e
+
+    out_so : RunsOutOnCopy batch name.core pairs before → RunsOutOnCopy batch (core_of (name_at names handle)) pairs before
+    out_so = subst (λ h. RunsOutOnCopy batch h pairs before) (sym (ap core_of at))
 
     module _ (writable : name.access ≡ Writable) where
       abbrev full_at : ℕ → Option MapError
@@ -220,14 +227,15 @@ module _ (batch : Batch) (before : State) (names : NameTable) (whole : IsWhole (
           stays_so turns = (turns.0, ap (handles_under names) turns.1)
 
           pub back_named : (why : MapError) → Stops batch draft d.m pairs drafted stopped why → AreNamesOf (world_of after) names
-          back_named error.Full p = subst (λ w. AreNamesOf w names) (sym (back p.1.0 p.1.1).1) whole.named
+          back_named error.Full p = subst (λ w. AreNamesOf w names) (sym (back p.2.0 p.2.1).1) whole.named
           back_named error.Crowded p = subst (λ w. AreNamesOf w names) (sym (back p.1.0 p.1.1).1) whole.named
           back_named why p = absurd p
 
-          pub refuses_all : (why : MapError) → Stops batch draft d.m pairs drafted stopped why → RefusesBatch batch now handle pairs (map_with after names) why
-          refuses_all error.Full p = (allowed, omega (arith, p.0, slots), stays_so (back p.1.0 p.1.1))
-          refuses_all error.Crowded p = (
+          pub refuses_all : HasLifeFor now pairs → (why : MapError) → Stops batch draft d.m pairs drafted stopped why → RefusesBatch batch now handle pairs (map_with after names) why
+          refuses_all life error.Full p = (allowed, life, (omega (arith, p.0, slots), out_so (inr (draft, drafted, d, p.1))), stays_so (back p.2.0 p.2.1))
+          refuses_all life error.Crowded p = (
             allowed,
+            life,
             (
               m,
               writes,
@@ -235,11 +243,17 @@ module _ (batch : Batch) (before : State) (names : NameTable) (whole : IsWhole (
             ),
             stays_so (back p.1.0 p.1.1),
           )
-          refuses_all why p = absurd p
+          refuses_all life why p = absurd p
 
       -- or there is none
-      pub no_draft : map.len world < handle_limit → (after : State) (why : MapError) → RefusesDraft name.core before after why → RefusesBatch batch now handle pairs (map_with after names) why
-      no_draft room after why p = rw p.0 (one_left (omega (arith, room, whole.named.many)), omega (arith, p.1), (p.3.0, ap (handles_under names) p.3.1))
+      pub no_draft : map.len world < handle_limit → HasLifeFor now pairs → (after : State) (why : MapError) → RefusesDraft name.core before after why →
+          RefusesBatch batch now handle pairs (map_with after names) why
+      no_draft room life after why p = rw p.0 (
+        one_left (omega (arith, room, whole.named.many)),
+        life,
+        (omega (arith, p.1), out_so (inl p.2)),
+        (p.3.0, ap (handles_under names) p.3.1),
+      )
 
   -- or the name tells why not
   pub refused_by_name : (why : MapError) → RefusesName names handle why → RefusesBatch batch now handle pairs now why

@@ -1,5 +1,5 @@
 -- What becomes of the core where a copy is made that has no name.
-use Rattle.std.specs.Prelude.{◌≡◌, ◌<◌, ℕ, true, false, nat_le, if◌then◌else◌, Some, None, option_and_then, Result, Ok, Err}
+use Rattle.std.specs.Prelude.{◌≡◌, ◌<◌, ℕ, true, false, nat_le, if◌then◌else◌, Some, None, option_and_then, Result, Ok, Err, IfOk}
 use Rattle.std.specs.FinMap as map
 use Rattle.std.proofs.Common.{refl, sym, ap, subst, arith, ◌∙◌}
 use Rattle.std.proofs.lemmas.Bool.{true≢false}
@@ -14,7 +14,7 @@ use Rattle.machine_model.specs.States.{State, handle_limit}
 use Rattle.ctrie_map.specs.Beneath.map_worlds.specs.Worlds.{world_of}
 use Rattle.ctrie_map.specs.declared.errors.MapError.{MapError}
 use Rattle.ctrie_map.specs.declared.errors.MapError.TheVariants as error
-use Rattle.ctrie_map.specs.Cores.{Carries, Replies, core_denial, is_worn_out}
+use Rattle.ctrie_map.specs.Cores.{Carries, Leads, Replies, core_denial, is_worn_out}
 use Rattle.ctrie_map.specs.Denials.{denial_by}
 use Rattle.ctrie_map.specs.Drafts.{IsDraftOf, IsWritable, RefusesDraft}
 use Rattle.ctrie_map.specs.Telling.{opened_in}
@@ -36,9 +36,9 @@ module _ (before : State) (handle : ℕ) where
     abbrev Comes : Result ℕ MapError → Type 0
     Comes = ComesTo (λ draft. IsDraftOf handle before draft after) (RefusesDraft handle before after)
 
-    by_answer : (answer : Reply) → Replies before (call.Snapshot handle) answer after → Comes (opened_in (Ok answer))
-    by_answer NoSlots p = (refl, p.0, p.1, p.2)
-    by_answer answer p =
+    by_answer : (answer : Reply) → Replies before (call.Snapshot handle) answer after → Leads before (call.Snapshot handle) after → Comes (opened_in (Ok answer))
+    by_answer NoSlots p leads = (refl, p.0, p.1, p.2)
+    by_answer answer p leads =
         let o = is_opened world p.0 Writable answer p.1 (writable_map_of world handle) p.2 in
         let is : o.m ≡ writable.0 =
         same_Some o.m writable.0 (sym o.at ∙ ap (λ s. option_and_then (λ s. with_access Writable s.access s.pairs) s) writable.1) in
@@ -47,13 +47,15 @@ module _ (before : State) (handle : ℕ) where
           has = writable.1;
           new = o.new;
           turns = (p.3.0, p.3.1 ∙ o.there ∙ ap (naming world o.copy Writable) is);
+          leads = leads;
         })
 
-    comes : (result : Result Reply MapError) → Carries result before (call.Snapshot handle) after → Comes (opened_in result)
-    comes (Ok answer) p = by_answer answer p.2
-    comes (Err error.WornOut) p = absurd (true≢false (sym p.1 ∙ life))
-    comes (Err why) p = cc (sym allowed ∙ p.0)
+    comes : (result : Result Reply MapError) → Carries result before (call.Snapshot handle) after → IfOk result (λ _. Leads before (call.Snapshot handle) after) →
+        Comes (opened_in result)
+    comes (Ok answer) p leads = by_answer answer p.2 leads
+    comes (Err error.WornOut) p none = absurd (true≢false (sym p.1 ∙ life))
+    comes (Err why) p none = cc (sym allowed ∙ p.0)
 
-    pub drafted : (result : Result Reply MapError) → Carries result before (call.Snapshot handle) after → (draft : ℕ) → opened_in result ≡ Ok draft →
-        IsDraftOf handle before draft after
-    drafted result p draft is = subst Comes is (comes result p)
+    pub drafted : (result : Result Reply MapError) → Carries result before (call.Snapshot handle) after → IfOk result (λ _. Leads before (call.Snapshot handle) after) →
+        (draft : ℕ) → opened_in result ≡ Ok draft → IsDraftOf handle before draft after
+    drafted result p leads draft is = subst Comes is (comes result p leads)

@@ -16,7 +16,7 @@ use Rattle.machine_model.specs.declared.steps.Bounds.{Bounds}
 use Rattle.machine_model.specs.Machine.{AreBounds, longest_life, run_from}
 use Rattle.machine_model.specs.States.{State, first_heap, first_state}
 use Rattle.ctrie_map.specs.Beneath.map_worlds.proofs.First.{first_is_shown}
-use Rattle.machine_core.specs.Bounds.{RefusesBounds}
+use Rattle.ctrie_map.specs.Beneath.proof_core.specs.Bounds.{RefusesBounds}
 use Rattle.ctrie_map.specs.Beneath.slot_arena.specs.Heaps.{taken}
 use Rattle.ctrie_map.specs.declared.errors.MapError.{MapError}
 use Rattle.ctrie_map.specs.Cores.{IsCalm}

@@ -25,7 +25,7 @@ use Rattle.ctrie_map.proofs.Changing.{naming_same}
 use Rattle.ctrie_map.proofs.Lookups.{same_told}
 use Rattle.ctrie_map.proofs.Named.{state_of}
 use Rattle.ctrie_map.proofs.Setting.{one_map}
-use Rattle.ctrie_map.proofs.Sifted.{filtered, parts, wanted_left}
+use Rattle.ctrie_map.proofs.Sifted.{filtered, left_out, parts, wanted_left}
 
 -- one thing follows from another one, where it is done, and where it is refused
 pub done_then : {P Q : Type 0} → (P → Q) → (told : Result (Unit {0}) MapError) → IfOk told (λ _. P) → IfOk told (λ _. Q)
@@ -87,8 +87,8 @@ module _ {F : Type 0} (asks : F → ℕ → ℕ → Bool → F → Type 0) (f : 
       many : length wanted + length unwanted ≡ map.len m
       many = parts asks f (map.entries m) wanted unwanted sifted ∙ sym (map.len-entries m)
 
-      unwanted_so : HasUnwanted asks f now handle (length unwanted)
-      unwanted_so = (m, there, (wanted, wants, many))
+      unwanted_so : HasUnwanted asks f now handle unwanted
+      unwanted_so = (m, there, left_out asks f (map.entries m) wanted unwanted sifted)
 
       abbrev left : KeyMap
       left = changed_all Removes m unwanted
@@ -122,11 +122,11 @@ module _ {F : Type 0} (asks : F → ℕ → ℕ → Bool → F → Type 0) (f : 
           )
 
       pub refuses : (after : MapState) (why : MapError) → RefusesBatch Removes now handle unwanted after why → RefusesRetain asks f now handle after why
-      refuses after error.Full p = (p.0, (length unwanted, unwanted_so, p.1), p.2)
-      refuses after error.WornOut p = (p.0, (length unwanted, unwanted_so, p.1), p.2)
-      refuses after error.Crowded p = absurd (never_crowded (hash_of before.limits.hash) p.1.0 unwanted p.1.2)
+      refuses after error.Full p = (p.0, (unwanted, unwanted_so, p.1, p.2), p.3)
+      refuses after error.WornOut p = (p.0, (unwanted, unwanted_so, p.1), p.2)
+      refuses after error.Crowded p = absurd (never_crowded (hash_of before.limits.hash) p.2.0 unwanted p.2.2)
       refuses after error.Memory p = (allowed, p.1)
       refuses after why p = p
 
       pub works : (after : MapState) → TakesUpTo (work_of_changes (length unwanted) + work_of_a_close) before after.core → WorksByUnwanted asks f now handle after
-      works after takes = inr (length unwanted, unwanted_so, takes)
+      works after takes = inr (unwanted, unwanted_so, takes)

@@ -1,5 +1,5 @@
 -- What a closure leaves of pairs.
-use Rattle.std.specs.Prelude.{◌≡◌, ◌<◌, ◌≤◌, ◌+◌, ℕ, suc, Bool, true, false, cond, T, ◌&&◌, ◌||◌, List, [], ◌∷◌, ◌++◌, length, if◌then◌else◌, Option, Some, None, slice_set}
+use Rattle.std.specs.Prelude.{◌≡◌, ◌<◌, ◌≤◌, ◌+◌, ℕ, suc, Bool, true, false, not, cond, T, ◌&&◌, ◌||◌, List, [], ◌∷◌, ◌++◌, length, if◌then◌else◌, Option, Some, None, slice_set}
 use Rattle.std.specs.Cmp.{nat_cmp_total, unsigned_tied}
 use Rattle.std.specs.FinMap as map
 use Rattle.std.specs.FinMap.{same_map, nat_cmp-IsAntisymmetric}
@@ -89,6 +89,15 @@ module _ {F : Type 0} (asks : F → ℕ → ℕ → Bool → F → Type 0) where
   filtered f (pair ∷ pairs) wanted unwanted (false, next, more, less, asked, rest, are, others) =
       let (answers, last, each, told, is) = filtered next pairs more less rest in
       (false ∷ answers, last, ap suc each, (next, asked, told), are ∙ is)
+
+  pub left_out : (f : F) (pairs wanted unwanted : Pairs) → Sifts asks f pairs wanted unwanted → IsFiltered (λ g pair leaves next. Asks g pair (not leaves) next) f pairs unwanted
+  left_out f [] wanted unwanted (none, others) = ([], f, refl, refl, others)
+  left_out f (pair ∷ pairs) wanted unwanted (true, next, more, less, asked, rest, are, others) =
+      let (answers, last, each, told, is) = left_out next pairs more less rest in
+      (false ∷ answers, last, ap suc each, (next, asked, told), others ∙ is)
+  left_out f (pair ∷ pairs) wanted unwanted (false, next, more, less, asked, rest, are, others) =
+      let (answers, last, each, told, is) = left_out next pairs more less rest in
+      (true ∷ answers, last, ap suc each, (next, asked, told), others ∙ ap (λ xs. pair ∷ xs) is)
 
   -- ---- in the order of keys
 

@@ -13,9 +13,9 @@ use Rattle.machine_model.specs.declared.steps.Step.TheVariants.{Begin, Go}
 use Rattle.machine_model.specs.Calls.{needs_read_only}
 use Rattle.machine_model.specs.Machine.{Answer, is_busy, is_spent, next}
 use Rattle.machine_model.specs.States.{State, operation_of}
-use Rattle.machine_core.specs.Bounds.{Answers, Applies, Walks}
+use Rattle.ctrie_map.specs.Beneath.proof_core.specs.Bounds.{Answers, Applies, Walks}
 use Rattle.machine_core.specs.Sweeping.{Reclaims, at_first, one_more}
-use Rattle.machine_core.specs.Work.{Worked}
+use Rattle.ctrie_map.specs.Beneath.proof_core.specs.Work.{Worked}
 use Rattle.proof_alone.specs.Calls.{CallsBegin, CallsGoOn, CanCall, IsNoWalk, LeadsOn, steps_of}
 use Rattle.proof_alone.specs.Sweeps.{Sweeps, SweepsLeave, most_sweeps, sweeps, unswept}
 use Rattle.proof_alone.proofs.Going.{steps_so_far}

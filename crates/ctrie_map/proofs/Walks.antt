@@ -12,8 +12,8 @@ use Rattle.machine_model.specs.States.{State, root_at}
 use Rattle.machine_core.specs.Comparing.{AreDifferences, RefusesEither}
 use Rattle.machine_core.specs.declared.differing.Difference.{Difference}
 use Rattle.machine_core.specs.Finding.{found_along}
-use Rattle.machine_core.specs.Reading as core
-use Rattle.machine_core.proofs.Found.{found_there}
+use Rattle.ctrie_map.specs.Beneath.proof_core.specs.Reading as core
+use Rattle.ctrie_map.specs.Beneath.proof_core.proofs.Found.{found_there}
 use Rattle.ctrie_map.specs.Beneath.proof_contents.proofs.Values.Crowds.{sorted_distinct}
 use Rattle.ctrie_map.specs.Beneath.proof_straight.specs.Resting.{IsOfRun}
 use Rattle.ctrie_map.specs.declared.errors.MapError.{MapError}

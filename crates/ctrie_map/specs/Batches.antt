@@ -4,21 +4,23 @@ use Rattle.std.specs.FinMap as map
 use Rattle.ctrie_base.specs.Hashes.{hash_of}
 use Rattle.history.specs.declared.calls.Access.TheVariants.{Writable, ReadOnly as Frozen}
 use Rattle.history.specs.declared.calls.Call.{Call}
-use Rattle.history.specs.declared.calls.Call.TheVariants.{Put, Remove}
+use Rattle.history.specs.declared.calls.Call.TheVariants.{Put, Remove, Snapshot}
 use Rattle.history.specs.Effects.{is_crowded, naming}
 use Rattle.history.specs.Worlds.{KeyMap}
 use Rattle.machine_model.specs.States.{State, handle_limit}
 use Rattle.ctrie_map.specs.Beneath.map_worlds.specs.Worlds.{world_of}
 use Rattle.ctrie_map.specs.Beneath.proof_obstruction_free.specs.Slots.{most_makes_alone, most_steps_of_copies}
+use Rattle.proof_alone.specs.Calls.{RunsOut}
 use Rattle.ctrie_map.specs.declared.batches.Batch.{Batch}
 use Rattle.ctrie_map.specs.declared.batches.Batch.TheVariants.{Puts, Removes}
 use Rattle.ctrie_map.specs.declared.errors.MapError.{MapError}
 use Rattle.ctrie_map.specs.declared.errors.MapError.TheVariants.{NoHandle, ReadOnly, HandlesFull, Crowded, Full, WornOut}
 use Rattle.ctrie_map.specs.declared.names.Name.{Name}
-use Rattle.ctrie_map.specs.Cores.{IsTight, Turns}
+use Rattle.ctrie_map.specs.Changes.{core_of}
+use Rattle.ctrie_map.specs.Cores.{IsTight, Leads, Turns, the_actor}
 use Rattle.ctrie_map.specs.Costs.{work_of_a_change, work_of_a_copy}
 use Rattle.ctrie_map.specs.Denials.{denial_by}
-use Rattle.ctrie_map.specs.Drafts.{HasMap, is_worn_out_by}
+use Rattle.ctrie_map.specs.Drafts.{HasMap, IsDraftOf, is_worn_out_by}
 use Rattle.ctrie_map.specs.Maps.{MapState, Becomes, Stays, handles_of}
 use Rattle.ctrie_map.specs.Names.{NameTable, how_many, name_at}
 
@@ -49,6 +51,30 @@ abbrev pub IsCrowdedAmong : Batch → (ℕ → ℕ) → KeyMap → List (ℕ × 
 IsCrowdedAmong batch hash m [] = ⊥
 IsCrowdedAmong batch hash m (pair ∷ pairs) = (crowds batch hash m pair.0 ≡ true) ⊎ IsCrowdedAmong batch hash (changed batch pair m) pairs
 
+-- ---- in the core
+
+-- the call that does this with the key of a pair
+abbrev pub batch_call : Batch → ℕ → ℕ × ℕ → Call
+batch_call Puts handle pair = Put handle pair.0 pair.1
+batch_call Removes handle pair = Remove handle pair.0
+
+-- a key of a writable map of the core is changed
+abbrev pub ChangesKey : Batch → ℕ → ℕ × ℕ → State → State → Type 0
+ChangesKey batch handle pair before after =
+    (m : KeyMap) × HasMap (world_of before) handle m × (crowds batch (hash_of before.limits.hash) m pair.0 ≡ false)
+    × Turns before (naming (world_of before) handle Writable (changed batch pair m)) after × Leads before (batch_call batch handle pair) after
+
+-- The change of one of these keys came to where it was to make a node, and no slot was free: in the state to which the changes before it led.
+abbrev pub RunsOutAmong : Batch → ℕ → List (ℕ × ℕ) → State → Type 0
+RunsOutAmong batch handle [] now = ⊥
+RunsOutAmong batch handle (pair ∷ pairs) now =
+    RunsOut now the_actor (batch_call batch handle pair) ⊎ ((next : State) × ChangesKey batch handle pair now next × RunsOutAmong batch handle pairs next)
+
+-- so did the copy of a map, or the change of one of these keys in that copy
+abbrev pub RunsOutOnCopy : Batch → ℕ → List (ℕ × ℕ) → State → Type 0
+RunsOutOnCopy batch handle pairs before =
+    RunsOut before the_actor (Snapshot handle) ⊎ ((draft : ℕ) × (drafted : State) × IsDraftOf handle before draft drafted × RunsOutAmong batch draft pairs drafted)
+
 -- ---- in the map
 
 -- the most slots that so many changes take on a copy: one more each, since the sweep may leave one
@@ -68,11 +94,20 @@ ChangesAll batch before handle pairs after =
 abbrev pub batch_denial : MapState → ℕ → Option MapError
 batch_denial before handle = denial_by true true (map.get (handles_of before) handle) (map.len (handles_of before))
 
+-- more steps are left than all these changes may take, and a call behind them
+abbrev pub HasLifeFor : MapState → List (ℕ × ℕ) → Type 0
+HasLifeFor before pairs = is_worn_out_by (work_of_changes (length pairs)) before.core ≡ false
+
+-- Fewer slots were free than the copy of the handle's map and all these changes may take, and on the way none was where a node was to be made.
+abbrev pub LacksSlotsAmong : Batch → MapState → ℕ → List (ℕ × ℕ) → Type 0
+LacksSlotsAmong batch before handle pairs = IsTight (slots_of_changes (length pairs)) before.core × RunsOutOnCopy batch (core_of (name_at before.names handle)) pairs before.core
+
 -- Why it was refused. All maps stay as they are; where it wasn't begun, nothing has changed.
 abbrev pub RefusesBatch : Batch → MapState → ℕ → List (ℕ × ℕ) → MapState → MapError → Type 0
-RefusesBatch batch before handle pairs after Full = (batch_denial before handle ≡ None) × IsTight (slots_of_changes (length pairs)) before.core × Stays before after
+RefusesBatch batch before handle pairs after Full =
+    (batch_denial before handle ≡ None) × HasLifeFor before pairs × LacksSlotsAmong batch before handle pairs × Stays before after
 RefusesBatch batch before handle pairs after Crowded =
-    (batch_denial before handle ≡ None)
+    (batch_denial before handle ≡ None) × HasLifeFor before pairs
     × ((m : KeyMap) × HasMap (handles_of before) handle m × IsCrowdedAmong batch (hash_of before.core.limits.hash) m pairs) × Stays before after
 RefusesBatch batch before handle pairs after WornOut =
     (batch_denial before handle ≡ None) × (is_worn_out_by (work_of_changes (length pairs)) before.core ≡ true) × (after ≡ before)
@@ -91,22 +126,12 @@ RefusesName names number ReadOnly = (name : Name) × (name_at names number ≡ S
 RefusesName names number HandlesFull = (name : Name) × (name_at names number ≡ Some name) × (name.access ≡ Writable) × (handle_limit ≤ how_many names)
 RefusesName names number error = ⊥
 
--- ---- in the core
-
--- the call that does this with the key of a pair
-abbrev pub batch_call : Batch → ℕ → ℕ × ℕ → Call
-batch_call Puts handle pair = Put handle pair.0 pair.1
-batch_call Removes handle pair = Remove handle pair.0
-
--- a key of a writable map of the core is changed
-abbrev pub ChangesKey : Batch → ℕ → ℕ × ℕ → State → State → Type 0
-ChangesKey batch handle pair before after =
-    (m : KeyMap) × HasMap (world_of before) handle m × (crowds batch (hash_of before.limits.hash) m pair.0 ≡ false)
-    × Turns before (naming (world_of before) handle Writable (changed batch pair m)) after
+-- ---- key by key in the core
 
 -- why it isn't where steps are left
 abbrev pub RefusesKey : Batch → ℕ → ℕ × ℕ → State → State → MapError → Type 0
-RefusesKey batch handle pair before after Full = IsTight most_makes_alone before × Turns before (world_of before) after
+RefusesKey batch handle pair before after Full =
+    IsTight most_makes_alone before × RunsOut before the_actor (batch_call batch handle pair) × Turns before (world_of before) after
 RefusesKey batch handle pair before after Crowded =
     (m : KeyMap) × HasMap (world_of before) handle m × (crowds batch (hash_of before.limits.hash) m pair.0 ≡ true) × Turns before (world_of before) after
 RefusesKey batch handle pair before after error = ⊥
@@ -118,6 +143,7 @@ pub record IsChanging (batch : Batch) (handle : ℕ) (m : KeyMap) (pairs : List 
   pub same : changed_all batch so_far left ≡ changed_all batch m pairs
   pub room : HaveRoom batch (hash_of before.limits.hash) so_far left → HaveRoom batch (hash_of before.limits.hash) m pairs
   pub crowded : IsCrowdedAmong batch (hash_of before.limits.hash) so_far left → IsCrowdedAmong batch (hash_of before.limits.hash) m pairs
+  pub out : RunsOutAmong batch handle left now → RunsOutAmong batch handle pairs before
   pub rises : before.steps ≤ now.steps
   pub work : now.steps + 5 * length before.heap.free + work_of_a_change * length left ≤ before.steps + work_of_a_change * length pairs + 5 * length now.heap.free
   pub slots : length before.heap.free + (most_makes_alone + 1) * length left ≤ length now.heap.free + (most_makes_alone + 1) * length pairs
@@ -130,7 +156,8 @@ ChangesEach batch handle m pairs before after =
 -- or it has stopped in their midst
 abbrev pub Stops : Batch → ℕ → KeyMap → List (ℕ × ℕ) → State → State → MapError → Type 0
 Stops batch handle m pairs before after Full =
-    IsTight ((most_makes_alone + 1) * length pairs) before × ((so_far : KeyMap) × Turns before (naming (world_of before) handle Writable so_far) after)
+    IsTight ((most_makes_alone + 1) * length pairs) before × RunsOutAmong batch handle pairs before
+    × ((so_far : KeyMap) × Turns before (naming (world_of before) handle Writable so_far) after)
 Stops batch handle m pairs before after Crowded =
     IsCrowdedAmong batch (hash_of before.limits.hash) m pairs × ((so_far : KeyMap) × Turns before (naming (world_of before) handle Writable so_far) after)
 Stops batch handle m pairs before after error = ⊥

@@ -8,3 +8,4 @@ pub use Rattle.proof_alone.specs.Beneath.slot_arena as slot_arena
 pub use Rattle.proof_alone.specs.Beneath.map_worlds as map_worlds
 pub use Rattle.proof_alone.specs.Beneath.proof_straight as proof_straight
 pub use Rattle.machine_core as machine_core
+pub use Rattle.machine_core.specs.Beneath.proof_core as proof_core

@@ -13,7 +13,8 @@ use Rattle.machine_model.specs.States.{State}
 use Rattle.ctrie_map.specs.Beneath.map_worlds.specs.Worlds.{world_of}
 use Rattle.ctrie_map.specs.Beneath.proof_obstruction_free.specs.Laws.{most_steps_alone}
 use Rattle.proof_alone.specs.Calls.{RunsOut, slots_of}
-use Rattle.proof_alone.specs.Sweeps.{most_sweeps}
+use Rattle.proof_alone.specs.Sweeps.{Sweeps, most_sweeps}
+use Rattle.ctrie_map.specs.Beneath.proof_straight.specs.Running.{Comes}
 use Rattle.ctrie_map.specs.declared.errors.MapError.{MapError}
 use Rattle.ctrie_map.specs.declared.errors.MapError.TheVariants.{WornOut}
 use Rattle.ctrie_map.specs.Denials.{denial_by}
@@ -58,6 +59,11 @@ abbrev pub Replies : State → Call → Reply → State → Type 0
 Replies before call NoSlots after = IsTight (slots_of call) before × RunsOut before the_actor call × Turns before (world_of before) after
 Replies before call answer after =
     (opens : Option ℕ) × (next : _) × Effect (hash_of before.limits.hash) (world_of before) call opens answer next × Turns before next after
+
+-- the call leads there: it is carried out alone, from its begin to its end, and then all that it makes free is swept
+abbrev pub Leads : State → Call → State → Type 0
+Leads before call after =
+    (n swept : ℕ) × (answer : Reply) × (ended : State) × Comes before the_actor call n answer ended × Sweeps ended swept after × (after.limbo ≡ [])
 
 -- what a call of the core comes to
 abbrev pub Carries : Result Reply MapError → State → Call → State → Type 0

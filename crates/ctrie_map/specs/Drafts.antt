@@ -12,7 +12,7 @@ use Rattle.proof_alone.specs.Calls.{RunsOut, slots_of}
 use Rattle.proof_alone.specs.Sweeps.{most_sweeps}
 use Rattle.ctrie_map.specs.declared.errors.MapError.{MapError}
 use Rattle.ctrie_map.specs.declared.errors.MapError.TheVariants.{Full}
-use Rattle.ctrie_map.specs.Cores.{IsTight, Turns, the_actor}
+use Rattle.ctrie_map.specs.Cores.{IsTight, Leads, Turns, the_actor}
 use Rattle.ctrie_map.specs.Maps.{MapState, Becomes, handles_of}
 use Rattle.ctrie_map.specs.Names.{AreNamesOf, NameTable}
 
@@ -23,12 +23,13 @@ HasMap world handle m = map.get world handle ≡ Some (record { access = Writabl
 abbrev pub IsWritable : HandleMap → ℕ → Type 0
 IsWritable world handle = (m : KeyMap) × HasMap world handle m
 
--- the draft is a new handle of the core, with the map of this one
+-- the draft is a new handle of the core, with the map of this one: its snapshot
 pub record IsDraftOf (handle : ℕ) (before : State) (draft : ℕ) (after : State) : Type 0 where
   pub m : KeyMap
   pub has : HasMap (world_of before) handle m
   pub new : map.get (world_of before) draft ≡ None
   pub turns : Turns before (naming (world_of before) draft Writable m) after
+  pub leads : Leads before (Snapshot handle) after
 
 -- these are the names of the core's other handles, and this draft, which has no name, has this map
 pub record IsBeside (world : HandleMap) (names : NameTable) (draft : ℕ) (m : KeyMap) (core : State) : Type 0 where

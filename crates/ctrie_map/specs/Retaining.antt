@@ -1,14 +1,14 @@
 -- The pairs of a map that a closure wants.
-use Rattle.std.specs.Prelude.{◌≡◌, ◌⊎◌, ◌+◌, ℕ, Bool, true, List, [], ◌∷◌, length, Some, None, if◌then◌else◌}
+use Rattle.std.specs.Prelude.{◌≡◌, ◌⊎◌, ◌+◌, ℕ, Bool, true, not, List, [], ◌∷◌, length, Some, None, if◌then◌else◌}
 use Rattle.std.specs.FinMap as map
 use Rattle.std.specs.List.Retain.{IsFiltered}
 use Rattle.history.specs.declared.calls.Access.TheVariants.{Writable}
 use Rattle.history.specs.Effects.{naming}
 use Rattle.history.specs.Worlds.{KeyMap}
+use Rattle.ctrie_map.specs.declared.batches.Batch.TheVariants.{Removes}
 use Rattle.ctrie_map.specs.declared.errors.MapError.{MapError}
 use Rattle.ctrie_map.specs.declared.errors.MapError.TheVariants.{Full, WornOut, Memory}
-use Rattle.ctrie_map.specs.Batches.{batch_denial, slots_of_changes, work_of_changes}
-use Rattle.ctrie_map.specs.Cores.{IsTight}
+use Rattle.ctrie_map.specs.Batches.{HasLifeFor, LacksSlotsAmong, batch_denial, work_of_changes}
 use Rattle.ctrie_map.specs.Costs.{WorksUpTo, work_of_a_close}
 use Rattle.ctrie_map.specs.Drafts.{HasMap, is_worn_out_by}
 use Rattle.ctrie_map.specs.Maps.{MapState, Becomes, Stays, handles_of}
@@ -17,10 +17,10 @@ use Rattle.ctrie_map.specs.Maps.{MapState, Becomes, Stays, handles_of}
 abbrev pub Wants : {F : Type 0} → (F → ℕ → ℕ → Bool → F → Type 0) → F → KeyMap → List (ℕ × ℕ) → Type 0
 Wants asks f m wanted = IsFiltered (λ now pair wants next. asks now pair.0 pair.1 wants next) f (map.entries m) wanted
 
--- so many pairs it doesn't want
-abbrev pub HasUnwanted : {F : Type 0} → (F → ℕ → ℕ → Bool → F → Type 0) → F → MapState → ℕ → ℕ → Type 0
-HasUnwanted asks f before handle many =
-    (m : KeyMap) × HasMap (handles_of before) handle m × ((wanted : List (ℕ × ℕ)) × Wants asks f m wanted × (length wanted + many ≡ map.len m))
+-- asked so, it doesn't want these pairs of the handle's map
+abbrev pub HasUnwanted : {F : Type 0} → (F → ℕ → ℕ → Bool → F → Type 0) → F → MapState → ℕ → List (ℕ × ℕ) → Type 0
+HasUnwanted asks f before handle unwanted =
+    (m : KeyMap) × HasMap (handles_of before) handle m × IsFiltered (λ now pair leaves next. asks now pair.0 pair.1 (not leaves) next) f (map.entries m) unwanted
 
 -- The writable handle has the pairs that are wanted, and no others; all other handles stay. Where all are, nothing has changed.
 abbrev pub Retains : {F : Type 0} → (F → ℕ → ℕ → Bool → F → Type 0) → F → MapState → ℕ → MapState → Type 0
@@ -28,19 +28,22 @@ Retains asks f before handle after =
     (m : KeyMap) × HasMap (handles_of before) handle m
     × ((left : KeyMap) × Wants asks f m (map.entries left) × (left ≡ m → after ≡ before) × Becomes before (naming (handles_of before) handle Writable left) after)
 
--- Why it was refused: by how many pairs aren't wanted, or before the closure was asked of any. All maps stay as they are.
+-- Why it was refused: by the pairs that aren't wanted, or before the closure was asked of any. All maps stay as they are.
 abbrev pub RefusesRetain : {F : Type 0} → (F → ℕ → ℕ → Bool → F → Type 0) → F → MapState → ℕ → MapState → MapError → Type 0
 RefusesRetain asks f before handle after Full =
-    (batch_denial before handle ≡ None) × ((many : ℕ) × HasUnwanted asks f before handle many × IsTight (slots_of_changes many) before.core) × Stays before after
+    (batch_denial before handle ≡ None)
+    × ((unwanted : List (ℕ × ℕ)) × HasUnwanted asks f before handle unwanted × HasLifeFor before unwanted × LacksSlotsAmong Removes before handle unwanted)
+    × Stays before after
 RefusesRetain asks f before handle after WornOut =
-    (batch_denial before handle ≡ None) × ((many : ℕ) × HasUnwanted asks f before handle many × (is_worn_out_by (work_of_changes many) before.core ≡ true)) × (after ≡ before)
+    (batch_denial before handle ≡ None)
+    × ((unwanted : List (ℕ × ℕ)) × HasUnwanted asks f before handle unwanted × (is_worn_out_by (work_of_changes (length unwanted)) before.core ≡ true)) × (after ≡ before)
 RefusesRetain asks f before handle after Memory = (batch_denial before handle ≡ None) × (after ≡ before)
 RefusesRetain asks f before handle after error = (batch_denial before handle ≡ Some error) × (after ≡ before)
 
 -- its work: none where nothing has changed, else by how many pairs aren't wanted
 abbrev pub WorksByUnwanted : {F : Type 0} → (F → ℕ → ℕ → Bool → F → Type 0) → F → MapState → ℕ → MapState → Type 0
 WorksByUnwanted asks f before handle after =
-    (after ≡ before) ⊎ ((many : ℕ) × HasUnwanted asks f before handle many × WorksUpTo (work_of_changes many + work_of_a_close) before after)
+    (after ≡ before) ⊎ ((unwanted : List (ℕ × ℕ)) × HasUnwanted asks f before handle unwanted × WorksUpTo (work_of_changes (length unwanted) + work_of_a_close) before after)
 
 -- f, asked of these pairs one after the other, wants some of them, and doesn't want the others
 abbrev pub Sifts : {F : Type 0} → (F → ℕ → ℕ → Bool → F → Type 0) → F → List (ℕ × ℕ) → List (ℕ × ℕ) → List (ℕ × ℕ) → Type 0

@@ -1,11 +1,11 @@
 //! One call of the core below a map, from its begin to its end, and the sweep behind it.
 
-ghost use Rattle.std.specs.Prelude.{◌≡◌, ◌<◌, ◌≤◌, ◌+◌, ℕ, false, [], length};
+ghost use Rattle.std.specs.Prelude.{◌≡◌, ◌<◌, ◌≤◌, ◌+◌, ℕ, IfOk, false, [], length};
 ghost use Rattle.machine_model.specs.Machine.{is_busy};
 ghost use Rattle.proof_alone.specs.Calls.{CanCall, slots_of};
 ghost use Rattle.proof_alone.specs.Sweeps.{Sweeps, most_sweeps};
 ghost use Rattle.ctrie_map.specs.Beneath.proof_straight.specs.Running.{Comes};
-ghost use Rattle.ctrie_map.specs.Cores.{Carries, IsCalm, TakesUpTo, is_worn_out, life_left, the_actor};
+ghost use Rattle.ctrie_map.specs.Cores.{Carries, IsCalm, Leads, TakesUpTo, is_worn_out, life_left, the_actor};
 ghost use Rattle.ctrie_map.specs.Costs.{work_of_call};
 ghost use Rattle.ctrie_map.specs.Drafts.{is_worn_out_by};
 ghost use Rattle.ctrie_map.specs.Performing.{IsChange};
@@ -108,6 +108,7 @@ pub(crate) fn perform(core: &mut Core, call: Call) -> Result<Reply, MapError>
     requires change { IsChange call }
     ensures calm { IsCalm core.new.state }
     ensures carries { Carries result core.old.state call core.new.state }
+    ensures leads { IfOk result (λ _. Leads core.old.state call core.new.state) }
     ensures work { TakesUpTo (work_of_call call) core.old.state core.new.state }
     ensures slots { length core.old.state.heap.free ≤ length core.new.state.heap.free + (slots_of call + 1) }
 {

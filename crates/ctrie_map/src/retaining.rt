@@ -15,10 +15,11 @@ use machine_core::Core;
 impl Map {
     /// Keeps the pairs that `f` wants: it takes all others out, or none. `f` is asked of each pair once, in ascending order of
     /// keys, before anything changes, and of none where the handle isn't open or is read-only, where 256 handles are open, since
-    /// this takes one more for the moment, or where there is no memory for a list of the pairs. It is `Full` only where fewer than
-    /// 24 slots and 571 for each unwanted pair are free, and `WornOut` where fewer steps are left than so many changes may take:
-    /// no map has changed then, and `remove` may do for some of the pairs. Where all are wanted, nothing changes, and no step is
-    /// taken.
+    /// it works on a copy, which takes one more for the moment, or where there is no memory for a list of the pairs. It is `Full`
+    /// only where that copy, or the removal of an unwanted pair from it, was to make a node and no slot was free: never where 24
+    /// slots and 571 for each unwanted pair were free before it. It is `WornOut` where fewer steps are left than so many changes
+    /// may take. No map has changed then, and `remove` may do for some of the pairs. Where all are wanted, nothing changes, and no
+    /// step is taken.
     pub fn retain<F: FnMut(u64, u64) -> bool>(
         &mut self,
         handle: Handle,

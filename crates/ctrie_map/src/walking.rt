@@ -2,7 +2,7 @@
 
 ghost use Rattle.std.specs.Prelude.{◌≡◌, ◌≤◌, nat_eq, length, Ok, IfOk, IfErr};
 ghost use Rattle.std.specs.FinMap as map;
-ghost use Rattle.machine_core.specs.Reading.{next_of};
+ghost use Rattle.ctrie_map.specs.Beneath.proof_core.specs.Reading.{next_of};
 ghost use Rattle.ctrie_map.specs.Reading.{IsOneOf, Reads, ReadsOf, RefusesReading, core_reading, reading};
 
 use crate::errors::MapError;

@@ -11,8 +11,7 @@ pub returns-in_err-made-clause-refused : goal.returns-in_err-made-clause-refused
 returns-in_err-made-clause-refused c =
     let p = err_from_is_err_and c.from_residual.result c.from_residual.ensures.1 in
     rw (p.1, p.2) (no_draft c.args.batch c.args.core.now.state c.args.names.now c.requires.whole c.args.handle c.args.pairs.now c.args.name c.requires.can_copy.0 c.requires.can_copy.1 c.requires.room
-    c.draft.new.core.state
-    c.in_err-made.field-0.0 c.in_err-made.ensures.refused)
+    c.requires.life c.draft.new.core.state c.in_err-made.field-0.0 c.in_err-made.ensures.refused)
 
 pub change_each-requires-clause-writable : goal.change_each-requires-clause-writable
 change_each-requires-clause-writable c =
@@ -71,4 +70,4 @@ returns-in-Err-clause-refused c =
     c.requires.room c.in_ok-made.made c.draft.new.core.state c.in_ok-made.ensures.drafted c.draft.ensures.slots in
     refuses_all c.args.batch c.args.core.now.state c.args.names.now c.requires.whole c.args.handle c.args.pairs.now c.args.name c.requires.can_copy.0 c.requires.can_copy.1
     c.requires.room c.in_ok-made.made c.draft.new.core.state c.in_ok-made.ensures.drafted c.draft.ensures.slots
-    c.change_each.new.core.state c.let_go.new.core.state c.let_go.ensures.gone c.in-Err.error (c.in-Err.ensures.stops d.m has)
+    c.change_each.new.core.state c.let_go.new.core.state c.let_go.ensures.gone c.requires.life c.in-Err.error (c.in-Err.ensures.stops d.m has)

@@ -7,4 +7,5 @@ pub returns-clause-drafted : goal.returns-clause-drafted
 returns-clause-drafted c =
     subst (λ d. IsDraftOf c.args.handle c.args.core.now.state d c.perform.new.core.state) (sym c.number.ensures)
     (drafted c.args.core.now.state c.args.handle c.requires.writable c.requires.room c.requires.life c.perform.new.core.state c.perform.result c.perform.ensures.carries
+    c.perform.ensures.leads
     c.in_ok-draft.draft (sym c.opened.ensures ∙ c.in_ok-draft.was))

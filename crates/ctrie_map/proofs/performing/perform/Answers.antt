@@ -39,6 +39,17 @@ returns-clause-carries c =
     (sym c.is_worn_out.ensures ∙ c.if-is_worn_out.false) c.key_fits.ensures c.calls_do.ensures c.carry_out-reply.result c.carry_out-reply.new.core.state c.carry_out-reply.ensures
     c.sweeps_leave.ensures c.sweep.new.core.state c.sweep.ensures.swept c.refused_if_out.ensures c.enough_slots_for_calls.ensures
 
+pub returns-clause-leads : goal.returns-clause-leads
+returns-clause-leads c = (
+  c.carry_out-reply.ensures.0,
+  c.sweep.ensures.swept.0,
+  c.carry_out-reply.result,
+  c.carry_out-reply.new.core.state,
+  c.carry_out-reply.ensures.1,
+  c.sweep.ensures.swept.1,
+  c.sweep.ensures.clean,
+)
+
 pub returns-clause-work : goal.returns-clause-work
 returns-clause-work c =
     works c.args.core.now.state c.args.call c.requires.calm c.limits.ensures.of_run c.requires.change (sym c.denial.ensures ∙ c.in_default.is)

@@ -12,12 +12,12 @@ use Rattle.ctrie_map.proofs.retaining.retain.Goals as goal
 pub returns-in_err-name-clause-refused : goal.returns-in_err-name-clause-refused
 returns-in_err-name-clause-refused g c =
     let p = err_from_is_err_and c.from_residual.result c.from_residual.ensures.1 in
-    rw (p.1, p.2) (not_named _ c.args.f c.args.core.now.state c.args.names.now c.requires.whole c.args.handle c.in_err-name.field-0.0 c.in_err-name.ensures.refused)
+    rw (p.1, p.2) (not_named (goal.F-step g) c.args.f c.args.core.now.state c.args.names.now c.requires.whole c.args.handle c.in_err-name.field-0.0 c.in_err-name.ensures.refused)
 
 pub returns-in_err-pairs-clause-refused : goal.returns-in_err-pairs-clause-refused
 returns-in_err-pairs-clause-refused g c =
     let p = err_from_is_err_and c.from_residual-in_err-pairs.result c.from_residual-in_err-pairs.ensures.1 in
-    rw (p.1, p.2) (no_list _ c.args.f c.args.core.now.state c.args.names.now c.requires.whole c.args.handle c.in_ok-name.name c.in_ok-name.ensures.named c.in_err-pairs.field-0.0
+    rw (p.1, p.2) (no_list (goal.F-step g) c.args.f c.args.core.now.state c.args.names.now c.requires.whole c.args.handle c.in_ok-name.name c.in_ok-name.ensures.named c.in_err-pairs.field-0.0
     c.in_err-pairs.ensures.refused)
 
 pub returns-then-is_empty-clause-retains : goal.returns-then-is_empty-clause-retains

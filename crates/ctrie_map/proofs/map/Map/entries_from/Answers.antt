@@ -1,7 +1,7 @@
 use Rattle.std.proofs.Common.{ap, inl}
 use Rattle.std.proofs.lemmas.Result.{err_from_is_err_and}
 use Rattle.std.specs.FinMap as map
-use Rattle.machine_core.specs.Reading.{next_of}
+use Rattle.ctrie_map.specs.Beneath.proof_core.specs.Reading.{next_of}
 use Rattle.ctrie_map.specs.Maps.{MapState}
 use Rattle.ctrie_map.specs.Reading.{core_reading}
 use Rattle.ctrie_map.proofs.NamedReading.{read_none, read_so}
