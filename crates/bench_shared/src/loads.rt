@@ -7,9 +7,11 @@ pub(crate) struct Load {
     pub(crate) calls: u64,
     /// How many keys all threads share, and how many each has for itself.
     pub(crate) keys: u64,
+    /// How many slots each shard has.
     pub(crate) slots: u32,
     /// After so many calls of a thread a copy is frozen, read and closed; 0 for never.
     pub(crate) every: u64,
+    pub(crate) shards: u8,
 }
 
 /// What came of it.

@@ -1,10 +1,10 @@
 //! The speed of a map that threads share, and whether what they were told adds up.
 //!
-//! `bench_shared THREADS CALLS KEYS SLOTS EVERY` has each thread make its share of so many calls: gets, puts and removals,
-//! 6 : 6 : 4, over so many keys that all share, and as many that each has for itself; every EVERY calls also a freeze, 100 gets
-//! of that, and a close (0: never). It writes how many nanoseconds all took, how many calls were refused, and how many answers
-//! were wrong: of its own keys a thread knows each answer, and in the end there are as many keys as came and didn't go. Without
-//! words few calls are made, and just written that they were.
+//! `bench_shared THREADS CALLS KEYS SLOTS EVERY SHARDS` has each thread make its share of so many calls: gets, puts and
+//! removals, 6 : 6 : 4, over so many keys that all share, and as many that each has for itself, of a map in so many shards of
+//! SLOTS slots each; every EVERY calls also a freeze, 100 gets of that, and a close (0: never). It writes how many nanoseconds
+//! all took, how many calls were refused, and how many answers were wrong: of its own keys a thread knows each answer, and in
+//! the end there are as many keys as came and didn't go. Without words few calls are made, and just written that they were.
 #![tactic(auto)]
 
 mod caller;
@@ -52,6 +52,7 @@ fn load_of(words: &[String]) -> Option<Load> {
         keys: number(words.get(2))?,
         slots: u32::try_from(number(words.get(3))?).ok()?,
         every: number(words.get(4))?,
+        shards: u8::try_from(number(words.get(5))?).ok()?,
     })
 }
 
@@ -69,6 +70,7 @@ fn small<R: Threads + Wait + Sync + Print + AllocGlobal>(rt: &R) -> Result<(), M
         keys: 40,
         slots: 4_096,
         every: 100,
+        shards: 8,
     };
     let done = run(rt, load)?;
     let _ = println!(rt;

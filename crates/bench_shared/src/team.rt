@@ -5,7 +5,9 @@ ghost use Rattle.shared_map.specs.Seats.{AreSeatsOf};
 
 use crate::caller::Caller;
 use crate::loads::{Done, Load};
-use shared_map::{Handle, HashKind, MapError, MapSeat, Name, NamedMap, NamedMapSeat, SharedMap};
+use shared_map::{
+    Handle, HashKind, MapCalls, MapError, MapSeat, Name, NamedMap, NamedMapSeat, SharedMap,
+};
 use std::alloc::{AllocGlobal, Global};
 use std::marker::Brand;
 use std::sync::Wait;
@@ -77,7 +79,13 @@ pub(crate) fn run<R: Threads + Wait + Sync + AllocGlobal>(
     rt: &R,
     load: Load,
 ) -> Result<Done, MapError> {
-    let (map, seats) = SharedMap::new(rt.alloc(), load.slots, HashKind::Low, load.threads)?;
+    let (map, seats) = SharedMap::new(
+        rt.alloc(),
+        load.slots,
+        HashKind::Low,
+        load.threads,
+        load.shards,
+    )?;
     run_by::<Brand, R>(rt, map, seats, load)
 }
 
@@ -88,7 +96,7 @@ fn run_by<N: Name + Send + Sync, R: Threads + Wait + Sync + AllocGlobal>(
     seats: Vec<MapSeat>,
     load: Load,
 ) -> Result<Done, MapError>
-    requires name { map.id ≡ N.gate }
+    requires name { map.room.id ≡ N.gate }
     requires seats { AreSeatsOf map seats.items }
 {
     let Ok((map, mut seats)) = map.named::<N>(rt.alloc(), seats) else {
@@ -102,9 +110,9 @@ fn run_by<N: Name + Send + Sync, R: Threads + Wait + Sync + AllocGlobal>(
         usize::from(load.threads.max(1)),
         &|_, seat| work(rt, alloc, &map, seat, load, &sums),
     );
-    let Ok(map) = map.finish(seats) else {
-        // It never comes to this: all seats are there.
-        return Err(MapError::Memory);
+    let keys = match seats.first_mut() {
+        Some(seat) => seat.count(rt, &map, Handle::first())?,
+        None => 0,
     };
-    Ok(sums.done(map.count(Handle::first())?))
+    Ok(sums.done(keys))
 }

@@ -5,6 +5,7 @@ ghost use Rattle.shared_map.specs.Seats.{AreSeatsOf};
 
 use shared_map::{
     Handle, HashKind, Map, MapCalls, MapError, MapSeat, Name, NamedMap, NamedMapSeat, SharedMap,
+    only_shard,
 };
 use std::alloc::AllocGlobal;
 use std::marker::Brand;
@@ -63,7 +64,7 @@ fn count_by<N: Name + Send + Sync, R: Threads + Wait + Sync + AllocGlobal>(
     map: SharedMap,
     seats: Vec<MapSeat>,
 ) -> Result<u64, MapError>
-    requires name { map.id ≡ N.gate }
+    requires name { map.room.id ≡ N.gate }
     requires seats { AreSeatsOf map seats.items }
 {
     let Ok((map, mut seats)) = map.named::<N>(rt.alloc(), seats) else {
@@ -80,8 +81,12 @@ fn count_by<N: Name + Send + Sync, R: Threads + Wait + Sync + AllocGlobal>(
             }
         },
     );
-    let Ok(map) = map.finish(seats) else {
+    let Ok(shards) = map.finish(seats) else {
         // It never comes to this: all seats are there.
+        return Err(MapError::Memory);
+    };
+    let Ok(map) = only_shard(shards) else {
+        // Nor to this: it is in one shard.
         return Err(MapError::Memory);
     };
     if refused.load(Ordering::SeqCst) > 0 {

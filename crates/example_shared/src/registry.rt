@@ -1,4 +1,5 @@
-//! A registry that threads change while one of them exports it: each export is of one moment.
+//! A registry that threads change while one of them exports it: each export is of one moment. It lies in eight shards, so threads
+//! that change keys of different ones don't wait for each other.
 
 ghost use Rattle.std.specs.Prelude.{◌≡◌};
 ghost use Rattle.shared_map.specs.Seats.{AreSeatsOf};
@@ -87,7 +88,7 @@ fn export_often<N: Name, R: Wait>(
 
 /// Three threads register while the one with seat 1 exports: how many exports were of one moment.
 pub(crate) fn run<R: Threads + Wait + Sync + AllocGlobal>(rt: &R) -> Result<u64, MapError> {
-    let (map, seats) = SharedMap::new(rt.alloc(), 4_096, HashKind::Fold, 4)?;
+    let (map, seats) = SharedMap::new(rt.alloc(), 1_024, HashKind::Fold, 4, 8)?;
     run_by::<Brand, R>(rt, map, seats)
 }
 
@@ -97,7 +98,7 @@ fn run_by<N: Name + Send + Sync, R: Threads + Wait + Sync + AllocGlobal>(
     map: SharedMap,
     seats: Vec<MapSeat>,
 ) -> Result<u64, MapError>
-    requires name { map.id ≡ N.gate }
+    requires name { map.room.id ≡ N.gate }
     requires seats { AreSeatsOf map seats.items }
 {
     let Ok((map, mut seats)) = map.named::<N>(rt.alloc(), seats) else {
@@ -122,11 +123,11 @@ fn run_by<N: Name + Send + Sync, R: Threads + Wait + Sync + AllocGlobal>(
             }
         },
     );
-    let Ok(map) = map.finish(seats) else {
-        // It never comes to this: all seats are there.
-        return Err(MapError::Memory);
+    let handles = match seats.first_mut() {
+        Some(seat) => seat.handles(rt, &map),
+        None => 0,
     };
-    if refused.load(Ordering::SeqCst) > 0 || map.handles() != 1 {
+    if refused.load(Ordering::SeqCst) > 0 || handles != 1 {
         return Err(MapError::Full);
     }
     Ok(right.load(Ordering::SeqCst))

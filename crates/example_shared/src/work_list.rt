@@ -1,4 +1,4 @@
-//! A list of work: who is free takes its first task by `remove_if`, which one of them does alone.
+//! A list of work: who is free finds a task by `first` and takes it by `remove_if`, which one of them does alone.
 
 ghost use Rattle.std.specs.Prelude.{◌≡◌};
 ghost use Rattle.shared_map.specs.Seats.{AreSeatsOf};
@@ -23,7 +23,7 @@ struct Done {
     refused: AtomicU64,
 }
 
-/// Takes the first task: its number and what it is worth. None where the list is empty.
+/// Takes any one task: its number and what it is worth. None where the list is empty.
 fn take<N: Name, R: Wait>(
     rt: &R,
     map: &NamedMap<N>,
@@ -31,8 +31,7 @@ fn take<N: Name, R: Wait>(
 ) -> Result<Option<(u64, u64)>, MapError> {
     let all = Handle::first();
     for _ in rt.forever() {
-        let tasks = seat.entries(rt, map, all)?;
-        let Some((task, worth)) = tasks.first().copied() else {
+        let Some((task, worth)) = seat.first(rt, map, all)? else {
             return Ok(None);
         };
         if seat.remove_if(rt, map, all, task, worth)? {
@@ -79,7 +78,7 @@ fn run_by<N: Name + Send + Sync, R: Threads + Wait + Sync + AllocGlobal>(
     map: SharedMap,
     seats: Vec<MapSeat>,
 ) -> Result<u64, MapError>
-    requires name { map.id ≡ N.gate }
+    requires name { map.room.id ≡ N.gate }
     requires seats { AreSeatsOf map seats.items }
 {
     let Ok((map, mut seats)) = map.named::<N>(rt.alloc(), seats) else {
@@ -99,11 +98,11 @@ fn run_by<N: Name + Send + Sync, R: Threads + Wait + Sync + AllocGlobal>(
             }
         },
     );
-    let Ok(map) = map.finish(seats) else {
-        // It never comes to this: all seats are there.
-        return Err(MapError::Memory);
+    let left = match seats.first_mut() {
+        Some(seat) => seat.count(rt, &map, Handle::first())?,
+        None => 0,
     };
-    if done.refused.load(Ordering::SeqCst) > 0 || map.count(Handle::first())? > 0 {
+    if done.refused.load(Ordering::SeqCst) > 0 || left > 0 {
         return Err(MapError::Full);
     }
     Ok(done.worth.load(Ordering::SeqCst))

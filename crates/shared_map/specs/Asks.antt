@@ -1,37 +1,83 @@
--- What the seats ask of the map behind the gate, and what they are told.
-use Rattle.std.specs.Prelude.{◌≡◌, ℕ, Result, Ok}
-use Rattle.std.specs.FinMap as map
+-- What is asked of a map in shards, what is told, and which shard a request is about.
+use Rattle.std.specs.Prelude.{ℕ, ◌*◌, ◌/◌, ◌%◌, ◌^◌, Option, Some, None, Result, Ok, Err, option_map}
+use Rattle.ctrie_base.specs.Hashes.{hash_of}
+use Rattle.ctrie_base.specs.declared.hashes.HashKind.{HashKind}
+use Rattle.history.specs.declared.calls.Call.{Call}
+use Rattle.history.specs.declared.calls.Call.TheVariants.{Get, Put, PutIfAbsent, Replace, ReplaceIf, Remove, RemoveIf}
 use Rattle.history.specs.declared.replies.Reply.{Reply}
-use Rattle.history.specs.declared.replies.Reply.TheVariants.{Count}
+use Rattle.machine_model.specs.Calls.{handle_of}
 use Rattle.gate.specs.declared.objects.Entry.{Entry}
-use Rattle.gate.specs.Logs as logs
-use Rattle.gate.specs.Seats as gate
 use Rattle.ctrie_map.specs.declared.errors.MapError.{MapError}
-use Rattle.ctrie_map.specs.Calling.{Calls}
-use Rattle.ctrie_map.specs.Costs.{WorksUpTo, work_of_call}
-use Rattle.ctrie_map.specs.Maps.{MapState, free_of, handles_of}
+use Rattle.ctrie_map.specs.declared.errors.MapError.TheVariants.{Memory}
+use Rattle.shared_map.specs.declared.asks.Answer.{Answer}
+use Rattle.shared_map.specs.declared.asks.Answer.TheVariants as answer
 use Rattle.shared_map.specs.declared.asks.Ask.{Ask}
-use Rattle.shared_map.specs.declared.asks.Ask.TheVariants.{Do, Handles, Free}
+use Rattle.shared_map.specs.declared.asks.Ask.TheVariants.{Do, From, First, IsWritable, Restore}
+use Rattle.shared_map.specs.declared.asks.Request.{Request}
 
 abbrev pub Told : Type 0
-Told = Result Reply MapError
+Told = Result Answer MapError
+
+-- what a call is answered
+abbrev pub Replied : Type 0
+Replied = Result Reply MapError
+
+-- a result as it is told, in this form
+abbrev pub told_as : {A : Type 0} → (A → Answer) → Result A MapError → Told
+told_as form (Ok result) = Ok (form result)
+told_as form (Err error) = Err error
+
+-- the reply, where it is one
+abbrev pub replied_in : Told → Replied
+replied_in (Ok (answer.Reply reply)) = Ok reply
+replied_in (Ok other) = Err Memory
+replied_in (Err error) = Err error
+
+-- a restore tells nothing but that it is done
+abbrev pub answer_to_restore : Unit {0} → Answer
+answer_to_restore done = answer.Restored
 
 -- a call, as the log tells of it
 abbrev pub MapEntry : Type 0
-MapEntry = Entry Ask Told
+MapEntry = Entry Request Told
 
--- a seat at a shared map, the map with its log as a seat saw them, and the map behind its gate
-abbrev pub MapSeat : Type 0
-MapSeat = gate.Seated MapState Ask Told
+-- this is asked of a map with this hash
+abbrev pub asking : HashKind → Ask → Request
+asking hash ask = record { ask = ask; hash = hash }
 
-abbrev pub MapLog : Type 0
-MapLog = logs.Logged MapState Ask Told
+-- the one key that a call is about
+abbrev pub key_in : Call → Option ℕ
+key_in (Get h k) = Some k
+key_in (Put h k v) = Some k
+key_in (PutIfAbsent h k v) = Some k
+key_in (Replace h k v) = Some k
+key_in (ReplaceIf h k a b) = Some k
+key_in (Remove h k) = Some k
+key_in (RemoveIf h k v) = Some k
+key_in call = None
 
-abbrev pub MapRoom : Type 0
-MapRoom = gate.Room MapState
+abbrev pub key_asked : Ask → Option ℕ
+key_asked (Do call) = key_in call
+key_asked ask = None
 
--- what the map may tell a seat, whichever it is, and what becomes of it
-abbrev pub MapAnswers : ℕ → MapState → Ask → Told → MapState → Type 0
-MapAnswers seat before (Do call) told after = Calls told before call after × WorksUpTo (work_of_call call) before after
-MapAnswers seat before Handles told after = (after ≡ before) × (told ≡ Ok (Count (map.len (handles_of before))))
-MapAnswers seat before Free told after = (after ≡ before) × (told ≡ Ok (Count (free_of before)))
+-- the handle that is asked for, if one is
+abbrev pub handle_asked : Ask → ℕ
+handle_asked (Do call) = handle_of call
+handle_asked (From h cursor room) = h
+handle_asked (First h) = h
+handle_asked (IsWritable h) = h
+handle_asked (Restore h copy) = h
+handle_asked ask = 0
+
+-- The shard of a hash, of so many: by the six top bits of its product with 2^64 over the golden ratio. All bits of the hash bear on these, so each shard has its
+-- share of each branch of the trie, whose levels go by the hash's own bits.
+abbrev pub shard_of : ℕ → ℕ → ℕ
+shard_of shards hash = hash * 11400714819323198485 % 2 ^ 64 / 2 ^ 58 % shards
+
+-- the shard of a key
+abbrev pub place_of : HashKind → ℕ → ℕ → ℕ
+place_of hash shards key = shard_of shards (hash_of hash key)
+
+-- the shard that a request is about; none where it is about all
+abbrev pub about : ℕ → Request → Option ℕ
+about shards request = option_map (λ key. place_of request.hash shards key) (key_asked request.ask)

@@ -1,10 +1,36 @@
--- A new shared map.
-use Rattle.std.specs.Prelude.{ℕ, List}
+-- Shared maps as they are made.
+use Rattle.std.specs.Prelude.{◌≡◌, ◌⊎◌, ℕ, ◌≤◌, List, [], ◌∷◌, length}
 use Rattle.ctrie_base.specs.declared.hashes.HashKind.{HashKind}
-use Rattle.ctrie_map.specs.Maps.{IsNew}
-use Rattle.gate.specs.Opening.{IsMade}
-use Rattle.shared_map.specs.Asks.{MapRoom, MapSeat}
+use Rattle.ctrie_map.specs.Maps.{AreSlots, IsNew, MapState}
+use Rattle.ctrie_map.specs.declared.errors.MapError.{MapError}
+use Rattle.ctrie_map.specs.declared.errors.MapError.TheVariants.{BadSizes, Memory}
+use Rattle.sharded_gate.specs.Opening.{AreMade}
+use Rattle.shared_map.specs.Seats.{MapRoom, MapSeat}
 
--- a new map is behind the gate, and so many seats are here
-abbrev pub IsNewShared : ℕ → HashKind → ℕ → MapRoom → List MapSeat → Type 0
-IsNewShared slots hash seats shared made = IsNew slots hash shared.first × IsMade shared.first seats shared made
+abbrev pub AreNew : ℕ → HashKind → List MapState → Type 0
+AreNew slots hash [] = Unit {0}
+AreNew slots hash (m ∷ ms) = IsNew slots hash m × AreNew slots hash ms
+
+-- so many new maps, each with so many slots
+abbrev pub AreNewMaps : ℕ → HashKind → ℕ → List MapState → Type 0
+AreNewMaps slots hash shards maps = AreNew slots hash maps × (length maps ≡ shards)
+
+abbrev pub AreShardNumbers : ℕ → Type 0
+AreShardNumbers shards = (1 ≤ shards) × (shards ≤ 64)
+
+-- new maps are behind the gate, and so many seats are here
+abbrev pub IsNewShared : ℕ → HashKind → ℕ → ℕ → MapRoom → List MapSeat → Type 0
+IsNewShared slots hash shards seats shared made =
+    AreNewMaps slots hash shards shared.room.first × (shared.hash ≡ hash) × AreMade shared.room.first seats shared.room made
+
+-- this map is behind the gate, in one shard, and so many seats are here
+abbrev pub Shares : MapState → ℕ → MapRoom → List MapSeat → Type 0
+Shares map seats shared made = (shared.hash ≡ map.core.limits.hash) × AreMade (map ∷ []) seats shared.room made
+
+-- why a map isn't made
+abbrev pub RefusesMaps : ℕ → MapError → Type 0
+RefusesMaps slots error = ((¬ AreSlots slots) × (error ≡ BadSizes)) ⊎ (error ≡ Memory)
+
+-- why there is none
+abbrev pub RefusesNew : ℕ → ℕ → MapError → Type 0
+RefusesNew slots shards error = ((¬ AreSlots slots ⊎ ¬ AreShardNumbers shards) × (error ≡ BadSizes)) ⊎ (error ≡ Memory)

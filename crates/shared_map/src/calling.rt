@@ -1,30 +1,34 @@
 //! The calls of a seat.
 
-ghost use Rattle.std.specs.Prelude.{◌↔◌, ◌≤◌, length, IsTrue};
 ghost use Rattle.history.specs.declared.calls.Call.TheVariants as call;
-ghost use Rattle.ctrie_map.specs.Telling.{done_in, found_in, opened_in, truth_in};
-ghost use Rattle.gate.specs.Calls.{IsCalled, HasHeard};
-ghost use Rattle.shared_map.specs.declared.asks.Ask.TheVariants.{Do, Handles, Free};
-ghost use Rattle.shared_map.specs.Asks.{MapAnswers};
-ghost use Rattle.shared_map.specs.Calling.{Lists, Tells};
-ghost use Rattle.shared_map.specs.Telling.{contained_in, counted_in, has_room_in, number_in};
+ghost use Rattle.shared_map.specs.declared.asks.Ask.TheVariants.{Do, First, Free, From, Handles, HasRoom, IsWritable, Restore};
+ghost use Rattle.shared_map.specs.Calling.{HasAsked, HasHeardOf, Lists, Tells};
+ghost use Rattle.shared_map.specs.Telling.{contained_in, counted_in, done_in, first_in, found_in, has_room_in, listed_in, number_in, open_in, opened_in, part_in, restored_in, truth_in, writable_in};
 
 use crate::asks::{Ask, Told};
 use crate::maps::{MapSeat, SharedMap};
-use crate::telling::{contained, counted, listed, number};
-use ctrie_map::telling::{done, found, opened, truth};
-use ctrie_map::{Handle, MapError, SLOTS_FOR_A_CALL};
+use crate::naming::{NamedMap, NamedMapSeat};
+use crate::telling::{
+    contained, counted, done, first, found, has_room, listed, number, opened, part, restored,
+    truth, writable,
+};
+use ctrie_map::{Handle, MapError};
+use gate::Name;
 use history::Call;
+use sharded_gate::ShardCount;
 use std::sync::Wait;
 
-/// The calls of a seat on its map `M`. Each is one hold of the map's gate: it answers what the call of `Map` answers, on the map
-/// as the calls before it in the log left it, and stands in the log with its answer, also where it is refused. It may wait for
-/// others.
+/// The calls of a seat on its map `M`. Each answers what the call of `Map` answers, on the map as the calls before it in the
+/// log left it, and stands in the log with its answer, also where it is refused. One on a key holds the key's shard alone, any
+/// other one all shards. It may wait for others.
 pub trait MapCalls<M> {
-    ghost use Rattle.shared_map.specs.Asks.{MapSeat};
+    ghost use Rattle.shared_map.specs.Seats.{MapRoom, MapSeat};
 
     /// The seat.
     ghost seat: { Self → MapSeat };
+
+    /// The map behind its gate.
+    ghost shared: { M → MapRoom };
 
     /// Whether the seat is one of the map's.
     ghost fits: { M → Self → Type 0 };
@@ -32,14 +36,13 @@ pub trait MapCalls<M> {
     /// Asks the map.
     fn ask<R: Wait>(&mut self, rt: &R, map: &M, ask: Ask) -> Told
         requires { fits map.now self.old }
-        ensures { IsCalled MapAnswers (seat self.old) ask result (seat self.new) };
+        ensures { HasAsked (shared map.now) (seat self.old) ask result (seat self.new) };
 
-    /// Tells whether so many calls have been made, as `last` of a seat numbers them. All that it found stands before what the
-    /// seat calls next, so who is told the number of a call comes behind it.
-    fn hear<R: Wait>(&mut self, rt: &R, map: &M, calls: u64) -> bool
+    /// Tells whether so many calls about a shard have been made, as `last` of a seat numbers them. All that it found stands
+    /// before what the seat calls next, so who is told the number of a call comes behind it.
+    fn hear<R: Wait>(&mut self, rt: &R, map: &M, count: ShardCount) -> bool
         requires { fits map.now self.old }
-        ensures heard { HasHeard MapAnswers (seat self.old) (seat self.new) }
-        ensures told { IsTrue result ↔ calls ≤ length (seat self.new).seen.log };
+        ensures { HasHeardOf (shared map.now) (seat self.old) count result (seat self.new) };
 
     /// As `Map::get`.
     fn get<R: Wait>(
@@ -50,16 +53,11 @@ pub trait MapCalls<M> {
         key: u64,
     ) -> Result<Option<u64>, MapError>
         requires { fits map.now self.old }
-        ensures { Tells found_in (seat self.old) (Do (call.Get handle key)) result (seat self.new) }
+        ensures { Tells found_in (shared map.now) (seat self.old) (Do (call.Get handle key)) result (seat self.new) }
     {
-        found(self.ask(
-            rt,
-            map,
-            Ask::Do(Call::Get {
-                handle: handle.number(),
-                key,
-            }),
-        ))
+        let handle = handle.number();
+        let call = Call::Get { handle, key };
+        found(self.ask(rt, map, Ask::Do(call)))
     }
 
     /// As `Map::contains`. Its entry is that of a get.
@@ -71,12 +69,10 @@ pub trait MapCalls<M> {
         key: u64,
     ) -> Result<bool, MapError>
         requires { fits map.now self.old }
-        ensures { Tells contained_in (seat self.old) (Do (call.Get handle key)) result (seat self.new) }
+        ensures { Tells contained_in (shared map.now) (seat self.old) (Do (call.Get handle key)) result (seat self.new) }
     {
-        let get = Ask::Do(Call::Get {
-            handle: handle.number(),
-            key,
-        });
+        let handle = handle.number();
+        let get = Ask::Do(Call::Get { handle, key });
         contained(self.ask(rt, map, get))
     }
 
@@ -88,53 +84,97 @@ pub trait MapCalls<M> {
         handle: Handle,
     ) -> Result<Vec<(u64, u64)>, MapError>
         requires { fits map.now self.old }
-        ensures { Lists (seat self.old) (Do (call.Entries handle)) result (seat self.new) }
+        ensures { Lists listed_in (shared map.now) (seat self.old) (Do (call.Entries handle)) result (seat self.new) }
     {
-        listed(self.ask(
-            rt,
-            map,
-            Ask::Do(Call::Entries {
-                handle: handle.number(),
-            }),
-        ))
+        let handle = handle.number();
+        let call = Call::Entries { handle };
+        listed(self.ask(rt, map, Ask::Do(call)))
+    }
+
+    /// As `Map::entries_from`: others wait while each shard is walked over.
+    fn entries_from<R: Wait>(
+        &mut self,
+        rt: &R,
+        map: &M,
+        handle: Handle,
+        after: Option<u64>,
+        room: usize,
+    ) -> Result<Vec<(u64, u64)>, MapError>
+        requires { fits map.now self.old }
+        ensures { Lists part_in (shared map.now) (seat self.old) (From handle after room) result (seat self.new) }
+    {
+        let handle = handle.number();
+        let from = Ask::From {
+            handle,
+            after,
+            room,
+        };
+        part(self.ask(rt, map, from))
     }
 
     /// As `Map::count`: others wait as long as the map has entries.
     fn count<R: Wait>(&mut self, rt: &R, map: &M, handle: Handle) -> Result<u64, MapError>
         requires { fits map.now self.old }
-        ensures { Tells counted_in (seat self.old) (Do (call.Count handle)) result (seat self.new) }
+        ensures { Tells counted_in (shared map.now) (seat self.old) (Do (call.Count handle)) result (seat self.new) }
     {
-        counted(self.ask(
-            rt,
-            map,
-            Ask::Do(Call::Count {
-                handle: handle.number(),
-            }),
-        ))
+        let handle = handle.number();
+        let call = Call::Count { handle };
+        counted(self.ask(rt, map, Ask::Do(call)))
+    }
+
+    /// As `Map::first`.
+    fn first<R: Wait>(
+        &mut self,
+        rt: &R,
+        map: &M,
+        handle: Handle,
+    ) -> Result<Option<(u64, u64)>, MapError>
+        requires { fits map.now self.old }
+        ensures { Tells first_in (shared map.now) (seat self.old) (First handle) result (seat self.new) }
+    {
+        let handle = handle.number();
+        first(self.ask(rt, map, Ask::First { handle }))
+    }
+
+    /// As `Map::is_writable`.
+    fn is_writable<R: Wait>(&mut self, rt: &R, map: &M, handle: Handle) -> Result<bool, MapError>
+        requires { fits map.now self.old }
+        ensures { Tells writable_in (shared map.now) (seat self.old) (IsWritable handle) result (seat self.new) }
+    {
+        let handle = handle.number();
+        writable(self.ask(rt, map, Ask::IsWritable { handle }))
+    }
+
+    /// As `Map::is_open`. Its entry asks whether the map is writable.
+    fn is_open<R: Wait>(&mut self, rt: &R, map: &M, handle: Handle) -> bool
+        requires { fits map.now self.old }
+        ensures { Tells open_in (shared map.now) (seat self.old) (IsWritable handle) result (seat self.new) }
+    {
+        self.is_writable(rt, map, handle).is_ok()
     }
 
     /// As `Map::handles`.
     fn handles<R: Wait>(&mut self, rt: &R, map: &M) -> u64
         requires { fits map.now self.old }
-        ensures { Tells number_in (seat self.old) Handles result (seat self.new) }
+        ensures { Tells number_in (shared map.now) (seat self.old) Handles result (seat self.new) }
     {
         number(self.ask(rt, map, Ask::Handles))
     }
 
-    /// As `Map::free`.
+    /// As `Map::free`, of all shards together.
     fn free<R: Wait>(&mut self, rt: &R, map: &M) -> u64
         requires { fits map.now self.old }
-        ensures { Tells number_in (seat self.old) Free result (seat self.new) }
+        ensures { Tells number_in (shared map.now) (seat self.old) Free result (seat self.new) }
     {
         number(self.ask(rt, map, Ask::Free))
     }
 
-    /// As `Map::has_room`. Others may have taken the room before the next call of the seat.
+    /// Whether each shard has room, as `Map::has_room` tells it. Others may have taken it before the next call of the seat.
     fn has_room<R: Wait>(&mut self, rt: &R, map: &M) -> bool
         requires { fits map.now self.old }
-        ensures { Tells has_room_in (seat self.old) Free result (seat self.new) }
+        ensures { Tells has_room_in (shared map.now) (seat self.old) HasRoom result (seat self.new) }
     {
-        self.free(rt, map) >= u64::from(SLOTS_FOR_A_CALL)
+        has_room(self.ask(rt, map, Ask::HasRoom))
     }
 
     /// As `Map::put`.
@@ -147,17 +187,11 @@ pub trait MapCalls<M> {
         value: u64,
     ) -> Result<Option<u64>, MapError>
         requires { fits map.now self.old }
-        ensures { Tells found_in (seat self.old) (Do (call.Put handle key value)) result (seat self.new) }
+        ensures { Tells found_in (shared map.now) (seat self.old) (Do (call.Put handle key value)) result (seat self.new) }
     {
-        found(self.ask(
-            rt,
-            map,
-            Ask::Do(Call::Put {
-                handle: handle.number(),
-                key,
-                value,
-            }),
-        ))
+        let handle = handle.number();
+        let call = Call::Put { handle, key, value };
+        found(self.ask(rt, map, Ask::Do(call)))
     }
 
     /// As `Map::put_if_absent`.
@@ -170,17 +204,11 @@ pub trait MapCalls<M> {
         value: u64,
     ) -> Result<Option<u64>, MapError>
         requires { fits map.now self.old }
-        ensures { Tells found_in (seat self.old) (Do (call.PutIfAbsent handle key value)) result (seat self.new) }
+        ensures { Tells found_in (shared map.now) (seat self.old) (Do (call.PutIfAbsent handle key value)) result (seat self.new) }
     {
-        found(self.ask(
-            rt,
-            map,
-            Ask::Do(Call::PutIfAbsent {
-                handle: handle.number(),
-                key,
-                value,
-            }),
-        ))
+        let handle = handle.number();
+        let call = Call::PutIfAbsent { handle, key, value };
+        found(self.ask(rt, map, Ask::Do(call)))
     }
 
     /// As `Map::replace`.
@@ -193,17 +221,11 @@ pub trait MapCalls<M> {
         value: u64,
     ) -> Result<Option<u64>, MapError>
         requires { fits map.now self.old }
-        ensures { Tells found_in (seat self.old) (Do (call.Replace handle key value)) result (seat self.new) }
+        ensures { Tells found_in (shared map.now) (seat self.old) (Do (call.Replace handle key value)) result (seat self.new) }
     {
-        found(self.ask(
-            rt,
-            map,
-            Ask::Do(Call::Replace {
-                handle: handle.number(),
-                key,
-                value,
-            }),
-        ))
+        let handle = handle.number();
+        let call = Call::Replace { handle, key, value };
+        found(self.ask(rt, map, Ask::Do(call)))
     }
 
     /// As `Map::replace_if`.
@@ -217,18 +239,16 @@ pub trait MapCalls<M> {
         new: u64,
     ) -> Result<bool, MapError>
         requires { fits map.now self.old }
-        ensures { Tells truth_in (seat self.old) (Do (call.ReplaceIf handle key old new)) result (seat self.new) }
+        ensures { Tells truth_in (shared map.now) (seat self.old) (Do (call.ReplaceIf handle key old new)) result (seat self.new) }
     {
-        truth(self.ask(
-            rt,
-            map,
-            Ask::Do(Call::ReplaceIf {
-                handle: handle.number(),
-                key,
-                old,
-                new,
-            }),
-        ))
+        let handle = handle.number();
+        let call = Call::ReplaceIf {
+            handle,
+            key,
+            old,
+            new,
+        };
+        truth(self.ask(rt, map, Ask::Do(call)))
     }
 
     /// As `Map::remove`.
@@ -240,16 +260,11 @@ pub trait MapCalls<M> {
         key: u64,
     ) -> Result<Option<u64>, MapError>
         requires { fits map.now self.old }
-        ensures { Tells found_in (seat self.old) (Do (call.Remove handle key)) result (seat self.new) }
+        ensures { Tells found_in (shared map.now) (seat self.old) (Do (call.Remove handle key)) result (seat self.new) }
     {
-        found(self.ask(
-            rt,
-            map,
-            Ask::Do(Call::Remove {
-                handle: handle.number(),
-                key,
-            }),
-        ))
+        let handle = handle.number();
+        let call = Call::Remove { handle, key };
+        found(self.ask(rt, map, Ask::Do(call)))
     }
 
     /// As `Map::remove_if`.
@@ -262,88 +277,102 @@ pub trait MapCalls<M> {
         value: u64,
     ) -> Result<bool, MapError>
         requires { fits map.now self.old }
-        ensures { Tells truth_in (seat self.old) (Do (call.RemoveIf handle key value)) result (seat self.new) }
+        ensures { Tells truth_in (shared map.now) (seat self.old) (Do (call.RemoveIf handle key value)) result (seat self.new) }
     {
-        truth(self.ask(
-            rt,
-            map,
-            Ask::Do(Call::RemoveIf {
-                handle: handle.number(),
-                key,
-                value,
-            }),
-        ))
+        let handle = handle.number();
+        let call = Call::RemoveIf { handle, key, value };
+        truth(self.ask(rt, map, Ask::Do(call)))
     }
 
     /// As `Map::clear`.
     fn clear<R: Wait>(&mut self, rt: &R, map: &M, handle: Handle) -> Result<(), MapError>
         requires { fits map.now self.old }
-        ensures { Tells done_in (seat self.old) (Do (call.Clear handle)) result (seat self.new) }
+        ensures { Tells done_in (shared map.now) (seat self.old) (Do (call.Clear handle)) result (seat self.new) }
     {
-        done(self.ask(
-            rt,
-            map,
-            Ask::Do(Call::Clear {
-                handle: handle.number(),
-            }),
-        ))
+        let handle = handle.number();
+        let call = Call::Clear { handle };
+        done(self.ask(rt, map, Ask::Do(call)))
     }
 
     /// As `Map::snapshot`.
     fn snapshot<R: Wait>(&mut self, rt: &R, map: &M, handle: Handle) -> Result<Handle, MapError>
         requires { fits map.now self.old }
-        ensures { Tells opened_in (seat self.old) (Do (call.Snapshot handle)) result (seat self.new) }
+        ensures { Tells opened_in (shared map.now) (seat self.old) (Do (call.Snapshot handle)) result (seat self.new) }
     {
-        opened(self.ask(
-            rt,
-            map,
-            Ask::Do(Call::Snapshot {
-                handle: handle.number(),
-            }),
-        ))
+        let handle = handle.number();
+        let call = Call::Snapshot { handle };
+        opened(self.ask(rt, map, Ask::Do(call)))
     }
 
     /// As `Map::freeze`.
     fn freeze<R: Wait>(&mut self, rt: &R, map: &M, handle: Handle) -> Result<Handle, MapError>
         requires { fits map.now self.old }
-        ensures { Tells opened_in (seat self.old) (Do (call.Freeze handle)) result (seat self.new) }
+        ensures { Tells opened_in (shared map.now) (seat self.old) (Do (call.Freeze handle)) result (seat self.new) }
     {
-        opened(self.ask(
-            rt,
-            map,
-            Ask::Do(Call::Freeze {
-                handle: handle.number(),
-            }),
-        ))
+        let handle = handle.number();
+        let call = Call::Freeze { handle };
+        opened(self.ask(rt, map, Ask::Do(call)))
+    }
+
+    /// As `Map::restore`.
+    fn restore<R: Wait>(
+        &mut self,
+        rt: &R,
+        map: &M,
+        handle: Handle,
+        copy: Handle,
+    ) -> Result<(), MapError>
+        requires { fits map.now self.old }
+        ensures { Tells restored_in (shared map.now) (seat self.old) (Restore handle copy) result (seat self.new) }
+    {
+        let handle = handle.number();
+        let copy = copy.number();
+        restored(self.ask(rt, map, Ask::Restore { handle, copy }))
     }
 
     /// As `Map::close`.
     fn close<R: Wait>(&mut self, rt: &R, map: &M, handle: Handle) -> Result<(), MapError>
         requires { fits map.now self.old }
-        ensures { Tells done_in (seat self.old) (Do (call.Close handle)) result (seat self.new) }
+        ensures { Tells done_in (shared map.now) (seat self.old) (Do (call.Close handle)) result (seat self.new) }
     {
-        done(self.ask(
-            rt,
-            map,
-            Ask::Do(Call::Close {
-                handle: handle.number(),
-            }),
-        ))
+        let handle = handle.number();
+        let call = Call::Close { handle };
+        done(self.ask(rt, map, Ask::Do(call)))
     }
 }
 
 impl MapCalls<SharedMap> for MapSeat {
-    ghost use Rattle.gate.specs.Seats.{IsSeatOf};
+    ghost use Rattle.shared_map.specs.Seats.{IsSeatOf};
 
     ghost seat = { λ s. s };
 
+    ghost shared = { λ map. map };
+
     ghost fits = { λ map s. IsSeatOf map s };
 
+    #[inline(always)]
     fn ask<R: Wait>(&mut self, rt: &R, map: &SharedMap, ask: Ask) -> Told {
-        map.gate.call(rt, self, ask)
+        map.ask(rt, self, ask)
     }
 
-    fn hear<R: Wait>(&mut self, rt: &R, map: &SharedMap, calls: u64) -> bool {
-        map.gate.hear(rt, self, calls)
+    fn hear<R: Wait>(&mut self, rt: &R, map: &SharedMap, count: ShardCount) -> bool {
+        map.hear(rt, self, count)
+    }
+}
+
+impl<N: Name> MapCalls<NamedMap<N>> for NamedMapSeat<N> {
+    ghost seat = { λ s. s };
+
+    ghost shared = { λ map. map };
+
+    ghost fits = { λ map s. Unit {0} };
+
+    #[inline(always)]
+    fn ask<R: Wait>(&mut self, rt: &R, map: &NamedMap<N>, ask: Ask) -> Told {
+        map.ask(rt, self, ask)
+    }
+
+    fn hear<R: Wait>(&mut self, rt: &R, map: &NamedMap<N>, count: ShardCount) -> bool {
+        map.hear(rt, self, count)
     }
 }

@@ -1,30 +1,45 @@
-//! The end of a shared map: the map comes out.
+//! The end of a shared map: the shards come out.
 
-ghost use Rattle.std.specs.Prelude.{IfOk};
-ghost use Rattle.gate.specs.Finishing.{AreOf, IsFinished};
-ghost use Rattle.shared_map.specs.Asks.{MapAnswers};
+ghost use Rattle.std.specs.Prelude.{◌≡◌, ◌≢◌, ◌∷◌, [], IfErr, IfOk, length};
+ghost use Rattle.gate.specs.Finishing.{AreHere, AreOf, IsGathered, IsMissing};
+ghost use Rattle.shared_map.specs.Answering.{MapAnswers};
 ghost use Rattle.shared_map.specs.Finishing.{AreInOneOrder};
 
-use crate::asks::{Ask, Told};
+use crate::asks::{Request, Told};
 use crate::maps::SharedMap;
 use ctrie_map::Map;
-use gate::HoldsSeat;
+use sharded_gate::HoldsShardedSeat;
 
 impl SharedMap {
-    /// The map, as all calls of the seats left it; or all that was handed in, exactly where a seat isn't there.
+    /// The shards, as all calls of the seats left them; or all that was handed in, exactly where a seat isn't there.
     #[tactic(auto, using(crate::proofs::Replays::in_one_order))]
-    pub fn finish<S: HoldsSeat<Map, Ask, Told> + Drop>(
+    pub fn finish<S: HoldsShardedSeat<Map, Request, Told> + Drop>(
         self,
         seats: Vec<S>,
-    ) -> Result<Map, (SharedMap, Vec<S>)>
-        requires { AreOf S.seat self seats.items }
-        ensures order { IfOk result (AreInOneOrder S.seat self seats.items) }
-        ensures finished { IsFinished MapAnswers S.seat self seats.items result }
+    ) -> Result<Vec<Map>, (SharedMap, Vec<S>)>
+        requires { AreOf S.seat self.room seats.items }
+        ensures order { IfOk result (λ maps. AreInOneOrder S.seat self seats.items maps.items) }
+        ensures gathered { IfOk result (λ maps. AreHere S.seat self.room.seats seats.items × IsGathered MapAnswers S.seat self.room seats.items maps.items) }
+        ensures back { IfErr result (λ back. IsMissing S.seat self.room.seats seats.items × (back.0 ≡ self) × (back.1.items ≡ seats.items)) }
     {
-        let SharedMap { gate, slots } = self;
+        let SharedMap { gate, hash, slots } = self;
         match gate.finish(seats) {
-            Ok(map) => Ok(map),
-            Err((gate, seats)) => Err((SharedMap { gate, slots }, seats)),
+            Ok(maps) => Ok(maps),
+            Err((gate, seats)) => Err((SharedMap { gate, hash, slots }, seats)),
         }
+    }
+}
+
+/// The plain map that was shared, where it was in one shard; else the shards come back.
+pub fn only_shard(mut shards: Vec<Map>) -> Result<Map, Vec<Map>>
+    ensures only { IfOk result (λ map. shards.items ≡ map ∷ []) }
+    ensures back { IfErr result (λ back. (back.items ≡ shards.items) × (length shards.items ≢ 1)) }
+{
+    if shards.len() != 1 {
+        return Err(shards);
+    }
+    match shards.pop() {
+        Some(map) => Ok(map),
+        None => unreachable!(),
     }
 }

@@ -1,21 +1,33 @@
-//! The map of `ctrie_map`, shared by threads: each call is one hold of a gate, and a log that clauses alone see tells of all
-//! calls in their order.
+//! The map of `ctrie_map` in shards, shared by threads: what one shard answers to a call on a key, and all shards to any other
+//! call; and the calls of a seat.
 #![tactic(auto)]
 
+mod answering;
+mod asking;
 mod asks;
 mod calling;
 mod finishing;
 mod laws;
+mod listing;
 mod maps;
 mod naming;
+mod parts;
+mod picking;
+mod reading;
+mod restoring;
+mod seats;
 pub mod telling;
-mod trying;
+mod turning;
+mod visits;
+mod wholes;
 
-pub use asks::{Ask, Told};
+pub use asks::{Answer, Ask, Request, Told};
 pub use calling::MapCalls;
 pub use ctrie_map::{Difference, Handle, HashKind, Map, MapError, SLOTS_FOR_A_CALL};
-pub use gate::{HoldsSeat, Name};
-pub use history::{Call, Reply};
-pub use laws::calls_replay;
+pub use finishing::only_shard;
+pub use gate::Name;
+pub use history::{Call, Pairs, Reply};
+pub use laws::{calls_replay, one_shard_is_a_map};
 pub use maps::{MapSeat, SharedMap};
 pub use naming::{NamedMap, NamedMapSeat};
+pub use sharded_gate::{HoldsShardedSeat, ShardCount};

@@ -1,74 +1,137 @@
-//! The map behind its gate.
+//! The map in shards behind its gate, which threads share.
 
-ghost use Rattle.std.specs.Prelude.{◌≡◌, IfOk, IfErr, OnOk};
-ghost use Rattle.ctrie_map.specs.Maps.{AreSlots, RefusesSizes};
-ghost use Rattle.gate.specs.Opening.{IsMade};
-ghost use Rattle.gate.specs.Seats.{AreSeatsOf};
-ghost use Rattle.shared_map.specs.Opening.{IsNewShared};
+ghost use Rattle.std.specs.Prelude.{◌≡◌, ◌<◌, ◌*◌, ◌∷◌, [], IfErr, IfOk, OnOk};
+ghost use Rattle.ctrie_map.specs.Maps.{AreSlots};
+ghost use Rattle.shared_map.specs.Opening.{AreNewMaps, IsNewShared, RefusesMaps, RefusesNew, Shares};
+ghost use Rattle.shared_map.specs.Seats.{AreSeatsOf};
+ghost use Rattle.shared_map.specs.Shards.{slots_of_all};
 
-use crate::asks::{Ask, Told};
-use ctrie_map::{HashKind, Map, MapError};
-use gate::{Gate, Seat};
+use crate::asks::{Request, Told};
+use ctrie_base::HashKind;
+use ctrie_map::{Map, MapError};
+use sharded_gate::{ShardedGate, ShardedSeat};
 use std::alloc::Global;
 use std::marker::Model;
 
 /// A seat at a shared map, with a number of its own. Who has it makes its calls, one after another.
-pub type MapSeat = Seat<Map, Ask, Told>;
+pub type MapSeat = ShardedSeat<Map, Request, Told>;
 
-/// A map that the seats share. A call is one hold of its gate, and all calls make one log.
+/// A map that the seats share, in one shard or several. A call on one key holds the key's shard alone, any other call holds
+/// all; all calls make one log.
 #[derive(Drop)]
 pub struct SharedMap {
-    pub(crate) gate: Gate<Map, Ask, Told>,
-    pub(crate) slots: u32,
+    pub(crate) gate: ShardedGate<Map, Request, Told>,
+    pub(crate) hash: HashKind,
+    pub(crate) slots: u64,
 }
 
 impl Model for SharedMap {
     ghost use Rattle.std.specs.Prelude.{◌≡◌};
-    ghost use Rattle.shared_map.specs.Asks.{MapRoom};
+    ghost use Rattle.shared_map.specs.Seats.{MapRoom};
+    ghost use Rattle.shared_map.specs.Shards.{AreShards, slots_of_all};
 
     ghost Value = { MapRoom };
 
-    ghost view = { λ m. m.gate };
+    ghost view = { λ m. record { hash = m.hash; room = m.gate } };
 
-    ghost invariant = { λ m. m.slots ≡ m.gate.first.core.limits.slots };
+    ghost invariant = { λ m. AreShards m.hash m.gate.first × (m.slots ≡ slots_of_all m.gate.first) };
 }
 
 impl SharedMap {
-    /// A new map, as `Map::new` makes one, and so many seats, with the numbers 1 and on.
+    /// A new map in so many shards, from 1 to 64, each with so many slots as `Map::new` takes, and so many seats, with the
+    /// numbers 1 and on.
+    #[tactic(auto, using(crate::proofs::New::new_are))]
     pub fn new(
         alloc: Global,
         slots: u32,
         hash: HashKind,
         seats: u8,
+        shards: u8,
     ) -> Result<(SharedMap, Vec<MapSeat>), MapError>
-        ensures made { IfOk result (λ made. IsNewShared slots hash seats made.0 made.1.items) }
+        ensures made { IfOk result (λ made. IsNewShared slots hash shards seats made.0 made.1.items) }
         ensures seats { IfOk result (λ made. AreSeatsOf made.0 made.1.items) }
         ensures in_range { OnOk result (AreSlots slots) }
-        ensures refused { IfErr result (RefusesSizes slots) }
+        ensures refused { IfErr result (RefusesNew slots shards) }
     {
-        match SharedMap::of(alloc, Map::new(alloc, slots, hash)?, seats) {
-            Ok(made) => Ok(made),
+        if shards == 0 || shards > 64 {
+            return Err(MapError::BadSizes);
+        }
+        let maps = new_maps(alloc, slots, hash, shards)?;
+        match ShardedGate::new(alloc, maps, seats) {
+            Ok((gate, seats)) => {
+                let made = SharedMap {
+                    gate,
+                    hash,
+                    slots: slots_in_all(slots, shards),
+                };
+                Ok((made, seats))
+            }
             Err(_) => Err(MapError::Memory),
         }
     }
 
-    /// The map behind a gate, and so many seats, with the numbers 1 and on. Where memory is wanting the map comes back.
+    /// This map behind a gate, in one shard, and so many seats, with the numbers 1 and on. Where memory is wanting it comes
+    /// back.
     pub fn of(alloc: Global, map: Map, seats: u8) -> Result<(SharedMap, Vec<MapSeat>), Map>
-        ensures made { IfOk result (λ made. IsMade map seats made.0 made.1.items) }
+        ensures made { IfOk result (λ made. Shares map seats made.0 made.1.items) }
         ensures seats { IfOk result (λ made. AreSeatsOf made.0 made.1.items) }
         ensures back { IfErr result (λ back. back ≡ map) }
     {
-        let slots = map.slots();
-        match Gate::new(alloc, map, seats) {
-            Ok((gate, seats)) => Ok((SharedMap { gate, slots }, seats)),
-            Err(map) => Err(map),
+        let hash = map.hash();
+        let slots = u64::from(map.slots());
+        let shards = alone(alloc, map)?;
+        match ShardedGate::new(alloc, shards, seats) {
+            Ok((gate, seats)) => Ok((SharedMap { gate, hash, slots }, seats)),
+            Err(mut shards) => match shards.pop() {
+                Some(map) => Err(map),
+                None => unreachable!(),
+            },
         }
     }
 
-    /// How many slots there are in all.
-    pub fn slots(&self) -> u32
-        ensures { result ≡ self.now.first.core.limits.slots }
+    /// How many slots there are in all shards.
+    pub fn slots(&self) -> u64
+        ensures { result ≡ slots_of_all self.now.room.first }
     {
         self.slots
     }
+}
+
+/// This map alone. Where memory is wanting it comes back.
+fn alone(alloc: Global, map: Map) -> Result<Vec<Map>, Map>
+    ensures alone { IfOk result (λ maps. maps.items ≡ map ∷ []) }
+    ensures back { IfErr result (λ back. back ≡ map) }
+{
+    let Ok(mut maps) = Vec::with_capacity(alloc, 1) else {
+        return Err(map);
+    };
+    let _ = maps.push(map);
+    Ok(maps)
+}
+
+/// How many slots so many shards have.
+#[tactic(auto, using(crate::proofs::Slots::few_slots))]
+fn slots_in_all(slots: u32, shards: u8) -> u64
+    ensures { result ≡ slots * shards }
+{
+    u64::from(slots) * u64::from(shards)
+}
+
+/// So many new maps.
+#[tactic(auto, using(crate::proofs::New::one_more_new))]
+fn new_maps(alloc: Global, slots: u32, hash: HashKind, shards: u8) -> Result<Vec<Map>, MapError>
+    requires { 0 < shards }
+    ensures made { IfOk result (λ maps. AreNewMaps slots hash shards maps.items) }
+    ensures in_range { OnOk result (AreSlots slots) }
+    ensures refused { IfErr result (RefusesMaps slots) }
+{
+    let mut maps = Vec::new(alloc);
+    for made in 0..shards {
+        let _ = made;
+        let map = Map::new(alloc, slots, hash)?;
+        let Ok(()) = maps.push(map) else {
+            return Err(MapError::Memory);
+        };
+    }
+    Ok(maps)
 }

@@ -75,7 +75,7 @@ fn read<R: Wait>(
 
 #[test]
 fn changes(rt: HostRuntime) -> Result<(), Fail> {
-    let (map, mut seats) = SharedMap::new(rt.alloc(), 64, HashKind::Fold, 1)?;
+    let (map, mut seats) = SharedMap::new(rt.alloc(), 64, HashKind::Fold, 1, 1)?;
     let Some(mut seat) = seats.pop() else {
         panic!(rt; "there is one")
     };
@@ -85,20 +85,26 @@ fn changes(rt: HostRuntime) -> Result<(), Fail> {
     Ok(())
 }
 
-#[test]
-fn reads_and_copies(rt: HostRuntime) -> Result<(), Fail> {
-    let (map, mut seats) = SharedMap::new(rt.alloc(), 4_096, HashKind::Fold, 1)?;
+/// Reads and copies a map in so many shards.
+fn read_and_copy<R: Wait + AllocGlobal + Abort>(rt: &R, shards: u8) -> Result<(), Fail> {
+    let (map, mut seats) = SharedMap::new(rt.alloc(), 4_096, HashKind::Fold, 1, shards)?;
     let Some(mut seat) = seats.pop() else {
         panic!(rt; "there is one")
     };
-    let Ok((frozen, copy)) = copy(&rt, &map, &mut seat) else {
+    let Ok((frozen, copy)) = copy(rt, &map, &mut seat) else {
         panic!(rt; "there is room")
     };
     assert_eq!(rt; (frozen.number(), copy.number()), (1, 2));
-    assert_eq!(rt; read(&rt, &map, &mut seat, frozen, copy), Ok(true));
-    assert_eq!(rt; seat.handles(&rt, &map), 3);
-    assert_eq!(rt; seat.close(&rt, &map, frozen), Ok(()));
-    assert_eq!(rt; seat.get(&rt, &map, frozen, 5), Err(MapError::NoHandle));
-    assert!(rt; seat.has_room(&rt, &map));
+    assert_eq!(rt; read(rt, &map, &mut seat, frozen, copy), Ok(true));
+    assert_eq!(rt; seat.handles(rt, &map), 3);
+    assert_eq!(rt; seat.close(rt, &map, frozen), Ok(()));
+    assert_eq!(rt; seat.get(rt, &map, frozen, 5), Err(MapError::NoHandle));
+    assert!(rt; seat.has_room(rt, &map));
     Ok(())
+}
+
+#[test]
+fn reads_and_copies(rt: HostRuntime) -> Result<(), Fail> {
+    read_and_copy(&rt, 1)?;
+    read_and_copy(&rt, 8)
 }

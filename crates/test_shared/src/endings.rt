@@ -3,7 +3,7 @@
 ghost use Rattle.std.specs.Prelude.{◌≡◌};
 ghost use Rattle.shared_map.specs.Seats.{AreSeatsOf};
 
-use shared_map::{Handle, HashKind, Map, MapCalls, MapError, MapSeat, Name, SharedMap};
+use shared_map::{Handle, HashKind, Map, MapCalls, MapError, MapSeat, Name, SharedMap, only_shard};
 use std::alloc::AllocGlobal;
 use std::marker::Brand;
 use std::process::Abort;
@@ -16,7 +16,7 @@ fn finish_without_one<N: Name, R: Wait + AllocGlobal + Abort>(
     map: SharedMap,
     seats: Vec<MapSeat>,
 ) -> Result<(), Fail>
-    requires name { map.id ≡ N.gate }
+    requires name { map.room.id ≡ N.gate }
     requires seats { AreSeatsOf map seats.items }
 {
     let Ok((map, mut seats)) = map.named::<N>(rt.alloc(), seats) else {
@@ -31,8 +31,11 @@ fn finish_without_one<N: Name, R: Wait + AllocGlobal + Abort>(
     };
     assert_eq!(rt; seats.len(), 1);
     seats.push(last)?;
-    let Ok(plain) = map.finish(seats) else {
+    let Ok(shards) = map.finish(seats) else {
         panic!(rt; "all seats are there")
+    };
+    let Ok(plain) = only_shard(shards) else {
+        panic!(rt; "there is one")
     };
     assert_eq!(rt; plain.get(Handle::first(), 5), Ok(Some(51)));
     Ok(())
@@ -48,12 +51,14 @@ fn each_seat_has_to_be_there(rt: HostRuntime) -> Result<(), Fail> {
     finish_without_one::<Brand, HostRuntime>(&rt, map, seats)
 }
 
-/// A shared map is refused as a map is.
+/// A shared map is refused as a map is, and where it would have no shard or too many.
 #[test]
-fn sizes_are_those_of_a_map(rt: HostRuntime) -> Result<(), Fail> {
-    assert_eq!(rt;
-        SharedMap::new(rt.alloc(), 1, HashKind::Fold, 2).err(),
-        Some(MapError::BadSizes)
-    );
+fn sizes_are_bounded(rt: HostRuntime) -> Result<(), Fail> {
+    for (slots, shards) in [(1, 2), (64, 0), (64, 65)] {
+        assert_eq!(rt;
+            SharedMap::new(rt.alloc(), slots, HashKind::Fold, 2, shards).err(),
+            Some(MapError::BadSizes)
+        );
+    }
     Ok(())
 }

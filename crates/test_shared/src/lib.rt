@@ -8,6 +8,10 @@ mod endings;
 #[cfg(test)]
 mod numbers;
 #[cfg(test)]
+mod parts;
+#[cfg(test)]
 mod pools;
+#[cfg(test)]
+mod shards;
 #[cfg(test)]
 mod threads;

@@ -2,7 +2,7 @@
 
 ghost use Rattle.shared_map.specs.Seats.{IsSeatOf};
 
-use shared_map::{Handle, HashKind, MapCalls, MapError, MapSeat, SharedMap};
+use shared_map::{Handle, HashKind, MapCalls, MapError, MapSeat, ShardCount, SharedMap};
 use std::alloc::AllocGlobal;
 use std::process::Abort;
 use std::sync::Wait;
@@ -17,26 +17,38 @@ fn call_twice<R: Wait>(rt: &R, map: &SharedMap, seat: &mut MapSeat) -> bool
         && seat.get(rt, map, Handle::new(9), 5) == Err(MapError::NoHandle)
 }
 
-/// Whether the seat hears of so many calls, and not of one more.
-fn hears_of<R: Wait>(rt: &R, map: &SharedMap, seat: &mut MapSeat, calls: u64) -> bool
+/// Whether the seat hears of so many calls about a shard, and not of one more.
+fn hears_of<R: Wait>(rt: &R, map: &SharedMap, seat: &mut MapSeat, count: ShardCount) -> bool
     requires { IsSeatOf map.now seat.old }
     ensures { IsSeatOf map.now seat.new }
 {
-    seat.hear(rt, map, calls) && !seat.hear(rt, map, calls.saturating_add(1))
+    let more = ShardCount {
+        shard: count.shard,
+        calls: count.calls.saturating_add(1),
+    };
+    seat.hear(rt, map, count) && !seat.hear(rt, map, more)
 }
 
-/// All calls count, those that are refused too; a seat knows of those that stood there when it called or heard last.
+/// The key 5 is in the shard 5 of 8. All calls about it count, those that are refused too; a seat knows of those that stood
+/// there when it called or heard last.
 #[test]
 fn calls_have_numbers(rt: HostRuntime) -> Result<(), Fail> {
-    let (map, mut seats) = SharedMap::new(rt.alloc(), 64, HashKind::Fold, 2)?;
+    let (map, mut seats) = SharedMap::new(rt.alloc(), 64, HashKind::Fold, 2, 8)?;
     let (Some(mut two), Some(mut one)) = (seats.pop(), seats.pop()) else {
         panic!(rt; "there are two")
     };
     assert_eq!(rt; (one.number(), two.number()), (1, 2));
     assert!(rt; call_twice(&rt, &map, &mut one));
-    assert_eq!(rt; (one.last(), two.last()), (2, 0));
-    assert!(rt; hears_of(&rt, &map, &mut two, 2));
+    let second = ShardCount { shard: 5, calls: 2 };
+    assert_eq!(rt;
+        (one.last(), two.last()),
+        (second, ShardCount { shard: 0, calls: 0 })
+    );
+    assert!(rt; hears_of(&rt, &map, &mut two, second));
     assert_eq!(rt; two.get(&rt, &map, Handle::first(), 5), Ok(Some(50)));
-    assert_eq!(rt; (one.last(), two.last()), (2, 3));
+    assert_eq!(rt;
+        (one.last(), two.last()),
+        (second, ShardCount { shard: 5, calls: 3 })
+    );
     Ok(())
 }

@@ -3,6 +3,7 @@
 ghost use Rattle.std.specs.Prelude.{◌≡◌};
 ghost use Rattle.shared_map.specs.Seats.{AreSeatsOf};
 
+use crate::shards::count;
 use shared_map::{Handle, HashKind, MapCalls, MapSeat, Name, NamedMap, NamedMapSeat, SharedMap};
 use std::alloc::AllocGlobal;
 use std::marker::Brand;
@@ -39,13 +40,13 @@ fn pooled<N: Name + Send + Sync, R: Threads + Wait + Sync + AllocGlobal + Abort>
     map: SharedMap,
     seats: Vec<MapSeat>,
 ) -> Result<(), Fail>
-    requires name { map.id ≡ N.gate }
+    requires name { map.room.id ≡ N.gate }
     requires seats { AreSeatsOf map seats.items }
 {
     let Ok((map, seats)) = map.named::<N>(rt.alloc(), seats) else {
         panic!(rt; "there is memory")
     };
-    assert_eq!(rt; map.slots(), 4_096);
+    assert_eq!(rt; map.slots(), 16_384);
     let pool = Mutex::new(seats);
     let made = thread::map_indices(
         rt,
@@ -54,15 +55,15 @@ fn pooled<N: Name + Send + Sync, R: Threads + Wait + Sync + AllocGlobal + Abort>
         &|worker| work(rt, &map, &pool, worker as u64),
     )?;
     assert!(rt; made.iter().all(|calls| *calls == 40));
-    let Ok(map) = map.finish(pool.into_inner()) else {
+    let Ok(shards) = map.finish(pool.into_inner()) else {
         panic!(rt; "all seats are there")
     };
-    assert_eq!(rt; map.count(Handle::first())?, 120);
+    assert_eq!(rt; count(shards.as_slice())?, 120);
     Ok(())
 }
 
 #[test]
 fn seats_lie_in_a_pool(rt: HostRuntime) -> Result<(), Fail> {
-    let (map, seats) = SharedMap::new(rt.alloc(), 4_096, HashKind::Fold, 3)?;
+    let (map, seats) = SharedMap::new(rt.alloc(), 2_048, HashKind::Fold, 3, 8)?;
     pooled::<Brand, HostRuntime>(&rt, map, seats)
 }

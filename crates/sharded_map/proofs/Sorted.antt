@@ -1,2 +1,0 @@
--- What is sorted by key, for attributes in `src/`, which name lemmas of this crate alone.
-pub use Rattle.sharded_map.specs.Beneath.machine_core.specs.Beneath.snapshot.proofs.Sorting.{sorted_by_key}

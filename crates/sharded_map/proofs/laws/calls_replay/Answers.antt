@@ -1,5 +1,0 @@
-use Rattle.sharded_map.proofs.Replays.{calls_replay}
-use Rattle.sharded_map.proofs.laws.calls_replay.Goals as goal
-
-pub returns : goal.returns
-returns c = calls_replay

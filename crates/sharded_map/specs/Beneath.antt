@@ -1,4 +1,0 @@
--- What lies below this crate, named through the nearest crates alone: crates.txt lists only these, since the toolchain goes along each of its paths.
-pub use Rattle.ctrie_map.specs.Beneath.machine_core as machine_core
-pub use Rattle.ctrie_map.specs.Beneath.proof_alone as proof_alone
-pub use Rattle.ctrie_map.specs.Beneath.proof_contents as proof_contents

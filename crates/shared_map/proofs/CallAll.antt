@@ -1,0 +1,115 @@
+-- What each branch of a call about all shards comes to.
+use Rattle.std.proofs.Common.{◌≡◌, ℕ, ◌<◌, Bool, true, false, List, [], ◌∷◌}
+use Rattle.std.proofs.Common.{length, Some, None, Result, Ok, Err, refl, sym, ap, subst, ◌∙◌}
+use Rattle.history.specs.declared.calls.Access.{Access}
+use Rattle.history.specs.declared.calls.Access.TheVariants.{Writable, ReadOnly}
+use Rattle.history.specs.declared.calls.Call.{Call}
+use Rattle.history.specs.declared.calls.Call.TheVariants as call
+use Rattle.history.specs.declared.replies.Reply.{Reply}
+use Rattle.history.specs.declared.replies.Reply.TheVariants as reply
+use Rattle.machine_model.specs.Calls.{handle_of, opens_handle}
+use Rattle.machine_model.specs.Pairs.{by_key}
+use Rattle.machine_model.specs.States.{handle_limit}
+use Rattle.ctrie_map.specs.Changes.{changes_map}
+use Rattle.ctrie_map.specs.declared.errors.MapError.{MapError}
+use Rattle.ctrie_map.specs.declared.errors.MapError.TheVariants as error
+use Rattle.ctrie_map.specs.Maps.{MapState, handles_of}
+use Rattle.ctrie_map.specs.Performing.{copy_call}
+use Rattle.shared_map.specs.Answering.{RepliesAll}
+use Rattle.shared_map.specs.Asking.{IsKnown, IsNumber, denial_from}
+use Rattle.shared_map.specs.Asks.{Replied}
+use Rattle.shared_map.specs.Beneath.proof_alone.specs.Calls.{slots_of}
+use Rattle.shared_map.specs.Shards.{AreShards, is_any_worn_out, worlds_of}
+use Rattle.shared_map.specs.Turning.{AreAllowed, HaveTurned, IsFree, Turns, call_of, reply_of}
+use Rattle.shared_map.specs.Uniting.{pairs_at}
+use Rattle.shared_map.specs.Visits.{VisitedEach}
+use Rattle.shared_map.specs.Wholes.{RepliesIf, IsCalledAlone, IsCounted, TurnsAll}
+use Rattle.shared_map.specs.declared.asking.Knowing.{Knowing}
+use Rattle.shared_map.specs.declared.turning.Turn.{Turn}
+use Rattle.shared_map.specs.declared.turning.Turn.TheVariants as turn
+use Rattle.shared_map.specs.declared.turning.Turning.{Turning}
+use Rattle.shared_map.proofs.AllAnswers as answers
+use Rattle.shared_map.proofs.Counted.{is_any_tight}
+use Rattle.shared_map.proofs.OneShard.{one_answers}
+use Rattle.shared_map.proofs.Turns.{turns_done}
+
+-- ---- the parts
+
+pub turns_ok : (t : Turn) (before after : List MapState) (answer : Reply) → answer ≡ reply_of t → is_any_worn_out before ≡ false →
+    (AreAllowed t before → HaveTurned t before after) → TurnsAll t before (Ok answer) after
+turns_ok t before after answer is life have = subst (λ a. TurnsAll t before (Ok a) after) (sym is) (by_turn t have)
+  where
+    by_turn : (t : Turn) → (AreAllowed t before → HaveTurned t before after) → TurnsAll t before (Ok (reply_of t)) after
+    by_turn (turn.Clear h) have = (life, refl, have)
+    by_turn (turn.Close h) have = (life, refl, have)
+    by_turn (turn.Copy h n access) have = (life, refl, have)
+
+pub turned_from : (t : Turn) (v u : Turning) (before mid after : List MapState) → mid ≡ before → v.turn ≡ t → VisitedEach Turns v mid u after →
+    is_any_worn_out before ≡ false → is_any_tight (slots_of (call_of t)) before ≡ false → AreAllowed t before → HaveTurned t before after
+turned_from t v u before mid after same is each worn tight allowed =
+    turns_done t v u before after is (subst (λ xs. VisitedEach Turns v xs u after) same each) worn tight allowed
+
+-- ---- the calls
+
+module _ (first : Knowing) (before : List MapState) where
+  pub if_alone : (c : Call) (told : Replied) (after : List MapState) → IsCalledAlone c before told after → RepliesIf first before c told after
+  if_alone c told after (s, t, is, next, calls, works) hash are knows on none =
+      let hashed : AreShards hash (s ∷ []) = subst (AreShards hash) is are in
+      let whole : RepliesAll hash (s ∷ []) c told (t ∷ []) × AreShards hash (t ∷ []) = one_answers hash s t hashed.hashed.0 c told none calls works in (
+        subst (λ xs. RepliesAll hash xs c told after) (sym is) (subst (λ ys. RepliesAll hash (s ∷ []) c told ys) (sym next) whole.0),
+        subst (AreShards hash) (sym next) whole.1,
+      )
+
+  pub if_denied : (t : Turn) (why : MapError) → denial_from (changes_map (call_of t)) (opens_handle (call_of t)) first.writable first.handles ≡ Some why →
+      RepliesIf first before (call_of t) (Err why) before
+  if_denied t why e hash are knows on none = answers.denies hash before are first knows t why on e
+
+  pub if_turned : (t : Turn) (told : Replied) (after : List MapState) → 1 < length before →
+      denial_from (changes_map (call_of t)) (opens_handle (call_of t)) first.writable first.handles ≡ None →
+      ((s : MapState) → IsKnown first s → IsFree t (handles_of s)) → TurnsAll t before told after → RepliesIf first before (call_of t) told after
+  if_turned t told after many allowed free turns hash are knows on none =
+      answers.turns_answer hash before are first knows t
+      (sym (answers.denial_is hash before are first knows (changes_map (call_of t)) (opens_handle (call_of t)) (handle_of (call_of t)) on) ∙ allowed)
+      (free knows.0 knows.2) many after told turns
+
+  -- copies, of either kind
+  pub copy_denied : (access : Access) (h : ℕ) (why : MapError) → denial_from false true first.writable first.handles ≡ Some why →
+      RepliesIf first before (copy_call access h) (Err why) before
+  copy_denied Writable h why e = if_denied (turn.Copy h 0 Writable) why e
+  copy_denied ReadOnly h why e = if_denied (turn.Copy h 0 ReadOnly) why e
+
+  pub number_free : (h n : ℕ) (access : Access) → first.next ≡ Some n → (s : MapState) → IsKnown first s → IsFree (turn.Copy h n access) (handles_of s)
+  number_free h n access is s known = subst (IsNumber (handles_of s)) is known.next
+
+  pub copy_turned : (access : Access) (h n : ℕ) (told : Replied) (after : List MapState) → 1 < length before → denial_from false true first.writable first.handles ≡ None →
+      first.next ≡ Some n → TurnsAll (turn.Copy h n access) before told after → RepliesIf first before (copy_call access h) told after
+  copy_turned Writable h n told after many allowed is turns = if_turned (turn.Copy h n Writable) told after many allowed (number_free h n Writable is) turns
+  copy_turned ReadOnly h n told after many allowed is turns = if_turned (turn.Copy h n ReadOnly) told after many allowed (number_free h n ReadOnly is) turns
+
+  -- where no number is left, it is denied
+  full_denied : (o : Result Bool MapError) (n : ℕ) → n ≡ handle_limit → denial_from false true o n ≡ None → ⊥
+  full_denied (Ok writable) n is e =
+      let bad : Some error.HandlesFull ≡ None = ap (λ n. denial_from false true (Ok writable) n) (sym is) ∙ e in cc
+  full_denied (Err why) n is e = cc
+
+  pub copy_full : (access : Access) (h : ℕ) → denial_from false true first.writable first.handles ≡ None → first.next ≡ None →
+      RepliesIf first before (copy_call access h) (Err error.HandlesFull) before
+  copy_full access h allowed is hash are knows on none =
+      absurd (full_denied first.writable first.handles (knows.2.handles ∙ subst (IsNumber (handles_of knows.0)) is knows.2.next) allowed)
+
+  -- lists and counts
+  pub if_listed : (h : ℕ) (pairs : List (ℕ × ℕ)) (writable : Bool) → first.writable ≡ Ok writable → pairs ≡ by_key (pairs_at h (worlds_of before)) →
+      RepliesIf first before (call.Entries h) (Ok (reply.Pairs pairs)) before
+  if_listed h pairs writable e listed hash are knows on none = (answers.lists hash before are first knows h on pairs writable e listed, are)
+
+  pub if_no_memory : (h : ℕ) (why : MapError) (writable : Bool) → first.writable ≡ Ok writable → why ≡ error.Memory → RepliesIf first before (call.Entries h) (Err why) before
+  if_no_memory h why writable e is hash are knows on none = (answers.lists_not hash before are first knows h on why writable e is, are)
+
+  pub if_counted : (h : ℕ) (told : Replied) (writable : Bool) → first.writable ≡ Ok writable → IsCounted h before told → RepliesIf first before (call.Count h) told before
+  if_counted h told writable e counted hash are knows on none = (answers.counts hash before are first knows h on told writable e counted, are)
+
+  pub not_listed : (h : ℕ) (why : MapError) → first.writable ≡ Err why → RepliesIf first before (call.Entries h) (Err error.NoHandle) before
+  not_listed h why e hash are knows on none = (answers.lists_none hash before are first knows h on why e, are)
+
+  pub not_counted : (h : ℕ) (why : MapError) → first.writable ≡ Err why → RepliesIf first before (call.Count h) (Err error.NoHandle) before
+  not_counted h why e hash are knows on none = (answers.counts_none hash before are first knows h on why e, are)

@@ -1,0 +1,48 @@
+-- What a change of all shards comes to, by what they were asked.
+use Rattle.std.proofs.Common.{◌≡◌, suc, Bool, true, false, ◌||◌, nat_lt, List}
+use Rattle.std.proofs.Common.{[], ◌∷◌, refl, sym, ap, ◌∙◌, ltb-true, ltb-false}
+use Rattle.history.specs.declared.calls.Call.{Call}
+use Rattle.ctrie_map.specs.Cores.{is_worn_out}
+use Rattle.ctrie_map.specs.Maps.{MapState, free_of}
+use Rattle.shared_map.specs.Beneath.proof_alone.specs.Calls.{slots_of}
+use Rattle.shared_map.specs.Shards.{IsAnyTight, is_any_worn_out}
+use Rattle.shared_map.specs.Turning.{AreAllowed, HaveTurned, Turns, call_of}
+use Rattle.shared_map.specs.Visits.{VisitedEach}
+use Rattle.shared_map.specs.declared.turning.Turn.{Turn}
+use Rattle.shared_map.specs.declared.turning.Turning.{Turning}
+use Rattle.shared_map.proofs.Counted.{AreDue, is_any_tight, turned_each}
+
+pub tight_is : (call : Call) (ss : List MapState) → is_any_tight (slots_of call) ss ≡ true → IsAnyTight call ss
+tight_is call [] e = cc
+tight_is call (s ∷ ss) e = by_first (nat_lt (free_of s) (slots_of call)) refl (tight_is call ss)
+  where
+    by_first : (b : Bool) → nat_lt (free_of s) (slots_of call) ≡ b → (is_any_tight (slots_of call) ss ≡ true → IsAnyTight call ss) → IsAnyTight call (s ∷ ss)
+    by_first true is rest = (0, s, refl, ltb-true (free_of s) (slots_of call) is)
+    by_first false is rest =
+        let (i, t, at, tight) = rest (ap (λ b. b || is_any_tight (slots_of call) ss) (sym is) ∙ e) in (suc i, t, at, tight)
+
+pub or_first : (a b : Bool) → (a || b) ≡ false → a ≡ false
+or_first true b e = cc
+or_first false b e = refl
+
+pub or_second : (a b : Bool) → (a || b) ≡ false → b ≡ false
+or_second true b e = cc
+or_second false b e = e
+
+are_due : (turn : Turn) (ss : List MapState) → is_any_worn_out ss ≡ false → is_any_tight (slots_of (call_of turn)) ss ≡ false → AreAllowed turn ss → AreDue turn ss
+are_due turn [] worn tight allowed = tt
+are_due turn (s ∷ ss) worn tight allowed = (
+  record {
+    allowed = allowed.0;
+    free = allowed.1;
+    life = or_first (is_worn_out s.core) (is_any_worn_out ss) worn;
+    room = ltb-false (free_of s) (slots_of (call_of turn)) (or_first (nat_lt (free_of s) (slots_of (call_of turn))) (is_any_tight (slots_of (call_of turn)) ss) tight);
+  },
+  are_due turn ss (or_second (is_worn_out s.core) (is_any_worn_out ss) worn)
+      (or_second (nat_lt (free_of s) (slots_of (call_of turn))) (is_any_tight (slots_of (call_of turn)) ss) tight) allowed.2,
+)
+
+-- none of them stands in the way, so each is turned
+pub turns_done : (turn : Turn) (before after : Turning) (ss ts : List MapState) → before.turn ≡ turn → VisitedEach Turns before ss after ts → is_any_worn_out ss ≡ false →
+    is_any_tight (slots_of (call_of turn)) ss ≡ false → AreAllowed turn ss → HaveTurned turn ss ts
+turns_done turn before after ss ts is each worn tight allowed = turned_each turn before after ss ts is each (are_due turn ss worn tight allowed)

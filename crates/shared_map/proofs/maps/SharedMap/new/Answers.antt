@@ -1,0 +1,13 @@
+use Rattle.std.proofs.Common.{◌≤◌, ◌∙◌, sym, ap, subst, arith}
+use Rattle.shared_map.specs.Shards.{AreShards, slots_of_all}
+use Rattle.shared_map.proofs.New.{new_are}
+use Rattle.shared_map.proofs.Slots.{new_slots}
+use Rattle.shared_map.proofs.maps.SharedMap.new.Goals as goal
+
+pub invariant_of-made : goal.invariant_of-made
+invariant_of-made c =
+    let some : 1 ≤ c.args.shards = grind (arith, c.if-shards-eq0.false) in
+    let few : c.args.shards ≤ 64 = grind (arith, c.if-shards-gt64.false) in (
+      subst (AreShards c.args.hash) (sym c.in-Ok.ensures.made.made_is.first) (new_are c.args.slots c.args.hash c.args.shards c.in_ok-maps.maps.items some few c.in_ok-maps.ensures.made),
+      c.slots_in_all.ensures ∙ sym (ap slots_of_all c.in-Ok.ensures.made.made_is.first ∙ new_slots c.args.slots c.args.shards c.args.hash c.in_ok-maps.maps.items c.in_ok-maps.ensures.made),
+    )

@@ -1,0 +1,8 @@
+use Rattle.shared_map.proofs.Places.{only_set}
+use Rattle.shared_map.proofs.restoring.restore_one.Goals as goal
+
+pub returns-clause-restored : goal.returns-clause-restored
+returns-clause-restored g c =
+    let (was, now, at, did, set) = c.visit.ensures.visited in
+    let (one, next) = only_set (g.S.Shards.items c.args.shards.now) (g.S.Shards.items c.visit.new.self) was now c.requires at set in
+    (was, now, one, next, did.2, did.3)

@@ -1,0 +1,50 @@
+-- What shards are asked before all of them are changed.
+use Rattle.std.specs.Prelude.{◌≡◌, ◌&&◌, ◌||◌, ℕ, ◌<◌, Bool, true, false, not, nat_le, nat_lt, if◌then◌else◌, Option, Some, None, Result, Ok, Err}
+use Rattle.std.specs.FinMap as map
+use Rattle.history.specs.Worlds.{HandleMap}
+use Rattle.machine_model.specs.States.{handle_limit}
+use Rattle.ctrie_map.specs.Calling.{Calls}
+use Rattle.ctrie_map.specs.Cores.{is_worn_out}
+use Rattle.ctrie_map.specs.Costs.{WorksUpTo, work_of_call}
+use Rattle.ctrie_map.specs.declared.errors.MapError.{MapError}
+use Rattle.ctrie_map.specs.declared.errors.MapError.TheVariants.{HandlesFull, ReadOnly}
+use Rattle.ctrie_map.specs.Maps.{MapState, free_of, handles_of}
+use Rattle.ctrie_map.specs.Reading.{writability}
+use Rattle.ctrie_map.specs.Restoring.{is_worn_out_to_restore}
+use Rattle.shared_map.specs.declared.asking.Calling.{Calling}
+use Rattle.shared_map.specs.declared.asking.Knowing.{Knowing}
+use Rattle.shared_map.specs.declared.asking.Measuring.{Measuring}
+
+-- the number that a copy gets, if there is one
+abbrev pub IsNumber : HandleMap → Option ℕ → Type 0
+IsNumber world (Some number) = (number < handle_limit) × (map.get world number ≡ None)
+IsNumber world None = map.len world ≡ handle_limit
+
+-- this is known of a shard
+pub record IsKnown (known : Knowing) (shard : MapState) : Type 0 where
+  pub hash : known.hash ≡ shard.core.limits.hash
+  pub handles : known.handles ≡ map.len (handles_of shard)
+  pub writable : known.writable ≡ writability shard known.handle
+  pub next : IsNumber (handles_of shard) known.next
+
+abbrev pub Knows : Knowing → MapState → Knowing → MapState → Type 0
+Knows before shard after later = (later ≡ shard) × (after.handle ≡ before.handle) × IsKnown after shard
+
+-- why a call isn't begun which changes the handle's map, or opens a handle: by what is known of the handle, where so many are open
+abbrev pub denial_from : Bool → Bool → Result Bool MapError → ℕ → Option MapError
+denial_from writes opens (Err error) taken = Some error
+denial_from writes opens (Ok writable) taken =
+    if writes && not writable then Some ReadOnly else (if opens && nat_le handle_limit taken then Some HandlesFull else None)
+
+-- it has no more steps left than a change may take, or a restore, and a call behind it
+abbrev pub is_worn_out_for : Bool → MapState → Bool
+is_worn_out_for true shard = is_worn_out_to_restore shard
+is_worn_out_for false shard = is_worn_out shard.core
+
+abbrev pub Measures : Measuring → MapState → Measuring → MapState → Type 0
+Measures before shard after later =
+    (later ≡ shard) × (after.slots ≡ before.slots) × (after.restores ≡ before.restores)
+    × (after.is_worn_out ≡ (before.is_worn_out || is_worn_out_for before.restores shard)) × (after.is_tight ≡ (before.is_tight || nat_lt (free_of shard) before.slots))
+
+abbrev pub CallsOne : Calling → MapState → Calling → MapState → Type 0
+CallsOne before shard after later = Calls after.told shard before.call later × WorksUpTo (work_of_call before.call) shard later

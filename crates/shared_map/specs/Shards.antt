@@ -1,0 +1,80 @@
+-- The shards of one map, and the world of the whole.
+use Rattle.std.specs.Prelude.{◌≡◌, ℕ, ◌≤◌, Bool, Option, Some, None, List, [], ◌∷◌, length, map, option_map, option_to_list, slice_get, sum_by, not, nat_lt}
+use Rattle.std.specs.List.{list_any}
+use Rattle.ctrie_base.specs.declared.hashes.HashKind.{HashKind}
+use Rattle.history.specs.declared.calls.Access.{Access}
+use Rattle.history.specs.declared.calls.Call.{Call}
+use Rattle.history.specs.Worlds.{HandleMap}
+use Rattle.ctrie_map.specs.Beneath.proof_alone.specs.Calls.{slots_of}
+use Rattle.ctrie_map.specs.Beneath.proof_obstruction_free.specs.Slots.{most_makes_alone}
+use Rattle.ctrie_map.specs.Changes.{LacksSlots}
+use Rattle.ctrie_map.specs.Cores.{IsTight, is_worn_out}
+use Rattle.ctrie_map.specs.Maps.{MapState, free_of, handles_of}
+use Rattle.ctrie_map.specs.Restoring.{is_worn_out_to_restore}
+use Rattle.shared_map.specs.Asks.{key_in, place_of}
+use Rattle.shared_map.specs.Uniting.{AreOfKinds, AreOwnFrom, united}
+
+abbrev pub worlds_of : List MapState → List HandleMap
+worlds_of shards = map handles_of shards
+
+-- the open handles of the whole, each with its kind and its finite map
+abbrev pub world_of_all : List MapState → HandleMap
+world_of_all shards = united (worlds_of shards)
+
+abbrev pub AreHashed : HashKind → List MapState → Type 0
+AreHashed hash [] = Unit {0}
+AreHashed hash (s ∷ ss) = (s.core.limits.hash ≡ hash) × AreHashed hash ss
+
+-- These are the shards of one map: they have this hash, the same handles are open in all, and a key has its values in the shard of its place alone.
+pub record AreShards (hash : HashKind) (shards : List MapState) : Type 0 where
+  pub kinds : ℕ → Option Access
+  pub some : 1 ≤ length shards
+  pub few : length shards ≤ 64
+  pub hashed : AreHashed hash shards
+  pub alike : AreOfKinds kinds (worlds_of shards)
+  pub own : AreOwnFrom (place_of hash (length shards)) 0 (worlds_of shards)
+
+-- ---- the shards that a call is about
+
+abbrev pub place_in : HashKind → ℕ → Call → Option ℕ
+place_in hash shards call = option_map (place_of hash shards) (key_in call)
+
+abbrev pub those_at : Option ℕ → List MapState → List MapState
+those_at None shards = shards
+those_at (Some i) shards = option_to_list (slice_get shards i)
+
+-- that of its key, or all
+abbrev pub concerned : HashKind → Call → List MapState → List MapState
+concerned hash call shards = those_at (place_in hash (length shards) call) shards
+
+-- one of these has no more steps left than a call may take
+abbrev pub is_any_worn_out : List MapState → Bool
+is_any_worn_out shards = list_any (λ s. is_worn_out s.core) shards
+
+-- or than a restore may take, and a call behind it
+abbrev pub is_any_worn_out_to_restore : List MapState → Bool
+is_any_worn_out_to_restore shards = list_any is_worn_out_to_restore shards
+
+-- one of these has fewer free slots than such a call may take
+abbrev pub IsAnyTight : Call → List MapState → Type 0
+IsAnyTight call shards = (i : ℕ) × (s : MapState) × (slice_get shards i ≡ Some s) × IsTight (slots_of call) s.core
+
+-- The only shard came to where it was to make a node, and no slot was free. Where there are several, they are asked before, and one of them is tight.
+abbrev pub LackSlots : Call → List MapState → Type 0
+LackSlots call (s ∷ []) = LacksSlots s call
+LackSlots call shards = IsAnyTight call shards
+
+-- ---- what is counted of all shards
+
+abbrev pub free_of_all : List MapState → ℕ
+free_of_all shards = sum_by (λ s. length s.core.heap.free) shards
+
+abbrev pub steps_of_all : List MapState → ℕ
+steps_of_all shards = sum_by (λ s. s.core.steps) shards
+
+abbrev pub slots_of_all : List MapState → ℕ
+slots_of_all shards = sum_by (λ s. s.core.limits.slots) shards
+
+-- none of these has fewer free slots than any call may take
+abbrev pub have_room : List MapState → Bool
+have_room shards = not (list_any (λ s. nat_lt (free_of s) most_makes_alone) shards)

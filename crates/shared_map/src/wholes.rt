@@ -1,0 +1,156 @@
+//! Calls about all shards of a map.
+
+ghost use Rattle.std.specs.Prelude.{◌≡◌, ◌<◌, length};
+ghost use Rattle.history.specs.declared.calls.Call.TheVariants.{Count, Entries};
+ghost use Rattle.ctrie_map.specs.Maps.{handles_of};
+ghost use Rattle.ctrie_map.specs.Performing.{copy_call};
+ghost use Rattle.shared_map.specs.Asking.{IsKnown};
+ghost use Rattle.shared_map.specs.Turning.{IsFree, call_of};
+ghost use Rattle.shared_map.specs.Wholes.{RepliesIf, IsCalledAlone, IsCounted, TurnsAll};
+
+use crate::asking::{Calling, Knowing, Measuring};
+use crate::asks::Replied;
+use crate::listing::{Listed, list_all};
+use crate::reading::Counting;
+use crate::turning::{Turn, Turning};
+use crate::visits::visit_each;
+use ctrie_map::{Map, MapError};
+use history::{Access, Call, Pairs, Reply};
+use sharded_gate::Shards;
+
+/// What is told of a call about all shards.
+pub(crate) fn call_all<S: Shards<Map>>(shards: &mut S, first: &Knowing, call: Call) -> Replied
+    requires { 0 < length (S.items shards.old) }
+    ensures answered { RepliesIf first.now (S.items shards.old) call result (S.items shards.new) }
+    ensures rest { S.rest shards.new ≡ S.rest shards.old }
+{
+    if shards.count() == 1 {
+        return call_one(shards, call);
+    }
+    match call {
+        Call::Entries { handle } => entries_of_all(shards, first, handle),
+        Call::Count { handle } => count_of_all(shards, first, handle),
+        Call::Clear { handle } => change_all(shards, first, Turn::Clear { handle }),
+        Call::Close { handle } => change_all(shards, first, Turn::Close { handle }),
+        Call::Snapshot { handle } => copy_all(shards, first, handle, Access::Writable),
+        Call::Freeze { handle } => copy_all(shards, first, handle, Access::ReadOnly),
+        _ => Err(MapError::Memory),
+    }
+}
+
+/// The same, where there is one shard.
+fn call_one<S: Shards<Map>>(shards: &mut S, call: Call) -> Replied
+    requires { length (S.items shards.old) ≡ 1 }
+    ensures called { IsCalledAlone call (S.items shards.old) result (S.items shards.new) }
+    ensures rest { S.rest shards.new ≡ S.rest shards.old }
+{
+    let mut calling = Calling {
+        call,
+        told: Err(MapError::Memory),
+    };
+    shards.visit(0, &mut calling);
+    let Calling { call: _, told } = calling;
+    told
+}
+
+/// A copy of the whole, under the number that the first shard would give.
+fn copy_all<S: Shards<Map>>(shards: &mut S, first: &Knowing, handle: u16, access: Access) -> Replied
+    requires { 1 < length (S.items shards.old) }
+    ensures answered { RepliesIf first.now (S.items shards.old) (copy_call access handle) result (S.items shards.new) }
+    ensures rest { S.rest shards.new ≡ S.rest shards.old }
+{
+    match first.next {
+        Some(number) => change_all(
+            shards,
+            first,
+            Turn::Copy {
+                handle,
+                number,
+                access,
+            },
+        ),
+        None => match first.denial(false, true) {
+            Some(denial) => Err(denial),
+            None => Err(MapError::HandlesFull),
+        },
+    }
+}
+
+/// A change of all shards, unless something denies it.
+fn change_all<S: Shards<Map>>(shards: &mut S, first: &Knowing, turn: Turn) -> Replied
+    requires many { 1 < length (S.items shards.old) }
+    requires free { (shard : _) → IsKnown first.now shard → IsFree turn (handles_of shard) }
+    ensures answered { RepliesIf first.now (S.items shards.old) (call_of turn) result (S.items shards.new) }
+    ensures rest { S.rest shards.new ≡ S.rest shards.old }
+{
+    match first.denial(turn.writes(), turn.opens()) {
+        Some(denial) => Err(denial),
+        None => turn_all(shards, turn),
+    }
+}
+
+/// A change of all shards: each is asked before, so that none refuses it once another has changed.
+fn turn_all<S: Shards<Map>>(shards: &mut S, turn: Turn) -> Replied
+    ensures turns { TurnsAll turn (S.items shards.old) result (S.items shards.new) }
+    ensures rest { S.rest shards.new ≡ S.rest shards.old }
+{
+    let mut measuring = Measuring {
+        slots: turn.slots(),
+        restores: false,
+        is_worn_out: false,
+        is_tight: false,
+    };
+    visit_each(shards, &mut measuring);
+    if measuring.is_worn_out {
+        return Err(MapError::WornOut);
+    }
+    if measuring.is_tight {
+        return Ok(Reply::NoSlots);
+    }
+    visit_each(shards, &mut Turning { turn });
+    Ok(turn.reply())
+}
+
+/// The pairs of the handle, if it is open.
+fn entries_of_all<S: Shards<Map>>(shards: &mut S, first: &Knowing, handle: u16) -> Replied
+    ensures answered { RepliesIf first.now (S.items shards.old) (Entries handle) result (S.items shards.new) }
+    ensures rest { S.rest shards.new ≡ S.rest shards.old }
+{
+    match first.writable {
+        Ok(_) => match list_all(shards, handle, Listed::All) {
+            Ok(pairs) => Ok(Reply::Pairs(Pairs::from_vec(pairs))),
+            Err(error) => Err(error),
+        },
+        Err(_) => Err(MapError::NoHandle),
+    }
+}
+
+/// How many keys the handle has, if it is open.
+fn count_of_all<S: Shards<Map>>(shards: &mut S, first: &Knowing, handle: u16) -> Replied
+    ensures answered { RepliesIf first.now (S.items shards.old) (Count handle) result (S.items shards.new) }
+    ensures rest { S.rest shards.new ≡ S.rest shards.old }
+{
+    match first.writable {
+        Ok(_) => count_all(shards, handle),
+        Err(_) => Err(MapError::NoHandle),
+    }
+}
+
+/// How many keys of the handle there are.
+fn count_all<S: Shards<Map>>(shards: &mut S, handle: u16) -> Replied
+    ensures counted { IsCounted handle (S.items shards.old) result }
+    ensures same { S.items shards.new ≡ S.items shards.old }
+    ensures rest { S.rest shards.new ≡ S.rest shards.old }
+{
+    let mut counting = Counting {
+        handle,
+        keys: 0,
+        failed: false,
+    };
+    visit_each(shards, &mut counting);
+    if counting.failed {
+        Err(MapError::Memory)
+    } else {
+        Ok(Reply::Count(counting.keys))
+    }
+}
