@@ -67,9 +67,10 @@ enum ctrie_code {
     CTRIE_READ_ONLY = 3,    /* a change by a read-only handle */
     CTRIE_HANDLES_FULL = 4, /* a snapshot, a freeze, a restore or a put_all while 256 are open */
     CTRIE_CROWDED = 5,      /* the key has no value, and 32 other keys have its hash */
-    CTRIE_FULL = 6,         /* the call was to make a node, and no slot was free; it comes only where fewer than
-                               CTRIE_SLOTS_FOR_A_CALL were before it, or 23 where it is a clear, snapshot, freeze or
-                               restore, or 24 and 571 a pair where it is a put_all */
+    CTRIE_FULL = 6,         /* the call was to make a node, and no slot was free (a put_all: its copy, or a change of a
+                               key in it); it comes only where fewer than CTRIE_SLOTS_FOR_A_CALL were before it, or 23
+                               where it is a clear, snapshot, freeze or restore, or 24 and 571 a pair where it is a
+                               put_all */
     CTRIE_BAD_SIZES = 7,    /* the number of slots isn't from 2 to 1,048,576 */
     CTRIE_WORN_OUT = 8,     /* less work is left than a call may take, of 2^45 - 2^21 steps; the map can be read */
     CTRIE_MEMORY = 9,       /* malloc refused; only of ctrie_new, ctrie_entries, ctrie_diff and ctrie_put_all */
@@ -234,8 +235,8 @@ CTRIE_MUST_USE
 uint32_t ctrie_put_if_absent(struct ctrie *map, uint16_t handle, uint64_t key, uint64_t value, uint64_t *before);
 
 /* Sets the values of all these keys, or of none: where it is refused, no map has changed. Of pairs of one key the last
-   one counts. For the moment this takes one more handle, and memory for a list of the pairs. For the place of no pairs
-   NULL may stand. DONE. CROWDED, HANDLES_FULL, MEMORY. */
+   one counts. It works on a copy: for the moment this takes one more handle, slots for what the copy doesn't share, and
+   memory for a list of the pairs. For the place of no pairs NULL may stand. DONE. CROWDED, HANDLES_FULL, MEMORY. */
 CTRIE_MUST_USE
 uint32_t ctrie_put_all(struct ctrie *map, uint16_t handle, const struct ctrie_pair *pairs, size_t count);
 

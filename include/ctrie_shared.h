@@ -2,12 +2,12 @@
  * The map of ctrie.h, shared by threads.
  *
  * A shared map is used through seats, one a thread. All calls of all seats have one order, in which each is made whole
- * on the map as the ones before it left it, and in which each seat's own stand in the order in which it made them. A
- * call that finds another seat inside waits, for how long nothing promises: threads take turns, in no order that is
- * promised.
+ * on the map as the ones before it left it, and in which each seat's own stand in the order in which it made them. The
+ * map lies in shards, from 1 to 64: a call on one key takes the key's shard, any other call takes all. A call that finds
+ * a shard taken waits, for how long nothing promises: threads take turns at a shard, in no order that is promised.
  *
  *     struct ctrie_seat seats[4] = {CTRIE_NO_SEAT, CTRIE_NO_SEAT, CTRIE_NO_SEAT, CTRIE_NO_SEAT};
- *     if (ctrie_shared_new(seats, 4, 1024, CTRIE_FOLD) != CTRIE_DONE) return 1;
+ *     if (ctrie_shared_new(seats, 4, 1024, CTRIE_FOLD, 8) != CTRIE_DONE) return 1;
  *     ... each thread has one of them: ctrie_shared_put(&seats[i], 0, 7, 250, NULL) ...
  *     for (int i = 0; i < 4; i++) ctrie_shared_free(&seats[i]);
  *
@@ -35,14 +35,21 @@ struct ctrie_seat {
 
 #define CTRIE_NO_SEAT {0}
 
+/* A shard, 0 and on, and the number of a call about it, counted from 1. A call on one key is about the key's shard, any
+   other call about all. */
+struct ctrie_count {
+    uint64_t shard;
+    uint64_t calls;
+};
+
 enum ctrie_shared_code {
-    CTRIE_BUSY = 14,        /* a call that tries: another seat is inside, and nothing was done */
+    CTRIE_BUSY = 14,        /* a call that tries: another seat has a shard that it is about, and nothing was done */
     CTRIE_NO_SEATS = 15     /* no seat is left to be handed out */
 };
 
-/* ---- the calls that try: each answers CTRIE_BUSY where another seat is inside, and nothing is done then. The calls
-   below, of the same names without try, call them until they come in: so a call that is to be made at once, or not at
-   all, is one of these. For the place of a value NULL may not stand here. */
+/* ---- the calls that try: each answers CTRIE_BUSY where another seat has a shard that it is about, and nothing is done
+   then. The calls below, of the same names without try, call them until they come in: so a call that is to be made at
+   once, or not at all, is one of these. For the place of a value NULL may not stand here. */
 
 CTRIE_MUST_USE
 uint32_t ctrie_shared_try_get(struct ctrie_seat *seat, uint16_t handle, uint64_t key, uint64_t *value);
@@ -58,7 +65,7 @@ uint32_t ctrie_shared_try_handles(struct ctrie_seat *seat, uint64_t *handles);
 CTRIE_MUST_USE
 uint32_t ctrie_shared_try_free_slots(struct ctrie_seat *seat, uint64_t *free);
 CTRIE_MUST_USE
-uint32_t ctrie_shared_try_hear(struct ctrie_seat *seat, uint64_t calls);
+uint32_t ctrie_shared_try_hear(struct ctrie_seat *seat, const struct ctrie_count *count);
 CTRIE_MUST_USE
 uint32_t ctrie_shared_try_put(struct ctrie_seat *seat, uint16_t handle, uint64_t key, uint64_t value, uint64_t *before);
 CTRIE_MUST_USE
@@ -85,11 +92,11 @@ uint32_t ctrie_shared_try_close(struct ctrie_seat *seat, uint16_t handle);
 
 /* ---- a shared map and its seats: these don't wait */
 
-/* Makes a shared map, as ctrie_new makes one, and so many seats at it, from 1 to 255. The struct holds one, which hands
-   out the others. DONE, BAD_SIZES, MEMORY, BAD_HASH; HAS_MAP where it holds one already; NO_SEATS where there are to be
-   none. */
+/* Makes a shared map in so many shards, from 1 to 64, each as ctrie_new makes a map with so many slots; and so many
+   seats at it, from 1 to 255. The struct holds one, which hands out the others. DONE, BAD_SIZES, MEMORY, BAD_HASH;
+   HAS_MAP where it holds one already; NO_SEATS where there are to be none. */
 CTRIE_MUST_USE
-uint32_t ctrie_shared_open(struct ctrie_seat *seat, uint32_t slots, uint32_t hash, uint8_t seats);
+uint32_t ctrie_shared_open(struct ctrie_seat *seat, uint32_t slots, uint32_t hash, uint8_t seats, uint8_t shards);
 
 /* Hands out one of the seats that the first struct has yet, to the second. DONE; NO_MAP where the first holds none,
    HAS_MAP where the second does, NO_SEATS where none is left, MEMORY. */
@@ -100,21 +107,23 @@ uint32_t ctrie_shared_split(struct ctrie_seat *seat, struct ctrie_seat *other);
    last of its seats. */
 void ctrie_shared_free(struct ctrie_seat *seat);
 
-/* DONE with how many calls of all seats this one knows of: after a call of its own, this call's number in the order of
-   all. NO_MAP. */
+/* DONE with a shard, and how many calls of all seats about it this one knows of: after a call of its own a shard that
+   it was about, and the call's number there. NO_MAP. */
 CTRIE_MUST_USE
-uint32_t ctrie_shared_last(struct ctrie_seat *seat, uint64_t *calls);
+uint32_t ctrie_shared_last(struct ctrie_seat *seat, struct ctrie_count *last);
 
-/* Makes a shared map, and gives each of these structs, which hold none, a seat at it. DONE, BAD_SIZES, MEMORY,
-   BAD_HASH, HAS_MAP; NO_SEATS where there are none or more than 255. Where it isn't DONE all that was made is freed. */
+/* Makes a shared map in so many shards, each with so many slots, and gives each of these structs, which hold none, a
+   seat at it. DONE, BAD_SIZES, MEMORY, BAD_HASH, HAS_MAP; NO_SEATS where there are none or more than 255. Where it isn't
+   DONE all that was made is freed. */
 CTRIE_MUST_USE
-static inline uint32_t ctrie_shared_new(struct ctrie_seat *seats, size_t count, uint32_t slots, uint32_t hash) {
+static inline uint32_t ctrie_shared_new(struct ctrie_seat *seats, size_t count, uint32_t slots, uint32_t hash,
+                                        uint8_t shards) {
     uint32_t code;
     size_t made;
     for (made = 0; made < count; made++)
         if (seats[made].at) return CTRIE_HAS_MAP;
     if (count == 0 || count > 255) return CTRIE_NO_SEATS;
-    code = ctrie_shared_open(&seats[0], slots, hash, (uint8_t)count);
+    code = ctrie_shared_open(&seats[0], slots, hash, (uint8_t)count, shards);
     for (made = 1; code == CTRIE_DONE && made < count; made++) code = ctrie_shared_split(&seats[0], &seats[made]);
     if (code != CTRIE_DONE)
         for (made = 0; made < count; made++) ctrie_shared_free(&seats[made]);
@@ -126,7 +135,7 @@ static inline const char *ctrie_shared_error(uint32_t code) {
     switch (code) {
     case CTRIE_NO_MAP: return "no seat is held";
     case CTRIE_HAS_MAP: return "a seat is held already";
-    case CTRIE_BUSY: return "another seat is inside";
+    case CTRIE_BUSY: return "another seat has the shard";
     case CTRIE_NO_SEATS: return "no seat is left";
     default: return ctrie_error(code);
     }
@@ -134,8 +143,8 @@ static inline const char *ctrie_shared_error(uint32_t code) {
 
 /* ---- the calls that wait: as those of ctrie.h, with the same codes; NO_MAP where no seat is held */
 
-/* How a seat waits between two tries: first by pauses, since who is inside is soon out, then by leaving the processor
-   to others, who may be inside. */
+/* How a seat waits between two tries: first by pauses, since a shard is soon given back, then by leaving the processor
+   to others, who may have it. */
 static inline void ctrie_shared_wait(uint32_t *tries) {
     uint32_t pause;
     if (*tries >= 64) {
@@ -195,17 +204,17 @@ static inline uint32_t ctrie_shared_handles(struct ctrie_seat *seat, uint64_t *h
     CTRIE_SHARED_WAIT(ctrie_shared_try_handles(seat, handles));
 }
 
-/* DONE with how many slots no open handle reaches. */
+/* DONE with how many slots of all shards no open handle reaches. */
 CTRIE_MUST_USE
 static inline uint32_t ctrie_shared_free_slots(struct ctrie_seat *seat, uint64_t *free) {
     CTRIE_SHARED_WAIT(ctrie_shared_try_free_slots(seat, free));
 }
 
-/* YES where so many calls have been made, else NO. Who was told the number of another seat's call, by
-   ctrie_shared_last, and hears of it, calls behind it from then on. */
+/* YES where so many calls about the shard have been made, else NO. Who was told the number of another seat's call, by
+   ctrie_shared_last, and hears of it, calls behind it from then on, whichever shards these calls are about. */
 CTRIE_MUST_USE
-static inline uint32_t ctrie_shared_hear(struct ctrie_seat *seat, uint64_t calls) {
-    CTRIE_SHARED_WAIT(ctrie_shared_try_hear(seat, calls));
+static inline uint32_t ctrie_shared_hear(struct ctrie_seat *seat, struct ctrie_count count) {
+    CTRIE_SHARED_WAIT(ctrie_shared_try_hear(seat, &count));
 }
 
 /* As ctrie_put: NO_HANDLE, READ_ONLY, FULL, WORN_OUT, CROWDED. */

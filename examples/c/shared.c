@@ -1,6 +1,7 @@
 /*
  * A registry and counters that threads share. Four threads count their rounds in ten counters, and register how far they
- * have come; the main thread exports the registry meanwhile, and each export is of one moment.
+ * have come; the main thread exports the registry meanwhile, and each export is of one moment. The map lies in eight
+ * shards, so calls on keys of different ones don't wait for each other.
  *
  *     cc -Iinclude examples/c/shared.c out/c/lib/libctrie.a -pthread -o shared && ./shared
  */
@@ -82,9 +83,10 @@ int main(void) {
     struct ctrie_seat other = CTRIE_NO_SEAT;
     struct worker workers[WORKERS];
     struct ctrie_seat *mine = &seats[WORKERS];
-    uint64_t i, value, calls, wrong = 0;
+    struct ctrie_count last;
+    uint64_t i, value, wrong = 0;
 
-    check(ctrie_shared_new(seats, WORKERS + 1, 4096, CTRIE_FOLD), "new");
+    check(ctrie_shared_new(seats, WORKERS + 1, 1024, CTRIE_FOLD, 8), "new");
     for (i = 0; i < COUNTERS; i++) check(ctrie_shared_put(mine, 0, i, 0, NULL), "put");
     for (i = 0; i < WORKERS; i++) {
         workers[i].seat = &seats[i];
@@ -101,10 +103,11 @@ int main(void) {
         printf("counter %" PRIu64 ": %" PRIu64 "\n", i, value);
     }
     check(ctrie_shared_put(mine, 0, 7, 250, &value), "put");
-    check(ctrie_shared_last(mine, &calls), "last");
+    check(ctrie_shared_last(mine, &last), "last");
     printf("before it %" PRIu64 "; known to all as call %s\n", value,
-           ctrie_shared_hear(&seats[0], calls) == CTRIE_YES ? "made" : "not made");
-    printf("and the next one: %s\n", ctrie_shared_hear(&seats[0], calls + 1) == CTRIE_YES ? "made" : "not made");
+           ctrie_shared_hear(&seats[0], last) == CTRIE_YES ? "made" : "not made");
+    last.calls++;
+    printf("and the next one: %s\n", ctrie_shared_hear(&seats[0], last) == CTRIE_YES ? "made" : "not made");
 
     /* Nobody else is there now: a try comes in. */
     printf("a try: %s\n", ctrie_shared_error(ctrie_shared_try_get(mine, 0, 7, &value)));
@@ -112,6 +115,6 @@ int main(void) {
     for (i = 0; i <= WORKERS; i++) ctrie_shared_free(&seats[i]);
     ctrie_shared_free(mine); /* once more, where none is held */
     printf("after that: %s\n", ctrie_shared_error(ctrie_shared_put(mine, 0, 7, 1, NULL)));
-    printf("a map without seats: %s\n", ctrie_shared_error(ctrie_shared_open(mine, 64, CTRIE_LOW, 0)));
+    printf("a map without seats: %s\n", ctrie_shared_error(ctrie_shared_open(mine, 64, CTRIE_LOW, 0, 1)));
     return 0;
 }

@@ -1,10 +1,11 @@
 -- What a seat's contract says holds of the seat that is held.
 use Rattle.std.proofs.Common.{◌≡◌, ◌<◌, ◌∙◌, ℕ, refl, sym, subst, inl, inr}
-use Rattle.std.specs.Prelude.{Option, Some, None}
+use Rattle.std.specs.Prelude.{Bool, Option, Some, None, Ok}
 use Rattle.shared_map.specs.declared.asks.Ask.{Ask}
 use Rattle.shared_map.specs.Asks.{Told}
-use Rattle.ctrie_c.specs.Answers.{code_limit, no_map}
-use Rattle.ctrie_c.specs.Sharing.{Asks, AsksIt, Says, Sharing, Tries, busy}
+use Rattle.shared_map.specs.Beneath.sharded_gate.specs.declared.gates.ShardCount.{ShardCount}
+use Rattle.ctrie_c.specs.Answers.{code_limit, no_map, truth_told}
+use Rattle.ctrie_c.specs.Sharing.{Asks, AsksIt, Hears, HearsSo, Says, Sharing, Tries, busy}
 
 -- the seat that was taken out of its box
 pub asked_by : {before after : Option Sharing} {old lent new : Sharing} {ask : Ask} {told : Told} → lent ≡ old → before ≡ Some old → after ≡ Some new → Asks ask told lent new →
@@ -30,6 +31,11 @@ pub came_in : {before after : Option Sharing} {old lent new : Sharing} {code : �
 came_in {before} {after} {old} {lent} {new} {code} Holds same was is low holds =
     subst (λ (b : Option Sharing). Tries b after code Holds) (sym was)
     (subst (λ (a : Option Sharing). Tries (Some old) a code Holds) (sym is) (inr (low, subst (λ (s : Sharing). Holds s new) same holds)))
+
+-- it heard
+pub heard_so : {before after : Option Sharing} {old lent new : Sharing} {code : ℕ} (count : ShardCount) (heard : Bool) → lent ≡ old → before ≡ Some old → after ≡ Some new → code < code_limit →
+    truth_told code ≡ Ok heard → Hears count heard lent new → Tries before after code (HearsSo count (truth_told code))
+heard_so {before} {after} {old} {lent} {new} {code} count heard same was is low told hears = came_in (HearsSo count (truth_told code)) same was is low (heard, told, hears)
 
 -- it didn't ask
 pub untried : (before after : Option Sharing) (code : ℕ) (Holds : Sharing → Sharing → Type 0) → Tries before after code (λ old new. ⊥) → Tries before after code Holds

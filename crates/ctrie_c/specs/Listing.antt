@@ -1,7 +1,7 @@
 -- How the pairs of a map are listed, in parts.
 use Rattle.std.specs.Prelude.{◌≡◌, ℕ, true, List, [], ◌∷◌, length, map, Option, Some, None, Result, Ok, IfOk, IfErr, if◌then◌else◌}
 use Rattle.std.specs.FinMap as finite
-use Rattle.shared_map.specs.Beneath.machine_core.specs.Reading.{next_of}
+use Rattle.shared_map.specs.Beneath.proof_core.specs.Reading.{next_of}
 use Rattle.shared_map.specs.Beneath.ctrie_map.specs.declared.errors.MapError.{MapError}
 use Rattle.shared_map.specs.Beneath.ctrie_map.specs.Maps.{MapState}
 use Rattle.shared_map.specs.Beneath.ctrie_map.specs.Reading.{RefusesReading, reading}

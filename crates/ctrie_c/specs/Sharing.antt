@@ -1,20 +1,23 @@
 -- What a C program holds of a shared map: a seat with a share of it; and what the calls do.
-use Rattle.std.specs.Prelude.{◌≡◌, ◌<◌, ◌≤◌, ◌⊎◌, ◌↔◌, ℕ, List, [], ◌∷◌, ◌++◌, length, take, drop, map, min, Bool, IsTrue, Option, Some, None, Result, Ok, Err, IfOk, IfErr}
+use Rattle.std.specs.Prelude.{◌≡◌, ◌<◌, ◌⊎◌, ℕ, List, [], ◌∷◌, ◌++◌, length, take, drop, map, min, Bool, Option, Some, None, Result, Ok, Err, IfOk, IfErr}
 use Rattle.ctrie_base.specs.declared.hashes.HashKind.{HashKind}
 use Rattle.shared_map.specs.Beneath.ctrie_map.specs.declared.errors.MapError.{MapError}
 use Rattle.shared_map.specs.Beneath.ctrie_map.specs.declared.errors.MapError.TheVariants.{Memory}
-use Rattle.shared_map.specs.Beneath.ctrie_map.specs.Maps.{AreSlots, RefusesSizes}
-use Rattle.gate.specs.Calls.{IsCalled, HasHeard}
+use Rattle.shared_map.specs.Beneath.ctrie_map.specs.Maps.{AreSlots}
 use Rattle.gate.specs.Logs.{saturated}
 use Rattle.history.specs.declared.calls.Call.TheVariants.{Entries}
 use Rattle.shared_map.specs.declared.asks.Ask.{Ask}
 use Rattle.shared_map.specs.declared.asks.Ask.TheVariants.{Do}
-use Rattle.shared_map.specs.Asks.{MapAnswers, MapRoom, MapSeat, Told}
-use Rattle.shared_map.specs.Calling.{Tells}
-use Rattle.shared_map.specs.Opening.{IsNewShared}
+use Rattle.shared_map.specs.Beneath.sharded_gate.specs.declared.gates.ShardCount.{ShardCount}
+use Rattle.shared_map.specs.Beneath.sharded_gate.specs.Shards.{calls_about}
+use Rattle.shared_map.specs.Asks.{Told, about}
+use Rattle.shared_map.specs.Calling.{HasAsked, HasHeardOf, Tells}
+use Rattle.shared_map.specs.Opening.{IsNewShared, RefusesNew}
+use Rattle.shared_map.specs.Seats.{MapRoom, MapSeat}
 use Rattle.shared_map.specs.Telling.{listed_in}
-use Rattle.ctrie_c.specs.Answers.{bad_hash, code_limit, done_told, has_map, no_map}
+use Rattle.ctrie_c.specs.Answers.{bad_hash, code_limit, done_told, has_map, no_map, told_by}
 use Rattle.ctrie_c.specs.Listing.{pair_of}
+use Rattle.ctrie_c.specs.declared.counts.Count.{Count}
 use Rattle.ctrie_c.specs.declared.listing.Pair.{Pair}
 
 -- the map, a seat at it, and the seats that are to be handed out yet
@@ -38,10 +41,10 @@ IsSame old new = (new.map ≡ old.map) × (new.spare ≡ old.spare)
 
 -- the seat asked this, and was told that: its log has one entry more
 abbrev pub Asks : Ask → Told → Sharing → Sharing → Type 0
-Asks ask told old new = IsSame old new × IsCalled MapAnswers old.seat ask told new.seat
+Asks ask told old new = IsSame old new × HasAsked old.map old.seat ask told new.seat
 
-abbrev pub Hears : ℕ → Bool → Sharing → Sharing → Type 0
-Hears calls heard old new = IsSame old new × HasHeard MapAnswers old.seat new.seat × (IsTrue heard ↔ calls ≤ length new.seat.seen.log)
+abbrev pub Hears : ShardCount → Bool → Sharing → Sharing → Type 0
+Hears count heard old new = IsSame old new × HasHeardOf old.map old.seat count heard new.seat
 
 -- What a try did with the seat that is held, if there is one: nothing where another seat kept it out, and else what the code tells.
 abbrev pub Tries : Option Sharing → Option Sharing → ℕ → (Sharing → Sharing → Type 0) → Type 0
@@ -51,20 +54,30 @@ Tries before after code Holds = ⊥
 
 -- the seat's log has one entry more, with what is said of it
 abbrev pub Says : {A : Type 0} → (Told → A) → Ask → A → Sharing → Sharing → Type 0
-Says says ask result old new = IsSame old new × Tells says old.seat ask result new.seat
+Says says ask result old new = IsSame old new × Tells says old.map old.seat ask result new.seat
 
 -- the seat that is held asked this
 abbrev pub AsksIt : Option Sharing → Option Sharing → Ask → Told → Type 0
 AsksIt (Some old) (Some new) ask told = Asks ask told old new
 AsksIt before after ask told = ⊥
 
--- the seat heard whether so many calls have been made
-abbrev pub HearsSo : ℕ → Result Bool MapError → Sharing → Sharing → Type 0
-HearsSo calls result old new = (heard : Bool) × (result ≡ Ok heard) × Hears calls heard old new
+-- how many calls about a shard
+abbrev pub count_of : Count → ShardCount
+count_of count = record { shard = count.shard; calls = count.calls }
 
--- how many calls the seat knows of
-abbrev pub TellsLast : Option Sharing → Option Sharing → ℕ → Result ℕ MapError → Type 0
-TellsLast (Some old) (Some new) code result = (new ≡ old) × (result ≡ Ok (saturated (length old.seat.seen.log)))
+abbrev pub count_told : ℕ → Count → Result ShardCount MapError
+count_told code count = told_by (count_of count) (count_of count) code
+
+-- the seat heard whether so many calls have been made
+abbrev pub HearsSo : ShardCount → Result Bool MapError → Sharing → Sharing → Type 0
+HearsSo count result old new = (heard : Bool) × (result ≡ Ok heard) × Hears count heard old new
+
+-- the shard whose calls the seat counts, and how many of them it knows of
+abbrev pub last_of : MapSeat → ShardCount
+last_of seat = record { shard = seat.shard; calls = saturated (length (calls_about (about seat.seat.gate.slots) seat.shard seat.seat.seen.log)) }
+
+abbrev pub TellsLast : Option Sharing → Option Sharing → ℕ → Result ShardCount MapError → Type 0
+TellsLast (Some old) (Some new) code result = (new ≡ old) × (result ≡ Ok (last_of old.seat))
 TellsLast None None code result = code ≡ no_map
 TellsLast before after code result = ⊥
 
@@ -81,13 +94,14 @@ ListsFront before after handle result old new = (told : Told) × Asks (Do (Entri
 
 -- ---- making
 
--- a shared map of so many slots with this hash, and so many seats, where there was none
-abbrev pub Shares : Option HashKind → ℕ → ℕ → ℕ → Option Sharing → Option Sharing → Type 0
-Shares None slots seats code before after = (code ≡ bad_hash) × (after ≡ before)
-Shares (Some kind) slots seats code (Some old) after = (code ≡ has_map) × (after ≡ Some old)
-Shares (Some kind) slots seats code None (Some made) = (code ≡ 0) × IsNewShared slots kind seats made.map (made.spare ++ made.seat ∷ []) × AreSlots slots
-Shares (Some kind) slots seats code None None =
-    ((code ≡ no_seat) × (seats ≡ 0)) ⊎ ((code < code_limit) × IfOk (done_told code) (λ _. ⊥) × IfErr (done_told code) (RefusesSizes slots))
+-- a shared map in so many shards of so many slots, with this hash, and so many seats, where there was none
+abbrev pub Shares : Option HashKind → ℕ → ℕ → ℕ → ℕ → Option Sharing → Option Sharing → Type 0
+Shares None slots shards seats code before after = (code ≡ bad_hash) × (after ≡ before)
+Shares (Some kind) slots shards seats code (Some old) after = (code ≡ has_map) × (after ≡ Some old)
+Shares (Some kind) slots shards seats code None (Some made) =
+    (code ≡ 0) × IsNewShared slots kind shards seats made.map (made.spare ++ made.seat ∷ []) × AreSlots slots
+Shares (Some kind) slots shards seats code None None =
+    ((code ≡ no_seat) × (seats ≡ 0)) ⊎ ((code < code_limit) × IfOk (done_told code) (λ _. ⊥) × IfErr (done_told code) (RefusesNew slots shards))
 
 -- one of these seats is held at this map, and hands out the others
 abbrev pub HoldsOne : MapRoom → List MapSeat → ℕ → Option Sharing → Type 0

@@ -5,6 +5,7 @@ mod changing;
 mod codes;
 mod comparing;
 mod copying;
+mod counts;
 mod filling;
 mod handles;
 mod held;

@@ -1,8 +1,8 @@
-//! Calls of a seat at a shared map that change it. Each tries once to come in.
+//! Calls of a seat at a shared map that change it. Each tries once, and doesn't wait.
 
 ghost use Rattle.std.specs.Prelude.{◌≡◌, nat_eq, false};
 ghost use Rattle.history.specs.declared.calls.Call.TheVariants as call;
-ghost use Rattle.shared_map.specs.Beneath.ctrie_map.specs.Telling.{done_in, found_in, opened_in, truth_in};
+ghost use Rattle.shared_map.specs.Telling.{done_in, found_in, opened_in, truth_in};
 ghost use Rattle.shared_map.specs.declared.asks.Ask.TheVariants.{Do};
 ghost use Rattle.ctrie_c.specs.Answers.{done_told, number_told, truth_told, value_told};
 ghost use Rattle.ctrie_c.specs.Sharing.{Says, Tries};

@@ -13,8 +13,8 @@ use shared_map::{HashKind, MapError, MapSeat, SharedMap};
 use std::alloc::Global;
 use std::sync::Arc;
 
-/// Makes a shared map with so many slots, whose keys are hashed so, and so many seats, where there is none. One seat is held
-/// then, and hands out the others.
+/// Makes a shared map in so many shards, each with so many slots, whose keys are hashed so, and so many seats, where there is
+/// none. One seat is held then, and hands out the others.
 #[unsafe(no_mangle)]
 pub extern "C" fn ctrie_shared_open(
     alloc: Global,
@@ -22,14 +22,15 @@ pub extern "C" fn ctrie_shared_open(
     slots: u32,
     hash: u32,
     seats: u8,
+    shards: u8,
 ) -> u32
-    ensures { Shares (kind_of hash) slots seats result held.old.state held.new.state }
+    ensures { Shares (kind_of hash) slots shards seats result held.old.state held.new.state }
 {
     let Some(kind) = kind_by(hash) else {
         return BAD_HASH;
     };
     match take_seat(alloc, held) {
-        None => open(alloc, held, slots, kind, seats),
+        None => open(alloc, held, slots, kind, seats, shards),
         Some(seat) => {
             give_seat(held, seat);
             HAS_MAP
@@ -64,11 +65,18 @@ pub extern "C" fn ctrie_shared_free(alloc: Global, held: &mut HeldSeat)
 }
 
 /// Makes a shared map where there is none.
-fn open(alloc: Global, held: &mut HeldSeat, slots: u32, kind: HashKind, seats: u8) -> u32
+fn open(
+    alloc: Global,
+    held: &mut HeldSeat,
+    slots: u32,
+    kind: HashKind,
+    seats: u8,
+    shards: u8,
+) -> u32
     requires { held.old.state ≡ None }
-    ensures { Shares (Some kind) slots seats result None held.new.state }
+    ensures { Shares (Some kind) slots shards seats result None held.new.state }
 {
-    match SharedMap::new(alloc, slots, kind, seats) {
+    match SharedMap::new(alloc, slots, kind, seats, shards) {
         Err(error) => refusal(error),
         Ok((map, seats)) => hold(alloc, held, map, seats),
     }

@@ -1,21 +1,21 @@
-//! Calls of a seat at a shared map that change nothing. Each tries once to come in.
+//! Calls of a seat at a shared map that change nothing. Each tries once, and doesn't wait.
 
 ghost use Rattle.std.specs.Prelude.{◌≡◌, nat_eq, false, length, Ok};
 ghost use Rattle.history.specs.declared.calls.Call.TheVariants as call;
-ghost use Rattle.shared_map.specs.Beneath.ctrie_map.specs.Telling.{found_in};
+ghost use Rattle.shared_map.specs.Telling.{contained_in, counted_in, found_in, number_in};
 ghost use Rattle.shared_map.specs.declared.asks.Ask.TheVariants.{Do, Free, Handles};
-ghost use Rattle.shared_map.specs.Telling.{contained_in, counted_in, number_in};
 ghost use Rattle.ctrie_c.specs.Answers.{number_told, truth_told, value_told};
-ghost use Rattle.ctrie_c.specs.Sharing.{HearsSo, IsFront, ListsFront, Says, TellsLast, Tries};
+ghost use Rattle.ctrie_c.specs.Sharing.{HearsSo, IsFront, ListsFront, Says, TellsLast, Tries, count_of, count_told};
 
-use crate::codes::{NO_MAP, refusal, tell_count, tell_truth, tell_value};
+use crate::codes::{NO, NO_MAP, refusal, tell_count, tell_truth, tell_value};
+use crate::counts::Count;
 use crate::held_seats::{HeldSeat, give_seat, take_seat};
 use crate::listing::{Cursor, Pair, write};
 use crate::sharing::BUSY;
 use crate::trying::try_ask;
 use history::Call;
-use shared_map::Ask;
 use shared_map::telling::{contained, counted, found, listed, number};
+use shared_map::{Ask, ShardCount};
 use std::alloc::Global;
 
 /// Tells the key's value, if it has one.
@@ -134,31 +134,40 @@ fn write_front(all: &[(u64, u64)], pairs: &mut [Pair]) -> u64
     all.len() as u64
 }
 
-/// Tells how many calls the seat knows of: after a call of its own this one's number.
+/// Tells a shard, and how many calls about it the seat knows of: after a call of its own one that this was about, and its number
+/// there.
 #[unsafe(no_mangle)]
-pub extern "C" fn ctrie_shared_last(alloc: Global, held: &mut HeldSeat, calls: &mut u64) -> u32
-    ensures does { TellsLast held.old.state held.new.state result (number_told result calls.new) }
-    ensures kept { nat_eq result 0 ≡ false → calls.new ≡ calls.old }
+pub extern "C" fn ctrie_shared_last(alloc: Global, held: &mut HeldSeat, last: &mut Count) -> u32
+    ensures does { TellsLast held.old.state held.new.state result (count_told result last.new) }
+    ensures kept { nat_eq result 0 ≡ false → last.new ≡ last.old }
 {
     match take_seat(alloc, held) {
         None => NO_MAP,
         Some(seat) => {
-            let last = seat.seat.last();
+            let known = seat.seat.last();
             give_seat(held, seat);
-            tell_count(Ok(last), calls)
+            *last = Count {
+                shard: known.shard as u64,
+                calls: known.calls,
+            };
+            NO
         }
     }
 }
 
-/// Tells whether so many calls have been made. What the seat calls next stands behind all of them.
+/// Tells whether so many calls about a shard have been made. What the seat calls next stands behind all of them.
+#[tactic(auto, using(crate::proofs::Tries::heard_so))]
 #[unsafe(no_mangle)]
-pub extern "C" fn ctrie_shared_try_hear(alloc: Global, held: &mut HeldSeat, calls: u64) -> u32
-    ensures does { Tries held.old.state held.new.state result (HearsSo calls (truth_told result)) }
+pub extern "C" fn ctrie_shared_try_hear(alloc: Global, held: &mut HeldSeat, count: &Count) -> u32
+    ensures does { Tries held.old.state held.new.state result (HearsSo (count_of count.now) (truth_told result)) }
 {
     match take_seat(alloc, held) {
         None => NO_MAP,
         Some(mut seat) => {
-            let heard = seat.try_hear(calls);
+            let heard = seat.try_hear(ShardCount {
+                shard: count.shard as usize,
+                calls: count.calls,
+            });
             give_seat(held, seat);
             match heard {
                 None => BUSY,

@@ -3,12 +3,12 @@
 ghost use Rattle.std.specs.Prelude.{◌≡◌, [], IfSome, IfNone, IfOk, OnErr};
 ghost use Rattle.ctrie_c.specs.Sharing.{Asks, HasHandedOut, Hears};
 
-use shared_map::{Ask, MapSeat, SharedMap, Told};
+use shared_map::{Ask, MapSeat, ShardCount, SharedMap, Told};
 use std::alloc::{AllocError, Global};
 use std::marker::Model;
 use std::sync::Arc;
 
-/// Another seat is inside.
+/// Another seat has what was asked for.
 pub(crate) const BUSY: u32 = 14;
 
 /// No seat is left.
@@ -35,7 +35,7 @@ impl Model for SharingSeat {
 }
 
 impl SharingSeat {
-    /// Asks the map if no other seat is inside.
+    /// Asks the map if what it asks for is at home.
     pub(crate) fn try_ask(&mut self, ask: Ask) -> Option<Told>
         ensures asked { IfSome result (λ told. Asks ask told self.old self.new) }
         ensures busy { IfNone result (self.new ≡ self.old) }
@@ -43,12 +43,12 @@ impl SharingSeat {
         self.map.try_ask(&mut self.seat, ask)
     }
 
-    /// Tells whether so many calls have been made, if no other seat is inside.
-    pub(crate) fn try_hear(&mut self, calls: u64) -> Option<bool>
-        ensures heard { IfSome result (λ heard. Hears calls heard self.old self.new) }
+    /// Tells whether so many calls about a shard have been made, if the shard is at home.
+    pub(crate) fn try_hear(&mut self, count: ShardCount) -> Option<bool>
+        ensures heard { IfSome result (λ heard. Hears count heard self.old self.new) }
         ensures busy { IfNone result (self.new ≡ self.old) }
     {
-        self.map.try_hear(&mut self.seat, calls)
+        self.map.try_hear(&mut self.seat, count)
     }
 
     /// Another seat at the same map, where one is left.

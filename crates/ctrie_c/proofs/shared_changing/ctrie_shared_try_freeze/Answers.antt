@@ -1,5 +1,5 @@
 use Rattle.std.proofs.Common.{◌∙◌}
-use Rattle.shared_map.specs.Beneath.ctrie_map.specs.Telling.{opened_in}
+use Rattle.shared_map.specs.Telling.{opened_in}
 use Rattle.ctrie_c.proofs.Tries.{tried, untried}
 use Rattle.ctrie_c.proofs.shared_changing.ctrie_shared_try_freeze.Goals as goal
 

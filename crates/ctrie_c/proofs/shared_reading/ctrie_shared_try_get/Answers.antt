@@ -1,5 +1,5 @@
 use Rattle.std.proofs.Common.{◌∙◌}
-use Rattle.shared_map.specs.Beneath.ctrie_map.specs.Telling.{found_in}
+use Rattle.shared_map.specs.Telling.{found_in}
 use Rattle.ctrie_c.proofs.Tries.{tried, untried}
 use Rattle.ctrie_c.proofs.shared_reading.ctrie_shared_try_get.Goals as goal
 
