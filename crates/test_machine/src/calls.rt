@@ -70,16 +70,6 @@ fn has_slots(rt: &impl Abort, machine: &Machine, used: u32, free: u32, limbo: u3
     assert_eq!(rt; machine.limbo_len(), limbo);
 }
 
-/// Calls are completed one after the other.
-#[test]
-fn completes(rt: HostRuntime) -> Result<(), Fail> {
-    let machine = completed(&rt)?;
-    assert_eq!(rt; machine.events().len(), 12);
-    assert!(rt; machine.order()?.as_slice() == [0, 1, 2, 3, 4, 5].as_slice());
-    has_slots(&rt, &machine, 7, 57, 3);
-    Ok(())
-}
-
 /// The sweep frees what calls left in limbo.
 #[test]
 fn reclaims(rt: HostRuntime) -> Result<(), Fail> {
@@ -188,109 +178,6 @@ fn takes_steps(rt: HostRuntime) -> Result<(), Fail> {
     // A step for each kind, and three begins.
     assert_eq!(rt; machine.steps_taken(), 30);
     assert_eq!(rt; machine.steps().len(), 30);
-    Ok(())
-}
-
-/// A freeze opens a second handle, on a copy that can't be written.
-#[test]
-fn opens_a_copy(rt: HostRuntime) -> Result<(), Fail> {
-    let machine = frozen(&rt)?;
-    assert_eq!(rt; machine.handles_taken(), 2);
-    assert!(rt; machine.content(1)?.as_slice() == [(5, 50)].as_slice());
-    assert!(rt; machine.content(2).err() == Some(Refusal::NoHandle));
-    for (handle, writable) in [(0, Some(true)), (1, Some(false)), (2, None)] {
-        assert!(rt; machine.is_writable(handle) == writable, "{handle}");
-    }
-    Ok(())
-}
-
-/// Calls of actors that are denied while actor 2 runs on a map that was frozen once.
-const DENIED: [(u8, Call, Refusal); 6] = [
-    (3, GET, Refusal::NoActor),
-    (2, GET, Refusal::ActorBusy),
-    (1, Call::Get { handle: 2, key: 5 }, Refusal::NoHandle),
-    (1, Call::Remove { handle: 1, key: 5 }, Refusal::ReadOnly),
-    (1, Call::Count { handle: 0 }, Refusal::NotReadOnly),
-    (1, Call::Close { handle: 0 }, Refusal::Busy),
-];
-
-/// A machine with one copy, on which actor 2 has begun a get.
-fn busy(alloc: Global) -> Result<Machine, Refusal> {
-    let mut machine = Machine::new(alloc, LIMITS)?;
-    machine.complete(1, FREEZE)?;
-    machine.apply(Step::Begin {
-        actor: 2,
-        call: GET,
-    })?;
-    Ok(machine)
-}
-
-/// The call is denied so, whether it is asked for or made.
-fn is_denied(rt: &impl Abort, machine: &mut Machine, actor: u8, call: Call, refusal: Refusal) {
-    let denial = machine.denial(Step::Begin { actor, call });
-    assert!(rt; denial == Some(refusal), "{refusal}");
-    let made = machine.complete(actor, call).err();
-    assert!(rt; made == Some(refusal), "{refusal}");
-}
-
-/// What can't go on while actor 2 runs.
-fn cannot_go_on(rt: &impl Abort, machine: &mut Machine) {
-    assert!(rt; machine.resume(1).err() == Some(Refusal::Idle));
-    assert!(rt; machine.resume(0).err() == Some(Refusal::NoActor));
-    assert!(rt; machine.reclaim().err() == Some(Refusal::Busy));
-}
-
-/// A step of the actor that runs isn't denied, nor is the sweep's.
-fn can_go_on(rt: &impl Abort, machine: &Machine) {
-    assert!(rt; machine.denial(Step::Go { actor: 2 }) == None);
-    assert!(rt; machine.denial(Step::Sweep) == None);
-}
-
-/// What is denied changes nothing.
-#[test]
-fn denies(rt: HostRuntime) -> Result<(), Fail> {
-    let mut machine = busy(rt.alloc())?;
-    let taken = machine.steps_taken();
-    for (actor, call, refusal) in &DENIED {
-        is_denied(&rt, &mut machine, *actor, *call, *refusal);
-    }
-    cannot_go_on(&rt, &mut machine);
-    assert_eq!(rt; machine.steps_taken(), taken);
-    can_go_on(&rt, &machine);
-    let reply = machine.resume(2)?;
-    is_told(&rt, &reply, "Some(Found(None))")
-}
-
-/// A machine has 2 slots or more, and no more than 65,536.
-#[test]
-fn refuses_limits(rt: HostRuntime) {
-    for slots in [1, 65_537] {
-        let limits = Limits { slots, ..LIMITS };
-        assert!(rt; Machine::new(rt.alloc(), limits).err() == Some(Refusal::BadLimits));
-    }
-}
-
-/// An operation holds the epoch at one more than it recorded.
-#[test]
-fn sweeps(rt: HostRuntime) -> Result<(), Fail> {
-    let mut machine = Machine::new(rt.alloc(), LIMITS)?;
-    machine.apply(Step::Begin {
-        actor: 2,
-        call: GET,
-    })?;
-    let wanted = [
-        "Swept(Scanned { passed: true })",
-        "Swept(Scanned { passed: true })",
-        "Swept(Advanced(1))",
-        "Swept(Scanned { passed: true })",
-        "Swept(Scanned { passed: false })",
-        "Swept(Scanned { passed: false })",
-    ];
-    for outcome in &wanted {
-        let swept = machine.apply(Step::Sweep)?;
-        is_told(&rt, &swept, outcome)?;
-    }
-    assert_eq!(rt; machine.epoch(), 1);
     Ok(())
 }
 

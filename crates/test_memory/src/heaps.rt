@@ -4,9 +4,8 @@ ghost use Rattle.std.specs.Prelude.{◌≡◌, ◌≤◌, ◌∷◌, length};
 ghost use Rattle.slot_arena.specs.Heaps.{refs_of_node};
 ghost use Rattle.slot_arena.specs.Arenas.{AreLive, IsLive};
 
-use ctrie_base::Refusal;
 use epochs::{Heap, Swept};
-use slot_arena::{Node, NodeRef, Prev, Ref};
+use slot_arena::{Node, Ref};
 use std::process::Abort;
 use std::test::Fail;
 
@@ -133,56 +132,6 @@ fn counts_references(rt: HostRuntime) -> Result<(), Fail> {
     assert_eq!(rt; heap.count(above), 1);
     assert_eq!(rt; heap.used(), 3);
     Ok(())
-}
-
-#[test]
-fn swaps_words(rt: HostRuntime) -> Result<(), Fail> {
-    let mut heap = Heap::new(rt.alloc(), 4, 1)?;
-    let (tomb, above) = tomb_and_above(&rt, &mut heap);
-    assert!(rt; matches!(heap.look(above), NodeRef::Indirection { generation: 7, .. }));
-    assert!(rt; heap.main(above) == tomb, "as it was made");
-    assert!(rt; heap.swap_main(above, tomb, above), "it was the tomb");
-    Ok(())
-}
-
-#[test]
-fn swaps_prev_words(rt: HostRuntime) -> Result<(), Fail> {
-    let mut heap = Heap::new(rt.alloc(), 4, 1)?;
-    let (tomb, above) = tomb_and_above(&rt, &mut heap);
-    assert!(rt; matches!(heap.look(tomb), NodeRef::Tomb { .. }));
-    assert!(rt; heap.prev(tomb) == Prev::None, "decided");
-    assert!(rt;
-        heap.swap_prev(tomb, Prev::None, Prev::Failed(above)),
-        "it was none"
-    );
-    assert!(rt; heap.stored_prev(tomb) == Prev::Failed(above), "failed");
-    Ok(())
-}
-
-#[test]
-fn publishes_main_nodes(rt: HostRuntime) -> Result<(), Fail> {
-    let mut heap = Heap::new(rt.alloc(), 4, 1)?;
-    let (tomb, above) = tomb_and_above(&rt, &mut heap);
-    assert!(rt; matches!(heap.look(above), NodeRef::Indirection { generation: 7, .. }));
-    assert!(rt; heap.publish(above, tomb, tomb), "it was the tomb");
-    assert!(rt; heap.stored_prev(tomb) == Prev::Pending(tomb), "pending");
-    assert!(rt;
-        matches!(heap.stored_node(tomb), Some(NodeRef::Tomb { .. })),
-        "the node is as before"
-    );
-    Ok(())
-}
-
-#[test]
-fn refuses_sizes(rt: HostRuntime) {
-    assert!(rt;
-        matches!(Heap::new(rt.alloc(), 1, 1), Err(Refusal::BadLimits)),
-        "one slot"
-    );
-    assert!(rt;
-        matches!(Heap::new(rt.alloc(), 2, 65), Err(Refusal::BadLimits)),
-        "too many actors"
-    );
 }
 
 fn crosses_threads<T: Send + Sync>(_value: &T) {}

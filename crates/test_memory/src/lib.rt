@@ -1,12 +1,7 @@
-//! Tests of the memory's crates, `slot_arena`, `epochs`, `nodes` and `places`, through what they offer: what
-//! no clause of theirs says.
+//! Tests of the heap and of the order of places, against numbers worked by hand.
 #![tactic(auto)]
 
-#[cfg(test)]
-mod branches;
 #[cfg(test)]
 mod heaps;
 #[cfg(test)]
 mod orders;
-#[cfg(test)]
-mod parts;

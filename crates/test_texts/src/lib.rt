@@ -1,24 +1,12 @@
-//! Tests of `ctrie_base`, `history`, `counted_io` and the crates of texts, through what they offer: rows written by
-//! hand.
+//! Tests of `ctrie_base`, `history`, `counted_io` and the crates of pictures, through what they offer. What the program writes and
+//! tells of texts is compared by `tests/texts`.
 #![tactic(auto)]
 
 #[cfg(test)]
-mod histories;
-#[cfg(test)]
-mod lines;
-#[cfg(test)]
-mod orders;
+mod laws;
 #[cfg(test)]
 mod pictures;
-#[cfg(test)]
-mod replies;
-#[cfg(test)]
-mod scenes;
-#[cfg(test)]
-mod scripts;
 #[cfg(test)]
 mod streams;
 #[cfg(test)]
 mod words;
-#[cfg(test)]
-mod worlds;

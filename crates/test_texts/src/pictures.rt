@@ -1,7 +1,7 @@
 //! Tests of pictures as SVG.
 
 use history_scene::{Bar, Colour, Scene};
-use scene_svg::{SceneSvg, is_harmless};
+use scene_svg::SceneSvg;
 use std::alloc::Global;
 use std::test::Fail;
 
@@ -48,9 +48,4 @@ fn escapes_and_cuts_texts(rt: HostRuntime) -> Result<(), Fail> {
     assert!(rt; svg.contains(">Not legal: x &gt; y?</text>"));
     assert!(rt; svg.ends_with("</svg>\n"));
     Ok(())
-}
-
-#[test]
-fn the_law(_rt: HostRuntime) {
-    is_harmless();
 }

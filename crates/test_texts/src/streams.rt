@@ -1,9 +1,9 @@
-//! Reading and writing all of a text, with readers and writers that fail, and the texts of failures.
+//! Reading and writing of a whole text with readers and writers that fail, and the texts of failures.
 
 mod fakes;
 
 use counted_io::{Counted, Failure, read_all, write_all};
-use fakes::{FailsAt, NEVER, Sink, Source};
+use fakes::{FailsAt, Sink, Source};
 use std::alloc::AllocError;
 use std::io::{ErrorKind, Read, Write};
 use std::test::Fail;
@@ -12,21 +12,6 @@ use std::test::Fail;
 const TEXT: &str = "hash low\nbegin 0 1 put 0 1 10\nend 0 none\norder 0\n";
 
 const LINE: &str = "legal\n";
-
-/// In one piece and byte by byte, from one reader behind another.
-#[test]
-fn reads_all(rt: HostRuntime) -> Result<(), Fail> {
-    for most in [1, 8192] {
-        let first = Source::new(TEXT.as_bytes(), most, NEVER);
-        let second = Source::new(LINE.as_bytes(), most, NEVER);
-        let mut input = Counted::new(first.chain(second));
-        let text = read_all(rt.alloc(), &mut input).map_err(|_| "failure")?;
-        assert!(rt; text.starts_with(TEXT.as_bytes()) && text.ends_with(LINE.as_bytes()));
-        assert_eq!(rt; text.len(), 55);
-        assert_eq!(rt; input.failed(), 0);
-    }
-    Ok(())
-}
 
 /// The reader fails at each of its calls in turn, the last at the end; an interrupted call is made again.
 #[test]
@@ -41,20 +26,6 @@ fn tells_read_failures(rt: HostRuntime) {
             let found = read_all(rt.alloc(), &mut input);
             assert_eq!(rt; found.map(|text| text.len()), length, "call {call}");
             assert_eq!(rt; input.failed(), 1);
-        }
-    }
-}
-
-/// In one piece and byte by byte; nothing is written of an empty text.
-#[test]
-fn writes_all(rt: HostRuntime) {
-    for most in [1, 8192] {
-        for text in [LINE, ""] {
-            let mut sink = Sink::new(Vec::new(rt.alloc()), most, NEVER, false);
-            let mut output = Counted::new(&mut sink);
-            assert_eq!(rt; write_all(&mut output, text.as_bytes()), Ok(()));
-            assert_eq!(rt; output.failed(), 0);
-            assert!(rt; sink.taken.as_slice() == text.as_bytes());
         }
     }
 }

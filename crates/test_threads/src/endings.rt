@@ -4,12 +4,10 @@ ghost use Rattle.std.specs.Prelude.{◌≡◌, IfOk};
 ghost use Rattle.lock_runner.specs.Seats.{IsSeatOf, AreSeatsOf};
 
 use crate::records::is_right;
-use crate::support::{get, limits, perform, put, two_seats};
-use ctrie_base::Refusal;
+use crate::support::{perform, put, two_seats};
 use lock_runner::{Runner, Seat, Unfinished};
 use std::alloc::{AllocError, AllocGlobal};
 use std::process::Abort;
-use std::sync::Wait;
 use std::test::Fail;
 
 /// The runner and the one seat, with which alone it can't be finished.
@@ -42,39 +40,5 @@ fn finishes_with_all_seats_alone(rt: HostRuntime) -> Result<(), Fail> {
     };
     assert_eq!(rt; record.events.len(), 2);
     assert!(rt; is_right(rt.alloc(), &record)?);
-    Ok(())
-}
-
-/// The number of seats is 1 to the number of actors.
-#[test]
-fn refuses_numbers_of_seats(rt: HostRuntime) -> Result<(), Fail> {
-    for (slots, seats) in [(64, 0), (64, 3), (1, 2)] {
-        let refusal = Runner::new(rt.alloc(), limits(slots, 2), seats).err();
-        assert!(rt; refusal == Some(Refusal::BadLimits));
-    }
-    let (runner, seats) = Runner::new(rt.alloc(), limits(64, 2), 1)?;
-    assert_eq!(rt; seats.len(), 1);
-    assert!(rt; runner.finish(seats).is_ok());
-    Ok(())
-}
-
-/// The seat takes a step of the sweep.
-fn sweep(rt: &(impl Abort + Wait), runner: &Runner, seat: &mut Seat)
-    requires { IsSeatOf runner.now seat.old }
-    ensures { IsSeatOf runner.now seat.new }
-{
-    assert!(rt; runner.sweep(rt, seat).is_ok());
-}
-
-/// A seat's own steps of the sweep are counted, and no other's.
-#[test]
-fn counts_sweeps(rt: HostRuntime) -> Result<(), Fail> {
-    let (runner, mut one, mut two) = two_seats(rt.alloc())?;
-    perform(&rt, &runner, &mut one, put(5, 50));
-    perform(&rt, &runner, &mut two, get(5));
-    sweep(&rt, &runner, &mut two);
-    sweep(&rt, &runner, &mut two);
-    assert_eq!(rt; (one.sweeps(), one.answers().len()), (0, 1));
-    assert_eq!(rt; (two.sweeps(), two.answers().len()), (2, 1));
     Ok(())
 }

@@ -3,18 +3,12 @@
 use std::io;
 use std::io::{ErrorKind, Read, Write};
 
-/// Which call fails, counted from 1, and how; 0 for none.
+/// Which call fails, counted from 1, and how.
 #[derive(Clone, Copy)]
 pub struct FailsAt {
     pub call: u64,
     pub kind: ErrorKind,
 }
-
-/// No call fails.
-pub const NEVER: FailsAt = FailsAt {
-    call: 0,
-    kind: ErrorKind::Other,
-};
 
 /// A reader that gives so many bytes a call, and fails at one call.
 #[derive(Drop)]
