@@ -100,6 +100,7 @@ pub fn swap_changed(
 }
 
 /// Puts a node that was made in the place of an indirection's main node, pending over it, and gives up what was held.
+#[inline(always)]
 fn publish(heap: &mut Heap, indirection: Ref, main: Ref, fresh: Ref, made: &[Ref])
     requires live { IsLive heap.old.heap indirection }
     requires kind { is_indirection (node_at heap.old.heap indirection) ≡ true }

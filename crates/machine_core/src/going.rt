@@ -78,7 +78,7 @@ fn published(parts: &Parts, actor: u8) -> Option<Publication>
 }
 
 /// Lets the actor's programs take the step.
-#[inline(never)]
+#[inline(always)]
 fn step(parts: &mut Parts, actor: u8) -> Taken
     requires core { IsCore parts.old }
     requires allowed { go_denial (seen parts.old) actor ≡ None }

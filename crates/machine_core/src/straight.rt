@@ -210,6 +210,7 @@ fn clear_root(parts: &Parts, call: Call) -> Option<Ref>
 }
 
 /// Puts it.
+#[inline(always)]
 fn put(parts: &mut Parts, _actor: u8, call: Call, _root: Ref, place: Place) -> Reply
     requires fit { IsFit parts.old _actor call _root 0 }
     requires keyed { IsKeyed call }

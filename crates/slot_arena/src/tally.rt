@@ -88,7 +88,7 @@ impl Tally {
     }
 
     /// Lists a slot among the noted ones.
-    #[inline(never)]
+    #[inline(always)]
     fn enlist(&mut self, slot: u32)
         requires { slot < length self.old.counts }
         ensures counts { self.new.counts ≡ self.old.counts }

@@ -29,6 +29,7 @@ pub fn take(body: &mut Core, kept: &mut Chronicle, step: Step) -> Result<Outcome
 
 /// Begins an operation.
 #[tactic(auto, using(crate::proofs::Feeding::feeds))]
+#[inline(always)]
 fn begin(body: &mut Core, kept: &mut Chronicle, actor: u8, call: Call) -> Result<Outcome, Refusal>
     requires fits { CanTell body.old.state kept.old }
     requires room { 0 < kept.old.room }
