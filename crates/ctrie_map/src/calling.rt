@@ -15,6 +15,7 @@ use history::{Call, Pairs, Reply};
 impl Map {
     /// Any call, for what keeps calls and replies as values. A change for which no slot was free has the reply `NoSlots`;
     /// `telling` has what the call's own method tells of a reply.
+    #[inline(always)]
     pub fn call(&mut self, call: Call) -> Result<Reply, MapError>
         ensures calls { Calls result self.old call self.new }
         ensures work { WorksUpTo (work_of_call call) self.old self.new }
