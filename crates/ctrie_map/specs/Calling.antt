@@ -19,5 +19,5 @@ IsRead read told = (told ≡ read) ⊎ ((told ≡ Err Memory) × IsOk read)
 abbrev pub Calls : Result Reply MapError → MapState → Call → MapState → Type 0
 Calls told before (Get h k) after = (after ≡ before) × (told ≡ reading before h (λ m. reply.Found (map.get m k)))
 Calls told before (Entries h) after = (after ≡ before) × IsRead (reading before h (λ m. reply.Pairs (map.entries m))) told
-Calls told before (Count h) after = (after ≡ before) × IsRead (reading before h (λ m. reply.Count (map.len m))) told
+Calls told before (Count h) after = (after ≡ before) × (told ≡ reading before h (λ m. reply.Count (map.len m)))
 Calls told before change after = Performs told before change after

@@ -45,9 +45,9 @@ impl Map {
     }
 
     /// The reply to a count.
-    #[tactic(auto, using(crate::proofs::Lookups::mapped, crate::proofs::Lookups::read_refused))]
+    #[tactic(auto, using(crate::proofs::Lookups::mapped, crate::proofs::Lookups::refused))]
     fn count_reply(&self, handle: u16) -> Result<Reply, MapError>
-        ensures { IsRead (reading self.now handle (λ m. reply.Count (map.len m))) result }
+        ensures { result ≡ reading self.now handle (λ m. reply.Count (map.len m)) }
     {
         Ok(Reply::Count(self.count(Handle::new(handle))?))
     }
