@@ -64,7 +64,7 @@ impl Map {
     }
 
     /// A call from its begin to its end.
-#[inline(always)]
+    #[inline(always)]
     pub(crate) fn perform(&mut self, call: Call) -> Result<Reply, MapError>
         requires { IsChange call }
         ensures performs { Performs result self.old call self.new }

@@ -305,7 +305,7 @@ impl Heap {
 
     /// A step of the sweep, where all is settled. What it frees leaves limbo at once, and came into it in an
     /// older epoch than any that an actor has recorded; what is referred to stays.
-#[inline(always)]
+    #[inline(always)]
     pub fn sweep(&mut self) -> Swept
         requires settled { self.old.noted ≡ [] }
         requires room { self.old.epoch < 2 ^ 48 }

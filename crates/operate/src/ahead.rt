@@ -39,7 +39,7 @@ impl KeyOp {
 
     /// The main node that its next step is to swap in, if it is such a step, for the operation with this id. It is the operation's
     /// change of its key, or where it repairs the change of none.
-#[inline(always)]
+    #[inline(always)]
     pub fn published(&self, id: u64) -> Option<Publication>
         ensures { (root_seen : Option ℕ) (operation : Operation) → result
             ≡ published_by (record operation { id = id; access = self.now.work.swap.read.access; generation = self.now.task.generation }) (key_line self.now root_seen) }

@@ -245,7 +245,7 @@ impl Arena {
 
     /// Where the main word of an indirection is `from`, it becomes `to`, whose `prev` word becomes pending
     /// over `from`. Tells whether it was.
-#[inline(always)]
+    #[inline(always)]
     pub fn publish(&mut self, at: Ref, from: Ref, to: Ref) -> bool
         requires live { IsLive self.old.heap at }
         requires kind { is_indirection (node_at self.old.heap at) ≡ true }
