@@ -13,7 +13,7 @@ const PAUSES: u32 = 1_024;
 /// How long it sleeps then, in microseconds: who is inside may have lost the processor to it.
 const NAP: u64 = 20;
 
-/// How many pauses a seat makes in the midst of something, since others wait for it.
+/// How many pauses a seat makes that tries often.
 const SHORT_PAUSES: u32 = 16;
 
 /// How often it does, before it waits as long as the others.
@@ -26,10 +26,10 @@ pub struct Waiting {
 }
 
 impl Waiting {
-    /// A seat in the midst of something waits less long between two tries.
-    pub fn new(is_midway: bool) -> Waiting {
+    /// A seat that tries often, since others wait for it or it won't wait for long, pauses less between two tries.
+    pub fn new(tries_often: bool) -> Waiting {
         Waiting {
-            short_waits: if is_midway { SHORT_WAITS } else { 0 },
+            short_waits: if tries_often { SHORT_WAITS } else { 0 },
         }
     }
 
@@ -64,7 +64,7 @@ fn sleep<R: Wait, S, V, K, P: TableRule<S, V, K>>(rt: &R, shared: &Shared<S, V, 
     }
 }
 
-/// The pauses of a seat in the midst of something.
+/// The pauses of a seat that tries often.
 pub fn short_pause() {
     pause(SHORT_PAUSES);
 }

@@ -23,7 +23,7 @@ impl<O: Sharded<C, A> + Drop, C: Copy, A: Drop> ShardedGate<O, C, A> {
         ensures called { IsCalled O.answers seat.old.seat call result seat.new.seat }
         ensures about { IsTrue (is_about (O.about (length self.now.first) call) seat.new.shard) }
     {
-        let mut waiting = Waiting::new(O::is_midway(&call));
+        let mut waiting = self.waiting();
         for _ in rt.forever() {
             if let Some(answer) = self.try_call(seat, call) {
                 return answer;
@@ -94,6 +94,11 @@ impl<O: Sharded<C, A> + Drop, C: Copy, A: Drop> ShardedGate<O, C, A> {
         Some(answer)
     }
 
+    /// What waits for a shard of several is soon in, since others are called meanwhile: it tries often.
+    fn waiting(&self) -> Waiting {
+        Waiting::new(self.shards > 1)
+    }
+
     /// Waits a while for the shard, or for the one that is taken first where it is about all.
     #[cold]
     fn wait<R: Wait>(&self, rt: &R, waiting: &mut Waiting, about: Option<usize>)
@@ -135,7 +140,7 @@ impl<O: Sharded<C, A> + Drop, C: Copy, A: Drop> ShardedGate<O, C, A> {
         ensures heard { HasHeard O.answers seat.old.seat seat.new.seat }
         ensures told { count.shard < length self.now.first → IsTrue result ↔ count.calls ≤ length (calls_about (O.about (length self.now.first)) count.shard seat.new.seat.seen.log) }
     {
-        let mut waiting = Waiting::new(false);
+        let mut waiting = self.waiting();
         for _ in rt.forever() {
             if let Some(heard) = self.try_hear(seat, count) {
                 return heard;

@@ -51,12 +51,6 @@ pub trait Sharded<C, A> {
         ensures about { result ≡ about shards call.now }
         ensures within { IfSome result (λ shard. shard < shards) };
 
-    /// Whether a seat with this call is in the midst of something on which others wait. It waits less long between
-    /// two tries to come in.
-    fn is_midway(_call: &C) -> bool {
-        false
-    }
-
     /// Performs the call of the seat of this number, which is about this shard alone.
     fn perform(&mut self, seat: u8, call: C) -> A
         ensures { AnswersAlone answers about seat self.old call result self.new };
