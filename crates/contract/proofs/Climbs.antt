@@ -1,9 +1,9 @@
 -- What a climb comes to by the look at a branch.
 use Rattle.std.specs.Prelude.{◌≡◌, Bool, true, false, refl}
-use Rattle.slot_arena.specs.declared.refs.Ref.{Ref}
-use Rattle.slot_arena.specs.declared.nodes.Node.{Node}
-use Rattle.slot_arena.specs.declared.nodes.Node.TheVariants.{Indirection, Branch, Single, Tomb, List as Listed}
-use Rattle.slot_arena.specs.Heaps.{bitmap_of, entries_of}
+use Rattle.contract.specs.Beneath.slot_arena.specs.declared.refs.Ref.{Ref}
+use Rattle.contract.specs.Beneath.slot_arena.specs.declared.nodes.Node.{Node}
+use Rattle.contract.specs.Beneath.slot_arena.specs.declared.nodes.Node.TheVariants.{Indirection, Branch, Single, Tomb, List as Listed}
+use Rattle.contract.specs.Beneath.slot_arena.specs.Heaps.{bitmap_of, entries_of}
 use Rattle.contract.specs.Beneath.machine_model.specs.declared.lines.Line.TheVariants as line
 use Rattle.contract.specs.Beneath.machine_model.specs.declared.operations.Operation.{Operation}
 use Rattle.contract.specs.Beneath.machine_model.specs.declared.repairs.Climb.{Climb}

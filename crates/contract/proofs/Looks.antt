@@ -1,10 +1,10 @@
 -- What a cleaning comes to by a look.
 use Rattle.std.specs.Prelude.{◌≡◌, List, ◌∷◌, [], ◌++◌, None, refl}
 use Rattle.std.proofs.Common.{◌∙◌, sym}
-use Rattle.ctrie_base.specs.declared.kinds.Kind.TheVariants as kind
-use Rattle.slot_arena.specs.declared.refs.Ref.{Ref}
-use Rattle.slot_arena.specs.declared.nodes.Node.TheVariants.{Single}
-use Rattle.slot_arena.specs.Heaps.{node_at}
+use Rattle.contract.specs.Beneath.ctrie_base.specs.declared.kinds.Kind.TheVariants as kind
+use Rattle.contract.specs.Beneath.slot_arena.specs.declared.refs.Ref.{Ref}
+use Rattle.contract.specs.Beneath.slot_arena.specs.declared.nodes.Node.TheVariants.{Single}
+use Rattle.contract.specs.Beneath.slot_arena.specs.Heaps.{node_at}
 use Rattle.contract.specs.Beneath.machine_model.specs.declared.lines.Line.{Line}
 use Rattle.contract.specs.Beneath.machine_model.specs.declared.operations.Operation.{Operation}
 use Rattle.contract.specs.Beneath.machine_model.specs.Cleaning.{clean_next, clean_after_entry}

@@ -1,14 +1,14 @@
 -- What a climb makes depends on nothing of the state but heap and hashes, and on nothing of the operation but its task.
 use Rattle.std.specs.Prelude.{◌≡◌, slice_set}
 use Rattle.std.proofs.Common.{ap}
-use Rattle.ctrie_base.specs.Hashes.{hash_of}
-use Rattle.ctrie_base.specs.Paths.{position_of}
+use Rattle.contract.specs.Beneath.ctrie_base.specs.Hashes.{hash_of}
+use Rattle.contract.specs.Beneath.ctrie_base.specs.Paths.{position_of}
 use Rattle.contract.specs.Beneath.history.specs.declared.calls.Access.{Access}
 use Rattle.contract.specs.Beneath.history.specs.declared.calls.Access.TheVariants.{Writable}
-use Rattle.slot_arena.specs.declared.refs.Ref.{Ref}
-use Rattle.slot_arena.specs.Heaps.{Heap, node_at, bitmap_of, entries_of}
-use Rattle.nodes.specs.Builders.{contracted}
-use Rattle.nodes.specs.Levels.{flag_of}
+use Rattle.contract.specs.Beneath.slot_arena.specs.declared.refs.Ref.{Ref}
+use Rattle.contract.specs.Beneath.slot_arena.specs.Heaps.{Heap, node_at, bitmap_of, entries_of}
+use Rattle.contract.specs.Beneath.nodes.specs.Builders.{contracted}
+use Rattle.contract.specs.Beneath.nodes.specs.Levels.{flag_of}
 use Rattle.contract.specs.Beneath.machine_model.specs.declared.operations.Operation.{Operation}
 use Rattle.contract.specs.Beneath.machine_model.specs.declared.repairs.Climb.{Climb}
 use Rattle.contract.specs.Beneath.machine_model.specs.Calls.{handle_of}

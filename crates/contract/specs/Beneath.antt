@@ -2,3 +2,8 @@
 pub use Rattle.trie_parts.specs.Beneath.gcas as gcas
 pub use Rattle.trie_parts.specs.Beneath.machine_model as machine_model
 pub use Rattle.trie_parts.specs.Beneath.history as history
+pub use Rattle.trie_parts.specs.Beneath.ctrie_base as ctrie_base
+pub use Rattle.trie_parts.specs.Beneath.slot_arena as slot_arena
+pub use Rattle.trie_parts.specs.Beneath.nodes as nodes
+pub use Rattle.trie_parts.specs.Beneath.epochs as epochs
+pub use Rattle.trie_parts as trie_parts

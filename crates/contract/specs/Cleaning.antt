@@ -1,16 +1,16 @@
 -- A CLEAN of the code as the definition's, and what a step of it comes to.
 use Rattle.std.specs.Prelude.{◌≡◌, ◌<◌, ℕ, List, length, Option}
-use Rattle.ctrie_base.specs.declared.kinds.Kind.TheVariants as kind
+use Rattle.contract.specs.Beneath.ctrie_base.specs.declared.kinds.Kind.TheVariants as kind
 use Rattle.contract.specs.Beneath.history.specs.declared.replies.Reply.TheVariants as reply
-use Rattle.slot_arena.specs.declared.refs.Ref.{Ref}
-use Rattle.slot_arena.specs.Heaps.{Heap}
+use Rattle.contract.specs.Beneath.slot_arena.specs.declared.refs.Ref.{Ref}
+use Rattle.contract.specs.Beneath.slot_arena.specs.Heaps.{Heap}
 use Rattle.contract.specs.Beneath.machine_model.specs.declared.lines.Line.{Line}
 use Rattle.contract.specs.Beneath.machine_model.specs.declared.lines.Line.TheVariants as line
 use Rattle.contract.specs.Beneath.machine_model.specs.declared.lines.Purpose.TheVariants as purpose
 use Rattle.contract.specs.Beneath.machine_model.specs.declared.repairs.CleanLine.TheVariants as clean
 use Rattle.contract.specs.Beneath.machine_model.specs.Cleaning.{cleaned}
 use Rattle.contract.specs.Beneath.machine_model.specs.Lines.{new_try, impossible}
-use Rattle.ctrie_base.specs.declared.hashes.HashKind.TheVariants.{Low}
+use Rattle.contract.specs.Beneath.ctrie_base.specs.declared.hashes.HashKind.TheVariants.{Low}
 use Rattle.contract.specs.Beneath.gcas.specs.declared.next.Next.{Next}
 use Rattle.contract.specs.Beneath.gcas.specs.declared.next.Next.TheVariants.{More, AskRoot, Done}
 use Rattle.contract.specs.Beneath.gcas.specs.declared.swap.Swap.{Swap}

@@ -1,9 +1,9 @@
 -- A CLIMB of the code as the definition's, and what a step of it comes to.
 use Rattle.std.specs.Prelude.{ℕ, List, Option}
-use Rattle.slot_arena.specs.declared.refs.Ref.{Ref}
-use Rattle.slot_arena.specs.declared.nodes.Node.{Node}
-use Rattle.slot_arena.specs.declared.nodes.Node.TheVariants.{Branch}
-use Rattle.slot_arena.specs.Heaps.{Heap}
+use Rattle.contract.specs.Beneath.slot_arena.specs.declared.refs.Ref.{Ref}
+use Rattle.contract.specs.Beneath.slot_arena.specs.declared.nodes.Node.{Node}
+use Rattle.contract.specs.Beneath.slot_arena.specs.declared.nodes.Node.TheVariants.{Branch}
+use Rattle.contract.specs.Beneath.slot_arena.specs.Heaps.{Heap}
 use Rattle.contract.specs.Beneath.history.specs.declared.calls.Access.TheVariants.{Writable}
 use Rattle.contract.specs.Beneath.machine_model.specs.declared.lines.Line.{Line}
 use Rattle.contract.specs.Beneath.machine_model.specs.declared.lines.Line.TheVariants as line

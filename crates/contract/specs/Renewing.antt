@@ -1,10 +1,10 @@
 -- A RENEW of the code as the definition's, and what a step of it comes to.
 use Rattle.std.specs.Prelude.{ℕ, ◌<◌, nat_lt, List, length, Option, if◌then◌else◌}
 use Rattle.contract.specs.Beneath.history.specs.declared.replies.Reply.TheVariants as reply
-use Rattle.slot_arena.specs.declared.refs.Ref.{Ref}
-use Rattle.slot_arena.specs.declared.nodes.Node.TheVariants.{Indirection}
-use Rattle.slot_arena.specs.Heaps.{Heap, bitmap_of, node_at}
-use Rattle.nodes.specs.Builders.{renewed}
+use Rattle.contract.specs.Beneath.slot_arena.specs.declared.refs.Ref.{Ref}
+use Rattle.contract.specs.Beneath.slot_arena.specs.declared.nodes.Node.TheVariants.{Indirection}
+use Rattle.contract.specs.Beneath.slot_arena.specs.Heaps.{Heap, bitmap_of, node_at}
+use Rattle.contract.specs.Beneath.nodes.specs.Builders.{renewed}
 use Rattle.contract.specs.Beneath.machine_model.specs.declared.finding.KeyLine.TheVariants as key
 use Rattle.contract.specs.Beneath.machine_model.specs.declared.lines.Line.{Line}
 use Rattle.contract.specs.Beneath.machine_model.specs.declared.lines.Line.TheVariants as line

@@ -1,10 +1,10 @@
 //! CLEAN: below an indirection tombs give way to their singles.
 
 ghost use Rattle.std.specs.Prelude.{◌≡◌, [], ◌∷◌, ◌++◌, ◌<◌, ℕ, List, length, Option, None, is_some};
-ghost use Rattle.ctrie_base.specs.declared.hashes.HashKind.{HashKind};
-ghost use Rattle.ctrie_base.specs.declared.hashes.HashKind.TheVariants.{Low};
-ghost use Rattle.slot_arena.specs.Heaps.{node_at};
-ghost use Rattle.slot_arena.specs.declared.refs.Ref.{Ref as ARef};
+ghost use Rattle.contract.specs.Beneath.ctrie_base.specs.declared.hashes.HashKind.{HashKind};
+ghost use Rattle.contract.specs.Beneath.ctrie_base.specs.declared.hashes.HashKind.TheVariants.{Low};
+ghost use Rattle.contract.specs.Beneath.slot_arena.specs.Heaps.{node_at};
+ghost use Rattle.contract.specs.Beneath.slot_arena.specs.declared.refs.Ref.{Ref as ARef};
 ghost use Rattle.contract.specs.Beneath.machine_model.specs.Cleaning.{clean_next, clean_after_tomb, leaves_single, cleaned};
 ghost use Rattle.contract.specs.Beneath.machine_model.specs.Operations.{kind_of, line_action, read_of as reading_of};
 ghost use Rattle.contract.specs.Beneath.machine_model.specs.Reading.{reading};
@@ -25,12 +25,9 @@ ghost use Rattle.trie_parts.specs.Tasks.{for_task};
 ghost use Rattle.trie_parts.specs.declared.calls.Task.{Task as ATask};
 ghost use Rattle.contract.specs.Cleaning.{clean_line, line_behind, CanClean, CanCleanAt, GoesOn};
 
-use ctrie_base::Kind;
-use epochs::Heap;
-use slot_arena::{Node, NodeRef, Ref};
 use trie_parts::{
-    Entries, Next, Publication, Swap, Task, Work, bitmap_at, contracted, current, entries_at,
-    entry_at, is_below_root, is_single_at, node_at,
+    Entries, Heap, Kind, Next, Node, NodeRef, Publication, Ref, Swap, Task, Work, bitmap_at,
+    contracted, current, entries_at, entry_at, is_below_root, is_single_at, node_at,
 };
 
 /// Where a cleaning stands.

@@ -3,11 +3,11 @@
 ghost use Rattle.std.specs.Prelude.{◌≡◌, ℕ, List, Option, None, is_some};
 ghost use Rattle.contract.specs.Beneath.history.specs.declared.calls.Access.TheVariants.{Writable};
 ghost use Rattle.contract.specs.Beneath.history.specs.declared.calls.Access.{Access};
-ghost use Rattle.slot_arena.specs.declared.refs.Ref.{Ref as ARef};
-ghost use Rattle.slot_arena.specs.Heaps.{node_at, bitmap_of, entries_of};
-ghost use Rattle.ctrie_base.specs.Hashes.{hash_of};
-ghost use Rattle.ctrie_base.specs.Paths.{position_of};
-ghost use Rattle.nodes.specs.Levels.{flag_of};
+ghost use Rattle.contract.specs.Beneath.slot_arena.specs.declared.refs.Ref.{Ref as ARef};
+ghost use Rattle.contract.specs.Beneath.slot_arena.specs.Heaps.{node_at, bitmap_of, entries_of};
+ghost use Rattle.contract.specs.Beneath.ctrie_base.specs.Hashes.{hash_of};
+ghost use Rattle.contract.specs.Beneath.ctrie_base.specs.Paths.{position_of};
+ghost use Rattle.contract.specs.Beneath.nodes.specs.Levels.{flag_of};
 ghost use Rattle.contract.specs.Beneath.machine_model.specs.Calls.{key_of};
 ghost use Rattle.contract.specs.Beneath.machine_model.specs.Climbing.{climbed_node, holds_it};
 ghost use Rattle.contract.specs.Beneath.machine_model.specs.Operations.{climbed_on, kind_of, line_action, read_of as reading_of, swapping_read};
@@ -31,13 +31,9 @@ ghost use Rattle.trie_parts.specs.Tasks.{call_of, for_task};
 ghost use Rattle.trie_parts.specs.declared.calls.Task.{Task as ATask};
 ghost use Rattle.contract.specs.Climbing.{climb_of, climb_line, line_behind, CanClimb, CanClimbAt, IsBranch};
 
-use ctrie_base::Kind;
-use epochs::Heap;
-use nodes::{has_flag, position_of};
-use slot_arena::{Node, NodeRef, Ref};
 use trie_parts::{
-    Next, Publication, Swap, Task, Work, above, bitmap_at, contracted_at, current, entry_at,
-    is_below_root, node_at,
+    Heap, Kind, Next, Node, NodeRef, Publication, Ref, Swap, Task, Work, above, bitmap_at,
+    contracted_at, current, entry_at, has_flag, is_below_root, node_at, position_of,
 };
 
 /// Where a climb stands.

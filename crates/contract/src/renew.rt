@@ -1,8 +1,8 @@
 //! RENEW: a branch gets indirections of the root's generation.
 
 ghost use Rattle.std.specs.Prelude.{◌≡◌, [], ◌∷◌, ◌++◌, ◌<◌, ℕ, List, length, Option, None, is_some};
-ghost use Rattle.ctrie_base.specs.declared.hashes.HashKind.{HashKind};
-ghost use Rattle.slot_arena.specs.declared.refs.Ref.{Ref as ARef};
+ghost use Rattle.contract.specs.Beneath.ctrie_base.specs.declared.hashes.HashKind.{HashKind};
+ghost use Rattle.contract.specs.Beneath.slot_arena.specs.declared.refs.Ref.{Ref as ARef};
 ghost use Rattle.contract.specs.Beneath.machine_model.specs.Operations.{kind_of, line_action, read_of as reading_of, swapping_read};
 ghost use Rattle.contract.specs.Beneath.machine_model.specs.Renewing.{renew_next};
 ghost use Rattle.contract.specs.Beneath.machine_model.specs.States.{State};
@@ -21,12 +21,9 @@ ghost use Rattle.trie_parts.specs.Tasks.{for_task};
 ghost use Rattle.trie_parts.specs.declared.calls.Task.{Task as ATask};
 ghost use Rattle.contract.specs.Renewing.{renew_line, next_of, line_behind, CanRenew, CanRenewAt};
 
-use ctrie_base::Kind;
-use epochs::Heap;
-use slot_arena::{Node, NodeRef, Ref};
 use trie_parts::{
-    Entries, Next, Publication, Swap, Task, Work, bitmap_at, current, entry_at, entry_count,
-    node_at, renewed,
+    Entries, Heap, Kind, Next, Node, NodeRef, Publication, Ref, Swap, Task, Work, bitmap_at,
+    current, entry_at, entry_count, node_at, renewed,
 };
 
 /// Where a renewing stands.

@@ -14,8 +14,8 @@ use Rattle.lock_runner.specs.ActorHistory.Answers.{AreAnswersOf}
 use Rattle.lock_runner.specs.Boards.{GoesOn}
 use Rattle.lock_runner.specs.Stepping.{HasGoneOn}
 use Rattle.lock_runner.proofs.Boards.{goes_on_same}
-use Rattle.script_text.specs.declared.thread_lines.ThreadLine.{ThreadLine}
-use Rattle.script_text.specs.declared.thread_lines.ThreadLine.TheVariants.{Do, Sweep}
+use Rattle.ctrie_commands.specs.Beneath.script_text.specs.declared.thread_lines.ThreadLine.{ThreadLine}
+use Rattle.ctrie_commands.specs.Beneath.script_text.specs.declared.thread_lines.ThreadLine.TheVariants.{Do, Sweep}
 use Rattle.ctrie_commands.specs.declared.working.Worker.{Worker}
 use Rattle.ctrie_commands.specs.Working.{calls_in, calls_of, OnTheWay, Denies, DeniesBehind, HasAnswered, Performed, None, Answered, Denied, answered_calls}
 use Rattle.ctrie_commands.specs.Working.{HasPerformed, HasPerformedLine, HasPerformedAll, HasEnded}

@@ -9,7 +9,7 @@ use Rattle.std.proofs.lemmas.List.Elements.{All-nil, All-cons, All-head, All-tai
 use Rattle.lock_runner.specs.Seats.{Seated}
 use Rattle.history.proofs.Places.{at_cases}
 use Rattle.lock_runner.proofs.Ends.{of_each}
-use Rattle.script_text.specs.Threads.Reading.{Reading}
+use Rattle.ctrie_commands.specs.Beneath.script_text.specs.Threads.Reading.{Reading}
 use Rattle.ctrie_commands.specs.declared.working.Worker.{Worker}
 use Rattle.ctrie_commands.specs.Working.{HasWork, IsGroup, HasWorked, HaveWorked, all_seats, GroupsHaveWorked, AreJoined}
 use Rattle.ctrie_commands.proofs.Ranks.{to_map}

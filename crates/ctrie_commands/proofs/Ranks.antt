@@ -11,7 +11,7 @@ use Rattle.ctrie_commands.specs.Beneath.machine_model.specs.declared.steps.Limit
 use Rattle.atomic_table.specs.Seated.{TableId}
 use Rattle.lock_runner.specs.Seats.{Room, Seated, IsIdle}
 use Rattle.lock_runner.specs.Opening.{fresh_seat, fresh_seats, IsMade}
-use Rattle.script_text.specs.Threads.Reading.{Reading}
+use Rattle.ctrie_commands.specs.Beneath.script_text.specs.Threads.Reading.{Reading}
 use Rattle.ctrie_commands.specs.declared.working.Worker.{Worker}
 use Rattle.script_commands.specs.Reports.{denied_lines}
 use Rattle.ctrie_commands.specs.Working.{IsUnused, HasPerformedAll, HasSweptAll, HasEnded, HasWorked, HaveWorked}

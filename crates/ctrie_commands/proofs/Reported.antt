@@ -10,7 +10,7 @@ use Rattle.ctrie_base.specs.declared.refusals.Refusal.TheVariants.{Spent}
 use Rattle.ctrie_base.specs.declared.hashes.HashKind.{HashKind}
 use Rattle.history.specs.Histories.{IsRunning}
 use Rattle.history.proofs.Places.{at_within}
-use Rattle.history_text.specs.Grammar.{EventFits}
+use Rattle.ctrie_commands.specs.Beneath.history_text.specs.Grammar.{EventFits}
 use Rattle.ctrie_commands.specs.Beneath.machine_model.specs.declared.steps.Limits.{Limits}
 use Rattle.lock_runner.specs.ActorHistory.Answers.{AreAnswersOf}
 use Rattle.script_commands.specs.Recorded.{recorded_in}
@@ -21,7 +21,7 @@ use Rattle.lock_runner.specs.Boards.{sweeps_in}
 use Rattle.lock_runner.specs.Seats.{Room, Seated, IsIdle, IsSeatOf, AreSeatsOf}
 use Rattle.lock_runner.specs.Opening.{IsMade}
 use Rattle.lock_runner.specs.Finishing.{IsHere, IsMissing, IsGathered, IsFinished, recorded}
-use Rattle.script_text.specs.Threads.Reading.{Reading}
+use Rattle.ctrie_commands.specs.Beneath.script_text.specs.Threads.Reading.{Reading}
 use Rattle.ctrie_commands.specs.declared.working.Worker.{Worker}
 use Rattle.script_commands.specs.Reports.{line, hash_text, event_lines, last_lines, record_report}
 use Rattle.ctrie_commands.specs.Working.{calls_of, Performed, answered_calls, HasEnded, Swept}

@@ -7,11 +7,11 @@ use Rattle.std.proofs.lemmas.Bool.{cases_eq}
 use Rattle.std.proofs.lemmas.List.{length-map}
 use Rattle.std.proofs.lemmas.List.Concat.{flat_map-cons}
 use Rattle.std.proofs.lemmas.List.Sums.{sum_by-cons}
-use Rattle.history_commands.specs.declared.faults.Fault.{Fault}
+use Rattle.ctrie_commands.specs.Beneath.history_commands.specs.declared.faults.Fault.{Fault}
 use Rattle.ctrie_base.specs.declared.hashes.HashKind.{HashKind}
 use Rattle.ctrie_base.specs.declared.refusals.Refusal.{Refusal}
 use Rattle.history.specs.declared.calls.Call.{Call}
-use Rattle.history_text.specs.Grammar.{IsShort}
+use Rattle.ctrie_commands.specs.Beneath.history_text.specs.Grammar.{IsShort}
 use Rattle.ctrie_commands.specs.Beneath.machine_model.specs.declared.steps.Limits.{Limits}
 use Rattle.ctrie_commands.specs.Beneath.proof_runs.specs.Machines.{Taken, past_of}
 use Rattle.lock_runner.specs.declared.accounts.Answer.{Answer}
@@ -20,11 +20,11 @@ use Rattle.lock_runner.proofs.ActorHistory.Totals.{total, total_least, total_sum
 use Rattle.ctrie_commands.specs.Beneath.machine_model.specs.Limits.{bounded}
 use Rattle.script_commands.specs.Recorded.{recorded_in}
 use Rattle.lock_runner.proofs.ActorHistory.Counted.{answered, events_counted, answered_counted}
-use Rattle.script_text.specs.declared.thread_lines.ThreadLine.{ThreadLine}
-use Rattle.script_text.specs.declared.thread_lines.ThreadLine.TheVariants.{Do, Sweep}
-use Rattle.script_text.specs.Threads.Reading.{Reading, thread_dialect, thread_script_of}
-use Rattle.script_text.proofs.Few.{few_lines}
-use Rattle.script_text.proofs.Threads.Found.{script_found}
+use Rattle.ctrie_commands.specs.Beneath.script_text.specs.declared.thread_lines.ThreadLine.{ThreadLine}
+use Rattle.ctrie_commands.specs.Beneath.script_text.specs.declared.thread_lines.ThreadLine.TheVariants.{Do, Sweep}
+use Rattle.ctrie_commands.specs.Beneath.script_text.specs.Threads.Reading.{Reading, thread_dialect, thread_script_of}
+use Rattle.ctrie_commands.specs.Beneath.script_text.proofs.Few.{few_lines}
+use Rattle.ctrie_commands.specs.Beneath.script_text.proofs.Threads.Found.{script_found}
 use Rattle.ctrie_commands.specs.Working.{calls_in, calls_of, names_sweep, sweep_lines, Performed, None, Answered, Denied, answered_calls}
 use Rattle.ctrie_commands.specs.Threads.{IsPerformedBy, IsSweptBy, IsCarriedOut, thread_report, IsReportOf, IsThreadReport}
 use Rattle.script_commands.specs.Legality.{told_in, AppendsJudged}

@@ -9,8 +9,8 @@ use Rattle.ctrie_commands.specs.Beneath.proof_runs.specs.Machines.{Taken}
 use Rattle.lock_runner.specs.Boards.{GoesOn}
 use Rattle.lock_runner.specs.Stepping.{HasGoneOn}
 use Rattle.lock_runner.proofs.Boards.{goes_on_same}
-use Rattle.script_text.specs.declared.thread_lines.ThreadLine.{ThreadLine}
-use Rattle.script_text.specs.declared.thread_lines.ThreadLine.TheVariants.{Do, Sweep}
+use Rattle.ctrie_commands.specs.Beneath.script_text.specs.declared.thread_lines.ThreadLine.{ThreadLine}
+use Rattle.ctrie_commands.specs.Beneath.script_text.specs.declared.thread_lines.ThreadLine.TheVariants.{Do, Sweep}
 use Rattle.ctrie_commands.specs.declared.working.Worker.{Worker}
 use Rattle.ctrie_commands.specs.Working.{times_in, times_of, names_sweep, sweep_lines, OnTheWay, DeniesSweep, Swept, HasSweptLine, HasSweptAll}
 use Rattle.ctrie_commands.proofs.Later.{all_later}

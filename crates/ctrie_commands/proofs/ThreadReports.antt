@@ -9,8 +9,8 @@ use Rattle.ctrie_base.specs.declared.hashes.HashKind.{HashKind}
 use Rattle.ctrie_base.specs.declared.refusals.Refusal.{Refusal}
 use Rattle.history.specs.Orders.{IsLegal}
 use Rattle.text_lines.specs.Texts.{lines_of, said_lines}
-use Rattle.history_text.specs.Grammar.{IsNumber, EventFits, SpellEvents, Spell}
-use Rattle.history_text.proofs.Spelled.{events_spelled, hash_none, whole_spelled}
+use Rattle.ctrie_commands.specs.Beneath.history_text.specs.Grammar.{IsNumber, EventFits, SpellEvents, Spell}
+use Rattle.ctrie_commands.specs.Beneath.history_text.proofs.Spelled.{events_spelled, hash_none, whole_spelled}
 use Rattle.ctrie_commands.specs.Beneath.machine_model.specs.Records.{order_of}
 use Rattle.ctrie_commands.specs.Beneath.proof_runs.specs.Machines.{past_of}
 use Rattle.ctrie_commands.specs.Beneath.step_machine.specs.Records.{IsLegalRecord, IsRecordOf}

@@ -3,4 +3,6 @@ pub use Rattle.lock_runner.specs.Beneath.machine_model as machine_model
 pub use Rattle.lock_runner.specs.Beneath.step_machine as step_machine
 pub use Rattle.lock_runner.specs.Beneath.proof_runs as proof_runs
 pub use Rattle.script_commands as script_commands
-pub use Rattle.history_commands as history_commands
+pub use Rattle.script_commands.specs.Beneath.history_commands as history_commands
+pub use Rattle.script_commands.specs.Beneath.history_text as history_text
+pub use Rattle.script_commands.specs.Beneath.script_text as script_text

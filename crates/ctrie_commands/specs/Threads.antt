@@ -5,17 +5,17 @@ use Rattle.ctrie_base.specs.declared.refusals.Refusal.{Refusal}
 use Rattle.ctrie_base.specs.declared.refusals.Refusal.TheVariants.{Spent}
 use Rattle.ctrie_base.specs.declared.hashes.HashKind.{HashKind}
 use Rattle.history.specs.Histories.{IsRunning}
-use Rattle.history_commands.specs.Faults.{IsFault}
-use Rattle.history_commands.specs.Written.{AppendsSuch, AppendsPartOf}
+use Rattle.ctrie_commands.specs.Beneath.history_commands.specs.Faults.{IsFault}
+use Rattle.ctrie_commands.specs.Beneath.history_commands.specs.Written.{AppendsSuch, AppendsPartOf}
 use Rattle.ctrie_commands.specs.Beneath.machine_model.specs.declared.steps.Limits.{Limits}
 use Rattle.ctrie_commands.specs.Beneath.proof_runs.specs.Machines.{Taken, past_of, AreTaken}
 use Rattle.lock_runner.specs.declared.accounts.Answer.{Answer}
 use Rattle.lock_runner.specs.ActorHistory.Answers.{AreAnswersOf}
 use Rattle.lock_runner.specs.Boards.{sweeps_in}
-use Rattle.script_text.specs.Threads.Reading.{Reading, thread_script_of}
+use Rattle.ctrie_commands.specs.Beneath.script_text.specs.Threads.Reading.{Reading, thread_script_of}
 use Rattle.script_commands.specs.Recorded.{Recorded, recorded_in}
 use Rattle.script_commands.specs.Reports.{line, hash_text, event_lines, last_lines, denied_lines}
-use Rattle.history_commands.specs.Verdicts.{IsVerdict}
+use Rattle.ctrie_commands.specs.Beneath.history_commands.specs.Verdicts.{IsVerdict}
 use Rattle.script_commands.specs.Legality.{told_in, IsLegalText}
 use Rattle.ctrie_commands.specs.Working.{calls_of, Performed, answered_calls, Swept}
 

@@ -13,9 +13,9 @@ use Rattle.lock_runner.specs.declared.accounts.Answer.{Answer}
 use Rattle.lock_runner.specs.ActorHistory.Answers.{AreAnswersOf}
 use Rattle.lock_runner.specs.Boards.{GoesOn}
 use Rattle.lock_runner.specs.Seats.{Seated, IsIdle}
-use Rattle.script_text.specs.declared.thread_lines.ThreadLine.{ThreadLine}
-use Rattle.script_text.specs.declared.thread_lines.ThreadLine.TheVariants.{Do, Sweep}
-use Rattle.script_text.specs.Threads.Reading.{Reading}
+use Rattle.ctrie_commands.specs.Beneath.script_text.specs.declared.thread_lines.ThreadLine.{ThreadLine}
+use Rattle.ctrie_commands.specs.Beneath.script_text.specs.declared.thread_lines.ThreadLine.TheVariants.{Do, Sweep}
+use Rattle.ctrie_commands.specs.Beneath.script_text.specs.Threads.Reading.{Reading}
 use Rattle.script_commands.specs.Reports.{denied_lines}
 use Rattle.ctrie_commands.specs.declared.working.Worker.{Worker}
 

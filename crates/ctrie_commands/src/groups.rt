@@ -2,12 +2,12 @@
 
 ghost use Rattle.std.specs.Prelude.{◌≡◌, ◌↔◌, All, IfOk, IsTrue};
 ghost use Rattle.lock_runner.specs.Seats.{IsSeatOf, AreSeatsOf};
-ghost use Rattle.script_text.specs.Views.{read};
+ghost use Rattle.ctrie_commands.specs.Beneath.script_text.specs.Views.{read};
 ghost use Rattle.ctrie_commands.specs.Working.{IsUnused, HasWorked, HaveWorked, GroupsHaveWorked, NamesCall, HasWork, IsGroup, all_seats, AreJoined};
 
 use crate::working::Worker;
 use lock_runner::{Between, Runner, Seat};
-use script_text::{Script, ThreadLine};
+use script_commands::{Script, ThreadLine};
 use std::alloc::{AllocError, Global};
 use std::sync::Wait;
 use std::thread;

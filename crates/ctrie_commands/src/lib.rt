@@ -7,7 +7,6 @@ mod threads;
 mod working;
 
 pub use counted_io::Counted;
-pub use history_commands::{Fault, check_history, draw_history, explain_history};
 pub use lock_runner::{Between, Nothing};
-pub use script_commands::run_script;
+pub use script_commands::{Fault, check_history, draw_history, explain_history, run_script};
 pub use threads::run_threads;

@@ -6,9 +6,9 @@ ghost use Rattle.std.specs.String.{string_bytes};
 ghost use Rattle.counted_io.specs.Counts.{inner_of, failures};
 ghost use Rattle.lock_runner.specs.Seats.{AreSeatsOf};
 ghost use Rattle.lock_runner.specs.Opening.{IsMade};
-ghost use Rattle.script_text.specs.Views.{read};
-ghost use Rattle.script_text.specs.Threads.Reading.{thread_script_of};
-ghost use Rattle.history_commands.specs.Faults.{IsOf};
+ghost use Rattle.ctrie_commands.specs.Beneath.script_text.specs.Views.{read};
+ghost use Rattle.ctrie_commands.specs.Beneath.script_text.specs.Threads.Reading.{thread_script_of};
+ghost use Rattle.ctrie_commands.specs.Beneath.history_commands.specs.Faults.{IsOf};
 ghost use Rattle.script_commands.specs.Legality.{AppendsJudged};
 ghost use Rattle.ctrie_commands.specs.Working.{AreGathered};
 ghost use Rattle.ctrie_commands.specs.Threads.{with_sweeper, IsReportOf, IsThreadReport, HasThreadFault, AppendsThreadReport, AppendsThreadReportPart};
@@ -16,10 +16,10 @@ ghost use Rattle.ctrie_commands.specs.Threads.{with_sweeper, IsReportOf, IsThrea
 use crate::groups::work_all;
 use crate::working::Worker;
 use counted_io::{Counted, read_all, write_all};
-use history_commands::Fault;
 use lock_runner::{Between, Limits, Runner, Seat, Unfinished};
-use script_commands::{report_of_record, tell_denied};
-use script_text::{Script, ThreadLine, read_thread_script};
+use script_commands::{
+    Fault, Script, ThreadLine, read_thread_script, report_of_record, tell_denied,
+};
 use std::alloc::{AllocError, Global};
 use std::io::{Read, Write};
 use std::sync::Wait;

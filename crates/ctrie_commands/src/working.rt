@@ -8,7 +8,7 @@ ghost use Rattle.ctrie_commands.specs.Working.{calls_in, IsUnused, HasPerformed,
 use ctrie_base::Refusal;
 use history::Call;
 use lock_runner::{Between, Runner, Seat, Stop};
-use script_text::ThreadLine;
+use script_commands::ThreadLine;
 use std::alloc::AllocError;
 use std::sync::Wait;
 

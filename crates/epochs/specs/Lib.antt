@@ -1,3 +1,4 @@
+pub mod Beneath
 pub mod Limbo
 pub mod Sweeping
 pub mod Rings

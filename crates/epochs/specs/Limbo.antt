@@ -1,7 +1,7 @@
 -- Limbo: the slots in use that nothing refers to, in the order in which their count became zero.
 use Rattle.std.specs.Prelude.{ℕ, ◌==◌, ◌&&◌, Bool, not, nat_lt, List, ◌++◌, map, filter}
 use Rattle.std.specs.List.{list_any}
-use Rattle.ctrie_base.specs.Sorting.{put_by, sorted_by}
+use Rattle.epochs.specs.Beneath.ctrie_base.specs.Sorting.{put_by, sorted_by}
 use Rattle.slot_arena.specs.declared.refs.Ref.{Ref}
 use Rattle.slot_arena.specs.Heaps.{Heap, in_use}
 use Rattle.slot_arena.specs.Counts.{count_of}

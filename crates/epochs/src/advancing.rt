@@ -7,8 +7,7 @@ ghost use Rattle.epochs.specs.Rings.{turned};
 use crate::fresh::Fresh;
 use crate::limbo::Swept;
 use crate::ring::Ring;
-use ctrie_base::Ticks;
-use slot_arena::Arena;
+use slot_arena::{Arena, Ticks};
 
 /// Reads the record of the actor at the cursor, or lets the epoch grow where all actors were passed.
 pub(crate) fn advance(

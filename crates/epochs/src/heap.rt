@@ -18,8 +18,7 @@ use crate::fresh::Fresh;
 use crate::limbo::Swept;
 use crate::ring::Ring;
 use crate::settling::{enter_all, sift};
-use ctrie_base::{Refusal, Ticks};
-use slot_arena::{Arena, EntryChange, MOST_SLOTS, Node, NodeRef, Prev, Ref};
+use slot_arena::{Arena, EntryChange, MOST_SLOTS, Node, NodeRef, Prev, Ref, Refusal, Ticks};
 use std::alloc::Global;
 use std::marker::Model;
 

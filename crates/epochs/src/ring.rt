@@ -7,8 +7,7 @@ ghost use Rattle.slot_arena.specs.Tallies.{naming};
 ghost use Rattle.epochs.specs.Rings.{all_of, turned, IsEmptyRing};
 ghost use Rattle.epochs.specs.Settling.{bags_after};
 
-use ctrie_base::{Change, Ticks, Trace};
-use slot_arena::{Flags, Links, Ref};
+use slot_arena::{Change, Flags, Links, Ref, Ticks, Trace};
 use std::alloc::{AllocError, Global};
 use std::marker::Model;
 use std::mem;

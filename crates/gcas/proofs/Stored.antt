@@ -10,15 +10,14 @@ from_stored None = refl
 from_stored (Some slot) = refl
 
 -- the node that stands in a slot, or the branch without entries
-pub stands : (found : Option Node) (slot : Option Slot) → found ≡ option_map (λ s. s.node) slot → node_of slot ≡ unwrap_or found empty_branch
-stands found slot same = rw same (from_stored slot)
+pub stands : (heap : Heap) (r : Ref) (found : Option Node) → found ≡ option_map (λ slot. slot.node) (stored heap r) → node_at heap r ≡ unwrap_or found empty_branch
+unfolding node_at
+stands heap r found same = rw same (from_stored (stored heap r))
 
 -- what stands there is the node
 pub node_is : (heap : Heap) (r : Ref) {node : Node} → Some node ≡ option_map (λ slot. slot.node) (stored heap r) → node_at heap r ≡ node
-unfolding node_at
-node_is heap r {node} is = stands (Some node) (stored heap r) is
+node_is heap r {node} is = stands heap r (Some node) is
 
 -- where nothing stands the default is met
 pub nothing_is : (heap : Heap) (r : Ref) → None ≡ option_map (λ slot. slot.node) (stored heap r) → node_at heap r ≡ empty_branch
-unfolding node_at
-nothing_is heap r is = stands None (stored heap r) is
+nothing_is heap r is = stands heap r None is

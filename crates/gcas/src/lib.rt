@@ -21,7 +21,9 @@ mod swap;
 
 pub use laws::acts_on_heap;
 pub use looks::generation_at;
-pub use machine_model::{Change, Descriptor, Entrant, Publication, Root, RootWord, Site};
+pub use machine_model::{
+    Access, Change, Descriptor, Entrant, Heap, Publication, Root, RootWord, Site,
+};
 pub use next::Next;
 pub use read::{Read, ReadAt};
 pub use swap::{Swap, SwapAt};

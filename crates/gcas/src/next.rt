@@ -1,6 +1,6 @@
 //! What a call of a program's `step` came to.
 
-use ctrie_base::Kind;
+use machine_model::Kind;
 
 /// What a call of a program's `step` came to.
 #[derive(Clone, Copy)]

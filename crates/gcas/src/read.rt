@@ -11,8 +11,7 @@ ghost use Rattle.machine_model.specs.Beneath.slot_arena.specs.declared.refs.Ref.
 
 use crate::looks::{generation_at, main_at};
 use crate::next::Next;
-use ctrie_base::Kind;
-use machine_model::{Access, Heap, Prev, Ref};
+use machine_model::{Access, Heap, Kind, Prev, Ref};
 
 /// Where a READ stands.
 #[derive(Clone, Copy)]

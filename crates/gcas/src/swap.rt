@@ -11,8 +11,7 @@ ghost use Rattle.machine_model.specs.Operations.{kind_of, swapping_read};
 
 use crate::next::Next;
 use crate::read::{Read, ReadAt};
-use ctrie_base::Kind;
-use machine_model::{Access, Entrant, Heap, Prev, Publication, Ref};
+use machine_model::{Access, Entrant, Heap, Kind, Prev, Publication, Ref};
 
 /// Where a SWAP stands.
 #[derive(Clone, Copy)]

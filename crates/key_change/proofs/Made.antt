@@ -1,16 +1,16 @@
 -- What is made on a line depends on nothing of the state but heap and hashes, and on nothing of the operation but its task.
 use Rattle.std.specs.Prelude.{◌≡◌, List, refl}
 use Rattle.key_change.specs.Beneath.history.specs.declared.calls.Access.{Access}
-use Rattle.slot_arena.specs.declared.refs.Ref.{Ref}
-use Rattle.slot_arena.specs.Heaps.{Heap, node_at, entry_at}
+use Rattle.key_change.specs.Beneath.slot_arena.specs.declared.refs.Ref.{Ref}
+use Rattle.key_change.specs.Beneath.slot_arena.specs.Heaps.{Heap, node_at, entry_at}
 use Rattle.key_change.specs.Beneath.machine_model.specs.declared.actions.Action.TheVariants as act
 use Rattle.key_change.specs.Beneath.machine_model.specs.declared.operations.Operation.{Operation}
 use Rattle.key_change.specs.Beneath.machine_model.specs.Building.{build_action, changed, key_in}
 use Rattle.std.proofs.Common.{ap, ◌∙◌}
-use Rattle.ctrie_base.specs.Hashes.{hash_of}
-use Rattle.nodes.specs.Builders.{pair, rung}
-use Rattle.nodes.specs.Levels.{flag_of}
-use Rattle.slot_arena.specs.declared.nodes.Node.TheVariants.{Single}
+use Rattle.key_change.specs.Beneath.ctrie_base.specs.Hashes.{hash_of}
+use Rattle.key_change.specs.Beneath.nodes.specs.Builders.{pair, rung}
+use Rattle.key_change.specs.Beneath.nodes.specs.Levels.{flag_of}
+use Rattle.key_change.specs.Beneath.slot_arena.specs.declared.nodes.Node.TheVariants.{Single}
 use Rattle.key_change.specs.Beneath.machine_model.specs.Calls.{handle_of, key_of, value_of}
 use Rattle.key_change.specs.Beneath.machine_model.specs.Paths.{depth_of}
 use Rattle.key_change.specs.Beneath.machine_model.specs.States.{State}

@@ -1,9 +1,9 @@
 -- The nodes that a change of one key makes, as the definition's.
 use Rattle.std.specs.Prelude.{ℕ, List}
 use Rattle.key_change.specs.Beneath.history.specs.declared.calls.Access.TheVariants.{Writable}
-use Rattle.slot_arena.specs.declared.refs.Ref.{Ref}
-use Rattle.slot_arena.specs.declared.nodes.Node.{Node}
-use Rattle.slot_arena.specs.Heaps.{Heap, empty_branch}
+use Rattle.key_change.specs.Beneath.slot_arena.specs.declared.refs.Ref.{Ref}
+use Rattle.key_change.specs.Beneath.slot_arena.specs.declared.nodes.Node.{Node}
+use Rattle.key_change.specs.Beneath.slot_arena.specs.Heaps.{Heap, empty_branch}
 use Rattle.key_change.specs.Beneath.machine_model.specs.declared.actions.Action.{Action}
 use Rattle.key_change.specs.Beneath.machine_model.specs.declared.actions.Action.TheVariants as act
 use Rattle.key_change.specs.Beneath.machine_model.specs.declared.building.BuildLine.{BuildLine}

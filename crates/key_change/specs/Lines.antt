@@ -1,6 +1,6 @@
 -- Where a try stands, as the definition's lines.
 use Rattle.std.specs.Prelude.{ℕ, List, Option}
-use Rattle.slot_arena.specs.declared.refs.Ref.{Ref}
+use Rattle.key_change.specs.Beneath.slot_arena.specs.declared.refs.Ref.{Ref}
 use Rattle.key_change.specs.Beneath.machine_model.specs.declared.finding.KeyLine.TheVariants as key
 use Rattle.key_change.specs.Beneath.machine_model.specs.declared.lines.Line.{Line}
 use Rattle.key_change.specs.Beneath.machine_model.specs.declared.lines.Line.TheVariants as line

@@ -1,8 +1,8 @@
 -- What a step of a try comes to.
 use Rattle.std.specs.Prelude.{List}
 use Rattle.key_change.specs.Beneath.history.specs.declared.replies.Reply.TheVariants as reply
-use Rattle.slot_arena.specs.declared.refs.Ref.{Ref}
-use Rattle.slot_arena.specs.Heaps.{Heap, node_at}
+use Rattle.key_change.specs.Beneath.slot_arena.specs.declared.refs.Ref.{Ref}
+use Rattle.key_change.specs.Beneath.slot_arena.specs.Heaps.{Heap, node_at}
 use Rattle.key_change.specs.Beneath.machine_model.specs.declared.lines.Line.{Line}
 use Rattle.key_change.specs.Beneath.machine_model.specs.declared.lines.Line.TheVariants as line
 use Rattle.key_change.specs.Beneath.machine_model.specs.declared.operations.Operation.{Operation}

@@ -1,9 +1,9 @@
 //! The nodes that a change of one key makes.
 
 ghost use Rattle.std.specs.Prelude.{◌≡◌, ◌+◌, List};
-ghost use Rattle.ctrie_base.specs.Hashes.{hash_of};
-ghost use Rattle.slot_arena.specs.Heaps.{node_at, entry_at};
-ghost use Rattle.nodes.specs.Builders.{pair};
+ghost use Rattle.key_change.specs.Beneath.ctrie_base.specs.Hashes.{hash_of};
+ghost use Rattle.key_change.specs.Beneath.slot_arena.specs.Heaps.{node_at, entry_at};
+ghost use Rattle.key_change.specs.Beneath.nodes.specs.Builders.{pair};
 ghost use Rattle.key_change.specs.Beneath.machine_model.specs.Building.{key_in, after_single, after_link};
 ghost use Rattle.key_change.specs.Beneath.history.specs.declared.calls.Access.{Access};
 ghost use Rattle.key_change.specs.Beneath.machine_model.specs.declared.building.BuildLine.TheVariants as build;
@@ -11,17 +11,15 @@ ghost use Rattle.key_change.specs.Beneath.machine_model.specs.declared.lines.Lin
 ghost use Rattle.key_change.specs.Beneath.machine_model.specs.declared.operations.Operation.{Operation};
 ghost use Rattle.key_change.specs.Beneath.machine_model.specs.Paths.{depth_of};
 ghost use Rattle.key_change.specs.Beneath.machine_model.specs.States.{State};
-ghost use Rattle.slot_arena.specs.declared.refs.Ref.{Ref as ARef};
+ghost use Rattle.key_change.specs.Beneath.slot_arena.specs.declared.refs.Ref.{Ref as ARef};
 ghost use Rattle.trie_parts.specs.Here.{at_heap};
 ghost use Rattle.key_change.specs.Beneath.machine_model.specs.Calls.{key_of};
 ghost use Rattle.trie_parts.specs.Tasks.{call_of, for_task};
 ghost use Rattle.key_change.specs.Built.{build_line, built, depth_for};
 
-use epochs::Heap;
-use nodes::list_depth;
-use slot_arena::{Node, Ref};
 use trie_parts::{
-    Change as NodeChange, Site, Task, changed_at, dual, entry_at, key_at, parting, rung,
+    Change as NodeChange, Heap, Node, Ref, Site, Task, changed_at, dual, entry_at, key_at,
+    list_depth, parting, rung,
 };
 
 /// A step that makes a node for a change of one key. `former` is the key's value before the change.

@@ -11,8 +11,8 @@ ghost use Rattle.key_change.specs.Beneath.machine_model.specs.Tellings.{publishe
 ghost use Rattle.key_change.specs.Beneath.machine_model.specs.declared.actions.Action.TheVariants as act;
 ghost use Rattle.key_change.specs.Beneath.machine_model.specs.declared.finding.KeyLine.TheVariants as key;
 ghost use Rattle.key_change.specs.Beneath.machine_model.specs.declared.lines.Purpose.TheVariants as purpose;
-ghost use Rattle.ctrie_base.specs.declared.hashes.HashKind.{HashKind};
-ghost use Rattle.slot_arena.specs.declared.refs.Ref.{Ref as ARef};
+ghost use Rattle.key_change.specs.Beneath.ctrie_base.specs.declared.hashes.HashKind.{HashKind};
+ghost use Rattle.key_change.specs.Beneath.slot_arena.specs.declared.refs.Ref.{Ref as ARef};
 ghost use Rattle.key_change.specs.Beneath.gcas.specs.declared.read.ReadAt.{ReadAt};
 ghost use Rattle.key_change.specs.Beneath.gcas.specs.declared.swap.Swap.{Swap as ASwap};
 ghost use Rattle.key_change.specs.Beneath.gcas.specs.Reads.{IsAskingRoot};
@@ -27,11 +27,9 @@ ghost use Rattle.key_change.specs.Lines.{line_of};
 ghost use Rattle.key_change.specs.Steps.{ChangesOn, CanChange, CanChangeAt};
 
 use crate::building::{Building, after_link, after_single, built, depth_ahead};
-use ctrie_base::Kind;
-use epochs::Heap;
-use slot_arena::{NodeRef, Ref};
 use trie_parts::{
-    Change as NodeChange, Entrant, Next, Publication, Swap, Task, Work, current, entry_at, node_at,
+    Change as NodeChange, Entrant, Heap, Kind, Next, NodeRef, Publication, Ref, Swap, Task, Work,
+    current, entry_at, node_at,
 };
 
 /// Where a try stands. `former` is the key's value before the change.

@@ -17,3 +17,7 @@ mod change;
 
 pub use building::Building;
 pub use change::{Change, ChangeAt, Tried};
+pub use trie_parts::{
+    Access, Change as NodeChange, Heap, KeyCall, MOST_ENTRIES, NodeRef, Ref, Site, Task, entry_at,
+    entry_count, has_flag, is_below_root, node_at, position_of,
+};

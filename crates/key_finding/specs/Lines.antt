@@ -1,7 +1,7 @@
 -- What a look comes to, as the definition's lines.
 use Rattle.std.specs.Prelude.{[], List, None, if◌then◌else◌}
-use Rattle.history.specs.declared.calls.Call.{Call}
-use Rattle.slot_arena.specs.declared.refs.Ref.{Ref}
+use Rattle.key_finding.specs.Beneath.history.specs.declared.calls.Call.{Call}
+use Rattle.key_finding.specs.Beneath.slot_arena.specs.declared.refs.Ref.{Ref}
 use Rattle.key_finding.specs.Beneath.machine_model.specs.declared.building.BuildLine.TheVariants as build
 use Rattle.key_finding.specs.Beneath.machine_model.specs.declared.building.Site.{Site}
 use Rattle.key_finding.specs.Beneath.machine_model.specs.declared.finding.KeyLine.TheVariants as key

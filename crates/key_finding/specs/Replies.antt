@@ -1,6 +1,6 @@
 -- Replies to calls on one key, as the definition's.
-use Rattle.history.specs.declared.replies.Reply.{Reply}
-use Rattle.history.specs.declared.replies.Reply.TheVariants as reply
+use Rattle.key_finding.specs.Beneath.history.specs.declared.replies.Reply.{Reply}
+use Rattle.key_finding.specs.Beneath.history.specs.declared.replies.Reply.TheVariants as reply
 use Rattle.key_finding.specs.Beneath.machine_model.specs.declared.finding.WhenFound.{WhenFound}
 use Rattle.key_finding.specs.Beneath.machine_model.specs.declared.finding.WhenFound.TheVariants.{Answers, Sets, Removes}
 use Rattle.key_finding.specs.declared.calls.KeyReply.{KeyReply}

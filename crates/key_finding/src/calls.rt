@@ -2,10 +2,10 @@
 
 ghost use Rattle.std.specs.Prelude.{◌≡◌, ℕ};
 ghost use Rattle.key_finding.specs.Beneath.machine_model.specs.Calls.{inserts, absent_reply, changed_reply, when_found};
-ghost use Rattle.trie_parts.specs.Tasks.{call_of};
+ghost use Rattle.key_finding.specs.Beneath.trie_parts.specs.Tasks.{call_of};
 ghost use Rattle.key_finding.specs.Replies.{reply_of, todo_of};
 
-use trie_parts::KeyCall;
+use key_change::KeyCall;
 
 /// The reply to a call on one key.
 #[derive(Clone, Copy, Debug, PartialEq, Eq)]

@@ -1,8 +1,7 @@
 //! What a call found by a look.
 
 use crate::calls::KeyReply;
-use key_change::ChangeAt;
-use slot_arena::Ref;
+use key_change::{ChangeAt, Ref};
 
 /// What comes after a look at a main node, or at one of its entries that doesn't lead further down.
 #[derive(Clone, Copy)]

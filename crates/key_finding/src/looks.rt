@@ -5,10 +5,10 @@ ghost use Rattle.std.specs.Prelude.{◌≡◌, ℕ, ◌==◌, ◌&&◌, nat_le, 
 ghost use Rattle.key_finding.specs.Beneath.ctrie_base.specs.Hashes.{hash_of};
 ghost use Rattle.key_finding.specs.Beneath.ctrie_base.specs.Paths.{position_of};
 ghost use Rattle.key_finding.specs.Beneath.ctrie_base.specs.declared.hashes.HashKind.{HashKind};
-ghost use Rattle.slot_arena.specs.Heaps.{node_at, entry_at};
-ghost use Rattle.slot_arena.specs.declared.refs.Ref.{Ref as ARef};
-ghost use Rattle.nodes.specs.Levels.{has_flag, flag_of};
-ghost use Rattle.history.specs.declared.replies.Reply.TheVariants as reply;
+ghost use Rattle.key_finding.specs.Beneath.slot_arena.specs.Heaps.{node_at, entry_at};
+ghost use Rattle.key_finding.specs.Beneath.slot_arena.specs.declared.refs.Ref.{Ref as ARef};
+ghost use Rattle.key_finding.specs.Beneath.nodes.specs.Levels.{has_flag, flag_of};
+ghost use Rattle.key_finding.specs.Beneath.history.specs.declared.replies.Reply.TheVariants as reply;
 ghost use Rattle.key_finding.specs.Beneath.machine_model.specs.Calls.{inserts, key_of, when_found};
 ghost use Rattle.key_finding.specs.Beneath.machine_model.specs.Finding.{found_so, removing, after_tomb, going_down, key_after_main, is_passable, key_after_entry, after_listed};
 ghost use Rattle.key_finding.specs.Beneath.machine_model.specs.Paths.{is_below_root, depth_of};
@@ -20,18 +20,16 @@ ghost use Rattle.key_finding.specs.Beneath.machine_model.specs.declared.finding.
 ghost use Rattle.key_finding.specs.Beneath.machine_model.specs.declared.lines.Line.TheVariants as line;
 ghost use Rattle.key_finding.specs.Beneath.machine_model.specs.declared.operations.Operation.{Operation};
 ghost use Rattle.key_finding.specs.Beneath.gcas.specs.declared.swap.Swap.{Swap};
-ghost use Rattle.trie_parts.specs.Here.{at_heap};
-ghost use Rattle.trie_parts.specs.Tasks.{call_of, for_task};
+ghost use Rattle.key_finding.specs.Beneath.trie_parts.specs.Here.{at_heap};
+ghost use Rattle.key_finding.specs.Beneath.trie_parts.specs.Tasks.{call_of, for_task};
 ghost use Rattle.key_finding.specs.Lines.{line_entered, line_found, absent_for};
 
 use crate::calls::{KeyReply, Todo, absent_reply, inserts, when_found};
 use crate::found::{Entered, Found};
-use epochs::Heap;
-use history::Access;
-use key_change::{Building, ChangeAt};
-use nodes::{MOST_ENTRIES, has_flag, position_of};
-use slot_arena::{NodeRef, Ref};
-use trie_parts::{Change, KeyCall, Site, Task, entry_at, entry_count, is_below_root, node_at};
+use key_change::{
+    Access, Building, ChangeAt, Heap, KeyCall, MOST_ENTRIES, NodeChange, NodeRef, Ref, Site, Task,
+    entry_at, entry_count, has_flag, is_below_root, node_at, position_of,
+};
 
 /// After the look at the main node: the entry of the key's flag, or the first single of a list.
 #[inline(always)]
@@ -218,7 +216,7 @@ fn from_branch(path: &[Ref], position: usize, value: u64, entries: usize) -> Fou
             former: value,
         });
     }
-    changing(Change::Remove { position }, value)
+    changing(NodeChange::Remove { position }, value)
 }
 
 /// Takes the key out of a list of so many singles: of two a tomb of the other one is made.
@@ -228,13 +226,13 @@ fn from_list(other: Ref, position: usize, value: u64, singles: usize) -> Found
         (build.Main path main (becomes.Remove position) (Some value))) }
 {
     if singles == 2 {
-        return changing(Change::Entomb { single: other }, value);
+        return changing(NodeChange::Entomb { single: other }, value);
     }
-    changing(Change::Remove { position }, value)
+    changing(NodeChange::Remove { position }, value)
 }
 
 /// Makes the main node without the key, which had this value.
-fn changing(change: Change, value: u64) -> Found
+fn changing(change: NodeChange, value: u64) -> Found
     ensures { (state : State) (path : List ARef) (main : ARef) (s : Swap) → line_found state path s main result ≡ line.Build (build.Main path main change (Some value)) }
 {
     Found::Change(ChangeAt::Build(Building::Main {

@@ -1,6 +1,6 @@
 -- What no action touches.
 use Rattle.std.proofs.Common.{◌≡◌, ℕ, ◌+◌, refl, arith}
-use Rattle.slot_arena.specs.declared.refs.Ref.{Ref}
+use Rattle.machine_model.specs.Beneath.slot_arena.specs.declared.refs.Ref.{Ref}
 use Rattle.history.specs.declared.calls.Call.{Call}
 use Rattle.std.specs.Prelude.{Option}
 use Rattle.machine_model.specs.declared.actions.Action.{Action}

@@ -1,10 +1,10 @@
 -- What stands under a reference, and the heap that only grows: what is in use stands in both.
 use Rattle.std.proofs.Common.{◌≡◌, ℕ, zero, suc, ◌==◌, Option, Some, None, sym, ◌∙◌, ap, subst, eqb-true}
 use Rattle.std.proofs.lemmas.Option.{none-some, cond_some}
-use Rattle.slot_arena.specs.Refs.{birth_of}
-use Rattle.slot_arena.specs.declared.refs.Ref.{Ref}
-use Rattle.slot_arena.specs.declared.nodes.Slot.{Slot}
-use Rattle.slot_arena.specs.Heaps.{Heap, stored, node_at, node_of, prev_at, prev_of}
+use Rattle.machine_model.specs.Beneath.slot_arena.specs.Refs.{birth_of}
+use Rattle.machine_model.specs.Beneath.slot_arena.specs.declared.refs.Ref.{Ref}
+use Rattle.machine_model.specs.Beneath.slot_arena.specs.declared.nodes.Slot.{Slot}
+use Rattle.machine_model.specs.Beneath.slot_arena.specs.Heaps.{Heap, stored, node_at, node_of, prev_at, prev_of}
 use Rattle.machine_model.specs.States.{State}
 use Rattle.machine_model.specs.Grown.{of_birth, standing, or_before, grown, node_under, prev_word}
 

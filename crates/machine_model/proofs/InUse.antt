@@ -6,12 +6,12 @@ use Rattle.std.proofs.Math.ListN.{get_or-map}
 use Rattle.std.proofs.lemmas.Bool.{or_cases, and_parts, false≢true}
 use Rattle.std.proofs.lemmas.List.Elements.{All-nil, All-cons, All-head, All-tail, All-weaker, All-append, All-map, All-filter, filter_passes}
 use Rattle.std.proofs.lemmas.List.Sums.{sum_by-cons}
-use Rattle.slot_arena.specs.Refs.{ref_to, slot_of, most_slots}
-use Rattle.slot_arena.specs.declared.refs.Ref.{Ref}
-use Rattle.slot_arena.specs.declared.nodes.Slot.{Slot}
+use Rattle.machine_model.specs.Beneath.slot_arena.specs.Refs.{ref_to, slot_of, most_slots}
+use Rattle.machine_model.specs.Beneath.slot_arena.specs.declared.refs.Ref.{Ref}
+use Rattle.machine_model.specs.Beneath.slot_arena.specs.declared.nodes.Slot.{Slot}
 use Rattle.epochs.specs.declared.limbo.Zeroed.{Zeroed}
-use Rattle.slot_arena.specs.Heaps.{Heap, named_from, in_use}
-use Rattle.ctrie_base.proofs.Sorting.{sorted_all}
+use Rattle.machine_model.specs.Beneath.slot_arena.specs.Heaps.{Heap, named_from, in_use}
+use Rattle.machine_model.specs.Beneath.ctrie_base.proofs.Sorting.{sorted_all}
 use Rattle.epochs.specs.Limbo.{is_zero, is_in, newly_zero, is_in_use, limbo_after}
 use Rattle.machine_model.proofs.Found.{found_within}
 use Rattle.machine_model.proofs.Rest.{used}

@@ -1,10 +1,10 @@
 -- On a read-only handle no step of an operation makes a node.
 use Rattle.std.proofs.Common.{◌≡◌, ℕ, false, List, Option, Some, None, arith}
-use Rattle.ctrie_base.specs.declared.kinds.Kind.TheVariants as kind
+use Rattle.machine_model.specs.Beneath.ctrie_base.specs.declared.kinds.Kind.TheVariants as kind
 use Rattle.history.specs.declared.calls.Access.TheVariants.{ReadOnly}
 use Rattle.history.specs.declared.calls.Call.{Call}
 use Rattle.history.specs.declared.replies.Reply.TheVariants as reply
-use Rattle.slot_arena.specs.declared.refs.Ref.{Ref}
+use Rattle.machine_model.specs.Beneath.slot_arena.specs.declared.refs.Ref.{Ref}
 use Rattle.machine_model.specs.declared.reading.Read.{Read}
 use Rattle.machine_model.specs.declared.operations.Operation.{Operation}
 use Rattle.machine_model.specs.declared.lines.Line.{Line}

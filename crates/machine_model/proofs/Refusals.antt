@@ -1,6 +1,6 @@
 -- Which steps lead to the end for want of slots.
 use Rattle.std.proofs.Common.{◌≡◌, [], arith}
-use Rattle.ctrie_base.specs.declared.kinds.Kind.TheVariants as kind
+use Rattle.machine_model.specs.Beneath.ctrie_base.specs.declared.kinds.Kind.TheVariants as kind
 use Rattle.history.specs.declared.calls.Call.{Call}
 use Rattle.history.specs.declared.replies.Reply.TheVariants as reply
 use Rattle.machine_model.specs.declared.actions.Action.{Action}

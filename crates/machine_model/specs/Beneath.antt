@@ -3,5 +3,5 @@ pub use Rattle.history as history
 pub use Rattle.places as places
 pub use Rattle.nodes as nodes
 pub use Rattle.epochs as epochs
-pub use Rattle.slot_arena as slot_arena
-pub use Rattle.ctrie_base as ctrie_base
+pub use Rattle.nodes.specs.Beneath.slot_arena as slot_arena
+pub use Rattle.nodes.specs.Beneath.ctrie_base as ctrie_base

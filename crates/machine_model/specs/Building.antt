@@ -1,10 +1,10 @@
 -- The nodes that a change of one key makes, and the SWAP of the last one.
 use Rattle.std.specs.Prelude.{ℕ, ◌+◌, ◌-◌, ◌==◌, List, Option, Some, None, if◌then◌else◌}
 use Rattle.history.specs.declared.replies.Reply.TheVariants as reply
-use Rattle.slot_arena.specs.declared.refs.Ref.{Ref}
-use Rattle.slot_arena.specs.declared.nodes.Node.{Node}
-use Rattle.slot_arena.specs.declared.nodes.Node.TheVariants.{Indirection, Branch, Single, Tomb, List as Listed}
-use Rattle.slot_arena.specs.Heaps.{node_at, entry_at, next_ref}
+use Rattle.machine_model.specs.Beneath.slot_arena.specs.declared.refs.Ref.{Ref}
+use Rattle.machine_model.specs.Beneath.slot_arena.specs.declared.nodes.Node.{Node}
+use Rattle.machine_model.specs.Beneath.slot_arena.specs.declared.nodes.Node.TheVariants.{Indirection, Branch, Single, Tomb, List as Listed}
+use Rattle.machine_model.specs.Beneath.slot_arena.specs.Heaps.{node_at, entry_at, next_ref}
 use Rattle.nodes.specs.Levels.{list_depth, parting}
 use Rattle.nodes.specs.Builders.{inserted, updated, removed, list_inserted, list_updated, list_removed, pair, rung}
 use Rattle.machine_model.specs.declared.operations.Operation.{Operation}

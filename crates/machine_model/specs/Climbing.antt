@@ -1,10 +1,10 @@
 -- CLIMB: after a removal that left a tomb, the tomb gives way to its single in the parent, and so on upwards. It is given
 -- up where no slot is free or the root has another generation by now; the tomb may then stay.
 use Rattle.std.specs.Prelude.{ℕ, ◌==◌, ◌&&◌, Bool, List, slice_set, slice_index_or, Option, Some, None, if◌then◌else◌}
-use Rattle.ctrie_base.specs.Paths.{position_of}
-use Rattle.slot_arena.specs.declared.refs.Ref.{Ref}
-use Rattle.slot_arena.specs.declared.nodes.Node.{Node}
-use Rattle.slot_arena.specs.declared.nodes.Node.TheVariants.{Branch, Tomb}
+use Rattle.machine_model.specs.Beneath.ctrie_base.specs.Paths.{position_of}
+use Rattle.machine_model.specs.Beneath.slot_arena.specs.declared.refs.Ref.{Ref}
+use Rattle.machine_model.specs.Beneath.slot_arena.specs.declared.nodes.Node.{Node}
+use Rattle.machine_model.specs.Beneath.slot_arena.specs.declared.nodes.Node.TheVariants.{Branch, Tomb}
 use Rattle.machine_model.specs.declared.operations.Operation.{Operation}
 use Rattle.machine_model.specs.declared.reading.After.{After}
 use Rattle.machine_model.specs.declared.reading.After.TheVariants.{Goes, Gives}
@@ -18,7 +18,7 @@ use Rattle.machine_model.specs.declared.lines.Line.{Line}
 use Rattle.machine_model.specs.declared.lines.Line.TheVariants as line
 use Rattle.machine_model.specs.declared.actions.Action.{Action}
 use Rattle.machine_model.specs.declared.actions.Action.TheVariants as act
-use Rattle.slot_arena.specs.Heaps.{node_at, generation_at, entries_of, bitmap_of, next_ref, no_ref}
+use Rattle.machine_model.specs.Beneath.slot_arena.specs.Heaps.{node_at, generation_at, entries_of, bitmap_of, next_ref, no_ref}
 use Rattle.nodes.specs.Levels.{has_flag}
 use Rattle.nodes.specs.Builders.{contracted}
 use Rattle.machine_model.specs.Calls.{changed_reply, handle_of}

@@ -1,15 +1,15 @@
 -- What a handle's map holds, and which references an operation has and the handles reach.
 use Rattle.std.specs.Prelude.{ℕ, zero, suc, ◌==◌, ◌&&◌, List, [], ◌∷◌, ◌++◌, flat_map, Contains, Option, Some, None, if◌then◌else◌}
-use Rattle.slot_arena.specs.declared.refs.Ref.{Ref}
-use Rattle.slot_arena.specs.declared.nodes.Node.{Node}
-use Rattle.slot_arena.specs.declared.nodes.Node.TheVariants.{Indirection, Single}
+use Rattle.machine_model.specs.Beneath.slot_arena.specs.declared.refs.Ref.{Ref}
+use Rattle.machine_model.specs.Beneath.slot_arena.specs.declared.nodes.Node.{Node}
+use Rattle.machine_model.specs.Beneath.slot_arena.specs.declared.nodes.Node.TheVariants.{Indirection, Single}
 use Rattle.machine_model.specs.declared.operations.Operation.{Operation}
 use Rattle.machine_model.specs.declared.actions.Action.{Action}
 use Rattle.machine_model.specs.declared.actions.Action.TheVariants as act
 use Rattle.machine_model.specs.declared.steps.Bounds.{Bounds}
 use Rattle.machine_model.specs.declared.steps.Step.{Step}
 use Rattle.machine_model.specs.declared.steps.Step.TheVariants as step
-use Rattle.slot_arena.specs.Heaps.{Heap, stored, node_at, main_at, prev_at, entries_of, logical_main, refs_of_node, refs_of_prev, refs_of_slot, next_ref, refs_of_option}
+use Rattle.machine_model.specs.Beneath.slot_arena.specs.Heaps.{Heap, stored, node_at, main_at, prev_at, entries_of, logical_main, refs_of_node, refs_of_prev, refs_of_slot, next_ref, refs_of_option}
 use Rattle.machine_model.specs.Calls.{handle_of}
 use Rattle.machine_model.specs.States.{State, first_state, root_at, word_at, root_of, operation_of}
 use Rattle.machine_model.specs.Operations.{action_of}

@@ -1,12 +1,12 @@
 -- The heap that only grows: what stood last under each reference. References are never drawn twice, so it holds all nodes
 -- that a run ever made, also those whose slots are free again.
 use Rattle.std.specs.Prelude.{ℕ, zero, suc, ◌==◌, Option, Some, None, if◌then◌else◌}
-use Rattle.slot_arena.specs.Refs.{birth_of}
-use Rattle.slot_arena.specs.declared.refs.Ref.{Ref}
-use Rattle.slot_arena.specs.declared.nodes.Node.{Node}
-use Rattle.slot_arena.specs.declared.nodes.Prev.{Prev}
-use Rattle.slot_arena.specs.declared.nodes.Slot.{Slot}
-use Rattle.slot_arena.specs.Heaps.{Heap, stored, node_of, prev_of, main_of, logical}
+use Rattle.machine_model.specs.Beneath.slot_arena.specs.Refs.{birth_of}
+use Rattle.machine_model.specs.Beneath.slot_arena.specs.declared.refs.Ref.{Ref}
+use Rattle.machine_model.specs.Beneath.slot_arena.specs.declared.nodes.Node.{Node}
+use Rattle.machine_model.specs.Beneath.slot_arena.specs.declared.nodes.Prev.{Prev}
+use Rattle.machine_model.specs.Beneath.slot_arena.specs.declared.nodes.Slot.{Slot}
+use Rattle.machine_model.specs.Beneath.slot_arena.specs.Heaps.{Heap, stored, node_of, prev_of, main_of, logical}
 use Rattle.machine_model.specs.States.{State}
 
 abbrev pub of_birth : ℕ → Option Slot → Option Slot

@@ -1,6 +1,6 @@
 -- Pairs of a key and its value, sorted.
 use Rattle.std.specs.Prelude.{ℕ, ◌==◌, Bool, nat_lt, List, if◌then◌else◌}
-use Rattle.ctrie_base.specs.Sorting.{put_by, sorted_by}
+use Rattle.machine_model.specs.Beneath.ctrie_base.specs.Sorting.{put_by, sorted_by}
 
 -- by key; two pairs of one key, which no map of a machine has, by value
 abbrev pub comes_before : ℕ × ℕ → ℕ × ℕ → Bool

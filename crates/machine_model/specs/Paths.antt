@@ -2,8 +2,8 @@
 -- one.
 use Rattle.std.specs.Prelude.{ℕ, ◌-◌, Bool, nat_lt, nat_eq, List, length, take, slice_index_or, Some, unwrap_or}
 use Rattle.std.specs.Option.{option_eq}
-use Rattle.slot_arena.specs.declared.refs.Ref.{Ref}
-use Rattle.slot_arena.specs.Heaps.{no_ref}
+use Rattle.machine_model.specs.Beneath.slot_arena.specs.declared.refs.Ref.{Ref}
+use Rattle.machine_model.specs.Beneath.slot_arena.specs.Heaps.{no_ref}
 use Rattle.nodes.specs.Levels.{flag_of}
 use Rattle.machine_model.specs.declared.operations.Operation.{Operation}
 use Rattle.machine_model.specs.Calls.{key_of}

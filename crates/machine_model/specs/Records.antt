@@ -10,7 +10,7 @@ use Rattle.history.specs.declared.events.Event.{Event}
 use Rattle.history.specs.declared.events.Event.TheVariants.{Begin, End}
 use Rattle.history.specs.declared.replies.Reply.{Reply}
 use Rattle.history.specs.declared.replies.Reply.TheVariants as reply
-use Rattle.slot_arena.specs.declared.refs.Ref.{Ref}
+use Rattle.machine_model.specs.Beneath.slot_arena.specs.declared.refs.Ref.{Ref}
 use Rattle.places.specs.declared.place.Place.{Place}
 use Rattle.places.specs.Places.{ids_by_place, on_time, place_by}
 use Rattle.machine_model.specs.declared.records.Carried.{Carried}

@@ -1,7 +1,7 @@
 -- Why a machine isn't made, or its content isn't told.
 use Rattle.std.specs.Prelude.{◌≡◌, ℕ, ◌⊎◌, None}
-use Rattle.ctrie_base.specs.declared.refusals.Refusal.{Refusal}
-use Rattle.ctrie_base.specs.declared.refusals.Refusal.TheVariants.{Memory, BadLimits, NoHandle}
+use Rattle.machine_model.specs.Beneath.ctrie_base.specs.declared.refusals.Refusal.{Refusal}
+use Rattle.machine_model.specs.Beneath.ctrie_base.specs.declared.refusals.Refusal.TheVariants.{Memory, BadLimits, NoHandle}
 use Rattle.machine_model.specs.declared.steps.Limits.{Limits}
 use Rattle.machine_model.specs.States.{State, root_at}
 use Rattle.machine_model.specs.Limits.{AreLimits}

@@ -1,6 +1,6 @@
 -- Three short runs, whose histories, orders and numbers were known from outside.
 use Rattle.std.specs.Prelude.{◌≡◌, ℕ, List, [], ◌∷◌, ◌++◌, length, replicate, Some, None}
-use Rattle.ctrie_base.specs.declared.hashes.HashKind.TheVariants.{Low}
+use Rattle.machine_model.specs.Beneath.ctrie_base.specs.declared.hashes.HashKind.TheVariants.{Low}
 use Rattle.history.specs.declared.calls.Call.{Call}
 use Rattle.history.specs.declared.calls.Call.TheVariants as call
 use Rattle.history.specs.declared.replies.Reply.TheVariants as reply
@@ -9,7 +9,7 @@ use Rattle.history.specs.declared.events.Event.TheVariants as event
 use Rattle.machine_model.specs.declared.steps.Step.{Step}
 use Rattle.machine_model.specs.declared.steps.Step.TheVariants as step
 use Rattle.machine_model.specs.declared.steps.Bounds.{Bounds}
-use Rattle.slot_arena.specs.Heaps.{in_use}
+use Rattle.machine_model.specs.Beneath.slot_arena.specs.Heaps.{in_use}
 use Rattle.machine_model.specs.States.{State}
 use Rattle.machine_model.specs.Limits.{step_limit}
 use Rattle.machine_model.specs.Machine.{run}

@@ -1,18 +1,18 @@
 -- The state of a machine: all that a step reads. What is recorded of a run stands beside it (Records).
 use Rattle.std.specs.Prelude.{ℕ, zero, suc, ◌-◌, List, [], Option, Some, None, slice_index_or, slice_set, replicate}
 use Rattle.std.specs.List.{range_with_len}
-use Rattle.ctrie_base.specs.Hashes.{hash_of}
+use Rattle.machine_model.specs.Beneath.ctrie_base.specs.Hashes.{hash_of}
 use Rattle.history.specs.declared.calls.Access.TheVariants.{Writable}
-use Rattle.slot_arena.specs.declared.refs.Ref.{Ref}
-use Rattle.slot_arena.specs.declared.nodes.Node.TheVariants.{Indirection}
+use Rattle.machine_model.specs.Beneath.slot_arena.specs.declared.refs.Ref.{Ref}
+use Rattle.machine_model.specs.Beneath.slot_arena.specs.declared.nodes.Node.TheVariants.{Indirection}
 use Rattle.epochs.specs.declared.limbo.Zeroed.{Zeroed}
 use Rattle.machine_model.specs.declared.steps.Bounds.{Bounds}
 use Rattle.machine_model.specs.declared.roots.Root.{Root}
 use Rattle.machine_model.specs.declared.roots.RootWord.{RootWord}
 use Rattle.machine_model.specs.declared.roots.RootWord.TheVariants.{Plain, Offer}
 use Rattle.machine_model.specs.declared.operations.Operation.{Operation}
-use Rattle.slot_arena.specs.Refs.{ref_to}
-use Rattle.slot_arena.specs.Heaps.{Heap, taken, no_ref, empty_branch}
+use Rattle.machine_model.specs.Beneath.slot_arena.specs.Refs.{ref_to}
+use Rattle.machine_model.specs.Beneath.slot_arena.specs.Heaps.{Heap, taken, no_ref, empty_branch}
 
 pub record State : Type 0 where
   pub limits : Bounds

@@ -1,6 +1,6 @@
 -- How many free slots a step takes, and who takes none.
 use Rattle.std.specs.Prelude.{◌≡◌, ◌≢◌, ℕ, ◌+◌, ◌<◌, ◌≤◌, List, length, Some, Ok}
-use Rattle.ctrie_base.specs.declared.kinds.Kind.TheVariants as kind
+use Rattle.machine_model.specs.Beneath.ctrie_base.specs.declared.kinds.Kind.TheVariants as kind
 use Rattle.history.specs.declared.calls.Access.TheVariants.{ReadOnly}
 use Rattle.history.specs.declared.replies.Reply.{Reply}
 use Rattle.history.specs.declared.replies.Reply.TheVariants.{NoSlots}

@@ -1,7 +1,7 @@
 -- What a step that is taken tells, beside its outcome. All of it is computed from the state before the step.
 use Rattle.std.specs.Prelude.{ℕ, Bool, true, false, Option, Some, None, if◌then◌else◌}
 use Rattle.history.specs.declared.calls.Call.{Call}
-use Rattle.slot_arena.specs.declared.refs.Ref.{Ref}
+use Rattle.machine_model.specs.Beneath.slot_arena.specs.declared.refs.Ref.{Ref}
 use Rattle.machine_model.specs.declared.operations.Operation.{Operation}
 use Rattle.machine_model.specs.declared.reading.After.{After}
 use Rattle.machine_model.specs.declared.reading.After.TheVariants.{Goes, Gives}
@@ -22,7 +22,7 @@ use Rattle.machine_model.specs.declared.records.Told.{Told}
 use Rattle.machine_model.specs.declared.records.Told.TheVariants as told
 use Rattle.machine_model.specs.declared.steps.Step.{Step}
 use Rattle.machine_model.specs.declared.steps.Step.TheVariants as step
-use Rattle.slot_arena.specs.Heaps.{generation_at}
+use Rattle.machine_model.specs.Beneath.slot_arena.specs.Heaps.{generation_at}
 use Rattle.machine_model.specs.Calls.{handle_of}
 use Rattle.machine_model.specs.States.{State, operation_of, word_at}
 use Rattle.machine_model.specs.Reading.{read_step, committed_by}

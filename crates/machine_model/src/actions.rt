@@ -2,7 +2,7 @@
 
 use crate::roots::Descriptor;
 use history::Reply;
-use slot_arena::{Node, Ref};
+use nodes::{Node, Ref};
 
 /// What one step of an operation does to the one word, slot or node that it touches.
 #[derive(Drop)]

@@ -1,6 +1,6 @@
 //! The nodes that a change of one key makes.
 
-use slot_arena::{Ref, Refs};
+use nodes::{Ref, Refs};
 
 /// Where the key's new single goes.
 #[derive(Clone, Copy)]

@@ -2,7 +2,7 @@
 
 use crate::reading::Read;
 use crate::roots::{Complete, Descriptor};
-use slot_arena::Ref;
+use nodes::Ref;
 
 /// A line of SNAP or CLEAR below its root.
 #[derive(Clone, Copy)]

@@ -2,7 +2,7 @@
 
 use crate::reading::Read;
 use history::Reply;
-use slot_arena::{Ref, Refs};
+use nodes::{Ref, Refs};
 
 /// A line of KEY below its root. A path has the indirections from the root down; the last is the
 /// current one.

@@ -34,12 +34,12 @@ pub use laws::{
     slots_add_up, taken_steps_suffice,
 };
 pub use lines::{Line, Purpose};
+pub use nodes::{Kind, NodeRef, Prev, Ref};
 pub use operations::Operation;
 pub use reading::{After, Read, ReadLine, Swap, SwapLine};
 pub use records::{Carried, Closing, Commit, Entrant, Moment, Progress, Publication, Told};
 pub use repairs::{CleanLine, Climb, ClimbLine, RenewLine};
 pub use roots::{Complete, CompleteLine, Descriptor, Root, RootLine, RootWord};
 pub use runs::{late_put, put_and_get, refused_for_want_of_slots};
-pub use slot_arena::{NodeRef, Prev, Ref};
 pub use steps::{Bounds, Limits, Outcome, Step};
 pub use walking::WalkLine;

@@ -8,7 +8,7 @@ use crate::repairs::{CleanLine, Climb, ClimbLine, RenewLine};
 use crate::roots::RootLine;
 use crate::walking::WalkLine;
 use history::Reply;
-use slot_arena::Refs;
+use nodes::Refs;
 
 /// What a SWAP is for.
 #[derive(Drop)]

@@ -2,7 +2,7 @@
 
 use crate::lines::Line;
 use history::{Access, Call};
-use slot_arena::Refs;
+use nodes::Refs;
 
 /// An operation that an actor runs.
 #[derive(Drop)]

@@ -1,7 +1,7 @@
 //! Reading and replacing the main node of an indirection.
 
 use crate::roots::Descriptor;
-use slot_arena::Ref;
+use nodes::Ref;
 
 /// What comes after a step of a program.
 #[derive(Clone, Copy)]

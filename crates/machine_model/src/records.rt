@@ -1,7 +1,7 @@
 //! What a step tells beside its outcome, and what is recorded of a run.
 
 use history::{Access, Call, Reply};
-use slot_arena::Ref;
+use nodes::Ref;
 
 /// An operation, as the order knows it.
 #[derive(Clone, Copy)]

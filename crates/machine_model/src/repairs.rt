@@ -2,7 +2,7 @@
 
 use crate::reading::Read;
 use crate::roots::RootLine;
-use slot_arena::{Ref, Refs};
+use nodes::{Ref, Refs};
 
 /// A line of RENEW: the current indirection's branch gets indirections of the root's generation. `done`
 /// has its new entries so far.

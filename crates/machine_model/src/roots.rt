@@ -2,7 +2,7 @@
 
 use crate::reading::ReadLine;
 use history::Access;
-use slot_arena::Ref;
+use nodes::Ref;
 
 /// An offer to swap a root for a new one, where the old one's main node is still the expected one. It
 /// stands in the root word itself.

@@ -1,8 +1,8 @@
 //! Steps and their outcomes.
 
-use ctrie_base::{HashKind, Kind};
 use epochs::Swept;
 use history::{Call, Reply};
+use nodes::{HashKind, Kind};
 
 /// The sizes of a machine that keeps its record.
 #[derive(Clone, Copy, Debug, PartialEq, Eq)]

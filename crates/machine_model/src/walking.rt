@@ -2,7 +2,7 @@
 
 use crate::reading::Read;
 use history::Pairs;
-use slot_arena::{Ref, Refs};
+use nodes::{Ref, Refs};
 
 /// A line of WALK. `todo` has the entries that are still to be looked at, the next one first; `pairs` those
 /// so far.

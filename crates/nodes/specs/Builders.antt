@@ -1,7 +1,7 @@
 -- Main nodes made from the main node before. A flag is that of a key's hash at the node's depth.
 use Rattle.std.specs.Prelude.{ℕ, ◌==◌, Bool, true, nat_lt, bit_or, bit_xor, List, [], ◌∷◌, ◌++◌, slice_set, insert, remove, if◌then◌else◌}
-use Rattle.ctrie_base.specs.Paths.{position_of}
-use Rattle.ctrie_base.specs.declared.hashes.HashKind.{HashKind}
+use Rattle.nodes.specs.Beneath.ctrie_base.specs.Paths.{position_of}
+use Rattle.nodes.specs.Beneath.ctrie_base.specs.declared.hashes.HashKind.{HashKind}
 use Rattle.slot_arena.specs.declared.refs.Ref.{Ref}
 use Rattle.slot_arena.specs.declared.nodes.Node.{Node}
 use Rattle.slot_arena.specs.declared.nodes.Node.TheVariants.{Branch, Tomb, List as Listed}

@@ -1,9 +1,9 @@
 -- The levels of the trie. Each stands for five bits of a hash; the root's depth is 0, and an indirection's level is five times
 -- its depth.
 use Rattle.std.specs.Prelude.{ℕ, zero, suc, ◌+◌, ◌*◌, ◌/◌, ◌==◌, Bool, not, bit_and, if◌then◌else◌}
-use Rattle.ctrie_base.specs.Hashes.{bits_of}
-use Rattle.ctrie_base.specs.Paths.{index_at, flag_at}
-use Rattle.ctrie_base.specs.declared.hashes.HashKind.{HashKind}
+use Rattle.nodes.specs.Beneath.ctrie_base.specs.Hashes.{bits_of}
+use Rattle.nodes.specs.Beneath.ctrie_base.specs.Paths.{index_at, flag_at}
+use Rattle.nodes.specs.Beneath.ctrie_base.specs.declared.hashes.HashKind.{HashKind}
 
 -- the depth below all levels of a hash, where lists stand: 7 for 32 bits, 13 for 64
 abbrev pub list_depth : HashKind → ℕ

@@ -1,3 +1,4 @@
+pub mod Beneath
 pub mod Levels
 pub mod Builders
 pub mod Contents

@@ -1,7 +1,7 @@
 //! Branches made from the branch before, of this bitmap and these entries.
 
 ghost use Rattle.std.specs.Prelude.{◌≡◌, ◌<◌, ◌≤◌, length, insert, remove, slice_set};
-ghost use Rattle.ctrie_base.specs.Paths.{position_of};
+ghost use Rattle.nodes.specs.Beneath.ctrie_base.specs.Paths.{position_of};
 ghost use Rattle.slot_arena.specs.Heaps.{entries_of};
 ghost use Rattle.nodes.specs.Builders.{inserted, updated, removed, renewed, contracted};
 ghost use Rattle.nodes.specs.Contents.{InsertsPair, UpdatesPair, RemovesPair, KeepsContent};

@@ -1,10 +1,10 @@
 //! The levels of the trie, each of which stands for five bits of a hash.
 
 ghost use Rattle.std.specs.Prelude.{◌≡◌, ◌-◌, ◌<◌, ◌≤◌};
-ghost use Rattle.ctrie_base.specs.Paths.{position_of};
+ghost use Rattle.nodes.specs.Beneath.ctrie_base.specs.Paths.{position_of};
 ghost use Rattle.nodes.specs.Levels.{list_depth, index_in, flag_of, has_flag, parting};
 
-use ctrie_base::HashKind;
+use slot_arena::HashKind;
 
 /// The depth below all levels of a hash, where lists stand.
 pub fn list_depth(kind: HashKind) -> usize

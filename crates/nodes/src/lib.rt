@@ -15,4 +15,6 @@ pub use entries::has_room;
 pub use levels::{flag_of, has_flag, index_in, list_depth, parting, position_of};
 pub use lists::{list_inserted, list_removed, list_updated};
 pub use pairs::{dual, rung};
-pub use slot_arena::MOST_ENTRIES;
+pub use slot_arena::{
+    Entries, EntryChange, HashKind, Kind, MOST_ENTRIES, Node, NodeRef, Prev, Ref, Refs,
+};

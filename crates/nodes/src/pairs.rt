@@ -6,8 +6,7 @@ ghost use Rattle.nodes.specs.Contents.{HasPairs, HasContent};
 
 use crate::entries::all_of;
 use crate::levels::{flag_of, index_in, list_depth};
-use ctrie_base::HashKind;
-use slot_arena::{Node, Ref};
+use slot_arena::{HashKind, Node, Ref};
 
 /// The main node of both, at the depth where they part: a branch, and below all levels a list, the older one
 /// first.

@@ -1,10 +1,10 @@
 -- What each line of a call on one key is told, asks and does.
 use Rattle.std.specs.Prelude.{◌≡◌, ℕ, List, Option, Some, None, refl}
-use Rattle.history.specs.declared.calls.Access.{Access}
-use Rattle.history.specs.declared.calls.Access.TheVariants.{Writable, ReadOnly}
-use Rattle.history.specs.declared.replies.Reply.{Reply}
-use Rattle.slot_arena.specs.declared.refs.Ref.{Ref}
-use Rattle.slot_arena.specs.declared.nodes.Node.{Node}
+use Rattle.operate.specs.Beneath.history.specs.declared.calls.Access.{Access}
+use Rattle.operate.specs.Beneath.history.specs.declared.calls.Access.TheVariants.{Writable, ReadOnly}
+use Rattle.operate.specs.Beneath.history.specs.declared.replies.Reply.{Reply}
+use Rattle.operate.specs.Beneath.slot_arena.specs.declared.refs.Ref.{Ref}
+use Rattle.operate.specs.Beneath.slot_arena.specs.declared.nodes.Node.{Node}
 use Rattle.operate.specs.Beneath.machine_model.specs.declared.actions.Action.{Action}
 use Rattle.operate.specs.Beneath.machine_model.specs.declared.actions.Action.TheVariants as act
 use Rattle.operate.specs.Beneath.machine_model.specs.declared.lines.Line.{Line}
@@ -25,7 +25,7 @@ use Rattle.operate.specs.Beneath.gcas.specs.declared.swap.SwapAt.{SwapAt}
 use Rattle.operate.specs.Beneath.gcas.specs.declared.swap.SwapAt.TheVariants as swap
 use Rattle.operate.specs.Beneath.gcas.specs.Reads.{IsAsking, line_at, line_of}
 use Rattle.operate.specs.Beneath.gcas.specs.Swaps.{swap_with}
-use Rattle.trie_parts.specs.Steps.{IsAskingLine}
+use Rattle.operate.specs.Beneath.trie_parts.specs.Steps.{IsAskingLine}
 use Rattle.operate.specs.Beneath.rdcss_root.specs.Tables.{Table, acted_table}
 use Rattle.root_asking.specs.Inside.{with_read}
 use Rattle.operate.specs.Beneath.key_change.specs.declared.building.Building.TheVariants as building

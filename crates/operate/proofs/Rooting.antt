@@ -1,11 +1,11 @@
 -- What ROOT comes to, as a call on one key sees it in which it runs.
 use Rattle.std.specs.Prelude.{◌≡◌, ℕ, [], refl}
 use Rattle.std.proofs.Common.{ap, sym, ◌∙◌}
-use Rattle.ctrie_base.specs.declared.kinds.Kind.{Kind}
-use Rattle.ctrie_base.specs.declared.kinds.Kind.TheVariants as kind
-use Rattle.history.specs.declared.calls.Access.{Access}
-use Rattle.slot_arena.specs.declared.refs.Ref.{Ref}
-use Rattle.slot_arena.specs.Heaps.{Heap}
+use Rattle.operate.specs.Beneath.ctrie_base.specs.declared.kinds.Kind.{Kind}
+use Rattle.operate.specs.Beneath.ctrie_base.specs.declared.kinds.Kind.TheVariants as kind
+use Rattle.operate.specs.Beneath.history.specs.declared.calls.Access.{Access}
+use Rattle.operate.specs.Beneath.slot_arena.specs.declared.refs.Ref.{Ref}
+use Rattle.operate.specs.Beneath.slot_arena.specs.Heaps.{Heap}
 use Rattle.operate.specs.Beneath.machine_model.specs.declared.operations.Operation.{Operation}
 use Rattle.operate.specs.Beneath.machine_model.specs.declared.reading.After.{After}
 use Rattle.operate.specs.Beneath.machine_model.specs.declared.roots.RootLine.{RootLine}
@@ -19,11 +19,11 @@ use Rattle.operate.specs.Beneath.machine_model.specs.Swapping.{root_action, root
 use Rattle.operate.specs.Beneath.gcas.specs.declared.read.Read.{Read}
 use Rattle.operate.specs.Beneath.gcas.specs.declared.read.ReadAt.{ReadAt}
 use Rattle.operate.specs.Beneath.gcas.specs.Reads.{ReadsAlong}
-use Rattle.trie_parts.specs.declared.calls.KeyCall.{KeyCall}
-use Rattle.trie_parts.specs.declared.calls.KeyCall.TheVariants.{Get, Put, PutIfAbsent, Replace, ReplaceIf, Remove, RemoveIf}
-use Rattle.trie_parts.specs.declared.calls.Task.{Task}
-use Rattle.trie_parts.specs.Tasks.{call_of}
-use Rattle.trie_parts.proofs.Handles.{handle_same}
+use Rattle.operate.specs.Beneath.trie_parts.specs.declared.calls.KeyCall.{KeyCall}
+use Rattle.operate.specs.Beneath.trie_parts.specs.declared.calls.KeyCall.TheVariants.{Get, Put, PutIfAbsent, Replace, ReplaceIf, Remove, RemoveIf}
+use Rattle.operate.specs.Beneath.trie_parts.specs.declared.calls.Task.{Task}
+use Rattle.operate.specs.Beneath.trie_parts.specs.Tasks.{call_of}
+use Rattle.operate.specs.Beneath.trie_parts.proofs.Handles.{handle_same}
 
 -- a call on one key goes down from the root
 pub below : (call : KeyCall) (handle : ℕ) (r : Ref) → from_root (call_of handle call) r ≡ going_down [] r

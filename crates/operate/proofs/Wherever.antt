@@ -17,7 +17,7 @@ use Rattle.operate.specs.Beneath.rdcss_root.specs.declared.root.ReadRoot.{ReadRo
 use Rattle.operate.specs.Beneath.rdcss_root.specs.declared.root.ReadRoot.TheVariants as rooting
 use Rattle.operate.specs.Beneath.rdcss_root.specs.Programs.{root_of, rooted_at}
 use Rattle.operate.specs.Beneath.rdcss_root.specs.Tables.{Table}
-use Rattle.trie_parts.specs.Steps.{IsAskingLine}
+use Rattle.operate.specs.Beneath.trie_parts.specs.Steps.{IsAskingLine}
 use Rattle.root_asking.specs.Inside.{with_read}
 use Rattle.contract.specs.Climbing.{climb_of}
 use Rattle.key_finding.specs.Replies.{reply_of}

@@ -1,7 +1,7 @@
 -- Where a call on one key stands, as the definition's lines.
 use Rattle.std.specs.Prelude.{ℕ, List, Option, Some, None}
-use Rattle.history.specs.declared.replies.Reply.{Reply}
-use Rattle.slot_arena.specs.declared.refs.Ref.{Ref}
+use Rattle.operate.specs.Beneath.history.specs.declared.replies.Reply.{Reply}
+use Rattle.operate.specs.Beneath.slot_arena.specs.declared.refs.Ref.{Ref}
 use Rattle.operate.specs.Beneath.machine_model.specs.declared.finding.KeyLine.TheVariants as key
 use Rattle.operate.specs.Beneath.machine_model.specs.declared.lines.Line.{Line}
 use Rattle.operate.specs.Beneath.machine_model.specs.declared.lines.Line.TheVariants as line

@@ -1,9 +1,9 @@
 -- What a step of a call on one key comes to, does and asks.
 use Rattle.std.specs.Prelude.{◌≡◌, ◌<◌, ℕ, List, length, Option, None}
-use Rattle.ctrie_base.specs.declared.kinds.Kind.{Kind}
-use Rattle.slot_arena.specs.declared.refs.Ref.{Ref}
-use Rattle.slot_arena.specs.Heaps.{Heap}
-use Rattle.epochs.specs.Memories.{Memory}
+use Rattle.operate.specs.Beneath.ctrie_base.specs.declared.kinds.Kind.{Kind}
+use Rattle.operate.specs.Beneath.slot_arena.specs.declared.refs.Ref.{Ref}
+use Rattle.operate.specs.Beneath.slot_arena.specs.Heaps.{Heap}
+use Rattle.operate.specs.Beneath.epochs.specs.Memories.{Memory}
 use Rattle.operate.specs.Beneath.machine_model.specs.declared.lines.Line.{Line}
 use Rattle.operate.specs.Beneath.machine_model.specs.declared.lines.Line.TheVariants as line
 use Rattle.operate.specs.Beneath.machine_model.specs.declared.operations.Operation.{Operation}
@@ -18,11 +18,11 @@ use Rattle.operate.specs.Beneath.gcas.specs.declared.next.Next.TheVariants.{More
 use Rattle.operate.specs.Beneath.gcas.specs.declared.read.Read.{Read}
 use Rattle.operate.specs.Beneath.gcas.specs.declared.read.ReadAt.{ReadAt}
 use Rattle.operate.specs.Beneath.gcas.specs.Reads.{CanReadOn, committed_so}
-use Rattle.trie_parts.specs.declared.calls.Task.{Task}
-use Rattle.trie_parts.specs.Here.{at_heap}
-use Rattle.trie_parts.specs.Holding.{Acts}
-use Rattle.trie_parts.specs.Steps.{StepsOn}
-use Rattle.trie_parts.specs.Tasks.{for_task}
+use Rattle.operate.specs.Beneath.trie_parts.specs.declared.calls.Task.{Task}
+use Rattle.operate.specs.Beneath.trie_parts.specs.Here.{at_heap}
+use Rattle.operate.specs.Beneath.trie_parts.specs.Holding.{Acts}
+use Rattle.operate.specs.Beneath.trie_parts.specs.Steps.{StepsOn}
+use Rattle.operate.specs.Beneath.trie_parts.specs.Tasks.{for_task}
 use Rattle.operate.specs.Beneath.rdcss_root.specs.Acts.{ActsInAll}
 use Rattle.operate.specs.Beneath.rdcss_root.specs.declared.root.ReadRoot.{ReadRoot}
 use Rattle.operate.specs.Beneath.rdcss_root.specs.Programs.{CanRootOn, ReadsItsRoot, rooted_at}

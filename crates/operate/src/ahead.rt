@@ -9,9 +9,8 @@ ghost use Rattle.key_finding.specs.Replies.{reply_of};
 ghost use Rattle.operate.specs.Places.{answer_of, key_line};
 
 use crate::key_op::{BelowAt, KeyAt, KeyOp};
-use ctrie_base::Kind;
+use contract::{Entrant, Kind, Publication};
 use key_finding::KeyReply;
-use trie_parts::{Entrant, Publication};
 
 impl KeyOp {
     /// Whether its next step is a READ's.

@@ -1,9 +1,9 @@
 //! The steps of a call on one key below its root.
 
 ghost use Rattle.std.specs.Prelude.{◌≡◌, ◌<◌, ℕ, List, length, Option, None};
-ghost use Rattle.ctrie_base.specs.declared.hashes.HashKind.{HashKind};
-ghost use Rattle.slot_arena.specs.Heaps.{node_at};
-ghost use Rattle.slot_arena.specs.declared.refs.Ref.{Ref as ARef};
+ghost use Rattle.operate.specs.Beneath.ctrie_base.specs.declared.hashes.HashKind.{HashKind};
+ghost use Rattle.operate.specs.Beneath.slot_arena.specs.Heaps.{node_at};
+ghost use Rattle.operate.specs.Beneath.slot_arena.specs.declared.refs.Ref.{Ref as ARef};
 ghost use Rattle.operate.specs.Beneath.machine_model.specs.Finding.{going_down};
 ghost use Rattle.operate.specs.Beneath.machine_model.specs.Operations.{after_update};
 ghost use Rattle.operate.specs.Beneath.machine_model.specs.Paths.{above, current};
@@ -14,8 +14,8 @@ ghost use Rattle.operate.specs.Beneath.machine_model.specs.declared.finding.KeyL
 ghost use Rattle.operate.specs.Beneath.machine_model.specs.declared.lines.Line.TheVariants as line;
 ghost use Rattle.operate.specs.Beneath.machine_model.specs.declared.operations.Operation.{Operation};
 ghost use Rattle.operate.specs.Beneath.gcas.specs.Reads.{read_of, CanReadOn, IsAskingRoot};
-ghost use Rattle.trie_parts.specs.Here.{at_heap};
-ghost use Rattle.trie_parts.specs.Holding.{AreHeld};
+ghost use Rattle.operate.specs.Beneath.trie_parts.specs.Here.{at_heap};
+ghost use Rattle.operate.specs.Beneath.trie_parts.specs.Holding.{AreHeld};
 ghost use Rattle.operate.specs.Beneath.key_change.specs.Lines.{line_of as change_line};
 ghost use Rattle.operate.specs.Beneath.key_change.specs.Steps.{CanChange, line_behind as line_tried};
 ghost use Rattle.key_finding.specs.Lines.{line_found};
@@ -25,11 +25,8 @@ ghost use Rattle.operate.specs.Steps.{CommitsNoMore, KeySteps, KeyActs, ReadsKey
 
 use crate::key_op::{BelowAt, KeyAt, KeyOp};
 use crate::went::Went;
-use ctrie_base::Kind;
-use epochs::Heap;
+use contract::{Heap, Kind, Next, NodeRef, Ref, above, current, node_at};
 use key_finding::{Change, Entered, Found, KeyReply, Tried, after_entry, after_listed, after_main};
-use slot_arena::{NodeRef, Ref};
-use trie_parts::{Next, above, current, node_at};
 
 impl KeyOp {
     /// Takes a step of the current indirection's READ.

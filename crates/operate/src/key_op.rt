@@ -1,16 +1,16 @@
 //! A call on one key, step by step.
 
 ghost use Rattle.std.specs.Prelude.{◌≡◌, if◌then◌else◌, List, [], None};
-ghost use Rattle.slot_arena.specs.declared.refs.Ref.{Ref as ARef};
-ghost use Rattle.history.specs.declared.calls.Access.{Access as AnAccess};
+ghost use Rattle.operate.specs.Beneath.slot_arena.specs.declared.refs.Ref.{Ref as ARef};
+ghost use Rattle.operate.specs.Beneath.history.specs.declared.calls.Access.{Access as AnAccess};
 ghost use Rattle.operate.specs.Beneath.machine_model.specs.Climbing.{climbed, climbing};
 ghost use Rattle.operate.specs.Beneath.machine_model.specs.Lines.{new_try};
 ghost use Rattle.operate.specs.Beneath.machine_model.specs.Swapping.{root_action};
 ghost use Rattle.operate.specs.Beneath.machine_model.specs.declared.lines.Line.TheVariants as line;
 ghost use Rattle.operate.specs.Beneath.machine_model.specs.declared.operations.Operation.{Operation};
 ghost use Rattle.operate.specs.Beneath.gcas.specs.Reads.{begun, IsAskingRoot};
-ghost use Rattle.trie_parts.specs.Holding.{AreHeld};
-ghost use Rattle.trie_parts.specs.Tasks.{for_task, is_begun_in};
+ghost use Rattle.operate.specs.Beneath.trie_parts.specs.Holding.{AreHeld};
+ghost use Rattle.operate.specs.Beneath.trie_parts.specs.Tasks.{for_task, is_begun_in};
 ghost use Rattle.operate.specs.Beneath.rdcss_root.specs.Acts.{ActsInAll};
 ghost use Rattle.operate.specs.Beneath.rdcss_root.specs.Programs.{root_of, CanRootOn, rooted_at};
 ghost use Rattle.operate.specs.Beneath.rdcss_root.specs.Tables.{word_in};
@@ -21,14 +21,12 @@ ghost use Rattle.operate.specs.Steps.{RootSteps, RootActs, CommitsNoMore, KeepsG
 
 use crate::path::Path;
 use crate::went::Went;
-use contract::{Clean, Climb, ClimbAt, Renew};
-use ctrie_base::{HashKind, Kind};
-use epochs::Heap;
-use history::Access;
+use contract::{
+    Access, Clean, Climb, ClimbAt, HashKind, Heap, KeyCall, Kind, Next, Private, Ref, Renew, Swap,
+    Task, Work, generation_at, is_below_root,
+};
 use key_finding::{Change, ChangeAt, KeyReply, changed_reply};
 use root_asking::{ReadRoot, Roots};
-use slot_arena::Ref;
-use trie_parts::{KeyCall, Next, Private, Swap, Task, Work, generation_at, is_below_root};
 
 /// Where a call stands below its root.
 #[derive(Clone, Copy)]

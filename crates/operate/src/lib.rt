@@ -17,10 +17,10 @@ mod path;
 mod repairs;
 mod went;
 
+pub use contract::{
+    Heap, KeyCall, Publication, Ref, changed_at, entries_at, entry_at, flag_of, generation_at,
+    make_changed, node_at, release_all,
+};
 pub use key_finding::KeyReply;
 pub use key_op::{BelowAt, KeyAt, KeyOp};
 pub use laws::{acts_of_key, tells_key};
-pub use trie_parts::{
-    KeyCall, Publication, changed_at, entries_at, entry_at, flag_of, generation_at, make_changed,
-    node_at, release_all,
-};

@@ -4,7 +4,7 @@ ghost use Rattle.std.specs.Prelude.{◌≡◌, ◌<◌, ◌∷◌, ◌++◌, [],
 ghost use Rattle.operate.specs.Beneath.machine_model.specs.Paths.{above};
 
 use arrayvec::ArrayVec;
-use slot_arena::Ref;
+use contract::Ref;
 use std::marker::Model;
 
 /// The most indirections of a path: a trie has so many levels.

@@ -2,11 +2,11 @@
 
 ghost use Rattle.std.specs.Prelude.{◌≡◌, None};
 ghost use Rattle.operate.specs.Beneath.machine_model.specs.Paths.{above, current};
-ghost use Rattle.history.specs.declared.calls.Access.{Access as AnAccess};
-ghost use Rattle.trie_parts.specs.Tasks.{for_task};
+ghost use Rattle.operate.specs.Beneath.history.specs.declared.calls.Access.{Access as AnAccess};
+ghost use Rattle.operate.specs.Beneath.trie_parts.specs.Tasks.{for_task};
 ghost use Rattle.operate.specs.Beneath.machine_model.specs.declared.operations.Operation.{Operation};
 ghost use Rattle.operate.specs.Beneath.gcas.specs.Reads.{IsAskingRoot};
-ghost use Rattle.trie_parts.specs.Holding.{AreHeld};
+ghost use Rattle.operate.specs.Beneath.trie_parts.specs.Holding.{AreHeld};
 ghost use Rattle.contract.specs.Cleaning.{clean_line, CanClean, line_behind as line_cleaned};
 ghost use Rattle.contract.specs.Climbing.{climb_line, climb_of, CanClimb, line_behind as line_climbed};
 ghost use Rattle.contract.specs.Renewing.{renew_line, CanRenew, line_behind as line_renewed};
@@ -16,11 +16,9 @@ ghost use Rattle.operate.specs.Steps.{CommitsNoMore, KeySteps, KeyActs, ReadsKey
 
 use crate::key_op::{BelowAt, KeyAt, KeyOp};
 use crate::went::Went;
-use contract::{Cleaned, Climbed, Renewed};
-use epochs::Heap;
+use contract::{Cleaned, Climbed, Heap, Next, Renewed, above, current};
 use key_finding::KeyReply;
 use root_asking::ReadRoot;
-use trie_parts::{Next, above, current};
 
 impl KeyOp {
     /// Takes a step of a renewing.

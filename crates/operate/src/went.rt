@@ -3,9 +3,8 @@
 ghost use Rattle.std.specs.Prelude.{◌≡◌};
 ghost use Rattle.operate.specs.Apart.{next_of};
 
-use ctrie_base::Kind;
+use contract::{Kind, Next};
 use key_finding::KeyReply;
-use trie_parts::Next;
 
 /// What came of a step that isn't one of those that most calls take most often. It is two small numbers, and so goes by
 /// registers from a function that isn't inlined.

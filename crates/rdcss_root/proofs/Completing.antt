@@ -1,10 +1,10 @@
 -- A READ inside of COMPLETE.
 use Rattle.std.specs.Prelude.{◌≡◌, Some, None}
 use Rattle.std.proofs.Common.{arith, refl, sym, ap, subst, ◌∙◌}
-use Rattle.ctrie_base.specs.declared.kinds.Kind.{Kind}
-use Rattle.history.specs.declared.calls.Access.{Access}
-use Rattle.slot_arena.specs.declared.refs.Ref.{Ref}
-use Rattle.slot_arena.specs.Heaps.{Heap}
+use Rattle.rdcss_root.specs.Beneath.ctrie_base.specs.declared.kinds.Kind.{Kind}
+use Rattle.rdcss_root.specs.Beneath.history.specs.declared.calls.Access.{Access}
+use Rattle.rdcss_root.specs.Beneath.slot_arena.specs.declared.refs.Ref.{Ref}
+use Rattle.rdcss_root.specs.Beneath.slot_arena.specs.Heaps.{Heap}
 use Rattle.rdcss_root.specs.Beneath.machine_model.specs.declared.reading.After.TheVariants.{Goes}
 use Rattle.rdcss_root.specs.Beneath.machine_model.specs.declared.reading.ReadLine.{ReadLine}
 use Rattle.rdcss_root.specs.Beneath.machine_model.specs.declared.roots.CompleteLine.TheVariants as complete

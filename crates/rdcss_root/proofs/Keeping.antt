@@ -2,10 +2,10 @@
 use Rattle.std.specs.Prelude.{◌≡◌, ℕ, ◌+◌, ◌<◌, ◌≤◌, List, length}
 use Rattle.std.proofs.Common.{arith, ◌∙◌, refl, ap, get_or}
 use Rattle.std.proofs.lemmas.List.Elements.{All-get_or}
-use Rattle.slot_arena.specs.declared.refs.Ref.{Ref}
-use Rattle.slot_arena.specs.Heaps.{Heap}
-use Rattle.slot_arena.specs.Arenas.{is_live, IsLive, AreLive}
-use Rattle.epochs.specs.Memories.{Memory}
+use Rattle.rdcss_root.specs.Beneath.slot_arena.specs.declared.refs.Ref.{Ref}
+use Rattle.rdcss_root.specs.Beneath.slot_arena.specs.Heaps.{Heap}
+use Rattle.rdcss_root.specs.Beneath.slot_arena.specs.Arenas.{is_live, IsLive, AreLive}
+use Rattle.rdcss_root.specs.Beneath.epochs.specs.Memories.{Memory}
 use Rattle.rdcss_root.specs.Holding.{KeepsMemory}
 
 pub kept : (m : Memory) → KeepsMemory m m 0

@@ -5,12 +5,12 @@ use Rattle.std.proofs.Common.{arith, rules, ◌∙◌, refl, sym, ap, subst}
 use Rattle.std.proofs.lemmas.List.{set_past}
 use Rattle.std.proofs.lemmas.List.Concat.{flat_map-cons}
 use Rattle.std.proofs.lemmas.List.Sums.{sum_by-set, sum_by-cons}
-use Rattle.slot_arena.specs.declared.refs.Ref.{Ref}
-use Rattle.slot_arena.specs.Times.{times}
-use Rattle.slot_arena.proofs.Times.{times-append, times_le}
-use Rattle.slot_arena.specs.Heaps.{Heap, refs_of_option}
-use Rattle.slot_arena.specs.Arenas.{AreLive}
-use Rattle.epochs.specs.Memories.{Memory}
+use Rattle.rdcss_root.specs.Beneath.slot_arena.specs.declared.refs.Ref.{Ref}
+use Rattle.rdcss_root.specs.Beneath.slot_arena.specs.Times.{times}
+use Rattle.rdcss_root.specs.Beneath.slot_arena.proofs.Times.{times-append, times_le}
+use Rattle.rdcss_root.specs.Beneath.slot_arena.specs.Heaps.{Heap, refs_of_option}
+use Rattle.rdcss_root.specs.Beneath.slot_arena.specs.Arenas.{AreLive}
+use Rattle.rdcss_root.specs.Beneath.epochs.specs.Memories.{Memory}
 use Rattle.rdcss_root.specs.Beneath.machine_model.specs.declared.roots.Root.{Root}
 use Rattle.rdcss_root.specs.Beneath.machine_model.specs.declared.roots.RootWord.{RootWord}
 use Rattle.rdcss_root.specs.Beneath.machine_model.specs.declared.roots.RootWord.TheVariants.{Plain, Offer}

@@ -1,11 +1,11 @@
 -- What a step does to the private list and to the root words together, where it leaves one of them alone.
 use Rattle.std.specs.Prelude.{◌≡◌, List, Option, refl}
 use Rattle.std.proofs.Common.{arith, ap, ◌∙◌}
-use Rattle.ctrie_base.specs.declared.hashes.HashKind.TheVariants.{Low}
-use Rattle.slot_arena.specs.declared.refs.Ref.{Ref}
-use Rattle.slot_arena.specs.Arenas.{is_live}
-use Rattle.slot_arena.specs.Times.{times}
-use Rattle.epochs.specs.Memories.{Memory}
+use Rattle.rdcss_root.specs.Beneath.ctrie_base.specs.declared.hashes.HashKind.TheVariants.{Low}
+use Rattle.rdcss_root.specs.Beneath.slot_arena.specs.declared.refs.Ref.{Ref}
+use Rattle.rdcss_root.specs.Beneath.slot_arena.specs.Arenas.{is_live}
+use Rattle.rdcss_root.specs.Beneath.slot_arena.specs.Times.{times}
+use Rattle.rdcss_root.specs.Beneath.epochs.specs.Memories.{Memory}
 use Rattle.rdcss_root.specs.Beneath.machine_model.specs.declared.actions.Action.{Action}
 use Rattle.rdcss_root.specs.Beneath.machine_model.specs.declared.actions.Action.TheVariants as act
 use Rattle.rdcss_root.specs.Beneath.machine_model.specs.declared.reading.ReadLine.{ReadLine}

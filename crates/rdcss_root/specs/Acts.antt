@@ -1,11 +1,11 @@
 -- What a step does to the heap, to a private list and to the root words together.
 use Rattle.std.specs.Prelude.{◌≡◌, ◌+◌, ◌≤◌, List, length, Option}
-use Rattle.ctrie_base.specs.declared.hashes.HashKind.TheVariants.{Low}
-use Rattle.slot_arena.specs.declared.refs.Ref.{Ref}
-use Rattle.slot_arena.specs.Arenas.{IsLive}
-use Rattle.slot_arena.specs.Ticking.{TakesUpTo}
-use Rattle.slot_arena.specs.Times.{times}
-use Rattle.epochs.specs.Memories.{Memory, KeepsEpochs}
+use Rattle.rdcss_root.specs.Beneath.ctrie_base.specs.declared.hashes.HashKind.TheVariants.{Low}
+use Rattle.rdcss_root.specs.Beneath.slot_arena.specs.declared.refs.Ref.{Ref}
+use Rattle.rdcss_root.specs.Beneath.slot_arena.specs.Arenas.{IsLive}
+use Rattle.rdcss_root.specs.Beneath.slot_arena.specs.Ticking.{TakesUpTo}
+use Rattle.rdcss_root.specs.Beneath.slot_arena.specs.Times.{times}
+use Rattle.rdcss_root.specs.Beneath.epochs.specs.Memories.{Memory, KeepsEpochs}
 use Rattle.rdcss_root.specs.Beneath.machine_model.specs.declared.actions.Action.{Action}
 use Rattle.rdcss_root.specs.Beneath.machine_model.specs.declared.roots.Root.{Root}
 use Rattle.rdcss_root.specs.Beneath.machine_model.specs.Acting.{private_after}

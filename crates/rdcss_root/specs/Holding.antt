@@ -1,9 +1,9 @@
 -- Holding and releasing references, and what root words hold.
 use Rattle.std.specs.Prelude.{◌≡◌, ℕ, ◌+◌, ◌*◌, ◌<◌, ◌≤◌, ◌^◌, List, length, flat_map, Option}
-use Rattle.slot_arena.specs.declared.refs.Ref.{Ref}
-use Rattle.slot_arena.specs.Times.{times}
-use Rattle.slot_arena.specs.Ticking.{TakesUpTo}
-use Rattle.epochs.specs.Memories.{Memory, KeepsEpochs}
+use Rattle.rdcss_root.specs.Beneath.slot_arena.specs.declared.refs.Ref.{Ref}
+use Rattle.rdcss_root.specs.Beneath.slot_arena.specs.Times.{times}
+use Rattle.rdcss_root.specs.Beneath.slot_arena.specs.Ticking.{TakesUpTo}
+use Rattle.rdcss_root.specs.Beneath.epochs.specs.Memories.{Memory, KeepsEpochs}
 use Rattle.rdcss_root.specs.Beneath.machine_model.specs.declared.roots.Root.{Root}
 use Rattle.rdcss_root.specs.Beneath.machine_model.specs.Counting.{refs_of_root}
 

@@ -1,10 +1,10 @@
 -- COMPLETE, ROOT and ABORT of the code as the definition's, and what a step of them comes to.
 use Rattle.std.specs.Prelude.{◌≡◌, ℕ, Bool, [], ◌∷◌, List, Option, Some, None}
-use Rattle.history.specs.declared.calls.Access.TheVariants.{Writable}
-use Rattle.slot_arena.specs.declared.refs.Ref.{Ref}
-use Rattle.slot_arena.specs.Heaps.{Heap}
-use Rattle.slot_arena.specs.Arenas.{AreLive}
-use Rattle.epochs.specs.Memories.{Memory}
+use Rattle.rdcss_root.specs.Beneath.history.specs.declared.calls.Access.TheVariants.{Writable}
+use Rattle.rdcss_root.specs.Beneath.slot_arena.specs.declared.refs.Ref.{Ref}
+use Rattle.rdcss_root.specs.Beneath.slot_arena.specs.Heaps.{Heap}
+use Rattle.rdcss_root.specs.Beneath.slot_arena.specs.Arenas.{AreLive}
+use Rattle.rdcss_root.specs.Beneath.epochs.specs.Memories.{Memory}
 use Rattle.rdcss_root.specs.Beneath.machine_model.specs.declared.reading.After.TheVariants.{Goes, Gives}
 use Rattle.rdcss_root.specs.Beneath.machine_model.specs.declared.reading.ReadLine.{ReadLine}
 use Rattle.rdcss_root.specs.Beneath.machine_model.specs.declared.reading.ReadLine.TheVariants as read

@@ -1,6 +1,6 @@
 -- The table of root words, and what the actions on root words make of it.
 use Rattle.std.specs.Prelude.{◌≡◌, ℕ, ◌+◌, ◌==◌, Bool, true, false, List, replicate, slice_index_or, slice_set, Option, Some, None, if◌then◌else◌}
-use Rattle.slot_arena.specs.declared.refs.Ref.{Ref}
+use Rattle.rdcss_root.specs.Beneath.slot_arena.specs.declared.refs.Ref.{Ref}
 use Rattle.rdcss_root.specs.Beneath.machine_model.specs.declared.roots.Root.{Root}
 use Rattle.rdcss_root.specs.Beneath.machine_model.specs.declared.roots.RootWord.{RootWord}
 use Rattle.rdcss_root.specs.Beneath.machine_model.specs.declared.roots.RootWord.TheVariants.{Plain, Offer}

@@ -1,15 +1,13 @@
 //! ABORT: gives the generation of the root, and takes back an offer that stands in its way.
 
 ghost use Rattle.std.specs.Prelude.{◌≡◌};
-ghost use Rattle.slot_arena.specs.declared.refs.Ref.{Ref};
+ghost use Rattle.rdcss_root.specs.Beneath.slot_arena.specs.declared.refs.Ref.{Ref};
 ghost use Rattle.rdcss_root.specs.Holding.{Moves};
 ghost use Rattle.rdcss_root.specs.Tables.{word_in, aborted_in};
 ghost use Rattle.rdcss_root.specs.Programs.{AbortsOn, CanAbortOn, table_after_abort};
 
 use crate::roots::Roots;
-use ctrie_base::Kind;
-use epochs::Heap;
-use trie_parts::{Descriptor, Next, RootWord, generation_at};
+use trie_parts::{Descriptor, Heap, Kind, Next, RootWord, generation_at};
 
 /// An ABORT of a READ that wants the generation of the root.
 #[derive(Clone, Copy)]

@@ -1,8 +1,8 @@
 //! COMPLETE: brings an offer to its end.
 
 ghost use Rattle.std.specs.Prelude.{◌≡◌, ℕ, None, List, Option, is_some};
-ghost use Rattle.slot_arena.specs.declared.refs.Ref.{Ref as ARef};
-ghost use Rattle.slot_arena.specs.Arenas.{AreLive};
+ghost use Rattle.rdcss_root.specs.Beneath.slot_arena.specs.declared.refs.Ref.{Ref as ARef};
+ghost use Rattle.rdcss_root.specs.Beneath.slot_arena.specs.Arenas.{AreLive};
 ghost use Rattle.rdcss_root.specs.Beneath.machine_model.specs.declared.roots.RootWord.{RootWord};
 ghost use Rattle.rdcss_root.specs.Beneath.machine_model.specs.declared.roots.RootWord.TheVariants.{Offer};
 ghost use Rattle.rdcss_root.specs.Beneath.machine_model.specs.Counting.{refs_of_word};
@@ -18,10 +18,7 @@ ghost use Rattle.rdcss_root.specs.Beneath.machine_model.specs.Operations.{kind_o
 ghost use Rattle.rdcss_root.specs.Beneath.gcas.specs.declared.read.Read.{Read as ARead};
 
 use crate::roots::Roots;
-use ctrie_base::Kind;
-use epochs::Heap;
-use slot_arena::Ref;
-use trie_parts::{Descriptor, Next, Read};
+use trie_parts::{Descriptor, Heap, Kind, Next, Read, Ref};
 
 /// Where a COMPLETE stands.
 #[derive(Clone, Copy)]

@@ -1,15 +1,13 @@
 //! References that are held from outside the slots, for what stands in root words.
 
 ghost use Rattle.std.specs.Prelude.{◌+◌, ◌<◌, ◌^◌, ℕ, length};
-ghost use Rattle.slot_arena.specs.Times.{times};
-ghost use Rattle.slot_arena.specs.Arenas.{AreLive};
+ghost use Rattle.rdcss_root.specs.Beneath.slot_arena.specs.Times.{times};
+ghost use Rattle.rdcss_root.specs.Beneath.slot_arena.specs.Arenas.{AreLive};
 ghost use Rattle.rdcss_root.specs.Beneath.machine_model.specs.Counting.{refs_of_word, refs_of_root};
 ghost use Rattle.trie_parts.specs.Holding.{AreHeld};
 ghost use Rattle.rdcss_root.specs.Holding.{HoldsMore, Releases};
 
-use epochs::Heap;
-use slot_arena::Ref;
-use trie_parts::{Root, RootWord};
+use trie_parts::{Heap, Ref, Root, RootWord};
 
 /// Holds each of these references once more.
 fn hold_all(heap: &mut Heap, refs: &[Ref])

@@ -33,4 +33,7 @@ pub use laws::acts_on_table;
 pub use offer::Offer;
 pub use root::ReadRoot;
 pub use roots::Roots;
-pub use trie_parts::{Descriptor, Next};
+pub use trie_parts::{
+    Descriptor, Heap, Kind, MOST_ENTRIES, Next, Node, NodeRef, Read, ReadAt, Ref, RootWord, Work,
+    entries_at, generation_at, node_at, renewed,
+};

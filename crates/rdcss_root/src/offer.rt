@@ -1,16 +1,14 @@
 //! OFFER: puts an offer into the root word.
 
 ghost use Rattle.std.specs.Prelude.{◌≡◌};
-ghost use Rattle.slot_arena.specs.Arenas.{AreLive};
+ghost use Rattle.rdcss_root.specs.Beneath.slot_arena.specs.Arenas.{AreLive};
 ghost use Rattle.rdcss_root.specs.Beneath.machine_model.specs.Counting.{refs_of_word};
 ghost use Rattle.rdcss_root.specs.Beneath.machine_model.specs.Swapping.{is_plain};
 ghost use Rattle.rdcss_root.specs.Holding.{IsReady, Moves};
 ghost use Rattle.rdcss_root.specs.Tables.{word_in, offered_in};
 
 use crate::roots::Roots;
-use ctrie_base::Kind;
-use epochs::Heap;
-use trie_parts::{Descriptor, Next, RootWord};
+use trie_parts::{Descriptor, Heap, Kind, Next, RootWord};
 
 /// An offer that is to be put into a root word.
 #[derive(Clone, Copy)]

@@ -1,8 +1,8 @@
 //! ROOT: gives the root, behind the end of an offer that stands in its way.
 
 ghost use Rattle.std.specs.Prelude.{◌≡◌, ℕ, None, List, Option, is_some};
-ghost use Rattle.slot_arena.specs.declared.refs.Ref.{Ref as ARef};
-ghost use Rattle.slot_arena.specs.Heaps.{Heap as Store};
+ghost use Rattle.rdcss_root.specs.Beneath.slot_arena.specs.declared.refs.Ref.{Ref as ARef};
+ghost use Rattle.rdcss_root.specs.Beneath.slot_arena.specs.Heaps.{Heap as Store};
 ghost use Rattle.rdcss_root.specs.Beneath.machine_model.specs.Swapping.{root_action};
 ghost use Rattle.rdcss_root.specs.Beneath.gcas.specs.Acted.{acted_heap};
 ghost use Rattle.rdcss_root.specs.Beneath.gcas.specs.Reads.{IsAskingRoot};
@@ -14,10 +14,7 @@ ghost use Rattle.rdcss_root.specs.Beneath.gcas.specs.declared.read.Read.{Read as
 
 use crate::complete::Complete;
 use crate::roots::Roots;
-use ctrie_base::Kind;
-use epochs::Heap;
-use slot_arena::Ref;
-use trie_parts::{Next, Read, RootWord};
+use trie_parts::{Heap, Kind, Next, Read, Ref, RootWord};
 
 /// A ROOT. Its READ is the operation's.
 #[derive(Clone, Copy)]

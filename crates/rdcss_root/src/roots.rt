@@ -1,7 +1,7 @@
 //! The root words by handle.
 
 ghost use Rattle.std.specs.Prelude.{◌≡◌, ◌<◌, [], ◌∷◌, IfOk, replicate, slice_index_or, slice_set, vec_len, true, false, Some, None};
-ghost use Rattle.slot_arena.specs.Arenas.{AreLive};
+ghost use Rattle.rdcss_root.specs.Beneath.slot_arena.specs.Arenas.{AreLive};
 ghost use Rattle.rdcss_root.specs.Beneath.machine_model.specs.Counting.{refs_of_root, refs_of_word};
 ghost use Rattle.rdcss_root.specs.Beneath.machine_model.specs.States.{handle_limit, rewritten};
 ghost use Rattle.rdcss_root.specs.Holding.{IsReady, Moves};
@@ -11,12 +11,9 @@ ghost use Rattle.rdcss_root.specs.Tables.{new_table, root_in, word_in, with_root
 
 use crate::holding::{hold_root, release_root};
 use crate::words::{is_plain, stands_in};
-use epochs::Heap;
-use history::Access;
-use slot_arena::Ref;
 use std::alloc::{AllocError, Global};
 use std::marker::Model;
-use trie_parts::{Descriptor, Root, RootWord};
+use trie_parts::{Access, Descriptor, Heap, Ref, Root, RootWord};
 
 /// How many handles can be open.
 const HANDLES: usize = 256;

@@ -3,8 +3,7 @@
 ghost use Rattle.std.specs.Prelude.{◌≡◌};
 ghost use Rattle.rdcss_root.specs.Beneath.machine_model.specs.Swapping.{is_try, stands_in, is_plain};
 
-use slot_arena::Ref;
-use trie_parts::{Descriptor, RootWord};
+use trie_parts::{Descriptor, Ref, RootWord};
 
 /// Whether this offer stands in the root word.
 pub(crate) fn stands_in(word: RootWord, offer: &Descriptor) -> bool

@@ -1,13 +1,13 @@
 -- ABORT's steps inside of any program.
 use Rattle.std.specs.Prelude.{◌≡◌, ℕ, List, Option, refl}
 use Rattle.std.proofs.Common.{arith, sym, ap, subst, ◌∙◌}
-use Rattle.ctrie_base.specs.declared.hashes.HashKind.TheVariants.{Low}
-use Rattle.ctrie_base.specs.declared.kinds.Kind.{Kind}
+use Rattle.root_asking.specs.Beneath.ctrie_base.specs.declared.hashes.HashKind.TheVariants.{Low}
+use Rattle.root_asking.specs.Beneath.ctrie_base.specs.declared.kinds.Kind.{Kind}
 use Rattle.root_asking.specs.Beneath.history.specs.declared.calls.Access.TheVariants.{Writable}
 use Rattle.root_asking.specs.Beneath.slot_arena.specs.declared.refs.Ref.{Ref}
 use Rattle.root_asking.specs.Beneath.slot_arena.specs.Arenas.{is_live}
 use Rattle.root_asking.specs.Beneath.slot_arena.specs.Heaps.{Heap}
-use Rattle.epochs.specs.Memories.{Memory}
+use Rattle.root_asking.specs.Beneath.epochs.specs.Memories.{Memory}
 use Rattle.root_asking.specs.Beneath.machine_model.specs.declared.actions.Action.{Action}
 use Rattle.root_asking.specs.Beneath.machine_model.specs.declared.reading.After.TheVariants.{Goes}
 use Rattle.root_asking.specs.Beneath.machine_model.specs.declared.roots.Root.{Root}

@@ -1,6 +1,6 @@
 -- ABORT of the code as the definition's, inside of any program.
 use Rattle.std.specs.Prelude.{◌≡◌, ℕ, Option, Some, None}
-use Rattle.ctrie_base.specs.declared.kinds.Kind.{Kind}
+use Rattle.root_asking.specs.Beneath.ctrie_base.specs.declared.kinds.Kind.{Kind}
 use Rattle.root_asking.specs.Beneath.history.specs.declared.calls.Access.TheVariants.{Writable}
 use Rattle.root_asking.specs.Beneath.slot_arena.specs.declared.refs.Ref.{Ref}
 use Rattle.root_asking.specs.Beneath.slot_arena.specs.Heaps.{Heap}

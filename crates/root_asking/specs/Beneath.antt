@@ -5,3 +5,5 @@ pub use Rattle.rdcss_root.specs.Beneath.gcas as gcas
 pub use Rattle.rdcss_root.specs.Beneath.machine_model as machine_model
 pub use Rattle.rdcss_root.specs.Beneath.history as history
 pub use Rattle.rdcss_root.specs.Beneath.slot_arena as slot_arena
+pub use Rattle.rdcss_root.specs.Beneath.ctrie_base as ctrie_base
+pub use Rattle.rdcss_root.specs.Beneath.epochs as epochs

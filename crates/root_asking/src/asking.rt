@@ -6,9 +6,7 @@ ghost use Rattle.rdcss_root.specs.Acts.{ActsInAll};
 ghost use Rattle.rdcss_root.specs.Programs.{CanAbortOn, table_after_abort};
 ghost use Rattle.root_asking.specs.Asked.{IsUntold, AsksOn, abort_of, asking_of, ask_action, seen_of};
 
-use ctrie_base::Kind;
-use epochs::Heap;
-use rdcss_root::{AbortRead, Descriptor, Next, Roots};
+use rdcss_root::{AbortRead, Descriptor, Heap, Kind, Next, Roots};
 
 /// What an operation knows of the root's generation, for a READ that asks for it.
 #[derive(Clone, Copy)]

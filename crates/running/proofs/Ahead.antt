@@ -1,7 +1,7 @@
 -- What an operation is about to swap in.
 use Rattle.std.specs.Prelude.{◌≡◌, ℕ, Option, Some, None, refl}
 use Rattle.std.proofs.Common.{sym, ◌∙◌}
-use Rattle.slot_arena.specs.declared.refs.Ref.{Ref}
+use Rattle.running.specs.Beneath.slot_arena.specs.declared.refs.Ref.{Ref}
 use Rattle.running.specs.Beneath.machine_model.specs.declared.lines.Line.{Line}
 use Rattle.running.specs.Beneath.machine_model.specs.declared.lines.Line.TheVariants as line
 use Rattle.running.specs.Beneath.machine_model.specs.declared.operations.Operation.{Operation}

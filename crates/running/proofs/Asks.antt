@@ -4,11 +4,11 @@ use Rattle.std.proofs.Common.{sym, ap, subst, ◌∙◌}
 use Rattle.std.proofs.lemmas.Option.{none-some, same_Some}
 use Rattle.ctrie_base.specs.declared.kinds.Kind.{Kind}
 use Rattle.ctrie_base.specs.declared.kinds.Kind.TheVariants as kind
-use Rattle.history.specs.declared.calls.Access.{Access}
-use Rattle.history.specs.declared.calls.Access.TheVariants.{Writable, ReadOnly}
-use Rattle.slot_arena.specs.declared.refs.Ref.{Ref}
-use Rattle.slot_arena.specs.Heaps.{Heap}
-use Rattle.epochs.specs.Memories.{Memory}
+use Rattle.running.specs.Beneath.history.specs.declared.calls.Access.{Access}
+use Rattle.running.specs.Beneath.history.specs.declared.calls.Access.TheVariants.{Writable, ReadOnly}
+use Rattle.running.specs.Beneath.slot_arena.specs.declared.refs.Ref.{Ref}
+use Rattle.running.specs.Beneath.slot_arena.specs.Heaps.{Heap}
+use Rattle.running.specs.Beneath.epochs.specs.Memories.{Memory}
 use Rattle.running.specs.Beneath.machine_model.specs.declared.actions.Action.{Action}
 use Rattle.running.specs.Beneath.machine_model.specs.declared.lines.Line.{Line}
 use Rattle.running.specs.Beneath.machine_model.specs.declared.lines.Line.TheVariants as line

@@ -4,7 +4,7 @@ use Rattle.std.proofs.Common.{sym}
 use Rattle.std.proofs.lemmas.Option.{none-some}
 use Rattle.ctrie_base.specs.declared.kinds.Kind.{Kind}
 use Rattle.ctrie_base.specs.declared.kinds.Kind.TheVariants as kind
-use Rattle.slot_arena.specs.declared.refs.Ref.{Ref}
+use Rattle.running.specs.Beneath.slot_arena.specs.declared.refs.Ref.{Ref}
 use Rattle.running.specs.Beneath.machine_model.specs.declared.building.BuildLine.{BuildLine}
 use Rattle.running.specs.Beneath.machine_model.specs.declared.building.BuildLine.TheVariants as build
 use Rattle.running.specs.Beneath.machine_model.specs.declared.copying.CopyLine.TheVariants as copy

@@ -4,9 +4,9 @@ use Rattle.std.proofs.Common.{sym, ap, ◌∙◌}
 use Rattle.std.proofs.lemmas.Option.{none-some}
 use Rattle.ctrie_base.specs.declared.kinds.Kind.{Kind}
 use Rattle.ctrie_base.specs.declared.kinds.Kind.TheVariants as kind
-use Rattle.history.specs.declared.calls.Access.{Access}
-use Rattle.slot_arena.specs.declared.refs.Ref.{Ref}
-use Rattle.slot_arena.specs.Heaps.{Heap, no_ref}
+use Rattle.running.specs.Beneath.history.specs.declared.calls.Access.{Access}
+use Rattle.running.specs.Beneath.slot_arena.specs.declared.refs.Ref.{Ref}
+use Rattle.running.specs.Beneath.slot_arena.specs.Heaps.{Heap, no_ref}
 use Rattle.running.specs.Beneath.machine_model.specs.declared.copying.CopyLine.TheVariants as copy
 use Rattle.running.specs.Beneath.machine_model.specs.declared.lines.Line.{Line}
 use Rattle.running.specs.Beneath.machine_model.specs.declared.lines.Line.TheVariants as line

@@ -2,7 +2,7 @@
 use Rattle.std.specs.Prelude.{◌≡◌, ℕ, Option, Some, None, option_map, refl}
 use Rattle.std.proofs.Common.{sym, ap, ◌∙◌}
 use Rattle.std.proofs.lemmas.Option.{none-some}
-use Rattle.slot_arena.specs.Heaps.{Heap}
+use Rattle.running.specs.Beneath.slot_arena.specs.Heaps.{Heap}
 use Rattle.running.specs.Beneath.machine_model.specs.declared.actions.Action.{Action}
 use Rattle.running.specs.Beneath.machine_model.specs.declared.actions.Action.TheVariants as act
 use Rattle.running.specs.Beneath.machine_model.specs.declared.operations.Operation.{Operation}

@@ -7,3 +7,6 @@ pub use Rattle.snapshot.specs.Beneath.rdcss_root as rdcss_root
 pub use Rattle.snapshot.specs.Beneath.gcas as gcas
 pub use Rattle.snapshot.specs.Beneath.machine_model as machine_model
 pub use Rattle.operate.specs.Beneath.key_finding as key_finding
+pub use Rattle.operate.specs.Beneath.slot_arena as slot_arena
+pub use Rattle.operate.specs.Beneath.epochs as epochs
+pub use Rattle.snapshot.specs.Beneath.history as history

@@ -1,6 +1,6 @@
 -- The offer that an action carries out.
 use Rattle.std.specs.Prelude.{Option, Some, None, if◌then◌else◌}
-use Rattle.slot_arena.specs.Heaps.{Heap, generation_at}
+use Rattle.running.specs.Beneath.slot_arena.specs.Heaps.{Heap, generation_at}
 use Rattle.running.specs.Beneath.machine_model.specs.declared.actions.Action.{Action}
 use Rattle.running.specs.Beneath.machine_model.specs.declared.actions.Action.TheVariants as act
 use Rattle.running.specs.Beneath.machine_model.specs.declared.records.Carried.{Carried}

@@ -1,8 +1,8 @@
 -- Where an operation of the code stands, as the definition's line.
 use Rattle.std.specs.Prelude.{◌≡◌, ℕ, slice_index_or, false, Option, Some, None}
-use Rattle.history.specs.declared.calls.Call.{Call}
-use Rattle.history.specs.declared.calls.Call.TheVariants as calls
-use Rattle.history.specs.declared.replies.Reply.TheVariants as reply
+use Rattle.running.specs.Beneath.history.specs.declared.calls.Call.{Call}
+use Rattle.running.specs.Beneath.history.specs.declared.calls.Call.TheVariants as calls
+use Rattle.running.specs.Beneath.history.specs.declared.replies.Reply.TheVariants as reply
 use Rattle.running.specs.Beneath.machine_model.specs.declared.lines.Line.{Line}
 use Rattle.running.specs.Beneath.machine_model.specs.declared.lines.Line.TheVariants as line
 use Rattle.running.specs.Beneath.machine_model.specs.declared.operations.Operation.{Operation}

@@ -1,7 +1,7 @@
 -- What a step of an operation comes to, does and asks.
 use Rattle.std.specs.Prelude.{◌≡◌, ℕ, Bool, false, ◌&&◌, ◌<◌, ◌-◌, ◌^◌, None}
 use Rattle.ctrie_base.specs.declared.kinds.Kind.{Kind}
-use Rattle.epochs.specs.Memories.{Memory}
+use Rattle.running.specs.Beneath.epochs.specs.Memories.{Memory}
 use Rattle.running.specs.Beneath.machine_model.specs.declared.actions.Action.{Action}
 use Rattle.running.specs.Beneath.machine_model.specs.declared.lines.Line.{Line}
 use Rattle.running.specs.Beneath.machine_model.specs.declared.operations.Operation.{Operation}

@@ -2,7 +2,7 @@
 use Rattle.std.specs.Prelude.{Bool, true, false, ◌&&◌, Option, Some, None}
 use Rattle.ctrie_base.specs.declared.kinds.Kind.{Kind}
 use Rattle.ctrie_base.specs.declared.kinds.Kind.TheVariants as kind
-use Rattle.slot_arena.specs.declared.refs.Ref.{Ref}
+use Rattle.running.specs.Beneath.slot_arena.specs.declared.refs.Ref.{Ref}
 
 -- what a caller sees: its kind, the main node that it committed and the one that the operation's READ gave by it, if it did, and whether
 -- the operation's READ counts from it on

@@ -12,8 +12,7 @@ ghost use Rattle.running.specs.Steps.{Does, scene, taken_beside};
 use crate::job::{Job, Program};
 use crate::programs::{Programs, Stage};
 use ctrie_base::Kind;
-use epochs::Heap;
-use operate::KeyCall;
+use operate::{Heap, KeyCall};
 use snapshot::{Asking, Roots};
 
 impl Programs {

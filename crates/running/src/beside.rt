@@ -9,7 +9,7 @@ use crate::job::{Job, Program};
 use crate::programs::{Programs, Stage};
 use crate::ran::Ran;
 use ctrie_base::Kind;
-use epochs::Heap;
+use operate::Heap;
 use snapshot::{Asking, CopyCall, Next, Roots};
 
 impl Programs {

@@ -1,7 +1,7 @@
 //! The programs of an actor's operations, changed in place.
 
 ghost use Rattle.std.specs.Prelude.{◌≡◌, ◌<◌, ◌≤◌, ◌+◌, ◌-◌, ◌^◌, ℕ, [], length, Option, None, Some, IfErr, OnOk};
-ghost use Rattle.epochs.specs.Memories.{KeepsEpochs};
+ghost use Rattle.running.specs.Beneath.epochs.specs.Memories.{KeepsEpochs};
 ghost use Rattle.running.specs.Beneath.machine_model.specs.Operations.{first_line};
 ghost use Rattle.running.specs.Beneath.trie_parts.specs.Holding.{AreHeld, KeepsOthers};
 ghost use Rattle.running.specs.Beneath.rdcss_root.specs.Programs.{CanAbortOn};
@@ -16,10 +16,8 @@ ghost use Rattle.running.specs.declared.job.Program.{Program as AProgram};
 use crate::job::{Job, Program};
 use crate::taken::Taken;
 use ctrie_base::{HashKind, Kind, Refusal};
-use epochs::Heap;
-use history::Access;
-use operate::{KeyCall, KeyOp, KeyReply};
-use snapshot::{Asking, CopyOp, CopyReply, Next, Roots, Walk, WalkCall};
+use operate::{Heap, KeyCall, KeyOp, KeyReply};
+use snapshot::{Access, Asking, CopyOp, CopyReply, Next, Roots, Walk, WalkCall};
 use std::alloc::Global;
 
 /// How far an operation has come.

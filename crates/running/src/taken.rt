@@ -5,7 +5,7 @@ ghost use Rattle.running.specs.Steps.{taken_beside, taken_in, taken_so};
 ghost use Rattle.running.specs.Taking.{given_if, committed_if, counts_if};
 
 use ctrie_base::Kind;
-use slot_arena::Ref;
+use operate::Ref;
 use snapshot::ReadAt;
 use std::marker::Model;
 

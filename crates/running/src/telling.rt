@@ -14,9 +14,8 @@ ghost use Rattle.running.specs.Places.{asking_line, generation_in, line_for, ope
 use crate::job::{Job, Program};
 use crate::programs::{Programs, Stage};
 use ctrie_base::Kind;
-use history::{Access, Reply};
 use operate::{KeyReply, Publication};
-use snapshot::{Asking, CopyReply};
+use snapshot::{Access, Asking, CopyReply, Reply};
 use std::alloc::AllocError;
 
 impl Programs {

@@ -7,7 +7,7 @@ ghost use Rattle.running.specs.Steps.{Does, outcome_of, scene};
 use crate::job::{Job, Program};
 use crate::programs::{Programs, Stage};
 use crate::ran::Ran;
-use epochs::Heap;
+use operate::Heap;
 use snapshot::{Asking, Next, Roots, WalkCall, Walked};
 
 impl Programs {

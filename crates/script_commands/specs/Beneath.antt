@@ -5,3 +5,6 @@ pub use Rattle.step_machine.specs.Beneath.proof_generations as proof_generations
 pub use Rattle.step_machine.specs.Beneath.proof_order as proof_order
 pub use Rattle.step_machine.specs.Beneath.proof_obstruction_free as proof_obstruction_free
 pub use Rattle.step_machine.specs.Beneath.proof_runs as proof_runs
+pub use Rattle.history_text as history_text
+pub use Rattle.script_text as script_text
+pub use Rattle.history_commands as history_commands

@@ -1,3 +1,4 @@
+pub mod Beneath
 pub mod Refs
 pub mod Heaps
 pub mod Counts

@@ -243,8 +243,7 @@ impl Arena {
         self.cells.set_word(at.slot(), swap);
     }
 
-    /// Where the main word of an indirection is `from`, it becomes `to`, whose `prev` word becomes pending
-    /// over `from`. Tells whether it was.
+    /// Where an indirection's main word is `from`, it becomes `to`, `to` pending over `from`. Tells whether it was.
     #[inline(always)]
     pub fn publish(&mut self, at: Ref, from: Ref, to: Ref) -> bool
         requires live { IsLive self.old.heap at }

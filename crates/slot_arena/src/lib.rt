@@ -15,6 +15,7 @@ mod tally;
 mod word_swaps;
 
 pub use arena::Arena;
+pub use ctrie_base::{Change, HashKind, Kind, Refusal, Ticks, Trace};
 pub use entries::{Entries, EntryChange, MOST_ENTRIES, joined};
 pub use links::{Flags, Links};
 pub use lists::Refs;

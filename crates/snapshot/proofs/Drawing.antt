@@ -1,9 +1,9 @@
 -- What actions do to the heap and to the next generation, case by case.
 use Rattle.std.specs.Prelude.{◌≡◌, ◌==◌, ℕ, Bool, true, false, List, [], ◌∷◌, Option, Some, None, refl, if◌then◌else◌}
 use Rattle.std.proofs.Common.{ap, sym}
-use Rattle.slot_arena.specs.declared.refs.Ref.{Ref}
-use Rattle.slot_arena.specs.declared.nodes.Node.TheVariants.{Indirection}
-use Rattle.slot_arena.specs.Heaps.{taken, take_from, next_ref, ref_in}
+use Rattle.snapshot.specs.Beneath.slot_arena.specs.declared.refs.Ref.{Ref}
+use Rattle.snapshot.specs.Beneath.slot_arena.specs.declared.nodes.Node.TheVariants.{Indirection}
+use Rattle.snapshot.specs.Beneath.slot_arena.specs.Heaps.{taken, take_from, next_ref, ref_in}
 use Rattle.snapshot.specs.Beneath.machine_model.specs.declared.actions.Action.TheVariants as act
 use Rattle.snapshot.specs.Beneath.machine_model.specs.declared.roots.Descriptor.{Descriptor}
 use Rattle.snapshot.specs.Beneath.machine_model.specs.declared.roots.RootWord.TheVariants.{Plain}

@@ -12,7 +12,7 @@ use Rattle.snapshot.specs.Beneath.gcas.specs.declared.next.Next.{Next}
 use Rattle.snapshot.specs.Beneath.gcas.specs.declared.next.Next.TheVariants.{More, AskRoot, Done}
 use Rattle.snapshot.specs.Beneath.gcas.specs.declared.read.ReadAt.{ReadAt}
 use Rattle.snapshot.specs.Beneath.gcas.specs.Reads.{ReadsAlong, committed_so}
-use Rattle.trie_parts.specs.Steps.{StepsOn}
+use Rattle.snapshot.specs.Beneath.trie_parts.specs.Steps.{StepsOn}
 use Rattle.snapshot.specs.declared.walk.Walked.{Walked}
 use Rattle.snapshot.specs.Walks.{NextIs}
 

@@ -1,8 +1,8 @@
 -- Actions that draw no generation, with what they do to heap, private list and root words.
 use Rattle.std.specs.Prelude.{◌≡◌, ℕ, List, Option, refl}
 use Rattle.std.proofs.Common.{sym, subst}
-use Rattle.slot_arena.specs.declared.refs.Ref.{Ref}
-use Rattle.epochs.specs.Memories.{Memory}
+use Rattle.snapshot.specs.Beneath.slot_arena.specs.declared.refs.Ref.{Ref}
+use Rattle.snapshot.specs.Beneath.epochs.specs.Memories.{Memory}
 use Rattle.snapshot.specs.Beneath.machine_model.specs.declared.actions.Action.{Action}
 use Rattle.snapshot.specs.Beneath.machine_model.specs.declared.actions.Action.TheVariants as act
 use Rattle.snapshot.specs.Beneath.machine_model.specs.declared.reading.ReadLine.{ReadLine}
@@ -17,7 +17,7 @@ use Rattle.snapshot.specs.Beneath.machine_model.specs.declared.roots.RootLine.Th
 use Rattle.snapshot.specs.Beneath.machine_model.specs.Copying.{copy_action}
 use Rattle.snapshot.specs.Beneath.machine_model.specs.Reading.{read_action}
 use Rattle.snapshot.specs.Beneath.machine_model.specs.Swapping.{root_action, complete_action, complete_action_at}
-use Rattle.trie_parts.specs.Holding.{Acts}
+use Rattle.snapshot.specs.Beneath.trie_parts.specs.Holding.{Acts}
 use Rattle.snapshot.specs.Beneath.rdcss_root.specs.Acts.{ActsInAll}
 use Rattle.snapshot.specs.Beneath.rdcss_root.proofs.Together.{by_parts}
 use Rattle.snapshot.specs.declared.copy_op.Making.{Making}

@@ -1,12 +1,12 @@
 -- A COPY of the code as the definition's, and what a step of it comes to.
 use Rattle.std.specs.Prelude.{◌≡◌, ℕ, ◌+◌, ◌<◌, ◌≤◌, ◌^◌, List, Option}
-use Rattle.slot_arena.specs.declared.refs.Ref.{Ref}
-use Rattle.slot_arena.specs.declared.nodes.Node.{Node}
-use Rattle.slot_arena.specs.declared.nodes.Node.TheVariants.{Indirection}
-use Rattle.slot_arena.specs.Arenas.{AreLive}
-use Rattle.slot_arena.specs.Heaps.{empty_branch}
-use Rattle.slot_arena.specs.Times.{times}
-use Rattle.epochs.specs.Memories.{Memory}
+use Rattle.snapshot.specs.Beneath.slot_arena.specs.declared.refs.Ref.{Ref}
+use Rattle.snapshot.specs.Beneath.slot_arena.specs.declared.nodes.Node.{Node}
+use Rattle.snapshot.specs.Beneath.slot_arena.specs.declared.nodes.Node.TheVariants.{Indirection}
+use Rattle.snapshot.specs.Beneath.slot_arena.specs.Arenas.{AreLive}
+use Rattle.snapshot.specs.Beneath.slot_arena.specs.Heaps.{empty_branch}
+use Rattle.snapshot.specs.Beneath.slot_arena.specs.Times.{times}
+use Rattle.snapshot.specs.Beneath.epochs.specs.Memories.{Memory}
 use Rattle.snapshot.specs.Beneath.machine_model.specs.declared.actions.Action.{Action}
 use Rattle.snapshot.specs.Beneath.machine_model.specs.declared.copying.CopyLine.{CopyLine}
 use Rattle.snapshot.specs.Beneath.machine_model.specs.declared.copying.CopyLine.TheVariants as copy
@@ -22,9 +22,9 @@ use Rattle.snapshot.specs.Beneath.gcas.specs.declared.next.Next.{Next}
 use Rattle.snapshot.specs.Beneath.gcas.specs.declared.next.Next.TheVariants.{More, AskRoot, Done}
 use Rattle.snapshot.specs.Beneath.gcas.specs.declared.read.Read.{Read}
 use Rattle.snapshot.specs.Beneath.gcas.specs.Reads.{read_of, CanReadOn}
-use Rattle.trie_parts.specs.Here.{no_state, no_operation}
-use Rattle.trie_parts.specs.declared.work.Work.{Work}
-use Rattle.trie_parts.specs.Steps.{CanMake}
+use Rattle.snapshot.specs.Beneath.trie_parts.specs.Here.{no_state, no_operation}
+use Rattle.snapshot.specs.Beneath.trie_parts.specs.declared.work.Work.{Work}
+use Rattle.snapshot.specs.Beneath.trie_parts.specs.Steps.{CanMake}
 use Rattle.snapshot.specs.Beneath.rdcss_root.specs.Holding.{root_refs}
 use Rattle.snapshot.specs.Beneath.rdcss_root.specs.Programs.{root_of, complete_of, CanRootOn, CanCompleteOn, ReadsItsRoot, ReadsOffered}
 use Rattle.snapshot.specs.Beneath.rdcss_root.specs.Tables.{Table}

@@ -5,9 +5,9 @@ use Rattle.history.specs.declared.calls.Call.{Call}
 use Rattle.history.specs.declared.calls.Call.TheVariants as calls
 use Rattle.history.specs.declared.replies.Reply.{Reply}
 use Rattle.history.specs.declared.replies.Reply.TheVariants as reply
-use Rattle.slot_arena.specs.declared.refs.Ref.{Ref}
-use Rattle.slot_arena.specs.declared.nodes.Node.TheVariants.{Indirection}
-use Rattle.slot_arena.specs.Heaps.{Heap, next_ref}
+use Rattle.snapshot.specs.Beneath.slot_arena.specs.declared.refs.Ref.{Ref}
+use Rattle.snapshot.specs.Beneath.slot_arena.specs.declared.nodes.Node.TheVariants.{Indirection}
+use Rattle.snapshot.specs.Beneath.slot_arena.specs.Heaps.{Heap, next_ref}
 use Rattle.snapshot.specs.Beneath.machine_model.specs.declared.actions.Action.{Action}
 use Rattle.snapshot.specs.Beneath.machine_model.specs.declared.actions.Action.TheVariants as act
 use Rattle.snapshot.specs.Beneath.machine_model.specs.declared.operations.Operation.{Operation}

@@ -4,8 +4,8 @@ use Rattle.ctrie_base.specs.declared.kinds.Kind.TheVariants as kind
 use Rattle.history.specs.declared.calls.Access.{Access}
 use Rattle.history.specs.declared.calls.Call.{Call}
 use Rattle.history.specs.declared.calls.Call.TheVariants as calls
-use Rattle.slot_arena.specs.declared.refs.Ref.{Ref}
-use Rattle.slot_arena.specs.Heaps.{Heap}
+use Rattle.snapshot.specs.Beneath.slot_arena.specs.declared.refs.Ref.{Ref}
+use Rattle.snapshot.specs.Beneath.slot_arena.specs.Heaps.{Heap}
 use Rattle.snapshot.specs.Beneath.machine_model.specs.declared.lines.Line.{Line}
 use Rattle.snapshot.specs.Beneath.machine_model.specs.declared.lines.Line.TheVariants as line
 use Rattle.snapshot.specs.Beneath.machine_model.specs.declared.operations.Operation.{Operation}

@@ -1,8 +1,8 @@
 //! COPY: a snapshot, a freeze or a clear swaps the root for one of a new generation.
 
 ghost use Rattle.std.specs.Prelude.{◌≡◌, ◌+◌, ◌-◌, ◌<◌, ◌^◌, None, Some, Bool, ℕ, List};
-ghost use Rattle.slot_arena.specs.declared.refs.Ref.{Ref as ARef};
-ghost use Rattle.slot_arena.specs.Arenas.{AreLive};
+ghost use Rattle.snapshot.specs.Beneath.slot_arena.specs.declared.refs.Ref.{Ref as ARef};
+ghost use Rattle.snapshot.specs.Beneath.slot_arena.specs.Arenas.{AreLive};
 ghost use Rattle.snapshot.specs.Beneath.machine_model.specs.declared.actions.Action.TheVariants as act;
 ghost use Rattle.snapshot.specs.Beneath.machine_model.specs.declared.copying.CopyLine.TheVariants as copy;
 ghost use Rattle.snapshot.specs.Beneath.machine_model.specs.declared.lines.Line.TheVariants as line;
@@ -16,8 +16,8 @@ ghost use Rattle.snapshot.specs.Beneath.machine_model.specs.Reading.{read_action
 ghost use Rattle.snapshot.specs.Beneath.machine_model.specs.States.{State};
 ghost use Rattle.snapshot.specs.Beneath.machine_model.specs.Swapping.{complete_action, root_action};
 ghost use Rattle.snapshot.specs.Beneath.gcas.specs.Reads.{read_of, line_of, CanReadOn, IsAskingRoot};
-ghost use Rattle.trie_parts.specs.Holding.{Acts};
-ghost use Rattle.trie_parts.specs.Steps.{StepsOn};
+ghost use Rattle.snapshot.specs.Beneath.trie_parts.specs.Holding.{Acts};
+ghost use Rattle.snapshot.specs.Beneath.trie_parts.specs.Steps.{StepsOn};
 ghost use Rattle.snapshot.specs.Beneath.rdcss_root.specs.Acts.{ActsInAll};
 ghost use Rattle.snapshot.specs.Beneath.rdcss_root.specs.Programs.{root_of, complete_of, CanRootOn, CanCompleteOn, rooted_at, completed_at};
 ghost use Rattle.snapshot.specs.Beneath.rdcss_root.specs.Tables.{Table, acted_table, offered_in};
@@ -27,10 +27,7 @@ ghost use Rattle.snapshot.specs.Tasks.{at_roots, call_of, for_task, mark_of, rep
 use crate::made::first_making;
 use crate::tasks::{CopyCall, CopyReply, CopyTask};
 use ctrie_base::Kind;
-use epochs::Heap;
-use root_asking::{Complete, Offer, ReadRoot, Roots};
-use slot_arena::Ref;
-use trie_parts::{Next, Read, Work, generation_at};
+use root_asking::{Complete, Heap, Next, Offer, Read, ReadRoot, Ref, Roots, Work, generation_at};
 
 /// What is to be made for the swap of a root whose main node is `main`.
 #[derive(Clone, Copy)]

@@ -27,8 +27,8 @@ mod todo;
 mod walk;
 
 pub use copy_op::{CopyAt, CopyOp, Making};
+pub use history::{Access, Reply};
 pub use laws::{draws_generations, tells_copy, tells_walk};
-pub use root_asking::{Asking, Roots};
+pub use root_asking::{Asking, Next, ReadAt, Roots};
 pub use tasks::{CopyCall, CopyReply, CopyTask, WalkCall};
-pub use trie_parts::{Next, ReadAt};
 pub use walk::{Walk, WalkAt, Walked};

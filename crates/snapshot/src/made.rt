@@ -1,8 +1,8 @@
 //! What is made for the swap of a root: the new root, a snapshot's second one, and for a clear an empty branch.
 
 ghost use Rattle.std.specs.Prelude.{◌≡◌, ◌+◌, ◌-◌, ◌<◌, ◌^◌, None, Some, Bool, ℕ};
-ghost use Rattle.slot_arena.specs.declared.refs.Ref.{Ref as ARef};
-ghost use Rattle.slot_arena.specs.Heaps.{Heap as Store, next_ref};
+ghost use Rattle.snapshot.specs.Beneath.slot_arena.specs.declared.refs.Ref.{Ref as ARef};
+ghost use Rattle.snapshot.specs.Beneath.slot_arena.specs.Heaps.{Heap as Store, next_ref};
 ghost use Rattle.history.specs.declared.calls.Access.{Access as AnAccess};
 ghost use Rattle.snapshot.specs.Beneath.machine_model.specs.declared.actions.Action.TheVariants as act;
 ghost use Rattle.snapshot.specs.Beneath.machine_model.specs.declared.lines.Line.TheVariants as line;
@@ -11,8 +11,8 @@ ghost use Rattle.snapshot.specs.Beneath.machine_model.specs.Copying.{after_given
 ghost use Rattle.snapshot.specs.Beneath.machine_model.specs.States.{State};
 ghost use Rattle.snapshot.specs.Beneath.gcas.specs.declared.read.Read.{Read as ARead};
 ghost use Rattle.snapshot.specs.Beneath.gcas.specs.Reads.{IsAskingRoot};
-ghost use Rattle.trie_parts.specs.Holding.{Acts, AreHeld};
-ghost use Rattle.trie_parts.specs.Steps.{StepsOn, CanMake};
+ghost use Rattle.snapshot.specs.Beneath.trie_parts.specs.Holding.{Acts, AreHeld};
+ghost use Rattle.snapshot.specs.Beneath.trie_parts.specs.Steps.{StepsOn, CanMake};
 ghost use Rattle.snapshot.specs.Beneath.rdcss_root.specs.Tables.{Table};
 ghost use Rattle.snapshot.specs.Copies.{copy_line, copy_line_at, ReadsAt, ReadsFor, making_line, made_node, line_behind};
 ghost use Rattle.snapshot.specs.Tasks.{at_roots, call_of, for_task, drawn_by};
@@ -20,10 +20,7 @@ ghost use Rattle.snapshot.specs.Tasks.{at_roots, call_of, for_task, drawn_by};
 use crate::copy_op::{CopyAt, CopyOp, Making};
 use crate::tasks::{CopyCall, CopyReply, CopyTask};
 use ctrie_base::Kind;
-use epochs::Heap;
-use root_asking::Offer;
-use slot_arena::{Node, Ref};
-use trie_parts::{Descriptor, Next, Work, renewed};
+use root_asking::{Descriptor, Heap, Next, Node, Offer, Ref, Work, renewed};
 
 impl CopyOp {
     /// Makes a node. A new root draws a generation.

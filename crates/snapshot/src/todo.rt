@@ -4,10 +4,9 @@ ghost use Rattle.std.specs.Prelude.{◌≡◌, ◌++◌, ◌≤◌, [], reverse,
 ghost use Rattle.snapshot.specs.Beneath.machine_model.specs.Walking.{first_of, rest_of};
 ghost use Rattle.snapshot.specs.Walks.{is_none_left};
 
-use slot_arena::Ref;
+use root_asking::{MOST_ENTRIES, Ref};
 use std::alloc::{AllocError, Global};
 use std::marker::Model;
-use trie_parts::MOST_ENTRIES;
 
 /// The entries that are still to be looked at, the next one first.
 #[derive(Drop)]

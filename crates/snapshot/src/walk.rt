@@ -1,7 +1,7 @@
 //! WALK: goes through all pairs, by depth first in the order of entries.
 
 ghost use Rattle.std.specs.Prelude.{◌≡◌, ◌<◌, ◌≤◌, ℕ, None, IfErr, IfOk, OnOk};
-ghost use Rattle.slot_arena.specs.Heaps.{Heap as Store};
+ghost use Rattle.snapshot.specs.Beneath.slot_arena.specs.Heaps.{Heap as Store};
 ghost use Rattle.history.specs.declared.calls.Call.{Call};
 ghost use Rattle.snapshot.specs.Beneath.machine_model.specs.declared.lines.Line.TheVariants as line;
 ghost use Rattle.snapshot.specs.Beneath.machine_model.specs.declared.operations.Operation.{Operation};
@@ -13,8 +13,8 @@ ghost use Rattle.snapshot.specs.Beneath.machine_model.specs.States.{State, root_
 ghost use Rattle.snapshot.specs.Beneath.machine_model.specs.Walking.{walk_next, walked_reply};
 ghost use Rattle.snapshot.specs.Beneath.gcas.specs.declared.read.Read.{Read as ARead};
 ghost use Rattle.snapshot.specs.Beneath.gcas.specs.Reads.{read_of, line_of, CanReadOn, IsAskingRoot};
-ghost use Rattle.trie_parts.specs.Holding.{Acts};
-ghost use Rattle.trie_parts.specs.Steps.{StepsOn};
+ghost use Rattle.snapshot.specs.Beneath.trie_parts.specs.Holding.{Acts};
+ghost use Rattle.snapshot.specs.Beneath.trie_parts.specs.Steps.{StepsOn};
 ghost use Rattle.snapshot.specs.Beneath.rdcss_root.specs.Tables.{Table};
 ghost use Rattle.snapshot.specs.Copies.{action_on};
 ghost use Rattle.snapshot.specs.Tasks.{at_roots};
@@ -24,12 +24,9 @@ use crate::taken::Taken;
 use crate::tasks::WalkCall;
 use crate::todo::Todo;
 use ctrie_base::{Kind, Refusal};
-use epochs::Heap;
 use history::Reply;
-use root_asking::Roots;
-use slot_arena::{NodeRef, Ref};
+use root_asking::{Heap, Next, NodeRef, Read, Ref, RootWord, Roots, Work, entries_at, node_at};
 use std::alloc::{AllocError, Global};
-use trie_parts::{Next, Read, RootWord, Work, entries_at, node_at};
 
 /// Where a walk stands.
 #[derive(Clone, Copy)]

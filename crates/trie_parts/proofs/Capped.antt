@@ -4,7 +4,7 @@ use Rattle.std.proofs.Common.{arith, ap, sym, ◌∙◌, length-drop}
 use Rattle.std.proofs.lemmas.List.{take_min, take_all, append-nil, append_assoc, set_split}
 use Rattle.std.proofs.Math.Seq.{take-append-add}
 use Rattle.std.proofs.Math.Nat.{add_comm}
-use Rattle.slot_arena.specs.declared.nodes.Node.TheVariants.{Branch}
+use Rattle.trie_parts.specs.Beneath.slot_arena.specs.declared.nodes.Node.TheVariants.{Branch}
 use Rattle.nodes.specs.Builders.{renewed, contracted}
 
 -- where room for r more is left, the first r of what is added

@@ -4,11 +4,11 @@ use Rattle.std.proofs.Common.{arith, get_or, subst}
 use Rattle.std.proofs.lemmas.List.{get_or-set_same, length-set, take_all}
 use Rattle.std.proofs.lemmas.List.Edits.{get_or-insert_at, length-insert}
 use Rattle.std.proofs.lemmas.List.Elements.{All-cons, All-nil}
-use Rattle.slot_arena.specs.declared.refs.Ref.{Ref}
-use Rattle.slot_arena.specs.declared.entries.EntryChange.{EntryChange}
-use Rattle.slot_arena.specs.declared.entries.EntryChange.TheVariants.{Set, Insert, Remove}
-use Rattle.slot_arena.specs.Entries.{Fits, coming, entries_after}
-use Rattle.slot_arena.specs.Heaps.{no_ref}
+use Rattle.trie_parts.specs.Beneath.slot_arena.specs.declared.refs.Ref.{Ref}
+use Rattle.trie_parts.specs.Beneath.slot_arena.specs.declared.entries.EntryChange.{EntryChange}
+use Rattle.trie_parts.specs.Beneath.slot_arena.specs.declared.entries.EntryChange.TheVariants.{Set, Insert, Remove}
+use Rattle.trie_parts.specs.Beneath.slot_arena.specs.Entries.{Fits, coming, entries_after}
+use Rattle.trie_parts.specs.Beneath.slot_arena.specs.Heaps.{no_ref}
 
 module _ (P : Ref → Type 0) where
   here : (entry : Ref) (es : List Ref) (i : ℕ) → i < length es → length es ≤ 32 → get_or es i no_ref ≡ entry → All P (take 32 es) → All P (entry ∷ [])

@@ -3,8 +3,8 @@ use Rattle.std.specs.Prelude.{◌≡◌, ℕ, ◌+◌, ◌<◌, ◌≤◌, ◌==
 use Rattle.std.proofs.Common.{sym, ap, ◌∙◌, get_or}
 use Rattle.std.proofs.lemmas.List.{take_all}
 use Rattle.std.proofs.lemmas.List.Sums.{sum_by_more, sum_by-take-le}
-use Rattle.slot_arena.specs.Times.{times}
-use Rattle.slot_arena.proofs.Times.{once}
+use Rattle.trie_parts.specs.Beneath.slot_arena.specs.Times.{times}
+use Rattle.trie_parts.specs.Beneath.slot_arena.proofs.Times.{once}
 
 -- with one item more
 pub times_more : (n : ℕ) (ms : List ℕ) (i m : ℕ) → i < length ms → m ≡ get_or ms i m → times n (take (i + 1) ms) ≡ times n (take i ms) + once n m

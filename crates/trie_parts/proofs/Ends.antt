@@ -1,8 +1,8 @@
 -- A SWAP doesn't end in its READ.
 use Rattle.std.specs.Prelude.{◌≡◌, Bool, None, refl}
-use Rattle.slot_arena.specs.declared.refs.Ref.{Ref}
-use Rattle.slot_arena.specs.Heaps.{Heap, no_ref}
-use Rattle.history.specs.declared.calls.Access.{Access}
+use Rattle.trie_parts.specs.Beneath.slot_arena.specs.declared.refs.Ref.{Ref}
+use Rattle.trie_parts.specs.Beneath.slot_arena.specs.Heaps.{Heap, no_ref}
+use Rattle.trie_parts.specs.Beneath.history.specs.declared.calls.Access.{Access}
 use Rattle.trie_parts.specs.Beneath.machine_model.specs.declared.reading.After.{After}
 use Rattle.trie_parts.specs.Beneath.machine_model.specs.declared.reading.After.TheVariants.{Goes, Gives}
 use Rattle.trie_parts.specs.Beneath.machine_model.specs.declared.reading.ReadLine.{ReadLine}

@@ -1,9 +1,9 @@
 -- What a READ comes to, as a program sees it in which it runs.
 use Rattle.std.specs.Prelude.{◌≡◌, Some, None, refl}
 use Rattle.std.proofs.Common.{ap, ◌∙◌}
-use Rattle.slot_arena.specs.declared.refs.Ref.{Ref}
-use Rattle.slot_arena.specs.Heaps.{Heap}
-use Rattle.history.specs.declared.calls.Access.{Access}
+use Rattle.trie_parts.specs.Beneath.slot_arena.specs.declared.refs.Ref.{Ref}
+use Rattle.trie_parts.specs.Beneath.slot_arena.specs.Heaps.{Heap}
+use Rattle.trie_parts.specs.Beneath.history.specs.declared.calls.Access.{Access}
 use Rattle.trie_parts.specs.Beneath.machine_model.specs.declared.reading.After.TheVariants.{Goes, Gives}
 use Rattle.trie_parts.specs.Beneath.machine_model.specs.declared.reading.ReadLine.{ReadLine}
 use Rattle.trie_parts.specs.Beneath.machine_model.specs.Reading.{at_indirection}

@@ -1,6 +1,6 @@
 -- A READ leaves the private list alone.
 use Rattle.std.specs.Prelude.{◌≡◌, List, refl}
-use Rattle.slot_arena.specs.declared.refs.Ref.{Ref}
+use Rattle.trie_parts.specs.Beneath.slot_arena.specs.declared.refs.Ref.{Ref}
 use Rattle.trie_parts.specs.Beneath.machine_model.specs.declared.reading.ReadLine.{ReadLine}
 use Rattle.trie_parts.specs.Beneath.machine_model.specs.declared.reading.ReadLine.TheVariants as read
 use Rattle.trie_parts.specs.Beneath.machine_model.specs.Reading.{read_action}

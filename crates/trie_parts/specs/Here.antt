@@ -1,10 +1,10 @@
 -- A machine's state as a program of the map sees it: it knows the heap and the hashes, and nothing else of the state.
 use Rattle.std.specs.Prelude.{false, [], None}
-use Rattle.ctrie_base.specs.declared.hashes.HashKind.{HashKind}
-use Rattle.ctrie_base.specs.declared.hashes.HashKind.TheVariants.{Low}
-use Rattle.history.specs.declared.calls.Access.TheVariants.{ReadOnly}
-use Rattle.history.specs.declared.calls.Call.TheVariants.{Get}
-use Rattle.slot_arena.specs.Heaps.{Heap}
+use Rattle.trie_parts.specs.Beneath.ctrie_base.specs.declared.hashes.HashKind.{HashKind}
+use Rattle.trie_parts.specs.Beneath.ctrie_base.specs.declared.hashes.HashKind.TheVariants.{Low}
+use Rattle.trie_parts.specs.Beneath.history.specs.declared.calls.Access.TheVariants.{ReadOnly}
+use Rattle.trie_parts.specs.Beneath.history.specs.declared.calls.Call.TheVariants.{Get}
+use Rattle.trie_parts.specs.Beneath.slot_arena.specs.Heaps.{Heap}
 use Rattle.trie_parts.specs.Beneath.machine_model.specs.declared.lines.Line.TheVariants.{Impossible}
 use Rattle.trie_parts.specs.Beneath.machine_model.specs.declared.operations.Operation.{Operation}
 use Rattle.trie_parts.specs.Beneath.machine_model.specs.States.{State}

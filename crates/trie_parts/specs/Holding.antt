@@ -1,15 +1,15 @@
 -- What a step of a program does to the heap and to its private list.
 use Rattle.std.specs.Prelude.{◌≡◌, ◌+◌, ◌≤◌, List, length}
-use Rattle.slot_arena.specs.declared.refs.Ref.{Ref}
-use Rattle.slot_arena.specs.Arenas.{IsLive}
-use Rattle.slot_arena.specs.Ticking.{TakesUpTo}
-use Rattle.slot_arena.specs.Times.{times}
-use Rattle.epochs.specs.Memories.{Memory, KeepsEpochs}
+use Rattle.trie_parts.specs.Beneath.slot_arena.specs.declared.refs.Ref.{Ref}
+use Rattle.trie_parts.specs.Beneath.slot_arena.specs.Arenas.{IsLive}
+use Rattle.trie_parts.specs.Beneath.slot_arena.specs.Ticking.{TakesUpTo}
+use Rattle.trie_parts.specs.Beneath.slot_arena.specs.Times.{times}
+use Rattle.trie_parts.specs.Beneath.epochs.specs.Memories.{Memory, KeepsEpochs}
 use Rattle.trie_parts.specs.Beneath.machine_model.specs.declared.actions.Action.{Action}
 use Rattle.trie_parts.specs.Beneath.machine_model.specs.Acting.{private_after}
 use Rattle.gcas.specs.Acted.{acted_heap}
 use Rattle.trie_parts.specs.Here.{at_heap, no_state}
-use Rattle.ctrie_base.specs.declared.hashes.HashKind.TheVariants.{Low}
+use Rattle.trie_parts.specs.Beneath.ctrie_base.specs.declared.hashes.HashKind.TheVariants.{Low}
 
 -- each reference of the list is held from outside, as often as it stands there
 abbrev pub AreHeld : List Ref → Memory → Type 0

@@ -1,11 +1,11 @@
 -- What a step of a program of the map comes to.
 use Rattle.std.specs.Prelude.{◌≡◌, ◌+◌, ◌<◌, List, length, Option, Some, None}
-use Rattle.ctrie_base.specs.declared.kinds.Kind.{Kind}
-use Rattle.slot_arena.specs.declared.refs.Ref.{Ref}
-use Rattle.slot_arena.specs.declared.nodes.Node.{Node}
-use Rattle.slot_arena.specs.Heaps.{Heap, refs_of_node}
-use Rattle.slot_arena.specs.Arenas.{AreLive}
-use Rattle.history.specs.declared.calls.Access.{Access}
+use Rattle.trie_parts.specs.Beneath.ctrie_base.specs.declared.kinds.Kind.{Kind}
+use Rattle.trie_parts.specs.Beneath.slot_arena.specs.declared.refs.Ref.{Ref}
+use Rattle.trie_parts.specs.Beneath.slot_arena.specs.declared.nodes.Node.{Node}
+use Rattle.trie_parts.specs.Beneath.slot_arena.specs.Heaps.{Heap, refs_of_node}
+use Rattle.trie_parts.specs.Beneath.slot_arena.specs.Arenas.{AreLive}
+use Rattle.trie_parts.specs.Beneath.history.specs.declared.calls.Access.{Access}
 use Rattle.trie_parts.specs.Beneath.machine_model.specs.declared.lines.Line.{Line}
 use Rattle.trie_parts.specs.Beneath.machine_model.specs.declared.operations.Operation.{Operation}
 use Rattle.trie_parts.specs.Beneath.machine_model.specs.declared.reading.After.TheVariants.{Goes, Gives}
@@ -19,7 +19,7 @@ use Rattle.gcas.specs.declared.next.Next.TheVariants.{More, AskRoot, Done}
 use Rattle.gcas.specs.declared.read.Read.{Read as Running}
 use Rattle.gcas.specs.declared.read.ReadAt.{ReadAt}
 use Rattle.gcas.specs.Reads.{IsAsking, ReadsAlong, read_of as running}
-use Rattle.slot_arena.specs.Refs.{birth_limit}
+use Rattle.trie_parts.specs.Beneath.slot_arena.specs.Refs.{birth_limit}
 
 abbrev pub IsAskingRead : Option Read → Type 0
 IsAskingRead None = ⊥

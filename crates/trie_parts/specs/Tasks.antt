@@ -1,9 +1,9 @@
 -- An operation on one key, as the definition's.
 use Rattle.std.specs.Prelude.{ℕ, Bool, nat_eq, Some}
 use Rattle.std.specs.Option.{option_eq}
-use Rattle.history.specs.declared.calls.Access.{Access}
-use Rattle.history.specs.declared.calls.Call.{Call}
-use Rattle.history.specs.declared.calls.Call.TheVariants as calls
+use Rattle.trie_parts.specs.Beneath.history.specs.declared.calls.Access.{Access}
+use Rattle.trie_parts.specs.Beneath.history.specs.declared.calls.Call.{Call}
+use Rattle.trie_parts.specs.Beneath.history.specs.declared.calls.Call.TheVariants as calls
 use Rattle.trie_parts.specs.Beneath.machine_model.specs.declared.operations.Operation.{Operation}
 use Rattle.trie_parts.specs.Beneath.machine_model.specs.Calls.{handle_of}
 use Rattle.trie_parts.specs.declared.calls.KeyCall.{KeyCall}

@@ -1,16 +1,14 @@
 //! The calls on one key, and what an operation of one goes by.
 
 ghost use Rattle.std.specs.Prelude.{◌≡◌, ◌<◌, ℕ, unwrap_or};
-ghost use Rattle.ctrie_base.specs.Hashes.{hash_of};
+ghost use Rattle.trie_parts.specs.Beneath.ctrie_base.specs.Hashes.{hash_of};
 ghost use Rattle.nodes.specs.Levels.{flag_of};
 ghost use Rattle.trie_parts.specs.Beneath.machine_model.specs.Calls.{key_of, value_of};
 ghost use Rattle.trie_parts.specs.Beneath.machine_model.specs.Paths.{depth_of};
 ghost use Rattle.trie_parts.specs.Tasks.{call_of, is_begun_in};
 
 use crate::paths::depth_of;
-use ctrie_base::HashKind;
-use nodes::flag_of;
-use slot_arena::Ref;
+use nodes::{HashKind, Ref, flag_of};
 
 /// A call on one key, without the handle.
 #[derive(Clone, Copy, Debug, PartialEq, Eq)]

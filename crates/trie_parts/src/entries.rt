@@ -1,10 +1,10 @@
 //! The entries of a node. Those for which there is no room are left out; no machine ever needs more.
 
 ghost use Rattle.std.specs.Prelude.{◌≡◌, ◌++◌, insert, remove, slice_set};
-ghost use Rattle.slot_arena.specs.Heaps.{entries_from};
+ghost use Rattle.trie_parts.specs.Beneath.slot_arena.specs.Heaps.{entries_from};
 
 use arrayvec::ArrayVec;
-use slot_arena::{Entries, Ref};
+use nodes::{Entries, Ref};
 
 /// These references as the entries of a node.
 pub(crate) fn entries_from(refs: &[Ref]) -> Entries

@@ -16,13 +16,15 @@ mod work;
 
 pub use calls::{KeyCall, Task};
 pub use gcas::{
-    Change, Descriptor, Entrant, Next, Publication, Read, ReadAt, Root, RootWord, Site, Swap,
-    generation_at,
+    Access, Change, Descriptor, Entrant, Heap, Next, Publication, Read, ReadAt, Root, RootWord,
+    Site, Swap, generation_at,
 };
 pub use looking::{bitmap_at, entries_at, entry_at, entry_count, is_single_at, key_at, node_at};
 pub use made::{changed_at, contracted, contracted_at, make_changed, renewed};
-pub use nodes::{MOST_ENTRIES, dual, flag_of, parting, rung};
+pub use nodes::{
+    Entries, HashKind, Kind, MOST_ENTRIES, Node, NodeRef, Ref, dual, flag_of, has_flag, list_depth,
+    parting, position_of, rung,
+};
 pub use paths::{above, current, is_below_root};
 pub use private::{Private, release_all};
-pub use slot_arena::Entries;
 pub use work::Work;

@@ -2,17 +2,17 @@
 //! what the definition gives.
 
 ghost use Rattle.std.specs.Prelude.{◌≡◌, ◌≤◌, length, option_map, unwrap_or};
-ghost use Rattle.slot_arena.specs.Heaps.{node_at, entries_of, entry_at, bitmap_of, empty_branch};
-ghost use Rattle.slot_arena.specs.Views.{viewed};
+ghost use Rattle.trie_parts.specs.Beneath.slot_arena.specs.Heaps.{node_at, entries_of, entry_at, bitmap_of, empty_branch};
+ghost use Rattle.trie_parts.specs.Beneath.slot_arena.specs.Views.{viewed};
 ghost use Rattle.trie_parts.specs.Beneath.machine_model.specs.Building.{key_in};
 ghost use Rattle.trie_parts.specs.Beneath.machine_model.specs.Cleaning.{is_single};
 
-use epochs::Heap;
-use slot_arena::{NodeRef, Ref};
+use gcas::Heap;
+use nodes::{NodeRef, Ref};
 use std::slice::from_ref;
 
 /// The node that stands in a slot; where none does, the definition has a branch without entries.
-#[tactic(auto, using(gcas::proofs::Stored::stands), unfolding(slot_arena::specs::Heaps::node_at))]
+#[tactic(auto, using(gcas::proofs::Stored::stands))]
 #[inline(always)]
 pub fn node_at(heap: &Heap, at: Ref) -> Option<NodeRef<'_>>
     ensures { node_at heap.now.heap at ≡ unwrap_or (option_map viewed result) empty_branch }

@@ -1,23 +1,21 @@
 //! Main nodes made from the main node before.
 
 ghost use Rattle.std.specs.Prelude.{◌≡◌, ◌+◌, ◌<◌, ◌≤◌, ◌++◌, length, slice_set, IfSome};
-ghost use Rattle.slot_arena.specs.Arenas.{AreLive, IsLive};
-ghost use Rattle.slot_arena.specs.Entries.{Fits, changed_branch as changed_entry, entries_after};
-ghost use Rattle.slot_arena.specs.Heaps.{bitmap_of, entries_from, entries_of, next_ref, node_at, refs_of_node, refs_of_option, taken};
-ghost use Rattle.slot_arena.specs.Refs.{birth_limit};
-ghost use Rattle.slot_arena.specs.Ticking.{TakesUpTo};
-ghost use Rattle.slot_arena.specs.declared.refs.Ref.{Ref as ARef};
-ghost use Rattle.epochs.specs.Memories.{KeepsEpochs};
-ghost use Rattle.slot_arena.specs.Views.{viewed};
+ghost use Rattle.trie_parts.specs.Beneath.slot_arena.specs.Arenas.{AreLive, IsLive};
+ghost use Rattle.trie_parts.specs.Beneath.slot_arena.specs.Entries.{Fits, changed_branch as changed_entry, entries_after};
+ghost use Rattle.trie_parts.specs.Beneath.slot_arena.specs.Heaps.{bitmap_of, entries_from, entries_of, next_ref, node_at, refs_of_node, refs_of_option, taken};
+ghost use Rattle.trie_parts.specs.Beneath.slot_arena.specs.Refs.{birth_limit};
+ghost use Rattle.trie_parts.specs.Beneath.slot_arena.specs.Ticking.{TakesUpTo};
+ghost use Rattle.trie_parts.specs.Beneath.slot_arena.specs.declared.refs.Ref.{Ref as ARef};
+ghost use Rattle.trie_parts.specs.Beneath.epochs.specs.Memories.{KeepsEpochs};
+ghost use Rattle.trie_parts.specs.Beneath.slot_arena.specs.Views.{viewed};
 ghost use Rattle.nodes.specs.Builders.{renewed, contracted};
 ghost use Rattle.trie_parts.specs.Beneath.machine_model.specs.Building.{changed_branch, changed_list, changed};
 
 use crate::entries::{entries_from, entries_from_parts, with_inserted, with_replaced, without};
 use crate::looking::{bitmap_at, entries_at, node_at};
-use epochs::Heap;
-use gcas::Change;
-use nodes::{MOST_ENTRIES, position_of};
-use slot_arena::{EntryChange, Node, NodeRef, Ref};
+use gcas::{Change, Heap};
+use nodes::{EntryChange, MOST_ENTRIES, Node, NodeRef, Ref, position_of};
 
 /// A main node after the change, where `flag` is that of the call's key. What is no branch or list stays as
 /// it is.

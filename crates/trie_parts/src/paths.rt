@@ -3,7 +3,7 @@
 ghost use Rattle.std.specs.Prelude.{◌≡◌};
 ghost use Rattle.trie_parts.specs.Beneath.machine_model.specs.Paths.{current, above, is_below_root, depth_of};
 
-use slot_arena::Ref;
+use nodes::Ref;
 
 /// The last indirection.
 pub fn current(path: &[Ref]) -> Ref

@@ -1,16 +1,15 @@
 //! The slots that an operation made in its running try.
 
 ghost use Rattle.std.specs.Prelude.{◌≡◌, ◌+◌, ◌≤◌, [], length};
-ghost use Rattle.slot_arena.specs.Heaps.{next_ref};
-ghost use Rattle.epochs.specs.Memories.{KeepsEpochs};
+ghost use Rattle.trie_parts.specs.Beneath.slot_arena.specs.Heaps.{next_ref};
+ghost use Rattle.trie_parts.specs.Beneath.epochs.specs.Memories.{KeepsEpochs};
 ghost use Rattle.trie_parts.specs.Beneath.machine_model.specs.declared.actions.Action.TheVariants as act;
 ghost use Rattle.trie_parts.specs.Holding.{Acts, AreHeld, KeepsOthers};
 ghost use Rattle.trie_parts.specs.Steps.{CanMake};
 
 use arrayvec::ArrayVec;
-use epochs::Heap;
-use nodes::MOST_ENTRIES;
-use slot_arena::{Node, Ref};
+use gcas::Heap;
+use nodes::{MOST_ENTRIES, Node, Ref};
 use std::marker::Model;
 
 /// The most slots that one try makes: the links and the branch of a renewed node.

@@ -10,9 +10,8 @@ ghost use Rattle.trie_parts.specs.Holding.{Acts, AreHeld};
 ghost use Rattle.trie_parts.specs.Steps.{IsLast, ReadsInside};
 
 use crate::private::Private;
-use epochs::Heap;
-use gcas::{Next, Swap, SwapAt};
-use slot_arena::Ref;
+use gcas::{Heap, Next, Swap, SwapAt};
+use nodes::Ref;
 
 /// What an operation has in hand while it changes the map: the slots that it made in its running try, and
 /// one READ and SWAP, kept in place.

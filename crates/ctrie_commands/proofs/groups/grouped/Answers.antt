@@ -1,6 +1,6 @@
 use Rattle.std.proofs.Common.{ap, ◌∙◌}
 use Rattle.std.proofs.lemmas.List.Elements.{All-nil, All-same}
-use Rattle.script_text.specs.Views.{read}
+use Rattle.ctrie_commands.specs.Beneath.script_text.specs.Views.{read}
 use Rattle.ctrie_commands.specs.Working.{IsGroup}
 use Rattle.ctrie_commands.proofs.Gathering.{moved_on}
 use Rattle.ctrie_commands.proofs.Grouping.{joins_group, ends_group, HasNone, has_none, none_more, is_group, is_idle_group, groups_more}

@@ -1,7 +1,7 @@
 -- The seats so far are those of the groups, and of the one that is begun.
 use Rattle.std.proofs.Common.{◌≡◌, ◌++◌}
 use Rattle.std.specs.Prelude.{All}
-use Rattle.script_text.specs.Views.{read}
+use Rattle.ctrie_commands.specs.Beneath.script_text.specs.Views.{read}
 use Rattle.ctrie_commands.specs.Working.{HasWork, IsGroup, all_seats}
 use Rattle.ctrie_commands.proofs.groups.grouped.Given as goal
 

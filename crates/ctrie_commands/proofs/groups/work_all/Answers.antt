@@ -1,4 +1,4 @@
-use Rattle.script_text.specs.Views.{read}
+use Rattle.ctrie_commands.specs.Beneath.script_text.specs.Views.{read}
 use Rattle.lock_runner.specs.Seats.{IsSeatOf}
 use Rattle.ctrie_commands.specs.Working.{IsUnused}
 use Rattle.ctrie_commands.proofs.Grouping.{all_grouped, when_joined}

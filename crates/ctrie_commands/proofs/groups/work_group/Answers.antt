@@ -1,4 +1,4 @@
-use Rattle.script_text.specs.Views.{read}
+use Rattle.ctrie_commands.specs.Beneath.script_text.specs.Views.{read}
 use Rattle.ctrie_commands.proofs.Gathering.{moved_on}
 use Rattle.ctrie_commands.proofs.Grouping.{have_worked_more}
 use Rattle.ctrie_commands.proofs.groups.work_group.Goals as goal

@@ -1,6 +1,6 @@
 -- What is to be done with the seats so far was done.
 use Rattle.std.proofs.Common.{◌≡◌, ◌++◌}
-use Rattle.script_text.specs.Views.{read}
+use Rattle.ctrie_commands.specs.Beneath.script_text.specs.Views.{read}
 use Rattle.ctrie_commands.specs.Working.{HaveWorked}
 use Rattle.ctrie_commands.proofs.groups.work_group.Given as goal
 

@@ -1,5 +1,5 @@
 use Rattle.std.specs.String.{string_bytes}
-use Rattle.script_text.specs.Views.{read}
+use Rattle.ctrie_commands.specs.Beneath.script_text.specs.Views.{read}
 use Rattle.ctrie_commands.proofs.ShortRecords.{each_report}
 use Rattle.ctrie_commands.proofs.threads.carried_out.Goals as goal
 

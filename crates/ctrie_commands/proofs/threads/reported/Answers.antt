@@ -1,6 +1,6 @@
 use Rattle.std.proofs.Common.{◌≡◌, ◌∙◌, rules}
 use Rattle.std.specs.String.{string_bytes}
-use Rattle.script_text.specs.Views.{read}
+use Rattle.ctrie_commands.specs.Beneath.script_text.specs.Views.{read}
 use Rattle.script_commands.specs.Reports.{record_report}
 use Rattle.ctrie_commands.proofs.Ranks.{made_unused, ranked, denied_by_rank}
 use Rattle.ctrie_commands.proofs.Reported.{seats_came, none_missing, reported}

@@ -1,4 +1,4 @@
-use Rattle.trie_parts.specs.Here.{at_heap}
+use Rattle.key_finding.specs.Beneath.trie_parts.specs.Here.{at_heap}
 use Rattle.key_finding.proofs.looks.after_entry.Goals as goal
 
 pub returns-in-Some-Indirection : goal.returns-in-Some-Indirection

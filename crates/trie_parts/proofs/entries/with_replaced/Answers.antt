@@ -1,5 +1,5 @@
 use Rattle.std.proofs.Common.{arith, ap, ◌∙◌}
-use Rattle.slot_arena.specs.Heaps.{entries_from}
+use Rattle.trie_parts.specs.Beneath.slot_arena.specs.Heaps.{entries_from}
 use Rattle.trie_parts.proofs.Capped.{set_parts}
 use Rattle.trie_parts.proofs.entries.with_replaced.Goals as goal
 

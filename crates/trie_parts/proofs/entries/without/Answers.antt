@@ -1,5 +1,5 @@
 use Rattle.std.proofs.Common.{ap, ◌∙◌}
-use Rattle.slot_arena.specs.Heaps.{entries_from}
+use Rattle.trie_parts.specs.Beneath.slot_arena.specs.Heaps.{entries_from}
 use Rattle.trie_parts.proofs.Capped.{remove_parts}
 use Rattle.trie_parts.proofs.entries.without.Goals as goal
 

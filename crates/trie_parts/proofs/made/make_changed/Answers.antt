@@ -1,7 +1,7 @@
 use Rattle.std.proofs.Common.{subst}
-use Rattle.slot_arena.specs.declared.nodes.Node.{Node}
-use Rattle.slot_arena.specs.Arenas.{AreLive, IsLive}
-use Rattle.slot_arena.specs.Heaps.{node_at, refs_of_node}
+use Rattle.trie_parts.specs.Beneath.slot_arena.specs.declared.nodes.Node.{Node}
+use Rattle.trie_parts.specs.Beneath.slot_arena.specs.Arenas.{AreLive, IsLive}
+use Rattle.trie_parts.specs.Beneath.slot_arena.specs.Heaps.{node_at, refs_of_node}
 use Rattle.trie_parts.proofs.Coming.{coming_stands}
 use Rattle.trie_parts.proofs.made.make_changed.Goals as goal
 

@@ -1,6 +1,6 @@
 use Rattle.std.proofs.Common.{◌+◌, ◌<◌, ◌∙◌, arith, ap}
-use Rattle.slot_arena.specs.Times.{times}
-use Rattle.slot_arena.proofs.Times.{once_same, times-without}
+use Rattle.trie_parts.specs.Beneath.slot_arena.specs.Times.{times}
+use Rattle.trie_parts.specs.Beneath.slot_arena.proofs.Times.{once_same, times-without}
 use Rattle.trie_parts.proofs.Counting.{times_more, times_part, times_all}
 use Rattle.trie_parts.proofs.private.release_all.Goals as goal
 

@@ -1,7 +1,7 @@
 use Rattle.std.proofs.Common.{◌≡◌, ◌+◌, ◌≤◌, length, take}
-use Rattle.slot_arena.specs.declared.refs.Ref.{Ref}
-use Rattle.slot_arena.specs.Times.{times}
-use Rattle.epochs.specs.Memories.{KeepsEpochs}
+use Rattle.trie_parts.specs.Beneath.slot_arena.specs.declared.refs.Ref.{Ref}
+use Rattle.trie_parts.specs.Beneath.slot_arena.specs.Times.{times}
+use Rattle.trie_parts.specs.Beneath.epochs.specs.Memories.{KeepsEpochs}
 use Rattle.trie_parts.proofs.private.release_all.Given as goal
 
 abbrev pub invariant-loop-at : goal.invariant-loop-at

@@ -7,7 +7,7 @@ use Rattle.trie_parts.specs.Here.{at_heap}
 use Rattle.contract.specs.Cleaning.{clean_line}
 use Rattle.contract.proofs.Looks.{looked}
 use Rattle.contract.proofs.clean.Clean.look.Goals as goal
-use Rattle.slot_arena.specs.Views.{viewed}
+use Rattle.contract.specs.Beneath.slot_arena.specs.Views.{viewed}
 
 pub returns-in-Some-Branch-clause-follows : goal.returns-in-Some-Branch-clause-follows
 returns-in-Some-Branch-clause-follows c =

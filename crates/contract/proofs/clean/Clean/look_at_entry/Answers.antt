@@ -1,7 +1,7 @@
 use Rattle.std.specs.Prelude.{◌≡◌, ◌∷◌, ◌++◌, [], length, None, refl}
-use Rattle.slot_arena.specs.Views.{viewed}
+use Rattle.contract.specs.Beneath.slot_arena.specs.Views.{viewed}
 use Rattle.std.proofs.Common.{ap, ◌∙◌}
-use Rattle.slot_arena.specs.Heaps.{entry_at}
+use Rattle.contract.specs.Beneath.slot_arena.specs.Heaps.{entry_at}
 use Rattle.contract.specs.Beneath.machine_model.specs.declared.lines.Line.TheVariants as line
 use Rattle.contract.specs.Beneath.machine_model.specs.declared.repairs.CleanLine.TheVariants as clean
 use Rattle.contract.specs.Beneath.machine_model.specs.Cleaning.{clean_next}

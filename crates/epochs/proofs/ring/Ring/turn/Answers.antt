@@ -1,5 +1,5 @@
 use Rattle.std.proofs.Common.{ℕ, sym, ap, ◌∙◌, subst}
-use Rattle.ctrie_base.specs.declared.traces.Trace.{Trace}
+use Rattle.epochs.specs.Beneath.ctrie_base.specs.declared.traces.Trace.{Trace}
 use Rattle.epochs.specs.Rings.{Ringed, IsRing}
 use Rattle.epochs.proofs.Turns.{turned_ring}
 use Rattle.epochs.proofs.ring.Ring.turn.Goals as goal

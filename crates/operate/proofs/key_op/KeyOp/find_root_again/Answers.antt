@@ -1,11 +1,11 @@
 use Rattle.std.specs.Prelude.{◌≡◌, refl}
 use Rattle.std.proofs.Common.{◌∙◌, ap, sym}
-use Rattle.slot_arena.specs.Heaps.{generation_at}
+use Rattle.operate.specs.Beneath.slot_arena.specs.Heaps.{generation_at}
 use Rattle.operate.specs.Beneath.machine_model.specs.declared.reading.After.TheVariants.{Gives}
 use Rattle.operate.specs.Beneath.machine_model.specs.declared.repairs.Climb.{Climb}
 use Rattle.operate.specs.Beneath.machine_model.specs.Climbing.{climb_after_root}
-use Rattle.trie_parts.specs.Here.{at_heap}
-use Rattle.trie_parts.specs.Tasks.{for_task}
+use Rattle.operate.specs.Beneath.trie_parts.specs.Here.{at_heap}
+use Rattle.operate.specs.Beneath.trie_parts.specs.Tasks.{for_task}
 use Rattle.operate.specs.Beneath.rdcss_root.specs.Programs.{root_of}
 use Rattle.operate.specs.Beneath.rdcss_root.specs.Tables.{word_in}
 use Rattle.contract.specs.Climbing.{climb_of}

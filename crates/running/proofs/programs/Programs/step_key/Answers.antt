@@ -1,6 +1,6 @@
 use Rattle.std.specs.Prelude.{◌≡◌, ℕ, Option, None, refl}
 use Rattle.std.proofs.Common.{sym, subst}
-use Rattle.epochs.specs.Memories.{Memory}
+use Rattle.running.specs.Beneath.epochs.specs.Memories.{Memory}
 use Rattle.running.specs.Beneath.rdcss_root.specs.Tables.{Table, word_in}
 use Rattle.running.specs.Beneath.trie_parts.specs.declared.calls.KeyCall.{KeyCall}
 use Rattle.running.specs.Beneath.trie_parts.specs.Here.{no_operation}

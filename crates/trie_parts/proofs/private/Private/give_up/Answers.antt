@@ -1,5 +1,5 @@
 use Rattle.std.proofs.Common.{arith, ap}
-use Rattle.slot_arena.specs.Times.{times}
+use Rattle.trie_parts.specs.Beneath.slot_arena.specs.Times.{times}
 use Rattle.trie_parts.proofs.private.Private.give_up.Goals as goal
 
 pub release_all-requires : goal.release_all-requires

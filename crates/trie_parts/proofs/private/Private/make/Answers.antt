@@ -1,6 +1,6 @@
 use Rattle.std.proofs.Common.{rules, ◌∙◌, arith, ap}
-use Rattle.slot_arena.specs.Times.{times}
-use Rattle.slot_arena.proofs.Times.{times-cons, times_push}
+use Rattle.trie_parts.specs.Beneath.slot_arena.specs.Times.{times}
+use Rattle.trie_parts.specs.Beneath.slot_arena.proofs.Times.{times-cons, times_push}
 use Rattle.trie_parts.proofs.private.Private.make.Goals as goal
 
 pub give_up-requires : goal.give_up-requires

@@ -1,7 +1,7 @@
 use Rattle.std.proofs.Common.{◌∙◌, arith, ap}
-use Rattle.ctrie_base.specs.declared.hashes.HashKind.TheVariants.{Low}
+use Rattle.trie_parts.specs.Beneath.ctrie_base.specs.declared.hashes.HashKind.TheVariants.{Low}
 use Rattle.gcas.specs.Reads.{line_of}
-use Rattle.slot_arena.specs.Times.{times}
+use Rattle.trie_parts.specs.Beneath.slot_arena.specs.Times.{times}
 use Rattle.trie_parts.specs.Here.{no_state, at_heap}
 use Rattle.trie_parts.proofs.Insides.{inside}
 use Rattle.trie_parts.proofs.Unmade.{read_privates}

@@ -1,5 +1,5 @@
 use Rattle.std.proofs.Common.{rules, arith, ap}
-use Rattle.slot_arena.specs.Times.{times}
+use Rattle.trie_parts.specs.Beneath.slot_arena.specs.Times.{times}
 use Rattle.gcas.specs.Swaps.{swap_of}
 use Rattle.trie_parts.proofs.Ends.{ended}
 use Rattle.trie_parts.proofs.work.Work.swap.Goals.{in-Publish, in_default}
