@@ -1,6 +1,7 @@
 pub mod Times
 pub mod Marks
 pub mod Namings
+pub mod Lendings
 pub mod Joining
 pub mod Staying
 pub mod Chains
@@ -12,6 +13,7 @@ pub mod Changed
 pub mod Waiting
 pub mod Written
 pub mod Makes
+pub mod Lenders
 pub mod Making
 pub mod Swaps
 pub mod Holds

@@ -9,7 +9,7 @@ use Rattle.slot_arena.specs.Tallies.{naming}
 use Rattle.slot_arena.proofs.Times.{bit, once, once_same, once_other}
 
 -- whether the reference names the slot
-abbrev names : ℕ → Ref → ℕ
+abbrev pub names : ℕ → Ref → ℕ
 names slot q = bit (slot_of q == slot)
 
 pub naming-cons : (slot r : ℕ) (rs : List Ref) → naming slot (r ∷ rs) ≡ once slot (slot_of r) + naming slot rs

@@ -58,8 +58,7 @@ names_one slot q = bit (slot_of q == slot)
 
 module _
     (slots : List (Option Slot)) (counts : List ℕ) (free : Chain) (used : ℕ) (outside : List Ref) (kept : IsKept slots counts free used outside) (r : Ref) (has : live slots r ≡ true)
-    (change : EntryChange) (es front back : List Ref) (stand : es ≡ refs_of_node (slot_seen slots r has).0.node) (fits : Fits change es)
-    (all : front ++ coming change ++ back ≡ entries_after change es)
+    (es : List Ref) (stand : es ≡ refs_of_node (slot_seen slots r has).0.node)
   where
     abbrev slot : Slot
     slot = (slot_seen slots r has).0
@@ -67,13 +66,19 @@ module _
     part : (q : Ref) → times q es ≤ found slots outside q
     part q = omega (arith, slot_part slots counts free used outside kept r has q, times-append q (refs_of_node slot.node) (refs_of_prev slot.prev), ap (times q) stand)
 
-    -- what stays is in use
-    pub front_live : All (λ q. live slots q ≡ true) front
-    front_live = part_live slots counts outside kept.exact front (λ q. omega (arith, part q, sum_stays (times_one q) change es front back fits all))
-
-    pub back_live : All (λ q. live slots q ≡ true) back
-    back_live = part_live slots counts outside kept.exact back (λ q. omega (arith, part q, sum_stays (times_one q) change es front back fits all))
+    -- what the node refers to is in use
+    pub refs_live : All (λ q. live slots q ≡ true) es
+    refs_live = part_live slots counts outside kept.exact es part
 
     -- and counted
-    pub stays_counted : (k : ℕ) → naming k front + naming k back ≤ slice_index counts k
-    stays_counted k = omega (arith, part_counted slots counts outside kept.exact kept.few es part k, sum_stays (names_one k) change es front back fits all)
+    pub refs_counted : (k : ℕ) → naming k es ≤ slice_index counts k
+    refs_counted k = part_counted slots counts outside kept.exact kept.few es part k
+
+    module _ (change : EntryChange) (fits : Fits change es) where
+      module _ (front back : List Ref) (all : front ++ coming change ++ back ≡ entries_after change es) where
+        -- what stays is in use
+        pub front_live : All (λ q. live slots q ≡ true) front
+        front_live = part_live slots counts outside kept.exact front (λ q. omega (arith, part q, sum_stays (times_one q) change es front back fits all))
+
+        pub back_live : All (λ q. live slots q ≡ true) back
+        back_live = part_live slots counts outside kept.exact back (λ q. omega (arith, part q, sum_stays (times_one q) change es front back fits all))

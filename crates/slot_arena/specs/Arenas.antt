@@ -1,5 +1,5 @@
 -- What a contract sees of an arena.
-use Rattle.std.specs.Prelude.{◌≡◌, ℕ, ◌≤◌, ◌==◌, Bool, true, false, List, [], Option, Some, None, replicate, slice_index_or, All, if◌then◌else◌}
+use Rattle.std.specs.Prelude.{◌≡◌, ℕ, ◌+◌, ◌≤◌, ◌==◌, Bool, true, false, List, [], Option, Some, None, replicate, slice_index_or, All, if◌then◌else◌}
 use Rattle.std.specs.List.{range_with_len}
 use Rattle.slot_arena.specs.declared.refs.Ref.{Ref}
 use Rattle.slot_arena.specs.declared.nodes.Node.{Node}
@@ -8,6 +8,7 @@ use Rattle.slot_arena.specs.declared.nodes.Slot.{Slot}
 use Rattle.slot_arena.specs.Refs.{ref_to, birth_of, most_slots}
 use Rattle.slot_arena.specs.Heaps.{Heap, stored}
 use Rattle.slot_arena.specs.Counts.{count_of}
+use Rattle.slot_arena.specs.Tallies.{Tally}
 use Rattle.slot_arena.specs.Times.{times}
 
 pub record Contents : Type 0 where
@@ -18,6 +19,10 @@ pub record Contents : Type 0 where
   pub noted : List ℕ
   -- how often a link of the free slots, a count or a note was looked at
   pub ticks : ℕ
+
+-- what a contract sees where this is counted and noted, and the links of free slots were looked at so often
+abbrev pub contents_of : Heap → List Ref → ℕ → Tally → Contents
+contents_of heap outside ticks tally = record { heap = heap; outside = outside; noted = tally.noted; ticks = ticks + tally.ticks }
 
 -- the slot is in use under this birth
 abbrev pub has_birth : ℕ → Option Slot → Bool

@@ -13,3 +13,4 @@ pub mod Pools
 pub mod Arenas
 pub mod Kept
 pub mod WordSwaps
+pub mod Loans

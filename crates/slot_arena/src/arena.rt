@@ -14,24 +14,21 @@ ghost use Rattle.slot_arena.specs.WordSwaps.{coming, StandsIn, with_word};
 use crate::cells::Cells;
 use crate::entries::{EntryChange, joined};
 use crate::free_slots::FreeSlots;
+use crate::ledger::Ledger;
 use crate::lists::TakenOut;
 use crate::nodes::{Node, NodeRef, Prev, refs_in, refs_of, refs_of_prev};
 use crate::refs::{MOST_SLOTS, Ref};
-use crate::tally::Tally;
 use crate::word_swaps::WordSwap;
 use ctrie_base::{Refusal, Ticks, Trace};
 use std::alloc::Global;
 use std::marker::Model;
 use std::slice::from_ref;
 
-/// Slots with nodes in them, each with its count of references. Where a call is handed a reference,
-/// that names a slot in use.
-///
-/// A call notes few slots (clauses `few`): its own, the one of a `prev` word, and at most 32 that a node names. It looks
-/// at few links, counts and notes (clauses `ticks`), however many slots there are; a look at what stands in a slot counts none.
+/// Slots with nodes in them, each with its count of references. Where a call is handed a reference, that names a slot in use.
+/// A call notes few slots (clauses `few`): its own, that of a `prev` word, at most 32 that a node names. It looks at few links, counts and notes (clauses `ticks`); what stands in a slot counts none.
 pub struct Arena {
     cells: Cells,
-    tally: Tally,
+    ledger: Ledger,
     free: FreeSlots,
     births: u64,
     used: u32,
@@ -42,7 +39,7 @@ impl Drop for Arena {
     fn drop(self) {
         let Arena {
             cells: _,
-            tally: _,
+            ledger: _,
             free: _,
             births: _,
             used: _,
@@ -52,15 +49,15 @@ impl Drop for Arena {
 }
 
 impl Model for Arena {
-    ghost use Rattle.std.specs.Prelude.{◌+◌};
-    ghost use Rattle.slot_arena.specs.Arenas.{Contents};
+    ghost use Rattle.slot_arena.specs.Arenas.{Contents, contents_of};
     ghost use Rattle.slot_arena.specs.Kept.{IsKept};
+    ghost use Rattle.slot_arena.specs.Loans.{IsLending};
 
     ghost Value = { Contents };
 
-    ghost view = { λ a. record { heap = record { slots = a.cells; free = a.free.slots; births = a.births }; outside = a.outside.items; noted = a.tally.noted; ticks = a.free.ticks + a.tally.ticks } };
+    ghost view = { λ a. contents_of (record { slots = a.cells; free = a.free.slots; births = a.births }) a.outside.items a.free.ticks a.ledger.tally };
 
-    ghost invariant = { λ a. IsKept a.cells a.tally.counts a.free a.used a.outside.items };
+    ghost invariant = { λ a. IsKept a.cells a.ledger.tally.counts a.free a.used a.outside.items × IsLending a.cells a.ledger.loan };
 }
 
 impl Arena {
@@ -74,7 +71,7 @@ impl Arena {
         }
         Ok(Arena {
             cells: Cells::new(alloc, slots)?,
-            tally: Tally::new(alloc, slots as usize)?,
+            ledger: Ledger::new(alloc, slots as usize)?,
             free: FreeSlots::new(alloc, slots)?,
             births: 0,
             used: 0,
@@ -82,8 +79,7 @@ impl Arena {
         })
     }
 
-    /// Takes the first free slot for a node, under a new birth, and holds it: it has one reference from
-    /// outside; None where no slot is free.
+    /// Takes the first free slot for a node, under a new birth, and holds it: it has one reference from outside; None where no slot is free.
     #[inline(always)]
     pub fn make_held(&mut self, node: Node) -> Option<Ref>
         requires births { self.old.heap.births + 1 < birth_limit }
@@ -99,8 +95,8 @@ impl Arena {
         ensures ticks { TakesUpTo 36 self.old.ticks self.new.ticks }
     {
         let slot = self.free.take()?;
-        self.tally.raise_all(refs_of(&node));
-        self.tally.begin(slot);
+        self.ledger.raise_all(refs_of(&node));
+        self.ledger.begin(slot);
         self.births += 1;
         self.used += 1;
         self.cells.fill(slot, self.births, node);
@@ -126,10 +122,11 @@ impl Arena {
         ensures ticks { TakesUpTo 36 self.old.ticks self.new.ticks }
     {
         let slot = self.free.take()?;
-        let (front, back) = change.staying(refs_in(self.cells.node(from.slot())));
+        let refs = refs_in(self.cells.node(from.slot()));
+        let (front, back) = change.staying(refs);
         let coming = change.coming();
-        self.tally.raise_parts(front, coming, back);
-        self.tally.begin(slot);
+        self.ledger.raise_changed(from, refs, &change);
+        self.ledger.begin(slot);
         let entries = joined(front, coming, back);
         self.births += 1;
         self.used += 1;
@@ -238,9 +235,10 @@ impl Arena {
         ensures few { length self.new.noted ≤ length self.old.noted + 2 }
         ensures ticks { TakesUpTo 2 self.old.ticks self.new.ticks }
     {
-        self.tally.raise_all(swap.coming());
-        self.tally.lower_all(swap.going());
+        self.ledger.raise_all(swap.coming());
+        self.ledger.lower_all(swap.going());
         self.cells.set_word(at.slot(), swap);
+        self.ledger.settle(at);
     }
 
     /// Where an indirection's main word is `from`, it becomes `to`, `to` pending over `from`. Tells whether it was.
@@ -261,10 +259,12 @@ impl Arena {
             return false;
         }
         let was = self.cells.prev(to.slot());
-        self.tally.raise(to.slot());
-        self.tally.lower_all(refs_of_prev(&was));
+        self.ledger.raise(to.slot());
+        self.ledger.lower_all(refs_of_prev(&was));
         self.cells.set_main(at.slot(), to);
         self.cells.set_prev(to.slot(), Prev::Pending(from));
+        self.ledger.settle(at);
+        self.ledger.settle(to);
         true
     }
 
@@ -278,7 +278,7 @@ impl Arena {
         ensures few { length self.new.noted ≤ length self.old.noted + 1 }
         ensures ticks { self.new.ticks ≡ self.old.ticks + 1 }
     {
-        self.tally.raise_all(from_ref(&at));
+        self.ledger.raise_all(from_ref(&at));
         self.outside = self.outside.with_first(&at);
     }
 
@@ -291,7 +291,7 @@ impl Arena {
         ensures few { length self.new.noted ≤ length self.old.noted + 1 }
         ensures ticks { self.new.ticks ≡ self.old.ticks + 1 }
     {
-        self.tally.lower_all(from_ref(&at));
+        self.ledger.lower_all(from_ref(&at));
         self.outside = Trace::changed::<Ref, TakenOut>(&self.outside, &at);
     }
 
@@ -308,9 +308,9 @@ impl Arena {
     {
         let slot = at.slot();
         let prev = self.cells.prev(slot);
-        self.tally.lower_all(refs_in(self.cells.node(slot)));
-        self.tally.lower_all(refs_of_prev(&prev));
-        self.tally.note(slot);
+        self.ledger.lower_node(at, refs_in(self.cells.node(slot)));
+        self.ledger.lower_all(refs_of_prev(&prev));
+        self.ledger.note(slot);
         self.cells.clear(slot);
         self.used -= 1;
         self.free.put(slot);
@@ -322,7 +322,7 @@ impl Arena {
         ensures count { result ≡ count_of self.old.heap self.old.outside at }
         ensures same { self.new ≡ record self.old { ticks = self.old.ticks + 1 } }
     {
-        self.tally.count(at.slot()) as u64
+        self.ledger.count(at.slot()) as u64
     }
 
     /// How many slots are noted.
@@ -331,7 +331,7 @@ impl Arena {
         ensures few { result ≤ length self.now.heap.slots }
     {
         let _ = &self.used;
-        self.tally.noted_len()
+        self.ledger.noted_len()
     }
 
     /// Takes a slot out of the notes, if one is noted.
@@ -342,7 +342,7 @@ impl Arena {
             (λ slot. (self.old.noted ≡ self.new.noted ++ slot ∷ []) × (times slot self.new.noted ≡ 0) × (slot < length self.new.heap.slots)) }
         ensures ticks { self.new.ticks ≡ self.old.ticks + 1 }
     {
-        self.tally.take_noted()
+        self.ledger.take_noted()
     }
 
     /// The reference to a slot, where it is in use and nothing refers to it.
@@ -352,9 +352,9 @@ impl Arena {
         ensures live { IfSome result (λ r. (slot_of r ≡ slot) × IsLive self.old.heap r) }
         ensures same { self.new ≡ record self.old { ticks = self.old.ticks + 1 } }
     {
-        let count = self.tally.count(slot);
+        let is_zero = self.ledger.is_zero(slot);
         let birth = self.cells.birth(slot);
-        if birth == 0 || count != 0 {
+        if birth == 0 || !is_zero {
             return None;
         }
         Some(Ref::new(birth, slot))
@@ -395,6 +395,6 @@ impl Arena {
     pub fn ticks(&self) -> Ticks
         ensures { result.count ≡ self.now.ticks }
     {
-        Ticks::sum(self.free.ticks(), self.tally.ticks())
+        Ticks::sum(self.free.ticks(), self.ledger.ticks())
     }
 }

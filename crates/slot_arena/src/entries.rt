@@ -1,6 +1,7 @@
 //! The entries of a branch, and changes of them.
 
-ghost use Rattle.std.specs.Prelude.{◌≡◌, ◌+◌, ◌<◌, ◌≤◌, ◌++◌, length};
+ghost use Rattle.std.specs.Prelude.{◌≡◌, ℕ, ◌+◌, ◌<◌, ◌≤◌, ◌++◌, length, remove};
+ghost use Rattle.slot_arena.specs.Tallies.{naming};
 ghost use Rattle.slot_arena.specs.Heaps.{entries_from};
 ghost use Rattle.slot_arena.specs.Entries.{Fits, coming, entries_after};
 
@@ -34,6 +35,21 @@ impl EntryChange {
         match self {
             EntryChange::Set { entry, .. } | EntryChange::Insert { entry, .. } => from_ref(entry),
             EntryChange::Remove { .. } => &[],
+        }
+    }
+
+    /// The position of the entry that doesn't stay, past the others where all do.
+    #[inline(always)]
+    pub(crate) fn going(&self, entries: &[Ref]) -> usize
+        requires { Fits self.now entries.now }
+        ensures within { result ≤ length entries.now }
+        ensures counted { (slot : ℕ) → naming slot (remove entries.now result) + naming slot (coming self.now) ≡ naming slot (entries_after self.now entries.now) }
+        ensures few { length (remove entries.now result) + length (coming self.now) ≡ length (entries_after self.now entries.now) }
+    {
+        match *self {
+            EntryChange::Set { position, .. } => position,
+            EntryChange::Remove { position } => position,
+            EntryChange::Insert { .. } => entries.len(),
         }
     }
 

@@ -1,6 +1,6 @@
 //! The counts of references, by slot.
 
-ghost use Rattle.std.specs.Prelude.{◌≡◌, ℕ, ◌+◌, ◌-◌, ◌<◌, ◌≤◌, ◌^◌, [], ◌∷◌, ◌++◌, length, replicate, slice_index, slice_set, All, IfOk, MatchOption};
+ghost use Rattle.std.specs.Prelude.{◌≡◌, ℕ, ◌+◌, ◌-◌, ◌<◌, ◌≤◌, ◌^◌, ◌==◌, [], ◌∷◌, ◌++◌, length, replicate, slice_index, slice_set, All, IfOk, MatchOption};
 ghost use Rattle.slot_arena.specs.Refs.{slot_of};
 ghost use Rattle.slot_arena.specs.Times.{times};
 ghost use Rattle.slot_arena.specs.Tallies.{naming, NotesZeros};
@@ -63,6 +63,14 @@ impl Tally {
     {
         self.ticks.add();
         self.counts[slot as usize]
+    }
+
+    /// Whether a slot has one reference, which a call is about to take: no tick.
+    pub(crate) fn is_last(&self, slot: u32) -> bool
+        requires { slot < length self.now.counts }
+        ensures { result ≡ (slice_index self.now.counts slot == 1) }
+    {
+        self.counts[slot as usize] == 1
     }
 
     /// Gives a slot without references its first one, which isn't noted.
@@ -142,22 +150,22 @@ impl Tally {
         self.ticks.add();
     }
 
-    /// Counts one reference more to a slot that has some.
-    fn raise_more(&mut self, slot: u32)
+    /// Counts one reference more to a slot that has some, which was looked at before: no tick.
+    fn restore(&mut self, slot: u32)
         requires within { slot < length self.old.counts }
         requires room { slice_index self.old.counts slot + 1 < 2 ^ 32 }
         requires some { 0 < slice_index self.old.counts slot }
         ensures counts { self.new.counts ≡ slice_set self.old.counts slot (slice_index self.old.counts slot + 1) }
         ensures zeros { NotesZeros self.old self.new }
         ensures noted { self.new.noted ≡ self.old.noted }
-        ensures ticks { self.new.ticks ≡ self.old.ticks + 1 }
+        ensures ticks { self.new.ticks ≡ self.old.ticks }
     {
         self.counts[slot as usize] += 1;
-        self.ticks.add();
     }
 
     /// Counts one reference less to a slot.
-    fn lower(&mut self, slot: u32)
+    #[inline(always)]
+    pub(crate) fn lower(&mut self, slot: u32)
         requires within { slot < length self.old.counts }
         requires some { 0 < slice_index self.old.counts slot }
         ensures counts { self.new.counts ≡ slice_set self.old.counts slot (slice_index self.old.counts slot - 1) }
@@ -188,54 +196,36 @@ impl Tally {
         }
     }
 
-    /// The same of references to slots that are counted as often already, so that no count leaves zero.
-    pub(crate) fn raise_all_more(&mut self, refs: &[Ref])
+    /// The same of references to slots that have some, and were looked at before: no tick.
+    pub(crate) fn restore_all(&mut self, refs: &[Ref])
         requires within { All (λ r. slot_of r < length self.old.counts) refs.now }
-        requires room { (slot : ℕ) → slice_index self.old.counts slot + length refs.now < 2 ^ 32 }
-        requires some { (slot : ℕ) → naming slot refs.now ≤ slice_index self.old.counts slot }
+        requires room { (slot : ℕ) → slice_index self.old.counts slot + naming slot refs.now < 2 ^ 32 }
+        requires some { (slot : ℕ) → slice_index self.old.counts slot ≡ 0 → naming slot refs.now ≡ 0 }
         ensures size { length self.new.counts ≡ length self.old.counts }
         ensures counts { (slot : ℕ) → slice_index self.new.counts slot ≡ slice_index self.old.counts slot + naming slot refs.now }
         ensures zeros { NotesZeros self.old self.new }
         ensures noted { self.new.noted ≡ self.old.noted }
-        ensures ticks { self.new.ticks ≡ self.old.ticks + length refs.now }
+        ensures ticks { self.new.ticks ≡ self.old.ticks }
     {
         for one in refs {
-            self.raise_more(one.slot());
+            self.restore(one.slot());
         }
     }
 
-    /// Counts each of these references one less to the slot that it names.
-    pub(crate) fn lower_all(&mut self, refs: &[Ref])
-        requires within { All (λ r. slot_of r < length self.old.counts) refs.now }
-        requires some { (slot : ℕ) → naming slot refs.now ≤ slice_index self.old.counts slot }
-        ensures size { length self.new.counts ≡ length self.old.counts }
-        ensures counts { (slot : ℕ) → slice_index self.new.counts slot + naming slot refs.now ≡ slice_index self.old.counts slot }
-        ensures noted { NotesZeros self.old self.new }
-        ensures few { length self.new.noted ≤ length self.old.noted + length refs.now }
-        ensures ticks { self.new.ticks ≡ self.old.ticks + length refs.now }
+    /// Counts a tick for each of these references, to whose slots a later call looks.
+    pub(crate) fn charge(&mut self, refs: &[Ref])
+        ensures { self.new ≡ record self.old { ticks = self.old.ticks + length refs.now } }
     {
-        for one in refs {
-            self.lower(one.slot());
+        for _one in refs {
+            self.tick();
         }
     }
 
-    /// Counts each of these references one more to the slot that it names; those in front and behind are counted as often
-    /// already.
-    pub(crate) fn raise_parts(&mut self, front: &[Ref], middle: &[Ref], back: &[Ref])
-        requires within_front { All (λ r. slot_of r < length self.old.counts) front.now }
-        requires within_middle { All (λ r. slot_of r < length self.old.counts) middle.now }
-        requires within_back { All (λ r. slot_of r < length self.old.counts) back.now }
-        requires room { (slot : ℕ) → slice_index self.old.counts slot + (length front.now + length middle.now + length back.now) < 2 ^ 32 }
-        requires some { (slot : ℕ) → naming slot front.now + naming slot back.now ≤ slice_index self.old.counts slot }
-        ensures size { length self.new.counts ≡ length self.old.counts }
-        ensures counts { (slot : ℕ) → slice_index self.new.counts slot ≡ slice_index self.old.counts slot + (naming slot front.now + naming slot middle.now + naming slot back.now) }
-        ensures noted { NotesZeros self.old self.new }
-        ensures few { length self.new.noted ≤ length self.old.noted + length middle.now }
-        ensures ticks { self.new.ticks ≡ self.old.ticks + (length front.now + length middle.now + length back.now) }
+    /// Counts a tick.
+    fn tick(&mut self)
+        ensures { self.new ≡ record self.old { ticks = self.old.ticks + 1 } }
     {
-        self.raise_all_more(front);
-        self.raise_all(middle);
-        self.raise_all_more(back);
+        self.ticks.add();
     }
 
     /// How often a slot was looked at.

@@ -11,13 +11,13 @@ count-requires c =
     let slots = ap (λ (a : Contents). a.heap.slots) c.self.view_is in
     let has : live c.self.inside.cells c.args.at ≡ true = ap (λ s. live s c.args.at) slots ∙ live_seen c.args.self.now.heap c.args.at c.requires in
     let within = live_within c.self.inside.cells c.args.at has in
-    let sizes = c.self.invariant.sizes in
+    let sizes = c.self.invariant.0.sizes in
     omega arith
 
 pub returns-clause-count : goal.returns-clause-count
 returns-clause-count c =
     let slots = ap (λ (a : Contents). a.heap.slots) c.self.view_is in
     let has : live c.self.inside.cells c.args.at ≡ true = ap (λ s. live s c.args.at) slots ∙ live_seen c.args.self.now.heap c.args.at c.requires in
-    c.count.ensures.count ∙ ap (slice_index c.self.inside.tally.counts) c.slot.ensures
-    ∙ sym (exact_live c.self.inside.cells c.self.inside.tally.counts c.self.inside.outside.items c.self.invariant.exact c.args.at has)
+    c.count.ensures.count ∙ ap (slice_index c.self.inside.ledger.tally.counts) c.slot.ensures
+    ∙ sym (exact_live c.self.inside.cells c.self.inside.ledger.tally.counts c.self.inside.outside.items c.self.invariant.0.exact c.args.at has)
     ∙ ap (λ (a : Contents). found a.heap.slots a.outside c.args.at) c.self.view_is ∙ sym (count_found c.args.self.now.heap c.args.self.now.outside c.args.at)

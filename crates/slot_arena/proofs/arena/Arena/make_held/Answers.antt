@@ -1,4 +1,4 @@
-use Rattle.std.proofs.Common.{◌≡◌, ℕ, ◌+◌, ◌<◌, ◌∷◌, true, length, get_or, set, All, Some, None, refl, sym, ap, ◌∙◌, subst, arith}
+use Rattle.std.proofs.Common.{◌≡◌, ℕ, ◌+◌, ◌<◌, ◌∷◌, true, length, get_or, set, slice_index, All, Some, None, refl, sym, ap, ◌∙◌, subst, inl, arith}
 use Rattle.slot_arena.specs.Refs.{ref_to, slot_of, birth_of, most_slots}
 use Rattle.slot_arena.specs.Heaps.{Heap, refs_of_node}
 use Rattle.slot_arena.specs.Tallies.{Tally, naming}
@@ -14,6 +14,8 @@ use Rattle.slot_arena.proofs.Live.{slot_of_ref}
 use Rattle.slot_arena.specs.declared.nodes.Prev.TheVariants as prev
 use Rattle.slot_arena.specs.Arenas.{has_birth}
 use Rattle.slot_arena.proofs.Reading.{live_is}
+use Rattle.slot_arena.specs.Loans.{IsLending}
+use Rattle.slot_arena.proofs.Lenders.{first_none, lending_filled, lending_kept}
 use Rattle.slot_arena.proofs.arena.Arena.make_held.Goals as goal
 
 pub returns-in_err-slot-clause-heap : goal.returns-in_err-slot-clause-heap
@@ -28,34 +30,51 @@ raise_all-requires-clause-within c =
     let slots = ap (λ (a : Contents). a.heap.slots) c.self.view_is in
     let all : All (λ q. live c.self.inside.cells q ≡ true) (refs_of_node c.args.node) =
     subst (λ s. All (λ q. live s q ≡ true) (refs_of_node c.args.node)) (sym slots) (all_seen c.args.self.now.heap (refs_of_node c.args.node) c.requires.live) in
-    subst (λ rs. All (λ r. slot_of r < length c.self.inside.tally.counts) rs) (sym c.refs_of.ensures.refs)
-    (all_within c.self.inside.cells (length c.self.inside.tally.counts) (refs_of_node c.args.node) (sym c.self.invariant.sizes) all)
+    subst (λ rs. All (λ r. slot_of r < length c.self.inside.ledger.tally.counts) rs) (sym c.refs_of.ensures.refs)
+    (all_within c.self.inside.cells (length c.self.inside.ledger.tally.counts) (refs_of_node c.args.node) (sym c.self.invariant.0.sizes) all)
 
 pub raise_all-requires-clause-room : goal.raise_all-requires-clause-room
 raise_all-requires-clause-room c slot =
     omega (
       arith,
       c.refs_of.ensures.few,
-      counts_small c.self.inside.cells c.self.inside.tally.counts c.self.inside.free c.self.inside.used c.self.inside.outside.items c.self.invariant slot,
+      counts_small c.self.inside.cells c.self.inside.ledger.tally.counts c.self.inside.free c.self.inside.used c.self.inside.outside.items c.self.invariant.0 slot,
     )
 
-pub invariant_of-self-2 : goal.invariant_of-self-2
-invariant_of-self-2 c =
+pub begin-requires-clause-none : goal.begin-requires-clause-none
+begin-requires-clause-none c =
     let slots = ap (λ (a : Contents). a.heap.slots) c.self.view_is in
-    let births = ap (λ (a : Contents). a.heap.births) c.self.view_is in
     let all : All (λ q. live c.self.inside.cells q ≡ true) (refs_of_node c.args.node) =
     subst (λ s. All (λ q. live s q ≡ true) (refs_of_node c.args.node)) (sym slots) (all_seen c.args.self.now.heap (refs_of_node c.args.node) c.requires.live) in
-    subst (λ s. IsKept s c.begin.new.self.counts c.take.new.self (c.self.inside.used + 1) c.with_first-self-inside.result.items) (sym c.fill.ensures)
-    (subst (λ cs. IsKept (set c.self.inside.cells c.in_ok-slot.slot (Some (record { birth = c.self.inside.births + 1; node = c.args.node; prev = prev.None }))) cs c.take.new.self
-    (c.self.inside.used + 1) c.with_first-self-inside.result.items) (sym (ap (λ (t : Tally). t.counts) c.begin.ensures))
-    (subst (IsKept (set c.self.inside.cells c.in_ok-slot.slot (Some (record { birth = c.self.inside.births + 1; node = c.args.node; prev = prev.None })))
-    (set c.raise_all.new.self.counts c.in_ok-slot.slot 1) c.take.new.self (c.self.inside.used + 1))
-    (sym (c.with_first-self-inside.ensures ∙ ap (λ r. r ∷ c.self.inside.outside.items) c.new-made.ensures))
-    (make_held_kept c.self.inside.cells c.self.inside.tally.counts c.raise_all.new.self.counts c.self.inside.free c.take.new.self c.self.inside.used c.self.inside.outside.items c.self.invariant
-    c.in_ok-slot.slot (c.self.inside.births + 1) c.args.node c.in_ok-slot.ensures.slots.0 c.in_ok-slot.ensures.size c.in_ok-slot.ensures.slots.1 c.in_ok-slot.ensures.slots.2
-    c.raise_all.ensures.size
-    (λ i. omega (arith, c.raise_all.ensures.counts i, ap (naming i) c.refs_of.ensures.refs))
-    all (omega (arith, c.refs_of.ensures.few, ap length c.refs_of.ensures.refs)) (omega (arith, c.requires.births)))))
+    first_none c.self.inside.cells c.self.inside.ledger.tally.counts c.raise_all.new.self.tally.counts c.self.inside.free c.self.inside.used c.self.inside.outside.items c.self.invariant.0
+    c.in_ok-slot.slot c.take.new.self.slots c.in_ok-slot.ensures.slots.0 (refs_of_node c.args.node) all
+    (c.raise_all.ensures.counts c.in_ok-slot.slot
+    ∙ ap (λ rs. slice_index c.self.inside.ledger.tally.counts c.in_ok-slot.slot + naming c.in_ok-slot.slot rs) c.refs_of.ensures.refs)
+
+pub invariant_of-self-2 : goal.invariant_of-self-2
+invariant_of-self-2 c = (
+  let slots = ap (λ (a : Contents). a.heap.slots) c.self.view_is in
+      let births = ap (λ (a : Contents). a.heap.births) c.self.view_is in
+      let all : All (λ q. live c.self.inside.cells q ≡ true) (refs_of_node c.args.node) =
+      subst (λ s. All (λ q. live s q ≡ true) (refs_of_node c.args.node)) (sym slots) (all_seen c.args.self.now.heap (refs_of_node c.args.node) c.requires.live) in
+      subst (λ s. IsKept s c.begin.new.self.tally.counts c.take.new.self (c.self.inside.used + 1) c.with_first-self-inside.result.items) (sym c.fill.ensures)
+      (subst (λ cs. IsKept (set c.self.inside.cells c.in_ok-slot.slot (Some (record { birth = c.self.inside.births + 1; node = c.args.node; prev = prev.None }))) cs c.take.new.self
+      (c.self.inside.used + 1) c.with_first-self-inside.result.items) (sym (ap (λ (t : Tally). t.counts) c.begin.ensures.tally))
+      (subst (IsKept (set c.self.inside.cells c.in_ok-slot.slot (Some (record { birth = c.self.inside.births + 1; node = c.args.node; prev = prev.None })))
+      (set c.raise_all.new.self.tally.counts c.in_ok-slot.slot 1) c.take.new.self (c.self.inside.used + 1))
+      (sym (c.with_first-self-inside.ensures ∙ ap (λ r. r ∷ c.self.inside.outside.items) c.new-made.ensures))
+      (make_held_kept c.self.inside.cells c.self.inside.ledger.tally.counts c.raise_all.new.self.tally.counts c.self.inside.free c.take.new.self c.self.inside.used c.self.inside.outside.items
+      c.self.invariant.0
+      c.in_ok-slot.slot (c.self.inside.births + 1) c.args.node c.in_ok-slot.ensures.slots.0 c.in_ok-slot.ensures.size c.in_ok-slot.ensures.slots.1 c.in_ok-slot.ensures.slots.2
+      c.raise_all.ensures.size
+      (λ i. omega (arith, c.raise_all.ensures.counts i, ap (naming i) c.refs_of.ensures.refs))
+      all (omega (arith, c.refs_of.ensures.few, ap length c.refs_of.ensures.refs)) (omega (arith, c.requires.births))))),
+  subst (λ s. IsLending s c.begin.new.self.loan) (sym c.fill.ensures)
+      (lending_filled c.self.inside.cells c.begin.new.self.loan c.in_ok-slot.slot (Some (record { birth = c.self.inside.births + 1; node = c.args.node; prev = prev.None }))
+      (first_unused c.self.inside.cells c.self.inside.ledger.tally.counts c.self.inside.free c.self.inside.used c.self.inside.outside.items c.self.invariant.0 c.in_ok-slot.slot c.take.new.self.slots
+      c.in_ok-slot.ensures.slots.0)
+      (lending_kept c.self.inside.cells c.self.inside.ledger.loan c.begin.new.self.loan (inl (c.begin.ensures.loan ∙ c.raise_all.ensures.loan)) c.self.invariant.1)),
+)
 
 pub returns-clause-heap : goal.returns-clause-heap
 returns-clause-heap c =
@@ -76,39 +95,41 @@ returns-clause-noted c =
     let was : Contents = record {
       heap = record { slots = c.self.inside.cells; free = c.self.inside.free.slots; births = c.self.inside.births };
       outside = c.self.inside.outside.items;
-      noted = c.self.inside.tally.noted;
-      ticks = c.self.inside.free.ticks + c.self.inside.tally.ticks;
+      noted = c.self.inside.ledger.tally.noted;
+      ticks = c.self.inside.free.ticks + c.self.inside.ledger.tally.ticks;
     } in
     let now : Contents = record {
       heap = record { slots = c.fill.new.self; free = c.take.new.self.slots; births = c.self.inside.births + 1 };
       outside = c.with_first-self-inside.result.items;
-      noted = c.begin.new.self.noted;
+      noted = c.begin.new.self.tally.noted;
       ticks = 0;
     } in
     let slot : Slot = record { birth = c.self.inside.births + 1; node = c.args.node; prev = prev.None } in
     subst (λ (a : Contents). NotesWaiting a now) c.self.view_is
-    (made_notes was now c.self.inside.tally c.raise_all.new.self c.begin.new.self c.self.inside.free c.take.new.self c.self.inside.used (c.self.inside.used + 1) c.in_ok-slot.slot slot
-    c.self.invariant c.in_ok-slot.ensures.slots.0 c.fill.ensures (invariant_of-self-2 c) c.raise_all.ensures.noted refl (ap (λ (t : Tally). t.noted) c.begin.ensures)
-    (ap (λ (t : Tally). t.counts) c.begin.ensures)
-    (let is = c.self.invariant.chained in let least = c.in_ok-slot.ensures.slots.1 in omega (arith, c.raise_all.ensures.size, c.self.invariant.sizes)))
+    (made_notes was now c.self.inside.ledger.tally c.raise_all.new.self.tally c.begin.new.self.tally c.self.inside.free c.take.new.self c.self.inside.used (c.self.inside.used + 1) c.in_ok-slot.slot
+    slot
+    c.self.invariant.0 c.in_ok-slot.ensures.slots.0 c.fill.ensures (invariant_of-self-2 c).0 c.raise_all.ensures.noted refl (ap (λ (t : Tally). t.noted) c.begin.ensures.tally)
+    (ap (λ (t : Tally). t.counts) c.begin.ensures.tally)
+    (let is = c.self.invariant.0.chained in let least = c.in_ok-slot.ensures.slots.1 in omega (arith, c.raise_all.ensures.size, c.self.invariant.0.sizes)))
 
 pub returns-clause-stay : goal.returns-clause-stay
 returns-clause-stay c q has =
     let was : Contents = record {
       heap = record { slots = c.self.inside.cells; free = c.self.inside.free.slots; births = c.self.inside.births };
       outside = c.self.inside.outside.items;
-      noted = c.self.inside.tally.noted;
-      ticks = c.self.inside.free.ticks + c.self.inside.tally.ticks;
+      noted = c.self.inside.ledger.tally.noted;
+      ticks = c.self.inside.free.ticks + c.self.inside.ledger.tally.ticks;
     } in
     let now : Contents = record {
       heap = record { slots = c.fill.new.self; free = c.take.new.self.slots; births = c.self.inside.births + 1 };
       outside = c.with_first-self-inside.result.items;
-      noted = c.begin.new.self.noted;
+      noted = c.begin.new.self.tally.noted;
       ticks = 0;
     } in
     let slot : Slot = record { birth = c.self.inside.births + 1; node = c.args.node; prev = prev.None } in
-    made_stays was now c.self.inside.tally c.raise_all.new.self c.begin.new.self c.self.inside.free c.take.new.self c.self.inside.used (c.self.inside.used + 1) c.in_ok-slot.slot slot
-    c.self.invariant c.in_ok-slot.ensures.slots.0 c.fill.ensures q (subst (λ (a : Contents). IsLive a.heap q) (sym c.self.view_is) has)
+    made_stays was now c.self.inside.ledger.tally c.raise_all.new.self.tally c.begin.new.self.tally c.self.inside.free c.take.new.self c.self.inside.used (c.self.inside.used + 1) c.in_ok-slot.slot
+    slot
+    c.self.invariant.0 c.in_ok-slot.ensures.slots.0 c.fill.ensures q (subst (λ (a : Contents). IsLive a.heap q) (sym c.self.view_is) has)
 
 pub returns-in_err-slot-clause-stay : goal.returns-in_err-slot-clause-stay
 returns-in_err-slot-clause-stay c q has = subst (λ (h : Heap).
@@ -119,26 +140,27 @@ returns-clause-lives c =
     let was : Contents = record {
       heap = record { slots = c.self.inside.cells; free = c.self.inside.free.slots; births = c.self.inside.births };
       outside = c.self.inside.outside.items;
-      noted = c.self.inside.tally.noted;
-      ticks = c.self.inside.free.ticks + c.self.inside.tally.ticks;
+      noted = c.self.inside.ledger.tally.noted;
+      ticks = c.self.inside.free.ticks + c.self.inside.ledger.tally.ticks;
     } in
     let now : Contents = record {
       heap = record { slots = c.fill.new.self; free = c.take.new.self.slots; births = c.self.inside.births + 1 };
       outside = c.with_first-self-inside.result.items;
-      noted = c.begin.new.self.noted;
+      noted = c.begin.new.self.tally.noted;
       ticks = 0;
     } in
     let slot : Slot = record { birth = c.self.inside.births + 1; node = c.args.node; prev = prev.None } in
     subst (λ r. IsLive now.heap r) (sym c.new-made.ensures)
-    (made_lives was now c.self.inside.tally c.raise_all.new.self c.begin.new.self c.self.inside.free c.take.new.self c.self.inside.used (c.self.inside.used + 1) c.in_ok-slot.slot slot
-    c.self.invariant c.in_ok-slot.ensures.slots.0 c.fill.ensures c.in_ok-slot.ensures.slots.1)
+    (made_lives was now c.self.inside.ledger.tally c.raise_all.new.self.tally c.begin.new.self.tally c.self.inside.free c.take.new.self c.self.inside.used (c.self.inside.used + 1) c.in_ok-slot.slot
+    slot
+    c.self.invariant.0 c.in_ok-slot.ensures.slots.0 c.fill.ensures c.in_ok-slot.ensures.slots.1)
 
 pub returns-clause-fresh : goal.returns-clause-fresh
 returns-clause-fresh c =
     let k : ℕ = c.in_ok-slot.slot in
     let b : ℕ = c.self.inside.births + 1 in
-    let small : k < most_slots = let few = c.self.invariant.few in let is = c.self.invariant.chained in let below = c.in_ok-slot.ensures.slots.1 in omega arith in
-    let empty = first_unused c.self.inside.cells c.self.inside.tally.counts c.self.inside.free c.self.inside.used c.self.inside.outside.items c.self.invariant k c.take.new.self.slots
+    let small : k < most_slots = let few = c.self.invariant.0.few in let is = c.self.invariant.0.chained in let below = c.in_ok-slot.ensures.slots.1 in omega arith in
+    let empty = first_unused c.self.inside.cells c.self.inside.ledger.tally.counts c.self.inside.free c.self.inside.used c.self.inside.outside.items c.self.invariant.0 k c.take.new.self.slots
     c.in_ok-slot.ensures.slots.0 in
     live_is c.args.self.now.heap c.new-made.result ∙ ap (λ (a : Contents). live a.heap.slots c.new-made.result) (sym c.self.view_is) ∙ ap (live c.self.inside.cells) c.new-made.ensures
     ∙ ap (λ i. has_birth (birth_of (ref_to b k)) (get_or c.self.inside.cells i None)) (slot_of_ref b k small) ∙ ap (has_birth (birth_of (ref_to b k))) empty

@@ -2,9 +2,10 @@ use Rattle.std.proofs.Common.{ℕ, List, get_or, ◌+◌, ◌-◌, ◌<◌, leng
 use Rattle.std.proofs.lemmas.List.{length-set}
 use Rattle.slot_arena.specs.Refs.{slot_of}
 use Rattle.slot_arena.proofs.Marks.{zeros_trans}
+use Rattle.slot_arena.proofs.Lendings.{keeps_trans}
 use Rattle.slot_arena.proofs.Times.{once, once_same}
 use Rattle.slot_arena.proofs.Namings.{naming_more, naming_part-le, lowered_at}
-use Rattle.slot_arena.proofs.tally.Tally.lower_all.Goals as goal
+use Rattle.slot_arena.proofs.ledger.Ledger.lower_all.Goals as goal
 
 pub lower-requires-clause-some : goal.lower-requires-clause-some
 lower-requires-clause-some c =
@@ -21,9 +22,9 @@ lower-requires-clause-some c =
 
 pub loop-one-preserved : goal.loop-one-preserved
 loop-one-preserved c =
-    let counts : List ℕ = c.loop-one.self.counts in
+    let counts : List ℕ = c.loop-one.self.tally.counts in
     let at : ℕ = c.slot.result in
-    let within : at < length counts = let bound : slot_of (get_or c.args.refs.now c.loop-one.one-index c.one-item.result) < length c.args.self.now.counts =
+    let within : at < length counts = let bound : slot_of (get_or c.args.refs.now c.loop-one.one-index c.one-item.result) < length c.args.self.now.tally.counts =
     c.requires.within c.loop-one.one-index c.one-item.result c.loop-one-test.true in omega (arith, c.loop-one.invariant.size, ap slot_of c.one-item.is, c.slot.ensures) in
     let some : 0 < slice_index counts at =
     omega (
@@ -45,7 +46,8 @@ loop-one-preserved c =
         naming_more slot c.args.refs.now c.loop-one.one-index c.one-item.result c.loop-one-test.true c.one-item.is,
         ap (once slot) c.slot.ensures,
       );
-      noted = zeros_trans c.args.self.now c.loop-one.self c.lower.new.self c.loop-one.invariant.noted c.lower.ensures.noted;
+      noted = zeros_trans c.args.self.now.tally c.loop-one.self.tally c.lower.new.self.tally c.loop-one.invariant.noted c.lower.ensures.noted;
       ticks = omega (arith, c.loop-one.invariant.ticks, c.lower.ensures.ticks);
       few = omega (arith, c.loop-one.invariant.few, c.lower.ensures.few);
+      loan = keeps_trans c.args.self.now.loan c.loop-one.self.loan c.lower.new.self.loan c.loop-one.invariant.loan c.lower.ensures.loan;
     }

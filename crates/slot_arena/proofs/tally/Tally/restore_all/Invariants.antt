@@ -1,6 +1,6 @@
 use Rattle.std.proofs.Common.{◌≡◌, ℕ, ◌+◌, length, take, slice_index}
 use Rattle.slot_arena.specs.Tallies.{naming, NotesZeros}
-use Rattle.slot_arena.proofs.tally.Tally.raise_all_more.Given as goal
+use Rattle.slot_arena.proofs.tally.Tally.restore_all.Given as goal
 
 abbrev pub invariant-loop-one : goal.invariant-loop-one
 invariant-loop-one l = record {
@@ -8,5 +8,5 @@ invariant-loop-one l = record {
   counts : (slot : ℕ) → slice_index l.self.counts slot ≡ slice_index l.fn.self.counts slot + naming slot (take l.one-index l.refs);
   zeros : NotesZeros l.fn.self l.self;
   noted : l.self.noted ≡ l.fn.self.noted;
-  ticks : l.self.ticks ≡ l.fn.self.ticks + l.one-index;
+  ticks : l.self.ticks ≡ l.fn.self.ticks;
 }
