@@ -146,6 +146,7 @@ impl Chronicle {
     }
 
     /// The actor begins an operation with this id in this step: a begin stands in the history, and a close in the order.
+    #[inline(always)]
     pub fn begin(&mut self, step: u64, id: u64, actor: u8, call: Call, opens: Option<u16>)
         requires room { 0 < self.old.room }
         requires can { CanBegin self.old actor id }

@@ -113,6 +113,7 @@ impl Core {
 
     /// Ends the actor's operation, where its next step is its end, or refuses to; the refusal is the definition's, and nothing
     /// has changed then.
+    #[inline(always)]
     pub fn end(&mut self, actor: u8) -> Result<Ended, Refusal>
         requires { goes_on (next_kind self.old.state actor) ≡ false }
         ensures answers { Answers (ended result) self.old.state (next self.old.state (steps.Go actor)) self.new.state }

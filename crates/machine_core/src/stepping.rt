@@ -25,7 +25,7 @@ use history::Call;
 use machine_model::Outcome;
 
 /// A begin.
-#[inline(never)]
+#[inline(always)]
 pub fn take_begin(parts: &mut Parts, actor: u8, call: Call) -> Begun
     requires core { IsCore parts.old }
     requires allowed { begin_denial (seen parts.old) actor call ≡ None }
@@ -61,7 +61,7 @@ pub fn take_walk(parts: &mut Parts, actor: u8) -> Result<Stepped, Refusal>
 }
 
 /// The end of an actor's operation, which is its next step.
-#[inline(never)]
+#[inline(always)]
 pub fn take_end(parts: &mut Parts, actor: u8) -> Ended
     requires core { IsCore parts.old }
     requires allowed { go_denial (seen parts.old) actor ≡ None }

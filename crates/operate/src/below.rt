@@ -50,8 +50,8 @@ impl KeyOp {
         }
     }
 
-    /// Looks at the main node.
-    #[inline(always)]
+    /// Looks at the main node. The looks stand alone, so that the step around them keeps more in registers.
+    #[inline(never)]
     pub(crate) fn look_at_main(&mut self, heap: &Heap, main: Ref)
         ensures follows { KeySteps heap.now.heap self.old (line.Key (key.Main self.old.path main)) self.new (Next.More Kind.Look) }
         ensures same { (self.new.task ≡ self.old.task) × (self.new.work.private ≡ self.old.work.private) × (self.new.work.swap.read.access ≡ self.old.work.swap.read.access) }
@@ -68,7 +68,7 @@ impl KeyOp {
     }
 
     /// Looks at a branch's entry.
-    #[inline(always)]
+    #[inline(never)]
     pub(crate) fn look_at_entry(&mut self, heap: &Heap, main: Ref, position: usize)
         requires { length self.old.path < 14 }
         ensures follows { KeySteps heap.now.heap self.old (line.Key (key.Entry self.old.path main position)) self.new (Next.More Kind.Look) }
