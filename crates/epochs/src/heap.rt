@@ -198,6 +198,7 @@ impl Heap {
     }
 
     /// Where the `prev` word of a main node is `from` it becomes `to`. Tells whether it was.
+    #[inline(always)]
     pub fn swap_prev(&mut self, at: Ref, from: Prev, to: Prev) -> bool
         requires live { IsLive self.old.heap at }
         requires kind { is_main_node (node_at self.old.heap at) ≡ true }
