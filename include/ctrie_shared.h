@@ -183,7 +183,7 @@ static inline uint32_t ctrie_shared_contains(struct ctrie_seat *seat, uint16_t h
     CTRIE_SHARED_WAIT(ctrie_shared_try_contains(seat, handle, key));
 }
 
-/* DONE with how many keys have a value. Others wait while it walks over them. NO_HANDLE, MEMORY. */
+/* DONE with how many keys have a value. Others wait while it walks over them, in no memory. NO_HANDLE. */
 CTRIE_MUST_USE
 static inline uint32_t ctrie_shared_count(struct ctrie_seat *seat, uint16_t handle, uint64_t *count) {
     CTRIE_SHARED_WAIT(ctrie_shared_try_count(seat, handle, count));

@@ -1,30 +1,10 @@
 /* The memory of a map is what ctrie_new took. `c` runs it: a million changes, freezes and closes on a thousand keys
    allocate nothing, and at most a hundredth more is resident behind them than behind the first ten thousand. Where no
-   memory is given, a call that makes a list says so, and changes nothing. It is linked with
-   -Wl,--wrap=malloc,--wrap=realloc, so that both are counted and refused here. */
+   memory is given, a call that makes a list says so, and changes nothing. */
+#include "memory.h"
 #include <ctrie.h>
-#include <stdio.h>
-#include <stdlib.h>
 
 enum { KEYS = 1000, SLOTS = 65536, WARM = 10000, CALLS = 1000000 };
-
-static unsigned long allocations = 0;
-static bool refusing = false;
-
-void *__real_malloc(size_t size);
-void *__real_realloc(void *old, size_t size);
-void *__wrap_malloc(size_t size);
-void *__wrap_realloc(void *old, size_t size);
-
-void *__wrap_malloc(size_t size) {
-    allocations++;
-    return refusing ? NULL : __real_malloc(size);
-}
-
-void *__wrap_realloc(void *old, size_t size) {
-    allocations++;
-    return refusing ? NULL : __real_realloc(old, size);
-}
 
 /* What the map should hold: the value of each key, or 0 where it has none. Values are from 1 on. */
 static uint64_t plain[KEYS];
@@ -104,21 +84,6 @@ static void copy(void) {
         told(ctrie_clear(&map, now));
         for (int i = 0; i < KEYS; i++) plain[i] = 0;
     }
-}
-
-/* How many kB of the process are resident, counted page by page: /proc/self/statm is a guess. */
-static long resident(void) {
-    char line[256];
-    long size = 0;
-    FILE *pages = fopen("/proc/self/smaps_rollup", "r");
-    while (pages && size == 0 && fgets(line, sizeof line, pages))
-        if (sscanf(line, "Rss: %ld", &size) != 1) size = 0;
-    if (pages) fclose(pages);
-    if (size == 0) {
-        printf("/proc/self/smaps_rollup tells no size\n");
-        exit(1);
-    }
-    return size;
 }
 
 /* A key that no other call sets. */

@@ -3,6 +3,7 @@
 ghost use Rattle.std.specs.Prelude.{◌≡◌, ◌≤◌, nat_eq, length, Ok, IfOk, IfErr};
 ghost use Rattle.std.specs.FinMap as map;
 ghost use Rattle.ctrie_map.specs.Beneath.proof_core.specs.Reading.{next_of};
+ghost use Rattle.ctrie_map.specs.Beneath.slot_arena.specs.Refs.{most_slots};
 ghost use Rattle.ctrie_map.specs.Reading.{IsOneOf, Reads, ReadsOf, RefusesReading, core_reading, reading};
 
 use crate::errors::MapError;
@@ -11,9 +12,11 @@ use crate::map::Map;
 use machine_core::Core;
 
 impl Map {
-    /// How many keys have a value. It walks over them all, since no count is kept, and takes no memory.
+    /// How many keys have a value, at most as many as a map may have slots (2^20). It walks over them all, since no count is
+    /// kept, and takes no memory.
     pub fn count(&self, handle: Handle) -> Result<u64, MapError>
-        ensures { result ≡ reading self.now handle (λ m. map.len m) }
+        ensures exact { result ≡ reading self.now handle (λ m. map.len m) }
+        ensures few { IfOk result (λ count. count ≤ most_slots) }
     {
         let name = self.name_of(handle)?;
         count_in(&self.core, name.core)
@@ -55,7 +58,8 @@ impl Map {
 
 /// How many keys of a handle's map have a value.
 fn count_in(core: &Core, handle: u16) -> Result<u64, MapError>
-    ensures { result ≡ core_reading core.now.state handle (λ m. map.len m) }
+    ensures exact { result ≡ core_reading core.now.state handle (λ m. map.len m) }
+    ensures few { IfOk result (λ count. count ≤ most_slots) }
 {
     let _ = core.limits();
     match core.count(handle) {

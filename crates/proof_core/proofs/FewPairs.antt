@@ -7,7 +7,7 @@ use Rattle.std.specs.List.{All, flat_map}
 use Rattle.std.specs.Ordering.{eq_by_cmp, nat_cmp}
 use Rattle.std.proofs.lemmas.List.Elements.{All-nil, All-cons, All-head, All-tail, All-append}
 use Rattle.std.proofs.lemmas.Map.Made.{length-le_from_is_member}
-use Rattle.proof_core.specs.Beneath.slot_arena.specs.Refs.{slot_of}
+use Rattle.proof_core.specs.Beneath.slot_arena.specs.Refs.{most_slots, slot_of}
 use Rattle.proof_core.specs.Beneath.slot_arena.specs.declared.nodes.Node.{Node}
 use Rattle.proof_core.specs.Beneath.slot_arena.specs.declared.nodes.Node.TheVariants.{Indirection, Branch, Single, Tomb, List as Listed}
 use Rattle.proof_core.specs.Beneath.slot_arena.specs.declared.nodes.Slot.{Slot}
@@ -89,13 +89,18 @@ few_sorted heap pairs sorted all =
     length-le_from_is_member (eq_by_cmp_equiv nat_cmp_total) (map (λ (p : ℕ × ℕ). p.0) pairs) (keys_in heap.slots) (sorted_distinct pairs sorted) (listed_among heap pairs all) in
     omega (arith, few, length_keys pairs, length_slots heap.slots)
 
--- as many at most as there are slots
+-- as many at most as there may be slots
+pub few_in_content : (state : State) → IsOfRun state → (handle : ℕ) → is_some (root_at state handle) ≡ true → length (content_at state handle) ≤ most_slots
+few_in_content state run handle some =
+    let stand = sorted_all (InSlot state.heap) comes_before (pairs_below most_levels state.heap (root_of (word_at state handle)))
+    (below_among state.heap most_levels (root_of (word_at state handle))) in
+    let few = few_sorted state.heap (content_at state handle) (content_rises state run handle some) stand in
+    let slots = (bounded state run).slots in
+    omega (arith, few, slots)
+
 pub few_pairs : (state : State) → IsOfRun state → (handle : ℕ) → is_some (root_at state handle) ≡ true →
     length (pairs_below most_levels state.heap (root_of (word_at state handle))) < 2 ^ 64
 few_pairs state run handle some =
-    let reached = pairs_below most_levels state.heap (root_of (word_at state handle)) in
-    let stand = sorted_all (InSlot state.heap) comes_before reached (below_among state.heap most_levels (root_of (word_at state handle))) in
-    let few = few_sorted state.heap (content_at state handle) (content_rises state run handle some) stand in
-    let slots = (bounded state run).slots in
-    let same = length_sorted comes_before reached in
-    omega (arith, few, slots, same)
+    let few = few_in_content state run handle some in
+    let same = length_sorted comes_before (pairs_below most_levels state.heap (root_of (word_at state handle))) in
+    omega (arith, few, same)

@@ -15,7 +15,6 @@ use Rattle.history.specs.Worlds.{HandleMap, HandleState, KeyMap}
 use Rattle.machine_model.specs.Calls.{handle_of, opens_handle}
 use Rattle.machine_model.specs.Pairs.{by_key}
 use Rattle.machine_model.specs.States.{handle_limit}
-use Rattle.ctrie_map.specs.Calling.{IsRead}
 use Rattle.ctrie_map.specs.Changes.{changes_map, denial_among}
 use Rattle.ctrie_map.specs.Costs.{work_of_call}
 use Rattle.ctrie_map.specs.Denials.{denial_by, is_frozen}
@@ -30,7 +29,7 @@ use Rattle.shared_map.specs.Asks.{Replied}
 use Rattle.shared_map.specs.Shards.{AreShards, IsAnyTight, LackSlots, concerned, is_any_worn_out, world_of_all, worlds_of}
 use Rattle.shared_map.specs.Turning.{AreAllowed, HaveTurned, IsFree, call_of, reply_of, turned}
 use Rattle.shared_map.specs.Uniting.{AreOfKinds, kind_of, pairs_at, united_at}
-use Rattle.shared_map.specs.Wholes.{IsCounted, KnowsFirst, TurnsAll}
+use Rattle.shared_map.specs.Wholes.{KnowsFirst, TurnsAll}
 use Rattle.shared_map.specs.declared.asking.Knowing.{Knowing}
 use Rattle.shared_map.specs.declared.turning.Turn.{Turn}
 use Rattle.shared_map.specs.declared.turning.Turn.TheVariants as turn
@@ -143,23 +142,22 @@ module _ (hash : HashKind) (before : List MapState) (are : AreShards hash before
       still (length before * work_of_call (call.Entries h)),
     )
 
-    pub counts : (told : Replied) (writable : Bool) → first.writable ≡ Ok writable → IsCounted h before told → RepliesAll hash before (call.Count h) told before
-    counts told writable e counted = (
-      (refl, by_counted counted),
+    pub counts : (keys : ℕ) (writable : Bool) → first.writable ≡ Ok writable → keys ≡ length (pairs_at h (worlds_of before)) →
+        RepliesAll hash before (call.Count h) (Ok (reply.Count keys)) before
+    counts keys writable e counted = (
+      (
+        refl,
+        ap (λ n. Ok (reply.Count n)) (counted ∙ count_at (shards.place hash before are) (worlds_of before) are.own h)
+        ∙ sym (some_reads (λ m. reply.Count (maps.len m)) writable e),
+      ),
       still (length before * work_of_call (call.Count h)),
     )
-      where
-        by_counted : IsCounted h before told → IsRead (read_of (λ m. reply.Count (maps.len m)) (maps.get world h)) told
-        by_counted (inl told_is) =
-            inl (told_is ∙ ap (λ n. Ok (reply.Count n)) (count_at (shards.place hash before are) (worlds_of before) are.own h)
-            ∙ sym (some_reads (λ m. reply.Count (maps.len m)) writable e))
-        by_counted (inr told_is) = inr (told_is, subst IsOk (sym (some_reads (λ m. reply.Count (maps.len m)) writable e)) refl)
 
     pub lists_none : (why : MapError) → first.writable ≡ Err why → RepliesAll hash before (call.Entries h) (Err error.NoHandle) before
     lists_none why e = ((refl, inl (sym (none_reads (λ m. reply.Pairs (maps.entries m)) why e))), still (length before * work_of_call (call.Entries h)))
 
     pub counts_none : (why : MapError) → first.writable ≡ Err why → RepliesAll hash before (call.Count h) (Err error.NoHandle) before
-    counts_none why e = ((refl, inl (sym (none_reads (λ m. reply.Count (maps.len m)) why e))), still (length before * work_of_call (call.Count h)))
+    counts_none why e = ((refl, sym (none_reads (λ m. reply.Count (maps.len m)) why e)), still (length before * work_of_call (call.Count h)))
 
   -- ---- a change of all
 

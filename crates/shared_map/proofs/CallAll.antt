@@ -1,5 +1,5 @@
 -- What each branch of a call about all shards comes to.
-use Rattle.std.proofs.Common.{◌≡◌, ℕ, ◌<◌, Bool, true, false, List, [], ◌∷◌}
+use Rattle.std.proofs.Common.{◌≡◌, ℕ, ◌<◌, ◌≤◌, Bool, true, false, List, [], ◌∷◌}
 use Rattle.std.proofs.Common.{length, Some, None, Result, Ok, Err, refl, sym, ap, subst, ◌∙◌}
 use Rattle.history.specs.declared.calls.Access.{Access}
 use Rattle.history.specs.declared.calls.Access.TheVariants.{Writable, ReadOnly}
@@ -23,7 +23,7 @@ use Rattle.shared_map.specs.Shards.{AreShards, is_any_worn_out, worlds_of}
 use Rattle.shared_map.specs.Turning.{AreAllowed, HaveTurned, IsFree, Turns, call_of, reply_of}
 use Rattle.shared_map.specs.Uniting.{pairs_at}
 use Rattle.shared_map.specs.Visits.{VisitedEach}
-use Rattle.shared_map.specs.Wholes.{RepliesIf, IsCalledAlone, IsCounted, TurnsAll}
+use Rattle.shared_map.specs.Wholes.{RepliesIf, IsCalledAlone, TurnsAll}
 use Rattle.shared_map.specs.declared.asking.Knowing.{Knowing}
 use Rattle.shared_map.specs.declared.turning.Turn.{Turn}
 use Rattle.shared_map.specs.declared.turning.Turn.TheVariants as turn
@@ -105,8 +105,9 @@ module _ (first : Knowing) (before : List MapState) where
   pub if_no_memory : (h : ℕ) (why : MapError) (writable : Bool) → first.writable ≡ Ok writable → why ≡ error.Memory → RepliesIf first before (call.Entries h) (Err why) before
   if_no_memory h why writable e is hash are knows on none = (answers.lists_not hash before are first knows h on why writable e is, are)
 
-  pub if_counted : (h : ℕ) (told : Replied) (writable : Bool) → first.writable ≡ Ok writable → IsCounted h before told → RepliesIf first before (call.Count h) told before
-  if_counted h told writable e counted hash are knows on none = (answers.counts hash before are first knows h on told writable e counted, are)
+  pub if_counted : (h keys : ℕ) (writable : Bool) → first.writable ≡ Ok writable → (length before ≤ 64 → keys ≡ length (pairs_at h (worlds_of before))) →
+      RepliesIf first before (call.Count h) (Ok (reply.Count keys)) before
+  if_counted h keys writable e counted hash are knows on none = (answers.counts hash before are first knows h on keys writable e (counted are.few), are)
 
   pub not_listed : (h : ℕ) (why : MapError) → first.writable ≡ Err why → RepliesIf first before (call.Entries h) (Err error.NoHandle) before
   not_listed h why e hash are knows on none = (answers.lists_none hash before are first knows h on why e, are)

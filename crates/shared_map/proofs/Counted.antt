@@ -1,11 +1,12 @@
 -- What all shards count, from what each does.
 use Rattle.std.proofs.Common.{◌≡◌, ℕ, ◌+◌, ◌*◌, ◌^◌, ◌<◌}
 use Rattle.std.proofs.Common.{Bool, true, false, ◌||◌, List, [], ◌∷◌, length, Option, Some, None}
-use Rattle.std.proofs.Common.{Ok, nat_lt, refl, sym, ap, ap₂, subst, ◌∙◌, arith, length-append, suc-mul}
+use Rattle.std.proofs.Common.{Ok, Err, nat_lt, refl, sym, ap, ap₂, subst, ◌∙◌, arith, length-append, suc-mul}
 use Rattle.std.specs.FinMap as maps
 use Rattle.std.specs.List.{list_any}
 use Rattle.std.proofs.lemmas.List.Sums.{sum_by-cons}
 use Rattle.history.specs.Worlds.{HandleState}
+use Rattle.ctrie_map.specs.declared.errors.MapError.{MapError}
 use Rattle.ctrie_map.specs.Maps.{MapState, free_of, handles_of}
 use Rattle.ctrie_map.specs.Reading.{read_of}
 use Rattle.shared_map.specs.Asking.{Measures, is_worn_out_for}
@@ -20,28 +21,33 @@ use Rattle.shared_map.specs.declared.reading.Freeing.{Freeing}
 use Rattle.shared_map.specs.declared.turning.Turn.{Turn}
 use Rattle.shared_map.specs.declared.turning.Turning.{Turning}
 
--- a count that is read is that of the pairs
+-- a count that is read is that of the pairs; where none is read there are no pairs
 pub counted_pairs : (o : Option HandleState) (keys : ℕ) → read_of (λ m. maps.len m) o ≡ Ok keys → keys ≡ length (pairs_of o)
 counted_pairs None keys e = cc
 counted_pairs (Some shown) keys e = let same : keys ≡ maps.len shown.pairs = cc in same ∙ maps.len-entries shown.pairs
 
+pub no_pairs : (o : Option HandleState) (why : MapError) → read_of (λ m. maps.len m) o ≡ Err why → length (pairs_of o) ≡ 0
+no_pairs None why e = refl
+no_pairs (Some shown) why e = cc
+
 -- ---- counted
 
 pub counted_all : (before after : Counting) (ss ts : List MapState) → VisitedEach Counts before ss after ts →
-    (ts ≡ ss) × (after.failed ≡ false → (before.failed ≡ false) × (after.keys ≡ before.keys + length (pairs_at before.handle (worlds_of ss))))
-counted_all before after [] [] each =
-    (refl, λ fine. (ap (λ (l : Counting). l.failed) (sym each) ∙ fine, ap (λ (l : Counting). l.keys) each ∙ omega arith))
+    (ts ≡ ss) × (before.keys + length ss * 2 ^ 32 < 2 ^ 64 → after.keys ≡ before.keys + length (pairs_at before.handle (worlds_of ss)))
+counted_all before after [] [] each = (refl, λ small. ap (λ (l : Counting). l.keys) each ∙ omega arith)
 counted_all before after [] (t ∷ ts) each = absurd each
 counted_all before after (s ∷ ss) [] each = absurd each
 counted_all before after (s ∷ ss) (t ∷ ts) (between, did, each) =
     let (same, more) = counted_all between after ss ts each in (
       ap₂ (λ x xs. x ∷ xs) did.0 same,
-      λ fine.
-          let (well, rest) = more fine in
-          let (good, its) = did.2 well in
+      λ small.
           let both = length-append (pairs_of (maps.get (handles_of s) before.handle)) (pairs_at before.handle (worlds_of ss)) in
           let there = ap (λ h. length (pairs_at h (worlds_of ss))) did.1 in
-          (good, omega (arith, rest, its, both, there)),
+          let many = suc-mul (length ss) (2 ^ 32) in
+          let now = did.2 in
+          let few = did.3 in
+          let rest = more (omega (arith, small, many, now, few)) in
+          omega (arith, rest, now, few, both, there, small, many),
     )
 
 -- ---- free slots

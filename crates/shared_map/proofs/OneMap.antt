@@ -97,7 +97,7 @@ module _ (s : MapState) where
   calls (call.Entries h) told after p =
       (s, p.0, (refl, subst (λ w. IsRead (read_of (λ m. reply.Pairs (maps.entries m)) (maps.get w h)) told) world_is p.1))
   calls (call.Count h) told after p =
-      (s, p.0, (refl, subst (λ w. IsRead (read_of (λ m. reply.Count (maps.len m)) (maps.get w h)) told) world_is p.1))
+      (s, p.0, (refl, p.1 ∙ ap (λ w. read_of (λ m. reply.Count (maps.len m)) (maps.get w h)) world_is))
   calls c told after p = by_change c after told p
 
   answers : (c : Call) (told : Replied) (after : List MapState) → RepliesAll hash before c told after →

@@ -135,7 +135,7 @@ module _ (hash : HashKind) (s t : MapState) (hash_is : s.core.limits.hash ≡ ha
     (
       (
         ap (λ x. x ∷ []) p.0,
-        subst (λ w. IsRead (read_of (λ m. reply.Count (maps.len m)) (maps.get w h)) told) (sym world_is) p.1,
+        p.1 ∙ ap (λ w. read_of (λ m. reply.Count (maps.len m)) (maps.get w h)) (sym world_is),
       ),
       works (work_of_call (call.Count h)) w,
     ),

@@ -51,7 +51,7 @@ module _ (hash : HashKind) (before : List MapState) where
   abbrev pub CallsAll : Call → Replied → List MapState → Type 0
   CallsAll (Get h k) told after = (after ≡ before) × (told ≡ read_of (λ m. reply.Found (map.get m k)) (map.get (world_of_all before) h))
   CallsAll (Entries h) told after = (after ≡ before) × IsRead (read_of (λ m. reply.Pairs (map.entries m)) (map.get (world_of_all before) h)) told
-  CallsAll (Count h) told after = (after ≡ before) × IsRead (read_of (λ m. reply.Count (map.len m)) (map.get (world_of_all before) h)) told
+  CallsAll (Count h) told after = (after ≡ before) × (told ≡ read_of (λ m. reply.Count (map.len m)) (map.get (world_of_all before) h))
   CallsAll change told after = ChangesAll change told after
 
   -- and its work

@@ -32,7 +32,7 @@ module _ (hash : ℕ → ℕ) (world : HandleMap) where
   abbrev pub RepliesIn : Call → Replied → HandleMap → Type 0
   RepliesIn (Get h k) told next = (next ≡ world) × (told ≡ read_of (λ m. reply.Found (map.get m k)) (map.get world h))
   RepliesIn (Entries h) told next = (next ≡ world) × IsRead (read_of (λ m. reply.Pairs (map.entries m)) (map.get world h)) told
-  RepliesIn (Count h) told next = (next ≡ world) × IsRead (read_of (λ m. reply.Count (map.len m)) (map.get world h)) told
+  RepliesIn (Count h) told next = (next ≡ world) × (told ≡ read_of (λ m. reply.Count (map.len m)) (map.get world h))
   RepliesIn change told next = ChangesWorld change told next
 
   -- what is told of a restore

@@ -1,12 +1,12 @@
 -- What the parts of a call about all shards come to.
-use Rattle.std.specs.Prelude.{◌≡◌, ◌⊎◌, ℕ, true, false, List, [], ◌∷◌, length, Some, None, Ok, Err, slice_get}
+use Rattle.std.specs.Prelude.{◌≡◌, true, false, List, [], ◌∷◌, length, Some, None, Ok, Err, slice_get}
 use Rattle.ctrie_base.specs.declared.hashes.HashKind.{HashKind}
 use Rattle.history.specs.declared.calls.Call.{Call}
 use Rattle.history.specs.declared.replies.Reply.TheVariants as reply
 use Rattle.machine_model.specs.Calls.{handle_of}
 use Rattle.ctrie_map.specs.Calling.{Calls}
 use Rattle.ctrie_map.specs.Costs.{WorksUpTo, work_of_call}
-use Rattle.ctrie_map.specs.declared.errors.MapError.TheVariants.{Memory, WornOut}
+use Rattle.ctrie_map.specs.declared.errors.MapError.TheVariants.{WornOut}
 use Rattle.ctrie_map.specs.Maps.{MapState}
 use Rattle.shared_map.specs.declared.asking.Knowing.{Knowing}
 use Rattle.shared_map.specs.declared.asks.Ask.{Ask}
@@ -14,9 +14,8 @@ use Rattle.shared_map.specs.declared.turning.Turn.{Turn}
 use Rattle.shared_map.specs.Answering.{AnswersAll, RepliesAll}
 use Rattle.shared_map.specs.Asking.{IsKnown}
 use Rattle.shared_map.specs.Asks.{Replied, Told, handle_asked, key_in}
-use Rattle.shared_map.specs.Shards.{AreShards, IsAnyTight, is_any_worn_out, worlds_of}
+use Rattle.shared_map.specs.Shards.{AreShards, IsAnyTight, is_any_worn_out}
 use Rattle.shared_map.specs.Turning.{AreAllowed, HaveTurned, call_of, reply_of}
-use Rattle.shared_map.specs.Uniting.{pairs_at}
 
 -- this is known of the first
 abbrev pub KnowsFirst : Knowing → List MapState → Type 0
@@ -26,10 +25,6 @@ KnowsFirst first shards = (s : MapState) × (slice_get shards 0 ≡ Some s) × I
 abbrev pub IsCalledAlone : Call → List MapState → Replied → List MapState → Type 0
 IsCalledAlone call before told after =
     (s t : MapState) × (before ≡ s ∷ []) × (after ≡ t ∷ []) × Calls told s call t × WorksUpTo (work_of_call call) s t
-
--- all keys of the handle are counted, or memory was wanting
-abbrev pub IsCounted : ℕ → List MapState → Replied → Type 0
-IsCounted handle shards told = (told ≡ Ok (reply.Count (length (pairs_at handle (worlds_of shards))))) ⊎ (told ≡ Err Memory)
 
 -- a change of all that nothing denies: it is refused before any shard has changed, or it is done in all
 abbrev pub TurnsAll : Turn → List MapState → Replied → List MapState → Type 0

