@@ -5,10 +5,12 @@ ghost use Rattle.std.specs.Prelude.{IfOk};
 ghost use Rattle.lock_runner.specs.Seats.{IsSeatOf};
 
 use crate::records::is_right;
-use crate::support::{Counting, is_found, perform, put, two_seats};
+use crate::support::{Counting, get, is_found, perform, put, two_seats};
 use lock_runner::{Between, Runner, Seat, Step, Stop, Unfinished};
 use std::alloc::{AllocError, Global};
 use std::cell::{Cell, RefCell};
+use std::process::Abort;
+use std::sync::Wait;
 use std::test::Fail;
 
 /// How many pieces are taken at most.
@@ -108,12 +110,27 @@ fn goes_on_once_there_is_memory(rt: HostRuntime) -> Result<(), Fail> {
     Ok(())
 }
 
+/// The seat's gets of so many keys are answered.
+fn get_all(rt: &(impl Abort + Wait), runner: &Runner, seat: &mut Seat, keys: u64)
+    requires { IsSeatOf runner.now seat.old }
+    ensures { IsSeatOf runner.now seat.new }
+{
+    for key in 0..keys {
+        perform(rt, runner, seat, get(key));
+    }
+}
+
+/// How many gets there are. The runner gives back what it stood in before the order is made, so the order has to take more.
+const GETS: u64 = 4_096;
+
 /// Where the order finds no memory the machine comes back, and has taken all steps.
 #[test]
 fn hands_out_the_machine_without_memory(rt: HostRuntime) -> Result<(), Fail> {
     let (runner, mut one, mut two) = two_seats(rt.alloc())?;
     perform(&rt, &runner, &mut one, put(1, 10));
     perform(&rt, &runner, &mut two, put(1, 20));
+    get_all(&rt, &runner, &mut two, GETS);
+    let calls = GETS as usize + 2;
     let mut seats = Vec::with_capacity(rt.alloc(), 2)?;
     seats.push(one)?;
     seats.push(two)?;
@@ -124,13 +141,14 @@ fn hands_out_the_machine_without_memory(rt: HostRuntime) -> Result<(), Fail> {
     let Err(Unfinished::Memory(machine)) = found else {
         panic!(rt; "the order takes memory")
     };
-    assert_eq!(rt; machine.events().len(), 4);
+    assert_eq!(rt; machine.events().len(), 2 * calls);
     let steps = machine.steps().len();
     let Ok(record) = machine.into_record() else {
         panic!(rt; "there is memory")
     };
-    assert_eq!(rt; (record.events.len(), record.steps.len()), (4, steps));
-    assert!(rt; record.order.as_slice() == [0, 1].as_slice());
+    assert_eq!(rt; (record.events.len(), record.steps.len()), (2 * calls, steps));
+    assert_eq!(rt; record.order.len(), calls);
+    assert!(rt; record.order.as_slice().starts_with(&[0, 1]));
     assert!(rt; is_right(rt.alloc(), &record)?);
     Ok(())
 }
