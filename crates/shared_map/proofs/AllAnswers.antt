@@ -148,7 +148,7 @@ module _ (hash : HashKind) (before : List MapState) (are : AreShards hash before
       (
         refl,
         ap (λ n. Ok (reply.Count n)) (counted ∙ count_at (shards.place hash before are) (worlds_of before) are.own h)
-        ∙ sym (some_reads (λ m. reply.Count (maps.len m)) writable e),
+            ∙ sym (some_reads (λ m. reply.Count (maps.len m)) writable e),
       ),
       still (length before * work_of_call (call.Count h)),
     )
