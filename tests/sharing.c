@@ -220,12 +220,12 @@ int main(int words, char **word) {
     memset(notes, 1, sizeof notes);
     taken = allocations;
     run(SAMPLE, true);
-    resident(); /* what reads it is resident itself from here on */
-    few = resident();
     taken = allocations - taken;
     replay(values);
     read_all(last);
     if (memcmp(values, last, sizeof values) != 0) fail("the plain map has other values");
+    resident(); /* what reads it is resident itself from here on */
+    few = resident();
 
     taken -= allocations;
     run(calls - 2 * SAMPLE, false);
