@@ -96,6 +96,7 @@ pub fn walk_denial(parts: &Parts, _actor: u8) -> Option<Refusal>
 }
 
 /// Why the step is denied, if it is.
+#[inline(always)]
 pub fn denial_of(parts: &Parts, step: Step) -> Option<Refusal>
     requires { KnowsNumbers parts.now.handles (seen parts.now) }
     ensures { result ≡ denial_of (seen parts.now) step }

@@ -28,6 +28,7 @@ use machine_model::{Entrant, Outcome};
 use running::Program;
 
 /// Ends the actor's operation, which has come to its end, and tells of it.
+#[inline(always)]
 pub fn end_operation(parts: &mut Parts, actor: u8) -> Ended
     requires core { IsCore parts.old }
     requires allowed { go_denial (seen parts.old) actor ≡ None }
@@ -55,6 +56,7 @@ fn under_way(parts: &Parts, actor: u8) -> Option<UnderWay>
 }
 
 /// The same, where this is under way.
+#[inline(always)]
 fn finish(parts: &mut Parts, actor: u8, under_way: UnderWay) -> Ended
     requires core { IsCore parts.old }
     requires runs { under_way_of parts.old actor ≡ Some under_way }
@@ -90,6 +92,7 @@ impl Actor {
     }
 
     /// Its operation has ended with this reply: nothing is left of it.
+    #[inline(always)]
     fn leave(&mut self, program: Program, heap: &mut Heap) -> Option<Reply>
         requires { AreHeld self.old.programs.key.work.private heap.old }
         ensures reply { result ≡ answer_of (line_for program self.old.programs) }

@@ -159,6 +159,7 @@ impl Core {
     }
 
     /// Why the step is denied, where it is.
+    #[inline(always)]
     pub fn denial(&self, step: Step) -> Option<Refusal>
         ensures { result ≡ denial_of self.now.state step }
     {

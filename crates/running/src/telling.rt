@@ -21,6 +21,7 @@ use std::alloc::AllocError;
 impl Programs {
     /// The reply with which the operation ends by its next step, if it does. The pairs that a walk has met are handed out, and
     /// not copied: so the operation has to end with them.
+    #[inline(always)]
     pub fn take_reply(&mut self, program: Program) -> Option<Reply>
         ensures reply { result ≡ answer_of (line_for program self.old) }
         ensures same { self.new ≡ record self.old { walk = self.new.walk } }

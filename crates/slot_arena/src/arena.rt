@@ -296,6 +296,7 @@ impl Arena {
     }
 
     /// Frees a slot to which nothing refers; it is the first of the free ones then.
+    #[inline(always)]
     pub fn free(&mut self, at: Ref)
         requires live { IsLive self.old.heap at }
         requires unreferred { count_of self.old.heap self.old.outside at ≡ 0 }

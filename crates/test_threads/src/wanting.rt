@@ -146,7 +146,10 @@ fn hands_out_the_machine_without_memory(rt: HostRuntime) -> Result<(), Fail> {
     let Ok(record) = machine.into_record() else {
         panic!(rt; "there is memory")
     };
-    assert_eq!(rt; (record.events.len(), record.steps.len()), (2 * calls, steps));
+    assert_eq!(rt;
+        (record.events.len(), record.steps.len()),
+        (2 * calls, steps)
+    );
     assert_eq!(rt; record.order.len(), calls);
     assert!(rt; record.order.as_slice().starts_with(&[0, 1]));
     assert!(rt; is_right(rt.alloc(), &record)?);
