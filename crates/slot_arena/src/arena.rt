@@ -27,11 +27,11 @@ use std::slice::from_ref;
 /// Slots with nodes in them, each with its count of references. Where a call is handed a reference, that names a slot in use.
 /// A call notes few slots (clauses `few`): its own, that of a `prev` word, at most 32 that a node names. It looks at few links, counts and notes (clauses `ticks`); what stands in a slot counts none.
 pub struct Arena {
-    cells: Cells,
-    ledger: Ledger,
-    free: FreeSlots,
-    births: u64,
-    used: u32,
+    pub(crate) cells: Cells,
+    pub(crate) ledger: Ledger,
+    pub(crate) free: FreeSlots,
+    pub(crate) births: u64,
+    pub(crate) used: u32,
     outside: Trace<Ref>,
 }
 
@@ -359,43 +359,5 @@ impl Arena {
             return None;
         }
         Some(Ref::new(birth, slot))
-    }
-
-    /// How many slots there are.
-    pub fn len(&self) -> usize
-        ensures size { result ≡ length self.now.heap.slots }
-        ensures few { result ≤ most_slots }
-    {
-        let _ = &self.used;
-        self.cells.len()
-    }
-
-    /// How many slots are free.
-    pub fn free_slots(&self) -> u32
-        ensures { result ≡ length self.now.heap.free }
-    {
-        self.cells.len() as u32 - self.used
-    }
-
-    /// How many slots are in use. These and the free ones are all slots.
-    pub fn used(&self) -> u32
-        ensures used { result ≡ length (in_use self.now.heap) }
-        ensures sum { result + length self.now.heap.free ≡ length self.now.heap.slots }
-    {
-        self.used
-    }
-
-    /// How many births were drawn.
-    pub fn births(&self) -> u64
-        ensures { result ≡ self.now.heap.births }
-    {
-        self.births
-    }
-
-    /// How often a link of the free slots, a count or a note was looked at.
-    pub fn ticks(&self) -> Ticks
-        ensures { result.count ≡ self.now.ticks }
-    {
-        Ticks::sum(self.free.ticks(), self.ledger.ticks())
     }
 }

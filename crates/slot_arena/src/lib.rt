@@ -10,6 +10,7 @@ mod links;
 mod lists;
 mod loan;
 mod nodes;
+mod numbers;
 mod refs;
 mod rows;
 mod stored_nodes;
