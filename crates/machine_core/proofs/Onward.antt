@@ -1,4 +1,4 @@
--- Whether an operation goes on behind its next step.
+-- Whether an operation goes on behind its next step, and what it swaps in by it.
 use Rattle.std.proofs.Common.{◌≡◌, ℕ, Option, Some, arith, refl, sym, ap, ◌∙◌}
 use Rattle.std.specs.Prelude.{Bool, true, is_some, not, option_and_then, option_map}
 use Rattle.std.proofs.lemmas.Option.{none-some}
@@ -15,6 +15,7 @@ use Rattle.machine_core.specs.Beneath.operate.specs.Places.{answer_of}
 use Rattle.machine_core.specs.declared.parts.Actor.{Actor}
 use Rattle.machine_core.specs.declared.parts.Parts.{Parts}
 use Rattle.machine_core.specs.Seen.{actor_of, operation_seen, seen}
+use Rattle.machine_core.specs.Told.{published_in, published_of}
 use Rattle.proof_core.specs.Walking.{goes_on}
 use Rattle.machine_core.proofs.Kept.{found_operation}
 
@@ -39,3 +40,9 @@ pub onward_there : (parts : Parts) (actor : ℕ) (found : Option Actor) → foun
     onward_of (seen parts) (option_and_then (operation_seen parts.table) found) ≡ goes_on (next_kind (seen parts) actor)
 onward_there parts actor found e =
     ap (λ o. onward_of (seen parts) (option_and_then (operation_seen parts.table) o)) e ∙ ap (onward_of (seen parts)) (sym (found_operation parts actor))
+
+-- what it swaps in is what the operation at its place does
+pub published_there : (parts : Parts) (actor : ℕ) (found : Option Actor) → found ≡ actor_of parts actor →
+    published_of (option_and_then (operation_seen parts.table) found) ≡ published_in (seen parts) actor
+published_there parts actor found e =
+    ap (λ o. published_of (option_and_then (operation_seen parts.table) o)) e ∙ ap published_of (sym (found_operation parts actor))

@@ -2,6 +2,8 @@
 use Rattle.std.specs.Prelude.{◌≡◌, ℕ, Option, option_and_then, Result, Ok, Err}
 use Rattle.ctrie_base.specs.declared.refusals.Refusal.{Refusal}
 use Rattle.history.specs.declared.calls.Call.{Call}
+use Rattle.machine_model.specs.declared.operations.Operation.{Operation}
+use Rattle.machine_model.specs.declared.records.Publication.{Publication}
 use Rattle.machine_model.specs.declared.records.Told.TheVariants as told
 use Rattle.machine_model.specs.declared.steps.Outcome.{Outcome}
 use Rattle.machine_model.specs.declared.steps.Outcome.TheVariants as outcome
@@ -9,7 +11,7 @@ use Rattle.machine_model.specs.declared.steps.Step.TheVariants as step
 use Rattle.history.specs.declared.replies.Reply.{Reply}
 use Rattle.machine_model.specs.States.{State, operation_of}
 use Rattle.machine_core.specs.Beneath.operate.specs.Places.{answer_of}
-use Rattle.machine_model.specs.Tellings.{told_in}
+use Rattle.machine_model.specs.Tellings.{published_by, told_in}
 use Rattle.machine_core.specs.declared.telling.Begun.{Begun}
 use Rattle.machine_core.specs.declared.telling.Ended.{Ended}
 use Rattle.machine_core.specs.declared.telling.Stepped.{Stepped}
@@ -38,6 +40,13 @@ TellsStep state actor taken = told_in state (step.Go actor) ≡ told.Went actor 
 
 abbrev pub TellsEnd : State → ℕ → Ended → Type 0
 TellsEnd state actor end = told_in state (step.Go actor) ≡ told.Ended actor end.entrant end.reply
+
+-- the main node that this operation swaps in by its next step, if it does
+abbrev pub published_of : Option Operation → Option Publication
+published_of found = option_and_then (λ operation. published_by operation operation.line) found
+
+abbrev pub published_in : State → ℕ → Option Publication
+published_in state actor = published_of (operation_of state actor)
 
 -- the reply with which the actor's operation ends by its next step, if it does
 abbrev pub reply_in : State → ℕ → Option Reply

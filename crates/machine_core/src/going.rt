@@ -13,7 +13,7 @@ ghost use Rattle.machine_core.specs.Going.{CarriesUnless, Steps, StepsTo};
 ghost use Rattle.machine_core.specs.Keeping.{IsCore, IsKept};
 ghost use Rattle.machine_core.specs.Rooming.{CanGo, HasRoomToStep};
 ghost use Rattle.machine_core.specs.Seen.{operation_seen, seen, under_way_of};
-ghost use Rattle.machine_core.specs.Told.{TellsStep};
+ghost use Rattle.machine_core.specs.Told.{published_in, published_of, TellsStep};
 ghost use Rattle.proof_core.specs.Walking.{goes_on};
 ghost use Rattle.machine_core.specs.Work.{ActsLittle};
 ghost use Rattle.machine_core.specs.declared.parts.Actor.{Actor as AnActor};
@@ -37,13 +37,14 @@ pub fn goes_on(parts: &Parts, actor: u8) -> bool
     }
 }
 
-/// Takes a step of the actor's operation that isn't its end, and tells of it. What is told is put together where it is read:
-/// where nobody reads it, nothing is.
+/// Takes a step of the actor's operation that isn't its end, and tells of it and of the main node that it swaps in, if it
+/// does. What is told is put together where it is read: where nobody reads it, nothing is.
 #[inline(always)]
-pub fn proceed(parts: &mut Parts, actor: u8) -> Stepped
+pub fn proceed(parts: &mut Parts, actor: u8, published: Option<Publication>) -> Stepped
     requires core { IsCore parts.old }
     requires allowed { go_denial (seen parts.old) actor ≡ None }
     requires goes_on { goes_on (next_kind (seen parts.old) actor) ≡ true }
+    requires told { published ≡ published_in (seen parts.old) actor }
     requires room { (found : AnActor) → slice_get parts.old.actors.items (actor - 1) ≡ Some found → HasRoomToStep found }
     ensures goes { (operation : Operation) → operation_of (seen parts.old) actor ≡ Some operation →
         went (seen parts.old) actor operation (action_of (seen parts.old) operation) ≡ (Outcome.Went result.kind, seen parts.new) }
@@ -51,7 +52,6 @@ pub fn proceed(parts: &mut Parts, actor: u8) -> Stepped
     ensures kept { IsKept parts.new }
     ensures work { ActsLittle parts.old actor parts.new }
 {
-    let published = published(parts, actor);
     let taken = step(parts, actor);
     let kind = taken.kind();
     let carried = take_carried(parts, kind);
@@ -69,12 +69,13 @@ pub fn proceed(parts: &mut Parts, actor: u8) -> Stepped
 
 /// The main node that the actor's operation swaps in by its next step, if it does.
 #[inline(always)]
-fn published(parts: &Parts, actor: u8) -> Option<Publication>
-    requires allowed { go_denial (seen parts.now) actor ≡ None }
-    ensures { (operation : Operation) → operation_of (seen parts.now) actor ≡ Some operation → result ≡ published_by operation operation.line }
+pub fn published(parts: &Parts, actor: u8) -> Option<Publication>
+    ensures { result ≡ published_in (seen parts.now) actor }
 {
-    let index = actor as usize - 1;
-    parts.actors[index].published()
+    match parts.actor(actor) {
+        Some(found) => found.published(),
+        None => None,
+    }
 }
 
 /// Lets the actor's programs take the step.
@@ -132,7 +133,7 @@ impl Actor {
     /// The main node that its operation swaps in by its next step, if it does.
     #[inline(always)]
     fn published(&self) -> Option<Publication>
-        ensures { (table : Table) (operation : Operation) → operation_seen table self.now ≡ Some operation → result ≡ published_by operation operation.line }
+        ensures { (table : Table) → result ≡ published_of (operation_seen table self.now) }
     {
         match &self.under_way {
             Some(under_way) => {

@@ -12,7 +12,7 @@ ghost use Rattle.machine_core.specs.Beneath.proof_straight.specs.Resting.{IsOfRu
 ghost use Rattle.machine_core.specs.Finding.{found_along};
 ghost use Rattle.machine_core.specs.Straight.{CarriesOut};
 ghost use Rattle.machine_core.specs.Sweeping.{Reclaims};
-ghost use Rattle.machine_core.specs.Told.{began, ended, reply_in, stepped, TellsBegin, TellsEnd, TellsStep};
+ghost use Rattle.machine_core.specs.Told.{began, ended, published_in, reply_in, stepped, TellsBegin, TellsEnd, TellsStep};
 ghost use Rattle.proof_core.specs.Walking.{goes_on};
 ghost use Rattle.proof_core.specs.Work.{WorksLittle};
 
@@ -20,7 +20,7 @@ use crate::actors::{copied_reply, is_busy, next_kind};
 use crate::contents::content_of;
 use crate::denials::{begin_denial, denial_of, go_denial, is_access, sweep_denial, walk_denial};
 use crate::finding::value_of;
-use crate::going::goes_on;
+use crate::going::{goes_on, published};
 use crate::handles::{handles_taken, runs_on};
 use crate::parts::Parts;
 use crate::starting::{are_bounds, first_parts};
@@ -30,7 +30,7 @@ use crate::sweeping::{reclaim, sweep_once};
 use crate::telling::{Begun, Ended, Stepped};
 use ctrie_base::{Kind, Refusal, Ticks};
 use history::{Access, Call, Pairs, Reply};
-use machine_model::{Bounds, Outcome, Step};
+use machine_model::{Bounds, Outcome, Publication, Step};
 use std::alloc::Global;
 use std::marker::Model;
 
@@ -105,9 +105,36 @@ impl Core {
         ensures work { OnOk result (WorksLittle self.old self.new) }
         ensures same { OnErr result (self.new ≡ self.old) }
     {
+        let published = self.published(actor);
+        self.walk_publishing(actor, published)
+    }
+
+    /// The main node that the actor's operation swaps in by its next step, if it does.
+    #[inline(always)]
+    pub fn published(&self, actor: u8) -> Option<Publication>
+        ensures { result ≡ published_in self.now.state actor }
+    {
+        published(&self.parts, actor)
+    }
+
+    /// The same as `walk`, handed the main node that the step swaps in, if it does: most swap in none, and where that is
+    /// known they tell less.
+    #[inline(always)]
+    pub fn walk_publishing(
+        &mut self,
+        actor: u8,
+        published: Option<Publication>,
+    ) -> Result<Stepped, Refusal>
+        requires goes_on { goes_on (next_kind self.old.state actor) ≡ true }
+        requires told { published ≡ published_in self.old.state actor }
+        ensures applies { Applies (stepped result) self.old.state actor (next self.old.state (steps.Go actor)) self.new.state }
+        ensures tells { IfOk result (λ stepped. TellsStep self.old.state actor stepped) }
+        ensures work { OnOk result (WorksLittle self.old self.new) }
+        ensures same { OnErr result (self.new ≡ self.old) }
+    {
         match walk_denial(&self.parts, actor) {
             Some(refusal) => Err(refusal),
-            None => take_walk(&mut self.parts, actor),
+            None => take_walk(&mut self.parts, actor, published),
         }
     }
 

@@ -7,7 +7,7 @@ ghost use Rattle.machine_model.specs.States.{operation_of};
 ghost use Rattle.proof_core.specs.Bounds.{Walks};
 ghost use Rattle.machine_core.specs.Keeping.{IsCore};
 ghost use Rattle.machine_core.specs.Seen.{seen};
-ghost use Rattle.machine_core.specs.Told.{TellsBegin, TellsEnd, TellsStep};
+ghost use Rattle.machine_core.specs.Told.{published_in, TellsBegin, TellsEnd, TellsStep};
 ghost use Rattle.proof_core.specs.Walking.{goes_on};
 ghost use Rattle.machine_core.specs.Work.{worked};
 ghost use Rattle.proof_core.specs.Work.{WorksLittle};
@@ -22,7 +22,7 @@ use crate::settling::settle;
 use crate::telling::{Begun, Ended, Stepped};
 use ctrie_base::Refusal;
 use history::Call;
-use machine_model::Outcome;
+use machine_model::{Outcome, Publication};
 
 /// A begin.
 #[inline(always)]
@@ -40,12 +40,18 @@ pub fn take_begin(parts: &mut Parts, actor: u8, call: Call) -> Begun
     begun
 }
 
-/// A step of an actor's operation that isn't its end. After an error nothing that is seen has changed.
+/// A step of an actor's operation that isn't its end, and that swaps in this main node, if it does. After an error nothing
+/// that is seen has changed.
 #[inline(always)]
-pub fn take_walk(parts: &mut Parts, actor: u8) -> Result<Stepped, Refusal>
+pub fn take_walk(
+    parts: &mut Parts,
+    actor: u8,
+    published: Option<Publication>,
+) -> Result<Stepped, Refusal>
     requires core { IsCore parts.old }
     requires allowed { go_denial (seen parts.old) actor ≡ None }
     requires goes_on { goes_on (next_kind (seen parts.old) actor) ≡ true }
+    requires told { published ≡ published_in (seen parts.old) actor }
     ensures taken { IfOk result (λ stepped. next (seen parts.old) (steps.Go actor) ≡ Ok (Outcome.Went stepped.kind, seen parts.new)) }
     ensures tells { IfOk result (λ stepped. TellsStep (seen parts.old) actor stepped) }
     ensures err { OnErr result (worked parts.new ≡ worked parts.old) }
@@ -55,7 +61,7 @@ pub fn take_walk(parts: &mut Parts, actor: u8) -> Result<Stepped, Refusal>
     ensures work { OnOk result (WorksLittle (worked parts.old) (worked parts.new)) }
 {
     give_room(parts, actor)?;
-    let stepped = proceed(parts, actor);
+    let stepped = proceed(parts, actor, published);
     settle(parts);
     Ok(stepped)
 }

@@ -1,21 +1,24 @@
 //! Calls that take many steps.
 
-ghost use Rattle.std.specs.Prelude.{◌≡◌, false, List, [], ◌∷◌, ◌++◌, OnOk, OnErr, IsOkUnless};
+ghost use Rattle.std.specs.Prelude.{◌≡◌, false, true, List, [], ◌∷◌, ◌++◌, OnOk, OnErr, IsOkUnless};
 ghost use Rattle.machine_model.specs.declared.steps.Limits.{Limits};
 ghost use Rattle.machine_model.specs.declared.steps.Step.{Step};
 ghost use Rattle.step_machine.specs.Records.{IsAfter};
+ghost use Rattle.step_machine.specs.Taking.{walked};
 ghost use Rattle.history.specs.declared.calls.Call.{Call};
-ghost use Rattle.proof_runs.specs.Machines.{Taken, state_of};
+ghost use Rattle.proof_runs.specs.Machines.{Applied, Taken, state_of};
+ghost use Rattle.step_machine.specs.Beneath.proof_core.specs.Walking.{goes_on};
+ghost use Rattle.machine_core.specs.Told.{published_in};
 ghost use Rattle.proof_runs.specs.Callers.{Stepped, Replies, Resumes, Completes, Reclaims};
-ghost use Rattle.machine_model.specs.Machine.{is_busy};
+ghost use Rattle.machine_model.specs.Machine.{is_busy, next_kind};
 ghost use Rattle.proof_runs.specs.Reclaiming.{UsesReached, LooksSame, SweepsFew};
 ghost use Rattle.proof_runs.specs.Legality.{ActedAlone, RestsIfAnswered, WentAlone};
 ghost use Rattle.proof_runs.specs.Ending.{CompletesIfSure, IsSpared, ResumesIfSure};
 
 use crate::machine::Machine;
-use ctrie_base::Refusal;
+use ctrie_base::{Kind, Refusal};
 use history::{Call, Reply};
-use machine_model::{Outcome, Step};
+use machine_model::{Outcome, Publication, Step};
 
 /// How many steps of an operation one call takes at most.
 pub const GO_LIMIT: u32 = 16_384;
@@ -97,6 +100,38 @@ impl Machine {
             }
         }
         Ok(None)
+    }
+
+    /// Whether the actor's operation goes on behind its next step.
+    #[inline(always)]
+    fn goes_on(&self, actor: u8) -> bool
+        ensures { result ≡ goes_on (next_kind (state_of self.now) actor) }
+    {
+        self.body().goes_on(actor)
+    }
+
+    /// Takes a step of it behind which it goes on, told by its kind alone. Most swap in no main node: they are told apart
+    /// first, so that their code has nothing of one; and it is asked for anew, so that it isn't held while they are taken.
+    #[inline(always)]
+    fn walk(&mut self, actor: u8) -> Result<Kind, Refusal>
+        requires { goes_on (next_kind (state_of self.old) actor) ≡ true }
+        ensures { Applied (walked result) self.old (Step.Go actor) self.new }
+    {
+        match self.published(actor) {
+            None => self.walk_publishing(actor, None),
+            Some(_) => {
+                let published = self.published(actor);
+                self.walk_publishing(actor, published)
+            }
+        }
+    }
+
+    /// The main node that it swaps in by its next step, if it does.
+    #[inline(always)]
+    fn published(&self, actor: u8) -> Option<Publication>
+        ensures { result ≡ published_in (state_of self.now) actor }
+    {
+        self.body().published(actor)
     }
 
     /// Takes a step of the actor's operation, and tells the reply, if it is the end. It stands alone, so that the loop

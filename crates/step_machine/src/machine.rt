@@ -12,6 +12,7 @@ ghost use Rattle.machine_model.specs.Limits.{AreLimits};
 ghost use Rattle.machine_model.specs.Records.{order_of};
 ghost use Rattle.machine_model.specs.Contents.{content_at};
 ghost use Rattle.machine_core.specs.Finding.{found_along};
+ghost use Rattle.machine_core.specs.Told.{published_in};
 ghost use Rattle.step_machine.specs.Beneath.proof_core.specs.Walking.{goes_on};
 ghost use Rattle.machine_model.specs.Keys.{KeysFit};
 ghost use Rattle.machine_model.specs.Machine.{denial_of, is_running, is_busy, runs_on, next_kind, is_access, access_of};
@@ -30,7 +31,7 @@ use chronicle::Chronicle;
 use ctrie_base::{Kind, Refusal, Ticks};
 use history::{Access, Event};
 use machine_core::Core;
-use machine_model::{Limits, Outcome, Step};
+use machine_model::{Limits, Outcome, Publication, Step};
 use std::alloc::Global;
 use std::marker::Model;
 
@@ -151,29 +152,26 @@ impl Machine {
         Ok(outcome)
     }
 
-    /// A step of the actor's operation behind which it goes on, told by its kind alone.
+    /// A step of the actor's operation behind which it goes on, told by its kind alone. It swaps in this main node, if it does.
     #[tactic(auto, using(crate::proofs::Steps::one_more, crate::proofs::Denials::not_taken))]
     #[inline(always)]
-    pub(crate) fn walk(&mut self, actor: u8) -> Result<Kind, Refusal>
-        requires { goes_on (next_kind (state_of self.old) actor) ≡ true }
+    pub(crate) fn walk_publishing(
+        &mut self,
+        actor: u8,
+        published: Option<Publication>,
+    ) -> Result<Kind, Refusal>
+        requires goes_on { goes_on (next_kind (state_of self.old) actor) ≡ true }
+        requires told { published ≡ published_in (state_of self.old) actor }
         ensures { Applied (walked result) self.old (Step.Go actor) self.new }
     {
         if make_room(&mut self.steps, &mut self.kept, self.body.generations()).is_err() {
             return Err(self.wanting_to_go(actor));
         }
         machine_core::tellings_fit();
-        let kind = walk(&mut self.body, &mut self.kept, actor)?;
+        let kind = walk(&mut self.body, &mut self.kept, actor, published)?;
         self.steps.push_reserved(Step::Go { actor });
         Machine::fits(Step::Go { actor });
         Ok(kind)
-    }
-
-    /// Whether the actor's operation goes on behind its next step.
-    #[inline(always)]
-    pub(crate) fn goes_on(&self, actor: u8) -> bool
-        ensures { result ≡ goes_on (next_kind (state_of self.now) actor) }
-    {
-        self.body.goes_on(actor)
     }
 
     /// Why a step is refused for which there is no room.
@@ -353,6 +351,7 @@ impl Machine {
     }
 
     /// The state.
+    #[inline(always)]
     pub(crate) fn body(&self) -> &Core
         ensures { result.now.state ≡ state_of self.now }
     {

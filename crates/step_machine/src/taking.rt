@@ -1,6 +1,7 @@
 //! Steps of the state that are told to its record.
 
 ghost use Rattle.std.specs.Prelude.{◌≡◌, ◌<◌, false, true};
+ghost use Rattle.machine_core.specs.Told.{published_in};
 ghost use Rattle.step_machine.specs.Beneath.proof_core.specs.Walking.{goes_on};
 ghost use Rattle.machine_model.specs.Machine.{next_kind};
 ghost use Rattle.step_machine.specs.Beneath.proof_records.specs.Tellings.{CanTell};
@@ -10,7 +11,7 @@ use chronicle::Chronicle;
 use ctrie_base::{Kind, Refusal};
 use history::Call;
 use machine_core::Core;
-use machine_model::{Outcome, Step};
+use machine_model::{Outcome, Publication, Step};
 
 /// Takes a step and tells it, unless it is denied or memory is wanting for it: then nothing has changed.
 #[tactic(auto, using(crate::proofs::Feeding::feeds))]
@@ -48,23 +49,30 @@ fn go(body: &mut Core, kept: &mut Chronicle, actor: u8) -> Result<Outcome, Refus
     ensures { TakesAndTells result body.old.state kept.old (Step.Go actor) body.new.state kept.new }
 {
     if body.goes_on(actor) {
-        Ok(Outcome::Went(walk(body, kept, actor)?))
+        let published = body.published(actor);
+        Ok(Outcome::Went(walk(body, kept, actor, published)?))
     } else {
         end(body, kept, actor)
     }
 }
 
-/// One behind which it goes on, told by its kind alone.
+/// One behind which it goes on, told by its kind alone. It swaps in this main node, if it does.
 #[tactic(auto, using(crate::proofs::Feeding::feeds))]
 #[inline(always)]
-pub fn walk(body: &mut Core, kept: &mut Chronicle, actor: u8) -> Result<Kind, Refusal>
+pub fn walk(
+    body: &mut Core,
+    kept: &mut Chronicle,
+    actor: u8,
+    published: Option<Publication>,
+) -> Result<Kind, Refusal>
     requires goes_on { goes_on (next_kind body.old.state actor) ≡ true }
+    requires told { published ≡ published_in body.old.state actor }
     requires fits { CanTell body.old.state kept.old }
     requires room { 0 < kept.old.room }
     ensures { TakesAndTells (walked result) body.old.state kept.old (Step.Go actor) body.new.state kept.new }
 {
     let step = body.steps_taken();
-    let stepped = body.walk(actor)?;
+    let stepped = body.walk_publishing(actor, published)?;
     kept.go(step, actor, &stepped.progress);
     Ok(stepped.kind)
 }

@@ -5,6 +5,7 @@ use Rattle.ctrie_base.specs.declared.kinds.Kind.{Kind}
 use Rattle.machine_core.specs.Going.{CarriesUnless}
 use Rattle.machine_core.specs.Keeping.{IsKept}
 use Rattle.machine_core.specs.Seen.{seen}
+use Rattle.machine_core.specs.Told.{published_of}
 use Rattle.proof_core.specs.Work.{NotesUpTo, held_by}
 use Rattle.machine_core.proofs.Took.{actor_there, took}
 use Rattle.machine_core.proofs.Underway.{at_work, tells_none}
@@ -36,11 +37,11 @@ returns-clause-tells c =
         committed = c.committed.result;
         given = c.given.result;
         counts = c.counts.result;
-        published = c.published-published.result;
+        published = c.args.published;
         carried = c.take_carried-carried.result;
       };
     })
-    c.committed.ensures c.given.ensures c.counts.ensures c.published-published.ensures c.take_carried-carried.ensures.told
+    c.committed.ensures c.given.ensures c.counts.ensures (λ operation found. c.requires.told ∙ ap published_of found) c.take_carried-carried.ensures.told
 
 pub returns-clause-kept : goal.returns-clause-kept
 returns-clause-kept c =

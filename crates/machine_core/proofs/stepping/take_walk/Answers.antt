@@ -4,11 +4,15 @@ use Rattle.machine_model.specs.declared.steps.Step.TheVariants as steps
 use Rattle.machine_model.specs.Machine.{go_denial, next}
 use Rattle.machine_model.specs.States.{State}
 use Rattle.machine_core.specs.Seen.{seen}
+use Rattle.machine_core.specs.Told.{published_in}
 use Rattle.proof_core.specs.Work.{WorksUpTo, ticks_of_a_step}
 use Rattle.proof_core.proofs.Bounded.{bounded, taken_run}
 use Rattle.machine_core.proofs.Steps.{go_leads, leads_taken}
 use Rattle.machine_core.proofs.Working.{operation_little}
 use Rattle.machine_core.proofs.stepping.take_walk.Goals as goal
+
+pub proceed-stepped-requires-clause-told : goal.proceed-stepped-requires-clause-told
+proceed-stepped-requires-clause-told c = c.requires.told ∙ ap (λ (s : State). published_in s c.args.actor) (sym c.give_room.ensures.same)
 
 pub settle-requires-clause-steps : goal.settle-requires-clause-steps
 settle-requires-clause-steps c =

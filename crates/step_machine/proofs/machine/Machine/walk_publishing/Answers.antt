@@ -3,7 +3,7 @@ use Rattle.machine_model.specs.declared.steps.Outcome.TheVariants as outcome
 use Rattle.machine_model.specs.declared.steps.Step.TheVariants as steps
 use Rattle.step_machine.proofs.Feeding.{can_tell}
 use Rattle.step_machine.proofs.Steps.{holds_after, holds_roomy}
-use Rattle.step_machine.proofs.machine.Machine.walk.Goals as goal
+use Rattle.step_machine.proofs.machine.Machine.walk_publishing.Goals as goal
 
 pub walk-requires-clause-fits : goal.walk-requires-clause-fits
 walk-requires-clause-fits c =

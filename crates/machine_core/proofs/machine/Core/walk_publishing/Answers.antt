@@ -1,14 +1,17 @@
-use Rattle.std.proofs.Common.{◌≡◌, Err, sym, ap, subst}
+use Rattle.std.proofs.Common.{◌≡◌, Err, sym, ap, ◌∙◌, subst}
 use Rattle.machine_model.specs.declared.steps.Step.TheVariants as steps
 use Rattle.machine_model.specs.Machine.{next}
 use Rattle.proof_core.specs.Bounds.{Applies}
 use Rattle.machine_core.specs.Seen.{seen}
-use Rattle.machine_core.specs.Told.{stepped}
+use Rattle.machine_core.specs.Told.{published_in, stepped}
 use Rattle.machine_core.specs.Work.{worked}
 use Rattle.proof_core.specs.Work.{Worked}
 use Rattle.machine_core.proofs.Roomed.{on_err}
 use Rattle.machine_core.proofs.Steps.{applies_stepped, refused_so}
-use Rattle.machine_core.proofs.machine.Core.walk.Goals as goal
+use Rattle.machine_core.proofs.machine.Core.walk_publishing.Goals as goal
+
+pub take_walk-requires-clause-told : goal.take_walk-requires-clause-told
+take_walk-requires-clause-told c = c.requires.told ∙ ap (λ (w : Worked). published_in w.state c.args.actor) (sym c.self.view_is)
 
 pub returns-in-Some-clause-applies : goal.returns-in-Some-clause-applies
 returns-in-Some-clause-applies c =
