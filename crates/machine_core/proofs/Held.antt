@@ -1,5 +1,5 @@
 -- How often references are held in a state of a run.
-use Rattle.std.proofs.Common.{◌≡◌, suc, ◌-◌, ◌<◌, ◌≤◌, ◌^◌, get_or, Option, Some, None, refl, arith}
+use Rattle.std.proofs.Common.{◌≡◌, suc, ◌<◌, ◌≤◌, ◌^◌, get_or, Option, Some, None, refl, arith}
 use Rattle.slot_arena.specs.declared.refs.Ref.{Ref}
 use Rattle.slot_arena.specs.Times.{times}
 use Rattle.epochs.specs.Memories.{Memory}

@@ -42,3 +42,4 @@ pub mod Selected
 pub mod Selections
 pub mod Found
 pub mod Differences
+pub mod Scans

@@ -10,6 +10,7 @@ pub mod Pairing
 pub mod Renewing
 pub mod Rooming
 pub mod Rooting
+pub mod Scanning
 pub mod Seen
 pub mod Selecting
 pub mod Starting

@@ -1,5 +1,5 @@
 -- How the references that the heap counts from outside are tied to root words and private lists.
-use Rattle.std.specs.Prelude.{◌≡◌, ◌+◌, ◌-◌, List, flat_map, map, Option}
+use Rattle.std.specs.Prelude.{◌≡◌, ◌+◌, List, flat_map, map, Option}
 use Rattle.slot_arena.specs.declared.refs.Ref.{Ref}
 use Rattle.slot_arena.specs.Times.{times}
 use Rattle.epochs.specs.Memories.{Memory}

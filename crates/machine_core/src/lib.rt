@@ -10,7 +10,7 @@
 //! | `telling` | what steps tell | `Tellings` |
 //! | `stepping`, `denials`, `settling` | denials first, then the step, then limbo | `Machine`, `Counting` |
 //! | `rooming` | memory for what a walk meets | none: the definition knows no memory |
-//! | `counting`, `picking`, `listing`, `comparing`, `differing` | what is told of maps without a list of all; `selection`, `selecting`, `entries` help | `Contents` |
+//! | `counting`, `picking`, `listing`, `scanning`, `comparing`, `differing` | what is told of maps without a list of all; `selection`, `selecting`, `entries` help | `Contents` |
 //! | `straight`, `descending`, `changing`, `drafting` | calls that run alone, at once: all of one, the way down to its key, the change there, the heap | what its steps come to (`proof_straight`) |
 //! | `renewing` | the branches that such a call renews on its way down | the same, and what it finds behind that |
 //! | `copying`, `rooting` | the same of snapshots, freezes, clears and closes: all of one, the root words | the same |
@@ -43,6 +43,7 @@ mod reading;
 mod renewing;
 mod rooming;
 mod rooting;
+mod scanning;
 mod selecting;
 mod selection;
 mod settling;

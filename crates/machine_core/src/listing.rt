@@ -58,7 +58,7 @@ fn select(selection: &mut Selection, levels: u32, heap: &Heap, at: Ref) -> Resul
 /// Takes the pairs in that are reached from the entries of a main node, within so many levels.
 #[cycle(listing)]
 #[tactic(auto, using(crate::proofs::Selections::selecting))]
-fn select_each(
+pub fn select_each(
     selection: &mut Selection,
     levels: u32,
     heap: &Heap,

@@ -7,12 +7,14 @@ ghost use Rattle.machine_model.specs.States.{root_at};
 ghost use Rattle.machine_core.specs.Comparing.{AreDifferences, RefusesEither};
 ghost use Rattle.machine_core.specs.Finding.{found_along};
 ghost use Rattle.proof_core.specs.Reading.{IsOneOf, next_of};
+ghost use Rattle.proof_core.specs.Scanning.{scanned};
 
 use crate::counting::count_of;
 use crate::differing::{Difference, differences};
 use crate::listing::next_of;
 use crate::machine::Core;
 use crate::picking::first_of;
+use crate::scanning::scanned;
 use ctrie_base::Refusal;
 use history::Pairs;
 
@@ -54,6 +56,22 @@ impl Core {
             return Err(Refusal::NoHandle);
         }
         Ok(next_of(&self.parts, handle, after, room)?)
+    }
+
+    /// The next part of the map of an open handle in the map's own order: its first pairs whose keys are behind this one, `room`
+    /// at most; all are behind none. The order is by the hash, five bits after five from the lowest on, and by key among keys of
+    /// one hash. A part costs a way down and what it hands out, and not the whole map. Parts of a handle that doesn't change,
+    /// each behind the last key of the one before, are one listing, where each key stands once. `NoHandle` exactly where the
+    /// handle isn't open; any other refusal is `Memory`.
+    pub fn scan(&self, handle: u16, after: Option<u64>, room: usize) -> Result<Pairs, Refusal>
+        ensures exact { IfOk result (λ pairs. pairs ≡ scanned self.now.state.limits.hash after room (content_at self.now.state handle)) }
+        ensures open { OnOk result (IsSome (root_at self.now.state handle)) }
+        ensures refused { IfErr result (λ refusal. RefusesContent self.now.state handle refusal) }
+    {
+        if self.parts.table.root(handle).is_none() {
+            return Err(Refusal::NoHandle);
+        }
+        Ok(scanned(&self.parts, handle, after, room)?)
     }
 
     /// The keys of which the maps of two open handles have different values, in ascending order, each with its values in

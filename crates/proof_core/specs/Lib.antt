@@ -6,5 +6,6 @@ pub mod Work
 pub mod Walking
 pub mod Reading
 pub mod Comparing
+pub mod Scanning
 pub mod Tries
 pub mod Drafting
