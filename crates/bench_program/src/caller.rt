@@ -56,6 +56,7 @@ impl Caller {
             Load::Diff => self.diff(map, key),
             Load::Count => self.count(map),
             Load::Part => self.part(map, key),
+            Load::Scan => self.scan(map, key),
         }
     }
 
@@ -110,6 +111,11 @@ impl Caller {
 
     fn part(&self, map: &Map, key: u64) -> Result<(), MapError> {
         let _ = map.entries_from(Handle::first(), Some(key), PART)?;
+        Ok(())
+    }
+
+    fn scan(&self, map: &Map, key: u64) -> Result<(), MapError> {
+        let _ = map.scan(Handle::first(), Some(key), PART)?;
         Ok(())
     }
 }

@@ -21,6 +21,8 @@ pub(crate) enum Load {
     Count,
     /// Parts of a listing alone, of 64 entries.
     Part,
+    /// The same in the map's own order.
+    Scan,
 }
 
 impl Load {
@@ -36,6 +38,7 @@ impl Load {
             "diff" => Some(Load::Diff),
             "count" => Some(Load::Count),
             "part" => Some(Load::Part),
+            "scan" => Some(Load::Scan),
             _ => None,
         }
     }
@@ -44,7 +47,7 @@ impl Load {
     pub(crate) fn wants_keys(self) -> bool {
         matches!(
             self,
-            Load::Get | Load::Copy | Load::Diff | Load::Count | Load::Part
+            Load::Get | Load::Copy | Load::Diff | Load::Count | Load::Part | Load::Scan
         )
     }
 }

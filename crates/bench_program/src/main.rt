@@ -2,8 +2,8 @@
 //!
 //! `bench_program CALLS BEFORE COUNT KEYS SLOTS` performs COUNT operations after BEFORE others, over so many keys, and
 //! writes how many steps they took, how many nanoseconds, and how many were refused. CALLS is `mix`, `get`, `put`,
-//! `insert`, `freeze`, `copy`, `diff`, `count` or `part`; before `get` and the last four of them each key is put. Without
-//! words few operations are made of the first six, and their steps written.
+//! `insert`, `freeze`, `copy`, `diff`, `count`, `part` or `scan`; before `get` and the last five of them each key is put.
+//! Without words few operations are made of the first six, and their steps written.
 #![tactic(auto)]
 
 mod caller;

@@ -27,3 +27,4 @@ pub mod Firsts
 pub mod Walks
 pub mod Pops
 pub mod Updated
+pub mod Listings

@@ -5,6 +5,8 @@ use Rattle.std.specs.List.{filter}
 use Rattle.std.specs.Ordering.{nat_cmp}
 use Rattle.std.proofs.lemmas.List.{length-take}
 use Rattle.std.proofs.Common.{refl, sym, ap, subst, inl, inr, eq-eqb, eqb-true, arith, ◌∙◌}
+use Rattle.ctrie_base.specs.Sorting.{sorted_by}
+use Rattle.ctrie_base.specs.declared.hashes.HashKind.{HashKind}
 use Rattle.ctrie_base.specs.declared.refusals.Refusal.{Refusal}
 use Rattle.history.specs.Worlds.{HandleState, KeyMap}
 use Rattle.machine_model.specs.Contents.{content_at}
@@ -13,6 +15,7 @@ use Rattle.machine_core.specs.Comparing.{AreDifferences, RefusesEither}
 use Rattle.machine_core.specs.declared.differing.Difference.{Difference}
 use Rattle.machine_core.specs.Finding.{found_along}
 use Rattle.ctrie_map.specs.Beneath.proof_core.specs.Reading as core
+use Rattle.ctrie_map.specs.Beneath.proof_core.specs.Scanning.{is_behind, scan_order, scanned}
 use Rattle.ctrie_map.specs.Beneath.proof_core.proofs.Found.{found_there}
 use Rattle.ctrie_map.specs.Beneath.proof_contents.proofs.Values.Crowds.{sorted_distinct}
 use Rattle.ctrie_map.specs.Beneath.proof_straight.specs.Resting.{IsOfRun}
@@ -62,6 +65,12 @@ pub few_next : (after : Option ℕ) (room : ℕ) (pairs part : List (ℕ × ℕ)
 few_next after room pairs part is =
     let most = length-take room (filter (λ (pair : ℕ × ℕ). core.is_after after pair.0) pairs) in
     let same : length part ≡ length (core.next_of after room pairs) = ap length is in
+    omega (arith, most, same)
+
+pub few_scanned : (kind : HashKind) (after : Option ℕ) (room : ℕ) (pairs part : List (ℕ × ℕ)) → part ≡ scanned kind after room pairs → length part ≤ room
+few_scanned kind after room pairs part is =
+    let most = length-take room (filter (λ (pair : ℕ × ℕ). is_behind kind after pair.0) (sorted_by (scan_order kind) pairs)) in
+    let same : length part ≡ length (scanned kind after room pairs) = ap length is in
     omega (arith, most, same)
 
 -- ---- of a core

@@ -2,6 +2,7 @@ pub mod Beneath
 pub mod Denials
 pub mod Cores
 pub mod Names
+pub mod Listings
 pub mod Maps
 pub mod Changes
 pub mod Performing

@@ -3,6 +3,7 @@
 ghost use Rattle.std.specs.Prelude.{◌≡◌, ◌≤◌, nat_eq, length, Ok, IfOk, IfErr};
 ghost use Rattle.std.specs.FinMap as map;
 ghost use Rattle.ctrie_map.specs.Beneath.proof_core.specs.Reading.{next_of};
+ghost use Rattle.ctrie_map.specs.Beneath.proof_core.specs.Scanning.{scanned};
 ghost use Rattle.ctrie_map.specs.Beneath.slot_arena.specs.Refs.{most_slots};
 ghost use Rattle.ctrie_map.specs.Reading.{IsOneOf, Reads, ReadsOf, RefusesReading, core_reading, reading};
 
@@ -54,6 +55,26 @@ impl Map {
         let name = self.name_of(handle)?;
         entries_after(&self.core, name.core, after, room)
     }
+
+    /// The next keys behind this one with their values, `room` of them at most, in the map's own order; from its first key on
+    /// where it is none. The order is by the keys' hashes, five bits after five from the lowest on, and by key among keys of one
+    /// hash, so it is the same for each map of this hash. Each call goes one way down and over what it answers, and takes
+    /// memory for that: all parts of a map cost about one walk over it. The parts of a frozen copy are a listing of one
+    /// moment, in which each key stands once; those of a map that changes meanwhile are each of their own. The key needs no
+    /// value. Else than for `NoHandle`, only memory is refused.
+    pub fn scan(
+        &self,
+        handle: Handle,
+        after: Option<u64>,
+        room: usize,
+    ) -> Result<Vec<(u64, u64)>, MapError>
+        ensures entries { IfOk result (λ entries. reading self.now handle (λ m. scanned self.now.core.limits.hash after room (map.entries m)) ≡ Ok entries.items) }
+        ensures few { IfOk result (λ entries. length entries.items ≤ room) }
+        ensures refused { IfErr result (RefusesReading (reading self.now handle (λ m. scanned self.now.core.limits.hash after room (map.entries m)))) }
+    {
+        let name = self.name_of(handle)?;
+        scanned_behind(&self.core, name.core, after, room)
+    }
 }
 
 /// How many keys of a handle's map have a value.
@@ -92,4 +113,19 @@ fn entries_after(
 {
     let _ = core.limits();
     Ok(core.part(handle, after, room)?.into_vec())
+}
+
+/// The next pairs of a handle's map in its own order.
+fn scanned_behind(
+    core: &Core,
+    handle: u16,
+    after: Option<u64>,
+    room: usize,
+) -> Result<Vec<(u64, u64)>, MapError>
+    ensures entries { IfOk result (λ entries. core_reading core.now.state handle (λ m. scanned core.now.state.limits.hash after room (map.entries m)) ≡ Ok entries.items) }
+    ensures few { IfOk result (λ entries. length entries.items ≤ room) }
+    ensures refused { IfErr result (RefusesReading (core_reading core.now.state handle (λ m. scanned core.now.state.limits.hash after room (map.entries m)))) }
+{
+    let _ = core.limits();
+    Ok(core.scan(handle, after, room)?.into_vec())
 }

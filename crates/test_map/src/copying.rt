@@ -10,6 +10,7 @@ pub fn copy(alloc: Global, map: &mut Map, line: &Line<'_>) -> Result<Option<Stri
     let told = match line.name {
         "new_low" => debug(alloc, &renew(alloc, map, line, HashKind::Low))?,
         "new_fold" => debug(alloc, &renew(alloc, map, line, HashKind::Fold))?,
+        "new_wide" => debug(alloc, &renew(alloc, map, line, HashKind::Wide))?,
         "new_block" => debug(alloc, &renew(alloc, map, line, HashKind::Block))?,
         "snapshot" => debug(alloc, &map.snapshot(all))?,
         "freeze" => debug(alloc, &map.freeze(all))?,

@@ -14,6 +14,8 @@ pub fn read(alloc: Global, map: &Map, line: &Line<'_>) -> Result<Option<String>,
         "entries" => debug(alloc, &map.entries(all))?,
         "entries_from" => debug(alloc, &part(map, all, Some(key), line.number(2)))?,
         "entries_from_start" => debug(alloc, &part(map, all, None, key))?,
+        "scan" => debug(alloc, &scan(map, all, Some(key), line.number(2)))?,
+        "scan_start" => debug(alloc, &scan(map, all, None, key))?,
         "diff" => debug(alloc, &map.diff(all, line.handle(1)))?,
         "count" => debug(alloc, &map.count(all))?,
         "is_empty" => debug(alloc, &map.is_empty(all))?,
@@ -30,4 +32,13 @@ fn part(
     room: u64,
 ) -> Result<Vec<(u64, u64)>, MapError> {
     map.entries_from(all, after, usize::try_from(room).unwrap_or(0))
+}
+
+fn scan(
+    map: &Map,
+    all: Handle,
+    after: Option<u64>,
+    room: u64,
+) -> Result<Vec<(u64, u64)>, MapError> {
+    map.scan(all, after, usize::try_from(room).unwrap_or(0))
 }
