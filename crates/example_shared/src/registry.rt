@@ -19,6 +19,9 @@ const CHANGES: u64 = 400;
 
 const EXPORTS: u64 = 40;
 
+/// So many keys are read at once: others that want the same shard wait for these alone.
+const PART: usize = 16;
+
 /// Where the confirmed numbers stand: that many keys above those that were announced.
 const CONFIRMED: u64 = 100;
 
@@ -58,20 +61,45 @@ fn is_of_one_moment(pairs: &[(u64, u64)]) -> bool {
     true
 }
 
+/// Adds what a shard has of the copy, in parts.
+fn read_shard<N: Name, R: Wait>(
+    rt: &R,
+    map: &NamedMap<N>,
+    seat: &mut NamedMapSeat<N>,
+    (copy, shard): (Handle, usize),
+    pairs: &mut Vec<(u64, u64)>,
+) -> Result<(), MapError> {
+    let mut after = None;
+    for _ in rt.forever() {
+        let part = seat.scan(rt, map, copy, shard, after, PART)?;
+        let Some((last, _)) = part.last() else {
+            break;
+        };
+        after = Some(*last);
+        if pairs.extend_from_slice(part.as_slice()).is_err() {
+            return Err(MapError::Memory);
+        }
+    }
+    Ok(())
+}
+
 /// Exports the registry: a read-only copy, which is read while others go on, and closed then.
-fn export<N: Name, R: Wait>(
+fn export<N: Name, R: Wait + AllocGlobal>(
     rt: &R,
     map: &NamedMap<N>,
     seat: &mut NamedMapSeat<N>,
 ) -> Result<Vec<(u64, u64)>, MapError> {
     let copy = seat.freeze(rt, map, Handle::first())?;
-    let pairs = seat.entries(rt, map, copy)?;
+    let mut pairs = Vec::new(rt.alloc());
+    for shard in 0..map.shards() {
+        read_shard(rt, map, seat, (copy, shard), &mut pairs)?;
+    }
     seat.close(rt, map, copy)?;
     Ok(pairs)
 }
 
 /// Exports again and again: how many exports were of one moment.
-fn export_often<N: Name, R: Wait>(
+fn export_often<N: Name, R: Wait + AllocGlobal>(
     rt: &R,
     map: &NamedMap<N>,
     seat: &mut NamedMapSeat<N>,

@@ -7,7 +7,7 @@ use Rattle.machine_model.specs.Calls.{handle_of}
 use Rattle.ctrie_map.specs.declared.errors.MapError.TheVariants.{Memory}
 use Rattle.ctrie_map.specs.Maps.{MapState}
 use Rattle.shared_map.specs.Answering.{AnswersAll, MapAnswers}
-use Rattle.shared_map.specs.Asks.{Replied, Told, about, handle_asked, key_asked, place_of, told_as}
+use Rattle.shared_map.specs.Asks.{Replied, Told, about, handle_asked, key_in, place_asked, place_of, told_as}
 use Rattle.shared_map.specs.declared.asks.Answer.TheVariants as answer
 use Rattle.shared_map.specs.Shards.{AreShards, free_of_all, have_room}
 use Rattle.shared_map.specs.Wholes.{AnswersIf, KnowsFirst, RepliesIf}
@@ -75,8 +75,7 @@ module _ (first : Knowing) (before : List MapState) (request : Request) (knows :
     pub if_called : (call : Call) (replied : Replied) → request.ask ≡ Do call → about (length before) request ≡ None → first.handle ≡ handle_of call →
         RepliesIf first before call replied after → MapAnswers 0 before request (told_as answer.Reply replied) after
     if_called call replied is all on answers hash are =
-        let none = no_key (λ key. place_of request.hash (length before) key) (key_asked (Do call))
-        (ap (λ a. option_map (λ key. place_of request.hash (length before) key) (key_asked a)) (sym is) ∙ all) in
+        let none = no_key (λ key. place_of request.hash (length before) key) (key_in call) (ap (place_asked request.hash (length before)) (sym is) ∙ all) in
         let (answered, next) = answers hash are knows on none in record {
           shards = next;
           answered = λ e. subst (λ a. AnswersAll hash before a (told_as answer.Reply replied) after) (sym is) (replied, refl, answered);

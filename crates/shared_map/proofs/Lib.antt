@@ -13,6 +13,7 @@ mod Listed
 mod Least
 mod Picked
 mod Sorted
+mod Scanned
 mod Alone
 mod Turns
 mod AllAnswers

@@ -12,7 +12,7 @@ use Rattle.ctrie_map.specs.declared.errors.MapError.TheVariants.{Full, WornOut}
 use Rattle.ctrie_map.specs.Maps.{MapState}
 use Rattle.gate.specs.Logs.{Leads}
 use Rattle.shared_map.specs.declared.asks.Ask.{Ask}
-use Rattle.shared_map.specs.declared.asks.Ask.TheVariants.{Do, From, First, IsWritable, Restore, Handles, Free, HasRoom}
+use Rattle.shared_map.specs.declared.asks.Ask.TheVariants.{Do, From, Scan, First, IsWritable, Restore, Handles, Free, HasRoom}
 use Rattle.shared_map.specs.declared.asks.Request.{Request}
 use Rattle.shared_map.specs.Answering.{AnswersAll, CallsAll, ChangesAll, IsAnswered, MapAnswers, RestoresAll}
 use Rattle.shared_map.specs.Asks.{MapEntry, Replied, Told}
@@ -85,6 +85,7 @@ module _ (hash : HashKind) (before after : List MapState) where
   by_answer : (ask : Ask) (told : Told) → AnswersAll hash before ask told after → AreAsMany
   by_answer (Do call) told (replied, is, p) = by_call call replied p.0
   by_answer (From h cursor room) told p = ap length p.0
+  by_answer (Scan h shard cursor room) told p = ap length p.0
   by_answer (First h) told p = ap length p.0
   by_answer (IsWritable h) told p = ap length p.0
   by_answer (Restore h copy) told p = by_restore h copy told p.0
@@ -92,7 +93,7 @@ module _ (hash : HashKind) (before after : List MapState) where
   by_answer Free told p = ap length p.0
   by_answer HasRoom told p = ap length p.0
 
-  as_many : (request : Request) (told : Told) → IsAnswered hash before request told after → AreAsMany
+  pub as_many : (request : Request) (told : Told) → IsAnswered hash before request told after → AreAsMany
   as_many request told p = elim (cases_hash request.hash hash) [
     | inl same ↦ by_answer request.ask told (p.answered same)
     | inr apart ↦ ap length (p.strange apart).1

@@ -15,7 +15,7 @@ use Rattle.gate.specs.Logs.{Leads}
 use Rattle.gate.specs.Seats.{Room, Seated}
 use Rattle.gate.proofs.Placing.{others_leave_own_calls}
 use Rattle.shared_map.specs.declared.asks.Ask.{Ask}
-use Rattle.shared_map.specs.declared.asks.Ask.TheVariants.{Do, From, First, IsWritable, Restore, Handles, Free, HasRoom}
+use Rattle.shared_map.specs.declared.asks.Ask.TheVariants.{Do, From, Scan, First, IsWritable, Restore, Handles, Free, HasRoom}
 use Rattle.shared_map.specs.declared.asks.Request.{Request}
 use Rattle.shared_map.specs.Answering.{AnswersAll, CallsAll, ChangesAll, IsAnswered, MapAnswers, RestoresAll}
 use Rattle.shared_map.specs.Asks.{MapEntry, Replied, Told}
@@ -24,39 +24,40 @@ use Rattle.shared_map.specs.Laws.{CallsReplay}
 use Rattle.shared_map.specs.Replaying.{ChangesWorld, IsShown, Replays, RepliesIn, RestoresWorld, Shows}
 use Rattle.shared_map.specs.Restores.{RestoresAmong}
 use Rattle.shared_map.specs.Shards.{AreShards, world_of_all}
-use Rattle.shared_map.proofs.Many.{as_many_at_last}
+use Rattle.shared_map.proofs.Many.{as_many, as_many_at_last}
 
 module _ (hash : HashKind) (before after : List MapState) where
-  reply_shows : (call : Call) (answer : Reply) → ChangesAll hash before call (Ok answer) after → ChangesWorld (hash_of hash) (world_of_all before) call (Ok answer) (world_of_all after)
+  reply_shows : (call : Call) (answer : Reply) → ChangesAll hash before call (Ok answer) after → ChangesWorld hash (length before) (world_of_all before) call (Ok answer) (world_of_all after)
   reply_shows call NoSlots p = (p.0.0, p.2.1)
   reply_shows call answer p = (p.1.0, subst (λ w. EffectAmong (hash_of hash) (world_of_all before) call p.1.0 answer w) (sym p.1.3.1) p.1.2)
 
-  error_shows : (call : Call) (why : MapError) → ChangesAll hash before call (Err why) after → ChangesWorld (hash_of hash) (world_of_all before) call (Err why) (world_of_all after)
+  error_shows : (call : Call) (why : MapError) → ChangesAll hash before call (Err why) after → ChangesWorld hash (length before) (world_of_all before) call (Err why) (world_of_all after)
   error_shows call WornOut p = (p.0, ap world_of_all p.2)
   error_shows call why p = (p.0, ap world_of_all p.1)
 
-  change_shows : (call : Call) (told : Replied) → ChangesAll hash before call told after → ChangesWorld (hash_of hash) (world_of_all before) call told (world_of_all after)
+  change_shows : (call : Call) (told : Replied) → ChangesAll hash before call told after → ChangesWorld hash (length before) (world_of_all before) call told (world_of_all after)
   change_shows call (Ok answer) p = reply_shows call answer p
   change_shows call (Err why) p = error_shows call why p
 
-  call_shows : (call : Call) (told : Replied) → CallsAll hash before call told after → RepliesIn (hash_of hash) (world_of_all before) call told (world_of_all after)
+  call_shows : (call : Call) (told : Replied) → CallsAll hash before call told after → RepliesIn hash (length before) (world_of_all before) call told (world_of_all after)
   call_shows (Get h k) told p = (ap world_of_all p.0, p.1)
   call_shows (Entries h) told p = (ap world_of_all p.0, p.1)
   call_shows (Count h) told p = (ap world_of_all p.0, p.1)
   call_shows call told p = change_shows call told p
 
-  restore_refused : (h copy : ℕ) (why : MapError) → RestoresAll hash before h copy (Err why) after → RestoresWorld (hash_of hash) (world_of_all before) h copy (Err why) (world_of_all after)
+  restore_refused : (h copy : ℕ) (why : MapError) → RestoresAll hash before h copy (Err why) after → RestoresWorld hash (length before) (world_of_all before) h copy (Err why) (world_of_all after)
   restore_refused h copy Full p = (p.0, p.2.1)
   restore_refused h copy WornOut p = (p.0, ap world_of_all p.3)
   restore_refused h copy why p = (p.0, ap world_of_all p.1)
 
-  restore_shows : (h copy : ℕ) (told : Told) → RestoresAll hash before h copy told after → RestoresWorld (hash_of hash) (world_of_all before) h copy told (world_of_all after)
+  restore_shows : (h copy : ℕ) (told : Told) → RestoresAll hash before h copy told after → RestoresWorld hash (length before) (world_of_all before) h copy told (world_of_all after)
   restore_shows h copy (Ok told) p = (p.0, subst (RestoresAmong (world_of_all before) h copy) (sym p.2.2.1) p.2.1)
   restore_shows h copy (Err why) p = restore_refused h copy why p
 
-  shows : (ask : Ask) (told : Told) → AnswersAll hash before ask told after → Shows (hash_of hash) (world_of_all before) ask told (world_of_all after)
+  shows : (ask : Ask) (told : Told) → AnswersAll hash before ask told after → Shows hash (length before) (world_of_all before) ask told (world_of_all after)
   shows (Do call) told (replied, is, p) = (replied, is, call_shows call replied p.0)
   shows (From h cursor room) told p = (ap world_of_all p.0, p.1)
+  shows (Scan h shard cursor room) told p = (ap world_of_all p.0, p.1)
   shows (First h) told p = (ap world_of_all p.0, p.1)
   shows (IsWritable h) told p = (ap world_of_all p.0, p.1)
   shows (Restore h copy) told p = restore_shows h copy told p.0
@@ -64,7 +65,7 @@ module _ (hash : HashKind) (before after : List MapState) where
   shows Free told p = ap world_of_all p.0
   shows HasRoom told p = ap world_of_all p.0
 
-  shown : (request : Request) (told : Told) → IsAnswered hash before request told after → IsShown hash (world_of_all before) request told (world_of_all after)
+  shown : (request : Request) (told : Told) → IsAnswered hash before request told after → IsShown hash (length before) (world_of_all before) request told (world_of_all after)
   shown request told p = record {
     shows = λ e. shows request.ask told (p.answered e);
     strange = λ apart. let (none, same) = p.strange apart in (none, ap world_of_all same);
@@ -72,12 +73,13 @@ module _ (hash : HashKind) (before after : List MapState) where
 
 -- calls that lead from the shards of one map replay from its world
 replays : (hash : HashKind) (start : List MapState) (log : List MapEntry) (last : List MapState) → AreShards hash start → Leads MapAnswers start log last →
-    Replays hash (world_of_all start) log (world_of_all last) × AreShards hash last
+    Replays hash (length start) (world_of_all start) log (world_of_all last) × AreShards hash last
 replays hash start [] last are same = (ap world_of_all same, subst (AreShards hash) (sym same) are)
 replays hash start (e ∷ es) last are (next, answered, leads) =
     let answer = answered hash are in
     let (more, still) = replays hash next es last answer.shards leads in
-    ((world_of_all next, shown hash start next e.call e.answer answer, more), still)
+    let many = as_many hash start next e.call e.answer answer in
+    ((world_of_all next, shown hash start next e.call e.answer answer, subst (λ n. Replays hash n (world_of_all next) es (world_of_all last)) many more), still)
 
 pub calls_replay : CallsReplay
 calls_replay hash seen are legal = replays hash seen.first seen.log seen.object are legal
@@ -89,8 +91,8 @@ in_one_order of hash room seats made are all =
     let first : AreShards hash all.last.first = subst (AreShards hash) (sym all.first) are in
     let (more, still) = replays hash all.last.first all.last.log all.last.object first all.legal in record {
       order = all.last.log;
-      replays = subst (λ (m : List MapState). Replays hash (world_of_all room.first) all.last.log (world_of_all m)) (sym all.object_is)
-          (subst (λ (f : List MapState). Replays hash (world_of_all f) all.last.log (world_of_all all.last.object)) all.first more);
+      replays = subst (λ (m : List MapState). Replays hash (length room.first) (world_of_all room.first) all.last.log (world_of_all m)) (sym all.object_is)
+          (subst (λ (f : List MapState). Replays hash (length f) (world_of_all f) all.last.log (world_of_all all.last.object)) all.first more);
       own = λ k s at. others_leave_own_calls MapAnswers (of s).number (of s).seen all.last (all.followed k s at);
       seated = all.calls;
       shards = subst (AreShards hash) (sym all.object_is) still;

@@ -16,12 +16,12 @@ use Rattle.ctrie_map.specs.Performing.{EffectAmong}
 use Rattle.ctrie_map.specs.Reading.{read_of, writability_by}
 use Rattle.shared_map.specs.declared.asks.Answer.TheVariants as answer
 use Rattle.shared_map.specs.declared.asks.Ask.{Ask}
-use Rattle.shared_map.specs.declared.asks.Ask.TheVariants.{Do, From, First, IsWritable, Restore, Handles, Free, HasRoom}
+use Rattle.shared_map.specs.declared.asks.Ask.TheVariants.{Do, From, Scan, First, IsWritable, Restore, Handles, Free, HasRoom}
 use Rattle.shared_map.specs.declared.asks.Request.{Request}
 use Rattle.shared_map.specs.Asks.{Replied, Told, told_as}
 use Rattle.shared_map.specs.Shards.{AreShards, LackSlots, concerned, free_of_all, have_room, is_any_worn_out, is_any_worn_out_to_restore, steps_of_all, world_of_all}
 use Rattle.shared_map.specs.Restores.{RestoresAmong, restore_denial_among, work_of_a_restore}
-use Rattle.shared_map.specs.Readings.{IsFirst, IsPart}
+use Rattle.shared_map.specs.Readings.{IsFirst, IsPart, IsScan}
 
 -- the whole has these handles then; hash and slots are as before
 abbrev pub Become : List MapState → HandleMap → List MapState → Type 0
@@ -71,6 +71,7 @@ module _ (hash : HashKind) (before : List MapState) where
   abbrev pub AnswersAll : Ask → Told → List MapState → Type 0
   AnswersAll (Do call) told after = (replied : Replied) × (told ≡ told_as answer.Reply replied) × RepliesAll call replied after
   AnswersAll (From h cursor room) told after = (after ≡ before) × IsPart cursor room (map.get (world_of_all before) h) told
+  AnswersAll (Scan h shard cursor room) told after = (after ≡ before) × IsScan hash (length before) shard cursor room (map.get (world_of_all before) h) told
   AnswersAll (First h) told after = (after ≡ before) × IsFirst (map.get (world_of_all before) h) told
   AnswersAll (IsWritable h) told after = (after ≡ before) × (told ≡ told_as answer.Writable (writability_by (map.get (world_of_all before) h)))
   AnswersAll (Restore h copy) told after = RestoresAll h copy told after × WorkUpTo (length before * work_of_a_restore) before after

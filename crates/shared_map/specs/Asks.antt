@@ -12,7 +12,7 @@ use Rattle.ctrie_map.specs.declared.errors.MapError.TheVariants.{Memory}
 use Rattle.shared_map.specs.declared.asks.Answer.{Answer}
 use Rattle.shared_map.specs.declared.asks.Answer.TheVariants as answer
 use Rattle.shared_map.specs.declared.asks.Ask.{Ask}
-use Rattle.shared_map.specs.declared.asks.Ask.TheVariants.{Do, From, First, IsWritable, Restore}
+use Rattle.shared_map.specs.declared.asks.Ask.TheVariants.{Do, From, Scan, First, IsWritable, Restore}
 use Rattle.shared_map.specs.declared.asks.Request.{Request}
 
 abbrev pub Told : Type 0
@@ -56,14 +56,11 @@ key_in (Remove h k) = Some k
 key_in (RemoveIf h k v) = Some k
 key_in call = None
 
-abbrev pub key_asked : Ask → Option ℕ
-key_asked (Do call) = key_in call
-key_asked ask = None
-
 -- the handle that is asked for, if one is
 abbrev pub handle_asked : Ask → ℕ
 handle_asked (Do call) = handle_of call
 handle_asked (From h cursor room) = h
+handle_asked (Scan h shard cursor room) = h
 handle_asked (First h) = h
 handle_asked (IsWritable h) = h
 handle_asked (Restore h copy) = h
@@ -78,6 +75,12 @@ shard_of shards hash = hash * 11400714819323198485 % 2 ^ 64 / 2 ^ 58 % shards
 abbrev pub place_of : HashKind → ℕ → ℕ → ℕ
 place_of hash shards key = shard_of shards (hash_of hash key)
 
+-- the shard of the one key, or that which is asked for, counted round
+abbrev pub place_asked : HashKind → ℕ → Ask → Option ℕ
+place_asked hash shards (Do call) = option_map (place_of hash shards) (key_in call)
+place_asked hash shards (Scan h shard cursor room) = Some (shard % shards)
+place_asked hash shards ask = None
+
 -- the shard that a request is about; none where it is about all
 abbrev pub about : ℕ → Request → Option ℕ
-about shards request = option_map (λ key. place_of request.hash shards key) (key_asked request.ask)
+about shards request = place_asked request.hash shards request.ask

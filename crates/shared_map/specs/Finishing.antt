@@ -14,7 +14,7 @@ use Rattle.shared_map.specs.Shards.{AreShards, world_of_all}
 -- with what it was told. Each call is one of a seat of the shared map. As many shards come out as there were.
 pub record AreInOneOrder {S : Type 0} (of : S → Seated (List MapState) Request Told) (shared : MapRoom) (seats : List S) (made : List MapState) : Type 0 where
   pub order : List MapEntry
-  pub replays : Replays shared.hash (world_of_all shared.room.first) order (world_of_all made)
+  pub replays : Replays shared.hash (length shared.room.first) (world_of_all shared.room.first) order (world_of_all made)
   pub own : (k : ℕ) (s : S) → slice_get seats k ≡ Some s → calls_of (of s).number order ≡ calls_of (of s).number (of s).seen.log
   pub seated : AreSeated shared.room.seats order
   pub shards : AreShards shared.hash made

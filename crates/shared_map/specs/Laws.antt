@@ -1,5 +1,5 @@
 -- What the log of a shared map comes to.
-use Rattle.std.specs.Prelude.{◌≡◌, List, [], ◌∷◌}
+use Rattle.std.specs.Prelude.{◌≡◌, List, [], ◌∷◌, length}
 use Rattle.ctrie_base.specs.declared.hashes.HashKind.{HashKind}
 use Rattle.history.specs.declared.calls.Call.{Call}
 use Rattle.gate.specs.Logs.{Logged, IsLegal}
@@ -20,7 +20,7 @@ MapLog = Logged (List MapState) Request Told
 abbrev pub CallsReplay : Type 0
 CallsReplay =
     (hash : HashKind) (seen : MapLog) → AreShards hash seen.first → IsLegal MapAnswers seen →
-    Replays hash (world_of_all seen.first) seen.log (world_of_all seen.object) × AreShards hash seen.object
+    Replays hash (length seen.first) (world_of_all seen.first) seen.log (world_of_all seen.object) × AreShards hash seen.object
 
 -- In one shard the world of the whole is the map's own, and what is told of a call, and becomes of the shards, is what `Map` alone does.
 abbrev pub OneShardIsAMap : Type 0

@@ -7,7 +7,7 @@ ghost use Rattle.shared_map.specs.Shards.{free_of_all, have_room};
 ghost use Rattle.shared_map.specs.Wholes.{KnowsFirst};
 
 use crate::asking::{Knowing, Measuring, first_of};
-use crate::asks::{Answer, Ask, Request, Told, about, told_reply, told_writable};
+use crate::asks::{Answer, Ask, Request, Told, about, told_part, told_reply, told_writable};
 use crate::parts::part_of_all;
 use crate::picking::one_of_all;
 use crate::reading::Freeing;
@@ -15,7 +15,7 @@ use crate::restoring::restore_all;
 use crate::visits::visit_each;
 use crate::wholes::call_all;
 use ctrie_base::HashKind;
-use ctrie_map::{Map, MapError, SLOTS_FOR_A_CALL};
+use ctrie_map::{Handle, Map, MapError, SLOTS_FOR_A_CALL};
 use history::Reply;
 use sharded_gate::{Sharded, Shards};
 
@@ -30,13 +30,18 @@ impl Sharded<Request, Told> for Map {
 
     #[tactic(auto, using(crate::proofs::Alone::called_alone, crate::proofs::Alone::strange_alone, crate::proofs::Alone::none_alone))]
     fn perform(&mut self, _seat: u8, request: Request) -> Told {
-        let Ask::Do(call) = request.ask else {
+        if !is_same(request.hash, self.hash()) {
             return Err(MapError::Memory);
-        };
-        if is_same(request.hash, self.hash()) {
-            told_reply(self.call(call))
-        } else {
-            Err(MapError::Memory)
+        }
+        match request.ask {
+            Ask::Do(call) => told_reply(self.call(call)),
+            Ask::Scan {
+                handle,
+                after,
+                room,
+                ..
+            } => told_part(self.scan(Handle::new(handle), after, room)),
+            _ => Err(MapError::Memory),
         }
     }
 
@@ -69,6 +74,7 @@ fn handle_in(ask: Ask) -> u16
     match ask {
         Ask::Do(call) => call.handle(),
         Ask::From { handle, .. }
+        | Ask::Scan { handle, .. }
         | Ask::First { handle }
         | Ask::IsWritable { handle }
         | Ask::Restore { handle, .. } => handle,
@@ -104,6 +110,7 @@ fn ask_all<S: Shards<Map>>(shards: &mut S, first: &Knowing, request: Request) ->
             after,
             room,
         } => part_of_all(shards, first, handle, after, room),
+        Ask::Scan { .. } => Err(MapError::Memory),
         Ask::First { handle } => one_of_all(shards, first, handle),
         Ask::IsWritable { .. } => told_writable(first.writable),
         Ask::Restore { handle, copy } => restore_all(shards, first, handle, copy),

@@ -1,6 +1,6 @@
 //! What is asked of a map in shards, what is told, and which shard a request is about.
 
-ghost use Rattle.std.specs.Prelude.{◌≡◌, ◌<◌, IfSome};
+ghost use Rattle.std.specs.Prelude.{◌≡◌, ◌<◌, Ok, Err, IfSome, IfOk, IfErr};
 ghost use Rattle.shared_map.specs.declared.asks.Answer.TheVariants as answer;
 ghost use Rattle.shared_map.specs.Asks.{about, answer_to_restore, key_in, place_of, replied_in, shard_of, told_as};
 
@@ -18,6 +18,16 @@ pub enum Ask {
     /// frozen copy are a listing of one moment. `NoHandle` where the handle isn't open; else only memory is refused.
     From {
         handle: u16,
+        after: Option<u64>,
+        room: usize,
+    },
+    /// The next entries behind this key, `room` of them at most, of those that lie in one shard, in the order of `Map::scan`;
+    /// from the first one on where it is none. Shards are counted from 0, and a number beyond the last one counts round again.
+    /// It holds this shard alone, for a way down and what it hands out, in memory for that. The parts of all shards of a
+    /// frozen copy are a listing of one moment. `NoHandle` where the handle isn't open; else only memory is refused.
+    Scan {
+        handle: u16,
+        shard: usize,
         after: Option<u64>,
         room: usize,
     },
@@ -58,7 +68,7 @@ pub struct Request {
 pub enum Answer {
     /// The reply to a call; of `Ask::Handles` and `Ask::Free` it is `Reply::Count`, of `Ask::HasRoom` `Reply::Truth`.
     Reply(Reply),
-    /// What `Ask::From` asked for.
+    /// What `Ask::From` or `Ask::Scan` asked for.
     Part(Pairs),
     /// What `Ask::First` asked for.
     First(Option<(u64, u64)>),
@@ -92,6 +102,17 @@ pub(crate) fn reply_told(told: Told) -> Result<Reply, MapError>
     match told? {
         Answer::Reply(reply) => Ok(reply),
         _ => Err(MapError::Memory),
+    }
+}
+
+/// A part of the entries, as it is told.
+pub(crate) fn told_part(part: Result<Vec<(u64, u64)>, MapError>) -> Told
+    ensures part { IfOk part (λ pairs. result ≡ Ok (answer.Part pairs.items)) }
+    ensures refused { IfErr part (λ error. result ≡ Err error) }
+{
+    match part {
+        Ok(pairs) => Ok(Answer::Part(Pairs::from_vec(pairs))),
+        Err(error) => Err(error),
     }
 }
 
@@ -168,6 +189,7 @@ pub(crate) fn about(request: &Request, shards: usize) -> Option<usize>
             Some(key) => Some(place_of(request.hash, key, shards)),
             None => None,
         },
+        Ask::Scan { shard, .. } => Some(shard % shards),
         _ => None,
     }
 }

@@ -1,7 +1,7 @@
 //! The calls of a seat.
 
 ghost use Rattle.history.specs.declared.calls.Call.TheVariants as call;
-ghost use Rattle.shared_map.specs.declared.asks.Ask.TheVariants.{Do, First, Free, From, Handles, HasRoom, IsWritable, Restore};
+ghost use Rattle.shared_map.specs.declared.asks.Ask.TheVariants.{Do, First, Free, From, Handles, HasRoom, IsWritable, Restore, Scan};
 ghost use Rattle.shared_map.specs.Calling.{HasAsked, HasHeardOf, Lists, Tells};
 ghost use Rattle.shared_map.specs.Telling.{contained_in, counted_in, done_in, first_in, found_in, has_room_in, listed_in, number_in, open_in, opened_in, part_in, restored_in, truth_in, writable_in};
 
@@ -110,6 +110,29 @@ pub trait MapCalls<M> {
             room,
         };
         part(self.ask(rt, map, from))
+    }
+
+    /// As `Map::scan`, of the keys that lie in one shard, from 0 on (`SharedMap::shards` tells how many there are; a greater
+    /// number counts round again): this shard alone is held, for what is handed out and a way down.
+    fn scan<R: Wait>(
+        &mut self,
+        rt: &R,
+        map: &M,
+        handle: Handle,
+        shard: usize,
+        after: Option<u64>,
+        room: usize,
+    ) -> Result<Vec<(u64, u64)>, MapError>
+        requires { fits map.now self.old }
+        ensures { Lists part_in (shared map.now) (seat self.old) (Scan handle shard after room) result (seat self.new) }
+    {
+        let scan = Ask::Scan {
+            handle: handle.number(),
+            shard,
+            after,
+            room,
+        };
+        part(self.ask(rt, map, scan))
     }
 
     /// As `Map::count`: others wait as long as the map has entries.
@@ -325,8 +348,7 @@ pub trait MapCalls<M> {
         requires { fits map.now self.old }
         ensures { Tells restored_in (shared map.now) (seat self.old) (Restore handle copy) result (seat self.new) }
     {
-        let handle = handle.number();
-        let copy = copy.number();
+        let (handle, copy) = (handle.number(), copy.number());
         restored(self.ask(rt, map, Ask::Restore { handle, copy }))
     }
 

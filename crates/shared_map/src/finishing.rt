@@ -22,10 +22,23 @@ impl SharedMap {
         ensures gathered { IfOk result (λ maps. AreHere S.seat self.room.seats seats.items × IsGathered MapAnswers S.seat self.room seats.items maps.items) }
         ensures back { IfErr result (λ back. IsMissing S.seat self.room.seats seats.items × (back.0 ≡ self) × (back.1.items ≡ seats.items)) }
     {
-        let SharedMap { gate, hash, slots } = self;
+        let SharedMap {
+            gate,
+            hash,
+            slots,
+            shards,
+        } = self;
         match gate.finish(seats) {
             Ok(maps) => Ok(maps),
-            Err((gate, seats)) => Err((SharedMap { gate, hash, slots }, seats)),
+            Err((gate, seats)) => Err((
+                SharedMap {
+                    gate,
+                    hash,
+                    slots,
+                    shards,
+                },
+                seats,
+            )),
         }
     }
 }

@@ -1,6 +1,6 @@
 //! The map in shards behind its gate, which threads share.
 
-ghost use Rattle.std.specs.Prelude.{◌≡◌, ◌<◌, ◌*◌, ◌∷◌, [], IfErr, IfOk, OnOk};
+ghost use Rattle.std.specs.Prelude.{◌≡◌, ◌<◌, ◌*◌, ◌∷◌, [], length, IfErr, IfOk, OnOk};
 ghost use Rattle.ctrie_map.specs.Maps.{AreSlots};
 ghost use Rattle.shared_map.specs.Opening.{AreNewMaps, IsNewShared, RefusesMaps, RefusesNew, Shares};
 ghost use Rattle.shared_map.specs.Seats.{AreSeatsOf};
@@ -23,10 +23,11 @@ pub struct SharedMap {
     pub(crate) gate: ShardedGate<Map, Request, Told>,
     pub(crate) hash: HashKind,
     pub(crate) slots: u64,
+    pub(crate) shards: usize,
 }
 
 impl Model for SharedMap {
-    ghost use Rattle.std.specs.Prelude.{◌≡◌};
+    ghost use Rattle.std.specs.Prelude.{◌≡◌, length};
     ghost use Rattle.shared_map.specs.Seats.{MapRoom};
     ghost use Rattle.shared_map.specs.Shards.{AreShards, slots_of_all};
 
@@ -34,7 +35,7 @@ impl Model for SharedMap {
 
     ghost view = { λ m. record { hash = m.hash; room = m.gate } };
 
-    ghost invariant = { λ m. AreShards m.hash m.gate.first × (m.slots ≡ slots_of_all m.gate.first) };
+    ghost invariant = { λ m. AreShards m.hash m.gate.first × (m.slots ≡ slots_of_all m.gate.first) × (m.shards ≡ length m.gate.first) };
 }
 
 impl SharedMap {
@@ -63,6 +64,7 @@ impl SharedMap {
                     gate,
                     hash,
                     slots: slots_in_all(slots, shards),
+                    shards: usize::from(shards),
                 };
                 Ok((made, seats))
             }
@@ -81,7 +83,15 @@ impl SharedMap {
         let slots = u64::from(map.slots());
         let shards = alone(alloc, map)?;
         match ShardedGate::new(alloc, shards, seats) {
-            Ok((gate, seats)) => Ok((SharedMap { gate, hash, slots }, seats)),
+            Ok((gate, seats)) => {
+                let made = SharedMap {
+                    gate,
+                    hash,
+                    slots,
+                    shards: 1,
+                };
+                Ok((made, seats))
+            }
             Err(mut shards) => match shards.pop() {
                 Some(map) => Err(map),
                 None => unreachable!(),
@@ -94,6 +104,13 @@ impl SharedMap {
         ensures { result ≡ slots_of_all self.now.room.first }
     {
         self.slots
+    }
+
+    /// How many shards there are, from 1 to 64.
+    pub fn shards(&self) -> usize
+        ensures { result ≡ length self.now.room.first }
+    {
+        self.shards
     }
 }
 

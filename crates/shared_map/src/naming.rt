@@ -3,7 +3,7 @@
 //! A name stands for one shared map, so the type of a named seat says whose seat it is: it may lie in any container, go
 //! through any channel, and be called without a premise.
 
-ghost use Rattle.std.specs.Prelude.{◌≡◌, IfErr, IfOk};
+ghost use Rattle.std.specs.Prelude.{◌≡◌, length, IfErr, IfOk};
 ghost use Rattle.gate.specs.Finishing.{AreHere, IsGathered, IsMissing};
 ghost use Rattle.shared_map.specs.Answering.{MapAnswers};
 ghost use Rattle.shared_map.specs.Calling.{HasAsked, HasHeardOf};
@@ -30,10 +30,11 @@ pub struct NamedMap<N: Name> {
     gate: NamedShardedGate<N, Map, Request, Told>,
     hash: HashKind,
     slots: u64,
+    shards: usize,
 }
 
 impl<N: Name> Model for NamedMap<N> {
-    ghost use Rattle.std.specs.Prelude.{◌≡◌};
+    ghost use Rattle.std.specs.Prelude.{◌≡◌, length};
     ghost use Rattle.shared_map.specs.Seats.{MapRoom};
     ghost use Rattle.shared_map.specs.Shards.{AreShards, slots_of_all};
 
@@ -41,7 +42,7 @@ impl<N: Name> Model for NamedMap<N> {
 
     ghost view = { λ m. record { hash = m.hash; room = m.gate } };
 
-    ghost invariant = { λ m. AreShards m.hash m.gate.first × (m.slots ≡ slots_of_all m.gate.first) };
+    ghost invariant = { λ m. AreShards m.hash m.gate.first × (m.slots ≡ slots_of_all m.gate.first) × (m.shards ≡ length m.gate.first) };
 }
 
 impl SharedMap {
@@ -56,10 +57,31 @@ impl SharedMap {
         ensures same { IfOk result (λ named. (named.0 ≡ self) × (named.1.items ≡ seats.items)) }
         ensures back { IfErr result (λ back. (back.0 ≡ self) × (back.1.items ≡ seats.items)) }
     {
-        let SharedMap { gate, hash, slots } = self;
+        let SharedMap {
+            gate,
+            hash,
+            slots,
+            shards,
+        } = self;
         match gate.named::<N>(alloc, seats) {
-            Ok((gate, seats)) => Ok((NamedMap { gate, hash, slots }, seats)),
-            Err((gate, seats)) => Err((SharedMap { gate, hash, slots }, seats)),
+            Ok((gate, seats)) => Ok((
+                NamedMap {
+                    gate,
+                    hash,
+                    slots,
+                    shards,
+                },
+                seats,
+            )),
+            Err((gate, seats)) => Err((
+                SharedMap {
+                    gate,
+                    hash,
+                    slots,
+                    shards,
+                },
+                seats,
+            )),
         }
     }
 }
@@ -70,6 +92,13 @@ impl<N: Name> NamedMap<N> {
         ensures { result ≡ slots_of_all self.now.room.first }
     {
         self.slots
+    }
+
+    /// As `SharedMap::shards`.
+    pub fn shards(&self) -> usize
+        ensures { result ≡ length self.now.room.first }
+    {
+        self.shards
     }
 
     /// As `SharedMap::ask`.
@@ -99,10 +128,23 @@ impl<N: Name> NamedMap<N> {
             AreHere (λ s. s.seat) self.room.seats seats.items × IsGathered MapAnswers (λ s. s.seat) self.room seats.items maps.items) }
         ensures back { IfErr result (λ back. IsMissing (λ s. s.seat) self.room.seats seats.items × (back.0 ≡ self) × (back.1.items ≡ seats.items)) }
     {
-        let NamedMap { gate, hash, slots } = self;
+        let NamedMap {
+            gate,
+            hash,
+            slots,
+            shards,
+        } = self;
         match gate.finish(seats) {
             Ok(maps) => Ok(maps),
-            Err((gate, seats)) => Err((NamedMap { gate, hash, slots }, seats)),
+            Err((gate, seats)) => Err((
+                NamedMap {
+                    gate,
+                    hash,
+                    slots,
+                    shards,
+                },
+                seats,
+            )),
         }
     }
 }

@@ -1,4 +1,4 @@
-use Rattle.std.proofs.Common.{◌≤◌, ◌∙◌, sym, ap, subst, arith}
+use Rattle.std.proofs.Common.{◌≤◌, ◌∙◌, length, sym, ap, subst, arith}
 use Rattle.shared_map.specs.Shards.{AreShards, slots_of_all}
 use Rattle.shared_map.proofs.New.{new_are}
 use Rattle.shared_map.proofs.Slots.{new_slots}
@@ -10,4 +10,5 @@ invariant_of-made c =
     let few : c.args.shards ≤ 64 = grind (arith, c.if-shards-gt64.false) in (
       subst (AreShards c.args.hash) (sym c.in-Ok.ensures.made.made_is.first) (new_are c.args.slots c.args.hash c.args.shards c.in_ok-maps.maps.items some few c.in_ok-maps.ensures.made),
       c.slots_in_all.ensures ∙ sym (ap slots_of_all c.in-Ok.ensures.made.made_is.first ∙ new_slots c.args.slots c.args.shards c.args.hash c.in_ok-maps.maps.items c.in_ok-maps.ensures.made),
+      c.from.ensures ∙ sym (ap length c.in-Ok.ensures.made.made_is.first ∙ c.in_ok-maps.ensures.made.1),
     )
