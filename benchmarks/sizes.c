@@ -49,6 +49,21 @@ static double time_parts(struct ctrie *map, uint64_t keys) {
     return (now() - start) / PARTS;
 }
 
+/* The time of a part of 64 pairs in the map's own order, where parts of it list the whole map. */
+static double time_scan(struct ctrie *map, uint64_t keys) {
+    struct ctrie_pair pairs[64];
+    struct ctrie_cursor cursor = CTRIE_START;
+    uint64_t many = 0, all = 0, parts = 0;
+    double start = now();
+    do {
+        need(ctrie_scan(map, 0, &cursor, pairs, 64, &many) == CTRIE_DONE, "scan");
+        all += many;
+        parts++;
+    } while (many == 64);
+    need(all == keys, "each key is listed once");
+    return (now() - start) / (double)parts;
+}
+
 static double time_count(struct ctrie *map, uint64_t keys) {
     uint64_t count = 0;
     double start = now();
@@ -83,8 +98,8 @@ int main(int words, char **word) {
     in_use = slots - left;
     printf("%u slots, %llu keys: %.0f kB when it was new, %.0f kB full: %.0f bytes a slot, %.0f bytes a key, %.2f slots a key\n", slots,
            (unsigned long long)keys, empty / 1000, full / 1000, full / slots, full / (double)keys, (double)in_use / (double)keys);
-    printf("inserts: %.0f a second; a count: %.2f ms; a part of 64: %.2f ms", (double)keys / took, 1e3 * time_count(&map, keys),
-           1e3 * time_parts(&map, keys));
+    printf("inserts: %.0f a second; a count: %.2f ms; a part of 64: %.2f ms, in the map's own order %.2f us", (double)keys / took,
+           1e3 * time_count(&map, keys), 1e3 * time_parts(&map, keys), 1e6 * time_scan(&map, keys));
     printf("; the differences of two copies, %d keys: %.1f us\n", CHANGED, 1e6 * time_diff(&map, keys));
     ctrie_free(&map);
     return 0;

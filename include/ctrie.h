@@ -14,7 +14,7 @@
  *
  * A map's memory is what ctrie_new took, until ctrie_free: some 346 bytes a slot and 26 kB, however long it lives.
  * Of these 78 bytes a slot are written at once, and 264 for as many slots as there were branches at the same time.
- * Beside it ctrie_entries, ctrie_diff and ctrie_put_all take memory for a list, and give it back at their end.
+ * Beside it ctrie_entries, ctrie_scan, ctrie_diff and ctrie_put_all take memory for a list, and give it back at their end.
  *
  * Each call answers a code: CTRIE_DONE, CTRIE_NO or CTRIE_YES where it was done, else why it was refused. A call that
  * is refused changes no map. What a call has to tell beside its code it writes where the last pointer says, and only
@@ -73,7 +73,7 @@ enum ctrie_code {
                                put_all */
     CTRIE_BAD_SIZES = 7,    /* the number of slots isn't from 2 to 1,048,576 */
     CTRIE_WORN_OUT = 8,     /* less work is left than a call may take, of 2^45 - 2^21 steps; the map can be read */
-    CTRIE_MEMORY = 9,       /* malloc refused; only of ctrie_new, ctrie_entries, ctrie_diff and ctrie_put_all */
+    CTRIE_MEMORY = 9,       /* malloc refused; only of ctrie_new, ctrie_entries, ctrie_scan, ctrie_diff and ctrie_put_all */
     CTRIE_NO_MAP = 11,      /* no map is held */
     CTRIE_HAS_MAP = 12,     /* ctrie_new where a map is held already, which stays */
     CTRIE_BAD_HASH = 13     /* ctrie_new with another number than those of enum ctrie_hash */
@@ -190,6 +190,13 @@ uint32_t ctrie_count(struct ctrie *map, uint16_t handle, uint64_t *count);
 CTRIE_MUST_USE
 uint32_t ctrie_entries(struct ctrie *map, uint16_t handle, struct ctrie_cursor *cursor, struct ctrie_pair *pairs,
                        size_t room, uint64_t *count);
+
+/* The same in the map's own order, that of the keys' hashes: each call takes a way down and what it writes, and not a walk
+   over all pairs, so a large map is listed by this one. Keys that come in or go in between don't move the others: one that
+   stays is listed once. NO_HANDLE, MEMORY. */
+CTRIE_MUST_USE
+uint32_t ctrie_scan(struct ctrie *map, uint16_t handle, struct ctrie_cursor *cursor, struct ctrie_pair *pairs, size_t room,
+                    uint64_t *count);
 
 /* DONE with how many keys have different values in two handles' maps, and the first of these in ascending order, as
    many as there is room for. Without room, where NULL may stand for their place, it only counts. What both maps share

@@ -56,14 +56,25 @@ uint32_t ctrie_shared_try_get(struct ctrie_seat *seat, uint16_t handle, uint64_t
 CTRIE_MUST_USE
 uint32_t ctrie_shared_try_contains(struct ctrie_seat *seat, uint16_t handle, uint64_t key);
 CTRIE_MUST_USE
+uint32_t ctrie_shared_try_is_open(struct ctrie_seat *seat, uint16_t handle);
+CTRIE_MUST_USE
+uint32_t ctrie_shared_try_is_writable(struct ctrie_seat *seat, uint16_t handle);
+CTRIE_MUST_USE
+uint32_t ctrie_shared_try_first(struct ctrie_seat *seat, uint16_t handle, struct ctrie_pair *pair);
+CTRIE_MUST_USE
 uint32_t ctrie_shared_try_count(struct ctrie_seat *seat, uint16_t handle, uint64_t *count);
 CTRIE_MUST_USE
 uint32_t ctrie_shared_try_entries(struct ctrie_seat *seat, uint16_t handle, struct ctrie_pair *pairs, size_t room,
                                   uint64_t *count);
 CTRIE_MUST_USE
+uint32_t ctrie_shared_try_scan(struct ctrie_seat *seat, uint16_t handle, uint64_t shard, struct ctrie_cursor *cursor,
+                               struct ctrie_pair *pairs, size_t room, uint64_t *count);
+CTRIE_MUST_USE
 uint32_t ctrie_shared_try_handles(struct ctrie_seat *seat, uint64_t *handles);
 CTRIE_MUST_USE
 uint32_t ctrie_shared_try_free_slots(struct ctrie_seat *seat, uint64_t *free);
+CTRIE_MUST_USE
+uint32_t ctrie_shared_try_has_room(struct ctrie_seat *seat);
 CTRIE_MUST_USE
 uint32_t ctrie_shared_try_hear(struct ctrie_seat *seat, const struct ctrie_count *count);
 CTRIE_MUST_USE
@@ -88,6 +99,8 @@ uint32_t ctrie_shared_try_snapshot(struct ctrie_seat *seat, uint16_t handle, uin
 CTRIE_MUST_USE
 uint32_t ctrie_shared_try_freeze(struct ctrie_seat *seat, uint16_t handle, uint16_t *copy);
 CTRIE_MUST_USE
+uint32_t ctrie_shared_try_restore(struct ctrie_seat *seat, uint16_t handle, uint16_t copy);
+CTRIE_MUST_USE
 uint32_t ctrie_shared_try_close(struct ctrie_seat *seat, uint16_t handle);
 
 /* ---- a shared map and its seats: these don't wait */
@@ -111,6 +124,10 @@ void ctrie_shared_free(struct ctrie_seat *seat);
    it was about, and the call's number there. NO_MAP. */
 CTRIE_MUST_USE
 uint32_t ctrie_shared_last(struct ctrie_seat *seat, struct ctrie_count *last);
+
+/* DONE with how many shards the map lies in. NO_MAP. */
+CTRIE_MUST_USE
+uint32_t ctrie_shared_shards(struct ctrie_seat *seat, uint64_t *shards);
 
 /* Makes a shared map in so many shards, each with so many slots, and gives each of these structs, which hold none, a
    seat at it. DONE, BAD_SIZES, MEMORY, BAD_HASH, HAS_MAP; NO_SEATS where there are none or more than 255. Where it isn't
@@ -141,7 +158,9 @@ static inline const char *ctrie_shared_error(uint32_t code) {
     }
 }
 
-/* ---- the calls that wait: as those of ctrie.h, with the same codes; NO_MAP where no seat is held */
+/* ---- the calls that wait: as those of ctrie.h, with the same codes; NO_MAP where no seat is held. In several shards a
+   clear, snapshot, freeze or restore is FULL already where one of them has fewer than 23 free slots, and these and a
+   close are WORN_OUT where one of them is */
 
 /* How a seat waits between two tries: first by pauses, since a shard is soon given back, then by leaving the processor
    to others, who may have it. */
@@ -183,6 +202,27 @@ static inline uint32_t ctrie_shared_contains(struct ctrie_seat *seat, uint16_t h
     CTRIE_SHARED_WAIT(ctrie_shared_try_contains(seat, handle, key));
 }
 
+/* YES where the handle is open, else NO. It takes all shards, each for a time that doesn't grow with the map. */
+CTRIE_MUST_USE
+static inline uint32_t ctrie_shared_is_open(struct ctrie_seat *seat, uint16_t handle) {
+    CTRIE_SHARED_WAIT(ctrie_shared_try_is_open(seat, handle));
+}
+
+/* YES where the handle's map may be changed by it, NO where it is read-only. It takes all shards, as
+   ctrie_shared_is_open does. NO_HANDLE. */
+CTRIE_MUST_USE
+static inline uint32_t ctrie_shared_is_writable(struct ctrie_seat *seat, uint16_t handle) {
+    CTRIE_SHARED_WAIT(ctrie_shared_try_is_writable(seat, handle));
+}
+
+/* YES with a key and its value, whichever is found first, or NO where no key has a value. Others wait while it looks at
+   the shards up to the first that has a key, and goes one way down there, in no memory. NO_HANDLE. A list of work is
+   this and a remove_if, again where that tells NO. */
+CTRIE_MUST_USE
+static inline uint32_t ctrie_shared_first(struct ctrie_seat *seat, uint16_t handle, struct ctrie_pair *pair) {
+    CTRIE_SHARED_WAIT(ctrie_shared_try_first(seat, handle, pair));
+}
+
 /* DONE with how many keys have a value. Others wait while it walks over them, in no memory. NO_HANDLE. */
 CTRIE_MUST_USE
 static inline uint32_t ctrie_shared_count(struct ctrie_seat *seat, uint16_t handle, uint64_t *count) {
@@ -198,6 +238,25 @@ static inline uint32_t ctrie_shared_entries(struct ctrie_seat *seat, uint16_t ha
     CTRIE_SHARED_WAIT(ctrie_shared_try_entries(seat, handle, pairs, room, count));
 }
 
+/* Writes the next pairs of those that lie in one shard, as ctrie_scan does: those after the cursor, as many as there is
+   room for. DONE with how many; fewer than there is room for where none are left in the shard. Only this shard is held, for
+   what is written and a way down: so a large map is listed shard by shard while other threads go on, and a frozen copy is
+   of one moment all the same. Shards are counted from 0, and a number beyond the last counts round again. NO_HANDLE, MEMORY.
+
+       for (uint64_t shard = 0; shard < shards; shard++) {
+           struct ctrie_cursor cursor = CTRIE_START;
+           do {
+               if (ctrie_shared_scan(&seat, copy, shard, &cursor, pairs, 64, &count) != CTRIE_DONE) return 1;
+               for (uint64_t i = 0; i < count; i++) use(pairs[i].key, pairs[i].value);
+           } while (count == 64);
+       } */
+CTRIE_MUST_USE
+static inline uint32_t ctrie_shared_scan(struct ctrie_seat *seat, uint16_t handle, uint64_t shard,
+                                         struct ctrie_cursor *cursor, struct ctrie_pair *pairs, size_t room,
+                                         uint64_t *count) {
+    CTRIE_SHARED_WAIT(ctrie_shared_try_scan(seat, handle, shard, cursor, pairs, room, count));
+}
+
 /* DONE with how many handles are open. */
 CTRIE_MUST_USE
 static inline uint32_t ctrie_shared_handles(struct ctrie_seat *seat, uint64_t *handles) {
@@ -208,6 +267,13 @@ static inline uint32_t ctrie_shared_handles(struct ctrie_seat *seat, uint64_t *h
 CTRIE_MUST_USE
 static inline uint32_t ctrie_shared_free_slots(struct ctrie_seat *seat, uint64_t *free) {
     CTRIE_SHARED_WAIT(ctrie_shared_try_free_slots(seat, free));
+}
+
+/* YES where each shard has CTRIE_SLOTS_FOR_A_CALL free slots, enough for any call, else NO. It takes all shards, as
+   ctrie_shared_is_open does. Calls of others may have taken the slots before the seat's next one. */
+CTRIE_MUST_USE
+static inline uint32_t ctrie_shared_has_room(struct ctrie_seat *seat) {
+    CTRIE_SHARED_WAIT(ctrie_shared_try_has_room(seat));
 }
 
 /* YES where so many calls about the shard have been made, else NO. Who was told the number of another seat's call, by
@@ -277,6 +343,13 @@ static inline uint32_t ctrie_shared_snapshot(struct ctrie_seat *seat, uint16_t h
 CTRIE_MUST_USE
 static inline uint32_t ctrie_shared_freeze(struct ctrie_seat *seat, uint16_t handle, uint16_t *copy) {
     CTRIE_SHARED_WAIT(ctrie_shared_try_freeze(seat, handle, copy));
+}
+
+/* As ctrie_restore, in all shards or in none. Others wait for at most 151 steps of work a shard, and five for each slot
+   that becomes free. NO_HANDLE, READ_ONLY, HANDLES_FULL, FULL, WORN_OUT. */
+CTRIE_MUST_USE
+static inline uint32_t ctrie_shared_restore(struct ctrie_seat *seat, uint16_t handle, uint16_t copy) {
+    CTRIE_SHARED_WAIT(ctrie_shared_try_restore(seat, handle, copy));
 }
 
 /* As ctrie_close: NO_HANDLE, WORN_OUT. */

@@ -124,6 +124,7 @@ _CALLS: Dict[str, Tuple[Any, ...]] = {
     "first": (c_uint16, POINTER(_Pair)),
     "count": (c_uint16, POINTER(c_uint64)),
     "entries": (c_uint16, POINTER(_Cursor), POINTER(_Pair), c_size_t, POINTER(c_uint64)),
+    "scan": (c_uint16, POINTER(_Cursor), POINTER(_Pair), c_size_t, POINTER(c_uint64)),
     "diff": (c_uint16, c_uint16, POINTER(_Difference), c_size_t, POINTER(c_uint64)),
     "open_handles": (POINTER(c_uint16), c_size_t, POINTER(c_uint32)),
     "slots": (POINTER(c_uint32),),
@@ -277,10 +278,10 @@ class _Handle(MutableMapping[int, int]):
         value = c_uint64()
         return value.value if self._call(name, *map(_number, words), byref(value)) else None
 
-    def _pairs(self) -> Iterator[Tuple[int, int]]:
+    def _pairs(self, name: str = "entries") -> Iterator[Tuple[int, int]]:
         cursor, pairs, count = _Cursor(0, False), (_Pair * _ROOM)(), c_uint64(_ROOM)
         while count.value == _ROOM:
-            self._call("entries", byref(cursor), pairs, _ROOM, byref(count))
+            self._call(name, byref(cursor), pairs, _ROOM, byref(count))
             yield from [(pair.key, pair.value) for pair in pairs[: count.value]]
 
     def _copied(self, name: str) -> Copy:
@@ -322,6 +323,11 @@ class _Handle(MutableMapping[int, int]):
     def items(self) -> ItemsView[int, int]:
         """Returns a view of the keys with their values; it is gone through as the keys are."""
         return _Items(self)
+
+    def scan(self) -> Iterator[Tuple[int, int]]:
+        """Goes through the keys with their values in the map's own order, that of their hashes: a large map is listed sooner by it,
+        since in ascending order each 4,096 keys take a walk over all. It goes on as the keys do where the map changes."""
+        return self._pairs("scan")
 
     def values(self) -> ValuesView[int]:
         """Returns a view of the values in ascending order of their keys."""

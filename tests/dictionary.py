@@ -225,6 +225,7 @@ class Lives(unittest.TestCase):
             keys = random.Random(2).sample(range(10**9), 10_000)
             one.update((key, at) for at, key in enumerate(keys))
             self.assertEqual(list(one), sorted(keys))
+            self.assertEqual(sorted(one.scan()), sorted((key, at) for at, key in enumerate(keys)))
             # It goes on after the key that it came to, whatever has changed.
             listed = iter(one)
             first = [next(listed) for _ in range(5)]

@@ -133,11 +133,16 @@ static void call_once(struct worker *me) {
     told(ctrie_shared_last(me->seat, &me->notes[me->noted++].at));
 }
 
-/* A frozen copy, of the thread's own keys as they are, and closed again. */
+/* A frozen copy, open and read-only, of the thread's own keys as they are, whose first pair is one of its pairs; it is closed
+   again. */
 static void copy(struct worker *me) {
     uint64_t own, value;
     uint16_t frozen;
+    struct ctrie_pair first;
     told(ctrie_shared_freeze(me->seat, 0, &frozen));
+    if (!told(ctrie_shared_is_open(me->seat, frozen)) || told(ctrie_shared_is_writable(me->seat, frozen))) fail("a copy isn't frozen");
+    if (told(ctrie_shared_first(me->seat, frozen, &first)) &&
+        (!told(ctrie_shared_get(me->seat, frozen, first.key, &value)) || value != first.value)) fail("a copy's first pair isn't there");
     for (own = 0; own < OWN; own++) {
         bool yes = told(ctrie_shared_get(me->seat, frozen, SHARED + me->number * OWN + own, &value));
         if (yes != (me->own[own] != 0) || (yes && value != me->own[own])) fail("a copy has another value");

@@ -21,12 +21,24 @@ static void lists(uint16_t handle, size_t room) {
     } while (room != 0 && count == room);
 }
 
+/* In the map's own order: key 33 comes behind key 1, with which it shares the lowest five bits, and before key 2. */
+static void scans(uint16_t handle, size_t room) {
+    struct ctrie_cursor cursor = CTRIE_START;
+    struct ctrie_pair pairs[4] = {{0, 0}, {0, 0}, {0, 0}, {0, 0}};
+    uint64_t count = 0;
+    do {
+        TELL("scan", ctrie_scan(&map, handle, &cursor, pairs, room, &count), count);
+        for (uint64_t i = 0; i < count; i++) printf("  %llu: %llu\n", (unsigned long long)pairs[i].key, (unsigned long long)pairs[i].value);
+    } while (count == room);
+}
+
 /* Nothing that is pointed to changes where no map is held. */
 static void lists_no_map(void) {
     struct ctrie_cursor cursor = {5, true};
     struct ctrie_pair pair = {6, 7};
     uint64_t count = 99;
     TELL("entries of no map", ctrie_entries(&map, 0, &cursor, &pair, 1, &count), count);
+    TELL("scan of no map", ctrie_scan(&map, 0, &cursor, &pair, 1, &count), count);
     printf("  %llu %d\n", (unsigned long long)cursor.last, cursor.begun);
     printf("  %llu: %llu\n", (unsigned long long)pair.key, (unsigned long long)pair.value);
 }
@@ -138,6 +150,9 @@ int main(void) {
     TELL("restore", ctrie_restore(&map, 0, frozen), 0);
     TELL("restore of a frozen one", ctrie_restore(&map, frozen, 0), 0);
     TELL("count", ctrie_count(&map, 0, &value), value);
+    TELL("put", ctrie_put(&map, 0, 33, 330, NULL), 0);
+    scans(0, 3);
+    TELL("remove", ctrie_remove(&map, 0, 33, &value), value);
     TELL("is open", ctrie_is_open(&map, frozen), 0);
     TELL("is open", ctrie_is_open(&map, 9), 0);
     sets_several(frozen);

@@ -15,7 +15,10 @@ enum { WORKERS = 4, ROUNDS = 10000, COUNTERS = 10, EXPORTS = 100 };
 
 /* The keys: the counters have 0 to 9; the worker w registers the round that it begins at 100 + w, and then at 200 + w the
    one that it has done. */
-enum { BEGUN = 100, DONE = 200 };
+enum { BEGUN = 100, DONE = 200, KEYS = COUNTERS + 2 * WORKERS };
+
+/* So many keys of a copy are read at once. */
+enum { PART = 4 };
 
 struct worker {
     pthread_t thread;
@@ -59,15 +62,29 @@ static uint64_t value_in(const struct ctrie_pair *pairs, uint64_t many, uint64_t
     return 0;
 }
 
+/* Reads a copy shard by shard, in parts of a few keys: a worker waits for one of these at most. */
+static uint64_t read_copy(struct ctrie_seat *seat, uint16_t copy, struct ctrie_pair *pairs) {
+    uint64_t shards, shard, many = 0, count;
+    check(ctrie_shared_shards(seat, &shards), "shards");
+    for (shard = 0; shard < shards; shard++) {
+        struct ctrie_cursor cursor = CTRIE_START;
+        do {
+            check(ctrie_shared_scan(seat, copy, shard, &cursor, pairs + many, PART, &count), "scan");
+            many += count;
+        } while (count == PART);
+    }
+    return many;
+}
+
 /* Exports the registry: whether all that it shows was so at one moment, that is, whether no worker has done a round that
    it hasn't begun, and whether as many rounds were counted as were done, up to one more a worker. */
 static int export_is_right(struct ctrie_seat *seat) {
-    struct ctrie_pair pairs[64];
+    struct ctrie_pair pairs[KEYS + PART];
     uint64_t many, i, begun = 0, done = 0, counted = 0;
     uint16_t copy;
     int right = 1;
     check(ctrie_shared_freeze(seat, 0, &copy), "freeze");
-    check(ctrie_shared_entries(seat, copy, pairs, 64, &many), "entries");
+    many = read_copy(seat, copy, pairs);
     check(ctrie_shared_close(seat, copy), "close");
     for (i = 0; i < WORKERS; i++) {
         begun += value_in(pairs, many, BEGUN + i);

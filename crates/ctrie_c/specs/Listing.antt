@@ -2,6 +2,7 @@
 use Rattle.std.specs.Prelude.{◌≡◌, ℕ, true, List, [], ◌∷◌, length, map, Option, Some, None, Result, Ok, IfOk, IfErr, if◌then◌else◌}
 use Rattle.std.specs.FinMap as finite
 use Rattle.shared_map.specs.Beneath.proof_core.specs.Reading.{next_of}
+use Rattle.shared_map.specs.Beneath.proof_core.specs.Scanning.{scanned}
 use Rattle.shared_map.specs.Beneath.ctrie_map.specs.declared.errors.MapError.{MapError}
 use Rattle.shared_map.specs.Beneath.ctrie_map.specs.Maps.{MapState}
 use Rattle.shared_map.specs.Beneath.ctrie_map.specs.Reading.{RefusesReading, reading}
@@ -37,9 +38,20 @@ Writes part cursor before count behind_it after = (count ≡ length part) × Fil
 abbrev pub reads_next : MapState → ℕ → Cursor → ℕ → Result (List (ℕ × ℕ)) MapError
 reads_next now handle cursor room = reading now handle (λ m. next_of (last_of cursor) room (finite.entries m))
 
--- the next part of a handle's map, by rising key
-abbrev pub Lists : Cursor → List Pair → Cursor → List Pair → ℕ → Result ℕ MapError → MapState → MapState → Type 0
-Lists cursor before behind_it after handle told old new =
+-- the same in the map's own order
+abbrev pub scans_next : MapState → ℕ → Cursor → ℕ → Result (List (ℕ × ℕ)) MapError
+scans_next now handle cursor room = reading now handle (λ m. scanned now.core.limits.hash (last_of cursor) room (finite.entries m))
+
+-- what comes next of a handle's map is written, and nothing has changed
+abbrev pub WritesNext : (MapState → ℕ → Cursor → ℕ → Result (List (ℕ × ℕ)) MapError) → Cursor → List Pair → Cursor → List Pair → ℕ → Result ℕ MapError → MapState → MapState → Type 0
+WritesNext next cursor before behind_it after handle told old new =
     (new ≡ old)
-    × IfOk told (λ count. (part : List (ℕ × ℕ)) × (reads_next old handle cursor (length before) ≡ Ok part) × Writes part cursor before count behind_it after)
-    × IfErr told (λ error. RefusesReading (reads_next old handle cursor (length before)) error × (behind_it ≡ cursor) × (after ≡ before))
+    × IfOk told (λ count. (part : List (ℕ × ℕ)) × (next old handle cursor (length before) ≡ Ok part) × Writes part cursor before count behind_it after)
+    × IfErr told (λ error. RefusesReading (next old handle cursor (length before)) error × (behind_it ≡ cursor) × (after ≡ before))
+
+-- the next part by rising key, and in the map's own order
+abbrev pub Lists : Cursor → List Pair → Cursor → List Pair → ℕ → Result ℕ MapError → MapState → MapState → Type 0
+Lists = WritesNext reads_next
+
+abbrev pub Scans : Cursor → List Pair → Cursor → List Pair → ℕ → Result ℕ MapError → MapState → MapState → Type 0
+Scans = WritesNext scans_next

@@ -7,17 +7,19 @@ use Rattle.shared_map.specs.Beneath.ctrie_map.specs.Maps.{AreSlots}
 use Rattle.gate.specs.Logs.{saturated}
 use Rattle.history.specs.declared.calls.Call.TheVariants.{Entries}
 use Rattle.shared_map.specs.declared.asks.Ask.{Ask}
-use Rattle.shared_map.specs.declared.asks.Ask.TheVariants.{Do}
+use Rattle.shared_map.specs.declared.asks.Ask.TheVariants.{Do, Scan}
 use Rattle.shared_map.specs.Beneath.sharded_gate.specs.declared.gates.ShardCount.{ShardCount}
 use Rattle.shared_map.specs.Beneath.sharded_gate.specs.Shards.{calls_about}
 use Rattle.shared_map.specs.Asks.{Told, about}
 use Rattle.shared_map.specs.Calling.{HasAsked, HasHeardOf, Tells}
 use Rattle.shared_map.specs.Opening.{IsNewShared, RefusesNew}
 use Rattle.shared_map.specs.Seats.{MapRoom, MapSeat}
-use Rattle.shared_map.specs.Telling.{listed_in}
+use Rattle.shared_map.specs.Telling.{listed_in, part_in}
 use Rattle.ctrie_c.specs.Answers.{bad_hash, code_limit, done_told, has_map, no_map, told_by}
-use Rattle.ctrie_c.specs.Listing.{pair_of}
+use Rattle.ctrie_c.specs.Listing.{Writes, pair_of}
+use Rattle.ctrie_c.specs.Listing.{last_of as last_key_of}
 use Rattle.ctrie_c.specs.declared.counts.Count.{Count}
+use Rattle.ctrie_c.specs.declared.listing.Cursor.{Cursor}
 use Rattle.ctrie_c.specs.declared.listing.Pair.{Pair}
 
 -- the map, a seat at it, and the seats that are to be handed out yet
@@ -91,6 +93,18 @@ abbrev pub ListsFront : List Pair → List Pair → ℕ → Result ℕ MapError 
 ListsFront before after handle result old new = (told : Told) × Asks (Do (Entries handle)) told old new
     × IfOk result (λ count. (all : List (ℕ × ℕ)) × (listed_in told ≡ Ok all) × (count ≡ length all) × IsFront all before after)
     × IfErr result (λ error. (listed_in told ≡ Err error) × (after ≡ before))
+
+-- the next part of what a handle has in a shard, in the map's own order, is written
+abbrev pub ScansShard : ℕ → Cursor → List Pair → Cursor → List Pair → ℕ → Result ℕ MapError → Sharing → Sharing → Type 0
+ScansShard shard cursor before behind_it after handle result old new = (told : Told) × Asks (Scan handle shard (last_key_of cursor) (length before)) told old new
+    × IfOk result (λ count. (part : List (ℕ × ℕ)) × (part_in told ≡ Ok part) × Writes (take (length before) part) cursor before count behind_it after)
+    × IfErr result (λ error. (part_in told ≡ Err error) × (behind_it ≡ cursor) × (after ≡ before))
+
+-- how many shards there are
+abbrev pub TellsShards : Option Sharing → Option Sharing → ℕ → Result ℕ MapError → Type 0
+TellsShards (Some old) (Some new) code result = (new ≡ old) × (result ≡ Ok (length old.map.room.first))
+TellsShards None None code result = code ≡ no_map
+TellsShards before after code result = ⊥
 
 -- ---- making
 

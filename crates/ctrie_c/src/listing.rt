@@ -39,7 +39,7 @@ impl Cursor {
     }
 
     /// The last key that was listed, if one was.
-    fn last_key(self) -> Option<u64>
+    pub(crate) fn last_key(self) -> Option<u64>
         ensures { result ≡ last_of self }
     {
         if self.begun { Some(self.last) } else { None }

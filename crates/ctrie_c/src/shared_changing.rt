@@ -2,8 +2,8 @@
 
 ghost use Rattle.std.specs.Prelude.{◌≡◌, nat_eq, false};
 ghost use Rattle.history.specs.declared.calls.Call.TheVariants as call;
-ghost use Rattle.shared_map.specs.Telling.{done_in, found_in, opened_in, truth_in};
-ghost use Rattle.shared_map.specs.declared.asks.Ask.TheVariants.{Do};
+ghost use Rattle.shared_map.specs.Telling.{done_in, found_in, opened_in, restored_in, truth_in};
+ghost use Rattle.shared_map.specs.declared.asks.Ask.TheVariants.{Do, Restore};
 ghost use Rattle.ctrie_c.specs.Answers.{done_told, number_told, truth_told, value_told};
 ghost use Rattle.ctrie_c.specs.Sharing.{Says, Tries};
 
@@ -12,7 +12,7 @@ use crate::held_seats::HeldSeat;
 use crate::trying::try_ask;
 use history::Call;
 use shared_map::Ask;
-use shared_map::telling::{done, found, opened, truth};
+use shared_map::telling::{done, found, opened, restored, truth};
 use std::alloc::Global;
 
 /// Sets the key's value, and tells the value before, if it had one.
@@ -180,6 +180,22 @@ pub extern "C" fn ctrie_shared_try_freeze(
     match try_ask(alloc, held, Ask::Do(Call::Freeze { handle })) {
         Err(code) => code,
         Ok(told) => tell_handle(opened(told), copy),
+    }
+}
+
+/// Gives the handle the map of the copy, which stays.
+#[unsafe(no_mangle)]
+pub extern "C" fn ctrie_shared_try_restore(
+    alloc: Global,
+    held: &mut HeldSeat,
+    handle: u16,
+    copy: u16,
+) -> u32
+    ensures does { Tries held.old.state held.new.state result (Says restored_in (Restore handle copy) (done_told result)) }
+{
+    match try_ask(alloc, held, Ask::Restore { handle, copy }) {
+        Err(code) => code,
+        Ok(told) => tell_done(restored(told)),
     }
 }
 

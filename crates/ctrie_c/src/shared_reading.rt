@@ -2,19 +2,20 @@
 
 ghost use Rattle.std.specs.Prelude.{◌≡◌, nat_eq, false, length, Ok};
 ghost use Rattle.history.specs.declared.calls.Call.TheVariants as call;
-ghost use Rattle.shared_map.specs.Telling.{contained_in, counted_in, found_in, number_in};
-ghost use Rattle.shared_map.specs.declared.asks.Ask.TheVariants.{Do, Free, Handles};
+ghost use Rattle.shared_map.specs.Telling.{contained_in, counted_in, first_in, found_in, has_room_in, number_in, open_in, writable_in};
+ghost use Rattle.shared_map.specs.declared.asks.Ask.TheVariants.{Do, First, Free, Handles, HasRoom, IsWritable};
 ghost use Rattle.ctrie_c.specs.Answers.{number_told, truth_told, value_told};
+ghost use Rattle.ctrie_c.specs.Listing.{pair_told};
 ghost use Rattle.ctrie_c.specs.Sharing.{HearsSo, IsFront, ListsFront, Says, TellsLast, Tries, count_of, count_told};
 
-use crate::codes::{NO, NO_MAP, refusal, tell_count, tell_truth, tell_value};
+use crate::codes::{NO, NO_MAP, refusal, tell_count, tell_pair, tell_truth, tell_value};
 use crate::counts::Count;
 use crate::held_seats::{HeldSeat, give_seat, take_seat};
 use crate::listing::{Cursor, Pair, write};
 use crate::sharing::BUSY;
 use crate::trying::try_ask;
 use history::Call;
-use shared_map::telling::{contained, counted, found, listed, number};
+use shared_map::telling::{contained, counted, first, found, has_room, listed, number, writable};
 use shared_map::{Ask, ShardCount};
 use std::alloc::Global;
 
@@ -49,6 +50,49 @@ pub extern "C" fn ctrie_shared_try_contains(
     match try_ask(alloc, held, Ask::Do(Call::Get { handle, key })) {
         Err(code) => code,
         Ok(told) => tell_truth(contained(told)),
+    }
+}
+
+/// Tells whether the handle is open.
+#[unsafe(no_mangle)]
+pub extern "C" fn ctrie_shared_try_is_open(alloc: Global, held: &mut HeldSeat, handle: u16) -> u32
+    ensures does { Tries held.old.state held.new.state result (Says (λ told. Ok (open_in told)) (IsWritable handle) (truth_told result)) }
+{
+    match try_ask(alloc, held, Ask::IsWritable { handle }) {
+        Err(code) => code,
+        Ok(told) => tell_truth(Ok(writable(told).is_ok())),
+    }
+}
+
+/// Tells whether the handle's map may be changed by it.
+#[unsafe(no_mangle)]
+pub extern "C" fn ctrie_shared_try_is_writable(
+    alloc: Global,
+    held: &mut HeldSeat,
+    handle: u16,
+) -> u32
+    ensures does { Tries held.old.state held.new.state result (Says writable_in (IsWritable handle) (truth_told result)) }
+{
+    match try_ask(alloc, held, Ask::IsWritable { handle }) {
+        Err(code) => code,
+        Ok(told) => tell_truth(writable(told)),
+    }
+}
+
+/// Tells a key with its value, whichever is found first, if there is one.
+#[unsafe(no_mangle)]
+pub extern "C" fn ctrie_shared_try_first(
+    alloc: Global,
+    held: &mut HeldSeat,
+    handle: u16,
+    pair: &mut Pair,
+) -> u32
+    ensures does { Tries held.old.state held.new.state result (Says first_in (First handle) (pair_told result pair.new)) }
+    ensures kept { nat_eq result 1 ≡ false → pair.new ≡ pair.old }
+{
+    match try_ask(alloc, held, Ask::First { handle }) {
+        Err(code) => code,
+        Ok(told) => tell_pair(first(told), pair),
     }
 }
 
@@ -98,6 +142,17 @@ pub extern "C" fn ctrie_shared_try_free_slots(
     match try_ask(alloc, held, Ask::Free) {
         Err(code) => code,
         Ok(told) => tell_count(Ok(number(told)), free),
+    }
+}
+
+/// Tells whether each shard has free slots enough for any call.
+#[unsafe(no_mangle)]
+pub extern "C" fn ctrie_shared_try_has_room(alloc: Global, held: &mut HeldSeat) -> u32
+    ensures does { Tries held.old.state held.new.state result (Says (λ told. Ok (has_room_in told)) HasRoom (truth_told result)) }
+{
+    match try_ask(alloc, held, Ask::HasRoom) {
+        Err(code) => code,
+        Ok(told) => tell_truth(Ok(has_room(told))),
     }
 }
 

@@ -1,0 +1,10 @@
+use Rattle.std.proofs.Common.{◌∙◌}
+use Rattle.shared_map.specs.Telling.{first_in}
+use Rattle.ctrie_c.proofs.Tries.{tried, untried}
+use Rattle.ctrie_c.proofs.shared_reading.ctrie_shared_try_first.Goals as goal
+
+pub returns-in-Err-clause-does : goal.returns-in-Err-clause-does
+returns-in-Err-clause-does c = untried _ _ _ _ c.in-Err.ensures.refused
+
+pub returns-in-Ok-clause-does : goal.returns-in-Ok-clause-does
+returns-in-Ok-clause-does c = tried first_in _ _ _ _ _ _ c.in-Ok.ensures.asked c.tell_pair.ensures.bound (c.tell_pair.ensures.told ∙ c.first.ensures)

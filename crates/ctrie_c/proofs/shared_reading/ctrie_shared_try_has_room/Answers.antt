@@ -1,0 +1,11 @@
+use Rattle.std.specs.Prelude.{Ok}
+use Rattle.std.proofs.Common.{ap, ◌∙◌}
+use Rattle.shared_map.specs.Telling.{has_room_in}
+use Rattle.ctrie_c.proofs.Tries.{tried, untried}
+use Rattle.ctrie_c.proofs.shared_reading.ctrie_shared_try_has_room.Goals as goal
+
+pub returns-in-Err : goal.returns-in-Err
+returns-in-Err c = record { does = untried _ _ _ _ c.in-Err.ensures.refused }
+
+pub returns-in-Ok : goal.returns-in-Ok
+returns-in-Ok c = record { does = tried (λ told. Ok (has_room_in told)) _ _ _ _ _ _ c.in-Ok.ensures.asked c.tell_truth.ensures.bound (c.tell_truth.ensures.told ∙ ap Ok c.has_room.ensures) }
