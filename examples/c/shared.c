@@ -62,7 +62,7 @@ static uint64_t value_in(const struct ctrie_pair *pairs, uint64_t many, uint64_t
     return 0;
 }
 
-/* Reads a copy shard by shard, in parts of a few keys: a worker waits for one of these at most. */
+/* Reads a copy shard by shard, in parts of a few keys: no shard is held for more than one of these. */
 static uint64_t read_copy(struct ctrie_seat *seat, uint16_t copy, struct ctrie_pair *pairs) {
     uint64_t shards, shard, many = 0, count;
     check(ctrie_shared_shards(seat, &shards), "shards");

@@ -19,7 +19,7 @@ const CHANGES: u64 = 400;
 
 const EXPORTS: u64 = 40;
 
-/// So many keys are read at once: others that want the same shard wait for these alone.
+/// So many keys are read at once: a shard is held for these alone.
 const PART: usize = 16;
 
 /// Where the confirmed numbers stand: that many keys above those that were announced.
