@@ -1,9 +1,7 @@
 //! Undo: before each change the sheet is frozen, and to undo is to restore it from that copy.
-#![tactic(auto)]
 
 use ctrie_map::{Handle, HashKind, Map, MapError};
 use std::alloc::Global;
-use std::process::ExitCode;
 
 /// So many handles may be open: a restore takes one more for the moment.
 const MOST_HANDLES: u32 = 255;
@@ -70,7 +68,8 @@ impl Sheet {
     }
 }
 
-fn run<R: Print + AllocGlobal>(rt: &R) -> Result<(), MapError> {
+/// A few changes, undone one by one.
+pub(crate) fn run<R: Print + AllocGlobal>(rt: &R) -> Result<(), MapError> {
     let mut sheet = Sheet::new(rt.alloc(), 64)?;
     sheet.tell(rt, "new")?;
     sheet.set(1, 10)?;
@@ -86,14 +85,4 @@ fn run<R: Print + AllocGlobal>(rt: &R) -> Result<(), MapError> {
         let _ = println!(rt; "nothing to undo");
     }
     Ok(())
-}
-
-fn main(rt: HostRuntime) -> ExitCode {
-    match run(&rt) {
-        Ok(()) => ExitCode::SUCCESS,
-        Err(error) => {
-            let _ = eprintln!(rt; "{error}");
-            ExitCode::FAILURE
-        }
-    }
 }

@@ -1,9 +1,7 @@
 //! An index that is exported while it goes on changing: the export is of one moment.
-#![tactic(auto)]
 
 use ctrie_map::{Handle, HashKind, Map, MapError};
 use std::alloc::Global;
-use std::process::ExitCode;
 
 /// The account into which all others pay.
 const TILL: u64 = 0;
@@ -64,7 +62,7 @@ fn sum(pairs: &[(u64, u64)]) -> u64 {
 }
 
 /// Freezes the index, and reads the copy while amounts are moved.
-fn run<R: Print + AllocGlobal>(rt: &R) -> Result<(), MapError> {
+pub(crate) fn run<R: Print + AllocGlobal>(rt: &R) -> Result<(), MapError> {
     let mut index = Index::new(rt.alloc())?;
     let copy = index.map.freeze(index.now)?;
     let mut exported: u64 = 0;
@@ -89,14 +87,4 @@ fn run<R: Print + AllocGlobal>(rt: &R) -> Result<(), MapError> {
         "of {slots} slots {with_copy} are free with the copy and {without} without"
     );
     Ok(())
-}
-
-fn main(rt: HostRuntime) -> ExitCode {
-    match run(&rt) {
-        Ok(()) => ExitCode::SUCCESS,
-        Err(error) => {
-            let _ = eprintln!(rt; "{error}");
-            ExitCode::FAILURE
-        }
-    }
 }

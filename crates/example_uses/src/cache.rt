@@ -1,9 +1,7 @@
 //! A cache of what is slow to work out. Its memory is bounded: when its slots are full it begins anew.
-#![tactic(auto)]
 
 use ctrie_map::{Handle, HashKind, Map, MapError};
 use std::alloc::Global;
-use std::process::ExitCode;
 
 /// A cache, with how often it knew the answer and how often it began anew.
 #[derive(Drop)]
@@ -84,13 +82,8 @@ fn ask<R: Print + AllocGlobal>(rt: &R, slots: u32) -> Result<(), MapError> {
     Ok(())
 }
 
-fn main(rt: HostRuntime) -> ExitCode {
-    let told = ask(&rt, 32).and_then(|_| ask(&rt, 128));
-    match told {
-        Ok(()) => ExitCode::SUCCESS,
-        Err(error) => {
-            let _ = eprintln!(rt; "{error}");
-            ExitCode::FAILURE
-        }
-    }
+/// A cache of few slots and one of many.
+pub(crate) fn run<R: Print + AllocGlobal>(rt: &R) -> Result<(), MapError> {
+    ask(rt, 32)?;
+    ask(rt, 128)
 }
