@@ -9,8 +9,8 @@
             print(morning[7], stock[7])
 
 It prints 250 300. A `Map` is a dictionary of whole numbers from 0 to 2^64 - 1, in a given number of slots for nodes, whose memory is what
-it took at first. A snapshot or a freeze of it is one too, in the same slots: it has what the map has at that moment, by as many steps
-whatever that is, and changes on its own or never. A map goes back to a copy by `restore`, `diff` tells what has changed since, and `put_all`
+it took at first. A snapshot or a freeze of it is one too, in the same slots: it has what the map has at that moment, by a bounded number of
+steps, and changes on its own or never. A map goes back to a copy by `restore`, `diff` tells what has changed since, and `put_all`
 sets several keys, all or none. Entries are listed in ascending order of keys.
 
 A key or value out of range is refused with OverflowError, one that is no whole number with TypeError. A call that is refused changes
@@ -379,7 +379,7 @@ class _Handle(MutableMapping[int, int]):
         self._call("put_all", (_Pair * max(len(entries), 1))(*entries), len(entries))
 
     def clear(self) -> None:
-        """Removes all keys, by as many steps whatever there is."""
+        """Removes all keys, by a bounded number of steps, however many there are."""
         self._call("clear")
 
     def diff(self, newer: _Handle) -> List[Difference]:
