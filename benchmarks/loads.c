@@ -1,11 +1,12 @@
-/* The loads of bench_program through C: loads LOAD OPERATIONS KEYS. LOAD is mix, get, put, insert or copy; before get and copy each key is
-   put. LOAD shards freezes a shared map in eight shards, in which each key was put, and closes the copy. */
+/* The loads of bench_map through C: loads LOAD FILLED OPERATIONS KEYS. LOAD is mix, get, put, insert or copy, on a map in which FILLED keys
+   were put. LOAD shards freezes a shared map in eight shards, in which so many keys were put, and closes the copy. */
 #include <ctrie_shared.h>
 #include <stdio.h>
 #include <stdlib.h>
 #include <string.h>
 #include <time.h>
 
+/* Of a map, and of all shards of one together. */
 enum { SLOTS = 65536, SHARDS = 8 };
 
 static uint64_t drawn(uint64_t x) {
@@ -55,11 +56,11 @@ static void operate(struct ctrie *map, const char *load, uint64_t operations, ui
 }
 
 /* How many nanoseconds freezes and closes of a map in shards take. */
-static uint64_t time_shards(uint64_t operations, uint64_t keys) {
+static uint64_t time_shards(uint64_t filled, uint64_t operations) {
     struct ctrie_seat seat = CTRIE_NO_SEAT;
     uint16_t frozen = 0;
-    need(ctrie_shared_new(&seat, 1, SLOTS, CTRIE_LOW, SHARDS));
-    for (uint64_t key = 0; key < keys; key++) need(ctrie_shared_put(&seat, 0, key, key, NULL));
+    need(ctrie_shared_new(&seat, 1, SLOTS / SHARDS, CTRIE_LOW, SHARDS));
+    for (uint64_t key = 0; key < filled; key++) need(ctrie_shared_put(&seat, 0, key, key, NULL));
     uint64_t start = now();
     for (uint64_t n = 0; n < operations; n++) {
         need(ctrie_shared_freeze(&seat, 0, &frozen));
@@ -71,11 +72,10 @@ static uint64_t time_shards(uint64_t operations, uint64_t keys) {
 }
 
 /* How many nanoseconds the operations of a load take. */
-static uint64_t time_load(const char *load, uint64_t operations, uint64_t keys) {
+static uint64_t time_load(const char *load, uint64_t filled, uint64_t operations, uint64_t keys) {
     struct ctrie map = CTRIE_NONE;
     need(ctrie_new(&map, SLOTS, CTRIE_LOW));
-    if (*load == 'g' || *load == 'c') operate(&map, "insert", keys, keys);
-    if (*load == 'p') operate(&map, load, 1000, keys);
+    operate(&map, "insert", filled, filled);
     uint64_t start = now();
     operate(&map, load, operations, keys);
     uint64_t took = now() - start;
@@ -84,9 +84,9 @@ static uint64_t time_load(const char *load, uint64_t operations, uint64_t keys) 
 }
 
 int main(int words, char **word) {
-    if (words != 4 || !strchr("mgpics", *word[1])) return 2;
-    uint64_t operations = strtoull(word[2], NULL, 10), keys = strtoull(word[3], NULL, 10);
-    uint64_t took = *word[1] == 's' ? time_shards(operations, keys) : time_load(word[1], operations, keys);
+    if (words != 5 || !strchr("mgpics", *word[1])) return 2;
+    uint64_t filled = strtoull(word[2], NULL, 10), operations = strtoull(word[3], NULL, 10), keys = strtoull(word[4], NULL, 10);
+    uint64_t took = *word[1] == 's' ? time_shards(filled, operations) : time_load(word[1], filled, operations, keys);
     printf("%llu operations, %llu ns\n", (unsigned long long)operations, (unsigned long long)took);
     return 0;
 }

@@ -1,10 +1,14 @@
 /*
  * The map of ctrie.h, shared by threads.
  *
- * A shared map is used through seats, one a thread. All calls of all seats have one order, in which each is made whole
- * on the map as the ones before it left it, and in which each seat's own stand in the order in which it made them. The
- * map lies in shards, from 1 to 64: a call on one key takes the key's shard, any other call takes all. A call that finds
- * a shard taken waits, for how long nothing promises: threads take turns at a shard, in no order that is promised.
+ * A shared map is used through seats, one a thread. Each call is made whole, on the map as the calls before it in the
+ * seat's log left it: the seat's own, in the order in which it made them, and between them those of others. Each
+ * seat's log is legal, and goes on from what the seat saw last. That the logs of all seats are one, so one order of
+ * all calls, is what the map's gate keeps; the contracts say it where all seats are given back to it
+ * (SharedMap::finish), a call that C hasn't. The map lies in shards, from 1 to 64: a call on one key takes the key's
+ * shard, any other call takes all. A call that finds a shard taken waits, for how long nothing promises: threads take
+ * turns at a shard, in no order that is promised. Of the calls of ctrie.h a seat hasn't slots, diff, put_all, pop,
+ * open_handles and entries behind a cursor (scan has one).
  *
  *     struct ctrie_seat seats[4] = {CTRIE_NO_SEAT, CTRIE_NO_SEAT, CTRIE_NO_SEAT, CTRIE_NO_SEAT};
  *     if (ctrie_shared_new(seats, 4, 1024, CTRIE_FOLD, 8) != CTRIE_DONE) return 1;
@@ -106,8 +110,9 @@ uint32_t ctrie_shared_try_close(struct ctrie_seat *seat, uint16_t handle);
 /* ---- a shared map and its seats: these don't wait */
 
 /* Makes a shared map in so many shards, from 1 to 64, each as ctrie_new makes a map with so many slots; and so many
-   seats at it, from 1 to 255. The struct holds one, which hands out the others. DONE, BAD_SIZES, MEMORY, BAD_HASH;
-   HAS_MAP where it holds one already; NO_SEATS where there are to be none. */
+   seats at it, from 1 to 255. The struct holds one, which hands out the others. DONE, MEMORY, BAD_HASH; BAD_SIZES where
+   the number of slots or of shards is out of range; HAS_MAP where it holds one already; NO_SEATS where there are to be
+   none. */
 CTRIE_MUST_USE
 uint32_t ctrie_shared_open(struct ctrie_seat *seat, uint32_t slots, uint32_t hash, uint8_t seats, uint8_t shards);
 
@@ -150,6 +155,7 @@ static inline uint32_t ctrie_shared_new(struct ctrie_seat *seats, size_t count, 
 /* What a code says, in a few words. */
 static inline const char *ctrie_shared_error(uint32_t code) {
     switch (code) {
+    case CTRIE_BAD_SIZES: return "the number of slots or shards is out of range";
     case CTRIE_NO_MAP: return "no seat is held";
     case CTRIE_HAS_MAP: return "a seat is held already";
     case CTRIE_BUSY: return "another seat has the shard";

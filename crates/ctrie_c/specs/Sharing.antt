@@ -12,7 +12,7 @@ use Rattle.shared_map.specs.Beneath.sharded_gate.specs.declared.gates.ShardCount
 use Rattle.shared_map.specs.Beneath.sharded_gate.specs.Shards.{calls_about}
 use Rattle.shared_map.specs.Asks.{Told, about}
 use Rattle.shared_map.specs.Calling.{HasAsked, HasHeardOf, Tells}
-use Rattle.shared_map.specs.Opening.{IsNewShared, RefusesNew}
+use Rattle.shared_map.specs.Opening.{AreShardNumbers, IsNewShared, RefusesNew}
 use Rattle.shared_map.specs.Seats.{MapRoom, MapSeat}
 use Rattle.shared_map.specs.Telling.{listed_in, part_in}
 use Rattle.ctrie_c.specs.Answers.{bad_hash, code_limit, done_told, has_map, no_map, told_by}
@@ -113,7 +113,7 @@ abbrev pub Shares : Option HashKind → ℕ → ℕ → ℕ → ℕ → Option S
 Shares None slots shards seats code before after = (code ≡ bad_hash) × (after ≡ before)
 Shares (Some kind) slots shards seats code (Some old) after = (code ≡ has_map) × (after ≡ Some old)
 Shares (Some kind) slots shards seats code None (Some made) =
-    (code ≡ 0) × IsNewShared slots kind shards seats made.map (made.spare ++ made.seat ∷ []) × AreSlots slots
+    (code ≡ 0) × IsNewShared slots kind shards seats made.map (made.spare ++ made.seat ∷ []) × AreSlots slots × AreShardNumbers shards
 Shares (Some kind) slots shards seats code None None =
     ((code ≡ no_seat) × (seats ≡ 0)) ⊎ ((code < code_limit) × IfOk (done_told code) (λ _. ⊥) × IfErr (done_told code) (RefusesNew slots shards))
 

@@ -35,7 +35,7 @@ impl Model for SharingSeat {
 }
 
 impl SharingSeat {
-    /// Asks the map if what it asks for is at home.
+    /// Asks the map if what it asks for is not taken.
     pub(crate) fn try_ask(&mut self, ask: Ask) -> Option<Told>
         ensures asked { IfSome result (λ told. Asks ask told self.old self.new) }
         ensures busy { IfNone result (self.new ≡ self.old) }
@@ -43,7 +43,7 @@ impl SharingSeat {
         self.map.try_ask(&mut self.seat, ask)
     }
 
-    /// Tells whether so many calls about a shard have been made, if the shard is at home.
+    /// Tells whether so many calls about a shard have been made, if the shard is not taken.
     pub(crate) fn try_hear(&mut self, count: ShardCount) -> Option<bool>
         ensures heard { IfSome result (λ heard. Hears count heard self.old self.new) }
         ensures busy { IfNone result (self.new ≡ self.old) }

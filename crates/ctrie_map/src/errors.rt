@@ -28,8 +28,8 @@ pub enum MapError {
     /// it is a `put_all`, or a `retain` that doesn't want so many pairs.
     #[error("no slot is free")]
     Full,
-    /// The number of slots isn't from 2 to 1,048,576.
-    #[error("the number of slots is out of range")]
+    /// The number of slots isn't from 2 to 1,048,576, or that of a shared map's shards isn't from 1 to 64.
+    #[error("the number of slots or shards is out of range")]
     BadSizes,
     /// A map takes 2^45 - 2^21 steps in its life. It can still be read.
     #[error("the map is worn out")]

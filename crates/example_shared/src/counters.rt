@@ -4,7 +4,7 @@ ghost use Rattle.std.specs.Prelude.{◌≡◌};
 ghost use Rattle.shared_map.specs.Seats.{AreSeatsOf};
 
 use shared_map::{
-    Handle, HashKind, Map, MapCalls, MapError, MapSeat, Name, NamedMap, NamedMapSeat, SharedMap,
+    Handle, HashKind, Map, MapCalls, MapError, MapName, MapSeat, NamedMap, NamedMapSeat, SharedMap,
     only_shard,
 };
 use std::alloc::AllocGlobal;
@@ -21,7 +21,7 @@ const COUNTER: u64 = 7;
 const TIMES: u64 = 250;
 
 /// Raises the counter by one.
-fn raise<N: Name, R: Wait>(
+fn raise<N: MapName, R: Wait>(
     rt: &R,
     map: &NamedMap<N>,
     seat: &mut NamedMapSeat<N>,
@@ -37,7 +37,7 @@ fn raise<N: Name, R: Wait>(
 }
 
 /// Raises it again and again.
-fn raise_often<N: Name, R: Wait>(
+fn raise_often<N: MapName, R: Wait>(
     rt: &R,
     map: &NamedMap<N>,
     seat: &mut NamedMapSeat<N>,
@@ -59,12 +59,12 @@ pub(crate) fn count<R: Threads + Wait + Sync + AllocGlobal>(rt: &R) -> Result<u6
 }
 
 /// What it has, once each of these seats has raised it on a thread of its own.
-fn count_by<N: Name + Send + Sync, R: Threads + Wait + Sync + AllocGlobal>(
+fn count_by<N: MapName + Send + Sync, R: Threads + Wait + Sync + AllocGlobal>(
     rt: &R,
     map: SharedMap,
     seats: Vec<MapSeat>,
 ) -> Result<u64, MapError>
-    requires name { map.room.id ≡ N.gate }
+    requires name { map ≡ N.map }
     requires seats { AreSeatsOf map seats.items }
 {
     let Ok((map, mut seats)) = map.named::<N>(rt.alloc(), seats) else {

@@ -5,7 +5,7 @@ ghost use Rattle.std.specs.Prelude.{◌≡◌};
 ghost use Rattle.shared_map.specs.Seats.{AreSeatsOf};
 
 use shared_map::{
-    Handle, HashKind, MapCalls, MapError, MapSeat, Name, NamedMap, NamedMapSeat, SharedMap,
+    Handle, HashKind, MapCalls, MapError, MapName, MapSeat, NamedMap, NamedMapSeat, SharedMap,
 };
 use std::alloc::AllocGlobal;
 use std::marker::Brand;
@@ -26,7 +26,7 @@ const PART: usize = 16;
 const CONFIRMED: u64 = 100;
 
 /// Announces a number under the seat's key, then confirms it under another one; again and again.
-fn register<N: Name, R: Wait>(
+fn register<N: MapName, R: Wait>(
     rt: &R,
     map: &NamedMap<N>,
     seat: &mut NamedMapSeat<N>,
@@ -62,7 +62,7 @@ fn is_of_one_moment(pairs: &[(u64, u64)]) -> bool {
 }
 
 /// Adds what a shard has of the copy, in parts.
-fn read_shard<N: Name, R: Wait>(
+fn read_shard<N: MapName, R: Wait>(
     rt: &R,
     map: &NamedMap<N>,
     seat: &mut NamedMapSeat<N>,
@@ -84,7 +84,7 @@ fn read_shard<N: Name, R: Wait>(
 }
 
 /// Exports the registry: a read-only copy, which is read while others go on, and closed then.
-fn export<N: Name, R: Wait + AllocGlobal>(
+fn export<N: MapName, R: Wait + AllocGlobal>(
     rt: &R,
     map: &NamedMap<N>,
     seat: &mut NamedMapSeat<N>,
@@ -99,7 +99,7 @@ fn export<N: Name, R: Wait + AllocGlobal>(
 }
 
 /// Exports again and again: how many exports were of one moment.
-fn export_often<N: Name, R: Wait + AllocGlobal>(
+fn export_often<N: MapName, R: Wait + AllocGlobal>(
     rt: &R,
     map: &NamedMap<N>,
     seat: &mut NamedMapSeat<N>,
@@ -121,12 +121,12 @@ pub(crate) fn run<R: Threads + Wait + Sync + AllocGlobal>(rt: &R) -> Result<u64,
 }
 
 /// The same, each of these seats on a thread of its own.
-fn run_by<N: Name + Send + Sync, R: Threads + Wait + Sync + AllocGlobal>(
+fn run_by<N: MapName + Send + Sync, R: Threads + Wait + Sync + AllocGlobal>(
     rt: &R,
     map: SharedMap,
     seats: Vec<MapSeat>,
 ) -> Result<u64, MapError>
-    requires name { map.room.id ≡ N.gate }
+    requires name { map ≡ N.map }
     requires seats { AreSeatsOf map seats.items }
 {
     let Ok((map, mut seats)) = map.named::<N>(rt.alloc(), seats) else {

@@ -4,7 +4,7 @@ ghost use Rattle.std.specs.Prelude.{◌≡◌};
 ghost use Rattle.shared_map.specs.Seats.{AreSeatsOf};
 
 use shared_map::{
-    Handle, HashKind, Map, MapCalls, MapError, MapSeat, Name, NamedMap, NamedMapSeat, SharedMap,
+    Handle, HashKind, Map, MapCalls, MapError, MapName, MapSeat, NamedMap, NamedMapSeat, SharedMap,
 };
 use std::alloc::AllocGlobal;
 use std::marker::Brand;
@@ -24,7 +24,7 @@ struct Done {
 }
 
 /// Takes any one task: its number and what it is worth. None where the list is empty.
-fn take<N: Name, R: Wait>(
+fn take<N: MapName, R: Wait>(
     rt: &R,
     map: &NamedMap<N>,
     seat: &mut NamedMapSeat<N>,
@@ -42,7 +42,7 @@ fn take<N: Name, R: Wait>(
 }
 
 /// Does tasks while there are any, and adds those that come of them.
-fn work<N: Name, R: Wait>(
+fn work<N: MapName, R: Wait>(
     rt: &R,
     map: &NamedMap<N>,
     seat: &mut NamedMapSeat<N>,
@@ -73,12 +73,12 @@ pub(crate) fn run<R: Threads + Wait + Sync + AllocGlobal>(rt: &R) -> Result<u64,
 }
 
 /// What they are worth, each of these seats on a thread of its own.
-fn run_by<N: Name + Send + Sync, R: Threads + Wait + Sync + AllocGlobal>(
+fn run_by<N: MapName + Send + Sync, R: Threads + Wait + Sync + AllocGlobal>(
     rt: &R,
     map: SharedMap,
     seats: Vec<MapSeat>,
 ) -> Result<u64, MapError>
-    requires name { map.room.id ≡ N.gate }
+    requires name { map ≡ N.map }
     requires seats { AreSeatsOf map seats.items }
 {
     let Ok((map, mut seats)) = map.named::<N>(rt.alloc(), seats) else {

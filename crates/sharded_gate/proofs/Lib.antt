@@ -5,6 +5,6 @@ mod Turning
 mod Reaching
 mod Whole
 mod Alone
-mod Beginnings
+pub mod Beginnings
 mod Tables
 pub mod Placing

@@ -22,6 +22,7 @@ impl<O: Sharded<C, A> + Drop, C: Copy, A: Drop> ShardedGate<O, C, A> {
         requires { IsSeatOf self.now seat.old.seat }
         ensures called { IsCalled O.answers seat.old.seat call result seat.new.seat }
         ensures about { IsTrue (is_about (O.about (length self.now.first) call) seat.new.shard) }
+        ensures within { seat.new.shard < length self.now.first }
     {
         let mut waiting = self.waiting();
         for _ in rt.forever() {
@@ -33,7 +34,7 @@ impl<O: Sharded<C, A> + Drop, C: Copy, A: Drop> ShardedGate<O, C, A> {
         unreachable!()
     }
 
-    /// Has the seat's call performed if what it is about is at home: the shard, or all shards, of which the first to be
+    /// Has the seat's call performed if what it is about is not taken: the shard, or all shards, of which the first to be
     /// taken is tried once, and each other one for a short while. With `None` another seat had it: nothing was called, and
     /// the seat has seen what it had.
     #[inline(always)]
@@ -41,6 +42,7 @@ impl<O: Sharded<C, A> + Drop, C: Copy, A: Drop> ShardedGate<O, C, A> {
         requires { IsSeatOf self.now seat.old.seat }
         ensures called { IfSome result (λ answer. IsCalled O.answers seat.old.seat call answer seat.new.seat) }
         ensures about { IfSome result (λ answer. IsTrue (is_about (O.about (length self.now.first) call) seat.new.shard)) }
+        ensures within { IfSome result (λ answer. seat.new.shard < length self.now.first) }
         ensures shut { IfNone result (seat.new ≡ seat.old) }
     {
         match O::shard_about(&call, self.shards) {
@@ -78,6 +80,7 @@ impl<O: Sharded<C, A> + Drop, C: Copy, A: Drop> ShardedGate<O, C, A> {
         requires seat { IsSeatOf self.now seat.old.seat }
         requires about { O.about (length self.now.first) call ≡ None }
         ensures called { IfSome result (λ answer. IsCalled O.answers seat.old.seat call answer seat.new.seat) }
+        ensures within { IfSome result (λ answer. seat.new.shard < length self.now.first) }
         ensures shut { IfNone result (seat.new ≡ seat.old) }
     {
         let mut pass = mem::replace(&mut seat.badge, Badge::blank()).into_seat();
@@ -138,6 +141,8 @@ impl<O: Sharded<C, A> + Drop, C: Copy, A: Drop> ShardedGate<O, C, A> {
     pub fn hear<R: Wait>(&self, rt: &R, seat: &mut ShardedSeat<O, C, A>, count: ShardCount) -> bool
         requires { IsSeatOf self.now seat.old.seat }
         ensures heard { HasHeard O.answers seat.old.seat seat.new.seat }
+        ensures within { seat.new.shard < length self.now.first }
+        ensures its { count.shard < length self.now.first → seat.new.shard ≡ count.shard }
         ensures told { count.shard < length self.now.first → IsTrue result ↔ count.calls ≤ length (calls_about (O.about (length self.now.first)) count.shard seat.new.seat.seen.log) }
     {
         let mut waiting = self.waiting();
@@ -150,10 +155,12 @@ impl<O: Sharded<C, A> + Drop, C: Copy, A: Drop> ShardedGate<O, C, A> {
         unreachable!()
     }
 
-    /// The same if the shard is at home. With `None` another seat had it, and the seat has seen what it had.
+    /// The same if the shard is not taken. With `None` another seat had it, and the seat has seen what it had.
     pub fn try_hear(&self, seat: &mut ShardedSeat<O, C, A>, count: ShardCount) -> Option<bool>
         requires { IsSeatOf self.now seat.old.seat }
         ensures heard { IfSome result (λ heard. HasHeard O.answers seat.old.seat seat.new.seat) }
+        ensures within { IfSome result (λ heard. seat.new.shard < length self.now.first) }
+        ensures its { count.shard < length self.now.first → IfSome result (λ heard. seat.new.shard ≡ count.shard) }
         ensures told { count.shard < length self.now.first → IfSome result (λ heard.
             IsTrue heard ↔ count.calls ≤ length (calls_about (O.about (length self.now.first)) count.shard seat.new.seat.seen.log)) }
         ensures shut { IfNone result (seat.new ≡ seat.old) }

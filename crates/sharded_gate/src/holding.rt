@@ -10,7 +10,7 @@ use crate::sharded::Sharded;
 use gate::{SHORT_WAITS, short_pause};
 
 impl<O: Sharded<C, A>, C, A> ShardedGate<O, C, A> {
-    /// Takes the shard if it is at home, and tells whether it was.
+    /// Takes the shard if it is not taken, and tells whether it did.
     #[inline(always)]
     pub(crate) fn try_enter(&self, pass: &mut Pass<O, C, A>, shard: usize, number: u8) -> bool
         requires seat { pass.old.table_id ≡ self.now.id }

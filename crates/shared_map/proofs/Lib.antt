@@ -27,6 +27,6 @@ mod Replays
 mod New
 mod Slots
 mod OneMap
-mod Hearing
+mod Seated
 mod Many
 mod OnePlace

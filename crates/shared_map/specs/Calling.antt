@@ -6,20 +6,29 @@ use Rattle.gate.specs.Calls.{HasHeard, IsCalled}
 use Rattle.sharded_gate.specs.declared.gates.ShardCount.{ShardCount}
 use Rattle.sharded_gate.specs.Shards.{calls_about, is_about}
 use Rattle.shared_map.specs.declared.asks.Ask.{Ask}
-use Rattle.shared_map.specs.Answering.{MapAnswers}
+use Rattle.shared_map.specs.Answering.{AnswersAll, MapAnswers}
 use Rattle.shared_map.specs.Asks.{Told, about, asking}
-use Rattle.shared_map.specs.Seats.{MapRoom, MapSeat}
+use Rattle.shared_map.specs.Seats.{IsSeatOf, MapRoom, MapSeat}
+use Rattle.shared_map.specs.Shards.{AreShards}
 
--- The seat asked the map this, and was told that: its log has one entry more. The shard whose calls it counts then is one that this was about.
-abbrev pub HasAsked : MapRoom → MapSeat → Ask → Told → MapSeat → Type 0
-HasAsked map before ask told after =
-    IsCalled MapAnswers before.seat (asking map.hash ask) told after.seat × IsTrue (is_about (about (length map.room.first) (asking map.hash ask)) after.shard)
+-- The seat asked the map this, and was told that. Its log has one entry more, this call's. What it found were as many shards of one map, and so is what it left; what
+-- it was told is the map's answer there. The shard whose calls it counts then is one that this was about.
+pub record HasAsked (map : MapRoom) (before : MapSeat) (ask : Ask) (told : Told) (after : MapSeat) : Type 0 where
+  pub called : IsCalled MapAnswers before.seat (asking map.hash ask) told after.seat
+  pub found : AreShards map.hash called.board.object
+  pub many : length called.board.object ≡ length map.room.first
+  pub answered : AnswersAll map.hash called.board.object ask told after.seat.seen.object
+  pub left : AreShards map.hash after.seat.seen.object
+  pub counts : IsTrue (is_about (about (length map.room.first) (asking map.hash ask)) after.shard)
+  pub keeps : IsSeatOf map after
 
--- The seat has seen all calls once more, and this tells whether so many about a shard are among them.
-abbrev pub HasHeardOf : MapRoom → MapSeat → ShardCount → Bool → MapSeat → Type 0
-HasHeardOf map before count told after =
-    HasHeard MapAnswers before.seat after.seat
-    × (count.shard < length map.room.first → IsTrue told ↔ count.calls ≤ length (calls_about (about (length map.room.first)) count.shard after.seat.seen.log))
+-- The seat has seen all calls once more, and this tells whether so many about a shard are among them. It counts the calls about that shard then.
+pub record HasHeardOf (map : MapRoom) (before : MapSeat) (count : ShardCount) (told : Bool) (after : MapSeat) : Type 0 where
+  pub heard : HasHeard MapAnswers before.seat after.seat
+  pub answered : count.shard < length map.room.first → IsTrue told ↔ count.calls ≤ length (calls_about (about (length map.room.first)) count.shard after.seat.seen.log)
+  pub counts : count.shard < length map.room.first → after.shard ≡ count.shard
+  pub found : AreShards map.hash after.seat.seen.object
+  pub keeps : IsSeatOf map after
 
 -- ---- the calls by their names
 

@@ -7,13 +7,12 @@ ghost use Rattle.shared_map.specs.Telling.{contained_in, counted_in, done_in, fi
 
 use crate::asks::{Ask, Told};
 use crate::maps::{MapSeat, SharedMap};
-use crate::naming::{NamedMap, NamedMapSeat};
+use crate::naming::{MapName, NamedMap, NamedMapSeat};
 use crate::telling::{
     contained, counted, done, first, found, has_room, listed, number, opened, part, restored,
     truth, writable,
 };
 use ctrie_map::{Handle, MapError};
-use gate::Name;
 use history::Call;
 use sharded_gate::ShardCount;
 use std::sync::Wait;
@@ -382,7 +381,7 @@ impl MapCalls<SharedMap> for MapSeat {
     }
 }
 
-impl<N: Name> MapCalls<NamedMap<N>> for NamedMapSeat<N> {
+impl<N: MapName> MapCalls<NamedMap<N>> for NamedMapSeat<N> {
     ghost seat = { λ s. s };
 
     ghost shared = { λ map. map };

@@ -2,7 +2,7 @@
 
 ghost use Rattle.std.specs.Prelude.{◌≡◌, ◌<◌, ◌*◌, ◌∷◌, [], length, IfErr, IfOk, OnOk};
 ghost use Rattle.ctrie_map.specs.Maps.{AreSlots};
-ghost use Rattle.shared_map.specs.Opening.{AreNewMaps, IsNewShared, RefusesMaps, RefusesNew, Shares};
+ghost use Rattle.shared_map.specs.Opening.{AreNewMaps, AreShardNumbers, IsNewShared, RefusesMaps, RefusesNew, Shares};
 ghost use Rattle.shared_map.specs.Seats.{AreSeatsOf};
 ghost use Rattle.shared_map.specs.Shards.{slots_of_all};
 
@@ -40,7 +40,8 @@ impl Model for SharedMap {
 
 impl SharedMap {
     /// A new map in so many shards, from 1 to 64, each with so many slots as `Map::new` takes, and so many seats, with the
-    /// numbers 1 and on.
+    /// numbers 1 and on. `BadSizes` where the number of slots or of shards is out of range, `Memory` where memory is wanting;
+    /// nothing is kept then.
     #[tactic(auto, using(crate::proofs::New::new_are))]
     pub fn new(
         alloc: Global,
@@ -51,7 +52,7 @@ impl SharedMap {
     ) -> Result<(SharedMap, Vec<MapSeat>), MapError>
         ensures made { IfOk result (λ made. IsNewShared slots hash shards seats made.0 made.1.items) }
         ensures seats { IfOk result (λ made. AreSeatsOf made.0 made.1.items) }
-        ensures in_range { OnOk result (AreSlots slots) }
+        ensures in_range { OnOk result (AreSlots slots × AreShardNumbers shards) }
         ensures refused { IfErr result (RefusesNew slots shards) }
     {
         if shards == 0 || shards > 64 {

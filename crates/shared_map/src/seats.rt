@@ -22,8 +22,8 @@ impl SharedMap {
         self.gate.call(rt, seat, Request { ask, hash })
     }
 
-    /// Has the seat ask the map if what it asks for is at home: the shard of its key, or all shards. With `None` another seat
-    /// had it: nothing was asked, and the seat has seen what it had.
+    /// Has the seat ask the map if what it asks for is not taken: the shard of its key, or all shards. With `None` another
+    /// seat had it: nothing was asked, and the seat has seen what it had.
     #[inline(always)]
     pub fn try_ask(&self, seat: &mut MapSeat, ask: Ask) -> Option<Told>
         requires { IsSeatOf self.now seat.old }
@@ -43,7 +43,7 @@ impl SharedMap {
         self.gate.hear(rt, seat, count)
     }
 
-    /// The same if the shard is at home. With `None` another seat had it, and the seat has seen what it had.
+    /// The same if the shard is not taken. With `None` another seat had it, and the seat has seen what it had.
     pub fn try_hear(&self, seat: &mut MapSeat, count: ShardCount) -> Option<bool>
         requires { IsSeatOf self.now seat.old }
         ensures heard { IfSome result (λ heard. HasHeardOf self.now seat.old count heard seat.new) }

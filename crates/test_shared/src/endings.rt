@@ -3,7 +3,9 @@
 ghost use Rattle.std.specs.Prelude.{◌≡◌};
 ghost use Rattle.shared_map.specs.Seats.{AreSeatsOf};
 
-use shared_map::{Handle, HashKind, Map, MapCalls, MapError, MapSeat, Name, SharedMap, only_shard};
+use shared_map::{
+    Handle, HashKind, Map, MapCalls, MapError, MapName, MapSeat, SharedMap, only_shard,
+};
 use std::alloc::AllocGlobal;
 use std::marker::Brand;
 use std::process::Abort;
@@ -11,12 +13,12 @@ use std::sync::Wait;
 use std::test::Fail;
 
 /// Without one of its seats a shared map gives all back, and with it the map.
-fn finish_without_one<N: Name, R: Wait + AllocGlobal + Abort>(
+fn finish_without_one<N: MapName, R: Wait + AllocGlobal + Abort>(
     rt: &R,
     map: SharedMap,
     seats: Vec<MapSeat>,
 ) -> Result<(), Fail>
-    requires name { map.room.id ≡ N.gate }
+    requires name { map ≡ N.map }
     requires seats { AreSeatsOf map seats.items }
 {
     let Ok((map, mut seats)) = map.named::<N>(rt.alloc(), seats) else {

@@ -1,5 +1,9 @@
 //! Numbers of calls, and who is told of them.
 
+ghost use Rattle.std.specs.Prelude.{◌≤◌, ◌↔◌, IsTrue, length};
+ghost use Rattle.shared_map.specs.Beneath.gate.specs.Logs.{saturated};
+ghost use Rattle.shared_map.specs.Beneath.sharded_gate.specs.Shards.{calls_about};
+ghost use Rattle.shared_map.specs.Asks.{about};
 ghost use Rattle.shared_map.specs.Seats.{IsSeatOf};
 
 use shared_map::{Handle, HashKind, MapCalls, MapError, MapSeat, ShardCount, SharedMap};
@@ -29,6 +33,17 @@ fn hears_of<R: Wait>(rt: &R, map: &SharedMap, seat: &mut MapSeat, count: ShardCo
     seat.hear(rt, map, count) && !seat.hear(rt, map, more)
 }
 
+/// Whether the other seat hears of the calls that this one has counted.
+fn tell<R: Wait>(rt: &R, map: &SharedMap, seat: &MapSeat, other: &mut MapSeat) -> bool
+    requires seat { IsSeatOf map.now seat.now }
+    requires other { IsSeatOf map.now other.old }
+    ensures told { IsTrue result ↔ saturated (length (calls_about (about (length map.now.room.first)) seat.now.shard seat.now.seat.seen.log))
+        ≤ length (calls_about (about (length map.now.room.first)) seat.now.shard other.new.seat.seen.log) }
+    ensures seat { IsSeatOf map.now other.new }
+{
+    other.hear(rt, map, seat.last())
+}
+
 /// The key 5 is in the shard 5 of 8. All calls about it count, those that are refused too; a seat knows of those that stood
 /// there when it called or heard last.
 #[test]
@@ -45,6 +60,7 @@ fn calls_have_numbers(rt: HostRuntime) -> Result<(), Fail> {
         (second, ShardCount { shard: 0, calls: 0 })
     );
     assert!(rt; hears_of(&rt, &map, &mut two, second));
+    assert!(rt; tell(&rt, &map, &one, &mut two));
     assert_eq!(rt; two.get(&rt, &map, Handle::first(), 5), Ok(Some(50)));
     assert_eq!(rt;
         (one.last(), two.last()),

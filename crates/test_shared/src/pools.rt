@@ -4,7 +4,7 @@ ghost use Rattle.std.specs.Prelude.{◌≡◌};
 ghost use Rattle.shared_map.specs.Seats.{AreSeatsOf};
 
 use crate::shards::count;
-use shared_map::{Handle, HashKind, MapCalls, MapSeat, Name, NamedMap, NamedMapSeat, SharedMap};
+use shared_map::{Handle, HashKind, MapCalls, MapName, MapSeat, NamedMap, NamedMapSeat, SharedMap};
 use std::alloc::AllocGlobal;
 use std::marker::Brand;
 use std::process::Abort;
@@ -17,7 +17,7 @@ use std::thread::Threads;
 type Pool<N> = Mutex<Vec<NamedMapSeat<N>>>;
 
 /// Forty puts of keys of this worker, each with a seat that is taken out of the pool and put back; how many were made.
-fn work<N: Name, R: Wait>(rt: &R, map: &NamedMap<N>, pool: &Pool<N>, worker: u64) -> u64 {
+fn work<N: MapName, R: Wait>(rt: &R, map: &NamedMap<N>, pool: &Pool<N>, worker: u64) -> u64 {
     for made in 0..40u64 {
         let taken = pool.lock(rt).pop();
         let Some(mut seat) = taken else {
@@ -35,12 +35,12 @@ fn work<N: Name, R: Wait>(rt: &R, map: &NamedMap<N>, pool: &Pool<N>, worker: u64
 }
 
 /// Three threads call with whatever seat lies in the pool. Then the seats finish the shared map.
-fn pooled<N: Name + Send + Sync, R: Threads + Wait + Sync + AllocGlobal + Abort>(
+fn pooled<N: MapName + Send + Sync, R: Threads + Wait + Sync + AllocGlobal + Abort>(
     rt: &R,
     map: SharedMap,
     seats: Vec<MapSeat>,
 ) -> Result<(), Fail>
-    requires name { map.room.id ≡ N.gate }
+    requires name { map ≡ N.map }
     requires seats { AreSeatsOf map seats.items }
 {
     let Ok((map, seats)) = map.named::<N>(rt.alloc(), seats) else {

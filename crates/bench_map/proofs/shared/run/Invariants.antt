@@ -1,0 +1,5 @@
+use Rattle.bench_map.proofs.shared.run.Given as goal
+
+-- the name stands for this shared map
+abbrev pub ghosts-run_by : goal.ghosts-run_by
+ghosts-run_by g a = record { map = a.map }

@@ -1,5 +1,0 @@
-use Rattle.bench_shared.proofs.team.run.Given as goal
-
--- the name stands for this shared map
-abbrev pub ghosts-run_by : goal.ghosts-run_by
-ghosts-run_by g a = record { gate = a.map.room.id }
