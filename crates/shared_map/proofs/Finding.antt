@@ -11,7 +11,8 @@ use Rattle.std.proofs.lemmas.Bool.{true≢false}
 use Rattle.std.proofs.lemmas.List.Sums.{length-filter, sum_by-cons}
 use Rattle.history.specs.Effects.{others}
 use Rattle.history.specs.Worlds.{KeyMap}
-use Rattle.shared_map.specs.Beneath.proof_contents.proofs.Pairs.Lists.{AreApart, EachKey, Pairs, found_in}
+use Rattle.machine_model.specs.Pairs.{by_key}
+use Rattle.shared_map.specs.Beneath.proof_contents.proofs.Pairs.Lists.{AreApart, EachKey, Pairs, entries_are, found_in}
 
 -- the first, or where it has none the other
 abbrev pub or_else : Option ℕ → Option ℕ → Option ℕ
@@ -28,11 +29,11 @@ found_append q (p ∷ ps) qs = ap (λ o. cond (eq_by_cmp nat_cmp q p.0) (Some p.
 
 -- ---- no key stands twice
 
-first_part : (a b : Bool) → T (a && b) → T a
+pub first_part : (a b : Bool) → T (a && b) → T a
 first_part true b p = tt
 first_part false b p = p
 
-second_part : (a b : Bool) → T (a && b) → T b
+pub second_part : (a b : Bool) → T (a && b) → T b
 second_part true b p = p
 second_part false b p = absurd p
 
@@ -53,6 +54,10 @@ sorted_apart (e ∷ es) h = (below es (first_part _ _ h), sorted_apart es (secon
 
 pub entries_apart : (m : KeyMap) → AreApart (maps.entries m)
 entries_apart m = sorted_apart (maps.entries m) (maps.entries_sorted m)
+
+-- sorted by key they are as they stand
+pub entries_by_key : (m : KeyMap) → by_key (maps.entries m) ≡ maps.entries m
+entries_by_key m = entries_are m (maps.entries m) (entries_apart m) (λ q. sym (maps.get-entries m q))
 
 pub some_none : {X : Type 0} (x : X) → Some x ≡ None → ⊥
 some_none x h = cc

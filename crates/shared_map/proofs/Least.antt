@@ -14,11 +14,11 @@ use Rattle.shared_map.specs.Beneath.proof_core.proofs.Firsts.{take_sorted}
 use Rattle.shared_map.specs.Beneath.machine_core.proofs.Selected.{by_alike}
 use Rattle.shared_map.specs.Beneath.machine_core.proofs.Sorting.{pairs_order}
 use Rattle.shared_map.specs.Beneath.proof_core.specs.Reading.{is_after, next_of}
-use Rattle.shared_map.specs.Beneath.proof_contents.proofs.Pairs.Lists.{Pairs, entries_are}
+use Rattle.shared_map.specs.Beneath.proof_contents.proofs.Pairs.Lists.{Pairs}
 use Rattle.shared_map.specs.declared.listing.Listed.TheVariants.{Next}
 use Rattle.shared_map.specs.Listing.{pairs_listed}
 use Rattle.shared_map.specs.Uniting.{pairs_at, pairs_of}
-use Rattle.shared_map.proofs.Finding.{entries_apart}
+use Rattle.shared_map.proofs.Finding.{entries_by_key}
 
 -- ---- what rises
 
@@ -44,7 +44,7 @@ least_again n xs =
 
 pairs_sorted : (o : Option HandleState) → by_key (pairs_of o) ≡ pairs_of o
 pairs_sorted None = refl
-pairs_sorted (Some shown) = entries_are shown.pairs (maps.entries shown.pairs) (entries_apart shown.pairs) (λ q. sym (maps.get-entries shown.pairs q))
+pairs_sorted (Some shown) = entries_by_key shown.pairs
 
 swapped : (xs ys : Pairs) → by_key (xs ++ ys) ≡ by_key (ys ++ xs)
 swapped xs ys =

@@ -30,3 +30,10 @@ mod OneMap
 mod Seated
 mod Many
 mod OnePlace
+mod Joined
+mod Behind
+mod Together
+mod Frozen
+mod Freezes
+mod Moments
+mod Exports

@@ -40,7 +40,7 @@ again Fold = refl
 again Wide = refl
 again Block = refl
 
-cases_hash : (hash other : HashKind) → (hash ≡ other) ⊎ (hash ≢ other)
+pub cases_hash : (hash other : HashKind) → (hash ≡ other) ⊎ (hash ≢ other)
 cases_hash hash other = elim (cases_eq (number_of hash) (number_of other)) [
   | inl same ↦ inl (sym (again hash) ∙ ap kind_of_number same ∙ again other)
   | inr apart ↦ inr (λ e. apart (ap number_of e))

@@ -18,5 +18,7 @@ pub mod Telling
 pub mod Calling
 pub mod Replaying
 pub mod Laws
+pub mod Parts
+pub mod PartsLaws
 pub mod Finishing
 pub mod Opening

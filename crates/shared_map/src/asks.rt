@@ -15,7 +15,8 @@ pub enum Ask {
     Do(Call),
     /// The next entries of a handle's map behind this key, `room` of them at most, in ascending order of keys; from the first
     /// one on where it is none. All shards are held for one walk over the map, in memory for `room` pairs of each. Parts of a
-    /// frozen copy are a listing of one moment. `NoHandle` where the handle isn't open; else only memory is refused.
+    /// frozen copy are a listing of one moment (`parts_list_one_moment`). `NoHandle` where the handle isn't open; else only
+    /// memory is refused.
     From {
         handle: u16,
         after: Option<u64>,
@@ -24,7 +25,8 @@ pub enum Ask {
     /// The next entries behind this key, `room` of them at most, of those that lie in one shard, in the order of `Map::scan`;
     /// from the first one on where it is none. Shards are counted from 0, and a number beyond the last one counts round again.
     /// It holds this shard alone, for a way down and what it hands out, in memory for that. The parts of all shards of a
-    /// frozen copy are a listing of one moment. `NoHandle` where the handle isn't open; else only memory is refused.
+    /// frozen copy are a listing of one moment (`scans_list_one_moment`). `NoHandle` where the handle isn't open; else only
+    /// memory is refused.
     Scan {
         handle: u16,
         shard: usize,

@@ -26,7 +26,11 @@ pub use calling::MapCalls;
 pub use ctrie_map::{Difference, Handle, HashKind, Map, MapError, SLOTS_FOR_A_CALL};
 pub use finishing::only_shard;
 pub use history::{Call, Pairs, Reply};
-pub use laws::{calls_replay, one_shard_is_a_map};
+pub use laws::{
+    calls_replay, exports_are_of_the_freeze, freezes_copy_the_map, frozen_handles_stay,
+    one_shard_is_a_map, parts_list_one_moment, parts_list_the_map, scans_join, scans_list_a_shard,
+    scans_list_one_moment, shards_list_the_map,
+};
 pub use maps::{MapSeat, SharedMap};
 pub use naming::{MapName, NamedMap, NamedMapSeat};
 pub use sharded_gate::{HoldsShardedSeat, ShardCount};
