@@ -13,7 +13,7 @@
  *     ctrie_free(&map);
  *
  * A map's memory is what ctrie_new took, until ctrie_free: some 346 bytes a slot and 26 kB, however long it lives.
- * Of these 78 bytes a slot are written at once, and 264 for as many slots as there were branches at the same time.
+ * Of these 66 bytes a slot are written at once, and 264 for as many slots as there were branches or lists at once.
  * Beside it ctrie_entries, ctrie_scan, ctrie_diff and ctrie_put_all take memory for a list, and give it back at their end.
  *
  * Each call answers a code: CTRIE_DONE, CTRIE_NO or CTRIE_YES where it was done, else why it was refused. A call that
@@ -67,10 +67,10 @@ enum ctrie_code {
     CTRIE_READ_ONLY = 3,    /* a change by a read-only handle */
     CTRIE_HANDLES_FULL = 4, /* a snapshot, a freeze, a restore or a put_all while 256 are open */
     CTRIE_CROWDED = 5,      /* the key has no value, and 32 other keys have its hash */
-    CTRIE_FULL = 6,         /* the call was to make a node, and no slot was free (a put_all: its copy, or a change of a
-                               key in it); it comes only where fewer than CTRIE_SLOTS_FOR_A_CALL were before it, or 23
-                               where it is a clear, snapshot, freeze or restore, or 24 and 571 a pair where it is a
-                               put_all */
+    CTRIE_FULL = 6,         /* the call's last step before this answer was to make a node, and no slot was free (of a
+                               put_all: that of its copy, or of a change of a key in it); it comes only where fewer than
+                               CTRIE_SLOTS_FOR_A_CALL were before it, or 23 where it is a clear, snapshot, freeze or
+                               restore, or 24 and 571 a pair where it is a put_all */
     CTRIE_BAD_SIZES = 7,    /* the number of slots isn't from 2 to 1,048,576, or that of a shared map's shards isn't from
                                1 to 64 */
     CTRIE_WORN_OUT = 8,     /* less work is left than a call may take, of 2^45 - 2^21 steps; the map can be read */
@@ -112,7 +112,7 @@ struct ctrie_cursor {
 
 #define CTRIE_START {0, false}
 
-/* So many free slots are enough for any call. */
+/* So many free slots are enough for any call but ctrie_put_all. */
 #define CTRIE_SLOTS_FOR_A_CALL 570
 
 /* ---- the library */

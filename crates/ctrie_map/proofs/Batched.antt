@@ -205,14 +205,18 @@ module _ (batch : Batch) (before : State) (names : NameTable) (whole : IsWhole (
         pub beside : (changed_to : State) → ChangesEach batch draft d.m pairs drafted changed_to → IsBeside world names draft (changed_all batch d.m pairs) changed_to
         beside changed_to changes = record { named = whole.named; new = d.new; is = drafted_so (changed_all batch d.m pairs) changed_to changes.1 }
 
-        pub changes_all : (changed_to : State) → ChangesEach batch draft d.m pairs drafted changed_to → (after : State) (new : NameTable) → after.limits ≡ changed_to.limits →
+        pub changes_all : HasLifeFor now pairs → (changed_to : State) → ChangesEach batch draft d.m pairs drafted changed_to → (after : State) (new : NameTable) →
+            after.limits ≡ changed_to.limits →
             handles_under new (world_of after) ≡ naming (handles_of now) handle Writable (changed_all batch d.m pairs) → ChangesAll batch now handle pairs (map_with after new)
-        changes_all changed_to changes after new limits handles =
+        changes_all life changed_to changes after new limits handles =
             let same : drafted.limits ≡ before.limits = d.turns.0 in (
-              m,
-              writes,
-              subst (λ n. HaveRoom batch (hash_of before.limits.hash) n pairs) is_m (subst (λ l. HaveRoom batch (hash_of l.hash) d.m pairs) same changes.0),
-              (limits ∙ changes.1.0 ∙ same, handles ∙ ap (λ n. naming (handles_of now) handle Writable (changed_all batch n pairs)) is_m),
+              life,
+              (
+                m,
+                writes,
+                subst (λ n. HaveRoom batch (hash_of before.limits.hash) n pairs) is_m (subst (λ l. HaveRoom batch (hash_of l.hash) d.m pairs) same changes.0),
+                (limits ∙ changes.1.0 ∙ same, handles ∙ ap (λ n. naming (handles_of now) handle Writable (changed_all batch n pairs)) is_m),
+              ),
             )
 
         -- it is closed again

@@ -17,7 +17,7 @@ use Rattle.ctrie_map.specs.Denials.{is_frozen}
 use Rattle.ctrie_map.specs.Drafts.{RefusesDraft, TakesMap}
 use Rattle.ctrie_map.specs.Maps.{IsWhole, MapState, handles_of, map_with}
 use Rattle.ctrie_map.specs.Names.{NameTable, handles_under, how_many, name_at, shown_by}
-use Rattle.ctrie_map.specs.Restoring.{RefusesRestore, Restores, restore_denial, restore_denial_by}
+use Rattle.ctrie_map.specs.Restoring.{HasLifeIfTried, RefusesRestore, Restores, is_worn_out_to_restore, restore_denial, restore_denial_by}
 use Rattle.ctrie_map.proofs.ByName.{core_call_so, shown_with}
 use Rattle.ctrie_map.proofs.Changing.{naming_same}
 use Rattle.ctrie_map.proofs.Named.{as_many, shows, state_of}
@@ -104,6 +104,12 @@ module _ (before : State) (names : NameTable) (whole : IsWhole (map_with before 
             (p.1, subst (RunsOut before the_actor) (sym (core_call_so before names whole copy source from (Snapshot copy) refl)) p.2),
             (p.3.0, ap (handles_under names) p.3.1),
           )
+
+          -- more steps are left than a copy may take
+          pub life_if : is_worn_out_to_restore now ≡ false → (result : Result (Unit {0}) MapError) → HasLifeIfTried result now handle copy
+          life_if life (Ok done) = λ other. life
+          life_if life (Err error.Full) = (apart, life)
+          life_if life (Err why) = tt
 
           pub restored_if : (result : Result (Unit {0}) MapError) (after : State) (new : NameTable) → IfOk result (λ _. TakesMap now handle source.core (map_with after new)) →
               IfOk result (λ _. Restores now handle copy (map_with after new))

@@ -87,8 +87,8 @@ module _ {F : Type 0} (asks : F → ℕ → ℕ → Bool → F → Type 0) (f : 
       many : length wanted + length unwanted ≡ map.len m
       many = parts asks f (map.entries m) wanted unwanted sifted ∙ sym (map.len-entries m)
 
-      unwanted_so : HasUnwanted asks f now handle unwanted
-      unwanted_so = (m, there, left_out asks f (map.entries m) wanted unwanted sifted)
+      unwanted_so : 0 < length unwanted → HasUnwanted asks f now handle unwanted
+      unwanted_so some = (some, (m, there, left_out asks f (map.entries m) wanted unwanted sifted))
 
       abbrev left : KeyMap
       left = changed_all Removes m unwanted
@@ -101,15 +101,24 @@ module _ {F : Type 0} (asks : F → ℕ → ℕ → Bool → F → Type 0) (f : 
 
       pub all_wanted : unwanted ≡ [] → Retains asks f now handle now
       all_wanted none =
-          let same : left ≡ m = ap (changed_all Removes m) none in
-          (m, there, (m, subst (λ n. Wants asks f m (map.entries n)) same left_wanted, (λ e. refl), (refl, sym (naming_same (handles_of now) handle m there))))
+          let same : left ≡ m = ap (changed_all Removes m) none in (
+            m,
+            there,
+            (
+              m,
+              subst (λ n. Wants asks f m (map.entries n)) same left_wanted,
+              (λ e. refl),
+              (λ other. absurd (other refl)),
+              (refl, sym (naming_same (handles_of now) handle m there)),
+            ),
+          )
 
       fewer : 0 < length unwanted → left ≡ m → ⊥
       fewer some same =
           let all : length wanted ≡ map.len m = ap length (sym left_are) ∙ sym (map.len-entries left) ∙ ap map.len same in omega (arith, all, many, some)
 
       pub retains : 0 < length unwanted → (after : MapState) → ChangesAll Removes now handle unwanted after → Retains asks f now handle after
-      retains some after (n, has, room, becomes) =
+      retains some after (life, (n, has, room, becomes)) =
           let is : n ≡ m = one_map (map.get (handles_of now) handle) n m has there in (
             m,
             there,
@@ -117,16 +126,17 @@ module _ {F : Type 0} (asks : F → ℕ → ℕ → Bool → F → Type 0) (f : 
               left,
               left_wanted,
               (λ same. absurd (fewer some same)),
+              (λ other. (unwanted, unwanted_so some, life)),
               subst (λ k. Becomes now (naming (handles_of now) handle Writable (changed_all Removes k unwanted)) after) is becomes,
             ),
           )
 
-      pub refuses : (after : MapState) (why : MapError) → RefusesBatch Removes now handle unwanted after why → RefusesRetain asks f now handle after why
-      refuses after error.Full p = (p.0, (unwanted, unwanted_so, p.1, p.2), p.3)
-      refuses after error.WornOut p = (p.0, (unwanted, unwanted_so, p.1), p.2)
-      refuses after error.Crowded p = absurd (never_crowded (hash_of before.limits.hash) p.2.0 unwanted p.2.2)
-      refuses after error.Memory p = (allowed, p.1)
-      refuses after why p = p
+      pub refuses : 0 < length unwanted → (after : MapState) (why : MapError) → RefusesBatch Removes now handle unwanted after why → RefusesRetain asks f now handle after why
+      refuses some after error.Full p = (p.0, (unwanted, unwanted_so some, p.1, p.2), p.3)
+      refuses some after error.WornOut p = (p.0, (unwanted, unwanted_so some, p.1), p.2)
+      refuses some after error.Crowded p = absurd (never_crowded (hash_of before.limits.hash) p.2.0 unwanted p.2.2)
+      refuses some after error.Memory p = (allowed, p.1)
+      refuses some after why p = p
 
-      pub works : (after : MapState) → TakesUpTo (work_of_changes (length unwanted) + work_of_a_close) before after.core → WorksByUnwanted asks f now handle after
-      works after takes = inr (unwanted, unwanted_so, takes)
+      pub works : 0 < length unwanted → (after : MapState) → TakesUpTo (work_of_changes (length unwanted) + work_of_a_close) before after.core → WorksByUnwanted asks f now handle after
+      works some after takes = inr (unwanted, unwanted_so some, takes)

@@ -64,7 +64,7 @@ ChangesKey batch handle pair before after =
     (m : KeyMap) × HasMap (world_of before) handle m × (crowds batch (hash_of before.limits.hash) m pair.0 ≡ false)
     × Turns before (naming (world_of before) handle Writable (changed batch pair m)) after × Leads before (batch_call batch handle pair) after
 
--- The change of one of these keys came to where it was to make a node, and no slot was free: in the state to which the changes before it led.
+-- the change of one of these keys ran out of slots, in the state to which the changes before it led
 abbrev pub RunsOutAmong : Batch → ℕ → List (ℕ × ℕ) → State → Type 0
 RunsOutAmong batch handle [] now = ⊥
 RunsOutAmong batch handle (pair ∷ pairs) now =
@@ -84,12 +84,6 @@ slots_of_changes many = (most_steps_of_copies + 1) + (most_makes_alone + 1) * ma
 abbrev pub work_of_changes : ℕ → ℕ
 work_of_changes many = work_of_a_copy + work_of_a_change * many
 
--- all these keys of the writable handle are changed; all other handles stay
-abbrev pub ChangesAll : Batch → MapState → ℕ → List (ℕ × ℕ) → MapState → Type 0
-ChangesAll batch before handle pairs after =
-    (m : KeyMap) × HasMap (handles_of before) handle m × HaveRoom batch (hash_of before.core.limits.hash) m pairs
-    × Becomes before (naming (handles_of before) handle Writable (changed_all batch m pairs)) after
-
 -- why it isn't begun: it changes the map, and opens a copy for the moment
 abbrev pub batch_denial : MapState → ℕ → Option MapError
 batch_denial before handle = denial_by true true (map.get (handles_of before) handle) (map.len (handles_of before))
@@ -98,7 +92,14 @@ batch_denial before handle = denial_by true true (map.get (handles_of before) ha
 abbrev pub HasLifeFor : MapState → List (ℕ × ℕ) → Type 0
 HasLifeFor before pairs = is_worn_out_by (work_of_changes (length pairs)) before.core ≡ false
 
--- Fewer slots were free than the copy of the handle's map and all these changes may take, and on the way none was where a node was to be made.
+-- all these keys of the writable handle are changed, for which steps were left; all other handles stay
+abbrev pub ChangesAll : Batch → MapState → ℕ → List (ℕ × ℕ) → MapState → Type 0
+ChangesAll batch before handle pairs after =
+    HasLifeFor before pairs
+    × ((m : KeyMap) × HasMap (handles_of before) handle m × HaveRoom batch (hash_of before.core.limits.hash) m pairs
+    × Becomes before (naming (handles_of before) handle Writable (changed_all batch m pairs)) after)
+
+-- Fewer slots were free than the copy of the handle's map and all these changes may take, and that copy or one of these changes ran out of them.
 abbrev pub LacksSlotsAmong : Batch → MapState → ℕ → List (ℕ × ℕ) → Type 0
 LacksSlotsAmong batch before handle pairs = IsTight (slots_of_changes (length pairs)) before.core × RunsOutOnCopy batch (core_of (name_at before.names handle)) pairs before.core
 

@@ -107,7 +107,7 @@ core_of (Some name) = name.core
 abbrev pub core_call : MapState → Call → Call
 core_call before call = on_handle (core_of (name_at before.names (handle_of call))) call
 
--- Fewer slots were free than such a call may take, and it came to where it was to make a node, and none was.
+-- Fewer slots were free than such a call may take, and the core's call ran out of them: its last step before that answer was to make a node.
 abbrev pub LacksSlots : MapState → Call → Type 0
 LacksSlots before call = IsTight (slots_of call) before.core × RunsOut before.core the_actor (core_call before call)
 

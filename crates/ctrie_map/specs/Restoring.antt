@@ -1,5 +1,5 @@
 -- What becomes of a handle that is to name the map of another one.
-use Rattle.std.specs.Prelude.{◌≡◌, ◌≢◌, ℕ, Bool, true, not, ◌&&◌, nat_eq, nat_le, Option, Some, None, if◌then◌else◌}
+use Rattle.std.specs.Prelude.{◌≡◌, ◌≢◌, ℕ, Bool, true, false, not, ◌&&◌, nat_eq, nat_le, Option, Some, None, Result, Ok, Err, if◌then◌else◌}
 use Rattle.std.specs.FinMap as map
 use Rattle.history.specs.declared.calls.Access.TheVariants.{Writable}
 use Rattle.history.specs.declared.calls.Call.TheVariants.{Snapshot}
@@ -35,6 +35,12 @@ restore_denial before handle copy =
 -- no more steps are left than it may take, and a call behind it
 abbrev pub is_worn_out_to_restore : MapState → Bool
 is_worn_out_to_restore before = is_worn_out_by work_of_a_copy before.core
+
+-- Where it was done, or refused as full, more steps were left than it may take. It takes none where both handles are the same, and is done then.
+abbrev pub HasLifeIfTried : Result (Unit {0}) MapError → MapState → ℕ → ℕ → Type 0
+HasLifeIfTried (Ok done) before handle copy = handle ≢ copy → is_worn_out_to_restore before ≡ false
+HasLifeIfTried (Err Full) before handle copy = (handle ≢ copy) × (is_worn_out_to_restore before ≡ false)
+HasLifeIfTried (Err error) before handle copy = Unit {0}
 
 -- Why it was refused. All maps stay as they are; where it wasn't begun, nothing has changed.
 abbrev pub RefusesRestore : MapState → ℕ → ℕ → MapState → MapError → Type 0

@@ -1,5 +1,5 @@
 -- The pairs of a map that a closure wants.
-use Rattle.std.specs.Prelude.{◌≡◌, ◌⊎◌, ◌+◌, ℕ, Bool, true, not, List, [], ◌∷◌, length, Some, None, if◌then◌else◌}
+use Rattle.std.specs.Prelude.{◌≡◌, ◌≢◌, ◌⊎◌, ◌+◌, ◌<◌, ℕ, Bool, true, not, List, [], ◌∷◌, length, Some, None, if◌then◌else◌}
 use Rattle.std.specs.FinMap as map
 use Rattle.std.specs.List.Retain.{IsFiltered}
 use Rattle.history.specs.declared.calls.Access.TheVariants.{Writable}
@@ -17,18 +17,24 @@ use Rattle.ctrie_map.specs.Maps.{MapState, Becomes, Stays, handles_of}
 abbrev pub Wants : {F : Type 0} → (F → ℕ → ℕ → Bool → F → Type 0) → F → KeyMap → List (ℕ × ℕ) → Type 0
 Wants asks f m wanted = IsFiltered (λ now pair wants next. asks now pair.0 pair.1 wants next) f (map.entries m) wanted
 
--- asked so, it doesn't want these pairs of the handle's map
+-- asked so, it doesn't want these pairs of the handle's map, one at least
 abbrev pub HasUnwanted : {F : Type 0} → (F → ℕ → ℕ → Bool → F → Type 0) → F → MapState → ℕ → List (ℕ × ℕ) → Type 0
 HasUnwanted asks f before handle unwanted =
-    (m : KeyMap) × HasMap (handles_of before) handle m × IsFiltered (λ now pair leaves next. asks now pair.0 pair.1 (not leaves) next) f (map.entries m) unwanted
+    (0 < length unwanted)
+    × ((m : KeyMap) × HasMap (handles_of before) handle m × IsFiltered (λ now pair leaves next. asks now pair.0 pair.1 (not leaves) next) f (map.entries m) unwanted)
 
--- The writable handle has the pairs that are wanted, and no others; all other handles stay. Where all are, nothing has changed.
+-- more steps are left than it may take to remove those that it doesn't want
+abbrev pub HasLifeToRetain : {F : Type 0} → (F → ℕ → ℕ → Bool → F → Type 0) → F → MapState → ℕ → Type 0
+HasLifeToRetain asks f before handle = (unwanted : List (ℕ × ℕ)) × HasUnwanted asks f before handle unwanted × HasLifeFor before unwanted
+
+-- The writable handle has the pairs that are wanted, and no others; all other handles stay. Where all are, nothing has changed; else steps were left for it.
 abbrev pub Retains : {F : Type 0} → (F → ℕ → ℕ → Bool → F → Type 0) → F → MapState → ℕ → MapState → Type 0
 Retains asks f before handle after =
     (m : KeyMap) × HasMap (handles_of before) handle m
-    × ((left : KeyMap) × Wants asks f m (map.entries left) × (left ≡ m → after ≡ before) × Becomes before (naming (handles_of before) handle Writable left) after)
+    × ((left : KeyMap) × Wants asks f m (map.entries left) × (left ≡ m → after ≡ before) × (left ≢ m → HasLifeToRetain asks f before handle)
+    × Becomes before (naming (handles_of before) handle Writable left) after)
 
--- Why it was refused: by the pairs that aren't wanted, or before the closure was asked of any. All maps stay as they are.
+-- Why it was refused: by the pairs that aren't wanted, of which there are some, or before the closure was asked of any. All maps stay as they are.
 abbrev pub RefusesRetain : {F : Type 0} → (F → ℕ → ℕ → Bool → F → Type 0) → F → MapState → ℕ → MapState → MapError → Type 0
 RefusesRetain asks f before handle after Full =
     (batch_denial before handle ≡ None)

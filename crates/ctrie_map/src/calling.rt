@@ -13,7 +13,8 @@ use crate::map::Map;
 use history::{Call, Pairs, Reply};
 
 impl Map {
-    /// Any call, for what keeps calls and replies as values. A change for which no slot was free has the reply `NoSlots`;
+    /// Any call, for what keeps calls and replies as values. It is refused as the call's own method is, but that a change for
+    /// which no slot was free has the reply `NoSlots`, and one whose key is crowded the reply `Crowded`: no map has changed then.
     /// `telling` has what the call's own method tells of a reply.
     #[inline(always)]
     pub fn call(&mut self, call: Call) -> Result<Reply, MapError>

@@ -15,7 +15,8 @@ use history::{Access, Call};
 
 impl Map {
     /// Opens a writable copy, of a read-only map too. It is changed on its own, as is the map that was copied. Its number is
-    /// the next one behind the number that was given last, round about, that isn't open.
+    /// the next one behind the number that was given last, round about, that isn't open. Refused as `NoHandle`, as
+    /// `HandlesFull` where 256 handles are open, as `WornOut` or as `Full`.
     pub fn snapshot(&mut self, handle: Handle) -> Result<Handle, MapError>
         ensures done { IfOk result (λ copy. HasLife self.old × Copies self.old handle Writable copy self.new) }
         ensures next { IfOk result (IsNextFree self.old.names) }
@@ -25,7 +26,7 @@ impl Map {
         opened(self.open(handle.number(), Access::Writable))
     }
 
-    /// Opens a read-only copy, with a number as `snapshot` gives it.
+    /// Opens a read-only copy, with a number as `snapshot` gives it. Refused as `snapshot` is.
     pub fn freeze(&mut self, handle: Handle) -> Result<Handle, MapError>
         ensures done { IfOk result (λ copy. HasLife self.old × Copies self.old handle ReadOnly copy self.new) }
         ensures next { IfOk result (IsNextFree self.old.names) }
@@ -35,8 +36,8 @@ impl Map {
         opened(self.open(handle.number(), Access::ReadOnly))
     }
 
-    /// Takes the handle away, and its map. What only this map had is free again then. It wants no slot, so it is never
-    /// `Full`.
+    /// Takes the handle away, and its map. What only this map had is free again then. Refused as `NoHandle` or `WornOut`: it
+    /// wants no slot, so it is never `Full`.
     pub fn close(&mut self, handle: Handle) -> Result<(), MapError>
         ensures done { IfOk result (λ _. HasLife self.old × Closes self.old handle self.new) }
         ensures refused { IfErr result (Refuses self.old (Close handle) ⊥ self.new) }

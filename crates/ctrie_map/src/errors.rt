@@ -14,24 +14,28 @@ pub enum MapError {
     /// The handle isn't open.
     #[error("the handle isn't open")]
     NoHandle,
-    /// A change by a read-only handle, or a restore of it.
+    /// A change by a read-only handle, or a restore of it. A copy never.
     #[error("the map is read-only")]
     ReadOnly,
-    /// A snapshot, a freeze, a `restore`, a `put_all` or a `retain` while 256 handles are open.
+    /// A snapshot, a freeze, a `restore` from another handle, a `put_all` or a `retain` while 256 handles are open; and a
+    /// `copy_under` where the number is open, or is none below 256.
     #[error("256 handles are open")]
     HandlesFull,
     /// The key has no value and is to get one, and 32 other keys have its hash.
     #[error("too many keys have this hash")]
     Crowded,
-    /// The call came to where it was to make a node, and no slot was free. It comes only where fewer than
-    /// `SLOTS_FOR_A_CALL` slots were free before the call, or 23 where it is a clear or a copy, or 24 and 571 a pair where
-    /// it is a `put_all`, or a `retain` that doesn't want so many pairs.
+    /// The call's last step before this answer was to make a node, and no slot was free: of a `put_all` or a `retain`, that of
+    /// its copy or of the change of a key in it. It comes only where fewer than `SLOTS_FOR_A_CALL` slots were free before the
+    /// call, or 23 where it is a clear or a copy, or 24 and 571 a pair where it is a `put_all`, or a `retain` that doesn't want
+    /// so many pairs. A removal whose repair of the trie finds no slot is done.
     #[error("no slot is free")]
     Full,
     /// The number of slots isn't from 2 to 1,048,576, or that of a shared map's shards isn't from 1 to 64.
     #[error("the number of slots or shards is out of range")]
     BadSizes,
-    /// A map takes 2^45 - 2^21 steps in its life. It can still be read.
+    /// No more steps are left than a change, a copy or a close may take with the sweep behind it, of the 2^45 - 2^21 of a
+    /// map's life. A `restore`, a `put_all` and a `retain` that has pairs to remove want their own steps besides. The map can
+    /// still be read.
     #[error("the map is worn out")]
     WornOut,
     /// Memory was refused to a new map, or to a list that a call makes.

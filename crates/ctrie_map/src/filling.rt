@@ -16,9 +16,10 @@ use machine_core::Core;
 
 impl Map {
     /// Sets the values of all these keys, or of none: where it is refused, no map has changed. Of pairs of one key the last one
-    /// counts. It works on a copy, which takes one more handle for the moment: `HandlesFull` where 256 are open. It is `Full` only
-    /// where that copy, or the change of one of the keys in it, was to make a node and no slot was free: never where 24 slots and
-    /// 571 for each pair were free before it. It is `WornOut` where fewer steps are left than so many changes may take.
+    /// counts. Refused as `NoHandle`, `ReadOnly` or `Crowded`; as `HandlesFull` where 256 handles are open, since it works on a
+    /// copy, which takes one more for the moment; as `WornOut` where no more steps are left than so many changes may take; and as
+    /// `Full` where the last step of that copy, or of the change of one of the keys in it, was to make a node and no slot was
+    /// free: never where 24 slots and 571 for each pair were free before it.
     pub fn put_all(&mut self, handle: Handle, pairs: &[(u64, u64)]) -> Result<(), MapError>
         ensures done { IfOk result (λ _. PutsAll self.old handle pairs.now self.new) }
         ensures refused { IfErr result (RefusesPuts self.old handle pairs.now self.new) }

@@ -60,7 +60,7 @@ impl Map {
         self.names.find(handle.number()).is_some()
     }
 
-    /// Whether the handle's map may be changed by it.
+    /// Whether the handle's map may be changed by it. Refused as `NoHandle` alone.
     pub fn is_writable(&self, handle: Handle) -> Result<bool, MapError>
         ensures { result ≡ writability self.now handle }
     {

@@ -19,6 +19,11 @@ use std::marker::Model;
 /// Maps from 64-bit numbers to 64-bit numbers, named by handles. At first handle 0 is open, writable and empty. A
 /// snapshot or a freeze takes at most 144 steps whatever the map has, and five for each slot that becomes free. All its
 /// memory is taken when it is made: no call takes more, but those that list.
+///
+/// A call that is refused changes no map; where it isn't `Full` or `Crowded`, nothing at all. What is said of each refusal at
+/// `MapError` holds of every call that names it: so `NoHandle` comes where a handle isn't open, `ReadOnly` where the map was
+/// to be changed by a read-only one, `WornOut` where no more steps are left than the call may take, `Full` where its last
+/// step before this answer was to make a node and no slot was free.
 pub struct Map {
     pub(crate) core: Core,
     pub(crate) names: Names,
@@ -44,7 +49,7 @@ impl Model for Map {
 
 impl Map {
     /// A map with the given number of slots for nodes, from 2 to 1,048,576, and hash of keys. Handle 0 is open, writable
-    /// and empty.
+    /// and empty. Refused as `BadSizes` where the number is another one, and as `Memory`.
     pub fn new(alloc: Global, slots: u32, hash: HashKind) -> Result<Map, MapError>
         ensures made { IfOk result (IsNew slots hash) }
         ensures in_range { OnOk result (AreSlots slots) }

@@ -13,7 +13,7 @@ use crate::telling::found;
 use history::Call;
 
 impl Map {
-    /// Sets the key's value. The value before, if it had one.
+    /// Sets the key's value. The value before, if it had one. Refused as `NoHandle`, `ReadOnly`, `WornOut`, `Crowded` or `Full`.
     pub fn put(&mut self, handle: Handle, key: u64, value: u64) -> Result<Option<u64>, MapError>
         ensures done { IfOk result (λ before. HasLife self.old
             × Changes self.old handle (λ m. (before ≡ map.get m key) × HasRoom self.old key m) (λ m. map.insert m key value) self.new) }
@@ -27,7 +27,7 @@ impl Map {
         }))
     }
 
-    /// Sets the value of a key that has none. The value that it has already, if it has one.
+    /// Sets the value of a key that has none. The value that it has already, if it has one. Refused as `put` is.
     pub fn put_if_absent(
         &mut self,
         handle: Handle,

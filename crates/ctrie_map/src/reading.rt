@@ -18,11 +18,11 @@ use crate::names::Name;
 use crate::performing::life_left;
 use machine_core::Core;
 
-/// So many free slots are enough for any call.
+/// So many free slots are enough for any call but `put_all` and `retain`, which change several keys.
 pub const SLOTS_FOR_A_CALL: u32 = 570;
 
 impl Map {
-    /// The key's value, if it has one. It takes no memory.
+    /// The key's value, if it has one. It takes no memory. Refused as `NoHandle` alone.
     pub fn get(&self, handle: Handle, key: u64) -> Result<Option<u64>, MapError>
         ensures { result ≡ reading self.now handle (λ m. map.get m key) }
     {
@@ -30,7 +30,7 @@ impl Map {
         value_in(&self.core, name.core, key)
     }
 
-    /// Whether the key has a value. It takes no memory.
+    /// Whether the key has a value. It takes no memory. Refused as `NoHandle` alone.
     #[tactic(auto, using(crate::proofs::Lookups::mapped, crate::proofs::Lookups::refused))]
     pub fn contains(&self, handle: Handle, key: u64) -> Result<bool, MapError>
         ensures { result ≡ reading self.now handle (λ m. map.contains_key m key) }
@@ -99,7 +99,7 @@ impl Map {
         self.core.free_slots()
     }
 
-    /// Whether the next call finds enough free slots, whatever it is: it isn't `Full` then.
+    /// Whether the next call finds enough free slots, whatever it is but `put_all` and `retain`: it isn't `Full` then.
     pub fn has_room(&self) -> bool
         ensures { result ≡ nat_le most_makes_alone (free_of self.now) }
     {

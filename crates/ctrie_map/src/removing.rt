@@ -14,7 +14,7 @@ use crate::telling::{done, found, truth};
 use history::Call;
 
 impl Map {
-    /// Removes the key. The value before, if it had one.
+    /// Removes the key. The value before, if it had one. Refused as `NoHandle`, `ReadOnly`, `WornOut` or `Full`.
     pub fn remove(&mut self, handle: Handle, key: u64) -> Result<Option<u64>, MapError>
         ensures done { IfOk result (λ before. HasLife self.old × Changes self.old handle (λ m. before ≡ map.get m key) (λ m. map.remove m key) self.new) }
         ensures refused { IfErr result (Refuses self.old (Remove handle key) ⊥ self.new) }
@@ -26,7 +26,7 @@ impl Map {
         }))
     }
 
-    /// Removes a key that has this value. Whether it had it.
+    /// Removes a key that has this value. Whether it had it. Refused as `remove` is.
     pub fn remove_if(&mut self, handle: Handle, key: u64, value: u64) -> Result<bool, MapError>
         ensures done { IfOk result (λ done. HasLife self.old × Changes self.old handle (λ m. done ≡ has_value m key value) (removed_if_it_has key value) self.new) }
         ensures refused { IfErr result (Refuses self.old (RemoveIf handle key value) ⊥ self.new) }
@@ -39,7 +39,7 @@ impl Map {
         }))
     }
 
-    /// Removes all keys.
+    /// Removes all keys. Refused as `NoHandle`, `ReadOnly`, `WornOut` or `Full`.
     pub fn clear(&mut self, handle: Handle) -> Result<(), MapError>
         ensures done { IfOk result (λ _. HasLife self.old × Changes self.old handle IsAny (λ m. map.empty) self.new) }
         ensures refused { IfErr result (Refuses self.old (Clear handle) ⊥ self.new) }

@@ -14,7 +14,8 @@ use crate::telling::{found, truth};
 use history::Call;
 
 impl Map {
-    /// Sets the value of a key that has one. The value before, if it had one.
+    /// Sets the value of a key that has one. The value before, if it had one. Refused as `NoHandle`, `ReadOnly`, `WornOut` or
+    /// `Full`.
     pub fn replace(&mut self, handle: Handle, key: u64, value: u64) -> Result<Option<u64>, MapError>
         ensures done { IfOk result (λ before. HasLife self.old × Changes self.old handle (λ m. before ≡ map.get m key) (set_if_there key value) self.new) }
         ensures refused { IfErr result (Refuses self.old (Replace handle key value) ⊥ self.new) }
@@ -27,7 +28,7 @@ impl Map {
         }))
     }
 
-    /// Sets the value of a key that has the value `old`. Whether it had it.
+    /// Sets the value of a key that has the value `old`. Whether it had it. Refused as `replace` is.
     pub fn replace_if(
         &mut self,
         handle: Handle,

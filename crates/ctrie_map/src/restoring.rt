@@ -3,7 +3,7 @@
 ghost use Rattle.std.specs.Prelude.{◌≡◌, ◌+◌, IfOk, IfErr};
 ghost use Rattle.ctrie_map.specs.Costs.{WorksUpTo, work_of_a_close, work_of_a_copy};
 ghost use Rattle.ctrie_map.specs.Maps.{IsWhole, map_with};
-ghost use Rattle.ctrie_map.specs.Restoring.{RefusesRestore, Restores};
+ghost use Rattle.ctrie_map.specs.Restoring.{HasLifeIfTried, RefusesRestore, Restores};
 
 use crate::drafts::take_map;
 use crate::errors::MapError;
@@ -16,12 +16,15 @@ use machine_core::Core;
 
 impl Map {
     /// The handle, which is writable, has the copy's map from now on; what it had before is gone, but for what other handles
-    /// have of it. The copy may be read-only, and stays. For the moment this takes one more handle: `HandlesFull` where 256 are
-    /// open.
+    /// have of it. The copy may be read-only, and stays. Refused as `NoHandle` where one of the two isn't open, as `ReadOnly`
+    /// where the handle is; and, but where both are the same and nothing is to be done, as `HandlesFull` where 256 handles are
+    /// open, since it takes one more for the moment, as `WornOut` where no more steps are left than it may take, and as `Full`
+    /// where its last step before this answer was to make a node and no slot was free. No map has changed then.
     pub fn restore(&mut self, handle: Handle, copy: Handle) -> Result<(), MapError>
         ensures restores { IfOk result (λ _. Restores self.old handle copy self.new) }
         ensures itself { handle ≡ copy → self.new ≡ self.old }
         ensures refused { IfErr result (RefusesRestore self.old handle copy self.new) }
+        ensures life { HasLifeIfTried result self.old handle copy }
         ensures work { WorksUpTo (work_of_a_copy + work_of_a_close) self.old self.new }
     {
         restore(
@@ -40,6 +43,7 @@ fn restore(core: &mut Core, names: &mut Names, handle: u16, copy: u16) -> Result
     ensures restores { IfOk result (λ _. Restores (map_with core.old.state names.old) handle copy (map_with core.new.state names.new)) }
     ensures itself { handle ≡ copy → map_with core.new.state names.new ≡ map_with core.old.state names.old }
     ensures refused { IfErr result (RefusesRestore (map_with core.old.state names.old) handle copy (map_with core.new.state names.new)) }
+    ensures life { HasLifeIfTried result (map_with core.old.state names.old) handle copy }
     ensures work { WorksUpTo (work_of_a_copy + work_of_a_close) (map_with core.old.state names.old) (map_with core.new.state names.new) }
 {
     let Some(name) = names.find(handle) else {

@@ -16,10 +16,10 @@ impl Map {
     /// Keeps the pairs that `f` wants: it takes all others out, or none. `f` is asked of each pair once, in ascending order of
     /// keys, before anything changes, and of none where the handle isn't open or is read-only, where 256 handles are open, since
     /// it works on a copy, which takes one more for the moment, or where there is no memory for a list of the pairs. It is `Full`
-    /// only where that copy, or the removal of an unwanted pair from it, was to make a node and no slot was free: never where 24
-    /// slots and 571 for each unwanted pair were free before it. It is `WornOut` where fewer steps are left than so many changes
-    /// may take. No map has changed then, and `remove` may do for some of the pairs. Where all are wanted, nothing changes, and no
-    /// step is taken.
+    /// only where the last step of that copy, or of the removal of an unwanted pair from it, was to make a node and no slot was
+    /// free: never where 24 slots and 571 for each unwanted pair were free before it. It is `WornOut` where no more steps are left
+    /// than so many changes may take. No map has changed then, and `remove` may do for some of the pairs. Where all are wanted,
+    /// nothing changes, no step is taken, and it is neither `Full` nor `WornOut`.
     pub fn retain<F: FnMut(u64, u64) -> bool>(
         &mut self,
         handle: Handle,

@@ -47,7 +47,8 @@ impl Map {
     }
 
     /// Any copy, as `snapshot` and `freeze` open one, under a number of the caller's. Where the number is open, or is none
-    /// below 256, it is refused as `HandlesFull`, and nothing has changed.
+    /// below 256, it is refused as `HandlesFull`, whatever the handle is; else as `NoHandle` or `WornOut`. Nothing has changed
+    /// then. Where no slot was free for it, its reply is `NoSlots`, and no map has changed.
     pub fn copy_under(
         &mut self,
         handle: Handle,

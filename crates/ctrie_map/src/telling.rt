@@ -1,4 +1,4 @@
-//! What the methods tell of a reply of `Map::call`.
+//! What the methods tell of a reply of `Map::call`: `Crowded` and `Full` where the reply is that, and a refusal as it is.
 
 ghost use Rattle.std.specs.Prelude.{◌≡◌};
 ghost use Rattle.ctrie_map.specs.Telling.{done_in, found_in, opened_in, truth_in};
@@ -7,7 +7,7 @@ use crate::errors::MapError;
 use crate::handle::Handle;
 use history::Reply;
 
-/// A value. A call for which no slot was free has the reply `NoSlots`.
+/// A value, or none. `Full` of any reply that tells neither a value nor that the key is crowded, as `NoSlots`.
 pub fn found(told: Result<Reply, MapError>) -> Result<Option<u64>, MapError>
     ensures { result ≡ found_in told }
 {
@@ -18,7 +18,7 @@ pub fn found(told: Result<Reply, MapError>) -> Result<Option<u64>, MapError>
     }
 }
 
-/// Whether something was done.
+/// Whether something was done. `Full` of any reply that tells neither this nor that the key is crowded.
 pub fn truth(told: Result<Reply, MapError>) -> Result<bool, MapError>
     ensures { result ≡ truth_in told }
 {
@@ -29,7 +29,7 @@ pub fn truth(told: Result<Reply, MapError>) -> Result<bool, MapError>
     }
 }
 
-/// A new handle.
+/// A new handle. `Full` of any reply that opens none, but of `Crowded`.
 pub fn opened(told: Result<Reply, MapError>) -> Result<Handle, MapError>
     ensures { result ≡ opened_in told }
 {
@@ -40,7 +40,7 @@ pub fn opened(told: Result<Reply, MapError>) -> Result<Handle, MapError>
     }
 }
 
-/// Nothing but that it is done.
+/// Nothing but that a map is cleared or a handle closed. `Full` of any other reply, but of `Crowded`.
 pub fn done(told: Result<Reply, MapError>) -> Result<(), MapError>
     ensures { result ≡ done_in told }
 {

@@ -14,7 +14,7 @@ use machine_core::Core;
 
 impl Map {
     /// How many keys have a value, at most as many as a map may have slots (2^20). It walks over them all, since no count is
-    /// kept, and takes no memory.
+    /// kept, and takes no memory. Refused as `NoHandle` alone.
     pub fn count(&self, handle: Handle) -> Result<u64, MapError>
         ensures exact { result ≡ reading self.now handle (λ m. map.len m) }
         ensures few { IfOk result (λ count. count ≤ most_slots) }
@@ -23,14 +23,15 @@ impl Map {
         count_in(&self.core, name.core)
     }
 
-    /// Whether no key has a value. It ends at the first key that has one, and takes no memory.
+    /// Whether no key has a value. It ends at the first key that has one, and takes no memory. Refused as `NoHandle` alone.
     pub fn is_empty(&self, handle: Handle) -> Result<bool, MapError>
         ensures { result ≡ reading self.now handle (λ m. nat_eq (map.len m) 0) }
     {
         Ok(self.first(handle)?.is_none())
     }
 
-    /// A key with its value, whichever is found first; none exactly where no key has a value. It takes no memory.
+    /// A key with its value, whichever is found first; none exactly where no key has a value. It takes no memory. Refused as
+    /// `NoHandle` alone.
     pub fn first(&self, handle: Handle) -> Result<Option<(u64, u64)>, MapError>
         ensures { Reads self.now handle IsOneOf result }
     {

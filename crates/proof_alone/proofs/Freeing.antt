@@ -1,12 +1,11 @@
 -- How many steps of the sweep it takes to free slots, where no operation runs.
-use Rattle.std.specs.Prelude.{◌≡◌, ◌≢◌, ◌≤◌, ◌+◌, ◌*◌, ◌-◌, ℕ, false, [], length}
+use Rattle.std.specs.Prelude.{◌≡◌, ◌≢◌, ◌≤◌, ◌+◌, ◌*◌, ℕ, false, [], length}
 use Rattle.std.specs.Prelude.{Ok}
 use Rattle.std.proofs.Common.{sym, ap, ◌∙◌}
-use Rattle.proof_alone.specs.Beneath.slot_arena.specs.Heaps.{freed}
 use Rattle.proof_alone.specs.Beneath.machine_model.specs.declared.steps.Bounds.{Bounds}
 use Rattle.proof_alone.specs.Beneath.machine_model.specs.declared.steps.Outcome.{Outcome}
 use Rattle.proof_alone.specs.Beneath.machine_model.specs.declared.steps.Step.TheVariants as step
-use Rattle.proof_alone.specs.Beneath.machine_model.specs.Machine.{is_busy, next, run}
+use Rattle.proof_alone.specs.Beneath.machine_model.specs.Machine.{is_busy, next}
 use Rattle.proof_alone.specs.Beneath.machine_model.specs.States.{State}
 use Rattle.proof_alone.specs.Beneath.machine_model.proofs.Along.{limits_along}
 use Rattle.proof_alone.specs.Beneath.machine_model.proofs.Moves.{moved}

@@ -83,12 +83,14 @@ module _ (limits : Bounds) (steps : List Step) (ok : AreBounds limits) (keys : K
       absurd (not_at_first after
       (ap (λ s. next s (Go actor)) (sym (none_more limits (began limits steps actor call) actor) ∙ is_there limits steps actor call 0 last (starts is)) ∙ ends))
   runs_out n last (walks {n = m} {before} earlier is) after ends =
-      let here = is_there limits steps actor call (suc m) last (walks earlier is) in (
-        m,
-        before,
-        earlier,
-        subst (λ s. FindsNoSlot s actor id) (is_there limits steps actor call m before earlier) (finds_none m after (ap (λ s. next s (Go actor)) here ∙ ends)),
-      )
+      let here = is_there limits steps actor call (suc m) last (walks earlier is) in record {
+        n = m;
+        now = before;
+        goes = earlier;
+        finds = subst (λ s. FindsNoSlot s actor id) (is_there limits steps actor call m before earlier) (finds_none m after (ap (λ s. next s (Go actor)) here ∙ ends));
+        after = after;
+        ends = record { last = last; goes = walks earlier is; ends = ends };
+      }
 
   -- ---- where so many slots are free as it may take
 

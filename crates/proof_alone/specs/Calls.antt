@@ -1,5 +1,5 @@
 -- A call that runs alone from rest, and what it comes to.
-use Rattle.std.specs.Prelude.{◌≡◌, ◌≢◌, ◌⊎◌, ℕ, ◌+◌, ◌<◌, ◌≤◌, ◌^◌, false, length, Option, Some, None, Ok}
+use Rattle.std.specs.Prelude.{◌≡◌, ◌≢◌, ◌⊎◌, ℕ, suc, ◌+◌, ◌<◌, ◌≤◌, ◌^◌, false, length, Option, Some, None, Ok}
 use Rattle.proof_alone.specs.Beneath.ctrie_base.specs.Hashes.{hash_of}
 use Rattle.proof_alone.specs.Beneath.ctrie_base.specs.declared.kinds.Kind.{Kind}
 use Rattle.proof_alone.specs.Beneath.history.specs.declared.calls.Call.{Call}
@@ -105,9 +105,14 @@ CallsDo =
 
 -- ---- want of slots
 
--- on its way the call was to make a node, and no slot was free
-abbrev pub RunsOut : State → ℕ → Call → Type 0
-RunsOut before actor call = (n : ℕ) × (now : State) × GoesOn before actor call n now × FindsNoSlot now actor before.begun
+-- By its steps the call comes to the answer that no slot was free: the last one before that was to make a node, and none was.
+pub record RunsOut (before : State) (actor : ℕ) (call : Call) : Type 0 where
+  pub n : ℕ
+  pub now : State
+  pub goes : GoesOn before actor call n now
+  pub finds : FindsNoSlot now actor before.begun
+  pub after : State
+  pub ends : Comes before actor call (suc n) NoSlots after
 
 -- a call is refused for want of slots only where it ran out of them
 abbrev pub RefusedIfOut : Type 0

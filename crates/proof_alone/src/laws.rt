@@ -23,7 +23,7 @@ pub fn calls_do()
     ensures { CallsDo }
 {}
 
-/// A law: it is refused for want of slots only where it was to make a node and none was free.
+/// A law: it is refused for want of slots only where its last step before that was to make a node and none was free.
 pub fn refused_if_out()
     ensures { RefusedIfOut }
 {}

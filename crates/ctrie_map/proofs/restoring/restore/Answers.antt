@@ -1,6 +1,6 @@
 use Rattle.std.proofs.Common.{◌<◌, ◌≤◌, arith, refl, sym, ◌∙◌}
 use Rattle.ctrie_map.specs.Names.{how_many}
-use Rattle.ctrie_map.proofs.Restored.{all_open, allowed, itself, no_copy, no_handle, not_frozen, read_only, refused_if, restored_if}
+use Rattle.ctrie_map.proofs.Restored.{all_open, allowed, itself, life_if, no_copy, no_handle, not_frozen, read_only, refused_if, restored_if}
 use Rattle.ctrie_map.proofs.restoring.restore.Goals as goal
 
 pub returns-in_default-clause-refused : goal.returns-in_default-clause-refused
@@ -58,3 +58,9 @@ returns-clause-refused c =
     c.in-Some-find.source (sym c.find-2.ensures ∙ c.in-Some-find.is) (not_frozen c.in-Some.name.access c.in_default-access.not-ReadOnly) c.if-handle-copy.false
     (let few : how_many c.args.names.now < 256 = omega (arith, c.many.ensures, c.if-many-ge-NAMES.false) in few)
     c.take_map.result c.take_map.new.core.state c.take_map.new.names c.take_map.ensures.refused
+
+pub returns-clause-life : goal.returns-clause-life
+returns-clause-life c =
+    life_if c.args.core.now.state c.args.names.now c.requires.whole c.args.handle c.args.copy c.in-Some.name (sym c.find.ensures ∙ c.in-Some.is)
+    c.in-Some-find.source (sym c.find-2.ensures ∙ c.in-Some-find.is) (not_frozen c.in-Some.name.access c.in_default-access.not-ReadOnly) c.if-handle-copy.false
+    (sym c.is_worn_out_by.ensures ∙ c.if-is_worn_out_by.false) c.take_map.result

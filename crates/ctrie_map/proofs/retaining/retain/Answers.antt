@@ -40,14 +40,20 @@ returns-clause-retains g c =
 
 pub returns-clause-refused : goal.returns-clause-refused
 returns-clause-refused g c =
+    let size : length c.leave_unwanted.new.pairs.items ≡ c.leave_unwanted.new.pairs.len = omega (arith, c.leave_unwanted.new.pairs.ok.0) in
     refused_then (refuses _ c.args.f c.args.core.now.state c.args.names.now c.requires.whole c.args.handle c.in_ok-name.name c.in_ok-name.ensures.named c.in_ok-pairs.pairs.items
-    c.leave_unwanted.ensures.0 c.leave_unwanted.new.pairs.items c.in_ok-pairs.ensures.entries c.leave_unwanted.ensures.1 (map_with c.change_all.new.core.state c.change_all.new.names))
+    c.leave_unwanted.ensures.0 c.leave_unwanted.new.pairs.items c.in_ok-pairs.ensures.entries c.leave_unwanted.ensures.1
+    (some_unwanted c.leave_unwanted.new.pairs.items (ap (λ n. nat_eq n 0) size ∙ sym c.is_empty.ensures ∙ c.if-is_empty.false))
+    (map_with c.change_all.new.core.state c.change_all.new.names))
     c.change_all.result
     (subst (λ xs. IfErr c.change_all.result (RefusesBatch Removes (map_with c.args.core.now.state c.args.names.now) c.args.handle xs (map_with c.change_all.new.core.state c.change_all.new.names)))
     c.as_slice.ensures.value c.change_all.ensures.refused)
 
 pub returns-clause-work : goal.returns-clause-work
 returns-clause-work g c =
+    let size : length c.leave_unwanted.new.pairs.items ≡ c.leave_unwanted.new.pairs.len = omega (arith, c.leave_unwanted.new.pairs.ok.0) in
     works _ c.args.f c.args.core.now.state c.args.names.now c.requires.whole c.args.handle c.in_ok-name.name c.in_ok-name.ensures.named c.in_ok-pairs.pairs.items
-    c.leave_unwanted.ensures.0 c.leave_unwanted.new.pairs.items c.in_ok-pairs.ensures.entries c.leave_unwanted.ensures.1 (map_with c.change_all.new.core.state c.change_all.new.names)
+    c.leave_unwanted.ensures.0 c.leave_unwanted.new.pairs.items c.in_ok-pairs.ensures.entries c.leave_unwanted.ensures.1
+    (some_unwanted c.leave_unwanted.new.pairs.items (ap (λ n. nat_eq n 0) size ∙ sym c.is_empty.ensures ∙ c.if-is_empty.false))
+    (map_with c.change_all.new.core.state c.change_all.new.names)
     (subst (λ xs. TakesUpTo (work_of_changes (length xs) + work_of_a_close) c.args.core.now.state c.change_all.new.core.state) c.as_slice.ensures.value c.change_all.ensures.work)
