@@ -58,8 +58,8 @@ module _ (start : State) (c : Call) (can : CanCall start the_actor c) where
 
   module _ (law : CallsGoOn) (now : State) (way : IsOnWay start c now) where
     -- a step leads on
-    pub walks_on : (kind : Kind) (after : State) → next now (Go the_actor) ≡ Ok (Went kind, after) → IsOnWay start c after
-    walks_on kind after is = (suc way.0, walks way.1 is)
+    pub leads_on : (kind : Kind) (after : State) → next now (Go the_actor) ≡ Ok (Went kind, after) → IsOnWay start c after
+    leads_on kind after is = (suc way.0, walks way.1 is)
 
     leads_by : (why : Refusal) → LeadsOn start now the_actor → next now (Go the_actor) ≡ Err why → ⊥
     leads_by why (inl goes) is = no_refusal _ _ why goes.2 is
@@ -68,9 +68,9 @@ module _ (start : State) (c : Call) (can : CanCall start the_actor c) where
     walks_over : (operation : Operation) → operation_of now the_actor ≡ Some operation → operation.call ≡ c → Walks (operation_of now the_actor) → ⊥
     walks_over operation runs same reads = no_walk c can.short (ap needs_read_only (sym same) ∙ subst Walks runs reads)
 
-    pub walk_not_refused : (why : Refusal) (after : State) → Applies (Err why) now the_actor (next now (Go the_actor)) after → ⊥
-    walk_not_refused why after (same, inl denied) = let on = law start the_actor c can way.0 now way.1 in leads_by why on.leads denied
-    walk_not_refused why after (same, inr (memory, taken, reads)) = let on = law start the_actor c can way.0 now way.1 in walks_over on.operation on.runs on.same reads
+    pub go_not_refused : (why : Refusal) (after : State) → Applies (Err why) now the_actor (next now (Go the_actor)) after → ⊥
+    go_not_refused why after (same, inl denied) = let on = law start the_actor c can way.0 now way.1 in leads_by why on.leads denied
+    go_not_refused why after (same, inr (memory, taken, reads)) = let on = law start the_actor c can way.0 now way.1 in walks_over on.operation on.runs on.same reads
 
     pub end_not_refused : (why : Refusal) (after : State) → Answers (Err why) now (next now (Go the_actor)) after → ⊥
     end_not_refused why after refused = let on = law start the_actor c can way.0 now way.1 in leads_by why on.leads refused.1

@@ -69,7 +69,7 @@ fn step_through(core: &mut Core, call: Call) -> Reply
         unreachable!()
     };
     while core.goes_on(ACTOR) {
-        let Ok(_) = core.walk(ACTOR) else {
+        let Ok(_) = core.go(ACTOR) else {
             unreachable!()
         };
     }

@@ -39,7 +39,7 @@ use Rattle.running.proofs.Asks.{Asks, asked, asks, key_handle}
 use Rattle.running.proofs.Lasting.{tells}
 use Rattle.machine_core.specs.declared.parts.UnderWay.{UnderWay}
 use Rattle.machine_core.specs.Seen.{operation_at}
-use Rattle.machine_core.specs.Beneath.proof_records.specs.Laws.{LineHasRoom, MakesNode}
+use Rattle.machine_core.specs.Beneath.proof_operations.specs.Laws.{LineHasRoom, MakesNode}
 use Rattle.proof_core.proofs.Claims.{Lives, read_claims, root_live}
 use Rattle.machine_core.proofs.Conditions.{Finds, IsLineOf, can_key, can_copy, can_walk, met, told}
 use Rattle.slot_arena.specs.Refs.{birth_limit}

@@ -27,7 +27,7 @@ use Rattle.machine_core.specs.Seen.{actor_of, operation_at, operation_seen, seen
 use Rattle.machine_core.proofs.Able.{can_step}
 use Rattle.proof_core.proofs.Bounded.{bounded}
 use Rattle.proof_core.proofs.Claims.{Lives}
-use Rattle.machine_core.specs.Beneath.proof_records.specs.Laws.{MakesNode}
+use Rattle.machine_core.specs.Beneath.proof_operations.specs.Laws.{MakesNode}
 use Rattle.machine_core.proofs.Held.{few_held}
 use Rattle.proof_core.proofs.Given.{claims, room_left}
 use Rattle.machine_core.proofs.Kept.{Seat, operation_there, seat_of, found_operation}

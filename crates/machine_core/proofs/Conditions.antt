@@ -71,7 +71,7 @@ use Rattle.machine_core.specs.Beneath.snapshot.specs.declared.walk.WalkAt.TheVar
 use Rattle.machine_core.specs.Beneath.snapshot.specs.Copies.{CanCopyAt, made_node, making_line, copy_line_at, ReadsAt as CopyReadsAt}
 use Rattle.machine_core.specs.Beneath.snapshot.specs.Walks.{CanWalkAt, walk_line_at}
 use Rattle.machine_core.specs.Beneath.trie_parts.specs.declared.work.Work.{Work}
-use Rattle.machine_core.specs.Beneath.proof_records.specs.Laws.{LineHasRoom, MakesNode}
+use Rattle.machine_core.specs.Beneath.proof_operations.specs.Laws.{LineHasRoom, MakesNode}
 use Rattle.proof_core.proofs.Claims.{Lives, node_live, offer_live}
 use Rattle.slot_arena.specs.Refs.{birth_limit}
 

@@ -12,8 +12,8 @@ use Rattle.machine_model.specs.Machine.{run}
 use Rattle.machine_model.proofs.Found.{found_elsewhere, found_here}
 use Rattle.machine_core.specs.Beneath.proof_generations.proofs.Roots.OfLists.{has_handles_along}
 use Rattle.machine_core.specs.Beneath.proof_generations.proofs.Offers.Standing.{own_numbers}
-use Rattle.machine_core.specs.Beneath.proof_records.specs.Laws.{HaveIds}
-use Rattle.machine_core.specs.Beneath.proof_records.proofs.Given.{ids_apart}
+use Rattle.machine_core.specs.Beneath.proof_operations.specs.Laws.{HaveIds}
+use Rattle.machine_core.specs.Beneath.proof_operations.proofs.Given.{ids_apart}
 use Rattle.machine_core.specs.Beneath.rdcss_root.specs.Tables.{Table, with_root_in, word_in}
 use Rattle.machine_core.specs.Beneath.proof_straight.specs.Resting.{IsOfRun}
 use Rattle.machine_core.specs.Keeping.{KnowsOfferers}

@@ -16,7 +16,7 @@ use Rattle.machine_core.specs.declared.parts.Actor.{Actor}
 use Rattle.machine_core.specs.declared.parts.Parts.{Parts}
 use Rattle.machine_core.specs.Seen.{actor_of, operation_seen, seen}
 use Rattle.machine_core.specs.Told.{published_in, published_of}
-use Rattle.proof_core.specs.Walking.{goes_on}
+use Rattle.proof_core.specs.Going.{goes_on}
 use Rattle.machine_core.proofs.Kept.{found_operation}
 
 pub only_end : (state : State) (operation : Operation) (l : Line) (answer : Reply) → line_action state operation l ≡ act.End answer → l ≡ line.End answer

@@ -17,7 +17,7 @@ use Rattle.epochs.specs.Memories.{Memory}
 use Rattle.machine_model.specs.Building.{key_in, old_hash}
 use Rattle.machine_model.specs.Calls.{key_of, value_of}
 use Rattle.machine_model.specs.States.{State, key_hash}
-use Rattle.machine_core.specs.Beneath.proof_records.proofs.MostHeld.{pair_within}
+use Rattle.machine_core.specs.Beneath.proof_operations.proofs.MostHeld.{pair_within}
 use Rattle.machine_core.specs.Beneath.proof_straight.specs.Changes.{parts_at, with_link, with_links, with_single}
 use Rattle.machine_core.specs.Beneath.proof_straight.specs.Drafts.{Draft, first_draft, next_made, with_made}
 use Rattle.machine_core.specs.Beneath.proof_straight.specs.Running.{HasEmptySlots}

@@ -17,7 +17,7 @@ use Rattle.machine_model.specs.Counting.{outside}
 use Rattle.machine_model.specs.Keys.{FitsKey}
 use Rattle.machine_model.specs.Machine.{is_busy, is_taken, names, pin_of}
 use Rattle.machine_model.specs.States.{State, operation_of}
-use Rattle.machine_core.specs.Beneath.proof_records.proofs.Numbers.{reserves}
+use Rattle.machine_core.specs.Beneath.proof_operations.proofs.Numbers.{reserves}
 use Rattle.machine_core.specs.Beneath.proof_straight.specs.Copies.{Course}
 use Rattle.machine_core.specs.Beneath.proof_straight.specs.Drafts.{Draft, after_call, held_with}
 use Rattle.machine_core.specs.Beneath.proof_straight.specs.Running.{Comes}

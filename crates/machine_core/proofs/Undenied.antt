@@ -12,7 +12,7 @@ use Rattle.machine_model.proofs.Actors.{actor_by}
 use Rattle.machine_core.specs.declared.parts.Parts.{Parts}
 use Rattle.machine_core.specs.Beneath.proof_straight.specs.Resting.{IsOfRun}
 use Rattle.machine_core.specs.Seen.{actor_of, operation_seen, seen}
-use Rattle.proof_core.specs.Walking.{goes_on}
+use Rattle.proof_core.specs.Going.{goes_on}
 use Rattle.machine_core.proofs.Allowed.{owner_runs}
 use Rattle.proof_core.proofs.Given.{sizes}
 use Rattle.machine_core.proofs.Kept.{seat_of}
@@ -32,9 +32,9 @@ own_actor parts actor run operation runs =
     let many = sym (length-map parts.actors.items (operation_seen parts.table)) ∙ (sizes (seen parts) run).1 in
     actor_by actor parts.limits.actors low (omega (arith, low, within, many))
 
-pub walk_denied : (parts : Parts) (actor : ℕ) → IsOfRun (seen parts) → goes_on (next_kind (seen parts) actor) ≡ true →
+pub spent_denied : (parts : Parts) (actor : ℕ) → IsOfRun (seen parts) → goes_on (next_kind (seen parts) actor) ≡ true →
     (if is_spent (seen parts) then Some refuse.Spent else None) ≡ go_denial (seen parts) actor
-walk_denied parts actor run on = by (operation_of (seen parts) actor) refl on
+spent_denied parts actor run on = by (operation_of (seen parts) actor) refl on
   where
     by : (found : Option Operation) → operation_of (seen parts) actor ≡ found → goes_on (option_map (λ o. kind_of (action_of (seen parts) o)) found) ≡ true →
         (if is_spent (seen parts) then Some refuse.Spent else None) ≡ go_denial (seen parts) actor

@@ -14,7 +14,7 @@ use Rattle.machine_core.specs.Beneath.proof_straight.specs.Resting.{IsOfRun}
 use Rattle.machine_core.specs.Beneath.operate.specs.Places.{answer_of}
 use Rattle.machine_core.specs.Keeping.{IsKept}
 use Rattle.machine_core.specs.Seen.{actor_of, operation_at, operation_seen, seen, under_way_of}
-use Rattle.proof_core.specs.Walking.{goes_on}
+use Rattle.proof_core.specs.Going.{goes_on}
 use Rattle.machine_core.proofs.Allowed.{can, owner_runs}
 use Rattle.machine_core.proofs.Kept.{Seat, seat_of}
 use Rattle.machine_core.proofs.Onward.{line_onward, onward_of, onward_there}

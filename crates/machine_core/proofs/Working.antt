@@ -12,7 +12,7 @@ use Rattle.epochs.specs.Sweeping.{swept_once}
 use Rattle.machine_model.specs.declared.operations.Operation.{Operation}
 use Rattle.machine_model.specs.Counting.{refs_of_operation}
 use Rattle.machine_model.specs.States.{State, operation_of}
-use Rattle.machine_core.specs.Beneath.proof_records.proofs.Privates.{privates_short}
+use Rattle.machine_core.specs.Beneath.proof_operations.proofs.Privates.{privates_short}
 use Rattle.running.specs.Taking.{Taken}
 use Rattle.machine_core.specs.declared.parts.Actor.{Actor}
 use Rattle.machine_core.specs.declared.parts.Parts.{Parts}

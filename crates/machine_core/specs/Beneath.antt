@@ -9,9 +9,8 @@ pub use Rattle.proof_core.specs.Beneath.proof_contents as proof_contents
 pub use Rattle.proof_core.specs.Beneath.proof_memory as proof_memory
 pub use Rattle.proof_core.specs.Beneath.proof_commits as proof_commits
 pub use Rattle.proof_core.specs.Beneath.proof_generations as proof_generations
-pub use Rattle.proof_core.specs.Beneath.proof_order as proof_order
 pub use Rattle.running.specs.Beneath.trie_parts as trie_parts
 pub use Rattle.proof_core.specs.Beneath.proof_shape as proof_shape
 pub use Rattle.proof_core as proof_core
-pub use Rattle.proof_core.specs.Beneath.proof_records as proof_records
+pub use Rattle.proof_core.specs.Beneath.proof_operations as proof_operations
 pub use Rattle.proof_core.specs.Beneath.proof_straight as proof_straight

@@ -17,7 +17,7 @@ ghost use Rattle.machine_core.specs.Told.{TellsBegin};
 ghost use Rattle.proof_core.specs.Work.{NotesUpTo};
 
 use crate::calls::{is_close, opens_handle, program_of};
-use crate::handles::{least_free, note_begin};
+use crate::handles::note_begin;
 use crate::parts::{Actor, Parts, UnderWay};
 use crate::telling::Begun;
 use history::{Access, Call};
@@ -31,12 +31,13 @@ fn access_for(parts: &Parts, call: Call) -> Access
 }
 
 /// The handle that a call opens, if it opens one.
+#[tactic(auto, using(proof_core::proofs::Numbers::least_known))]
 fn handle_to_open(parts: &Parts, call: Call) -> Option<u16>
     requires { KnowsNumbers parts.now.handles (seen parts.now) }
     ensures { result ≡ (if opens_handle call then Some (least_free (seen parts.now)) else None) }
 {
     if opens_handle(call) {
-        Some(least_free(parts))
+        Some(parts.handles.least_free())
     } else {
         None
     }

@@ -9,7 +9,6 @@ ghost use Rattle.machine_core.specs.Straight.{CarriesBy, IsClear};
 
 use crate::descending::is_decided;
 use crate::drafting::make;
-use crate::handles::least_free;
 use crate::parts::Parts;
 use crate::rooting::{make_root, swap_root, take_away};
 use crate::settling::count_call;
@@ -45,7 +44,7 @@ pub fn freeze(parts: &mut Parts, _actor: u8, handle: u16, root: Ref, main: Ref) 
     requires over { IsOverDecided parts.old.heap.heap root main }
     ensures { CarriesBy parts.old _actor (Call.Freeze handle) result parts.new }
 {
-    let opened = least_free(parts);
+    let opened = parts.handles.least_free();
     let successor = make_root(parts, main);
     let offer = Descriptor {
         operation: parts.begun,
@@ -70,7 +69,7 @@ pub fn snapshot(parts: &mut Parts, _actor: u8, handle: u16, root: Ref, main: Ref
     requires over { IsOverDecided parts.old.heap.heap root main }
     ensures { CarriesBy parts.old _actor (Call.Snapshot handle) result parts.new }
 {
-    let opened = least_free(parts);
+    let opened = parts.handles.least_free();
     let successor = make_root(parts, main);
     let second = make_root(parts, main);
     let offer = Descriptor {

@@ -6,11 +6,11 @@ ghost use Rattle.machine_model.specs.declared.steps.Step.TheVariants as steps;
 ghost use Rattle.machine_core.specs.Beneath.proof_straight.specs.Resting.{IsOfRun};
 ghost use Rattle.proof_core.specs.Numbering.{KnowsNumbers};
 ghost use Rattle.machine_core.specs.Seen.{seen};
-ghost use Rattle.proof_core.specs.Walking.{goes_on};
+ghost use Rattle.proof_core.specs.Going.{goes_on};
 
 use crate::actors::is_actor;
 use crate::calls::{is_close, needs_read_only, needs_writable, opens_handle};
-use crate::handles::{handles_taken, runs_on};
+use crate::handles::runs_on;
 use crate::parts::Parts;
 use ctrie_base::Refusal;
 use handle_table::HANDLE_LIMIT;
@@ -37,6 +37,7 @@ pub fn is_access(access: Access, found: Option<Access>) -> bool
 }
 
 /// Why a begin is denied, if it is.
+#[tactic(auto, using(proof_core::proofs::Numbers::taken_counted))]
 #[inline(always)]
 pub fn begin_denial(parts: &Parts, actor: u8, call: Call) -> Option<Refusal>
     requires { KnowsNumbers parts.now.handles (seen parts.now) }
@@ -56,7 +57,7 @@ pub fn begin_denial(parts: &Parts, actor: u8, call: Call) -> Option<Refusal>
         Some(Refusal::NotReadOnly)
     } else if is_close(call) && runs_on(parts, handle) {
         Some(Refusal::Busy)
-    } else if opens_handle(call) && HANDLE_LIMIT <= handles_taken(parts) {
+    } else if opens_handle(call) && HANDLE_LIMIT <= parts.handles.taken() {
         Some(Refusal::HandlesFull)
     } else if is_spent(parts) {
         Some(Refusal::Spent)
@@ -83,7 +84,7 @@ pub fn go_denial(parts: &Parts, actor: u8) -> Option<Refusal>
 /// The same where the operation goes on behind that step: so there is an actor who runs it, and only a machine that has
 /// taken all its steps denies one more.
 #[inline(always)]
-pub fn walk_denial(parts: &Parts, _actor: u8) -> Option<Refusal>
+pub fn spent_denial(parts: &Parts, _actor: u8) -> Option<Refusal>
     requires run { IsOfRun (seen parts.now) }
     requires goes_on { goes_on (next_kind (seen parts.now) _actor) ≡ true }
     ensures { result ≡ go_denial (seen parts.now) _actor }

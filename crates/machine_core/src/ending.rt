@@ -15,7 +15,7 @@ ghost use Rattle.machine_core.specs.Beginnings.{Leaves};
 ghost use Rattle.machine_core.specs.Keeping.{IsCore, IsKept};
 ghost use Rattle.machine_core.specs.Seen.{actor_of, operation_at, seen, under_way_of};
 ghost use Rattle.machine_core.specs.Told.{TellsEnd};
-ghost use Rattle.proof_core.specs.Walking.{goes_on};
+ghost use Rattle.proof_core.specs.Going.{goes_on};
 ghost use Rattle.machine_core.specs.Work.{ActsLittle};
 ghost use Rattle.machine_core.specs.declared.parts.Actor.{Actor as AnActor};
 

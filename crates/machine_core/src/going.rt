@@ -14,7 +14,7 @@ ghost use Rattle.machine_core.specs.Keeping.{IsCore, IsKept};
 ghost use Rattle.machine_core.specs.Rooming.{CanGo, HasRoomToStep};
 ghost use Rattle.machine_core.specs.Seen.{operation_seen, seen, under_way_of};
 ghost use Rattle.machine_core.specs.Told.{published_in, published_of, TellsStep};
-ghost use Rattle.proof_core.specs.Walking.{goes_on};
+ghost use Rattle.proof_core.specs.Going.{goes_on};
 ghost use Rattle.machine_core.specs.Work.{ActsLittle};
 ghost use Rattle.machine_core.specs.declared.parts.Actor.{Actor as AnActor};
 ghost use Rattle.machine_core.specs.declared.parts.UnderWay.{UnderWay as AnUnderWay};
@@ -40,7 +40,7 @@ pub fn goes_on(parts: &Parts, actor: u8) -> bool
 /// Takes a step of the actor's operation that isn't its end, and tells of it and of the main node that it swaps in, if it
 /// does. What is told is put together where it is read: where nobody reads it, nothing is.
 #[inline(always)]
-pub fn proceed(parts: &mut Parts, actor: u8, published: Option<Publication>) -> Stepped
+pub fn go_telling(parts: &mut Parts, actor: u8, published: Option<Publication>) -> Stepped
     requires core { IsCore parts.old }
     requires allowed { go_denial (seen parts.old) actor ≡ None }
     requires goes_on { goes_on (next_kind (seen parts.old) actor) ≡ true }
@@ -52,7 +52,7 @@ pub fn proceed(parts: &mut Parts, actor: u8, published: Option<Publication>) -> 
     ensures kept { IsKept parts.new }
     ensures work { ActsLittle parts.old actor parts.new }
 {
-    let taken = step(parts, actor);
+    let taken = go(parts, actor);
     let kind = taken.kind();
     let carried = take_carried(parts, kind);
     Stepped {
@@ -80,14 +80,14 @@ pub fn published(parts: &Parts, actor: u8) -> Option<Publication>
 
 /// Lets the actor's programs take the step.
 #[inline(always)]
-fn step(parts: &mut Parts, actor: u8) -> Taken
+fn go(parts: &mut Parts, actor: u8) -> Taken
     requires core { IsCore parts.old }
     requires allowed { go_denial (seen parts.old) actor ≡ None }
     requires room { (found : AnActor) → slice_get parts.old.actors.items (actor - 1) ≡ Some found → HasRoomToStep found }
     ensures { (u : AnUnderWay) → under_way_of parts.old actor ≡ Some u → Steps parts.old actor u result parts.new }
 {
     let index = actor as usize - 1;
-    parts.actors[index].step(&mut parts.table, &mut parts.generations, &mut parts.heap)
+    parts.actors[index].go(&mut parts.table, &mut parts.generations, &mut parts.heap)
 }
 
 /// What is told of the offer that a step of this kind carried out, if it did. Nothing is kept of it.
@@ -146,7 +146,7 @@ impl Actor {
 
     /// Lets its programs take the step.
     #[inline(always)]
-    fn step(&mut self, table: &mut Roots, generations: &mut u64, heap: &mut Heap) -> Taken
+    fn go(&mut self, table: &mut Roots, generations: &mut u64, heap: &mut Heap) -> Taken
         requires { CanGo (scene heap.old table.old generations.old self.old.programs) self.old }
         ensures { (u : AnUnderWay) → self.old.under_way ≡ Some u → StepsTo u heap.old table.old generations.old result heap.new table.new generations.new self.old self.new }
     {

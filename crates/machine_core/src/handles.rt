@@ -3,7 +3,7 @@
 ghost use Rattle.std.specs.Prelude.{◌≡◌, ◌<◌, Some};
 ghost use Rattle.handle_table.specs.Numbers.{running_on};
 ghost use Rattle.machine_model.specs.Calls.{handle_of};
-ghost use Rattle.machine_model.specs.Machine.{reserved_by, handles_taken, least_free, runs_on};
+ghost use Rattle.machine_model.specs.Machine.{reserved_by, runs_on};
 ghost use Rattle.running.specs.declared.programs.Programs.{Programs};
 ghost use Rattle.proof_core.specs.Numbering.{KnowsNumbers, begun_on, ended_on, reserved};
 ghost use Rattle.machine_core.specs.Seen.{operation_at, seen};
@@ -13,22 +13,6 @@ use crate::parts::{Parts, UnderWay};
 use handle_table::Handles;
 use history::Call;
 use running::Roots;
-
-/// How many handles are open or reserved.
-pub fn handles_taken(parts: &Parts) -> u16
-    requires { KnowsNumbers parts.now.handles (seen parts.now) }
-    ensures { result ≡ handles_taken (seen parts.now) }
-{
-    parts.handles.taken()
-}
-
-/// The least handle number that is neither open nor reserved, or 256.
-pub fn least_free(parts: &Parts) -> u16
-    requires { KnowsNumbers parts.now.handles (seen parts.now) }
-    ensures { result ≡ least_free (seen parts.now) }
-{
-    parts.handles.least_free()
-}
 
 /// Whether an operation runs whose call names this handle.
 pub fn runs_on(parts: &Parts, handle: u16) -> bool

@@ -1,4 +1,4 @@
-//! The machine's state on the heap that counts references, and its steps: what `Core::{begin, walk, end, sweep}` do is what
+//! The machine's state on the heap that counts references, and its steps: what `Core::{begin, go, end, sweep}` do is what
 //! the definition's `next` (`machine_model`, `Machine`) says, and what they tell is what its `told_in` (`Tellings`) says. An
 //! operation stays in its place and is changed there, by its programs (`running`); what they don't know of it stands beside
 //! them (`UnderWay`). Nothing is recorded of what was done.
@@ -56,6 +56,5 @@ mod telling;
 pub use calls::key_fits;
 pub use differing::Difference;
 pub use machine::Core;
-pub use proof_core::{one_place_a_step, tellings_fit};
 pub use starting::LONGEST_LIFE;
 pub use telling::{Begun, Ended, Stepped};

@@ -13,18 +13,18 @@ ghost use Rattle.machine_core.specs.Finding.{found_along};
 ghost use Rattle.machine_core.specs.Straight.{CarriesOut};
 ghost use Rattle.machine_core.specs.Sweeping.{Reclaims};
 ghost use Rattle.machine_core.specs.Told.{began, ended, published_in, reply_in, stepped, TellsBegin, TellsEnd, TellsStep};
-ghost use Rattle.proof_core.specs.Walking.{goes_on};
+ghost use Rattle.proof_core.specs.Going.{goes_on};
 ghost use Rattle.proof_core.specs.Work.{WorksLittle};
 
 use crate::actors::{copied_reply, is_busy, next_kind};
 use crate::contents::content_of;
-use crate::denials::{begin_denial, denial_of, go_denial, is_access, sweep_denial, walk_denial};
+use crate::denials::{begin_denial, denial_of, go_denial, is_access, spent_denial, sweep_denial};
 use crate::finding::value_of;
 use crate::going::{goes_on, published};
-use crate::handles::{handles_taken, runs_on};
+use crate::handles::runs_on;
 use crate::parts::Parts;
 use crate::starting::{are_bounds, first_parts};
-use crate::stepping::{take_begin, take_end, take_walk};
+use crate::stepping::{take_begin, take_end, take_go};
 use crate::straight::at_once;
 use crate::sweeping::{reclaim, sweep_once};
 use crate::telling::{Begun, Ended, Stepped};
@@ -98,7 +98,7 @@ impl Core {
     /// Takes a step of the actor's operation that isn't its end, or refuses it. After a refusal nothing has changed. `Memory`
     /// is the only one that the definition doesn't give: it comes only where the operation is a walk over all pairs.
     #[inline(always)]
-    pub fn walk(&mut self, actor: u8) -> Result<Stepped, Refusal>
+    pub fn go(&mut self, actor: u8) -> Result<Stepped, Refusal>
         requires { goes_on (next_kind self.old.state actor) ≡ true }
         ensures applies { Applies (stepped result) self.old.state actor (next self.old.state (steps.Go actor)) self.new.state }
         ensures tells { IfOk result (λ stepped. TellsStep self.old.state actor stepped) }
@@ -106,7 +106,7 @@ impl Core {
         ensures same { OnErr result (self.new ≡ self.old) }
     {
         let published = self.published(actor);
-        self.walk_publishing(actor, published)
+        self.go_publishing(actor, published)
     }
 
     /// The main node that the actor's operation swaps in by its next step, if it does.
@@ -117,10 +117,10 @@ impl Core {
         published(&self.parts, actor)
     }
 
-    /// The same as `walk`, handed the main node that the step swaps in, if it does: most swap in none, and where that is
-    /// known they tell less.
+    /// The same as `go`, handed the main node that the step swaps in, if it does: most swap in none, and where that is known
+    /// they tell less.
     #[inline(always)]
-    pub fn walk_publishing(
+    pub fn go_publishing(
         &mut self,
         actor: u8,
         published: Option<Publication>,
@@ -132,9 +132,9 @@ impl Core {
         ensures work { OnOk result (WorksLittle self.old self.new) }
         ensures same { OnErr result (self.new ≡ self.old) }
     {
-        match walk_denial(&self.parts, actor) {
+        match spent_denial(&self.parts, actor) {
             Some(refusal) => Err(refusal),
-            None => take_walk(&mut self.parts, actor, published),
+            None => take_go(&mut self.parts, actor, published),
         }
     }
 
@@ -273,10 +273,11 @@ impl Core {
     }
 
     /// How many handles are open or reserved: at most 256.
+    #[tactic(auto, using(proof_core::proofs::Numbers::taken_counted))]
     pub fn handles_taken(&self) -> u32
         ensures { result ≡ handles_taken self.now.state }
     {
-        u32::from(handles_taken(&self.parts))
+        u32::from(self.parts.handles.taken())
     }
 
     /// How many slots are free.

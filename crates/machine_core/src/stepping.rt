@@ -8,14 +8,14 @@ ghost use Rattle.proof_core.specs.Bounds.{Walks};
 ghost use Rattle.machine_core.specs.Keeping.{IsCore};
 ghost use Rattle.machine_core.specs.Seen.{seen};
 ghost use Rattle.machine_core.specs.Told.{published_in, TellsBegin, TellsEnd, TellsStep};
-ghost use Rattle.proof_core.specs.Walking.{goes_on};
+ghost use Rattle.proof_core.specs.Going.{goes_on};
 ghost use Rattle.machine_core.specs.Work.{worked};
 ghost use Rattle.proof_core.specs.Work.{WorksLittle};
 
 use crate::beginning::begin_operation;
 use crate::calls::key_fits;
 use crate::ending::end_operation;
-use crate::going::proceed;
+use crate::going::go_telling;
 use crate::parts::Parts;
 use crate::rooming::give_room;
 use crate::settling::settle;
@@ -43,7 +43,7 @@ pub fn take_begin(parts: &mut Parts, actor: u8, call: Call) -> Begun
 /// A step of an actor's operation that isn't its end, and that swaps in this main node, if it does. After an error nothing
 /// that is seen has changed.
 #[inline(always)]
-pub fn take_walk(
+pub fn take_go(
     parts: &mut Parts,
     actor: u8,
     published: Option<Publication>,
@@ -61,7 +61,7 @@ pub fn take_walk(
     ensures work { OnOk result (WorksLittle (worked parts.old) (worked parts.new)) }
 {
     give_room(parts, actor)?;
-    let stepped = proceed(parts, actor, published);
+    let stepped = go_telling(parts, actor, published);
     settle(parts);
     Ok(stepped)
 }

@@ -74,7 +74,7 @@ clean_refusal state operation l h = grind arith
 climb_refusal : (state : State) (operation : Operation) (l : ClimbLine) → IsRefusal (climb_after state operation l) → ⊥
 climb_refusal state operation l h = grind arith
 
--- SNAP and CLEAR: for want of a slot
+-- COPY: for want of a slot
 copy_refusal : (state : State) (operation : Operation) (l : CopyLine) → IsRefusal (copy_after state operation l) → WantsSlot state (copy_action l)
 copy_refusal state operation l h = grind arith
 

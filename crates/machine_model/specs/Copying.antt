@@ -1,4 +1,4 @@
--- SNAP and CLEAR: a snapshot, a freeze or a clear offers to swap the root for a new one of a new generation, and completes
+-- COPY: a snapshot, a freeze or a clear offers to swap the root for a new one of a new generation, and completes
 -- the offer.
 use Rattle.std.specs.Prelude.{ℕ, ◌+◌, ◌||◌, Bool, true, false, Option, Some, None, unwrap_or, if◌then◌else◌}
 use Rattle.history.specs.declared.calls.Call.{Call}
@@ -86,7 +86,7 @@ abbrev pub copy_after_complete : Operation → After Complete Bool → Line
 copy_after_complete operation (Goes c) = line.Copy (copy.Complete c)
 copy_after_complete operation (Gives done) = if done || operation.is_marked then line.End (copied_reply operation.call operation.opens) else new_try
 
--- what comes after a step of SNAP or CLEAR
+-- what comes after a step of COPY
 abbrev pub copy_after : State → Operation → CopyLine → Line
 copy_after state operation (copy.Read root read) = copy_after_read operation root (read_step state operation read)
 copy_after state operation (copy.Offer offer) = after_offer offer (is_plain (word_at state (handle_of operation.call)) offer.root)

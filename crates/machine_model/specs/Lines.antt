@@ -3,7 +3,7 @@ use Rattle.machine_model.specs.declared.roots.RootLine.TheVariants as root
 use Rattle.machine_model.specs.declared.lines.Line.{Line}
 use Rattle.machine_model.specs.declared.lines.Line.TheVariants as line
 
--- the first line of KEY, SNAP and CLEAR: a try begins, with the root
+-- the first line of KEY and COPY: a try begins, with the root
 abbrev pub new_try : Line
 new_try = line.Root root.Read
 

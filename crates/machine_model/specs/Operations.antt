@@ -100,7 +100,7 @@ kind_of (act.End answer) = kind.End
 
 -- ---- where it stands afterwards
 
--- below the root: KEY reads it, SNAP and CLEAR too
+-- below the root: KEY reads it, COPY too
 abbrev pub from_root : Call → Ref → Line
 from_root (Clear h) r = line.Copy (copy.Read r (reading r))
 from_root (Snapshot h) r = line.Copy (copy.Read r (reading r))

@@ -4,7 +4,7 @@ use crate::reading::Read;
 use crate::roots::{Complete, Descriptor};
 use nodes::Ref;
 
-/// A line of SNAP or CLEAR below its root.
+/// A line of COPY below its root.
 #[derive(Clone, Copy)]
 pub enum CopyLine {
     /// Reads the root.

@@ -26,7 +26,7 @@ pub enum Purpose {
 /// The line on which an operation stands: what its next step does, and what it remembers.
 #[derive(Drop)]
 pub enum Line {
-    /// ROOT, in the first line of KEY, SNAP and CLEAR.
+    /// ROOT, in the first line of KEY and COPY.
     Root(RootLine),
     Key(KeyLine),
     Build(BuildLine),

@@ -15,8 +15,8 @@ use Rattle.proof_core.specs.Beneath.proof_memory.specs.Wants.{AllHold, action_wa
 use Rattle.proof_core.specs.Beneath.proof_memory.proofs.Holding.Lives.{lines_live}
 use Rattle.proof_core.specs.Beneath.proof_memory.proofs.Holding.Privates.{privates_once}
 use Rattle.proof_core.specs.Beneath.proof_memory.proofs.Holding.Sizes.{sizes_stay}
-use Rattle.proof_records.specs.Laws.{LineHasRoom, MakesNode}
-use Rattle.proof_records.proofs.Rooms.{lists_have_room}
+use Rattle.proof_operations.specs.Laws.{LineHasRoom, MakesNode}
+use Rattle.proof_operations.proofs.Rooms.{lists_have_room}
 use Rattle.proof_straight.specs.Resting.{IsOfRun}
 use Rattle.proof_core.specs.Standing.{StandsAt}
 

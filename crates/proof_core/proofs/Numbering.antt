@@ -13,7 +13,7 @@ use Rattle.proof_core.specs.Beneath.machine_model.specs.Operations.{action_of}
 use Rattle.proof_core.specs.Beneath.machine_model.specs.States.{State, operation_of, root_at}
 use Rattle.proof_core.specs.Beneath.machine_model.proofs.Actors.{after_marks, gone_actors, marks_by}
 use Rattle.proof_core.specs.Beneath.machine_model.proofs.Found.{found_within}
-use Rattle.proof_records.proofs.Numbers.{numbers_stay, reserves}
+use Rattle.proof_operations.proofs.Numbers.{numbers_stay, reserves}
 use Rattle.proof_straight.specs.Resting.{IsOfRun}
 use Rattle.proof_core.specs.Numbering.{KnowsNumbers}
 

@@ -21,7 +21,7 @@ use Rattle.proof_core.specs.Beneath.machine_model.proofs.Found.{found_elsewhere,
 use Rattle.proof_core.specs.Beneath.proof_generations.proofs.Handles.Operations.{HasHandles}
 use Rattle.proof_core.specs.Beneath.proof_generations.proofs.Roots.OfLists.{has_handles_along}
 use Rattle.proof_core.specs.Beneath.proof_memory.proofs.Safety.Base.{closed_root, handle_given}
-use Rattle.proof_records.proofs.Numbers.{reserved_somewhere, reserves, reserves_so}
+use Rattle.proof_operations.proofs.Numbers.{reserved_somewhere, reserves, reserves_so}
 use Rattle.proof_straight.specs.Resting.{IsOfRun}
 use Rattle.proof_core.specs.Numbering.{KnowsNumbers, begun_on, closes, ended_on, given_back, reserved}
 use Rattle.proof_core.specs.Standing.{StandsAt}

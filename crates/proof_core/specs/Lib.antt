@@ -3,7 +3,7 @@ pub mod Bounds
 pub mod Numbering
 pub mod Standing
 pub mod Work
-pub mod Walking
+pub mod Going
 pub mod Reading
 pub mod Comparing
 pub mod Scanning

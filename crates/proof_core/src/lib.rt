@@ -1,6 +1,4 @@
 //! What the core of a machine relies on that names none of its code: what bounds its numbers, what is known of handle numbers, what holds below a root, how pairs are reached.
 //!
-//! It has no law of its own: `proofs/Lib` says what to cite. Handed on are laws that the core and who keeps its record call.
+//! It has no law of its own: `proofs/Lib` says what to cite.
 #![tactic(auto)]
-
-pub use proof_records::{one_place_a_step, tellings_fit};

@@ -4,6 +4,7 @@ pub use Rattle.proof_obstruction_free as proof_obstruction_free
 pub use Rattle.proof_memory as proof_memory
 pub use Rattle.proof_linearizable.specs.Beneath.ctrie_base as ctrie_base
 pub use Rattle.proof_linearizable.specs.Beneath.slot_arena as slot_arena
+pub use Rattle.proof_linearizable.specs.Beneath.places as places
 pub use Rattle.proof_linearizable.specs.Beneath.history as history
 pub use Rattle.proof_linearizable.specs.Beneath.machine_model as machine_model
 pub use Rattle.proof_linearizable.specs.Beneath.proof_contents as proof_contents

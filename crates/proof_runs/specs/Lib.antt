@@ -1,4 +1,6 @@
 pub mod Beneath
+pub mod Laws
+pub mod Tellings
 pub mod Machines
 pub mod Callers
 pub mod Reclaiming

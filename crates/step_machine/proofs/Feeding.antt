@@ -27,7 +27,7 @@ use Rattle.machine_core.specs.declared.telling.Begun.{Begun}
 use Rattle.machine_core.specs.declared.telling.Ended.{Ended}
 use Rattle.machine_core.specs.declared.telling.Stepped.{Stepped}
 use Rattle.machine_core.specs.Told.{TellsBegin, TellsEnd, TellsStep}
-use Rattle.step_machine.specs.Beneath.proof_records.specs.Tellings.{CanTell, TellingsFit}
+use Rattle.proof_runs.specs.Tellings.{CanTell, TellingsFit}
 use Rattle.step_machine.specs.Beneath.proof_core.specs.Bounds.{Answers, Applies}
 use Rattle.proof_runs.specs.Machines.{Applied, Taken, state_of, with_step}
 use Rattle.step_machine.specs.Taking.{HasTaken, TakesAndTells}
@@ -113,10 +113,10 @@ refused_kept state after kept s refusal same (inr e) = let is = e.0 in absurd (g
 pub denied_kept : (state after : State) (kept : Chronicled) (s : Step) (refusal : Refusal) → after ≡ state → next state s ≡ Err refusal → TakesAndTells (Err refusal) state kept s after kept
 denied_kept state after kept s refusal same e = refused_kept state after kept s refusal same (inl e)
 
-pub walk_kept : (state after : State) (kept : Chronicled) (actor : ℕ) (refusal : Refusal) → Applies (Err refusal) state actor (next state (step.Go actor)) after →
+pub go_kept : (state after : State) (kept : Chronicled) (actor : ℕ) (refusal : Refusal) → Applies (Err refusal) state actor (next state (step.Go actor)) after →
     TakesAndTells (Err refusal) state kept (step.Go actor) after kept
-walk_kept state after kept actor refusal (same, inl e) = denied_kept state after kept (step.Go actor) refusal same e
-walk_kept state after kept actor refusal (same, inr e) = refused_kept state after kept (step.Go actor) refusal same (inr (e.0, e.1))
+go_kept state after kept actor refusal (same, inl e) = denied_kept state after kept (step.Go actor) refusal same e
+go_kept state after kept actor refusal (same, inr e) = refused_kept state after kept (step.Go actor) refusal same (inr (e.0, e.1))
 
 -- there was no room: it is denied, or memory was wanting
 wanting_by : (state : State) (kept : Chronicled) (s : Step) (denial : Option Refusal) → denial_of state s ≡ denial →
@@ -148,4 +148,4 @@ applied_so (Err refuse.Memory) machine next_machine s before after kept now was 
 applied_so (Err r) machine next_machine s before after kept now was is e taken same = (same r refl, subst (λ state. next state s ≡ Err r) was e.2)
 
 -- what a step tells
-pub ruleset feeds = (can_begin, can_go, can_end, recorded_so, denied_kept, walk_kept, wanting_kept, sweep_told)
+pub ruleset feeds = (can_begin, can_go, can_end, recorded_so, denied_kept, go_kept, wanting_kept, sweep_told)

@@ -4,7 +4,7 @@ use Rattle.ctrie_base.specs.declared.refusals.Refusal.{Refusal}
 use Rattle.machine_model.specs.declared.steps.Outcome.{Outcome}
 use Rattle.machine_model.specs.declared.steps.Step.{Step}
 use Rattle.machine_model.specs.Limits.{bounded}
-use Rattle.step_machine.specs.Beneath.proof_records.specs.Laws.{OnePlaceAStep}
+use Rattle.proof_runs.specs.Laws.{OnePlaceAStep}
 use Rattle.proof_runs.specs.Machines.{Taken, past_of, Applied}
 use Rattle.proof_runs.proofs.Applying.{outcome_of}
 

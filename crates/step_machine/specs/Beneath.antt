@@ -9,4 +9,3 @@ pub use Rattle.proof_runs.specs.Beneath.proof_order as proof_order
 pub use Rattle.proof_runs.specs.Beneath.proof_shape as proof_shape
 pub use Rattle.proof_runs.specs.Beneath.proof_obstruction_free as proof_obstruction_free
 pub use Rattle.machine_core.specs.Beneath.proof_core as proof_core
-pub use Rattle.machine_core.specs.Beneath.proof_records as proof_records

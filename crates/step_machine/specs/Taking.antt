@@ -31,6 +31,6 @@ TakesAndTells (Err Memory) before past step after now = (after ≡ before) × (n
 TakesAndTells (Err refusal) before past step after now = (after ≡ before) × (now ≡ past) × (next before step ≡ Err refusal)
 
 -- the outcome of a step that is told by its kind
-abbrev pub walked : Result Kind Refusal → Result Outcome Refusal
-walked (Ok kind) = Ok (Went kind)
-walked (Err refusal) = Err refusal
+abbrev pub outcome_of_kind : Result Kind Refusal → Result Outcome Refusal
+outcome_of_kind (Ok kind) = Ok (Went kind)
+outcome_of_kind (Err refusal) = Err refusal

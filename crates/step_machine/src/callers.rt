@@ -4,10 +4,10 @@ ghost use Rattle.std.specs.Prelude.{◌≡◌, false, true, List, [], ◌∷◌,
 ghost use Rattle.machine_model.specs.declared.steps.Limits.{Limits};
 ghost use Rattle.machine_model.specs.declared.steps.Step.{Step};
 ghost use Rattle.step_machine.specs.Records.{IsAfter};
-ghost use Rattle.step_machine.specs.Taking.{walked};
+ghost use Rattle.step_machine.specs.Taking.{outcome_of_kind};
 ghost use Rattle.history.specs.declared.calls.Call.{Call};
 ghost use Rattle.proof_runs.specs.Machines.{Applied, Taken, state_of};
-ghost use Rattle.step_machine.specs.Beneath.proof_core.specs.Walking.{goes_on};
+ghost use Rattle.step_machine.specs.Beneath.proof_core.specs.Going.{goes_on};
 ghost use Rattle.machine_core.specs.Told.{published_in};
 ghost use Rattle.proof_runs.specs.Callers.{Stepped, Replies, Resumes, Completes, Reclaims};
 ghost use Rattle.machine_model.specs.Machine.{is_busy, next_kind};
@@ -94,7 +94,7 @@ impl Machine {
     {
         for _ in 0..GO_LIMIT {
             if self.goes_on(actor) {
-                self.walk(actor)?;
+                self.go(actor)?;
             } else if let Some(reply) = self.reply(actor)? {
                 return Ok(Some(reply));
             }
@@ -113,15 +113,15 @@ impl Machine {
     /// Takes a step of it behind which it goes on, told by its kind alone. Most swap in no main node: they are told apart
     /// first, so that their code has nothing of one; and it is asked for anew, so that it isn't held while they are taken.
     #[inline(always)]
-    fn walk(&mut self, actor: u8) -> Result<Kind, Refusal>
+    fn go(&mut self, actor: u8) -> Result<Kind, Refusal>
         requires { goes_on (next_kind (state_of self.old) actor) ≡ true }
-        ensures { Applied (walked result) self.old (Step.Go actor) self.new }
+        ensures { Applied (outcome_of_kind result) self.old (Step.Go actor) self.new }
     {
         match self.published(actor) {
-            None => self.walk_publishing(actor, None),
+            None => self.go_publishing(actor, None),
             Some(_) => {
                 let published = self.published(actor);
-                self.walk_publishing(actor, published)
+                self.go_publishing(actor, published)
             }
         }
     }

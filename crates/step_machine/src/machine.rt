@@ -13,7 +13,7 @@ ghost use Rattle.machine_model.specs.Records.{order_of};
 ghost use Rattle.machine_model.specs.Contents.{content_at};
 ghost use Rattle.machine_core.specs.Finding.{found_along};
 ghost use Rattle.machine_core.specs.Told.{published_in};
-ghost use Rattle.step_machine.specs.Beneath.proof_core.specs.Walking.{goes_on};
+ghost use Rattle.step_machine.specs.Beneath.proof_core.specs.Going.{goes_on};
 ghost use Rattle.machine_model.specs.Keys.{KeysFit};
 ghost use Rattle.machine_model.specs.Machine.{denial_of, is_running, is_busy, runs_on, next_kind, is_access, access_of};
 ghost use Rattle.machine_model.specs.Refusing.{RefusesLimits, RefusesContent};
@@ -21,12 +21,12 @@ ghost use Rattle.proof_runs.specs.Machines.{Taken, fresh, past_of, state_of, Are
 ghost use Rattle.proof_runs.specs.Contents.{ChangesContents};
 ghost use Rattle.proof_runs.specs.Ending.{EndsIfSure, IsNearer};
 ghost use Rattle.proof_runs.specs.Legality.{IsLegalFor, LeadsToContents, HasInOrder, InOrder, IsInOrder, writable_in};
-ghost use Rattle.step_machine.specs.Taking.{walked};
+ghost use Rattle.step_machine.specs.Taking.{outcome_of_kind};
 ghost use Rattle.proof_runs.specs.Memory.{UsesWhatItNames, FreesLate, DrawsNew};
 
 use crate::rooming::{make_room, touch_room};
 use crate::sizes::{are_limits, bounds_of};
-use crate::taking::{take, walk};
+use crate::taking::{go, take};
 use chronicle::Chronicle;
 use ctrie_base::{Kind, Refusal, Ticks};
 use history::{Access, Event};
@@ -131,7 +131,7 @@ impl Machine {
         proof_runs::contents_of_handles();
         proof_runs::each_step_leads_to_its_end();
         proof_runs::closes_end();
-        machine_core::one_place_a_step();
+        proof_runs::one_place_a_step();
         result
     }
 
@@ -145,7 +145,7 @@ impl Machine {
         if make_room(&mut self.steps, &mut self.kept, self.body.generations()).is_err() {
             return Err(self.wanting(step));
         }
-        machine_core::tellings_fit();
+        proof_runs::tellings_fit();
         let outcome = take(&mut self.body, &mut self.kept, step)?;
         self.steps.push_reserved(step);
         Machine::fits(step);
@@ -155,20 +155,20 @@ impl Machine {
     /// A step of the actor's operation behind which it goes on, told by its kind alone. It swaps in this main node, if it does.
     #[tactic(auto, using(crate::proofs::Steps::one_more, crate::proofs::Denials::not_taken))]
     #[inline(always)]
-    pub(crate) fn walk_publishing(
+    pub(crate) fn go_publishing(
         &mut self,
         actor: u8,
         published: Option<Publication>,
     ) -> Result<Kind, Refusal>
         requires goes_on { goes_on (next_kind (state_of self.old) actor) ≡ true }
         requires told { published ≡ published_in (state_of self.old) actor }
-        ensures { Applied (walked result) self.old (Step.Go actor) self.new }
+        ensures { Applied (outcome_of_kind result) self.old (Step.Go actor) self.new }
     {
         if make_room(&mut self.steps, &mut self.kept, self.body.generations()).is_err() {
             return Err(self.wanting_to_go(actor));
         }
-        machine_core::tellings_fit();
-        let kind = walk(&mut self.body, &mut self.kept, actor, published)?;
+        proof_runs::tellings_fit();
+        let kind = go(&mut self.body, &mut self.kept, actor, published)?;
         self.steps.push_reserved(Step::Go { actor });
         Machine::fits(Step::Go { actor });
         Ok(kind)

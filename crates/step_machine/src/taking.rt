@@ -2,10 +2,10 @@
 
 ghost use Rattle.std.specs.Prelude.{◌≡◌, ◌<◌, false, true};
 ghost use Rattle.machine_core.specs.Told.{published_in};
-ghost use Rattle.step_machine.specs.Beneath.proof_core.specs.Walking.{goes_on};
+ghost use Rattle.step_machine.specs.Beneath.proof_core.specs.Going.{goes_on};
 ghost use Rattle.machine_model.specs.Machine.{next_kind};
-ghost use Rattle.step_machine.specs.Beneath.proof_records.specs.Tellings.{CanTell};
-ghost use Rattle.step_machine.specs.Taking.{TakesAndTells, walked};
+ghost use Rattle.proof_runs.specs.Tellings.{CanTell};
+ghost use Rattle.step_machine.specs.Taking.{TakesAndTells, outcome_of_kind};
 
 use chronicle::Chronicle;
 use ctrie_base::{Kind, Refusal};
@@ -23,7 +23,7 @@ pub fn take(body: &mut Core, kept: &mut Chronicle, step: Step) -> Result<Outcome
 {
     match step {
         Step::Begin { actor, call } => begin(body, kept, actor, call),
-        Step::Go { actor } => go(body, kept, actor),
+        Step::Go { actor } => go_or_end(body, kept, actor),
         Step::Sweep => body.sweep(),
     }
 }
@@ -43,14 +43,14 @@ fn begin(body: &mut Core, kept: &mut Chronicle, actor: u8, call: Call) -> Result
 }
 
 /// A step of the actor's operation.
-fn go(body: &mut Core, kept: &mut Chronicle, actor: u8) -> Result<Outcome, Refusal>
+fn go_or_end(body: &mut Core, kept: &mut Chronicle, actor: u8) -> Result<Outcome, Refusal>
     requires fits { CanTell body.old.state kept.old }
     requires room { 0 < kept.old.room }
     ensures { TakesAndTells result body.old.state kept.old (Step.Go actor) body.new.state kept.new }
 {
     if body.goes_on(actor) {
         let published = body.published(actor);
-        Ok(Outcome::Went(walk(body, kept, actor, published)?))
+        Ok(Outcome::Went(go(body, kept, actor, published)?))
     } else {
         end(body, kept, actor)
     }
@@ -59,7 +59,7 @@ fn go(body: &mut Core, kept: &mut Chronicle, actor: u8) -> Result<Outcome, Refus
 /// One behind which it goes on, told by its kind alone. It swaps in this main node, if it does.
 #[tactic(auto, using(crate::proofs::Feeding::feeds))]
 #[inline(always)]
-pub fn walk(
+pub fn go(
     body: &mut Core,
     kept: &mut Chronicle,
     actor: u8,
@@ -69,10 +69,10 @@ pub fn walk(
     requires told { published ≡ published_in body.old.state actor }
     requires fits { CanTell body.old.state kept.old }
     requires room { 0 < kept.old.room }
-    ensures { TakesAndTells (walked result) body.old.state kept.old (Step.Go actor) body.new.state kept.new }
+    ensures { TakesAndTells (outcome_of_kind result) body.old.state kept.old (Step.Go actor) body.new.state kept.new }
 {
     let step = body.steps_taken();
-    let stepped = body.walk_publishing(actor, published)?;
+    let stepped = body.go_publishing(actor, published)?;
     kept.go(step, actor, &stepped.progress);
     Ok(stepped.kind)
 }

@@ -36,7 +36,7 @@ fn step_through(core: &mut Core, call: Call) -> Result<(Reply, bool), Refusal> {
         if !core.goes_on(ACTOR) {
             break;
         }
-        let Ok(stepped) = core.walk(ACTOR) else {
+        let Ok(stepped) = core.go(ACTOR) else {
             return Err(Refusal::Memory);
         };
         repairs |= is_repair(stepped);

@@ -1,4 +1,4 @@
--- Each line of CLIMB, ROOT and SNAP hands on what it knows of generations.
+-- Each line of CLIMB, ROOT and COPY hands on what it knows of generations.
 use Rattle.std.proofs.Common.{◌≡◌, ℕ, ◌||◌, Bool, true, false, Option, Some, None, refl, arith}
 use Rattle.std.proofs.lemmas.Bool.{cond_both}
 use Rattle.arrayvec.specs.ArrayVec.{ArrayVec}
@@ -69,7 +69,7 @@ module _ (state : State) (operation : Operation) (Own Fits Falls : Ref → Type 
   root_falls (Goes l) gives = tt
   root_falls (Gives r) gives = from_root_falls operation.call r (gives r refl)
 
-  -- ---- SNAP and CLEAR
+  -- ---- COPY
 
   given_falls : (call : Call) (root main : Ref) → Own root → Falls main → K (after_given call root main)
   given_falls (Clear h) root main own falls = own

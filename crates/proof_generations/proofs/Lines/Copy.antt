@@ -1,4 +1,4 @@
--- The lines of SNAP and CLEAR: which calls stand on them, and that an operation's own offers have its id, its handle to open and the number of its try.
+-- The lines of COPY: which calls stand on them, and that an operation's own offers have its id, its handle to open and the number of its try.
 use Rattle.std.proofs.Common.{◌≡◌, ℕ, ◌+◌, ◌==◌, ◌||◌, Bool, true, false, cond, nat_lt, List, length, Option, Some, None, refl, sym, ap, subst, arith}
 use Rattle.std.proofs.lemmas.Bool.{false≢true}
 use Rattle.proof_generations.specs.Beneath.history.specs.declared.calls.Access.{Access}
@@ -55,7 +55,7 @@ use Rattle.proof_generations.specs.Running.{Runs}
 
 -- ---- the calls
 
--- a call of SNAP or CLEAR
+-- a call of COPY
 abbrev pub copies : Call → Bool
 copies (Clear h) = true
 copies (Snapshot h) = true

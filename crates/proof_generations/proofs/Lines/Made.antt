@@ -141,7 +141,7 @@ module _ (state : State) (operation : Operation) (start : ℕ) (begun : operatio
       (contracted_no_link (is_below_root (above c.path)) (bitmap_of (node_at state.heap main)) es, contracted_entries Fits (is_below_root (above c.path)) (bitmap_of (node_at state.heap main)) es all)
   climb_node (climb.Root c l) k w n e = absurd (root_makes state operation l n e)
 
-  -- ---- SNAP and CLEAR
+  -- ---- COPY
 
   copy_node : (l : CopyLine) → KnowsCopy Own Fits Falls Late l → (n : Node) → made_node state (line_action state operation (line.Copy l)) ≡ Some n → CopyNode l n
   copy_node (copy.Read root r) k n e = absurd (read_makes state r.indirection r.line n e)

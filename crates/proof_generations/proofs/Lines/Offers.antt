@@ -79,7 +79,7 @@ completing_of (line.Climb l) = completing_climb l
 completing_of (line.Copy l) = completing_copy l
 completing_of l = None
 
--- the line of SNAP or CLEAR
+-- the line of COPY
 abbrev pub copying_of : Line → Option CopyLine
 copying_of (line.Copy l) = Some l
 copying_of l = None

@@ -128,7 +128,7 @@ module _ (state : State) (operation : Operation) (Own Fits Falls : Ref → Type 
       (step.entries_fit child (safe_of w.1.1.1.1.1.0) k.1)
   clean_own (clean.Contracted path main done) is k w a makes = clean_contracted_falls state operation Own Fits Falls Late path main done k (next_ref state.heap) makes
 
-  -- ---- CLIMB and SNAP
+  -- ---- CLIMB and COPY
 
   climb_own : (l : ClimbLine) → operation.line ≡ line.Climb l → KnowsClimb Own Fits Falls Was l → Makes (line.Climb l) → K (line_after state operation (line.Climb l))
   climb_own (climb.Read c r) is k makes =

@@ -302,7 +302,7 @@ module _ (lv : Ref → ℕ) (state : State) (operation : Operation) (S : Ref →
   climb_root_level c (Goes l) p e = (p, e)
   climb_root_level c (Gives r) p e = cond_both (is_start operation (generation_at state.heap r)) _ _ L (λ x. climbing_level c p) (λ x. tt)
 
-  -- ---- SNAP and CLEAR
+  -- ---- COPY
 
   pub given_level : (call : Call) (r main : Ref) → lv r ≡ 1 → lv main ≡ 1 → L (after_given call r main)
   given_level (Clear h) r main a b = (a, b)

@@ -194,7 +194,7 @@ module _ (state : State) (operation : Operation) (S : Ref → Type 0) (H : Heape
   climb_by c main p m f (Some made) e =
       (swap_begun (above c.path) (above_each T after c.path p.0) (above_long c.path (fact_of p.1.0)), (m, (f made e, (p.0, (p.1.0, (p.1.1.0, tt))))))
 
-  -- ---- SNAP and CLEAR
+  -- ---- COPY
 
   copy_by : (l : CopyLine) → ((made : Ref) → next_ref state.heap ≡ Some made → Wants (copy_after_made operation l made)) → (o : Option Ref) → next_ref state.heap ≡ o →
       Wants (copy_if_made operation l o)

@@ -1,4 +1,4 @@
--- SWAP, SNAP and CLEAR, WALK and the first line of a try: what their lines want gives what the lines after them do, where a step makes no node.
+-- SWAP, COPY, WALK and the first line of a try: what their lines want gives what the lines after them do, where a step makes no node.
 use Rattle.std.proofs.Common.{◌≡◌, ℕ, ◌==◌, ◌||◌, Bool, true, false, nat_lt, List, [], ◌∷◌, ◌++◌, Option, length, refl, lt-ltb, arith}
 use Rattle.std.proofs.lemmas.Bool.{false≢true, cond_both}
 use Rattle.std.proofs.lemmas.List.Elements.{All-append, All-head, All-tail}
@@ -127,7 +127,7 @@ module _ (state : State) (operation : Operation) (S : Ref → Type 0) (H : Heape
   root_line_next (Goes l) h = h
   root_line_next (Gives r) h = from_root_next operation.call r h.0
 
-  -- ---- SNAP and CLEAR
+  -- ---- COPY
 
   given_next : (call : Call) (r main : Ref) → At r AnIndirection → At main AMain → AllHold S state.heap (line_wants state.limits.hash operation.call operation.access (after_given call r main))
   given_next (Clear h) r main m n = (m, (n, tt))

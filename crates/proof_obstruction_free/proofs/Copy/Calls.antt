@@ -1,4 +1,4 @@
--- A snapshot, a freeze or a clear stands on the lines of ROOT and of SNAP and CLEAR alone.
+-- A snapshot, a freeze or a clear stands on the lines of ROOT and COPY alone.
 use Rattle.std.proofs.Common.{ℕ, ◌≤◌, ◌||◌, Bool, true, false, cond, Option, Some, None, sym, ◌∙◌, subst}
 use Rattle.proof_obstruction_free.specs.Beneath.history.specs.declared.calls.Call.{Call}
 use Rattle.proof_obstruction_free.specs.Beneath.history.specs.declared.calls.Call.TheVariants.{Clear, Snapshot, Freeze}
@@ -32,7 +32,7 @@ use Rattle.proof_obstruction_free.specs.Beneath.proof_generations.specs.Running.
 use Rattle.proof_obstruction_free.specs.Alone.{Lone}
 use Rattle.proof_obstruction_free.specs.Copies.{IsCopying}
 
--- a line of ROOT, of SNAP or CLEAR, or the end
+-- a line of ROOT or COPY, or the end
 abbrev pub OfCopy : Line → Type 0
 OfCopy (line.Root l) = Unit {0}
 OfCopy (line.Copy l) = Unit {0}

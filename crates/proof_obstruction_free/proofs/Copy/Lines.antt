@@ -1,4 +1,4 @@
--- The lines of SNAP and CLEAR, where one actor alone takes steps: what each step leads to.
+-- The lines of COPY, where one actor alone takes steps: what each step leads to.
 use Rattle.std.proofs.Common.{◌≡◌, refl, ap, ◌∙◌}
 use Rattle.proof_obstruction_free.specs.Beneath.slot_arena.specs.declared.refs.Ref.{Ref}
 use Rattle.proof_obstruction_free.specs.Beneath.machine_model.specs.declared.copying.CopyLine.TheVariants as copy

@@ -96,7 +96,7 @@ module _ (state : State) (operation : Operation) where
   makes_by (copy.Offer o) main own e = let wrong : ⊥ = cc e in absurd wrong
   makes_by (copy.Complete c) main own e = absurd (grind arith)
 
-  -- SNAP and CLEAR alone make roots
+  -- COPY alone makes roots
   root_maker : (l : Line) (main : Ref) → line_action state operation l ≡ act.MakeRoot main → (c : CopyLine) × (l ≡ line.Copy c)
   root_maker (line.Copy l) main e = (l, refl)
   root_maker (line.Root l) main e = absurd (grind arith)

@@ -138,7 +138,7 @@ module _ (state : State) (operation : Operation) (c : Complete) where
       by (Goes next) is e = goes_on d refl (is ∙ ap Goes (same_Some next c e))
       by (Gives done) is e = absurd (none-some c e)
 
-  -- ---- SNAP and CLEAR
+  -- ---- COPY
 
   copy_comes : (l : CopyLine) → Leads (line.Copy l) → ComesFrom state operation (line.Copy l) c
   copy_comes (copy.Offer o) e = by (is_plain (word_at state (handle_of operation.call)) o.root) e

@@ -1,4 +1,4 @@
-use Rattle.ctrie_map.proofs.Stepping.{begin_not_refused, begins, comes_nearer, end_not_refused, ends_so, walk_not_refused, walks_on}
+use Rattle.ctrie_map.proofs.Stepping.{begin_not_refused, begins, comes_nearer, end_not_refused, ends_so, go_not_refused, leads_on}
 use Rattle.ctrie_map.proofs.performing.step_through.Goals as goal
 
 pub unreachable-requires : goal.unreachable-requires
@@ -9,18 +9,18 @@ loop-core-init c = begins c.args.core.now.state c.args.call c.requires c.calls_b
 
 pub loop-core-smaller : goal.loop-core-smaller
 loop-core-smaller c =
-    comes_nearer c.args.core.now.state c.args.call c.requires c.calls_go_on.ensures c.loop-core.core.state c.loop-core.invariant c.in-Ok-walk.field-0.kind c.walk.new.self.state
-    c.in-Ok-walk.ensures.applies
+    comes_nearer c.args.core.now.state c.args.call c.requires c.calls_go_on.ensures c.loop-core.core.state c.loop-core.invariant c.in-Ok-go.field-0.kind c.go.new.self.state
+    c.in-Ok-go.ensures.applies
 
 pub loop-core-preserved : goal.loop-core-preserved
 loop-core-preserved c =
-    walks_on c.args.core.now.state c.args.call c.requires c.calls_go_on.ensures c.loop-core.core.state c.loop-core.invariant c.in-Ok-walk.field-0.kind c.walk.new.self.state
-    c.in-Ok-walk.ensures.applies
+    leads_on c.args.core.now.state c.args.call c.requires c.calls_go_on.ensures c.loop-core.core.state c.loop-core.invariant c.in-Ok-go.field-0.kind c.go.new.self.state
+    c.in-Ok-go.ensures.applies
 
-pub unreachable-requires-in_default-walk : goal.unreachable-requires-in_default-walk
-unreachable-requires-in_default-walk c =
-    walk_not_refused c.args.core.now.state c.args.call c.requires c.calls_go_on.ensures c.loop-core.core.state c.loop-core.invariant c.in_default-walk.field-0 c.walk.new.self.state
-    c.in_default-walk.ensures.applies
+pub unreachable-requires-in_default-go : goal.unreachable-requires-in_default-go
+unreachable-requires-in_default-go c =
+    go_not_refused c.args.core.now.state c.args.call c.requires c.calls_go_on.ensures c.loop-core.core.state c.loop-core.invariant c.in_default-go.field-0 c.go.new.self.state
+    c.in_default-go.ensures.applies
 
 pub unreachable-requires-in_default-end : goal.unreachable-requires-in_default-end
 unreachable-requires-in_default-end c =

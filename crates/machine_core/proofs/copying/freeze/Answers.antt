@@ -15,6 +15,7 @@ use Rattle.machine_core.specs.Straight.{CarriesBy}
 use Rattle.machine_core.specs.Seen.{seen}
 use Rattle.proof_core.proofs.Bounded.{bounded}
 use Rattle.proof_core.proofs.Claims.{one_live}
+use Rattle.proof_core.proofs.Numbers.{least_known}
 use Rattle.machine_core.proofs.Copied.{copy_after, first_coursed, freeze_comes, holds_made, made_so, offer_lives, offer_same}
 use Rattle.machine_core.proofs.Copied.{over_lives, root_found, settled_root}
 use Rattle.machine_core.proofs.copying.freeze.Goals as goal
@@ -67,6 +68,7 @@ returns c =
     let root = c.args.root in
     let made = c.make_root-successor.ensures in
     let opened = c.least_free-opened.result in
+    let free : opened ≡ least_free state = least_known before.handles state opened c.requires.core.kept.numbers c.least_free-opened.ensures in
     let main_is : c.args.main ≡ main_at state.heap root = sym (ap main_of c.requires.over.indirection) in
     let offer : Descriptor = record {
       operation = c.make_root-successor.new.parts.begun;
@@ -81,11 +83,11 @@ returns c =
     let is : IsCourse (with_offer (with_new_root (first_course state) c.args.main) c.args.handle offer) c.swap_root.new.parts =
     c.swap_root.ensures.courses (with_new_root (first_course state) c.args.main) (Plain root) (made.courses (first_course state) (first_coursed before c.requires.core))
     (ap (λ r. r ∷ []) (sym made.made)) found in
-    subst (λ n. CarriesBy before c.args._actor (call.Freeze c.args.handle) (reply.Opened n) c.count_call.new.parts) (sym c.least_free-opened.ensures)
+    subst (λ n. CarriesBy before c.args._actor (call.Freeze c.args.handle) (reply.Opened n) c.count_call.new.parts) (sym free)
     (copy_after before c.make_root-successor.new.parts c.swap_root.new.parts c.count_call.new.parts c.args._actor (call.Freeze c.args.handle) c.args.handle root offer
     (offer_of state root (next_made state.heap) None (Some (least_free state))) (state.generations + 1) (with_new_root (first_course state) (main_at state.heap root)).draft 8 10
     (reply.Opened (least_free state)) c.requires.core c.requires.rest (omega arith) found
-    (offer_same (ap (λ (p : Parts). p.begun) made.same) main_is made.made refl (ap Some c.least_free-opened.ensures))
+    (offer_same (ap (λ (p : Parts). p.begun) made.same) main_is made.made refl (ap Some free))
     (subst (λ m. IsCourse (with_offer (with_new_root (first_course state) m) c.args.handle offer) c.swap_root.new.parts) main_is is)
     (made_so before c.make_root-successor.new.parts (before.generations + 1) made.same) c.swap_root.ensures.same c.swap_root.ensures.table c.count_call.ensures made.records
     c.swap_root.ensures.records refl

@@ -17,6 +17,7 @@ use Rattle.machine_core.specs.Seen.{seen}
 use Rattle.machine_core.proofs.AtRest.{empty_slots}
 use Rattle.proof_core.proofs.Bounded.{bounded}
 use Rattle.proof_core.proofs.Claims.{one_live}
+use Rattle.proof_core.proofs.Numbers.{least_known}
 use Rattle.machine_core.proofs.Copied.{copy_after, first_coursed, holds_made, made_so, made_twice, offer_same, offers_live}
 use Rattle.machine_core.proofs.Copied.{over_lives, room_again, root_found, settled_root, snapshot_comes}
 use Rattle.machine_core.proofs.copying.snapshot.Goals as goal
@@ -111,6 +112,7 @@ returns c =
     let first = c.make_root-successor.ensures in
     let second = c.make_root-second.ensures in
     let opened = c.least_free-opened.result in
+    let free : opened ≡ least_free state = least_known before.handles state opened c.requires.core.kept.numbers c.least_free-opened.ensures in
     let main_is : c.args.main ≡ main_at state.heap root = sym (ap main_of c.requires.over.indirection) in
     let middle = with_new_root (first_course state) c.args.main in
     let course = with_new_root middle c.args.main in
@@ -130,12 +132,12 @@ returns c =
     c.swap_root.ensures.courses course (Plain root) (second.courses middle half)
     (ap (λ r. r ∷ next_made middle.draft.heap ∷ []) (sym first.made) ∙ ap (λ r. c.make_root-successor.result ∷ r ∷ []) (sym newest)) found in
     let theirs = with_new_root (with_new_root (first_course state) (main_at state.heap root)) (main_at state.heap root) in
-    subst (λ n. CarriesBy before c.args._actor (call.Snapshot c.args.handle) (reply.Opened n) c.count_call.new.parts) (sym c.least_free-opened.ensures)
+    subst (λ n. CarriesBy before c.args._actor (call.Snapshot c.args.handle) (reply.Opened n) c.count_call.new.parts) (sym free)
     (copy_after before c.make_root-second.new.parts c.swap_root.new.parts c.count_call.new.parts c.args._actor (call.Snapshot c.args.handle) c.args.handle root offer
     (offer_of state root (next_made state.heap) (Some theirs.draft.newest) (Some (least_free state))) (state.generations + 1 + 1) theirs.draft 9 11
     (reply.Opened (least_free state)) c.requires.core c.requires.rest (omega arith) found
     (offer_same (ap (λ (p : Parts). p.begun) c.make_root-second.ensures.same ∙ ap (λ (p : Parts). p.begun) c.make_root-successor.ensures.same) main_is first.made
-    (ap Some (newest ∙ ap (λ m. next_made (with_new_root (first_course state) m).draft.heap) main_is)) (ap Some c.least_free-opened.ensures))
+    (ap Some (newest ∙ ap (λ m. next_made (with_new_root (first_course state) m).draft.heap) main_is)) (ap Some free))
     (subst (λ m. IsCourse (with_offer (with_new_root (with_new_root (first_course state) m) m) c.args.handle offer) c.swap_root.new.parts) main_is is)
     (made_twice before c.make_root-successor.new.parts c.make_root-second.new.parts (made_so before c.make_root-successor.new.parts (before.generations + 1) first.same)
     (made_so c.make_root-successor.new.parts c.make_root-second.new.parts (c.make_root-successor.new.parts.generations + 1) second.same))

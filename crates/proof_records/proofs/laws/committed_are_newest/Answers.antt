@@ -1,5 +1,0 @@
-use Rattle.proof_records.proofs.Newest.{committed_are_newest as its}
-use Rattle.proof_records.proofs.laws.committed_are_newest.Goals as goal
-
-pub returns : goal.returns
-returns c = its

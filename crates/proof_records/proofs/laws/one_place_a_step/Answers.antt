@@ -1,5 +1,0 @@
-use Rattle.proof_records.proofs.Adding.{one_place}
-use Rattle.proof_records.proofs.laws.one_place_a_step.Goals as goal
-
-pub returns : goal.returns
-returns c = one_place

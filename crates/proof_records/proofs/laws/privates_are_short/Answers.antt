@@ -1,5 +1,0 @@
-use Rattle.proof_records.proofs.Privates.{privates_short}
-use Rattle.proof_records.proofs.laws.privates_are_short.Goals as goal
-
-pub returns : goal.returns
-returns c = privates_short

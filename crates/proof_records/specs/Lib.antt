@@ -1,3 +1,0 @@
-pub mod Beneath
-pub mod Laws
-pub mod Tellings

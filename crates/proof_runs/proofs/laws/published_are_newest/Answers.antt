@@ -1,0 +1,5 @@
+use Rattle.proof_runs.proofs.Record.Newest.{published_are_newest as its}
+use Rattle.proof_runs.proofs.laws.published_are_newest.Goals as goal
+
+pub returns : goal.returns
+returns c = its
