@@ -17,12 +17,25 @@ impl<O: Object<C, A> + Drop, C: Copy, A: Drop> Gate<O, C, A> {
         requires { IsSeatOf self.now seat.old }
         ensures { IsCalled O.answers seat.old call result seat.new }
     {
+        match self.try_call(seat, call) {
+            Some(answer) => answer,
+            None => self.call_later(rt, seat, call),
+        }
+    }
+
+    /// The same, where another seat is inside. It stands apart, so that the first try is no turn of a loop: what the turns of a
+    /// loop have in common is worked out before the first one.
+    #[cold]
+    fn call_later<R: Wait>(&self, rt: &R, seat: &mut Seat<O, C, A>, call: C) -> A
+        requires { IsSeatOf self.now seat.old }
+        ensures { IsCalled O.answers seat.old call result seat.new }
+    {
         let mut waiting = Waiting::new(O::is_midway(&call));
         for _ in rt.forever() {
+            waiting.pause(rt, &self.table.shared, 0);
             if let Some(answer) = self.try_call(seat, call) {
                 return answer;
             }
-            waiting.pause(rt, &self.table.shared, 0);
         }
         unreachable!()
     }

@@ -24,12 +24,27 @@ impl<O: Sharded<C, A> + Drop, C: Copy, A: Drop> ShardedGate<O, C, A> {
         ensures about { IsTrue (is_about (O.about (length self.now.first) call) seat.new.shard) }
         ensures within { seat.new.shard < length self.now.first }
     {
+        match self.try_call(seat, call) {
+            Some(answer) => answer,
+            None => self.call_later(rt, seat, call),
+        }
+    }
+
+    /// The same, where another seat has what the call is about. It stands apart, so that the first try is no turn of a loop: what
+    /// the turns of a loop have in common is worked out before the first one.
+    #[cold]
+    fn call_later<R: Wait>(&self, rt: &R, seat: &mut ShardedSeat<O, C, A>, call: C) -> A
+        requires { IsSeatOf self.now seat.old.seat }
+        ensures called { IsCalled O.answers seat.old.seat call result seat.new.seat }
+        ensures about { IsTrue (is_about (O.about (length self.now.first) call) seat.new.shard) }
+        ensures within { seat.new.shard < length self.now.first }
+    {
         let mut waiting = self.waiting();
         for _ in rt.forever() {
+            self.wait(rt, &mut waiting, O::shard_about(&call, self.shards));
             if let Some(answer) = self.try_call(seat, call) {
                 return answer;
             }
-            self.wait(rt, &mut waiting, O::shard_about(&call, self.shards));
         }
         unreachable!()
     }

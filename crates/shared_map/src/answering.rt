@@ -28,6 +28,7 @@ impl Sharded<Request, Told> for Map {
         about(request, shards)
     }
 
+    #[inline(always)]
     #[tactic(auto, using(crate::proofs::Alone::called_alone, crate::proofs::Alone::strange_alone, crate::proofs::Alone::none_alone))]
     fn perform(&mut self, _seat: u8, request: Request) -> Told {
         if !is_same(request.hash, self.hash()) {

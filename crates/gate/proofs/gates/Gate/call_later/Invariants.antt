@@ -1,6 +1,6 @@
 -- The seat has seen what it had.
 use Rattle.std.proofs.Common.{◌≡◌}
-use Rattle.sharded_gate.proofs.gates.ShardedGate.call.Given as goal
+use Rattle.gate.proofs.gates.Gate.call_later.Given as goal
 
 abbrev pub invariant-loop : goal.invariant-loop
 invariant-loop g l = (goal.iterator-loop g).can_next l.iterator' × (goal.iterator-loop g).is_finite l.iterator' × (l.seat ≡ l.initial.seat)
