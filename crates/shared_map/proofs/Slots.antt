@@ -1,7 +1,8 @@
 -- How many slots the shards of a map have together.
-use Rattle.std.proofs.Common.{◌≡◌, ℕ, ◌*◌, ◌≤◌, ◌<◌, ◌^◌, List, [], ◌∷◌, length, sym, ap, ◌∙◌, arith}
+use Rattle.std.proofs.Common.{◌≡◌, ℕ, ◌+◌, ◌*◌, ◌≤◌, ◌<◌, ◌^◌, List, [], ◌∷◌, length, take, get_or, sym, ap, ◌∙◌, arith}
 use Rattle.std.proofs.Math.Nat.{mul-suc, mul-zero}
-use Rattle.std.proofs.lemmas.List.Sums.{sum_by-cons}
+use Rattle.std.proofs.lemmas.List.{take_all}
+use Rattle.std.proofs.lemmas.List.Sums.{sum_by-cons, sum_by_more}
 use Rattle.std.proofs.lemmas.Nat.{mul-le}
 use Rattle.ctrie_base.specs.declared.hashes.HashKind.{HashKind}
 use Rattle.ctrie_map.specs.Maps.{MapState}
@@ -24,6 +25,11 @@ slots_are slots hash (m ∷ ms) new =
 pub new_slots : (slots shards : ℕ) (hash : HashKind) (ms : List MapState) → AreNewMaps slots hash shards ms → slots_of_all ms ≡ slots * shards
 new_slots slots shards hash ms new = slots_are slots hash ms new.0 ∙ ap (λ n. slots * n) new.1
 
--- a map alone
-pub one_slots : (m : MapState) → slots_of_all (m ∷ []) ≡ m.core.limits.slots
-one_slots m = let one = sum_by-cons (λ (s : MapState). s.core.limits.slots) m [] in omega (arith, one)
+-- the first of these maps, and one more
+pub slots_more : (ms : List MapState) (i : ℕ) (m : MapState) → i < length ms → m ≡ get_or ms i m → slots_of_all (take (i + 1) ms) ≡ slots_of_all (take i ms) + m.core.limits.slots
+slots_more ms i m within is =
+    sum_by_more (λ (s : MapState). s.core.limits.slots) ms i m within ∙ ap (λ (s : MapState). slots_of_all (take i ms) + s.core.limits.slots) (sym is)
+
+-- all of them
+pub slots_of_them : (ms : List MapState) (i : ℕ) → length ms ≤ i → slots_of_all (take i ms) ≡ slots_of_all ms
+slots_of_them ms i past = ap slots_of_all (take_all i ms past)

@@ -23,9 +23,13 @@ abbrev pub IsNewShared : ℕ → HashKind → ℕ → ℕ → MapRoom → List M
 IsNewShared slots hash shards seats shared made =
     AreNewMaps slots hash shards shared.room.first × (shared.hash ≡ hash) × AreMade shared.room.first seats shared.room made
 
--- this map is behind the gate, in one shard, and so many seats are here
+-- these shards of one map with this hash are behind the gate, and so many seats are here
+abbrev pub SharesAll : HashKind → List MapState → ℕ → MapRoom → List MapSeat → Type 0
+SharesAll hash shards seats shared made = (shared.hash ≡ hash) × AreMade shards seats shared.room made
+
+-- this map is, in one shard
 abbrev pub Shares : MapState → ℕ → MapRoom → List MapSeat → Type 0
-Shares map seats shared made = (shared.hash ≡ map.core.limits.hash) × AreMade (map ∷ []) seats shared.room made
+Shares map seats shared made = SharesAll map.core.limits.hash (map ∷ []) seats shared made
 
 -- why a map isn't made
 abbrev pub RefusesMaps : ℕ → MapError → Type 0

@@ -1,10 +1,10 @@
 //! The map in shards behind its gate, which threads share.
 
-ghost use Rattle.std.specs.Prelude.{◌≡◌, ◌<◌, ◌*◌, ◌∷◌, [], length, IfErr, IfOk, OnOk};
+ghost use Rattle.std.specs.Prelude.{◌≡◌, ◌<◌, ◌≤◌, ◌*◌, ◌∷◌, [], length, IfErr, IfOk, OnOk};
 ghost use Rattle.ctrie_map.specs.Maps.{AreSlots};
-ghost use Rattle.shared_map.specs.Opening.{AreNewMaps, AreShardNumbers, IsNewShared, RefusesMaps, RefusesNew, Shares};
+ghost use Rattle.shared_map.specs.Opening.{AreNewMaps, AreShardNumbers, IsNewShared, RefusesMaps, RefusesNew, Shares, SharesAll};
 ghost use Rattle.shared_map.specs.Seats.{AreSeatsOf};
-ghost use Rattle.shared_map.specs.Shards.{slots_of_all};
+ghost use Rattle.shared_map.specs.Shards.{AreShards, slots_of_all};
 
 use crate::asks::{Request, Told};
 use ctrie_base::HashKind;
@@ -81,22 +81,42 @@ impl SharedMap {
         ensures back { IfErr result (λ back. back ≡ map) }
     {
         let hash = map.hash();
-        let slots = u64::from(map.slots());
         let shards = alone(alloc, map)?;
+        match SharedMap::of_shards(alloc, hash, shards, seats) {
+            Ok(made) => Ok(made),
+            Err(mut shards) => match shards.pop() {
+                Some(map) => Err(map),
+                None => unreachable!(),
+            },
+        }
+    }
+
+    /// The shards of one map with this hash behind a gate, as they came out of `finish`, and so many seats, with the numbers 1
+    /// and on. Where memory is wanting they come back.
+    pub fn of_shards(
+        alloc: Global,
+        hash: HashKind,
+        shards: Vec<Map>,
+        seats: u8,
+    ) -> Result<(SharedMap, Vec<MapSeat>), Vec<Map>>
+        requires { AreShards hash shards.items }
+        ensures made { IfOk result (λ made. SharesAll hash shards.items seats made.0 made.1.items) }
+        ensures seats { IfOk result (λ made. AreSeatsOf made.0 made.1.items) }
+        ensures back { IfErr result (λ back. back.items ≡ shards.items) }
+    {
+        let slots = slots_of(shards.as_slice());
+        let count = shards.len();
         match ShardedGate::new(alloc, shards, seats) {
             Ok((gate, seats)) => {
                 let made = SharedMap {
                     gate,
                     hash,
                     slots,
-                    shards: 1,
+                    shards: count,
                 };
                 Ok((made, seats))
             }
-            Err(mut shards) => match shards.pop() {
-                Some(map) => Err(map),
-                None => unreachable!(),
-            },
+            Err(shards) => Err(shards),
         }
     }
 
@@ -125,6 +145,19 @@ fn alone(alloc: Global, map: Map) -> Result<Vec<Map>, Map>
     };
     let _ = maps.push(map);
     Ok(maps)
+}
+
+/// How many slots these shards have.
+fn slots_of(shards: &[Map]) -> u64
+    requires { length shards.now ≤ 64 }
+    ensures { result ≡ slots_of_all shards.now }
+{
+    let mut slots = 0u64;
+    for map in shards {
+        let more = u64::from(map.slots());
+        slots = slots.saturating_add(more);
+    }
+    slots
 }
 
 /// How many slots so many shards have.

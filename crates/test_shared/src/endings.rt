@@ -53,6 +53,29 @@ fn each_seat_has_to_be_there(rt: HostRuntime) -> Result<(), Fail> {
     finish_without_one::<Brand, HostRuntime>(&rt, map, seats)
 }
 
+/// What came out of one shared map is shared once more.
+#[test]
+fn shards_are_shared_again(rt: HostRuntime) -> Result<(), Fail> {
+    let (map, mut seats) = SharedMap::new(rt.alloc(), 64, HashKind::Fold, 1, 8)?;
+    let Some(mut seat) = seats.pop() else {
+        panic!(rt; "there is one")
+    };
+    assert_eq!(rt; seat.put(&rt, &map, Handle::first(), 5, 50), Ok(None));
+    seats.push(seat)?;
+    let Ok(shards) = map.finish(seats) else {
+        panic!(rt; "all seats are there")
+    };
+    let Ok((map, mut seats)) = SharedMap::of_shards(rt.alloc(), HashKind::Fold, shards, 2) else {
+        panic!(rt; "there is memory")
+    };
+    let Some(mut seat) = seats.pop() else {
+        panic!(rt; "there are two")
+    };
+    assert_eq!(rt; (map.slots(), map.shards(), seat.number()), (512, 8, 2));
+    assert_eq!(rt; seat.get(&rt, &map, Handle::first(), 5), Ok(Some(50)));
+    Ok(())
+}
+
 /// A shared map is refused as a map is, and where it would have no shard or too many.
 #[test]
 fn sizes_are_bounded(rt: HostRuntime) -> Result<(), Fail> {
