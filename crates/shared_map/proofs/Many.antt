@@ -74,12 +74,12 @@ module _ (hash : HashKind) (before after : List MapState) where
   by_call call told p = by_change call told p
 
   by_refusal : (h copy : ℕ) (why : MapError) → RestoresAll hash before h copy (Err why) after → AreAsMany
-  by_refusal h copy Full p = by_limits p.2.0
+  by_refusal h copy Full p = by_limits p.4.0
   by_refusal h copy WornOut p = ap length p.3
   by_refusal h copy why p = ap length p.1
 
   by_restore : (h copy : ℕ) (told : Told) → RestoresAll hash before h copy told after → AreAsMany
-  by_restore h copy (Ok told) p = by_limits p.2.2.0
+  by_restore h copy (Ok told) p = by_limits p.3.2.0
   by_restore h copy (Err why) p = by_refusal h copy why p
 
   by_answer : (ask : Ask) (told : Told) → AnswersAll hash before ask told after → AreAsMany

@@ -46,12 +46,12 @@ module _ (hash : HashKind) (before after : List MapState) where
   call_shows call told p = change_shows call told p
 
   restore_refused : (h copy : ℕ) (why : MapError) → RestoresAll hash before h copy (Err why) after → RestoresWorld hash (length before) (world_of_all before) h copy (Err why) (world_of_all after)
-  restore_refused h copy Full p = (p.0, p.2.1)
+  restore_refused h copy Full p = (p.0, p.4.1)
   restore_refused h copy WornOut p = (p.0, ap world_of_all p.3)
   restore_refused h copy why p = (p.0, ap world_of_all p.1)
 
   restore_shows : (h copy : ℕ) (told : Told) → RestoresAll hash before h copy told after → RestoresWorld hash (length before) (world_of_all before) h copy told (world_of_all after)
-  restore_shows h copy (Ok told) p = (p.0, subst (RestoresAmong (world_of_all before) h copy) (sym p.2.2.1) p.2.1)
+  restore_shows h copy (Ok told) p = (p.0, subst (RestoresAmong (world_of_all before) h copy) (sym p.3.2.1) p.3.1)
   restore_shows h copy (Err why) p = restore_refused h copy why p
 
   shows : (ask : Ask) (told : Told) → AnswersAll hash before ask told after → Shows hash (length before) (world_of_all before) ask told (world_of_all after)

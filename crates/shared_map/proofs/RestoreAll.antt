@@ -18,7 +18,7 @@ use Rattle.ctrie_map.specs.declared.errors.MapError.{MapError}
 use Rattle.ctrie_map.specs.declared.errors.MapError.TheVariants as error
 use Rattle.ctrie_map.specs.Maps.{MapState, free_of, handles_of}
 use Rattle.ctrie_map.specs.Reading.{writability_by}
-use Rattle.ctrie_map.specs.Restoring.{RefusesRestore, is_worn_out_to_restore, restore_denial_by}
+use Rattle.ctrie_map.specs.Restoring.{HasLifeIfTried, RefusesRestore, is_worn_out_to_restore, restore_denial_by}
 use Rattle.ctrie_map.proofs.Named.{at_other, at_same}
 use Rattle.shared_map.specs.Answering.{AnswersAll, RestoresAll, WorkUpTo}
 use Rattle.shared_map.specs.Asks.{Told, answer_to_restore, told_as}
@@ -185,6 +185,7 @@ module _ (hash : HashKind) (before : List MapState) (are : AreShards hash before
         unchanged (Ok answer.Restored) same (
           refl,
           (λ _. same),
+          (λ apart. absurd (apart is)),
           (
             naming world h Writable o.m,
             (shown_as o.m Writable, (o.m, o.has), shown, refl),
@@ -193,8 +194,9 @@ module _ (hash : HashKind) (before : List MapState) (are : AreShards hash before
         )
 
     -- that of the other one, in each shard
-    another : h ≢ copy → HaveBecome (turned (turn.Copy copy h Writable)) work_of_a_restore before after → Whole (Ok answer.Restored)
-    another apart have =
+    another : h ≢ copy → is_any_worn_out_to_restore before ≡ false → HaveBecome (turned (turn.Copy copy h Writable)) work_of_a_restore before after →
+        Whole (Ok answer.Restored)
+    another apart life have =
         let o = are_open in
         let kind : are.kinds h ≡ Some Writable = sym (world_kinds h) ∙ ap kind_of o.has in
         let source : are.kinds copy ≡ Some o.shown.access = sym (world_kinds copy) ∙ ap kind_of o.there in
@@ -204,6 +206,7 @@ module _ (hash : HashKind) (before : List MapState) (are : AreShards hash before
             (
               refl,
               (λ same. absurd (apart same)),
+              (λ _. life),
               (
                 naming world h Writable m,
                 (shown_as m o.shown.access, (o.m, o.has), shards.shown_in_all hash before are copy ∙ ap (option_map (shown_as m)) source, refl),
@@ -217,14 +220,19 @@ module _ (hash : HashKind) (before : List MapState) (are : AreShards hash before
 
     done : (told : _) → RestoresEach h copy before (Ok told) after → (h ≡ copy) ⊎ (h ≢ copy) → Whole (Ok told)
     done told p (inl same) = subst (λ t. Whole (Ok t)) (sym p.0) (itself same (p.1 same))
-    done told p (inr apart) = subst (λ t. Whole (Ok t)) (sym p.0) (another apart (p.2 apart (undenied_each none before are.alike)))
+    done told p (inr apart) = subst (λ t. Whole (Ok t)) (sym p.0) (another apart (p.2 apart) (p.3 apart (undenied_each none before are.alike)))
 
     pub restores_answer : (told : Told) → RestoresEach h copy before told after → Whole told
     restores_answer (Ok told) p = done told p (cases_eq h copy)
     restores_answer (Err error.WornOut) p = unchanged (Err error.WornOut) p.2 (none, p.0, p.1, p.2)
     restores_answer (Err error.Full) p =
-        unchanged (Err error.Full) p.2
-        (none, answers.many_lack hash before are first knows (Snapshot copy) before many p.1, (ap (map (λ (s : MapState). s.core.limits)) p.2, ap world_of_all p.2))
+        unchanged (Err error.Full) p.3 (
+          none,
+          p.0,
+          p.1,
+          answers.many_lack hash before are first knows (Snapshot copy) before many p.2,
+          (ap (map (λ (s : MapState). s.core.limits)) p.3, ap world_of_all p.3),
+        )
     restores_answer (Err why) p = absurd p
 
 -- ---- one shard
@@ -236,20 +244,23 @@ module _ (hash : HashKind) (s t : MapState) (hash_is : s.core.limits.hash ≡ ha
   denial_of_one : restore_denial_among (world_of_all (s ∷ [])) h copy ≡ restore_denial_among (handles_of s) h copy
   denial_of_one = ap (λ w. restore_denial_among w h copy) (one.world_is hash s t hash_is)
 
-  refuses_one : (why : MapError) → RefusesRestore s h copy t why → RestoresAll hash (s ∷ []) h copy (Err why) (t ∷ []) × (t.core.limits ≡ s.core.limits)
-  refuses_one error.Full p = (
+  refuses_one : (why : MapError) → RefusesRestore s h copy t why → HasLifeIfTried (Err why) s h copy →
+      RestoresAll hash (s ∷ []) h copy (Err why) (t ∷ []) × (t.core.limits ≡ s.core.limits)
+  refuses_one error.Full p life = (
     (
       denial_of_one ∙ p.0,
+      life.0,
+      one.or_none (is_worn_out_to_restore s) ∙ life.1,
       p.1,
       (one.limits_are hash s t hash_is p.2.0, one.world_then hash s t hash_is ∙ p.2.1 ∙ sym (one.world_is hash s t hash_is)),
     ),
     p.2.0,
   )
-  refuses_one error.WornOut p = (
+  refuses_one error.WornOut p life = (
     (denial_of_one ∙ p.0, p.1, one.or_none (is_worn_out_to_restore s) ∙ p.2, ap (λ x. x ∷ []) p.3),
     ap (λ (s : MapState). s.core.limits) p.3,
   )
-  refuses_one why p = ((denial_of_one ∙ p.0, ap (λ x. x ∷ []) p.1), ap (λ (s : MapState). s.core.limits) p.1)
+  refuses_one why p life = ((denial_of_one ∙ p.0, ap (λ x. x ∷ []) p.1), ap (λ (s : MapState). s.core.limits) p.1)
 
   comes_one : (told : Result (Unit {0}) MapError) → ComesTo s h copy told t →
       RestoresAll hash (s ∷ []) h copy (told_as answer_to_restore told) (t ∷ []) × (t.core.limits ≡ s.core.limits)
@@ -258,6 +269,7 @@ module _ (hash : HashKind) (s t : MapState) (hash_is : s.core.limits.hash ≡ ha
         (
           refl,
           (λ same. ap (λ x. x ∷ []) (p.1 same)),
+          (λ apart. one.or_none (is_worn_out_to_restore s) ∙ p.3 apart),
           (
             naming (handles_of s) h Writable shown.pairs,
             among (naming (handles_of s) h Writable shown.pairs) (shown, writable, at, refl),
@@ -266,7 +278,7 @@ module _ (hash : HashKind) (s t : MapState) (hash_is : s.core.limits.hash ≡ ha
         ),
         becomes.0,
       )
-  comes_one (Err why) p = refuses_one why p
+  comes_one (Err why) p = refuses_one why p.2 p.3
 
   restores_one : (told : Result (Unit {0}) MapError) → ComesTo s h copy told t → WorksUpTo work_of_a_restore s t →
       AnswersAll hash (s ∷ []) (Restore h copy) (told_as answer_to_restore told) (t ∷ []) × AreShards hash (t ∷ [])

@@ -1,5 +1,5 @@
 -- What a restore in one shard comes to.
-use Rattle.std.proofs.Common.{◌≡◌, ℕ, ◌≤◌, false, None, Result, Ok, Err, IfOk, IfErr, sym, ap, ◌∙◌, arith}
+use Rattle.std.proofs.Common.{◌≡◌, ℕ, ◌≤◌, false, None, Result, Ok, Err, sym, ap, ◌∙◌, arith}
 use Rattle.std.proofs.lemmas.Bool.{true≢false}
 use Rattle.history.specs.declared.calls.Access.TheVariants.{Writable}
 use Rattle.history.specs.declared.calls.Call.TheVariants.{Snapshot}
@@ -8,18 +8,13 @@ use Rattle.ctrie_map.specs.Costs.{WorksUpTo}
 use Rattle.ctrie_map.specs.declared.errors.MapError.{MapError}
 use Rattle.ctrie_map.specs.declared.errors.MapError.TheVariants.{Full, WornOut}
 use Rattle.ctrie_map.specs.Maps.{MapState, free_of, handles_of}
-use Rattle.ctrie_map.specs.Restoring.{RefusesRestore, Restores, is_worn_out_to_restore, restore_denial}
+use Rattle.ctrie_map.specs.Restoring.{RefusesRestore, is_worn_out_to_restore, restore_denial}
 use Rattle.shared_map.specs.Beneath.proof_alone.specs.Calls.{slots_of}
 use Rattle.shared_map.specs.Restores.{work_of_a_restore}
 use Rattle.shared_map.specs.Restoring.{ComesTo}
 use Rattle.shared_map.specs.Turning.{HasBecome, map_shown, turned}
 use Rattle.shared_map.specs.declared.turning.Turn.TheVariants as turn
 use Rattle.shared_map.proofs.TurnOne.{not_both}
-
-pub comes_so : (before after : MapState) (h copy : ℕ) (told : Result (Unit {0}) MapError) → IfOk told (λ _. Restores before h copy after) → (h ≡ copy → after ≡ before) →
-    IfErr told (RefusesRestore before h copy after) → ComesTo before h copy told after
-comes_so before after h copy (Ok done) restores itself refuses = (restores, itself)
-comes_so before after h copy (Err error) restores itself refuses = refuses
 
 -- where nothing stands in its way the handle becomes a copy
 module _ (s t : MapState) (h copy : ℕ) (none : restore_denial s h copy ≡ None) (life : is_worn_out_to_restore s ≡ false) (room : slots_of (Snapshot copy) ≤ free_of s) where
@@ -33,4 +28,4 @@ module _ (s t : MapState) (h copy : ℕ) (none : restore_denial s h copy ≡ Non
   becomes_copy (Ok done) p works =
       let (shown, writable, at, becomes) = p.0 in
       record { limits = becomes.0; handles = becomes.1 ∙ ap (naming (handles_of s) h Writable) (sym (ap map_shown at)); work = works }
-  becomes_copy (Err error) p works = absurd (never error p)
+  becomes_copy (Err error) p works = absurd (never error p.2)

@@ -61,9 +61,11 @@ module _ (hash : HashKind) (before : List MapState) where
   -- what a restore comes to
   abbrev pub RestoresAll : ℕ → ℕ → Told → List MapState → Type 0
   RestoresAll h copy (Ok told) after =
-      (told ≡ answer.Restored) × (h ≡ copy → after ≡ before) × ((next : HandleMap) × RestoresAmong (world_of_all before) h copy next × Become before next after)
+      (told ≡ answer.Restored) × (h ≡ copy → after ≡ before) × (h ≢ copy → is_any_worn_out_to_restore before ≡ false)
+      × ((next : HandleMap) × RestoresAmong (world_of_all before) h copy next × Become before next after)
   RestoresAll h copy (Err Full) after =
-      (restore_denial_among (world_of_all before) h copy ≡ None) × LackSlots (Snapshot copy) before × Become before (world_of_all before) after
+      (restore_denial_among (world_of_all before) h copy ≡ None) × (h ≢ copy) × (is_any_worn_out_to_restore before ≡ false)
+      × LackSlots (Snapshot copy) before × Become before (world_of_all before) after
   RestoresAll h copy (Err WornOut) after =
       (restore_denial_among (world_of_all before) h copy ≡ None) × (h ≢ copy) × (is_any_worn_out_to_restore before ≡ true) × (after ≡ before)
   RestoresAll h copy (Err error) after = (restore_denial_among (world_of_all before) h copy ≡ Some error) × (after ≡ before)

@@ -1,12 +1,12 @@
 -- What the parts of a restore in all shards come to.
-use Rattle.std.specs.Prelude.{◌≡◌, ◌≢◌, ℕ, Bool, true, not, List, [], ◌∷◌, Option, Some, None, Result, Ok, Err, if◌then◌else◌}
+use Rattle.std.specs.Prelude.{◌≡◌, ◌≢◌, ℕ, Bool, true, false, not, List, [], ◌∷◌, Option, Some, None, Result, Ok, Err, IfOk, IfErr, if◌then◌else◌}
 use Rattle.history.specs.declared.calls.Access.TheVariants.{Writable}
 use Rattle.history.specs.declared.calls.Call.TheVariants.{Snapshot}
 use Rattle.ctrie_map.specs.Costs.{WorksUpTo}
 use Rattle.ctrie_map.specs.declared.errors.MapError.{MapError}
 use Rattle.ctrie_map.specs.declared.errors.MapError.TheVariants.{Full, HandlesFull, ReadOnly, WornOut}
 use Rattle.ctrie_map.specs.Maps.{MapState}
-use Rattle.ctrie_map.specs.Restoring.{RefusesRestore, Restores, restore_denial}
+use Rattle.ctrie_map.specs.Restoring.{HasLifeIfTried, RefusesRestore, Restores, restore_denial}
 use Rattle.shared_map.specs.declared.asks.Answer.TheVariants.{Restored}
 use Rattle.shared_map.specs.declared.restoring.Restoring.{Restoring}
 use Rattle.shared_map.specs.declared.turning.Turn.TheVariants as turn
@@ -17,8 +17,9 @@ use Rattle.shared_map.specs.Turning.{HaveBecome, turned}
 
 -- what one map tells, and what becomes of it
 abbrev pub ComesTo : MapState → ℕ → ℕ → Result (Unit {0}) MapError → MapState → Type 0
-ComesTo before handle copy (Ok done) after = Restores before handle copy after × (handle ≡ copy → after ≡ before)
-ComesTo before handle copy (Err error) after = RefusesRestore before handle copy after error
+ComesTo before handle copy told after =
+    IfOk told (λ _. Restores before handle copy after) × (handle ≡ copy → after ≡ before)
+    × IfErr told (RefusesRestore before handle copy after) × HasLifeIfTried told before handle copy
 
 abbrev pub RestoresOne : Restoring → MapState → Restoring → MapState → Type 0
 RestoresOne before shard after later =
@@ -43,8 +44,9 @@ AreUndenied handle copy (s ∷ ss) = (restore_denial s handle copy ≡ None) × 
 -- a restore in all shards that nothing denies: it is refused before any shard has changed, or it is done in all, by a copy that gets the handle's number
 abbrev pub RestoresEach : ℕ → ℕ → List MapState → Told → List MapState → Type 0
 RestoresEach handle copy before (Err WornOut) after = (handle ≢ copy) × (is_any_worn_out_to_restore before ≡ true) × (after ≡ before)
-RestoresEach handle copy before (Err Full) after = (handle ≢ copy) × IsAnyTight (Snapshot copy) before × (after ≡ before)
+RestoresEach handle copy before (Err Full) after =
+    (handle ≢ copy) × (is_any_worn_out_to_restore before ≡ false) × IsAnyTight (Snapshot copy) before × (after ≡ before)
 RestoresEach handle copy before (Err error) after = ⊥
 RestoresEach handle copy before (Ok told) after =
-    (told ≡ Restored) × (handle ≡ copy → after ≡ before)
+    (told ≡ Restored) × (handle ≡ copy → after ≡ before) × (handle ≢ copy → is_any_worn_out_to_restore before ≡ false)
     × (handle ≢ copy → AreUndenied handle copy before → HaveBecome (turned (turn.Copy copy handle Writable)) work_of_a_restore before after)

@@ -59,7 +59,7 @@ is_any_worn_out_to_restore shards = list_any is_worn_out_to_restore shards
 abbrev pub IsAnyTight : Call → List MapState → Type 0
 IsAnyTight call shards = (i : ℕ) × (s : MapState) × (slice_get shards i ≡ Some s) × IsTight (slots_of call) s.core
 
--- The only shard came to where it was to make a node, and no slot was free. Where there are several, they are asked before, and one of them is tight.
+-- The only shard's last step before the answer was to make a node, and no slot was free. Where there are several, they are asked before, and one of them is tight.
 abbrev pub LackSlots : Call → List MapState → Type 0
 LackSlots call (s ∷ []) = LacksSlots s call
 LackSlots call shards = IsAnyTight call shards

@@ -17,7 +17,7 @@ pub returns-then-measuring-2-clause-restores : goal.returns-then-measuring-2-cla
 returns-then-measuring-2-clause-restores g c =
     let (same, worn, tight) = measured (record { slots = 23; restores = true; is_worn_out = false; is_tight = false }) c.visit_each.new.visitor
     (g.S.Shards.items c.args.shards.now) (g.S.Shards.items c.visit_each.new.shards) c.visit_each.ensures.visited in
-    (c.requires, tight_is (Snapshot c.args.copy) (g.S.Shards.items c.args.shards.now) (sym tight ∙ c.if-measuring-2.true), same)
+    (c.requires, sym worn ∙ c.if-measuring.false, tight_is (Snapshot c.args.copy) (g.S.Shards.items c.args.shards.now) (sym tight ∙ c.if-measuring-2.true), same)
 
 pub returns-clause-restores : goal.returns-clause-restores
 returns-clause-restores g c =
@@ -25,6 +25,7 @@ returns-clause-restores g c =
     (g.S.Shards.items c.args.shards.now) (g.S.Shards.items c.visit_each.new.shards) c.visit_each.ensures.visited in (
       refl,
       (λ e. absurd (c.requires e)),
+      (λ apart. sym worn ∙ c.if-measuring.false),
       (λ apart none. each_restored c.args.handle c.args.copy (record { handle = c.args.handle; copy = c.args.copy; told = Ok tt }) c.visit_each-2.new.visitor
           (g.S.Shards.items c.args.shards.now) (g.S.Shards.items c.visit_each-2.new.shards) refl refl
           (subst (λ xs. VisitedEach RestoresOne (record { handle = c.args.handle; copy = c.args.copy; told = Ok tt }) xs c.visit_each-2.new.visitor
