@@ -1,13 +1,13 @@
 -- Where calls stand in a log.
 use Rattle.std.specs.Prelude.{◌≡◌, ℕ, ◌+◌, ◌-◌, ◌==◌, List, [], ◌∷◌, ◌++◌, length, slice_get, Some}
-use Rattle.std.proofs.Common.{refl, ap, ◌∙◌, inr, eq-eqb, append-nil, arith}
+use Rattle.std.proofs.Common.{refl, ap, ◌∙◌, inr, eq-eqb, append-nil, append_assoc, arith}
 use Rattle.std.proofs.lemmas.List.{length-append}
 use Rattle.std.proofs.lemmas.List.Elements.{filter-append}
 use Rattle.gate.specs.declared.objects.Entry.{Entry}
-use Rattle.gate.specs.Logs.{Logged, entry, calls_of, HasFollowed}
+use Rattle.gate.specs.Logs.{Logged, entry, calls_of, GoesOn}
 use Rattle.gate.specs.Seats.{Seated}
 use Rattle.gate.specs.Calls.{IsCalled}
-use Rattle.gate.specs.Laws.{CallsKeepALogLegal, ACallIsOneEntry, OthersLeaveOwnCalls, ToldCallsStandBefore}
+use Rattle.gate.specs.Laws.{CallsKeepALogLegal, ACallIsOneEntry, OthersLeaveOwnCalls, LogsGoOn, ToldCallsStandBefore}
 use Rattle.gate.proofs.Following.{still_legal}
 
 one_own : {C A : Type 0} (seat : ℕ) (call : C) (answer : A) → calls_of seat (entry seat call answer ∷ []) ≡ entry seat call answer ∷ []
@@ -34,17 +34,28 @@ module _ {O C A : Type 0} (answers : ℕ → O → C → A → O → Type 0) whe
       ∙ ap (λ es. calls_of before.number is.board.log ++ es) (one_own before.number call answer)
       ∙ ap (λ es. es ++ one) (others_leave_own_calls before.number before.seen is.board is.followed)
 
+  goes_further : (first middle last : Logged O C A) → GoesOn first middle → GoesOn middle last → GoesOn first last
+  goes_further first middle last one two = (one.0 ++ two.0, two.1 ∙ ap (λ es. es ++ two.0) one.1 ∙ append_assoc first.log one.0 two.0)
+
+  pub logs_go_on : LogsGoOn answers
+  logs_go_on = record {
+    called = λ before after call answer is.
+        goes_further before.seen is.board after.seen (is.followed.rest, is.followed.log) (entry before.number call answer ∷ [], is.called.log);
+    followed = λ seat seen board followed. (followed.rest, followed.log);
+    further = goes_further;
+  }
+
   -- a call is one more than the seat found
   one_longer : (before after : Seated O C A) (call : C) (answer : A) (is : IsCalled answers before call answer after) → length after.seen.log ≡ length is.board.log + 1
   one_longer before after call answer is = ap (λ es. length es) is.called.log ∙ length-append is.board.log (entry before.number call answer ∷ [])
 
   -- and stands where the seat found the log's end
-  stands_at : (before after : Seated O C A) (call : C) (answer : A) (is : IsCalled answers before call answer after) (last : Logged O C A) → HasFollowed answers after.number after.seen last →
+  stands_at : (before after : Seated O C A) (call : C) (answer : A) (is : IsCalled answers before call answer after) (last : Logged O C A) → GoesOn after.seen last →
       slice_get last.log (length after.seen.log - 1) ≡ Some (entry before.number call answer)
-  stands_at before after call answer is last followed =
+  stands_at before after call answer is last on =
       let place : length after.seen.log - 1 ≡ length is.board.log = omega (arith, one_longer before after call answer is) in
       ap (λ n. slice_get last.log n) place
-      ∙ ap (λ es. slice_get es (length is.board.log)) (followed.log ∙ ap (λ es. es ++ followed.rest) is.called.log) ∙ at_behind is.board.log (entry before.number call answer) followed.rest
+      ∙ ap (λ es. slice_get es (length is.board.log)) (on.1 ∙ ap (λ es. es ++ on.0) is.called.log) ∙ at_behind is.board.log (entry before.number call answer) on.0
 
   pub told_calls_stand_before : ToldCallsStandBefore answers
   told_calls_stand_before one told call answer other later next reply last is knows then on more =

@@ -1,6 +1,6 @@
 //! Laws of logs, for every object.
 
-ghost use Rattle.gate.specs.Laws.{CallsKeepALogLegal, ACallIsOneEntry, OthersLeaveOwnCalls, ToldCallsStandBefore, SeatsMakeTheLog};
+ghost use Rattle.gate.specs.Laws.{CallsKeepALogLegal, ACallIsOneEntry, OthersLeaveOwnCalls, LogsGoOn, ToldCallsStandBefore, SeatsMakeTheLog};
 
 use crate::objects::Object;
 use crate::seats::HoldsSeat;
@@ -20,7 +20,13 @@ pub fn others_leave_own_calls<O: Object<C, A>, C, A>()
     ensures { OthersLeaveOwnCalls O.answers }
 {}
 
-/// A law: a call of a seat that knew of another call stands behind it.
+/// A law: the log that a seat finds when it calls, hears or comes to the end of the gate has all that it saw before, in
+/// the same places.
+pub fn logs_go_on<O: Object<C, A>, C, A>()
+    ensures { LogsGoOn O.answers }
+{}
+
+/// A law: a call of a seat that knew of another call stands behind it, in each log that goes on from both.
 pub fn told_calls_stand_before<O: Object<C, A>, C, A>()
     ensures { ToldCallsStandBefore O.answers }
 {}

@@ -18,8 +18,8 @@ mod waiting;
 
 pub use gates::Gate;
 pub use laws::{
-    a_call_is_one_entry, calls_keep_a_log_legal, others_leave_own_calls, seats_make_the_log,
-    told_calls_stand_before,
+    a_call_is_one_entry, calls_keep_a_log_legal, logs_go_on, others_leave_own_calls,
+    seats_make_the_log, told_calls_stand_before,
 };
 pub use marks::{Mark, Tells};
 pub use naming::{Name, NamedGate, NamedSeat};

@@ -7,7 +7,7 @@ use Rattle.std.proofs.lemmas.List.Elements.{filter-append}
 use mathlib.Core.Option.{some-injective}
 use lib.ListN.{get_elem?}
 use Rattle.gate.specs.declared.objects.Entry.{Entry}
-use Rattle.gate.specs.Logs.{Logged, entry, HasFollowed}
+use Rattle.gate.specs.Logs.{Logged, entry, GoesOn}
 use Rattle.gate.specs.Seats.{Seated}
 use Rattle.gate.specs.Calls.{IsCalled}
 use Rattle.gate.proofs.Placing.{told_calls_stand_before}
@@ -29,19 +29,19 @@ module _ {O C A : Type 0} (answers : ℕ → List O → C → A → List O → T
   knows_all : (shards shard : ℕ) (one told : Seated (List O) C A) (call : C) (answer : A) (other later : Seated (List O) C A) (next : C) (reply : A) (last : Logged (List O) C A) →
       (is : IsCalled answers one call answer told) → is_about (about shards call) shard ≡ true →
       length (calls_about (about shards) shard told.seen.log) ≤ length (calls_about (about shards) shard other.seen.log) → (then : IsCalled answers other next reply later) →
-      HasFollowed answers told.number told.seen last → HasFollowed answers later.number later.seen last → length told.seen.log ≤ length other.seen.log
+      GoesOn told.seen last → GoesOn later.seen last → length told.seen.log ≤ length other.seen.log
   knows_all shards shard one told call answer other later next reply last is yes_about knows then on more = elim (cases_lt (length other.seen.log) (length told.seen.log)) [
     | inr high ↦ high
     | inl low ↦
         let e = entry one.number call answer in
         let f = entry other.number next reply in
         let found = is.board.log in
-        let mine : last.log ≡ found ++ (e ∷ on.rest) = on.log ∙ ap (λ es. es ++ on.rest) is.called.log ∙ append_assoc found (e ∷ []) on.rest in
-        let theirs : last.log ≡ other.seen.log ++ (then.followed.rest ++ (f ∷ [] ++ more.rest)) =
-        more.log ∙ ap (λ es. es ++ more.rest) then.called.log ∙ append_assoc then.board.log (f ∷ []) more.rest ∙ ap (λ es. es ++ (f ∷ [] ++ more.rest)) then.followed.log
-        ∙ append_assoc other.seen.log then.followed.rest (f ∷ [] ++ more.rest) in
+        let mine : last.log ≡ found ++ (e ∷ on.0) = on.1 ∙ ap (λ es. es ++ on.0) is.called.log ∙ append_assoc found (e ∷ []) on.0 in
+        let theirs : last.log ≡ other.seen.log ++ (then.followed.rest ++ (f ∷ [] ++ more.0)) =
+        more.1 ∙ ap (λ es. es ++ more.0) then.called.log ∙ append_assoc then.board.log (f ∷ []) more.0 ∙ ap (λ es. es ++ (f ∷ [] ++ more.0)) then.followed.log
+        ∙ append_assoc other.seen.log then.followed.rest (f ∷ [] ++ more.0) in
         let long : length told.seen.log ≡ length found + 1 = ap (λ es. length es) is.called.log ∙ length-append found (e ∷ []) in
-        let p = prefix_of other.seen.log found (then.followed.rest ++ (f ∷ [] ++ more.rest)) (e ∷ on.rest) (sym theirs ∙ mine) (omega (arith, low, long)) in
+        let p = prefix_of other.seen.log found (then.followed.rest ++ (f ∷ [] ++ more.0)) (e ∷ on.0) (sym theirs ∙ mine) (omega (arith, low, long)) in
         let before : length (calls_about (about shards) shard found) ≡ length (calls_about (about shards) shard other.seen.log) + length (calls_about (about shards) shard p.0) =
         ap (λ es. length (calls_about (about shards) shard es)) p.1
         ∙ ap (λ es. length es) (filter-append (λ (x : Entry C A). is_about (about shards x.call) shard) other.seen.log p.0)

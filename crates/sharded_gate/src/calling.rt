@@ -151,14 +151,15 @@ impl<O: Sharded<C, A> + Drop, C: Copy, A: Drop> ShardedGate<O, C, A> {
         (hand.into_pass(), answer)
     }
 
-    /// Tells whether so many calls about a shard have been made, as `ShardedSeat::last` numbers them. All that it found
-    /// stands before what the seat calls next, so who is told the number of a call comes behind it.
+    /// Tells whether the shard is there, and so many calls about it stand in the log that it finds, as `ShardedSeat::last`
+    /// numbers them. All that it found stands before what the seat calls next, so who is told the number of a call, and is
+    /// answered `true`, comes behind it. Where the shard isn't there the answer is `false`, whatever number is asked for.
     pub fn hear<R: Wait>(&self, rt: &R, seat: &mut ShardedSeat<O, C, A>, count: ShardCount) -> bool
         requires { IsSeatOf self.now seat.old.seat }
         ensures heard { HasHeard O.answers seat.old.seat seat.new.seat }
         ensures within { seat.new.shard < length self.now.first }
         ensures its { count.shard < length self.now.first → seat.new.shard ≡ count.shard }
-        ensures told { count.shard < length self.now.first → IsTrue result ↔ count.calls ≤ length (calls_about (O.about (length self.now.first)) count.shard seat.new.seat.seen.log) }
+        ensures told { IsTrue result ↔ (count.shard < length self.now.first) × (count.calls ≤ length (calls_about (O.about (length self.now.first)) count.shard seat.new.seat.seen.log)) }
     {
         let mut waiting = self.waiting();
         for _ in rt.forever() {
@@ -176,8 +177,8 @@ impl<O: Sharded<C, A> + Drop, C: Copy, A: Drop> ShardedGate<O, C, A> {
         ensures heard { IfSome result (λ heard. HasHeard O.answers seat.old.seat seat.new.seat) }
         ensures within { IfSome result (λ heard. seat.new.shard < length self.now.first) }
         ensures its { count.shard < length self.now.first → IfSome result (λ heard. seat.new.shard ≡ count.shard) }
-        ensures told { count.shard < length self.now.first → IfSome result (λ heard.
-            IsTrue heard ↔ count.calls ≤ length (calls_about (O.about (length self.now.first)) count.shard seat.new.seat.seen.log)) }
+        ensures told { IfSome result (λ heard.
+            IsTrue heard ↔ (count.shard < length self.now.first) × (count.calls ≤ length (calls_about (O.about (length self.now.first)) count.shard seat.new.seat.seen.log))) }
         ensures shut { IfNone result (seat.new ≡ seat.old) }
     {
         let shard = self.shard_heard(count);
@@ -190,7 +191,7 @@ impl<O: Sharded<C, A> + Drop, C: Copy, A: Drop> ShardedGate<O, C, A> {
         self.look(&mut pass, shard);
         seat.badge = pass.into_badge();
         seat.last = ShardCount { shard, calls };
-        Some(count.calls <= calls)
+        Some(count.shard < self.shards && count.calls <= calls)
     }
 
     /// The shard of this count, or the first where there is none.

@@ -70,7 +70,8 @@ impl<O: Sharded<C, A>, C, A> ShardedSeat<O, C, A> {
     }
 
     /// A shard, and how many calls about it the seat knows of. After a call of its own it is one that the call was about,
-    /// and the number is that of this call; after `hear` it is what it heard of; and at first no call of the first shard.
+    /// and the number is that of this call; after `hear` it is the shard that it asked for, or any where that one isn't
+    /// there; and at first no call of the first shard.
     pub fn last(&self) -> ShardCount
         ensures shard { result.shard ≡ self.now.shard }
         ensures calls { result.calls ≡ saturated (length (calls_about (O.about self.now.seat.gate.slots) self.now.shard self.now.seat.seen.log)) }

@@ -15,5 +15,8 @@ mod sharded;
 
 pub use finishing::HoldsShardedSeat;
 pub use gates::{ShardCount, ShardedGate, ShardedSeat};
-pub use laws::told_calls_of_a_shard_stand_before;
+pub use laws::{
+    a_call_is_one_entry, calls_keep_a_log_legal, logs_go_on, others_leave_own_calls,
+    seats_make_the_log, told_calls_of_a_shard_stand_before,
+};
 pub use sharded::{Sharded, Shards, Visit};

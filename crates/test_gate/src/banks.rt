@@ -257,7 +257,7 @@ fn hears<R: Wait>(
     bank.hear(rt, seat, ShardCount { shard, calls })
 }
 
-/// A branch counts the orders that are about it, or about all, whichever seat gives them.
+/// A branch counts the orders that are about it, or about all, whichever seat gives them. A branch that isn't there has none.
 #[test]
 fn orders_have_numbers(rt: HostRuntime) -> Result<(), Fail> {
     let mut branches = Vec::new(rt.alloc());
@@ -287,5 +287,6 @@ fn orders_have_numbers(rt: HostRuntime) -> Result<(), Fail> {
     assert!(rt; hears(&rt, &bank, &mut one, 1, 3));
     assert_eq!(rt; one.last(), third);
     assert!(rt; !hears(&rt, &bank, &mut one, 0, 2));
+    assert!(rt; !hears(&rt, &bank, &mut one, 2, 1));
     Ok(())
 }

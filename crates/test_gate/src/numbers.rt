@@ -1,9 +1,11 @@
 //! Numbers of calls, and who is told of them.
 
+ghost use Rattle.std.specs.Prelude.{◌<◌, ◌^◌, IsTrue, length};
 ghost use Rattle.gate.specs.Seats.{IsSeatOf};
+ghost use Rattle.test_gate.specs.Numbers.{StandsBefore};
 
 use crate::counters::Counter;
-use gate::{Gate, Seat};
+use gate::{Gate, Seat, logs_go_on, told_calls_stand_before};
 use std::alloc::AllocGlobal;
 use std::process::Abort;
 use std::sync::Wait;
@@ -34,7 +36,30 @@ fn calls_have_numbers(rt: HostRuntime) -> Result<(), Fail> {
     assert_eq!(rt; gate.call(&rt, &mut two, 30), 30);
     assert_eq!(rt; (one.last(), two.last()), (2, 3));
     assert!(rt; gate.hear(&rt, &mut one, 3));
+    assert!(rt; call_again(&rt, &gate, &mut one, &mut two));
     Ok(())
+}
+
+/// Seat one adds 1, and adds 2 then; the other one is told the number of the first call, and adds 3: whether it heard of
+/// the number. If so it stands behind that call, though seat one has called again.
+fn call_again<R: Wait>(
+    rt: &R,
+    gate: &Gate<Counter, u64, u64>,
+    one: &mut Seat<Counter, u64, u64>,
+    other: &mut Seat<Counter, u64, u64>,
+) -> bool
+    requires one { IsSeatOf gate.now one.old }
+    requires other { IsSeatOf gate.now other.old }
+    ensures { IsTrue result → length one.new.seen.log < 2 ^ 64 → StandsBefore one.old.number 1 other.old.number 3 one.new.seen other.new.seen }
+{
+    logs_go_on::<Counter, u64, u64>();
+    told_calls_stand_before::<Counter, u64, u64>();
+    gate.call(rt, one, 1);
+    let number = one.last();
+    gate.call(rt, one, 2);
+    let heard = gate.hear(rt, other, number);
+    gate.call(rt, other, 3);
+    heard
 }
 
 /// The number that was told, once it is.
