@@ -206,16 +206,16 @@ module _ (batch : Batch) (before : State) (names : NameTable) (whole : IsWhole (
         beside changed_to changes = record { named = whole.named; new = d.new; is = drafted_so (changed_all batch d.m pairs) changed_to changes.1 }
 
         pub changes_all : HasLifeFor now pairs → (changed_to : State) → ChangesEach batch draft d.m pairs drafted changed_to → (after : State) (new : NameTable) →
-            after.limits ≡ changed_to.limits →
+            after.limits ≡ changed_to.limits → new.last ≡ names.last →
             handles_under new (world_of after) ≡ naming (handles_of now) handle Writable (changed_all batch d.m pairs) → ChangesAll batch now handle pairs (map_with after new)
-        changes_all life changed_to changes after new limits handles =
+        changes_all life changed_to changes after new limits last handles =
             let same : drafted.limits ≡ before.limits = d.turns.0 in (
               life,
               (
                 m,
                 writes,
                 subst (λ n. HaveRoom batch (hash_of before.limits.hash) n pairs) is_m (subst (λ l. HaveRoom batch (hash_of l.hash) d.m pairs) same changes.0),
-                (limits ∙ changes.1.0 ∙ same, handles ∙ ap (λ n. naming (handles_of now) handle Writable (changed_all batch n pairs)) is_m),
+                (limits ∙ changes.1.0 ∙ same, last, handles ∙ ap (λ n. naming (handles_of now) handle Writable (changed_all batch n pairs)) is_m),
               ),
             )
 
@@ -228,7 +228,7 @@ module _ (batch : Batch) (before : State) (names : NameTable) (whole : IsWhole (
           )
 
           stays_so : Turns before world after → Stays now (map_with after names)
-          stays_so turns = (turns.0, ap (handles_under names) turns.1)
+          stays_so turns = (turns.0, refl, ap (handles_under names) turns.1)
 
           pub back_named : (why : MapError) → Stops batch draft d.m pairs drafted stopped why → AreNamesOf (world_of after) names
           back_named error.Full p = subst (λ w. AreNamesOf w names) (sym (back p.2.0 p.2.1).1) whole.named
@@ -256,7 +256,7 @@ module _ (batch : Batch) (before : State) (names : NameTable) (whole : IsWhole (
         one_left (omega (arith, room, whole.named.many)),
         life,
         (omega (arith, p.1), out_so (inl p.2)),
-        (p.3.0, ap (handles_under names) p.3.1),
+        (p.3.0, refl, ap (handles_under names) p.3.1),
       )
 
   -- or the name tells why not

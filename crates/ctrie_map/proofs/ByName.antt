@@ -1,5 +1,5 @@
 -- What a call on a named handle comes to, by what the call of the core comes to.
-use Rattle.std.specs.Prelude.{◌≡◌, ◌≢◌, ◌<◌, ℕ, true, false, nat_le, if◌then◌else◌, is_some, Option, Some, None, option_map, option_and_then, Result, Ok, Err}
+use Rattle.std.specs.Prelude.{◌≡◌, ◌≢◌, ◌<◌, ℕ, Bool, true, false, nat_le, if◌then◌else◌, is_some, Option, Some, None, option_map, option_and_then, Result, Ok, Err}
 use Rattle.std.specs.FinMap as map
 use Rattle.std.proofs.Common.{refl, sym, ap, subst, arith, ◌∙◌}
 use Rattle.std.proofs.lemmas.Option.{same_Some}
@@ -9,8 +9,8 @@ use Rattle.history.specs.declared.calls.Access.TheVariants.{Writable, ReadOnly}
 use Rattle.history.specs.declared.calls.Call.{Call}
 use Rattle.history.specs.declared.calls.Call.TheVariants as call
 use Rattle.history.specs.declared.replies.Reply.{Reply}
-use Rattle.history.specs.declared.replies.Reply.TheVariants.{Closed, Cleared, NoSlots, Opened}
-use Rattle.history.specs.Effects.{changing, copying, effect, naming, put_in, put_if_absent_in, remove_in, remove_if_in, replace_in, replace_if_in, with_access, writable_map_of}
+use Rattle.history.specs.declared.replies.Reply.TheVariants.{Closed, Cleared, Crowded, Found, NoSlots, Opened}
+use Rattle.history.specs.Effects.{changing, copying, effect, is_crowded, naming, put_in, put_if_absent_in, remove_in, remove_if_in, replace_in, replace_if_in, with_access, writable_map_of}
 use Rattle.history.specs.Worlds.{HandleMap, HandleState, KeyMap}
 use Rattle.machine_model.specs.Calls.{handle_of, needs_writable, opens_handle}
 use Rattle.machine_model.specs.States.{State, handle_limit}
@@ -23,8 +23,8 @@ use Rattle.ctrie_map.specs.Changes.{LacksSlots, changes_map, core_call, core_of,
 use Rattle.ctrie_map.specs.Cores.{Carries, IsTight, Replies, Turns, core_denial, is_worn_out, the_actor}
 use Rattle.ctrie_map.specs.Denials.{denial_by}
 use Rattle.ctrie_map.specs.Maps.{IsWhole, MapState, Stays, handles_of, map_with}
-use Rattle.ctrie_map.specs.Names.{AreNamesOf, NameTable, handles_under, how_many, name_at, shown_by, with_given, with_name}
-use Rattle.ctrie_map.specs.Performing.{GivesNext, IsOnMap, Performs, copy_call, effect_among}
+use Rattle.ctrie_map.specs.Names.{AreNamesOf, IsNext, NameTable, handles_under, how_many, name_at, shown_by, with_given, with_name}
+use Rattle.ctrie_map.specs.Performing.{IsOnMap, Performs, PerformsBy, copy_call, effect_among}
 use Rattle.ctrie_map.proofs.Changing.{says}
 use Rattle.ctrie_map.proofs.Named.{as_many, shows, state_of}
 use Rattle.ctrie_map.proofs.Opened.{IsOpened, is_opened}
@@ -33,7 +33,7 @@ use Rattle.ctrie_map.proofs.Renaming.{change_named, change_shows, close_named, c
 -- ---- calls that may change a map
 
 -- what such a call does with the map
-abbrev change_of : (ℕ → ℕ) → Call → KeyMap → Reply × KeyMap
+abbrev pub change_of : (ℕ → ℕ) → Call → KeyMap → Reply × KeyMap
 change_of hash (call.Put h k v) m = put_in hash m k v
 change_of hash (call.PutIfAbsent h k v) m = put_if_absent_in hash m k v
 change_of hash (call.Replace h k v) m = replace_in m k v
@@ -71,6 +71,24 @@ like hash (call.Clear h) core on =
     record { on = refl; writes = refl; opens_none = refl; changes = refl; none_opened = refl; slots = refl; does = λ w o. refl; named = λ w o. refl }
 like hash other core on = absurd on
 
+-- and opens no handle
+opens_by : (b : Bool) (there other : Reply × KeyMap) (copy : ℕ) → there.0 ≢ Opened copy → other.0 ≢ Opened copy → (if b then there else other).0 ≢ Opened copy
+opens_by true there other copy not_there not_other = not_there
+opens_by false there other copy not_there not_other = not_other
+
+puts_none : (hash : ℕ → ℕ) (m : KeyMap) (k v copy : ℕ) → (put_in hash m k v).0 ≢ Opened copy
+puts_none hash m k v copy = opens_by (is_crowded hash m k) (Crowded, m) (Found (map.get m k), map.insert m k v) copy (λ e. cc e) (λ e. cc e)
+
+pub opens_none : (hash : ℕ → ℕ) (c : Call) (m : KeyMap) (copy : ℕ) → (change_of hash c m).0 ≢ Opened copy
+opens_none hash (call.Put h k v) m copy = puts_none hash m k v copy
+opens_none hash (call.PutIfAbsent h k v) m copy = opens_by (map.contains_key m k) (Found (map.get m k), m) (put_in hash m k v) copy (λ e. cc e) (puts_none hash m k v copy)
+opens_none hash (call.Replace h k v) m copy = λ e. cc e
+opens_none hash (call.ReplaceIf h k a b) m copy = λ e. cc e
+opens_none hash (call.Remove h k) m copy = λ e. cc e
+opens_none hash (call.RemoveIf h k v) m copy = λ e. cc e
+opens_none hash (call.Clear h) m copy = λ e. cc e
+opens_none hash other m copy = λ e. cc e
+
 -- a change of a writable map has an effect
 changing_so : (w : HandleMap) (h : ℕ) (m : KeyMap) (f : KeyMap → Reply × KeyMap) → map.get w h ≡ Some (state_of Writable m) →
     changing w h f ≡ Some ((f m).0, naming w h Writable (f m).1)
@@ -88,10 +106,13 @@ module _ (before : State) (names : NameTable) (whole : IsWhole (map_with before 
   abbrev world : HandleMap
   world = world_of before
 
-  -- what is there after it
-  pub record Comes (c : Call) (result : Result Reply MapError) (after : State) (new : NameTable) : Type 0 where
+  -- what is there after it, where this is so of the number of a copy
+  pub record ComesBy (IsNumber : ℕ → Type 0) (c : Call) (result : Result Reply MapError) (after : State) (new : NameTable) : Type 0 where
     pub named : AreNamesOf (world_of after) new
-    pub performs : Performs result now c (map_with after new)
+    pub performs : PerformsBy IsNumber result now c (map_with after new)
+
+  abbrev pub Comes : Call → Result Reply MapError → State → NameTable → Type 0
+  Comes = ComesBy (IsNext names.last (handles_of now))
 
   -- ---- a number that isn't open
 
@@ -125,7 +146,7 @@ module _ (before : State) (names : NameTable) (whole : IsWhole (map_with before 
     lacks_so c is slots tight out = (subst (λ n. IsTight n before) slots tight, subst (RunsOut before the_actor) (sym (core_call_so c is)) out)
 
     stays_so : (after : State) → Turns before world after → Stays now (map_with after names)
-    stays_so after turns = (turns.0, ap (handles_under names) turns.1)
+    stays_so after turns = (turns.0, refl, ap (handles_under names) turns.1)
 
     named_so : (after : State) → Turns before world after → AreNamesOf (world_of after) names
     named_so after turns = subst (λ w. AreNamesOf w names) (sym turns.1) whole.named
@@ -189,9 +210,12 @@ module _ (before : State) (names : NameTable) (whole : IsWhole (map_with before 
         by_answer : (answer : Reply) (after : State) → is_worn_out before ≡ false → Replies before (on_handle name.core c) answer after → Comes c (Ok answer) after names
         by_answer NoSlots after life p =
             record { named = named_so after p.2; performs = ((none_denied, life), (lacks_so c is alike.slots p.0 p.1, stays_so after p.2)) }
+        by_answer (Opened copy) after life p =
+            let (n, here, told, to) = says world name.core (change_of hash c) (Opened copy) p.1 (sym (alike.does world p.0) ∙ p.2) in
+            absurd (opens_none hash c n copy (sym told))
         by_answer answer after life p =
             let got = by_effect answer p.0 p.1 after p.2 p.3 in
-            record { named = got.0; performs = ((none_denied, life), (p.0, got.1.0, got.1.1, (p.3.0, got.1.2))) }
+            record { named = got.0; performs = ((none_denied, life), (p.0, got.1.0, got.1.1, (p.3.0, refl, got.1.2))) }
 
         by_error : (why : MapError) (after : State) → Carries (Err why) before (on_handle name.core c) after → Comes c (Err why) after names
         by_error error.WornOut after p = record { named = still_named after p.2; performs = (none_denied, p.1, same_so after p.2) }
@@ -243,9 +267,9 @@ module _ (before : State) (names : NameTable) (whole : IsWhole (map_with before 
         subst (RunsOut before the_actor) (sym (core_call_so copy (on_copy h access) ∙ at_core access)) out,
       )
 
-      pub copy_refused : (why : MapError) (after : State) → Carries (Err why) before (call.Snapshot name.core) after → Comes copy (Err why) after names
-      copy_refused error.WornOut after p = record { named = still_named after p.2; performs = (same_denial ∙ p.0, p.1, same_so after p.2) }
-      copy_refused why after p = record { named = still_named after p.1; performs = (same_denial ∙ p.0, same_so after p.1) }
+      pub copy_refused : (IsNumber : ℕ → Type 0) (why : MapError) (after : State) → Carries (Err why) before (call.Snapshot name.core) after → ComesBy IsNumber copy (Err why) after names
+      copy_refused IsNumber error.WornOut after p = record { named = still_named after p.2; performs = (same_denial ∙ p.0, p.1, same_so after p.2) }
+      copy_refused IsNumber why after p = record { named = still_named after p.1; performs = (same_denial ∙ p.0, same_so after p.1) }
 
       -- what the core says of a copy that has an effect
       opened_core : (answer : Reply) (opens : Option ℕ) (next : HandleMap) → copying world name.core opens Writable ≡ Some (answer, next) →
@@ -253,15 +277,13 @@ module _ (before : State) (names : NameTable) (whole : IsWhole (map_with before 
       opened_core answer opens next e = is_opened world opens Writable answer next (writable_map_of world name.core) e
 
       -- a reply that opens nothing finds no slot
-      pub unopened : (answer : Reply) (after : State) → ((core : ℕ) → answer ≢ Opened core) → Carries (Ok answer) before (call.Snapshot name.core) after →
-          Comes copy (Ok answer) after names × GivesNext names answer
-      unopened NoSlots after none (allowed, life, (tight, out, turns)) = (
-        record { named = named_so after turns; performs = ((same_denial ∙ allowed, life), (lacks_copy tight out, stays_so after turns)) },
-        tt,
-      )
-      unopened answer after none p = let o = opened_core answer p.2.0 p.2.1 p.2.2 in absurd (none o.copy o.told)
+      pub unopened : (IsNumber : ℕ → Type 0) (answer : Reply) (after : State) → ((core : ℕ) → answer ≢ Opened core) → Carries (Ok answer) before (call.Snapshot name.core) after →
+          ComesBy IsNumber copy (Ok answer) after names
+      unopened IsNumber NoSlots after none (allowed, life, (tight, out, turns)) =
+          record { named = named_so after turns; performs = ((same_denial ∙ allowed, life), (lacks_copy tight out, stays_so after turns)) }
+      unopened IsNumber answer after none p = let o = opened_core answer p.2.0 p.2.1 p.2.2 in absurd (none o.copy o.told)
 
-      module _ (number : ℕ) (low : number < handle_limit) (free : name_at names number ≡ None) where
+      module _ (IsNumber : ℕ → Type 0) (number : ℕ) (low : number < handle_limit) (free : name_at names number ≡ None) (is_number : IsNumber number) where
         unshown : map.get (handles_of now) number ≡ None
         unshown = shows world names number ∙ ap (shown_by world) free
 
@@ -279,7 +301,7 @@ module _ (before : State) (names : NameTable) (whole : IsWhole (map_with before 
             ∙ ap (λ o. if is_some o then None else Some (Opened number, naming (handles_of now) number access m)) unshown
 
         pub opened : (core : ℕ) (after : State) → Carries (Ok (Opened core)) before (call.Snapshot name.core) after →
-            Comes copy (Ok (Opened number)) after (with_given names number (record { core = core; access = access }))
+            ComesBy IsNumber copy (Ok (Opened number)) after (with_given names number (record { core = core; access = access }))
         opened core after p =
             let (allowed, life, (opens, last, e, turns)) = p in
             let o = opened_core (Opened core) opens last e in
@@ -294,12 +316,15 @@ module _ (before : State) (names : NameTable) (whole : IsWhole (map_with before 
               performs = (
                 (same_denial ∙ allowed, life),
                 (
-                  Some number,
-                  naming (handles_of now) number access m,
-                  effect_is,
+                  is_number,
                   (
-                    turns.0,
-                    ap (handles_under (with_given names number new)) to ∙ open_shows world names whole.named number low free new fresh m,
+                    naming (handles_of now) number access m,
+                    effect_is,
+                    (
+                      turns.0,
+                      refl,
+                      ap (handles_under (with_given names number new)) to ∙ open_shows world names whole.named number low free new fresh m,
+                    ),
                   ),
                 ),
               );
@@ -345,7 +370,7 @@ module _ (before : State) (names : NameTable) (whole : IsWhole (map_with before 
               None,
               map.remove (handles_of now) h,
               ap (λ o. option_and_then {U = Reply × HandleMap} (λ m. Some (Closed, map.remove (handles_of now) h)) (option_and_then (λ s. Some s.pairs) o)) shown,
-              (turns.0, ap (handles_under (with_name names h None)) to ∙ close_shows world names whole.named h name at),
+              (turns.0, refl, ap (handles_under (with_name names h None)) to ∙ close_shows world names whole.named h name at),
             ),
           );
         }

@@ -1,5 +1,5 @@
 -- Calls that change the map of a writable handle, seen in the finite map.
-use Rattle.std.specs.Prelude.{◌≡◌, ◌⊎◌, ℕ, Bool, true, false, cond, Option, Some, None, option_and_then, Result, Ok, Err, IfOk, IfErr}
+use Rattle.std.specs.Prelude.{◌≡◌, ◌≢◌, ◌⊎◌, ℕ, Bool, true, false, cond, Option, Some, None, option_and_then, Result, Ok, Err, IfOk, IfErr}
 use Rattle.std.specs.Cmp.{nat_cmp_total, unsigned_tied}
 use Rattle.std.specs.FinMap as map
 use Rattle.std.specs.FinMap.{get-insert, same_map, nat_cmp-IsAntisymmetric}
@@ -10,7 +10,7 @@ use Rattle.history.specs.declared.calls.Access.{Access}
 use Rattle.history.specs.declared.calls.Access.TheVariants.{Writable, ReadOnly}
 use Rattle.history.specs.declared.calls.Call.{Call}
 use Rattle.history.specs.declared.replies.Reply.{Reply}
-use Rattle.history.specs.declared.replies.Reply.TheVariants.{Crowded, NoSlots}
+use Rattle.history.specs.declared.replies.Reply.TheVariants.{Crowded, NoSlots, Opened}
 use Rattle.history.specs.Effects.{changing, naming, with_access}
 use Rattle.history.specs.Worlds.{HandleMap, HandleState, KeyMap}
 use Rattle.ctrie_map.specs.declared.errors.MapError.{MapError}
@@ -89,7 +89,8 @@ pub told_of : (before : MapState) (c : Call) (told : MapError) → denial_in bef
 told_of before c told e = told_by (changes_map c) (opens_handle c) (map.get (handles_of before) (handle_of c)) (map.len (handles_of before)) told e
 
 module _ {A : Type 0} (said : Result Reply MapError → Result A MapError) (full : said (Ok NoSlots) ≡ Err error.Full) (crowded : said (Ok Crowded) ≡ Err error.Crowded)
-    (as_told : (why : MapError) → said (Err why) ≡ Err why) (before : MapState) (handle : ℕ) (c : Call) (change : KeyMap → Reply × KeyMap)
+    (opened : (copy : ℕ) → said (Ok (Opened copy)) ≡ Err error.Full) (as_told : (why : MapError) → said (Err why) ≡ Err why)
+    (before : MapState) (handle : ℕ) (c : Call) (change : KeyMap → Reply × KeyMap)
     (is : (opens : Option ℕ) → effect_among (hash_of before.core.limits.hash) (handles_of before) c opens ≡ changing (handles_of before) handle change) (Crowds : Type 0)
     (Told : A → KeyMap → Type 0) (to : KeyMap → KeyMap) where
   -- it is crowded there, or the change is done
@@ -123,8 +124,15 @@ module _ {A : Type 0} (said : Result Reply MapError → Result A MapError) (full
         let (m, at, e, there) = says (handles_of before) handle change answer next (sym (is opens) ∙ effect_is) in
         by_outcome answer m at e (subst (λ w. Becomes before w after) there becomes) (outcome m at)
 
+    -- it opens no handle
+    opens_none : (copy : ℕ) (m : KeyMap) → Outcome m → Opened copy ≢ (change m).0
+    opens_none copy m (inl (crowd, same)) = λ e. cc (e ∙ ap (λ (p : Reply × KeyMap). p.0) same)
+    opens_none copy m (inr (a, told, so, there)) = λ e. cc (sym (opened copy) ∙ ap (λ r. said (Ok r)) e ∙ told)
+
     way : (answer : Reply) → Answers before c answer after → Way answer
     way NoSlots p = wants p.0 p.1 full
+    way (Opened copy) (number, (next, effect, has)) =
+        let (m, at, e, there) = says (handles_of before) handle change (Opened copy) next (sym (is (Some copy)) ∙ effect) in absurd (opens_none copy m (outcome m at) e)
     way answer p = by_effect answer p.0 p.1 p.2 p.3
 
     by_way : (answer : Reply) → IsBegun before c → Way answer → Comes after (said (Ok answer))

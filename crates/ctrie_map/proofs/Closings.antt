@@ -5,7 +5,7 @@ use Rattle.std.proofs.Common.{refl, sym, ap, subst}
 use Rattle.std.proofs.lemmas.Option.{same_Some}
 use Rattle.history.specs.declared.calls.Call.TheVariants as call
 use Rattle.history.specs.declared.replies.Reply.{Reply}
-use Rattle.history.specs.declared.replies.Reply.TheVariants.{Closed, NoSlots}
+use Rattle.history.specs.declared.replies.Reply.TheVariants.{Closed, NoSlots, Opened}
 use Rattle.history.specs.Worlds.{HandleMap, HandleState}
 use Rattle.ctrie_map.specs.declared.errors.MapError.{MapError}
 use Rattle.ctrie_map.specs.declared.errors.MapError.TheVariants as error
@@ -26,16 +26,25 @@ module _ (before : MapState) (h : ℕ) (after : MapState) where
     wants : LacksSlots before (call.Close h) → Stays before after → answer ≡ NoSlots → Way answer
     does : Closes before h after → answer ≡ Closed → Way answer
 
-  by_shown : (answer : Reply) (next : HandleMap) (shown : Option HandleState) → map.get (handles_of before) h ≡ shown →
-      option_and_then {U = Reply × HandleMap} (λ m. Some (Closed, map.remove (handles_of before) h)) (option_and_then (λ s. Some s.pairs) shown) ≡ Some (answer, next) →
-      Becomes before next after → Way answer
+  abbrev IsClosed : Reply → HandleMap → Option HandleState → Type 0
+  IsClosed answer next shown =
+      option_and_then {U = Reply × HandleMap} (λ m. Some (Closed, map.remove (handles_of before) h)) (option_and_then (λ s. Some s.pairs) shown) ≡ Some (answer, next)
+
+  by_shown : (answer : Reply) (next : HandleMap) (shown : Option HandleState) → map.get (handles_of before) h ≡ shown → IsClosed answer next shown → Becomes before next after → Way answer
   by_shown answer next None at e becomes = cc e
   by_shown answer next (Some shown) at e becomes =
       let same = same_Some (Closed, map.remove (handles_of before) h) (answer, next) e in
       does (shown, at, subst (λ w. Becomes before w after) (ap (λ p. p.1) (sym same)) becomes) (ap (λ p. p.0) (sym same))
 
+  -- it opens no handle
+  opens_none : (copy : ℕ) (next : HandleMap) (shown : Option HandleState) → IsClosed (Opened copy) next shown → ⊥
+  opens_none copy next None e = cc e
+  opens_none copy next (Some shown) e =
+      let is : Closed ≡ Opened copy = ap (λ (p : Reply × HandleMap). p.0) (same_Some (Closed, map.remove (handles_of before) h) (Opened copy, next) e) in cc is
+
   way : (answer : Reply) → Answers before (call.Close h) answer after → Way answer
   way NoSlots p = wants p.0 p.1 refl
+  way (Opened copy) p = absurd (opens_none copy p.1.0 (map.get (handles_of before) h) p.1.1)
   way answer p = by_shown answer p.1 (map.get (handles_of before) h) refl p.2 p.3
 
   abbrev Comes : Result (Unit {0}) MapError → Type 0

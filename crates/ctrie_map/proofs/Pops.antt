@@ -11,6 +11,7 @@ use Rattle.history.specs.Effects.{naming}
 use Rattle.history.specs.Worlds.{KeyMap}
 use Rattle.ctrie_map.specs.Changes.{Changes}
 use Rattle.ctrie_map.specs.Maps.{Becomes, MapState, handles_of}
+use Rattle.ctrie_map.specs.Popping.{key_in}
 use Rattle.ctrie_map.specs.Reading.{IsOneOf, Reads, read_of, reading, without}
 use Rattle.ctrie_map.proofs.Lookups.{same_told}
 
@@ -27,8 +28,9 @@ remove_none key =
     by_test true = refl
     by_test false = refl
 
-abbrev key_in : Option (ℕ × ℕ) → ℕ
-key_in first = (unwrap_or first (0, 0)).0
+pub key_is : (first : Option (ℕ × ℕ)) → (unwrap_or first (0, 0)).0 ≡ key_in first
+key_is None = refl
+key_is (Some pair) = refl
 
 removed_is : (m : KeyMap) (first : Option (ℕ × ℕ)) → IsOneOf m first → map.remove m (key_in first) ≡ without first m
 removed_is m None none = ap (λ (n : KeyMap). map.remove n 0) none ∙ remove_none 0 ∙ sym none

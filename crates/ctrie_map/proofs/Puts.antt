@@ -40,7 +40,7 @@ module _ (before : MapState) (h k v : ℕ) where
 
   puts : (after : MapState) (result : Result Reply MapError) → Performs result before (call.Put h k v) after → ComesTo (PutDone after) (PutRefused after) (found_in result)
   puts after result p =
-      comes found_in refl refl (λ e. refl) before h (call.Put h k v) put_here (λ o. refl) (IsCrowdedAt before h k)
+      comes found_in refl refl (λ copy. refl) (λ e. refl) before h (call.Put h k v) put_here (λ o. refl) (IsCrowdedAt before h k)
       (λ a m. (a ≡ map.get m k) × HasRoom before k m) (λ m. map.insert m k v) (λ m at. put_by m at (is_crowded hash m k) refl) after result p
 
   pub put_done : (after : MapState) (result : Result Reply MapError) (told : Result (Option ℕ) MapError) → told ≡ found_in result →
@@ -80,7 +80,7 @@ module _ (before : MapState) (h k v : ℕ) where
   absent_puts : (after : MapState) (result : Result Reply MapError) → Performs result before (call.PutIfAbsent h k v) after →
       ComesTo (AbsentDone after) (AbsentRefused after) (found_in result)
   absent_puts after result p =
-      comes found_in refl refl (λ e. refl) before h (call.PutIfAbsent h k v) absent_here (λ o. refl) (IsCrowdedAt before h k)
+      comes found_in refl refl (λ copy. refl) (λ e. refl) before h (call.PutIfAbsent h k v) absent_here (λ o. refl) (IsCrowdedAt before h k)
       (λ a m. (a ≡ map.get m k) × HasRoom before k m) (set_if_absent k v)
       (λ m at. absent_by m at (map.contains_key m k) refl (is_crowded hash m k) refl) after result p
 

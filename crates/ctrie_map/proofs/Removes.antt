@@ -24,7 +24,7 @@ module _ (before : MapState) (h k : ℕ) where
 
   removes : (after : MapState) (result : Result Reply MapError) → Performs result before (call.Remove h k) after → ComesTo (RemoveDone after) (RemoveRefused after) (found_in result)
   removes after result p =
-      comes found_in refl refl (λ e. refl) before h (call.Remove h k) (λ m. remove_in m k) (λ o. refl) ⊥ (λ told m. told ≡ map.get m k)
+      comes found_in refl refl (λ copy. refl) (λ e. refl) before h (call.Remove h k) (λ m. remove_in m k) (λ o. refl) ⊥ (λ told m. told ≡ map.get m k)
       (λ m. map.remove m k) (λ m at. inr (_, refl, refl, refl)) after result p
 
   pub remove_done : (after : MapState) (result : Result Reply MapError) (told : Result (Option ℕ) MapError) → told ≡ found_in result →
@@ -46,7 +46,7 @@ module _ (before : MapState) (h k v : ℕ) where
 
   remove_ifs : (after : MapState) (result : Result Reply MapError) → Performs result before (call.RemoveIf h k v) after → ComesTo (RemoveIfDone after) (RemoveIfRefused after) (truth_in result)
   remove_ifs after result p =
-      comes truth_in refl refl (λ e. refl) before h (call.RemoveIf h k v) (λ m. remove_if_in m k v) (λ o. refl) ⊥ (λ told m. told ≡ has_value m k v)
+      comes truth_in refl refl (λ copy. refl) (λ e. refl) before h (call.RemoveIf h k v) (λ m. remove_if_in m k v) (λ o. refl) ⊥ (λ told m. told ≡ has_value m k v)
       (removed_if_it_has k v) (λ m at. inr (_, refl, refl, refl)) after result p
 
   pub remove_if_done : (after : MapState) (result : Result Reply MapError) (told : Result (Bool) MapError) → told ≡ truth_in result →
@@ -68,7 +68,7 @@ module _ (before : MapState) (h : ℕ) where
 
   clears : (after : MapState) (result : Result Reply MapError) → Performs result before (call.Clear h) after → ComesTo (ClearDone after) (ClearRefused after) (done_in result)
   clears after result p =
-      comes done_in refl refl (λ e. refl) before h (call.Clear h) (λ m. (Cleared, map.empty)) (λ o. refl) ⊥ (λ told. IsAny)
+      comes done_in refl refl (λ copy. refl) (λ e. refl) before h (call.Clear h) (λ m. (Cleared, map.empty)) (λ o. refl) ⊥ (λ told. IsAny)
       (λ m. map.empty) (λ m at. inr (tt, refl, tt, refl)) after result p
 
   pub clear_done : (after : MapState) (result : Result Reply MapError) (told : Result (Unit {0}) MapError) → told ≡ done_in result →

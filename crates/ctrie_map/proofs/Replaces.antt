@@ -23,7 +23,7 @@ module _ (before : MapState) (h k v : ℕ) where
 
   replaces : (after : MapState) (result : Result Reply MapError) → Performs result before (call.Replace h k v) after → ComesTo (ReplaceDone after) (ReplaceRefused after) (found_in result)
   replaces after result p =
-      comes found_in refl refl (λ e. refl) before h (call.Replace h k v) (λ m. replace_in m k v) (λ o. refl) ⊥ (λ told m. told ≡ map.get m k)
+      comes found_in refl refl (λ copy. refl) (λ e. refl) before h (call.Replace h k v) (λ m. replace_in m k v) (λ o. refl) ⊥ (λ told m. told ≡ map.get m k)
       (set_if_there k v) (λ m at. inr (_, refl, refl, refl)) after result p
 
   pub replace_done : (after : MapState) (result : Result Reply MapError) (told : Result (Option ℕ) MapError) → told ≡ found_in result →
@@ -45,7 +45,7 @@ module _ (before : MapState) (h k a b : ℕ) where
 
   replace_ifs : (after : MapState) (result : Result Reply MapError) → Performs result before (call.ReplaceIf h k a b) after → ComesTo (ReplaceIfDone after) (ReplaceIfRefused after) (truth_in result)
   replace_ifs after result p =
-      comes truth_in refl refl (λ e. refl) before h (call.ReplaceIf h k a b) (λ m. replace_if_in m k a b) (λ o. refl) ⊥ (λ told m. told ≡ has_value m k a)
+      comes truth_in refl refl (λ copy. refl) (λ e. refl) before h (call.ReplaceIf h k a b) (λ m. replace_if_in m k a b) (λ o. refl) ⊥ (λ told m. told ≡ has_value m k a)
       (set_if_it_has k a b) (λ m at. inr (_, refl, refl, refl)) after result p
 
   pub replace_if_done : (after : MapState) (result : Result Reply MapError) (told : Result (Bool) MapError) → told ≡ truth_in result →

@@ -70,7 +70,7 @@ module _ (before : State) (names : NameTable) (whole : IsWhole (map_with before 
         pub itself : handle ≡ copy → Restores now handle copy now
         itself same =
             let writes = shown ∙ ap (λ a. Some (state_of a m)) writable in
-            (state_of name.access m, (m, writes), ap (map.get (handles_of now)) (sym same) ∙ shown, (refl, sym (naming_same (handles_of now) handle m writes)))
+            (state_of name.access m, (m, writes), ap (map.get (handles_of now)) (sym same) ∙ shown, (refl, refl, sym (naming_same (handles_of now) handle m writes)))
 
         module _ (apart : handle ≢ copy) where
           full_so : full ≡ nat_le handle_limit (how_many names)
@@ -102,7 +102,7 @@ module _ (before : State) (names : NameTable) (whole : IsWhole (map_with before 
           refuses few after new why p same = rw (p.0, same) (
             allowed few,
             (p.1, subst (RunsOut before the_actor) (sym (core_call_so before names whole copy source from (Snapshot copy) refl)) p.2),
-            (p.3.0, ap (handles_under names) p.3.1),
+            (p.3.0, refl, ap (handles_under names) p.3.1),
           )
 
           -- more steps are left than a copy may take

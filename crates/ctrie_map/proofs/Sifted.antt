@@ -1,10 +1,9 @@
 -- What a closure leaves of pairs.
-use Rattle.std.specs.Prelude.{◌≡◌, ◌<◌, ◌≤◌, ◌+◌, ℕ, suc, Bool, true, false, not, cond, T, ◌&&◌, ◌||◌, List, [], ◌∷◌, ◌++◌, length, if◌then◌else◌, Option, Some, None, slice_set}
+use Rattle.std.specs.Prelude.{◌≡◌, ◌<◌, ◌≤◌, ◌+◌, ℕ, Bool, true, false, cond, T, ◌&&◌, ◌||◌, List, [], ◌∷◌, ◌++◌, length, if◌then◌else◌, Option, Some, None, slice_set}
 use Rattle.std.specs.Cmp.{nat_cmp_total, unsigned_tied}
 use Rattle.std.specs.FinMap as map
 use Rattle.std.specs.FinMap.{same_map, nat_cmp-IsAntisymmetric}
 use Rattle.std.specs.FinMap.Entries.{below_all, find, is_sorted}
-use Rattle.std.specs.List.Retain.{IsFiltered}
 use Rattle.std.specs.Ordering.{is_eq, is_lt, nat_cmp}
 use Rattle.std.specs.declared.cmp.Ordering.{Ordering}
 use Rattle.std.specs.declared.cmp.Ordering.TheVariants.{Less, Equal, Greater}
@@ -13,7 +12,7 @@ use Rattle.std.proofs.lemmas.List.{append-nil, append_assoc, drop_all, drop_more
 use Rattle.history.specs.Worlds.{KeyMap}
 use Rattle.ctrie_map.specs.declared.batches.Batch.TheVariants.{Removes}
 use Rattle.ctrie_map.specs.Batches.{changed_all}
-use Rattle.ctrie_map.specs.Retaining.{Sifts}
+use Rattle.ctrie_map.specs.Retaining.{CanBeAsked, Sifts}
 
 abbrev Pairs : Type 0
 Pairs = List (ℕ × ℕ)
@@ -54,6 +53,19 @@ module _ {F : Type 0} (asks : F → ℕ → ℕ → Bool → F → Type 0) where
     goes_on wants asked after is_so count counts =
         subst (λ n. IsSifting first all next after (at + 1) n) (sym counts) (subst (λ xs. IsSifting first all next xs (at + 1) (counted wants many)) (sym is_so) (goes_on_by wants asked))
 
+    -- where it may be asked of what is left, it may be of this pair, and then of those behind it
+    module _ (Allows : F → ℕ → ℕ → Type 0) (can : CanBeAsked Allows asks f (drop at left)) where
+      pub asked_now : Allows f pair.0 pair.1
+      asked_now = can [] pair.0 pair.1 (drop (at + 1) left) f (sym split) refl
+
+      behind : (wants : Bool) → drop (at + 1) (settled wants left many pair) ≡ drop (at + 1) left
+      behind true = refl
+      behind false = drop-set-lt (at + 1) left many pair (omega (arith, few))
+
+      pub asked_then : (wants : Bool) → asks f pair.0 pair.1 wants next → (after : Pairs) → after ≡ settled wants left many pair → CanBeAsked Allows asks next (drop (at + 1) after)
+      asked_then wants asked after is_so before key value rest now are folds =
+          can (pair ∷ before) key value rest now (sym split ∙ ap (λ xs. pair ∷ xs) (sym (behind wants) ∙ sym (ap (drop (at + 1)) is_so) ∙ are)) (next, (wants, asked), folds)
+
   pub starts : (first : F) (all : Pairs) → IsSifting first all first all 0 0
   starts first all wanted unwanted sifts = (wanted, sifts)
 
@@ -62,42 +74,6 @@ module _ {F : Type 0} (asks : F → ℕ → ℕ → Bool → F → Type 0) where
   ends first all f left at many over sifting =
       let so = sifting [] [] (subst (λ xs. Sifts asks f xs [] []) (sym (drop_all at left over)) (refl, refl)) in
       (so.0, subst (Sifts asks first all so.0) (append-nil (take many left)) so.1)
-
-  -- ---- all of them
-
-  pub parts : (f : F) (pairs wanted unwanted : Pairs) → Sifts asks f pairs wanted unwanted → length wanted + length unwanted ≡ length pairs
-  parts f [] wanted unwanted (none, others) =
-      let one : length wanted ≡ 0 = ap length none in
-      let other : length unwanted ≡ 0 = ap length others in omega (arith, one, other)
-  parts f (pair ∷ pairs) wanted unwanted (true, next, more, less, asked, rest, are, others) =
-      let so = parts next pairs more less rest in
-      let one : length wanted ≡ suc (length more) = ap length are in
-      let other : length unwanted ≡ length less = ap length others in omega (arith, so, one, other)
-  parts f (pair ∷ pairs) wanted unwanted (false, next, more, less, asked, rest, are, others) =
-      let so = parts next pairs more less rest in
-      let one : length wanted ≡ length more = ap length are in
-      let other : length unwanted ≡ suc (length less) = ap length others in omega (arith, so, one, other)
-
-  abbrev Asks : F → ℕ × ℕ → Bool → F → Type 0
-  Asks g pair wants next = asks g pair.0 pair.1 wants next
-
-  pub filtered : (f : F) (pairs wanted unwanted : Pairs) → Sifts asks f pairs wanted unwanted → IsFiltered Asks f pairs wanted
-  filtered f [] wanted unwanted (none, others) = ([], f, refl, refl, none)
-  filtered f (pair ∷ pairs) wanted unwanted (true, next, more, less, asked, rest, are, others) =
-      let (answers, last, each, told, is) = filtered next pairs more less rest in
-      (true ∷ answers, last, ap suc each, (next, asked, told), are ∙ ap (λ xs. pair ∷ xs) is)
-  filtered f (pair ∷ pairs) wanted unwanted (false, next, more, less, asked, rest, are, others) =
-      let (answers, last, each, told, is) = filtered next pairs more less rest in
-      (false ∷ answers, last, ap suc each, (next, asked, told), are ∙ is)
-
-  pub left_out : (f : F) (pairs wanted unwanted : Pairs) → Sifts asks f pairs wanted unwanted → IsFiltered (λ g pair leaves next. Asks g pair (not leaves) next) f pairs unwanted
-  left_out f [] wanted unwanted (none, others) = ([], f, refl, refl, others)
-  left_out f (pair ∷ pairs) wanted unwanted (true, next, more, less, asked, rest, are, others) =
-      let (answers, last, each, told, is) = left_out next pairs more less rest in
-      (false ∷ answers, last, ap suc each, (next, asked, told), others ∙ is)
-  left_out f (pair ∷ pairs) wanted unwanted (false, next, more, less, asked, rest, are, others) =
-      let (answers, last, each, told, is) = left_out next pairs more less rest in
-      (true ∷ answers, last, ap suc each, (next, asked, told), others ∙ ap (λ xs. pair ∷ xs) is)
 
   -- ---- in the order of keys
 

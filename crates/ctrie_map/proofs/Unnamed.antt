@@ -1,5 +1,5 @@
 -- Where a number is free.
-use Rattle.std.proofs.Common.{◌≡◌, ◌≢◌, Bool, false, leb-true, Ok, Err, ℕ, zero, suc, ◌+◌, ◌<◌, true, nat_le, List}
+use Rattle.std.proofs.Common.{◌≡◌, ◌≢◌, Bool, false, leb-true, Err, ℕ, zero, suc, ◌+◌, ◌<◌, true, nat_le, List, Result}
 use Rattle.std.proofs.Common.{[], ◌∷◌, length, Option, Some, None, is_some, cond, get_or, if◌then◌else◌, refl, sym, ap, arith, ◌∙◌}
 use Rattle.std.specs.FinMap as map
 use Rattle.std.specs.List.{count_by}
@@ -8,18 +8,16 @@ use Rattle.std.proofs.lemmas.List.Sums.{count_by-le-length, sum_by-cons}
 use Rattle.history.specs.declared.calls.Access.TheVariants.{Writable}
 use Rattle.history.specs.declared.calls.Call.TheVariants.{Snapshot}
 use Rattle.history.specs.declared.replies.Reply.{Reply}
-use Rattle.history.specs.declared.replies.Reply.TheVariants.{Opened}
 use Rattle.history.specs.Worlds.{HandleMap}
 use Rattle.machine_model.specs.States.{State, handle_limit}
 use Rattle.ctrie_map.specs.Beneath.map_worlds.specs.Worlds.{world_of}
 use Rattle.ctrie_map.specs.Cores.{Carries, core_denial}
 use Rattle.ctrie_map.specs.Denials.{denial_by}
 use Rattle.ctrie_map.specs.Maps.{IsWhole, handles_of, map_with}
-use Rattle.ctrie_map.specs.Sharding.{IsUnder}
 use Rattle.ctrie_map.specs.declared.errors.MapError.{MapError}
 use Rattle.ctrie_map.specs.declared.errors.MapError.TheVariants.{HandlesFull}
 use Rattle.ctrie_map.specs.declared.names.Name.{Name}
-use Rattle.ctrie_map.specs.Names.{AreNamesOf, NameTable, handles_under, name_at, shown_by}
+use Rattle.ctrie_map.specs.Names.{AreNamesOf, IsNext, IsNextFree, NameTable, handles_under, name_at, shown_by}
 use Rattle.ctrie_map.proofs.Named.{shows, stands_so, state_of}
 
 -- it has no name
@@ -30,6 +28,14 @@ unnamed world names named q none = by_name (name_at names q) refl
     by_name None is = refl
     by_name (Some name) is =
         absurd (true≢false (sym (stands_so world names named q (Some name) is refl) ∙ ap is_some (sym (ap (shown_by world) is) ∙ sym (shows world names q) ∙ none)))
+
+-- so the first number that has none is the first that isn't open
+pub is_next : (world : HandleMap) (names : NameTable) → AreNamesOf world names → (number : ℕ) → IsNextFree names number → IsNext names.last (handles_under names world) number
+is_next world names named number next = record {
+  within = next.within;
+  free = shows world names number ∙ ap (shown_by world) next.free;
+  others = λ q low passed. ap is_some (shows world names q) ∙ stands_so world names named q (name_at names q) refl (next.others q low passed);
+}
 
 -- so not all have one
 fewer : (names : List (Option Name)) (q : ℕ) → q < length names → get_or names q None ≡ None → count_by is_some names < length names
@@ -58,6 +64,9 @@ module _ (before : State) (names : NameTable) (whole : IsWhole (map_with before 
   core_denied : core_denial before (Snapshot name.core) ≡ (if nat_le handle_limit (map.len (world_of before)) then Some HandlesFull else None)
   core_denied = ap (λ o. denial_by true true o (map.len (world_of before))) there
 
+  abbrev refused : MapError → Result Reply MapError
+  refused why = Err why
+
   not_all : (b : Bool) → nat_le handle_limit (map.len (world_of before)) ≡ b → (if b then Some HandlesFull else None) ≡ Some HandlesFull → ⊥
   not_all true e is =
       let few = not_full (world_of before) names whole.named number low (unnamed (world_of before) names whole.named number free) in
@@ -65,12 +74,6 @@ module _ (before : State) (names : NameTable) (whole : IsWhole (map_with before 
       omega (arith, few, many)
   not_all false e is = cc
 
-  pub refused_under : (why : MapError) (after : State) → Carries (Err why) before (Snapshot name.core) after → IsUnder number (Err why)
-  refused_under HandlesFull after p =
-      not_all (nat_le handle_limit (map.len (world_of before))) refl (sym core_denied ∙ p.0)
-  refused_under why after p = tt
-
--- nothing else is asked of a reply that opens nothing
-pub under_none : (number : ℕ) (answer : Reply) → ((core : ℕ) → answer ≢ Opened core) → IsUnder number (Ok answer)
-under_none number (Opened copy) none = absurd (none copy refl)
-under_none number answer none = tt
+  pub refused_under : (why : MapError) (after : State) → Carries (Err why) before (Snapshot name.core) after → refused why ≢ Err HandlesFull
+  refused_under HandlesFull after p = λ e. not_all (nat_le handle_limit (map.len (world_of before))) refl (sym core_denied ∙ p.0)
+  refused_under why after p = λ e. cc e

@@ -85,7 +85,7 @@ module _ (before : MapState) (handle key : ℕ) (m : KeyMap) (at : HasMap (handl
   told_same n there = one_map (map.get (handles_of before) handle) n m there at
 
   stays : (n : KeyMap) → n ≡ m → Becomes before (naming (handles_of before) handle Writable n) before
-  stays n same = (refl, sym (ap (naming (handles_of before) handle Writable) same ∙ naming_same (handles_of before) handle m at))
+  stays n same = (refl, refl, sym (ap (naming (handles_of before) handle Writable) same ∙ naming_same (handles_of before) handle m at))
 
   module _ (Answers : Option ℕ → Option ℕ → Type 0) (old value : Option ℕ) (is : old ≡ map.get m key) (answered : Answers old value) where
     answered_there : Answers (map.get m key) value

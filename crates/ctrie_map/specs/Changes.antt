@@ -15,7 +15,7 @@ use Rattle.ctrie_map.specs.declared.errors.MapError.TheVariants.{Crowded, Full, 
 use Rattle.ctrie_map.specs.declared.names.Name.{Name}
 use Rattle.ctrie_map.specs.Cores.{IsTight, is_worn_out, the_actor}
 use Rattle.ctrie_map.specs.Denials.{denial_by}
-use Rattle.ctrie_map.specs.Maps.{MapState, Becomes, Stays, handles_of}
+use Rattle.ctrie_map.specs.Maps.{MapState, Becomes, HasThen, Stays, handles_of}
 use Rattle.ctrie_map.specs.Names.{name_at}
 
 -- ---- what is changed
@@ -26,11 +26,11 @@ Changes before handle Told change after =
     (m : KeyMap) × (map.get (handles_of before) handle ≡ Some (record { access = Writable; pairs = m })) × Told m
     × Becomes before (naming (handles_of before) handle Writable (change m)) after
 
--- The copy is a new handle of this kind, with the map that the handle has now, whatever its own kind.
+-- The copy is a new handle of this kind, with the map that the handle has now, whatever its own kind. Its number was given last then.
 abbrev pub Copies : MapState → ℕ → Access → ℕ → MapState → Type 0
 Copies before handle access copy after =
     (shown : HandleState) × (map.get (handles_of before) handle ≡ Some shown) × (map.get (handles_of before) copy ≡ None)
-    × Becomes before (naming (handles_of before) copy access shown.pairs) after
+    × HasThen before (naming (handles_of before) copy access shown.pairs) copy after
 
 -- The handle was open, and isn't there any more.
 abbrev pub Closes : MapState → ℕ → MapState → Type 0

@@ -6,6 +6,7 @@ pub mod Listings
 pub mod Maps
 pub mod Changes
 pub mod Performing
+pub mod Popping
 pub mod Calling
 pub mod Costs
 pub mod Reading

@@ -2,6 +2,7 @@
 use Rattle.std.specs.Prelude.{◌≡◌, ◌⊎◌, ◌+◌, ◌≤◌, ℕ, length}
 use Rattle.ctrie_base.specs.declared.hashes.HashKind.{HashKind}
 use Rattle.history.specs.Worlds.{HandleMap, first_world}
+use Rattle.machine_model.specs.Machine.{longest_life}
 use Rattle.machine_model.specs.States.{State}
 use Rattle.ctrie_map.specs.Beneath.map_worlds.specs.Worlds.{world_of}
 use Rattle.ctrie_map.specs.declared.errors.MapError.{MapError}
@@ -30,18 +31,23 @@ pub record IsWhole (map : MapState) : Type 0 where
   pub calm : IsCalm map.core
   pub named : AreNamesOf (world_of map.core) map.names
 
--- the map has these handles then; hash and slots are as before
+-- the map has these handles then, and this number was given last; hash, slots and life are as before
+abbrev pub HasThen : MapState → HandleMap → ℕ → MapState → Type 0
+HasThen before handles last after = (after.core.limits ≡ before.core.limits) × (after.names.last ≡ last) × (handles_of after ≡ handles)
+
+-- the map has these handles then, and no number was given
 abbrev pub Becomes : MapState → HandleMap → MapState → Type 0
-Becomes before handles after = (after.core.limits ≡ before.core.limits) × (handles_of after ≡ handles)
+Becomes before handles after = HasThen before handles before.names.last after
 
 -- no handle and no map has changed
 abbrev pub Stays : MapState → MapState → Type 0
 Stays before after = Becomes before (handles_of before) after
 
--- a new map: handle 0 is open, writable and empty, and takes two slots
+-- a new map, which has its whole life before it: handle 0 was given, is open, writable and empty, and takes two slots
 abbrev pub IsNew : ℕ → HashKind → MapState → Type 0
 IsNew slots hash made =
-    (made.core.limits.hash ≡ hash) × (made.core.limits.slots ≡ slots) × (handles_of made ≡ first_world) × (made.core.steps ≡ 0) × (free_of made + 2 ≡ slots)
+    (made.core.limits ≡ record { slots = slots; actors = 1; hash = hash; steps = longest_life }) × (made.names.last ≡ 0) × (handles_of made ≡ first_world)
+    × (made.core.steps ≡ 0) × (free_of made + 2 ≡ slots)
 
 abbrev pub AreSlots : ℕ → Type 0
 AreSlots slots = (2 ≤ slots) × (slots ≤ most_slots)

@@ -44,7 +44,13 @@ numbers_from n (Some name ∷ names) = n ∷ numbers_from (suc n) names
 abbrev pub IsPassed : ℕ → ℕ → ℕ → Type 0
 IsPassed last next number = ((last < number) × (number < next)) ⊎ ((next ≤ last) × ((last < number) ⊎ (number < next)))
 
--- the first number behind the last one, round about, that has no name
+-- the first number behind the last one, round about, that isn't open
+pub record IsNext (last : ℕ) (handles : HandleMap) (next : ℕ) : Type 0 where
+  pub within : next < handle_limit
+  pub free : map.get handles next ≡ None
+  pub others : (number : ℕ) → number < handle_limit → IsPassed last next number → IsSome (map.get handles number)
+
+-- that has no name, which comes to the same
 pub record IsNextFree (names : NameTable) (next : ℕ) : Type 0 where
   pub within : next < handle_limit
   pub free : name_at names next ≡ None

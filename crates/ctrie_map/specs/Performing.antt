@@ -16,8 +16,8 @@ use Rattle.ctrie_map.specs.declared.errors.MapError.{MapError}
 use Rattle.ctrie_map.specs.declared.errors.MapError.TheVariants.{NoHandle, ReadOnly, HandlesFull, BadSizes, WornOut, Memory}
 use Rattle.ctrie_map.specs.Changes.{HasLife, LacksSlots, denial_in}
 use Rattle.ctrie_map.specs.Cores.{is_worn_out}
-use Rattle.ctrie_map.specs.Maps.{MapState, Becomes, Stays, handles_of}
-use Rattle.ctrie_map.specs.Names.{IsNextFree, NameTable}
+use Rattle.ctrie_map.specs.Maps.{MapState, Becomes, HasThen, Stays, handles_of}
+use Rattle.ctrie_map.specs.Names.{IsNext}
 
 -- any call but get, entries and count
 abbrev pub IsChange : Call → Type 0
@@ -42,11 +42,6 @@ abbrev pub copy_call : Access → ℕ → Call
 copy_call Writable handle = Snapshot handle
 copy_call Frozen handle = Freeze handle
 
--- a handle that is opened has the next number
-abbrev pub GivesNext : NameTable → Reply → Type 0
-GivesNext names (Opened number) = IsNextFree names number
-GivesNext names reply = Unit {0}
-
 -- it is begun
 abbrev pub IsBegun : MapState → Call → Type 0
 IsBegun before call = (denial_in before call ≡ None) × HasLife before
@@ -64,11 +59,17 @@ effect_among hash w call opens = effect hash w call opens
 abbrev pub EffectAmong : (ℕ → ℕ) → HandleMap → Call → Option ℕ → Reply → HandleMap → Type 0
 EffectAmong hash w call opens answer next = effect_among hash w call opens ≡ Some (answer, next)
 
--- this is its reply, and what it does
+-- This is its reply, and what it does. Of the number under which a copy is opened this is so.
+abbrev pub AnswersBy : (ℕ → Type 0) → MapState → Call → Reply → MapState → Type 0
+AnswersBy IsNumber before call NoSlots after = LacksSlots before call × Stays before after
+AnswersBy IsNumber before call (Opened copy) after =
+    IsNumber copy × ((next : HandleMap) × EffectAmong (hash_of before.core.limits.hash) (handles_of before) call (Some copy) (Opened copy) next × HasThen before next copy after)
+AnswersBy IsNumber before call answer after =
+    (opens : Option ℕ) × (next : HandleMap) × EffectAmong (hash_of before.core.limits.hash) (handles_of before) call opens answer next × Becomes before next after
+
+-- the number is the next one
 abbrev pub Answers : MapState → Call → Reply → MapState → Type 0
-Answers before call NoSlots after = LacksSlots before call × Stays before after
-Answers before call answer after =
-    (opens : Option ℕ) × (next : _) × EffectAmong (hash_of before.core.limits.hash) (handles_of before) call opens answer next × Becomes before next after
+Answers before = AnswersBy (IsNext before.names.last (handles_of before)) before
 
 -- what the map tells of a refusal of the core
 abbrev pub of_refusal : Refusal → MapError
@@ -79,8 +80,12 @@ of_refusal refuse.Spent = WornOut
 of_refusal refuse.BadLimits = BadSizes
 of_refusal refusal = Memory
 
--- what it comes to
+-- what it comes to, where this is so of the number of a copy
+abbrev pub PerformsBy : (ℕ → Type 0) → Result Reply MapError → MapState → Call → MapState → Type 0
+PerformsBy IsNumber (Ok answer) before call after = IsBegun before call × AnswersBy IsNumber before call answer after
+PerformsBy IsNumber (Err WornOut) before call after = (denial_in before call ≡ None) × (is_worn_out before.core ≡ true) × (after ≡ before)
+PerformsBy IsNumber (Err error) before call after = (denial_in before call ≡ Some error) × (after ≡ before)
+
+-- and where it is the next one
 abbrev pub Performs : Result Reply MapError → MapState → Call → MapState → Type 0
-Performs (Ok answer) before call after = IsBegun before call × Answers before call answer after
-Performs (Err WornOut) before call after = (denial_in before call ≡ None) × (is_worn_out before.core ≡ true) × (after ≡ before)
-Performs (Err error) before call after = (denial_in before call ≡ Some error) × (after ≡ before)
+Performs told before call after = PerformsBy (IsNext before.names.last (handles_of before)) told before call after

@@ -5,7 +5,8 @@ ghost use Rattle.history.specs.declared.calls.Access.TheVariants.{Writable, Read
 ghost use Rattle.history.specs.declared.calls.Call.TheVariants.{Close, Freeze, Snapshot};
 ghost use Rattle.ctrie_map.specs.Changes.{Closes, Copies, HasLife, Refuses};
 ghost use Rattle.ctrie_map.specs.Costs.{WorksUpTo, work_of_a_close, work_of_a_copy};
-ghost use Rattle.ctrie_map.specs.Names.{IsNextFree};
+ghost use Rattle.ctrie_map.specs.Maps.{handles_of};
+ghost use Rattle.ctrie_map.specs.Names.{IsNext};
 
 use crate::errors::MapError;
 use crate::handle::Handle;
@@ -19,7 +20,7 @@ impl Map {
     /// `HandlesFull` where 256 handles are open, as `WornOut` or as `Full`.
     pub fn snapshot(&mut self, handle: Handle) -> Result<Handle, MapError>
         ensures done { IfOk result (λ copy. HasLife self.old × Copies self.old handle Writable copy self.new) }
-        ensures next { IfOk result (IsNextFree self.old.names) }
+        ensures next { IfOk result (IsNext self.old.names.last (handles_of self.old)) }
         ensures refused { IfErr result (Refuses self.old (Snapshot handle) ⊥ self.new) }
         ensures work { WorksUpTo work_of_a_copy self.old self.new }
     {
@@ -29,7 +30,7 @@ impl Map {
     /// Opens a read-only copy, with a number as `snapshot` gives it. Refused as `snapshot` is.
     pub fn freeze(&mut self, handle: Handle) -> Result<Handle, MapError>
         ensures done { IfOk result (λ copy. HasLife self.old × Copies self.old handle ReadOnly copy self.new) }
-        ensures next { IfOk result (IsNextFree self.old.names) }
+        ensures next { IfOk result (IsNext self.old.names.last (handles_of self.old)) }
         ensures refused { IfErr result (Refuses self.old (Freeze handle) ⊥ self.new) }
         ensures work { WorksUpTo work_of_a_copy self.old self.new }
     {

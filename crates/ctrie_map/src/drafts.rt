@@ -57,6 +57,7 @@ pub(crate) fn adopt(core: &mut Core, names: &mut Names, handle: u16, name: Name,
     requires life { is_worn_out core.old.state ≡ false }
     ensures calm { IsCalm core.new.state }
     ensures limits { core.new.state.limits ≡ core.old.state.limits }
+    ensures last { names.new.last ≡ names.old.last }
     ensures named { AreNamesOf (world_of core.new.state) names.new }
     ensures adopted { (world : HandleMap) → (m : KeyMap) → IsBeside world names.old draft m core.old.state
         → handles_under names.new (world_of core.new.state) ≡ naming (handles_under names.old world) handle Writable m }

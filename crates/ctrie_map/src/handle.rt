@@ -5,8 +5,8 @@ ghost use Rattle.std.specs.Prelude.{◌≡◌};
 use std::marker::Model;
 
 /// Names a map of a `Map`. It is a number from 0 to 255. New handles count on, round about, past those that are open: so one
-/// that is closed is refused until the count comes to its number again, and names that copy then. Nothing tells a handle of
-/// one `Map` from one of another.
+/// that is closed is refused until the count comes to its number again, or a `copy_under` asks for it, and names that copy
+/// then. Nothing tells a handle of one `Map` from one of another.
 #[derive(Clone, Copy, Debug, PartialEq, Eq)]
 pub struct Handle {
     number: u16,
@@ -30,7 +30,7 @@ impl Handle {
         Handle { number: 0 }
     }
 
-    /// The handle of this number.
+    /// The handle of this number, which is from 0 to 255: a map has no other one open.
     pub fn new(number: u16) -> Handle
         ensures { result ≡ number }
     {

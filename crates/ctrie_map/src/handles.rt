@@ -1,8 +1,9 @@
 //! Which handles are open.
 
-ghost use Rattle.std.specs.Prelude.{◌≡◌, length};
+ghost use Rattle.std.specs.Prelude.{◌≡◌, ◌<◌, IsTrue, length};
 ghost use Rattle.std.specs.FinMap as map;
 ghost use Rattle.std.specs.Iterator.{YieldsFirst, item_count};
+ghost use Rattle.machine_model.specs.States.{handle_limit};
 ghost use Rattle.ctrie_map.specs.Maps.{handles_of};
 ghost use Rattle.ctrie_map.specs.Reading.{writability};
 
@@ -53,9 +54,10 @@ impl<'a> Iterator for OpenHandles<'a> {
 }
 
 impl Map {
-    /// Whether the handle is open.
+    /// Whether the handle is open: none is whose number is above 255.
     pub fn is_open(&self, handle: Handle) -> bool
-        ensures { result ≡ map.contains_key (handles_of self.now) handle }
+        ensures exact { result ≡ map.contains_key (handles_of self.now) handle }
+        ensures within { IsTrue result → handle < handle_limit }
     {
         self.names.find(handle.number()).is_some()
     }

@@ -3,7 +3,7 @@
 ghost use Rattle.std.specs.Prelude.{◌≡◌, IfOk, IfErr, OnOk};
 ghost use Rattle.ctrie_map.specs.Costs.{WorksUpTo, work_of_a_copy, work_of_call};
 ghost use Rattle.ctrie_map.specs.Maps.{AreSlots, IsNew, RefusesSizes};
-ghost use Rattle.ctrie_map.specs.Performing.{GivesNext, IsChange, Performs, copy_call};
+ghost use Rattle.ctrie_map.specs.Performing.{IsChange, Performs, copy_call};
 
 use crate::errors::MapError;
 use crate::named_calls::{change, close, open};
@@ -86,7 +86,6 @@ impl Map {
     /// Opens a copy of this kind.
     pub(crate) fn open(&mut self, handle: u16, access: Access) -> Result<Reply, MapError>
         ensures performs { Performs result self.old (copy_call access handle) self.new }
-        ensures next { IfOk result (GivesNext self.old.names) }
         ensures work { WorksUpTo work_of_a_copy self.old self.new }
     {
         open(&mut self.core, &mut self.names, handle, access)

@@ -1,11 +1,10 @@
 //! Calls on handles by their names: each is carried out by a call on the core's handle for which the name stands.
 
-ghost use Rattle.std.specs.Prelude.{◌≡◌, IfOk};
+ghost use Rattle.std.specs.Prelude.{◌≡◌};
 ghost use Rattle.ctrie_map.specs.Changes.{on_handle};
 ghost use Rattle.ctrie_map.specs.Costs.{WorksUpTo, work_of_a_close, work_of_a_copy, work_of_call};
 ghost use Rattle.ctrie_map.specs.Maps.{IsWhole, map_with};
-ghost use Rattle.ctrie_map.specs.Names.{IsNextFree};
-ghost use Rattle.ctrie_map.specs.Performing.{GivesNext, IsOnMap, Performs, copy_call};
+ghost use Rattle.ctrie_map.specs.Performing.{IsOnMap, Performs, copy_call};
 ghost use Rattle.history.specs.declared.calls.Call.TheVariants.{Close};
 
 use crate::errors::MapError;
@@ -66,7 +65,6 @@ pub(crate) fn open(
     requires whole { IsWhole (map_with core.old.state names.old) }
     ensures whole { IsWhole (map_with core.new.state names.new) }
     ensures performs { Performs result (map_with core.old.state names.old) (copy_call access handle) (map_with core.new.state names.new) }
-    ensures next { IfOk result (GivesNext names.old) }
     ensures work { WorksUpTo work_of_a_copy (map_with core.old.state names.old) (map_with core.new.state names.new) }
 {
     let Some(name) = names.find(handle) else {

@@ -1,7 +1,9 @@
 //! Calls that change nothing.
 
-ghost use Rattle.std.specs.Prelude.{◌≡◌, ◌+◌, length, nat_eq, nat_le, IfOk, IfErr, Ok, None, Some};
+ghost use Rattle.std.specs.Prelude.{◌≡◌, ◌≤◌, ◌+◌, length, nat_eq, nat_le, IfOk, IfErr, Ok, None, Some};
 ghost use Rattle.std.specs.FinMap as map;
+ghost use Rattle.machine_model.specs.Machine.{longest_life};
+ghost use Rattle.machine_model.specs.States.{handle_limit};
 ghost use Rattle.proof_alone.specs.Sweeps.{UsesReached};
 ghost use Rattle.ctrie_map.specs.Beneath.slot_arena.specs.Heaps.{in_use};
 ghost use Rattle.ctrie_map.specs.Cores.{is_worn_out, life_left};
@@ -58,9 +60,10 @@ impl Map {
         }
     }
 
-    /// How many handles are open.
+    /// How many handles are open, at most 256.
     pub fn handles(&self) -> u32
-        ensures { result ≡ map.len (handles_of self.now) }
+        ensures exact { result ≡ map.len (handles_of self.now) }
+        ensures few { result ≤ handle_limit }
     {
         u32::from(self.names.many())
     }
@@ -84,6 +87,7 @@ impl Map {
     pub fn life_left(&self) -> u64
         ensures left { result ≡ life_left self.now.core }
         ensures worn_out { is_worn_out self.now.core ≡ nat_eq result 0 }
+        ensures life { (self.now.core.limits.steps ≡ longest_life) × (self.now.core.limits.actors ≡ 1) }
     {
         life_left(&self.core)
     }

@@ -1,8 +1,11 @@
 //! Keys that are taken out together, all or none, by what the caller's closure says of them.
 
 ghost use Rattle.std.specs.Prelude.{◌≡◌, ◌<◌, ◌+◌, ℕ, IfOk, IfErr, List, if◌then◌else◌, length, slice_set};
-ghost use Rattle.ctrie_map.specs.Maps.{IsWhole, map_with};
-ghost use Rattle.ctrie_map.specs.Retaining.{RefusesRetain, Retains, Sifts, WorksByUnwanted};
+ghost use Rattle.std.specs.FinMap as map;
+ghost use Rattle.history.specs.Worlds.{KeyMap};
+ghost use Rattle.ctrie_map.specs.Drafts.{HasMap};
+ghost use Rattle.ctrie_map.specs.Maps.{IsWhole, handles_of, map_with};
+ghost use Rattle.ctrie_map.specs.Retaining.{CanBeAsked, RefusesRetain, Retains, Sifts};
 
 use crate::batches::{Batch, change_all, name_to_copy};
 use crate::errors::MapError;
@@ -25,10 +28,9 @@ impl Map {
         handle: Handle,
         f: F,
     ) -> Result<(), MapError>
-        requires { F.IsAlwaysCallable f }
+        requires callable { (m : KeyMap) → HasMap (handles_of self.old) handle m → CanBeAsked F.pre F.step f (map.entries m) }
         ensures retains { IfOk result (λ _. Retains F.step f self.old handle self.new) }
         ensures refused { IfErr result (RefusesRetain F.step f self.old handle self.new) }
-        ensures work { WorksByUnwanted F.step f self.old handle self.new }
     {
         retain(&mut self.core, &mut self.names, handle.number(), f)
     }
@@ -41,12 +43,11 @@ fn retain<F: FnMut(u64, u64) -> bool>(
     handle: u16,
     f: F,
 ) -> Result<(), MapError>
-    requires callable { F.IsAlwaysCallable f }
+    requires callable { (m : KeyMap) → HasMap (handles_of (map_with core.old.state names.old)) handle m → CanBeAsked F.pre F.step f (map.entries m) }
     requires whole { IsWhole (map_with core.old.state names.old) }
     ensures whole { IsWhole (map_with core.new.state names.new) }
     ensures retains { IfOk result (λ _. Retains F.step f (map_with core.old.state names.old) handle (map_with core.new.state names.new)) }
     ensures refused { IfErr result (RefusesRetain F.step f (map_with core.old.state names.old) handle (map_with core.new.state names.new)) }
-    ensures work { WorksByUnwanted F.step f (map_with core.old.state names.old) handle (map_with core.new.state names.new) }
 {
     let name = name_to_copy(names, handle)?;
     let mut pairs = entries_in(core, name.core)?;
@@ -59,7 +60,7 @@ fn retain<F: FnMut(u64, u64) -> bool>(
 
 /// Leaves the pairs that `f` doesn't want, asking it of one after the other.
 fn leave_unwanted<F: FnMut(u64, u64) -> bool>(pairs: &mut Vec<(u64, u64)>, mut f: F)
-    requires { F.IsAlwaysCallable f }
+    requires { CanBeAsked F.pre F.step f pairs.old.items }
     ensures { (wanted : List (ℕ × ℕ)) × Sifts F.step f pairs.old.items wanted pairs.new.items }
 {
     let mut many = 0;

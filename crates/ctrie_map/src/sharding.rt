@@ -7,7 +7,7 @@ ghost use Rattle.ctrie_map.specs.declared.errors.MapError.TheVariants.{HandlesFu
 ghost use Rattle.ctrie_map.specs.Cores.{is_worn_out};
 ghost use Rattle.ctrie_map.specs.Costs.{WorksUpTo, work_of_a_copy};
 ghost use Rattle.ctrie_map.specs.Maps.{IsWhole, handles_of, map_with};
-ghost use Rattle.ctrie_map.specs.Names.{IsNextFree};
+ghost use Rattle.ctrie_map.specs.Names.{IsNext};
 ghost use Rattle.ctrie_map.specs.Sharding.{PerformsUnder};
 
 use crate::errors::MapError;
@@ -36,8 +36,7 @@ impl Map {
 
     /// The number that the next copy gets, if there is one.
     pub fn next_handle(&self) -> Option<Handle>
-        ensures next { IfSome result (IsNextFree self.now.names) }
-        ensures free { IfSome result (λ number. map.get (handles_of self.now) number ≡ None) }
+        ensures next { IfSome result (IsNext self.now.names.last (handles_of self.now)) }
         ensures full { IfNone result (map.len (handles_of self.now) ≡ handle_limit) }
     {
         match self.names.next_free() {

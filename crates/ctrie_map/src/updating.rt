@@ -1,6 +1,6 @@
 //! Changes of a key by what the caller's closure makes of its value.
 
-ghost use Rattle.std.specs.Prelude.{◌≡◌, IfOk, IfErr, Ok, Some};
+ghost use Rattle.std.specs.Prelude.{◌≡◌, IfOk, IfErr, Ok, None, Some};
 ghost use Rattle.std.specs.FinMap as map;
 ghost use Rattle.history.specs.Worlds.{KeyMap};
 ghost use Rattle.ctrie_map.specs.Changes.{Changes, HasLife, IsCrowdedAt, Refuses, set_if_absent};
@@ -24,7 +24,7 @@ impl Map {
         key: u64,
         f: F,
     ) -> Result<Option<u64>, MapError>
-        requires { F.IsAlwaysCallable f }
+        requires callable { (m : KeyMap) → HasMap (handles_of self.old) handle m → F.pre f (map.get m key) }
         ensures done { IfOk result (λ value. Changes self.old handle (IsUpdate (F.post f) self.old key value) (with_value key value) self.new) }
         ensures same { IfOk result (λ value. reading self.old handle (λ m. map.get m key) ≡ Ok value → self.new ≡ self.old) }
         ensures refused { IfErr result (RefusesUpdate (F.post f) self.old handle key self.new) }
@@ -46,7 +46,7 @@ impl Map {
         key: u64,
         f: F,
     ) -> Result<u64, MapError>
-        requires { F.IsAlwaysCallable f }
+        requires callable { (m : KeyMap) → HasMap (handles_of self.old) handle m → map.get m key ≡ None → F.pre f }
         ensures done { IfOk result (λ value. Changes self.old handle (IsThereOrMade (F.post f) self.old key value) (set_if_absent key value) self.new) }
         ensures there { IfOk result (λ value. reading self.old handle (λ m. map.get m key) ≡ Ok (Some value) → self.new ≡ self.old) }
         ensures refused { IfErr result (RefusesMaking (F.post f) self.old handle key self.new) }

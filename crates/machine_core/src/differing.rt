@@ -19,10 +19,11 @@ use std::alloc::AllocError;
 /// A key of which two maps have different values.
 #[derive(Clone, Copy, Debug, PartialEq, Eq)]
 pub struct Difference {
+    /// The key.
     pub key: u64,
-    /// The value in the one map, if the key has one there.
+    /// The value in the older map, if the key has one there.
     pub before: Option<u64>,
-    /// The value in the other map, if the key has one there.
+    /// The value in the newer map, if the key has one there.
     pub after: Option<u64>,
 }
 

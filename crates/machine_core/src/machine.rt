@@ -60,7 +60,7 @@ impl Model for Core {
 
 impl Core {
     /// A machine that has taken no step. The bounds are checked first: `BadLimits` where one is out of
-    /// range; any other refusal is `Memory`. It is all the memory that a machine takes, but for what its walks answer.
+    /// range; any other refusal is `Memory`. It is all the memory that a machine takes, but for walks and what is listed.
     pub fn new(alloc: Global, bounds: Bounds) -> Result<Core, Refusal>
         ensures made { IfOk result (λ core. core.state ≡ first_state bounds) }
         ensures refused { IfErr result (λ refusal. RefusesBounds bounds refusal) }

@@ -47,7 +47,7 @@ returns-in-Ok-clause-done c =
     let changes = c.in-Ok.ensures.changes d.m has in
     changes_all c.args.batch c.args.core.now.state c.args.names.now c.requires.whole c.args.handle c.args.pairs.now c.args.name c.requires.can_copy.0 c.requires.can_copy.1
     c.requires.room c.in_ok-made.made c.draft.new.core.state c.in_ok-made.ensures.drafted c.draft.ensures.slots
-    c.requires.life c.change_each.new.core.state changes c.adopt.new.core.state c.adopt.new.names c.adopt.ensures.limits
+    c.requires.life c.change_each.new.core.state changes c.adopt.new.core.state c.adopt.new.names c.adopt.ensures.limits c.adopt.ensures.last
     (c.adopt.ensures.adopted (world_of c.args.core.now.state) (changed_all c.args.batch d.m c.args.pairs.now)
     (beside c.args.batch c.args.core.now.state c.args.names.now c.requires.whole c.args.handle c.args.pairs.now c.args.name c.requires.can_copy.0 c.requires.can_copy.1
     c.requires.room c.in_ok-made.made c.draft.new.core.state c.in_ok-made.ensures.drafted c.draft.ensures.slots c.change_each.new.core.state changes))

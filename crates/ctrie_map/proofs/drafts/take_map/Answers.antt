@@ -18,6 +18,7 @@ returns-clause-takes c =
       d.has,
       (
         c.adopt.ensures.limits ∙ d.turns.0,
+        c.adopt.ensures.last,
         c.adopt.ensures.adopted (world_of c.args.core.now.state) d.m
             (beside_so c.args.core.now.state c.args.names.now c.args.source c.in_ok-made.made c.draft.new.core.state c.requires.whole.named d),
       ),

@@ -1,6 +1,6 @@
 use Rattle.std.proofs.Common.{subst, IfErr, IfOk}
 use Rattle.ctrie_map.specs.Maps.{MapState, map_with}
-use Rattle.ctrie_map.specs.Retaining.{RefusesRetain, Retains, WorksByUnwanted}
+use Rattle.ctrie_map.specs.Retaining.{RefusesRetain, Retains}
 use Rattle.ctrie_map.proofs.map.Map.retain.Goals as goal
 
 pub returns-clause-retains : goal.returns-clause-retains
@@ -12,8 +12,3 @@ pub returns-clause-refused : goal.returns-clause-refused
 returns-clause-refused g c =
     subst (λ (s : MapState). IfErr c.retain.result (RefusesRetain (goal.F-step g) c.args.f s c.args.handle (map_with c.retain.new.core.state c.retain.new.names))) c.self.view_is
     (rw (← c.number.ensures) c.retain.ensures.refused)
-
-pub returns-clause-work : goal.returns-clause-work
-returns-clause-work g c =
-    subst (λ (s : MapState). WorksByUnwanted (goal.F-step g) c.args.f s c.args.handle (map_with c.retain.new.core.state c.retain.new.names)) c.self.view_is
-    (rw (← c.number.ensures) c.retain.ensures.work)

@@ -1,12 +1,17 @@
 use Rattle.std.proofs.Common.{subst}
 use Rattle.history.specs.declared.calls.Access.TheVariants.{Writable}
 use Rattle.ctrie_map.specs.Performing.{Performs, copy_call}
-use Rattle.ctrie_map.proofs.Copies.{snapshot_done, snapshot_refused}
+use Rattle.ctrie_map.proofs.Copies.{snapshot_done, snapshot_next, snapshot_refused}
 use Rattle.ctrie_map.proofs.map.Map.snapshot.Goals as goal
 
 pub returns-clause-done : goal.returns-clause-done
 returns-clause-done c =
     snapshot_done c.args.self.now c.args.handle c.«open».new.self c.«open».result c.opened.result c.opened.ensures
+    (subst (λ h. Performs c.«open».result c.args.self.now (copy_call Writable h) c.«open».new.self) c.number.ensures c.«open».ensures.performs)
+
+pub returns-clause-next : goal.returns-clause-next
+returns-clause-next c =
+    snapshot_next c.args.self.now c.args.handle c.«open».new.self c.«open».result c.opened.result c.opened.ensures
     (subst (λ h. Performs c.«open».result c.args.self.now (copy_call Writable h) c.«open».new.self) c.number.ensures c.«open».ensures.performs)
 
 pub returns-clause-refused : goal.returns-clause-refused
