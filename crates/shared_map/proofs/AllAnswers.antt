@@ -1,8 +1,9 @@
 -- What all shards answer is answered by the whole.
 use Rattle.std.proofs.Common.{◌≡◌, inl, inr, ℕ, ◌*◌, ◌≤◌, Bool, true, false}
-use Rattle.std.proofs.Common.{◌&&◌, nat_le, if◌then◌else◌, List, [], ◌∷◌, length, map, Option, Some, None, Ok, Err, IsOk, option_map}
+use Rattle.std.proofs.Common.{◌&&◌, nat_le, if◌then◌else◌, List, [], ◌∷◌, length, map, Option, Some, None, IsSome, Ok, Err, IsOk, option_map}
 use Rattle.std.proofs.Common.{refl, sym, ap, ap₂, subst, ◌∙◌, arith, slice_get}
 use Rattle.std.specs.FinMap as maps
+use Rattle.std.proofs.lemmas.Bool.{true≢false}
 use Rattle.std.proofs.lemmas.Option.{same_Some}
 use Rattle.ctrie_base.specs.declared.hashes.HashKind.{HashKind}
 use Rattle.history.specs.declared.calls.Access.{Access}
@@ -21,13 +22,13 @@ use Rattle.ctrie_map.specs.Denials.{denial_by, is_frozen}
 use Rattle.ctrie_map.specs.declared.errors.MapError.{MapError}
 use Rattle.ctrie_map.specs.declared.errors.MapError.TheVariants as error
 use Rattle.ctrie_map.specs.Maps.{MapState, handles_of}
-use Rattle.ctrie_map.specs.Performing.{copy_call}
+use Rattle.ctrie_map.specs.Names.{IsNext}
 use Rattle.ctrie_map.specs.Reading.{read_of, writability_by}
-use Rattle.shared_map.specs.Answering.{AreBegun, CallsAll, ChangesAll, RepliesAll, WorkUpTo}
+use Rattle.shared_map.specs.Answering.{AreBegun, CallsAll, ChangesAll, HaveThen, RepliesAll, WorkUpTo}
 use Rattle.shared_map.specs.Asking.{IsKnown, denial_from}
 use Rattle.shared_map.specs.Asks.{Replied}
-use Rattle.shared_map.specs.Shards.{AreShards, IsAnyTight, LackSlots, concerned, is_any_worn_out, world_of_all, worlds_of}
-use Rattle.shared_map.specs.Turning.{AreAllowed, HaveTurned, IsFree, call_of, reply_of, turned}
+use Rattle.shared_map.specs.Shards.{AreShards, IsAnyTight, IsNoneTight, LackSlots, concerned, is_any_worn_out, last_given, world_of_all, worlds_of}
+use Rattle.shared_map.specs.Turning.{AreAllowed, HasNext, HaveTurned, IsFree, call_of, last_by, reply_of, turned}
 use Rattle.shared_map.specs.Uniting.{AreOfKinds, kind_of, pairs_at, united_at}
 use Rattle.shared_map.specs.Wholes.{KnowsFirst, TurnsAll}
 use Rattle.shared_map.specs.declared.asking.Knowing.{Knowing}
@@ -57,6 +58,10 @@ denied_kinds writes opens m (Some s) n = refl
 pub first_len : (before : List MapState) (s : MapState) → slice_get before 0 ≡ Some s → maps.len (world_of_all before) ≡ maps.len (handles_of s)
 first_len [] s at = cc
 first_len (x ∷ xs) s at = len_united (handles_of x) (worlds_of xs) ∙ ap (λ s. maps.len (handles_of s)) (same_Some x s at)
+
+pub first_last : (before : List MapState) (s : MapState) → slice_get before 0 ≡ Some s → last_given before ≡ s.names.last
+first_last [] s at = cc
+first_last (x ∷ xs) s at = ap (λ (s : MapState). s.names.last) (same_Some x s at)
 
 -- what isn't denied is open
 record IsAllowed (writes : Bool) (kind : Option Access) : Type 0 where
@@ -188,6 +193,27 @@ module _ (hash : HashKind) (before : List MapState) (are : AreShards hash before
   none_kind None e = refl
   none_kind (Some s) e = cc
 
+  some_kind : (o p : Option HandleState) → kind_of o ≡ kind_of p → IsSome o → IsSome p
+  some_kind None p e some = absurd (true≢false (sym some))
+  some_kind (Some s) None e some = cc
+  some_kind (Some s) (Some t) e some = refl
+
+  -- the next number of the first is that of the whole
+  next_of_all : (n : ℕ) → IsNext s.names.last (handles_of s) n → IsNext (last_given before) world n
+  next_of_all n next =
+      let alike : (h : ℕ) → kind_of (maps.get (handles_of s) h) ≡ kind_of (maps.get world h) =
+      λ h. shards.kind_is hash before are 0 s knows.1 h ∙ sym (shards.kind_in_all hash before are h) in
+      subst (λ last. IsNext last world n) (sym (first_last before s knows.1)) (record {
+        within = next.within;
+        free = none_kind (maps.get world n) (sym (alike n) ∙ ap kind_of next.free);
+        others = λ q low passed. some_kind (maps.get (handles_of s) q) (maps.get world q) (alike q) (next.others q low passed);
+      })
+
+  free_first : (t : Turn) → HasNext t s → IsFree t (handles_of s)
+  free_first (turn.Clear h) next = tt
+  free_first (turn.Close h) next = tt
+  free_first (turn.Copy h n access) next = (next.within, next.free)
+
   free_each : (t : Turn) → IsFree t (handles_of s) → (w : HandleMap) → ((h : ℕ) → kind_of (maps.get w h) ≡ are.kinds h) → IsFree t w
   free_each (turn.Clear h) free w kinds = tt
   free_each (turn.Close h) free w kinds = tt
@@ -204,6 +230,11 @@ module _ (hash : HashKind) (before : List MapState) (are : AreShards hash before
   many_lack c [] many tight = absurd (omega (arith, many))
   many_lack c (s ∷ []) many tight = absurd (omega (arith, many))
   many_lack c (s ∷ t ∷ ss) many tight = tight
+
+  pub many_have : (c : Call) (ss : List MapState) → 2 ≤ length ss → ¬ IsAnyTight c ss → IsNoneTight c ss
+  many_have c [] many none = absurd (omega (arith, many))
+  many_have c (s ∷ []) many none = tt
+  many_have c (s ∷ t ∷ ss) many none = none
 
   calls_are : (t : Turn) (told : Replied) (after : List MapState) → ChangesAll hash before (call_of t) told after → CallsAll hash before (call_of t) told after
   calls_are (turn.Clear h) told after p = p
@@ -223,7 +254,7 @@ module _ (hash : HashKind) (before : List MapState) (are : AreShards hash before
     are,
   )
 
-  module _ (t : Turn) (none : denial_among world (call_of t) ≡ None) (free : IsFree t (handles_of s)) (many : 2 ≤ length before) (after : List MapState) where
+  module _ (t : Turn) (none : denial_among world (call_of t) ≡ None) (has_next : HasNext t s) (many : 2 ≤ length before) (after : List MapState) where
     abbrev h : ℕ
     h = handle_of (call_of t)
 
@@ -233,10 +264,10 @@ module _ (hash : HashKind) (before : List MapState) (are : AreShards hash before
         (ap (λ o. denial_by (changes_map (call_of t)) (opens_handle (call_of t)) o (maps.len world)) (sym (shards.shown_in_all hash before are h)) ∙ none)
 
     are_allowed : AreAllowed t before
-    are_allowed = allowed_each t are.kinds allowed (free_each t free) before are.alike
+    are_allowed = allowed_each t are.kinds allowed (free_each t (free_first t has_next)) before are.alike
 
     does : HaveTurned t before after → all.Does hash before after are t
-    does have = by_turn t free allowed have
+    does have = by_turn t (free_first t has_next) allowed have
       where
         by_turn : (t : Turn) → IsFree t (handles_of s) → IsAllowed (changes_map (call_of t)) (are.kinds (handle_of (call_of t))) → HaveTurned t before after →
             all.Does hash before after are t
@@ -247,19 +278,28 @@ module _ (hash : HashKind) (before : List MapState) (are : AreShards hash before
         by_turn (turn.Copy h n ReadOnly) free allowed have =
             all.copy_does hash before after are h n ReadOnly have allowed.access allowed.is (sym (shards.kind_is hash before are 0 s knows.1 n) ∙ ap kind_of free.1)
 
+    became : (t : Turn) → HaveTurned t before after → (next : HandleMap) → world_of_all after ≡ next → HaveThen before next (last_by t (last_given before)) after
+    became t have next there = (
+      all.become_limits (turned t) (last_by t) (work_of_call (call_of t)) before after have,
+      all.become_last (turned t) (last_by t) (work_of_call (call_of t)) before after are.some have,
+      there,
+    )
+
     worn_is : (b : Bool) → is_any_worn_out before ≡ b → is_any_worn_out (concerned hash (call_of t) before) ≡ b
     worn_is b e = ap is_any_worn_out (concerns_all t) ∙ e
 
-    replied : (answer : Reply) → answer ≡ reply_of t → is_any_worn_out before ≡ false → all.Does hash before after are t → HaveTurned t before after →
+    replied : (answer : Reply) → answer ≡ reply_of t → is_any_worn_out before ≡ false → ¬ IsAnyTight (call_of t) before → all.Does hash before after are t → HaveTurned t before after →
         ChangesAll hash before (call_of t) (Ok answer) after
-    replied answer is life d have = subst (λ a. ChangesAll hash before (call_of t) (Ok a) after) (sym is) (by_turn t d (none, worn_is false life) have)
+    replied answer is life roomy d have =
+        subst (λ a. ChangesAll hash before (call_of t) (Ok a) after) (sym is) (by_turn t d has_next (none, worn_is false life)
+        (subst (IsNoneTight (call_of t)) (sym (concerns_all t)) (many_have (call_of t) before many roomy)) have)
       where
-        by_turn : (t : Turn) → (d : all.Does hash before after are t) → AreBegun hash before (call_of t) → HaveTurned t before after →
-            ChangesAll hash before (call_of t) (Ok (reply_of t)) after
-        by_turn (turn.Clear h) d begun have = (begun, (d.opens, d.next, d.effect, (all.become_limits (turned (turn.Clear h)) (work_of_call (call.Clear h)) before after have, d.there)))
-        by_turn (turn.Close h) d begun have = (begun, (d.opens, d.next, d.effect, (all.become_limits (turned (turn.Close h)) (work_of_call (call.Close h)) before after have, d.there)))
-        by_turn (turn.Copy h n access) d begun have =
-            (begun, (d.opens, d.next, d.effect, (all.become_limits (turned (turn.Copy h n access)) (work_of_call (copy_call access h)) before after have, d.there)))
+        by_turn : (t : Turn) → (d : all.Does hash before after are t) → HasNext t s → AreBegun hash before (call_of t) →
+            IsNoneTight (call_of t) (concerned hash (call_of t) before) → HaveTurned t before after → ChangesAll hash before (call_of t) (Ok (reply_of t)) after
+        by_turn (turn.Clear h) d next begun roomy have = (begun, roomy, (None, d.next, d.effect, became (turn.Clear h) have d.next d.there))
+        by_turn (turn.Close h) d next begun roomy have = (begun, roomy, (None, d.next, d.effect, became (turn.Close h) have d.next d.there))
+        by_turn (turn.Copy h n access) d next begun roomy have =
+            (begun, roomy, (next_of_all n next, (d.next, d.effect, became (turn.Copy h n access) have d.next d.there)))
 
     works_as : WorkUpTo (length before * work_of_call (call_of t)) before after → WorkUpTo (length (concerned hash (call_of t) before) * work_of_call (call_of t)) before after
     works_as works = subst (λ (xs : List MapState). WorkUpTo (length xs * work_of_call (call_of t)) before after) (sym (concerns_all t)) works
@@ -277,17 +317,17 @@ module _ (hash : HashKind) (before : List MapState) (are : AreShards hash before
     lacks life tight same = (
       (none, worn_is false life),
       subst (LackSlots (call_of t)) (sym (concerns_all t)) (many_lack (call_of t) before many tight),
-      (ap (map (λ (s : MapState). s.core.limits)) same, ap world_of_all same),
+      (ap (map (λ (s : MapState). s.core.limits)) same, ap last_given same, ap world_of_all same),
     )
 
-    done : (answer : Reply) → is_any_worn_out before ≡ false → answer ≡ reply_of t → (AreAllowed t before → HaveTurned t before after) → Whole (Ok answer)
-    done answer life is turns =
+    done : (answer : Reply) → is_any_worn_out before ≡ false → ¬ IsAnyTight (call_of t) before → answer ≡ reply_of t → (AreAllowed t before → HaveTurned t before after) → Whole (Ok answer)
+    done answer life roomy is turns =
         let have = turns are_allowed in
         let d = does have in
-        ((calls_are t (Ok answer) after (replied answer is life d have), works_as (all.become_works (turned t) (work_of_call (call_of t)) before after have)), d.shards_are)
+        ((calls_are t (Ok answer) after (replied answer is life roomy d have), works_as (all.become_works (turned t) (last_by t) (work_of_call (call_of t)) before after have)), d.shards_are)
 
     pub turns_answer : (told : Replied) → TurnsAll t before told after → Whole told
     turns_answer (Err error.WornOut) p = unchanged (Err error.WornOut) p.1 (none, worn_is true p.0, p.1)
     turns_answer (Err why) p = absurd p
     turns_answer (Ok reply.NoSlots) p = unchanged (Ok reply.NoSlots) p.2 (lacks p.0 p.1 p.2)
-    turns_answer (Ok answer) p = done answer p.0 p.1 p.2
+    turns_answer (Ok answer) p = done answer p.0 p.1 p.2 p.3

@@ -13,14 +13,14 @@ use Rattle.machine_model.specs.States.{handle_limit}
 use Rattle.ctrie_map.specs.Changes.{changes_map}
 use Rattle.ctrie_map.specs.declared.errors.MapError.{MapError}
 use Rattle.ctrie_map.specs.declared.errors.MapError.TheVariants as error
-use Rattle.ctrie_map.specs.Maps.{MapState, handles_of}
+use Rattle.ctrie_map.specs.Maps.{MapState}
 use Rattle.ctrie_map.specs.Performing.{copy_call}
 use Rattle.shared_map.specs.Answering.{RepliesAll}
 use Rattle.shared_map.specs.Asking.{IsKnown, IsNumber, denial_from}
 use Rattle.shared_map.specs.Asks.{Replied}
 use Rattle.shared_map.specs.Beneath.proof_alone.specs.Calls.{slots_of}
-use Rattle.shared_map.specs.Shards.{AreShards, is_any_worn_out, worlds_of}
-use Rattle.shared_map.specs.Turning.{AreAllowed, HaveTurned, IsFree, Turns, call_of, reply_of}
+use Rattle.shared_map.specs.Shards.{AreShards, IsAnyTight, is_any_worn_out, worlds_of}
+use Rattle.shared_map.specs.Turning.{AreAllowed, HasNext, HaveTurned, Turns, call_of, reply_of}
 use Rattle.shared_map.specs.Uniting.{pairs_at}
 use Rattle.shared_map.specs.Visits.{VisitedEach}
 use Rattle.shared_map.specs.Wholes.{RepliesIf, IsCalledAlone, TurnsAll}
@@ -31,18 +31,18 @@ use Rattle.shared_map.specs.declared.turning.Turning.{Turning}
 use Rattle.shared_map.proofs.AllAnswers as answers
 use Rattle.shared_map.proofs.Counted.{is_any_tight}
 use Rattle.shared_map.proofs.OneShard.{one_answers}
-use Rattle.shared_map.proofs.Turns.{turns_done}
+use Rattle.shared_map.proofs.Turns.{none_tight, turns_done}
 
 -- ---- the parts
 
-pub turns_ok : (t : Turn) (before after : List MapState) (answer : Reply) → answer ≡ reply_of t → is_any_worn_out before ≡ false →
+pub turns_ok : (t : Turn) (before after : List MapState) (answer : Reply) → answer ≡ reply_of t → is_any_worn_out before ≡ false → is_any_tight (slots_of (call_of t)) before ≡ false →
     (AreAllowed t before → HaveTurned t before after) → TurnsAll t before (Ok answer) after
-turns_ok t before after answer is life have = subst (λ a. TurnsAll t before (Ok a) after) (sym is) (by_turn t have)
+turns_ok t before after answer is life roomy have = subst (λ a. TurnsAll t before (Ok a) after) (sym is) (by_turn t (none_tight (call_of t) before roomy) have)
   where
-    by_turn : (t : Turn) → (AreAllowed t before → HaveTurned t before after) → TurnsAll t before (Ok (reply_of t)) after
-    by_turn (turn.Clear h) have = (life, refl, have)
-    by_turn (turn.Close h) have = (life, refl, have)
-    by_turn (turn.Copy h n access) have = (life, refl, have)
+    by_turn : (t : Turn) → ¬ IsAnyTight (call_of t) before → (AreAllowed t before → HaveTurned t before after) → TurnsAll t before (Ok (reply_of t)) after
+    by_turn (turn.Clear h) none have = (life, none, refl, have)
+    by_turn (turn.Close h) none have = (life, none, refl, have)
+    by_turn (turn.Copy h n access) none have = (life, none, refl, have)
 
 pub turned_from : (t : Turn) (v u : Turning) (before mid after : List MapState) → mid ≡ before → v.turn ≡ t → VisitedEach Turns v mid u after →
     is_any_worn_out before ≡ false → is_any_tight (slots_of (call_of t)) before ≡ false → AreAllowed t before → HaveTurned t before after
@@ -66,11 +66,11 @@ module _ (first : Knowing) (before : List MapState) where
 
   pub if_turned : (t : Turn) (told : Replied) (after : List MapState) → 1 < length before →
       denial_from (changes_map (call_of t)) (opens_handle (call_of t)) first.writable first.handles ≡ None →
-      ((s : MapState) → IsKnown first s → IsFree t (handles_of s)) → TurnsAll t before told after → RepliesIf first before (call_of t) told after
-  if_turned t told after many allowed free turns hash are knows on none =
+      ((s : MapState) → IsKnown first s → HasNext t s) → TurnsAll t before told after → RepliesIf first before (call_of t) told after
+  if_turned t told after many allowed next turns hash are knows on none =
       answers.turns_answer hash before are first knows t
       (sym (answers.denial_is hash before are first knows (changes_map (call_of t)) (opens_handle (call_of t)) (handle_of (call_of t)) on) ∙ allowed)
-      (free knows.0 knows.2) many after told turns
+      (next knows.0 knows.2) many after told turns
 
   -- copies, of either kind
   pub copy_denied : (access : Access) (h : ℕ) (why : MapError) → denial_from false true first.writable first.handles ≡ Some why →
@@ -78,13 +78,13 @@ module _ (first : Knowing) (before : List MapState) where
   copy_denied Writable h why e = if_denied (turn.Copy h 0 Writable) why e
   copy_denied ReadOnly h why e = if_denied (turn.Copy h 0 ReadOnly) why e
 
-  pub number_free : (h n : ℕ) (access : Access) → first.next ≡ Some n → (s : MapState) → IsKnown first s → IsFree (turn.Copy h n access) (handles_of s)
-  number_free h n access is s known = subst (IsNumber (handles_of s)) is known.next
+  pub number_next : (h n : ℕ) (access : Access) → first.next ≡ Some n → (s : MapState) → IsKnown first s → HasNext (turn.Copy h n access) s
+  number_next h n access is s known = subst (IsNumber s) is known.next
 
   pub copy_turned : (access : Access) (h n : ℕ) (told : Replied) (after : List MapState) → 1 < length before → denial_from false true first.writable first.handles ≡ None →
       first.next ≡ Some n → TurnsAll (turn.Copy h n access) before told after → RepliesIf first before (copy_call access h) told after
-  copy_turned Writable h n told after many allowed is turns = if_turned (turn.Copy h n Writable) told after many allowed (number_free h n Writable is) turns
-  copy_turned ReadOnly h n told after many allowed is turns = if_turned (turn.Copy h n ReadOnly) told after many allowed (number_free h n ReadOnly is) turns
+  copy_turned Writable h n told after many allowed is turns = if_turned (turn.Copy h n Writable) told after many allowed (number_next h n Writable is) turns
+  copy_turned ReadOnly h n told after many allowed is turns = if_turned (turn.Copy h n ReadOnly) told after many allowed (number_next h n ReadOnly is) turns
 
   -- where no number is left, it is denied
   full_denied : (o : Result Bool MapError) (n : ℕ) → n ≡ handle_limit → denial_from false true o n ≡ None → ⊥
@@ -95,7 +95,7 @@ module _ (first : Knowing) (before : List MapState) where
   pub copy_full : (access : Access) (h : ℕ) → denial_from false true first.writable first.handles ≡ None → first.next ≡ None →
       RepliesIf first before (copy_call access h) (Err error.HandlesFull) before
   copy_full access h allowed is hash are knows on none =
-      absurd (full_denied first.writable first.handles (knows.2.handles ∙ subst (IsNumber (handles_of knows.0)) is knows.2.next) allowed)
+      absurd (full_denied first.writable first.handles (knows.2.handles ∙ subst (IsNumber knows.0) is knows.2.next) allowed)
 
   -- lists and counts
   pub if_listed : (h : ℕ) (pairs : List (ℕ × ℕ)) (writable : Bool) → first.writable ≡ Ok writable → pairs ≡ by_key (pairs_at h (worlds_of before)) →

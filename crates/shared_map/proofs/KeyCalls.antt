@@ -24,11 +24,12 @@ use Rattle.ctrie_map.specs.Maps.{MapState, handles_of}
 use Rattle.ctrie_map.specs.Performing.{Answers, IsBegun, Performs, effect_among}
 use Rattle.ctrie_map.specs.declared.errors.MapError.{MapError}
 use Rattle.ctrie_map.specs.declared.errors.MapError.TheVariants.{WornOut}
+use Rattle.ctrie_map.proofs.ByName.{opens_none}
 use Rattle.ctrie_map.proofs.Changing.{says}
 use Rattle.ctrie_map.proofs.Named.{at_other, at_same}
 use Rattle.shared_map.specs.Answering.{AreBegun, ChangesAll, RepliesAll, WorkUpTo}
 use Rattle.shared_map.specs.Asks.{Replied, key_in, place_of, shard_of}
-use Rattle.shared_map.specs.Shards.{AreShards, LackSlots, concerned, is_any_worn_out, those_at, world_of_all}
+use Rattle.shared_map.specs.Shards.{AreShards, IsNoneTight, LackSlots, concerned, is_any_worn_out, those_at, world_of_all}
 use Rattle.shared_map.specs.Uniting.{kind_of, united, united_at, value_at, value_of}
 use Rattle.shared_map.proofs.KeyChanges.{Acts, puts, puts_if_absent, removes, removes_if, replaces, replaces_if}
 use Rattle.shared_map.proofs.OfShards as shards
@@ -79,7 +80,7 @@ module _ (hash : HashKind) (before : List MapState) (are : AreShards hash before
     pub there : world_of_all next ≡ last
     pub shards_are : AreNext
 
-  module _ (h : ℕ) (f : KeyMap → Reply × KeyMap) (alike : ActsAlike f) (limits : t.core.limits ≡ s.core.limits) where
+  module _ (h : ℕ) (f : KeyMap → Reply × KeyMap) (alike : ActsAlike f) (limits : t.core.limits ≡ s.core.limits) (last : t.names.last ≡ s.names.last) where
     module _ (m : KeyMap) (there : maps.get mine h ≡ Some (shown_as m Writable)) (is : handles_of t ≡ naming mine h Writable (f m).1) where
       value_is : (q : ℕ) → value_at mine h q ≡ maps.get m q
       value_is q = ap (value_of q) there
@@ -130,28 +131,28 @@ module _ (hash : HashKind) (before : List MapState) (are : AreShards hash before
             (f (all_at h)).1 kind_at
             (united_set place (shards.worlds hash before are) are.own (shards.within hash before are) i (shards.low hash before are i s at) (handles_of t) own_stays h
             (f (all_at h)).1 (λ q e. acts.follows.same q e ∙ sym (ap (value_of q) now_at)) (λ q apart. acts.follows.others_stay q apart));
-        shards_are = shards.shards_after hash before are i s at t limits kinds_stay own_stays;
+        shards_are = shards.shards_after hash before are i s at t limits last kinds_stay own_stays;
       }
 
     -- of a change that has an effect in the shard
-    turned_by : (answer : Reply) (last : HandleMap) → changing mine h f ≡ Some (answer, last) → handles_of t ≡ last → Turned f h answer
-    turned_by answer last e there =
-        let (m, at_m, told, to) = says mine h f answer last e in subst (Turned f h) (sym told) (turned m at_m (there ∙ to))
+    turned_by : (answer : Reply) (later : HandleMap) → changing mine h f ≡ Some (answer, later) → handles_of t ≡ later → Turned f h answer
+    turned_by answer later e there =
+        let (m, at_m, told, to) = says mine h f answer later e in subst (Turned f h) (sym told) (turned m at_m (there ∙ to))
 
   -- ---- a call that may change it
 
   -- this call is about the shard
-  module _ (c : Call) (h : ℕ) (f : KeyMap → Reply × KeyMap) (about : key_in c ≡ Some k) (on : handle_of c ≡ h) (writes : changes_map c ≡ true) (opens_none : opens_handle c ≡ false)
-      (does : (w : HandleMap) (o : Option ℕ) → effect_among (hash_of hash) w c o ≡ changing w h f) (alike : ActsAlike f) where
+  module _ (c : Call) (h : ℕ) (f : KeyMap → Reply × KeyMap) (about : key_in c ≡ Some k) (on : handle_of c ≡ h) (writes : changes_map c ≡ true) (closed : opens_handle c ≡ false)
+      (opens : (m : KeyMap) (copy : ℕ) → (f m).0 ≢ reply.Opened copy) (does : (w : HandleMap) (o : Option ℕ) → effect_among (hash_of hash) w c o ≡ changing w h f) (alike : ActsAlike f) where
     concerns : concerned hash c before ≡ s ∷ []
     concerns =
         ap (λ o. those_at (option_map place o) before) about ∙ ap (λ n. option_to_list (slice_get before n)) here ∙ ap option_to_list at
 
     same_denial : denial_among world c ≡ denial_in s c
     same_denial =
-        ap (λ b. denial_by (changes_map c) b (maps.get world (handle_of c)) (maps.len world)) opens_none
+        ap (λ b. denial_by (changes_map c) b (maps.get world (handle_of c)) (maps.len world)) closed
         ∙ shards.denial_alike hash before are i s at (changes_map c) (handle_of c) (maps.len mine) (maps.len world)
-        ∙ ap (λ b. denial_by (changes_map c) b (maps.get mine (handle_of c)) (maps.len mine)) (sym opens_none)
+        ∙ ap (λ b. denial_by (changes_map c) b (maps.get mine (handle_of c)) (maps.len mine)) (sym closed)
 
     worn_as : is_any_worn_out (concerned hash c before) ≡ is_worn_out s.core
     worn_as = ap is_any_worn_out concerns ∙ or_false (is_worn_out s.core)
@@ -162,16 +163,44 @@ module _ (hash : HashKind) (before : List MapState) (are : AreShards hash before
     abbrev Comes : Replied → Type 0
     Comes told = ChangesAll hash before c told next × AreNext
 
+    effect_here : (o : Option ℕ) (answer : Reply) (last : HandleMap) → effect_among (hash_of s.core.limits.hash) mine c o ≡ Some (answer, last) →
+        effect_among (hash_of hash) mine c o ≡ Some (answer, last)
+    effect_here o answer last e = ap (λ k. effect_among (hash_of k) mine c o) (sym (shards.hash_is hash before are i s at)) ∙ e
+
     by_reply : (answer : Reply) → IsBegun s c → Answers s c answer t → Comes (Ok answer)
     by_reply reply.NoSlots b p = (
-      (begun b.0 b.1, subst (LackSlots c) (sym concerns) p.0, (shards.limits_after hash before are i s at t p.1.0, shards.world_stays hash before are i s at t p.1.1)),
-      shards.shards_stay hash before are i s at t p.1.0 p.1.1,
+      (
+        begun b.0 b.1,
+        subst (LackSlots c) (sym concerns) p.0,
+        (
+          shards.limits_after hash before are i s at t p.1.0,
+          shards.last_after hash before are i s at t p.1.1,
+          shards.world_stays hash before are i s at t p.1.2,
+        ),
+      ),
+      shards.shards_stay hash before are i s at t p.1.0 p.1.1 p.1.2,
     )
-    by_reply answer b (opens, last, e, becomes) =
-        let e_here : effect_among (hash_of hash) mine c opens ≡ Some (answer, last) =
-        ap (λ k. effect_among (hash_of k) mine c opens) (sym (shards.hash_is hash before are i s at)) ∙ e in
-        let t = turned_by h f alike becomes.0 answer last (sym (does mine opens) ∙ e_here) becomes.1 in
-        ((begun b.0 b.1, (opens, t.last, does world opens ∙ t.effect, (shards.limits_after hash before are i s at _ becomes.0, t.there))), t.shards_are)
+    by_reply (reply.Opened copy) b (number, (last, e, has)) =
+        let (m, there, told, to) = says mine h f (reply.Opened copy) last (sym (does mine (Some copy)) ∙ effect_here (Some copy) (reply.Opened copy) last e) in
+        absurd (opens m copy (sym told))
+    by_reply answer b p =
+        let turns = turned_by h f alike p.3.0 p.3.1 answer p.1 (sym (does mine p.0) ∙ effect_here p.0 answer p.1 p.2) p.3.2 in (
+          (
+            begun b.0 b.1,
+            subst (IsNoneTight c) (sym concerns) tt,
+            (
+              p.0,
+              turns.last,
+              does world p.0 ∙ turns.effect,
+              (
+                shards.limits_after hash before are i s at t p.3.0,
+                shards.last_after hash before are i s at t p.3.1,
+                turns.there,
+              ),
+            ),
+          ),
+          turns.shards_are,
+        )
 
     unchanged : t ≡ s → AreNext
     unchanged same = subst (AreShards hash) (sym (shards.same_after hash before are i s at t same)) are
@@ -221,32 +250,32 @@ module _ (hash : HashKind) (before : List MapState) (are : AreShards hash before
       subst (λ k. Whole (call.Get h k) told) (sym same) (reads h told (subst (λ k. Calls told s (call.Get h k) t) same p) works)
   key_call_answers (call.Put h q v) e told p works =
       let same : q ≡ k = same_Some q k e in
-      answers_so (call.Put h q v) h (λ m. put_in (hash_of hash) m q v) e refl refl refl (λ w o. refl)
+      answers_so (call.Put h q v) h (λ m. put_in (hash_of hash) m q v) e refl refl refl (opens_none (hash_of hash) (call.Put h q v)) (λ w o. refl)
       (subst (λ q. ActsAlike (λ m. put_in (hash_of hash) m q v)) (sym same)
       (λ all own alike. puts (hash_of hash) place (λ q k e. ap (shard_of (length before)) e) i k here all own alike v)) told p works
   key_call_answers (call.PutIfAbsent h q v) e told p works =
       let same : q ≡ k = same_Some q k e in
-      answers_so (call.PutIfAbsent h q v) h (λ m. put_if_absent_in (hash_of hash) m q v) e refl refl refl (λ w o. refl)
+      answers_so (call.PutIfAbsent h q v) h (λ m. put_if_absent_in (hash_of hash) m q v) e refl refl refl (opens_none (hash_of hash) (call.PutIfAbsent h q v)) (λ w o. refl)
       (subst (λ q. ActsAlike (λ m. put_if_absent_in (hash_of hash) m q v)) (sym same)
       (λ all own alike. puts_if_absent (hash_of hash) place (λ q k e. ap (shard_of (length before)) e) i k here all own alike v)) told p works
   key_call_answers (call.Replace h q v) e told p works =
       let same : q ≡ k = same_Some q k e in
-      answers_so (call.Replace h q v) h (λ m. replace_in m q v) e refl refl refl (λ w o. refl)
+      answers_so (call.Replace h q v) h (λ m. replace_in m q v) e refl refl refl (opens_none (hash_of hash) (call.Replace h q v)) (λ w o. refl)
       (subst (λ q. ActsAlike (λ m. replace_in m q v)) (sym same)
       (λ all own alike. replaces (hash_of hash) place (λ q k e. ap (shard_of (length before)) e) i k here all own alike v)) told p works
   key_call_answers (call.ReplaceIf h q a b) e told p works =
       let same : q ≡ k = same_Some q k e in
-      answers_so (call.ReplaceIf h q a b) h (λ m. replace_if_in m q a b) e refl refl refl (λ w o. refl)
+      answers_so (call.ReplaceIf h q a b) h (λ m. replace_if_in m q a b) e refl refl refl (opens_none (hash_of hash) (call.ReplaceIf h q a b)) (λ w o. refl)
       (subst (λ q. ActsAlike (λ m. replace_if_in m q a b)) (sym same)
       (λ all own alike. replaces_if (hash_of hash) place (λ q k e. ap (shard_of (length before)) e) i k here all own alike a b)) told p works
   key_call_answers (call.Remove h q) e told p works =
       let same : q ≡ k = same_Some q k e in
-      answers_so (call.Remove h q) h (λ m. remove_in m q) e refl refl refl (λ w o. refl)
+      answers_so (call.Remove h q) h (λ m. remove_in m q) e refl refl refl (opens_none (hash_of hash) (call.Remove h q)) (λ w o. refl)
       (subst (λ q. ActsAlike (λ m. remove_in m q)) (sym same)
       (λ all own alike. removes (hash_of hash) place (λ q k e. ap (shard_of (length before)) e) i k here all own alike)) told p works
   key_call_answers (call.RemoveIf h q v) e told p works =
       let same : q ≡ k = same_Some q k e in
-      answers_so (call.RemoveIf h q v) h (λ m. remove_if_in m q v) e refl refl refl (λ w o. refl)
+      answers_so (call.RemoveIf h q v) h (λ m. remove_if_in m q v) e refl refl refl (opens_none (hash_of hash) (call.RemoveIf h q v)) (λ w o. refl)
       (subst (λ q. ActsAlike (λ m. remove_if_in m q v)) (sym same)
       (λ all own alike. removes_if (hash_of hash) place (λ q k e. ap (shard_of (length before)) e) i k here all own alike v)) told p works
   key_call_answers (call.Clear h) e told p works = cc

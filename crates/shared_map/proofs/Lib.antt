@@ -27,6 +27,7 @@ mod Replays
 mod New
 mod Slots
 mod OneMap
+mod MapOfShards
 mod Seated
 mod Many
 mod OnePlace

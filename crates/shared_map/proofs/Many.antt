@@ -6,7 +6,7 @@ use Rattle.ctrie_base.specs.declared.hashes.HashKind.TheVariants.{Low, Fold, Wid
 use Rattle.history.specs.declared.calls.Call.{Call}
 use Rattle.history.specs.declared.calls.Call.TheVariants.{Get, Entries, Count}
 use Rattle.history.specs.declared.replies.Reply.{Reply}
-use Rattle.history.specs.declared.replies.Reply.TheVariants.{NoSlots}
+use Rattle.history.specs.declared.replies.Reply.TheVariants.{NoSlots, Opened}
 use Rattle.ctrie_map.specs.declared.errors.MapError.{MapError}
 use Rattle.ctrie_map.specs.declared.errors.MapError.TheVariants.{Full, WornOut}
 use Rattle.ctrie_map.specs.Maps.{MapState}
@@ -57,7 +57,8 @@ module _ (hash : HashKind) (before after : List MapState) where
 
   by_reply : (call : Call) (answer : Reply) → ChangesAll hash before call (Ok answer) after → AreAsMany
   by_reply call NoSlots p = by_limits p.2.0
-  by_reply call answer p = by_limits p.1.3.0
+  by_reply call (Opened copy) p = by_limits p.2.1.2.0
+  by_reply call answer p = by_limits p.2.3.0
 
   by_error : (call : Call) (why : MapError) → ChangesAll hash before call (Err why) after → AreAsMany
   by_error call WornOut p = ap length p.2

@@ -1,6 +1,6 @@
 -- New maps are the shards of one.
 use Rattle.std.proofs.Common.{◌≡◌, inl, inr, ℕ, suc, ◌+◌, ◌≤◌, Bool, true, false, cond, List, []}
-use Rattle.std.proofs.Common.{◌∷◌, ◌++◌, length, Some, None, is_some, nat_cmp, refl, sym, ap, ◌∙◌, arith}
+use Rattle.std.proofs.Common.{◌∷◌, ◌++◌, length, Some, None, is_some, nat_cmp, refl, sym, ap, subst, ◌∙◌, arith}
 use Rattle.std.specs.Cmp.{nat_cmp_total}
 use Rattle.std.specs.Ordering.{eq_by_cmp}
 use Rattle.std.specs.FinMap as maps
@@ -11,18 +11,20 @@ use Rattle.history.specs.Worlds.{HandleMap, first_world}
 use Rattle.ctrie_map.specs.Maps.{IsNew, MapState, RefusesSizes}
 use Rattle.ctrie_map.specs.declared.errors.MapError.{MapError}
 use Rattle.shared_map.specs.Asks.{place_of}
-use Rattle.shared_map.specs.Opening.{AreNew, AreNewMaps, RefusesMaps, RefusesNew}
-use Rattle.shared_map.specs.Shards.{AreHashed, AreShards, worlds_of}
+use Rattle.shared_map.specs.Opening.{AreNew, AreNewMaps, AreShardNumbers, RefusesNew}
+use Rattle.shared_map.specs.Shards.{AreHashed, AreNumbered, AreShards, last_given, worlds_of}
 use Rattle.shared_map.specs.Uniting.{AreOfKinds, AreOwnFrom, kind_of, value_at, value_of}
 use Rattle.shared_map.proofs.United.{shown_as}
 
-abbrev no_handles : HandleMap
+abbrev pub no_handles : HandleMap
 no_handles = maps.empty
+
+pub first_at : (h : ℕ) → maps.get first_world h ≡ cond (eq_by_cmp nat_cmp h 0) (Some (shown_as maps.empty Writable)) (maps.get no_handles h)
+first_at h = maps.get-insert nat_cmp_total maps.empty 0 (shown_as maps.empty Writable) h
 
 -- no key has a value in the first world
 no_value : (h k : ℕ) → value_at first_world h k ≡ None
-no_value h k =
-    ap (value_of k) (maps.get-insert nat_cmp_total maps.empty 0 (shown_as maps.empty Writable) h) ∙ by_test (eq_by_cmp nat_cmp h 0)
+no_value h k = ap (value_of k) (first_at h) ∙ by_test (eq_by_cmp nat_cmp h 0)
   where
     by_test : (b : Bool) → value_of k (cond b (Some (shown_as maps.empty Writable)) (maps.get no_handles h)) ≡ None
     by_test true = maps.get-empty nat_cmp k
@@ -31,7 +33,15 @@ no_value h k =
 module _ (slots : ℕ) (hash : HashKind) where
   hashed : (ms : List MapState) → AreNew slots hash ms → AreHashed hash ms
   hashed [] new = tt
-  hashed (m ∷ ms) new = (new.0.0, hashed ms new.1)
+  hashed (m ∷ ms) new = (ap (λ (l : _). l.hash) new.0.0, hashed ms new.1)
+
+  numbered : (ms : List MapState) → AreNew slots hash ms → AreNumbered 0 ms
+  numbered [] new = tt
+  numbered (m ∷ ms) new = (new.0.1, numbered ms new.1)
+
+  first_last : (ms : List MapState) → AreNew slots hash ms → last_given ms ≡ 0
+  first_last [] new = refl
+  first_last (m ∷ ms) new = new.0.1
 
   alike : (ms : List MapState) → AreNew slots hash ms → AreOfKinds (λ h. kind_of (maps.get first_world h)) (worlds_of ms)
   alike [] new = tt
@@ -51,6 +61,7 @@ module _ (slots : ℕ) (hash : HashKind) where
     few = omega (arith, few, new.1);
     hashed = hashed ms new.0;
     alike = alike ms new.0;
+    numbered = subst (λ n. AreNumbered n ms) (sym (first_last ms new.0)) (numbered ms new.0);
     own = own (place_of hash (length ms)) 0 ms new.0;
   }
 
@@ -65,10 +76,6 @@ module _ (slots : ℕ) (hash : HashKind) where
   pub one_more_new : (n : ℕ) (ms : List MapState) (m : MapState) → AreNewMaps slots hash n ms → IsNew slots hash m → AreNewMaps slots hash (n + 1) (ms ++ m ∷ [])
   one_more_new n ms m new one = (more ms m new.0 one, (let long = longer ms m in omega (arith, long, new.1)))
 
-pub refused_sizes : (slots : ℕ) (error : MapError) → RefusesSizes slots error → RefusesMaps slots error
-refused_sizes slots error (inl bad) = inl bad
-refused_sizes slots error (inr none) = inr none.1
-
-pub refused_maps : (slots shards : ℕ) (error : MapError) → RefusesMaps slots error → RefusesNew slots shards error
-refused_maps slots shards error (inl bad) = inl (inl bad.0, bad.1)
-refused_maps slots shards error (inr none) = inr none
+pub refused_maps : (slots shards : ℕ) (error : MapError) → AreShardNumbers shards → RefusesSizes slots error → RefusesNew slots shards error
+refused_maps slots shards error few (inl bad) = inl (inl bad.0, bad.1)
+refused_maps slots shards error few (inr none) = inr (none.0, few, none.1)

@@ -4,7 +4,7 @@ use Rattle.std.proofs.Common.{false, List, [], ◌∷◌, length, map, Option, S
 use Rattle.std.proofs.Common.{option_map, Ok, refl, sym, ap, subst, ◌∙◌, arith, slice_get, slice_set, mod-lt}
 use Rattle.std.specs.FinMap as maps
 use Rattle.std.proofs.lemmas.List.Sums.{sum_by-set}
-use Rattle.std.proofs.lemmas.Option.{get_or_from_slice_get, slice_get-map, slice_get_within}
+use Rattle.std.proofs.lemmas.Option.{get_or_from_slice_get, same_Some, slice_get-map, slice_get_within}
 use Rattle.ctrie_base.specs.Hashes.{hash_of}
 use Rattle.ctrie_base.specs.declared.hashes.HashKind.{HashKind}
 use Rattle.history.specs.Worlds.{HandleMap, HandleState, KeyMap}
@@ -14,11 +14,11 @@ use Rattle.ctrie_map.specs.Maps.{MapState, handles_of}
 use Rattle.ctrie_map.specs.Reading.{read_of}
 use Rattle.shared_map.specs.Answering.{WorkUpTo}
 use Rattle.shared_map.specs.Asks.{place_of}
-use Rattle.shared_map.specs.Shards.{AreHashed, AreShards, world_of_all, worlds_of}
+use Rattle.shared_map.specs.Shards.{AreHashed, AreNumbered, AreShards, last_given, world_of_all, worlds_of}
 use Rattle.shared_map.specs.Uniting.{AreOfKinds, AreOwnFrom, kind_of, united, united_at, value_at}
 use Rattle.shared_map.proofs.Places.{map_set, set_found}
 use Rattle.shared_map.proofs.Turned.{kind_at, kinds_set, own_at, own_set, united_shows}
-use Rattle.shared_map.proofs.United.{has_at, length_mapped, shown_as}
+use Rattle.shared_map.proofs.United.{has_at, length_mapped, shown_as, shown_kind}
 
 length_set : {X : Type 0} (xs : List X) (i : ℕ) (x : X) → length (slice_set xs i x) ≡ length xs
 length_set [] i x = refl
@@ -38,6 +38,21 @@ hashed_set : (hash : HashKind) (ss : List MapState) (i : ℕ) (t : MapState) →
 hashed_set hash [] i t are is = tt
 hashed_set hash (x ∷ ss) zero t are is = (is, are.1)
 hashed_set hash (x ∷ ss) (suc i) t are is = (are.0, hashed_set hash ss i t are.1 is)
+
+numbered_at : (last : ℕ) (ss : List MapState) (i : ℕ) (s : MapState) → AreNumbered last ss → slice_get ss i ≡ Some s → s.names.last ≡ last
+numbered_at last [] i s are at = cc
+numbered_at last (x ∷ ss) zero s are at = ap (λ (s : MapState). s.names.last) (sym (same_Some x s at)) ∙ are.0
+numbered_at last (x ∷ ss) (suc i) s are at = numbered_at last ss i s are.1 at
+
+numbered_set : (last : ℕ) (ss : List MapState) (i : ℕ) (t : MapState) → AreNumbered last ss → t.names.last ≡ last → AreNumbered last (slice_set ss i t)
+numbered_set last [] i t are is = tt
+numbered_set last (x ∷ ss) zero t are is = (is, are.1)
+numbered_set last (x ∷ ss) (suc i) t are is = (are.0, numbered_set last ss i t are.1 is)
+
+last_set : (ss : List MapState) (i : ℕ) (t : MapState) → t.names.last ≡ last_given ss → last_given (slice_set ss i t) ≡ last_given ss
+last_set [] i t is = refl
+last_set (x ∷ ss) zero t is = is
+last_set (x ∷ ss) (suc i) t is = refl
 
 -- a call that opens no handle is denied by the kind of its handle alone
 pub denied_alike : (writes : Bool) (one other : ℕ) (m : KeyMap) (o : Option HandleState) →
@@ -65,6 +80,9 @@ module _ (hash : HashKind) (before : List MapState) (are : AreShards hash before
   pub shown_in_all : (h : ℕ) → maps.get (world_of_all before) h ≡ option_map (shown_as (united_at worlds h)) (are.kinds h)
   shown_in_all h = united_shows are.kinds worlds any are.alike h
 
+  pub kind_in_all : (h : ℕ) → kind_of (maps.get (world_of_all before) h) ≡ are.kinds h
+  kind_in_all h = ap kind_of (shown_in_all h) ∙ shown_kind (united_at worlds h) (are.kinds h)
+
   module _ (i : ℕ) (s : MapState) (at : slice_get before i ≡ Some s) where
     pub world_at : slice_get worlds i ≡ Some (handles_of s)
     world_at = slice_get-map handles_of before i ∙ ap (option_map handles_of) at
@@ -77,6 +95,9 @@ module _ (hash : HashKind) (before : List MapState) (are : AreShards hash before
 
     pub hash_is : s.core.limits.hash ≡ hash
     hash_is = hashed_at hash before i s are.hashed at
+
+    pub last_is : s.names.last ≡ last_given before
+    last_is = numbered_at (last_given before) before i s are.numbered at
 
     pub kind_is : (h : ℕ) → kind_of (maps.get (handles_of s) h) ≡ are.kinds h
     kind_is h = kind_at are.kinds worlds i (handles_of s) are.alike world_at h
@@ -116,15 +137,20 @@ module _ (hash : HashKind) (before : List MapState) (are : AreShards hash before
       pub any_after : 1 ≤ length (slice_set worlds i (handles_of t))
       any_after = let e = length_set worlds i (handles_of t) in omega (arith, e, any)
 
+      -- it has given no number
+      pub last_after : t.names.last ≡ s.names.last → last_given after ≡ last_given before
+      last_after same = last_set before i t (same ∙ last_is)
+
       -- the kinds of its handles are as before, and its keys are its own
-      pub shards_after : t.core.limits ≡ s.core.limits → ((h : ℕ) → kind_of (maps.get (handles_of t) h) ≡ are.kinds h) →
+      pub shards_after : t.core.limits ≡ s.core.limits → t.names.last ≡ s.names.last → ((h : ℕ) → kind_of (maps.get (handles_of t) h) ≡ are.kinds h) →
           ((h k : ℕ) → IsSome (value_at (handles_of t) h k) → place k ≡ i) → AreShards hash after
-      shards_after limits kinds own = record {
+      shards_after limits last kinds own = record {
         kinds = are.kinds;
         some = (let e = length_set before i t in omega (arith, e, are.some));
         few = (let e = length_set before i t in omega (arith, e, are.few));
         hashed = hashed_set hash before i t are.hashed (ap (λ (l : _). l.hash) limits ∙ hash_is);
         alike = subst (AreOfKinds are.kinds) (sym worlds_after) (kinds_set are.kinds worlds i (handles_of t) are.alike kinds);
+        numbered = subst (λ n. AreNumbered n after) (sym (last_after last)) (numbered_set (last_given before) before i t are.numbered (last ∙ last_is));
         own = subst (λ n. AreOwnFrom (place_of hash n) 0 (worlds_of after)) (sym (length_set before i t))
             (subst (AreOwnFrom place 0) (sym worlds_after)
             (own_set place 0 worlds i (handles_of t) are.own (λ h k some. let e = own h k some in omega (arith, e))));
@@ -144,9 +170,9 @@ module _ (hash : HashKind) (before : List MapState) (are : AreShards hash before
       world_stays same =
           ap united (worlds_after ∙ ap (slice_set worlds i) same ∙ set_found worlds i (handles_of s) world_at)
 
-      pub shards_stay : t.core.limits ≡ s.core.limits → handles_of t ≡ handles_of s → AreShards hash after
-      shards_stay limits same =
-          shards_after limits (λ h. ap (λ w. kind_of (maps.get w h)) same ∙ kind_is h)
+      pub shards_stay : t.core.limits ≡ s.core.limits → t.names.last ≡ s.names.last → handles_of t ≡ handles_of s → AreShards hash after
+      shards_stay limits last same =
+          shards_after limits last (λ h. ap (λ w. kind_of (maps.get w h)) same ∙ kind_is h)
           (λ h k some. own_here h k (subst (λ w. IsSome (value_at w h k)) same some))
 
       pub works_after : (most : ℕ) → WorksUpTo most s t → WorkUpTo most before after

@@ -17,10 +17,11 @@ use Rattle.ctrie_map.specs.Cores.{is_worn_out}
 use Rattle.ctrie_map.specs.Costs.{WorksUpTo, work_of_call}
 use Rattle.ctrie_map.specs.declared.errors.MapError.{MapError}
 use Rattle.ctrie_map.specs.declared.errors.MapError.TheVariants as error
-use Rattle.ctrie_map.specs.Maps.{Becomes, MapState, handles_of}
-use Rattle.ctrie_map.specs.Performing.{Performs, effect_among}
+use Rattle.ctrie_map.specs.Maps.{HasThen, MapState, handles_of}
+use Rattle.ctrie_map.specs.Names.{IsNext}
+use Rattle.ctrie_map.specs.Performing.{EffectAmong, Performs, effect_among}
 use Rattle.ctrie_map.specs.Reading.{read_of}
-use Rattle.shared_map.specs.Answering.{AreBegun, Become, CallsAll, ChangesAll, RepliesAll, WorkUpTo}
+use Rattle.shared_map.specs.Answering.{AreBegun, CallsAll, ChangesAll, HaveThen, RepliesAll, WorkUpTo}
 use Rattle.shared_map.specs.Asks.{Replied, key_in, place_of}
 use Rattle.shared_map.specs.Laws.{OneShardIsAMap}
 use Rattle.shared_map.specs.Shards.{LackSlots, concerned, is_any_worn_out, those_at, world_of_all}
@@ -53,10 +54,10 @@ module _ (s : MapState) where
   denial_is c = ap (λ w. denial_among w c) world_is
 
   -- what becomes of it
-  become : (world : HandleMap) (after : List MapState) → Become before world after → (t : MapState) × (after ≡ t ∷ []) × Becomes s world t
-  become world [] p = absurd (let none = ap length p.0 in omega (arith, none))
-  become world (t ∷ []) p = (t, refl, (same_Some t.core.limits s.core.limits (ap (λ ls. slice_get ls 0) p.0), sym (united_one (handles_of t)) ∙ p.1))
-  become world (t ∷ u ∷ us) p = absurd (let more = ap length p.0 in omega (arith, more))
+  become : (world : HandleMap) (last : ℕ) (after : List MapState) → HaveThen before world last after → (t : MapState) × (after ≡ t ∷ []) × HasThen s world last t
+  become world last [] p = absurd (let none = ap length p.0 in omega (arith, none))
+  become world last (t ∷ []) p = (t, refl, (same_Some t.core.limits s.core.limits (ap (λ ls. slice_get ls 0) p.0), p.1, sym (united_one (handles_of t)) ∙ p.2))
+  become world last (t ∷ u ∷ us) p = absurd (let more = ap length p.0 in omega (arith, more))
 
   works : (t : MapState) (c : Call) → WorkUpTo (length (concerned hash c before) * work_of_call c) before (t ∷ []) → WorksUpTo (work_of_call c) s t
   works t c w =
@@ -75,13 +76,20 @@ module _ (s : MapState) where
     begun : AreBegun hash before c → (denial_among (handles_of s) c ≡ None) × (is_worn_out s.core ≡ false)
     begun p = (sym (denial_is c) ∙ p.0, sym (worn_is c) ∙ p.1)
 
+    effect_is : (opens : Option ℕ) (answer : Reply) (next : HandleMap) → EffectAmong (hash_of hash) (world_of_all before) c opens answer next →
+        EffectAmong (hash_of hash) (handles_of s) c opens answer next
+    effect_is opens answer next effect = ap (λ w. effect_among (hash_of hash) w c opens) (sym world_is) ∙ effect
+
     by_reply : (answer : Reply) → ChangesAll hash before c (Ok answer) after → Does (Ok answer)
     by_reply reply.NoSlots p =
-        let (t, is, becomes) = become (world_of_all before) after p.2 in
-        (t, is, (begun p.0, (subst (λ xs. LackSlots c xs) (about c) p.1, (becomes.0, becomes.1 ∙ world_is))))
-    by_reply answer (b, (opens, next, effect, became)) =
-        let (t, is, becomes) = become next after became in
-        (t, is, (begun b, (opens, next, ap (λ w. effect_among (hash_of hash) w c opens) (sym world_is) ∙ effect, becomes)))
+        let (t, is, stays) = become (world_of_all before) s.names.last after p.2 in
+        (t, is, (begun p.0, (subst (λ xs. LackSlots c xs) (about c) p.1, (stays.0, stays.1, stays.2 ∙ world_is))))
+    by_reply (reply.Opened copy) (b, roomy, (number, (next, effect, then))) =
+        let (t, is, has) = become next copy after then in
+        (t, is, (begun b, (subst (λ w. IsNext s.names.last w copy) world_is number, (next, effect_is (Some copy) (reply.Opened copy) next effect, has))))
+    by_reply answer p =
+        let (t, is, becomes) = become p.2.1 s.names.last after p.2.3 in
+        (t, is, (begun p.0, (p.2.0, p.2.1, effect_is p.2.0 answer p.2.1 p.2.2, becomes)))
 
     by_error : (why : MapError) → ChangesAll hash before c (Err why) after → Does (Err why)
     by_error error.WornOut p = (s, p.2, (sym (denial_is c) ∙ p.0, sym (worn_is c) ∙ p.1, refl))

@@ -1,6 +1,6 @@
 -- A map in one shard answers as this shard alone.
 use Rattle.std.proofs.Common.{◌≡◌, ℕ, ◌*◌, Bool, true, false, ◌||◌, List, [], ◌∷◌}
-use Rattle.std.proofs.Common.{length, map, None, Ok, Err, refl, sym, ap, subst, ◌∙◌, arith, one-mul}
+use Rattle.std.proofs.Common.{length, map, Option, Some, None, Ok, Err, refl, sym, ap, subst, ◌∙◌, arith, one-mul}
 use Rattle.std.specs.FinMap as maps
 use Rattle.std.proofs.lemmas.List.Sums.{sum_by-cons}
 use Rattle.ctrie_base.specs.Hashes.{hash_of}
@@ -9,6 +9,7 @@ use Rattle.history.specs.declared.calls.Call.{Call}
 use Rattle.history.specs.declared.calls.Call.TheVariants as call
 use Rattle.history.specs.declared.replies.Reply.{Reply}
 use Rattle.history.specs.declared.replies.Reply.TheVariants as reply
+use Rattle.history.specs.Worlds.{HandleMap}
 use Rattle.ctrie_map.specs.Calling.{Calls, IsRead}
 use Rattle.ctrie_map.specs.Changes.{denial_among}
 use Rattle.ctrie_map.specs.Cores.{is_worn_out}
@@ -16,11 +17,12 @@ use Rattle.ctrie_map.specs.Costs.{WorksUpTo, work_of_call}
 use Rattle.ctrie_map.specs.declared.errors.MapError.{MapError}
 use Rattle.ctrie_map.specs.declared.errors.MapError.TheVariants as error
 use Rattle.ctrie_map.specs.Maps.{MapState, handles_of}
-use Rattle.ctrie_map.specs.Performing.{Answers, IsBegun, Performs, effect_among}
+use Rattle.ctrie_map.specs.Names.{IsNext}
+use Rattle.ctrie_map.specs.Performing.{Answers, EffectAmong, IsBegun, Performs, effect_among}
 use Rattle.ctrie_map.specs.Reading.{read_of}
 use Rattle.shared_map.specs.Answering.{CallsAll, ChangesAll, RepliesAll, WorkUpTo}
 use Rattle.shared_map.specs.Asks.{Replied, key_in}
-use Rattle.shared_map.specs.Shards.{AreShards, LackSlots, concerned, is_any_worn_out, world_of_all}
+use Rattle.shared_map.specs.Shards.{AreShards, IsNoneTight, LackSlots, concerned, is_any_worn_out, world_of_all}
 use Rattle.shared_map.specs.Uniting.{kind_of}
 use Rattle.shared_map.proofs.OnePlace.{only_place}
 use Rattle.shared_map.proofs.United.{united_one}
@@ -33,6 +35,7 @@ one_is s = record {
   few = omega arith;
   hashed = (refl, tt);
   alike = ((λ h. refl), tt);
+  numbered = (refl, tt);
   own = ((λ h k some. only_place s.core.limits.hash k), tt);
 }
 
@@ -73,26 +76,43 @@ module _ (hash : HashKind) (s t : MapState) (hash_is : s.core.limits.hash ≡ ha
     denial_is : denial_among (world_of_all before) c ≡ denial_among (handles_of s) c
     denial_is = ap (λ w. denial_among w c) world_is
 
+    effect_is : (opens : Option ℕ) (answer : Reply) (next : HandleMap) → EffectAmong (hash_of s.core.limits.hash) (handles_of s) c opens answer next →
+        EffectAmong (hash_of hash) (world_of_all before) c opens answer next
+    effect_is opens answer next effect =
+        ap (λ w. effect_among (hash_of hash) w c opens) world_is ∙ ap (λ h. effect_among (hash_of h) (handles_of s) c opens) (sym hash_is) ∙ effect
+
     by_reply : (answer : Reply) → IsBegun s c → Answers s c answer t → ChangesAll hash before c (Ok answer) after × (t.core.limits ≡ s.core.limits)
     by_reply reply.NoSlots begun p = (
       (
         (denial_is ∙ begun.0, ap (λ xs. is_any_worn_out xs) about ∙ or_none (is_worn_out s.core) ∙ begun.1),
         subst (λ xs. LackSlots c xs) (sym about) p.0,
-        (limits_are p.1.0, world_then ∙ p.1.1 ∙ sym world_is),
+        (limits_are p.1.0, p.1.1, world_then ∙ p.1.2 ∙ sym world_is),
       ),
       p.1.0,
     )
-    by_reply answer begun (opens, next, effect, becomes) = (
+    by_reply (reply.Opened copy) begun (number, (next, effect, has)) = (
       (
         (denial_is ∙ begun.0, ap (λ xs. is_any_worn_out xs) about ∙ or_none (is_worn_out s.core) ∙ begun.1),
+        subst (λ xs. IsNoneTight c xs) (sym about) tt,
         (
-          opens,
-          next,
-          ap (λ w. effect_among (hash_of hash) w c opens) world_is ∙ ap (λ h. effect_among (hash_of h) (handles_of s) c opens) (sym hash_is) ∙ effect,
-          (limits_are becomes.0, world_then ∙ becomes.1),
+          subst (λ w. IsNext s.names.last w copy) (sym world_is) number,
+          (next, effect_is (Some copy) (reply.Opened copy) next effect, (limits_are has.0, has.1, world_then ∙ has.2)),
         ),
       ),
-      becomes.0,
+      has.0,
+    )
+    by_reply answer begun p = (
+      (
+        (denial_is ∙ begun.0, ap (λ xs. is_any_worn_out xs) about ∙ or_none (is_worn_out s.core) ∙ begun.1),
+        subst (λ xs. IsNoneTight c xs) (sym about) tt,
+        (
+          p.0,
+          p.1,
+          effect_is p.0 answer p.1 p.2,
+          (limits_are p.3.0, p.3.1, world_then ∙ p.3.2),
+        ),
+      ),
+      p.3.0,
     )
 
     by_error : (why : MapError) → Performs (Err why) s c t → ChangesAll hash before c (Err why) after × (t.core.limits ≡ s.core.limits)

@@ -1,11 +1,11 @@
 -- A log of a map in shards replays on finite maps.
-use Rattle.std.proofs.Common.{ℕ, List, [], ◌∷◌, length, Ok, Err, sym, ap, subst, ◌∙◌}
+use Rattle.std.proofs.Common.{ℕ, List, [], ◌∷◌, length, Some, Ok, Err, sym, ap, subst, ◌∙◌}
 use Rattle.ctrie_base.specs.Hashes.{hash_of}
 use Rattle.ctrie_base.specs.declared.hashes.HashKind.{HashKind}
 use Rattle.history.specs.declared.calls.Call.{Call}
 use Rattle.history.specs.declared.calls.Call.TheVariants.{Get, Entries, Count}
 use Rattle.history.specs.declared.replies.Reply.{Reply}
-use Rattle.history.specs.declared.replies.Reply.TheVariants.{NoSlots}
+use Rattle.history.specs.declared.replies.Reply.TheVariants.{NoSlots, Opened}
 use Rattle.ctrie_map.specs.declared.errors.MapError.{MapError}
 use Rattle.ctrie_map.specs.declared.errors.MapError.TheVariants.{Full, WornOut}
 use Rattle.ctrie_map.specs.Maps.{MapState}
@@ -28,8 +28,10 @@ use Rattle.shared_map.proofs.Many.{as_many, as_many_at_last}
 
 module _ (hash : HashKind) (before after : List MapState) where
   reply_shows : (call : Call) (answer : Reply) → ChangesAll hash before call (Ok answer) after → ChangesWorld hash (length before) (world_of_all before) call (Ok answer) (world_of_all after)
-  reply_shows call NoSlots p = (p.0.0, p.2.1)
-  reply_shows call answer p = (p.1.0, subst (λ w. EffectAmong (hash_of hash) (world_of_all before) call p.1.0 answer w) (sym p.1.3.1) p.1.2)
+  reply_shows call NoSlots p = (p.0.0, p.2.2)
+  reply_shows call (Opened copy) (begun, roomy, (number, (next, effect, has))) =
+      (Some copy, subst (λ w. EffectAmong (hash_of hash) (world_of_all before) call (Some copy) (Opened copy) w) (sym has.2) effect)
+  reply_shows call answer p = (p.2.0, subst (λ w. EffectAmong (hash_of hash) (world_of_all before) call p.2.0 answer w) (sym p.2.3.2) p.2.2)
 
   error_shows : (call : Call) (why : MapError) → ChangesAll hash before call (Err why) after → ChangesWorld hash (length before) (world_of_all before) call (Err why) (world_of_all after)
   error_shows call WornOut p = (p.0, ap world_of_all p.2)
@@ -46,12 +48,12 @@ module _ (hash : HashKind) (before after : List MapState) where
   call_shows call told p = change_shows call told p
 
   restore_refused : (h copy : ℕ) (why : MapError) → RestoresAll hash before h copy (Err why) after → RestoresWorld hash (length before) (world_of_all before) h copy (Err why) (world_of_all after)
-  restore_refused h copy Full p = (p.0, p.4.1)
+  restore_refused h copy Full p = (p.0, p.4.2)
   restore_refused h copy WornOut p = (p.0, ap world_of_all p.3)
   restore_refused h copy why p = (p.0, ap world_of_all p.1)
 
   restore_shows : (h copy : ℕ) (told : Told) → RestoresAll hash before h copy told after → RestoresWorld hash (length before) (world_of_all before) h copy told (world_of_all after)
-  restore_shows h copy (Ok told) p = (p.0, subst (RestoresAmong (world_of_all before) h copy) (sym p.3.2.1) p.3.1)
+  restore_shows h copy (Ok told) p = (p.0, subst (RestoresAmong (world_of_all before) h copy) (sym p.3.2.2) p.3.1)
   restore_shows h copy (Err why) p = restore_refused h copy why p
 
   shows : (ask : Ask) (told : Told) → AnswersAll hash before ask told after → Shows hash (length before) (world_of_all before) ask told (world_of_all after)
@@ -90,11 +92,10 @@ pub in_one_order : {S : Type 0} (of : S → Seated (List MapState) Request Told)
 in_one_order of hash room seats made are all =
     let first : AreShards hash all.last.first = subst (AreShards hash) (sym all.first) are in
     let (more, still) = replays hash all.last.first all.last.log all.last.object first all.legal in record {
-      order = all.last.log;
+      gathered = all;
       replays = subst (λ (m : List MapState). Replays hash (length room.first) (world_of_all room.first) all.last.log (world_of_all m)) (sym all.object_is)
           (subst (λ (f : List MapState). Replays hash (length f) (world_of_all f) all.last.log (world_of_all all.last.object)) all.first more);
       own = λ k s at. others_leave_own_calls MapAnswers (of s).number (of s).seen all.last (all.followed k s at);
-      seated = all.calls;
       shards = subst (AreShards hash) (sym all.object_is) still;
       many = ap length all.object_is ∙ as_many_at_last hash all.last.first all.last.log all.last.object first all.legal ∙ ap length all.first;
     }

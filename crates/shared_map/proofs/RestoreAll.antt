@@ -25,7 +25,7 @@ use Rattle.shared_map.specs.Asks.{Told, answer_to_restore, told_as}
 use Rattle.shared_map.specs.Beneath.proof_alone.specs.Calls.{slots_of}
 use Rattle.shared_map.specs.Restores.{RestoresAmong, restore_denial_among, work_of_a_restore}
 use Rattle.shared_map.specs.Restoring.{AreUndenied, ComesTo, IsRestoredAlone, RestoresEach, RestoresOne, restore_denial_from}
-use Rattle.shared_map.specs.Shards.{AreShards, is_any_worn_out_to_restore, world_of_all, worlds_of}
+use Rattle.shared_map.specs.Shards.{AreShards, IsAnyTight, is_any_worn_out_to_restore, last_given, world_of_all, worlds_of}
 use Rattle.shared_map.specs.Turning.{HaveBecome, turned}
 use Rattle.shared_map.specs.Uniting.{AreOfKinds, kind_of, united_at}
 use Rattle.shared_map.specs.Visits.{VisitedEach}
@@ -48,7 +48,7 @@ use Rattle.shared_map.proofs.United.{same_len, same_world, shown_as}
 
 pub each_restored : (h copy : ℕ) (before after : Restoring) (ss ts : List MapState) → before.handle ≡ h → before.copy ≡ copy → VisitedEach RestoresOne before ss after ts →
     is_any_worn_out_to_restore ss ≡ false → is_any_tight (slots_of (Snapshot copy)) ss ≡ false → AreUndenied h copy ss →
-    HaveBecome (turned (turn.Copy copy h Writable)) work_of_a_restore ss ts
+    HaveBecome (turned (turn.Copy copy h Writable)) (λ last. last) work_of_a_restore ss ts
 each_restored h copy before after [] [] on from each life roomy none = tt
 each_restored h copy before after [] (t ∷ ts) on from each life roomy none = absurd each
 each_restored h copy before after (s ∷ ss) [] on from each life roomy none = absurd each
@@ -129,12 +129,8 @@ module _ (hash : HashKind) (before : List MapState) (are : AreShards hash before
   abbrev world : HandleMap
   world = world_of_all before
 
-  shown_kind : (m : KeyMap) (o : Option Access) → kind_of (option_map (shown_as m) o) ≡ o
-  shown_kind m None = refl
-  shown_kind m (Some a) = refl
-
-  world_kinds : (g : ℕ) → kind_of (maps.get world g) ≡ are.kinds g
-  world_kinds g = ap kind_of (shards.shown_in_all hash before are g) ∙ shown_kind (united_at (worlds_of before) g) (are.kinds g)
+  abbrev world_kinds : (g : ℕ) → kind_of (maps.get world g) ≡ are.kinds g
+  world_kinds = shards.kind_in_all hash before are
 
   -- the denial is that which the first shard tells
   pub denial_is : (source : Knowing) → KnowsFirst source before → first.handle ≡ h → source.handle ≡ copy →
@@ -189,38 +185,43 @@ module _ (hash : HashKind) (before : List MapState) (are : AreShards hash before
           (
             naming world h Writable o.m,
             (shown_as o.m Writable, (o.m, o.has), shown, refl),
-            (ap (map (λ (s : MapState). s.core.limits)) same, ap world_of_all same ∙ sym (naming_same world h o.m o.has)),
+            (ap (map (λ (s : MapState). s.core.limits)) same, ap last_given same, ap world_of_all same ∙ sym (naming_same world h o.m o.has)),
           ),
         )
 
     -- that of the other one, in each shard
-    another : h ≢ copy → is_any_worn_out_to_restore before ≡ false → HaveBecome (turned (turn.Copy copy h Writable)) work_of_a_restore before after →
+    another : h ≢ copy → is_any_worn_out_to_restore before ≡ false → ¬ IsAnyTight (Snapshot copy) before →
+        HaveBecome (turned (turn.Copy copy h Writable)) (λ last. last) work_of_a_restore before after →
         Whole (Ok answer.Restored)
-    another apart life have =
+    another apart life roomy have =
         let o = are_open in
         let kind : are.kinds h ≡ Some Writable = sym (world_kinds h) ∙ ap kind_of o.has in
         let source : are.kinds copy ≡ Some o.shown.access = sym (world_kinds copy) ∙ ap kind_of o.there in
         let m = united_at (worlds_of before) copy in
-        let there = all.copy_there hash before after are copy h Writable are.kinds kind (λ g apart. refl) work_of_a_restore have in (
+        let there = all.copy_there hash before after are copy h Writable are.kinds kind (λ g apart. refl) (λ last. last) work_of_a_restore have in (
           (
             (
               refl,
               (λ same. absurd (apart same)),
-              (λ _. life),
+              (λ _. (life, answers.many_have hash before are first knows (Snapshot copy) before many roomy)),
               (
                 naming world h Writable m,
                 (shown_as m o.shown.access, (o.m, o.has), shards.shown_in_all hash before are copy ∙ ap (option_map (shown_as m)) source, refl),
-                (all.become_limits (turned (turn.Copy copy h Writable)) work_of_a_restore before after have, there),
+                (
+                  all.become_limits (turned (turn.Copy copy h Writable)) (λ last. last) work_of_a_restore before after have,
+                  all.become_last (turned (turn.Copy copy h Writable)) (λ last. last) work_of_a_restore before after are.some have,
+                  there,
+                ),
               ),
             ),
-            all.become_works (turned (turn.Copy copy h Writable)) work_of_a_restore before after have,
+            all.become_works (turned (turn.Copy copy h Writable)) (λ last. last) work_of_a_restore before after have,
           ),
-          all.copy_shards hash before after are copy h Writable are.kinds kind (λ g apart. refl) work_of_a_restore have,
+          all.copy_shards hash before after are copy h Writable are.kinds kind (λ g apart. refl) (λ last. last) work_of_a_restore have,
         )
 
     done : (told : _) → RestoresEach h copy before (Ok told) after → (h ≡ copy) ⊎ (h ≢ copy) → Whole (Ok told)
     done told p (inl same) = subst (λ t. Whole (Ok t)) (sym p.0) (itself same (p.1 same))
-    done told p (inr apart) = subst (λ t. Whole (Ok t)) (sym p.0) (another apart (p.2 apart) (p.3 apart (undenied_each none before are.alike)))
+    done told p (inr apart) = subst (λ t. Whole (Ok t)) (sym p.0) (another apart (p.2 apart).0 (p.2 apart).1 (p.3 apart (undenied_each none before are.alike)))
 
     pub restores_answer : (told : Told) → RestoresEach h copy before told after → Whole told
     restores_answer (Ok told) p = done told p (cases_eq h copy)
@@ -231,7 +232,7 @@ module _ (hash : HashKind) (before : List MapState) (are : AreShards hash before
           p.0,
           p.1,
           answers.many_lack hash before are first knows (Snapshot copy) before many p.2,
-          (ap (map (λ (s : MapState). s.core.limits)) p.3, ap world_of_all p.3),
+          (ap (map (λ (s : MapState). s.core.limits)) p.3, ap last_given p.3, ap world_of_all p.3),
         )
     restores_answer (Err why) p = absurd p
 
@@ -252,7 +253,7 @@ module _ (hash : HashKind) (s t : MapState) (hash_is : s.core.limits.hash ≡ ha
       life.0,
       one.or_none (is_worn_out_to_restore s) ∙ life.1,
       p.1,
-      (one.limits_are hash s t hash_is p.2.0, one.world_then hash s t hash_is ∙ p.2.1 ∙ sym (one.world_is hash s t hash_is)),
+      (one.limits_are hash s t hash_is p.2.0, p.2.1, one.world_then hash s t hash_is ∙ p.2.2 ∙ sym (one.world_is hash s t hash_is)),
     ),
     p.2.0,
   )
@@ -269,11 +270,11 @@ module _ (hash : HashKind) (s t : MapState) (hash_is : s.core.limits.hash ≡ ha
         (
           refl,
           (λ same. ap (λ x. x ∷ []) (p.1 same)),
-          (λ apart. one.or_none (is_worn_out_to_restore s) ∙ p.3 apart),
+          (λ apart. (one.or_none (is_worn_out_to_restore s) ∙ p.3 apart, tt)),
           (
             naming (handles_of s) h Writable shown.pairs,
             among (naming (handles_of s) h Writable shown.pairs) (shown, writable, at, refl),
-            (one.limits_are hash s t hash_is becomes.0, one.world_then hash s t hash_is ∙ becomes.1),
+            (one.limits_are hash s t hash_is becomes.0, becomes.1, one.world_then hash s t hash_is ∙ becomes.2),
           ),
         ),
         becomes.0,

@@ -24,8 +24,8 @@ module _ (s t : MapState) (h copy : ℕ) (none : restore_denial s h copy ≡ Non
   never error p = not_both (restore_denial s h copy) error none p.0
 
   pub becomes_copy : (told : Result (Unit {0}) MapError) → ComesTo s h copy told t → WorksUpTo work_of_a_restore s t →
-      HasBecome (turned (turn.Copy copy h Writable)) work_of_a_restore s t
+      HasBecome (turned (turn.Copy copy h Writable)) (λ last. last) work_of_a_restore s t
   becomes_copy (Ok done) p works =
       let (shown, writable, at, becomes) = p.0 in
-      record { limits = becomes.0; handles = becomes.1 ∙ ap (naming (handles_of s) h Writable) (sym (ap map_shown at)); work = works }
+      record { limits = becomes.0; last = becomes.1; handles = becomes.2 ∙ ap (naming (handles_of s) h Writable) (sym (ap map_shown at)); work = works }
   becomes_copy (Err error) p works = absurd (never error p.2)

@@ -75,7 +75,7 @@ module _ (map : MapRoom) (before after : MapSeat) (of : IsSeatOf map before) whe
 
   pub has_heard : (count : ShardCount) (told : Bool) → HasHeard MapAnswers before.seat after.seat → after.shard < length map.room.first →
       (count.shard < length map.room.first → after.shard ≡ count.shard) →
-      (count.shard < length map.room.first → IsTrue told ↔ count.calls ≤ length (calls_about (about (length map.room.first)) count.shard after.seat.seen.log)) →
+      IsTrue told ↔ (count.shard < length map.room.first) × (count.calls ≤ length (calls_about (about (length map.room.first)) count.shard after.seat.seen.log)) →
       HasHeardOf map before count told after
   has_heard count told heard low counts answered = record {
     heard = heard;
@@ -95,8 +95,8 @@ module _ (map : MapRoom) (before after : MapSeat) (of : IsSeatOf map before) whe
 
   pub has_tried_to_hear : (count : ShardCount) (told : Option Bool) → IfSome told (λ heard. HasHeard MapAnswers before.seat after.seat) →
       IfSome told (λ heard. after.shard < length map.room.first) → (count.shard < length map.room.first → IfSome told (λ heard. after.shard ≡ count.shard)) →
-      (count.shard < length map.room.first → IfSome told (λ heard.
-      IsTrue heard ↔ count.calls ≤ length (calls_about (about (length map.room.first)) count.shard after.seat.seen.log))) →
+      IfSome told (λ heard.
+      IsTrue heard ↔ (count.shard < length map.room.first) × (count.calls ≤ length (calls_about (about (length map.room.first)) count.shard after.seat.seen.log))) →
       IfSome told (λ heard. HasHeardOf map before count heard after)
   has_tried_to_hear count None heard low counts answered = tt
   has_tried_to_hear count (Some told) heard low counts answered = has_heard count told heard low counts answered

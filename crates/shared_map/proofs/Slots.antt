@@ -19,7 +19,7 @@ slots_are slots hash (m ∷ ms) new =
     let one = sum_by-cons (λ (s : MapState). s.core.limits.slots) m ms in
     let more = slots_are slots hash ms new.1 in
     let product = mul-suc slots (length ms) in
-    let its : m.core.limits.slots ≡ slots = new.0.1 in omega (arith, one, more, product, its)
+    let its : m.core.limits.slots ≡ slots = ap (λ (l : _). l.slots) new.0.0 in omega (arith, one, more, product, its)
 
 -- new maps
 pub new_slots : (slots shards : ℕ) (hash : HashKind) (ms : List MapState) → AreNewMaps slots hash shards ms → slots_of_all ms ≡ slots * shards

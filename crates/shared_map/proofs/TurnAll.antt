@@ -19,8 +19,8 @@ use Rattle.ctrie_map.specs.Performing.{copy_call, effect_among}
 use Rattle.ctrie_map.proofs.Named.{at_other, at_same, gone_other, gone_same}
 use Rattle.shared_map.specs.Answering.{WorkUpTo}
 use Rattle.shared_map.specs.Asks.{place_of}
-use Rattle.shared_map.specs.Shards.{AreHashed, AreShards, world_of_all, worlds_of}
-use Rattle.shared_map.specs.Turning.{HaveBecome, HaveTurned, call_of, map_shown, reply_of, turned}
+use Rattle.shared_map.specs.Shards.{AreHashed, AreNumbered, AreShards, last_given, world_of_all, worlds_of}
+use Rattle.shared_map.specs.Turning.{HaveBecome, HaveTurned, call_of, last_by, map_shown, reply_of, turned}
 use Rattle.shared_map.specs.Uniting.{AreOfKinds, AreOwnFrom, kind_of, pairs_of, united, united_at, value_at, value_of}
 use Rattle.shared_map.specs.declared.turning.Turn.{Turn}
 use Rattle.shared_map.specs.declared.turning.Turn.TheVariants as turn
@@ -30,35 +30,46 @@ use Rattle.shared_map.proofs.United.{length_mapped, shown_as}
 
 -- ---- the lists
 
-module _ (f : HandleMap → HandleMap) (most : ℕ) where
-  become_worlds : (ss ts : List MapState) → HaveBecome f most ss ts → worlds_of ts ≡ map f (worlds_of ss)
+module _ (f : HandleMap → HandleMap) (gives : ℕ → ℕ) (most : ℕ) where
+  become_worlds : (ss ts : List MapState) → HaveBecome f gives most ss ts → worlds_of ts ≡ map f (worlds_of ss)
   become_worlds [] [] have = refl
   become_worlds [] (y ∷ ts) have = absurd have
   become_worlds (x ∷ ss) [] have = absurd have
   become_worlds (x ∷ ss) (y ∷ ts) have = ap₂ (λ w ws. w ∷ ws) have.0.handles (become_worlds ss ts have.1)
 
-  pub become_limits : (ss ts : List MapState) → HaveBecome f most ss ts → map (λ (s : MapState). s.core.limits) ts ≡ map (λ (s : MapState). s.core.limits) ss
+  pub become_limits : (ss ts : List MapState) → HaveBecome f gives most ss ts → map (λ (s : MapState). s.core.limits) ts ≡ map (λ (s : MapState). s.core.limits) ss
   become_limits [] [] have = refl
   become_limits [] (y ∷ ts) have = absurd have
   become_limits (x ∷ ss) [] have = absurd have
   become_limits (x ∷ ss) (y ∷ ts) have = ap₂ (λ l ls. l ∷ ls) have.0.limits (become_limits ss ts have.1)
 
-  become_length : (ss ts : List MapState) → HaveBecome f most ss ts → length ts ≡ length ss
+  become_length : (ss ts : List MapState) → HaveBecome f gives most ss ts → length ts ≡ length ss
   become_length [] [] have = refl
   become_length [] (y ∷ ts) have = absurd have
   become_length (x ∷ ss) [] have = absurd have
   become_length (x ∷ ss) (y ∷ ts) have = ap suc (become_length ss ts have.1)
 
-  become_hashed : (hash : HashKind) (ss ts : List MapState) → HaveBecome f most ss ts → AreHashed hash ss → AreHashed hash ts
+  become_hashed : (hash : HashKind) (ss ts : List MapState) → HaveBecome f gives most ss ts → AreHashed hash ss → AreHashed hash ts
   become_hashed hash [] [] have are = tt
   become_hashed hash [] (y ∷ ts) have are = absurd have
   become_hashed hash (x ∷ ss) [] have are = absurd have
   become_hashed hash (x ∷ ss) (y ∷ ts) have are = (ap (λ (l : _). l.hash) have.0.limits ∙ are.0, become_hashed hash ss ts have.1 are.1)
 
+  become_numbered : (last : ℕ) (ss ts : List MapState) → HaveBecome f gives most ss ts → AreNumbered last ss → AreNumbered (gives last) ts
+  become_numbered last [] [] have are = tt
+  become_numbered last [] (y ∷ ts) have are = absurd have
+  become_numbered last (x ∷ ss) [] have are = absurd have
+  become_numbered last (x ∷ ss) (y ∷ ts) have are = (have.0.last ∙ ap gives are.0, become_numbered last ss ts have.1 are.1)
+
+  pub become_last : (ss ts : List MapState) → 1 ≤ length ss → HaveBecome f gives most ss ts → last_given ts ≡ gives (last_given ss)
+  become_last [] ts some have = absurd (omega (arith, some))
+  become_last (x ∷ ss) [] some have = absurd have
+  become_last (x ∷ ss) (y ∷ ts) some have = have.0.last
+
   one_more : (n w : ℕ) → suc n * w ≡ w + n * w
   one_more n w = omega (arith, suc-mul n w)
 
-  pub become_works : (ss ts : List MapState) → HaveBecome f most ss ts → WorkUpTo (length ss * most) ss ts
+  pub become_works : (ss ts : List MapState) → HaveBecome f gives most ss ts → WorkUpTo (length ss * most) ss ts
   become_works [] [] have = (omega arith, omega arith)
   become_works [] (y ∷ ts) have = absurd have
   become_works (x ∷ ss) [] have = absurd have
@@ -100,11 +111,11 @@ module _ (hash : HashKind) (before after : List MapState) (are : AreShards hash 
 
   -- ---- one handle becomes this in each
 
-  module _ (f : HandleMap → HandleMap) (most : ℕ) (have : HaveBecome f most before after) (later : ℕ → Option Access)
+  module _ (f : HandleMap → HandleMap) (gives : ℕ → ℕ) (most : ℕ) (have : HaveBecome f gives most before after) (later : ℕ → Option Access)
       (kinds : (w : HandleMap) → ((h : ℕ) → kind_of (maps.get w h) ≡ are.kinds h) → (h : ℕ) → kind_of (maps.get (f w) h) ≡ later h)
       (values : (w : HandleMap) (h k : ℕ) → IsSome (value_at (f w) h k) → (g : ℕ) × IsSome (value_at w g k)) where
     vs_are : worlds_of after ≡ map f ws
-    vs_are = become_worlds f most before after have
+    vs_are = become_worlds f gives most before after have
 
     any_later : 1 ≤ length (map f ws)
     any_later = let e = length_mapped f ws in let some = shards.any hash before are in omega (arith, e, some)
@@ -117,12 +128,14 @@ module _ (hash : HashKind) (before after : List MapState) (are : AreShards hash 
 
     pub shards_later : AreShards hash after
     shards_later =
-        let long = become_length f most before after have in record {
+        let long = become_length f gives most before after have in record {
           kinds = later;
           some = omega (arith, long, are.some);
           few = omega (arith, long, are.few);
-          hashed = become_hashed f most hash before after have are.hashed;
+          hashed = become_hashed f gives most hash before after have are.hashed;
           alike = subst (AreOfKinds later) (sym vs_are) kinds_later;
+          numbered = subst (λ n. AreNumbered n after) (sym (become_last f gives most before after are.some have))
+              (become_numbered f gives most (last_given before) before after have are.numbered);
           own = subst (λ n. AreOwnFrom (place_of hash n) 0 (worlds_of after)) (sym long) (subst (AreOwnFrom place 0) (sym vs_are) own_later);
         }
 
@@ -143,10 +156,14 @@ module _ (hash : HashKind) (before after : List MapState) (are : AreShards hash 
 
   -- ---- what the whole does
 
+  -- the number under which it opens a handle
+  abbrev pub opened_by : Turn → Option ℕ
+  opened_by (turn.Copy h number access) = Some number
+  opened_by other = None
+
   pub record Does (t : Turn) : Type 0 where
-    pub opens : Option ℕ
     pub next : HandleMap
-    pub effect : effect_among (hash_of hash) (world_of_all before) (call_of t) opens ≡ Some (reply_of t, next)
+    pub effect : effect_among (hash_of hash) (world_of_all before) (call_of t) (opened_by t) ≡ Some (reply_of t, next)
     pub there : world_of_all after ≡ next
     pub shards_are : AreShards hash after
 
@@ -176,18 +193,18 @@ module _ (hash : HashKind) (before after : List MapState) (are : AreShards hash 
 
     clear_there : world_of_all after ≡ naming (world_of_all before) h Writable maps.empty
     clear_there =
-        named_later clears (work_of_call (call.Clear h)) have are.kinds clear_kinds clear_values h (λ g apart. refl) (λ w g apart. ap pairs_of (clear_other w g apart)) Writable maps.empty kind
+        named_later clears (last_by (turn.Clear h)) (work_of_call (call.Clear h)) have are.kinds clear_kinds clear_values h (λ g apart. refl)
+        (λ w g apart. ap pairs_of (clear_other w g apart)) Writable maps.empty kind
         (emptied_at clears h (λ w. ap pairs_of (clear_at w) ∙ empty_pairs) ws)
 
     pub clear_does : Does (turn.Clear h)
     clear_does = record {
-      opens = None;
       next = naming (world_of_all before) h Writable maps.empty;
       effect = ap (λ s. option_and_then (λ (m : KeyMap). Some (reply_of (turn.Clear h), naming (world_of_all before) h Writable maps.empty))
           (option_and_then (λ s. with_access Writable s.access s.pairs) s))
           (shards.shown_in_all hash before are h ∙ ap (option_map (shown_as (united_at ws h))) kind);
       there = clear_there;
-      shards_are = shards_later clears (work_of_call (call.Clear h)) have are.kinds clear_kinds clear_values;
+      shards_are = shards_later clears (last_by (turn.Clear h)) (work_of_call (call.Clear h)) have are.kinds clear_kinds clear_values;
     }
 
   -- ---- a close
@@ -222,19 +239,19 @@ module _ (hash : HashKind) (before after : List MapState) (are : AreShards hash 
 
     pub close_does : Does (turn.Close h)
     close_does = record {
-      opens = None;
       next = maps.remove (world_of_all before) h;
       effect = ap (λ o. option_and_then (λ (m : KeyMap). Some (reply_of (turn.Close h), maps.remove (world_of_all before) h)) (option_and_then (λ s. Some s.pairs) o))
           (shards.shown_in_all hash before are h ∙ ap (option_map (shown_as (united_at ws h))) kind);
-      there = closed_later closes (work_of_call (call.Close h)) have left close_kinds close_values h left_other (λ w g apart. ap pairs_of (close_other w g apart)) left_none;
-      shards_are = shards_later closes (work_of_call (call.Close h)) have left close_kinds close_values;
+      there = closed_later closes (last_by (turn.Close h)) (work_of_call (call.Close h)) have left close_kinds close_values h left_other (λ w g apart. ap pairs_of (close_other w g apart)) left_none;
+      shards_are = shards_later closes (last_by (turn.Close h)) (work_of_call (call.Close h)) have left close_kinds close_values;
     }
 
   -- ---- a copy
 
   -- This number becomes a copy of the handle, of this kind.
   module _ (h number : ℕ) (copy : Access) (later : ℕ → Option Access) (later_at : later number ≡ Some copy)
-      (later_other : (g : ℕ) → g ≢ number → later g ≡ are.kinds g) (most : ℕ) (have : HaveBecome (turned (turn.Copy h number copy)) most before after) where
+      (later_other : (g : ℕ) → g ≢ number → later g ≡ are.kinds g) (gives : ℕ → ℕ) (most : ℕ)
+      (have : HaveBecome (turned (turn.Copy h number copy)) gives most before after) where
     abbrev copies : HandleMap → HandleMap
     copies = turned (turn.Copy h number copy)
 
@@ -258,11 +275,11 @@ module _ (hash : HashKind) (before after : List MapState) (are : AreShards hash 
 
     pub copy_there : world_of_all after ≡ naming (world_of_all before) number copy (united_at ws h)
     copy_there =
-        named_later copies most have later copy_kinds copy_values number later_other (λ w g apart. ap pairs_of (copy_other w g apart)) copy (united_at ws h) later_at
+        named_later copies gives most have later copy_kinds copy_values number later_other (λ w g apart. ap pairs_of (copy_other w g apart)) copy (united_at ws h) later_at
         (turned_at copies number h (λ w. ap pairs_of (copy_at w) ∙ pairs_shown (maps.get w h)) ws)
 
     pub copy_shards : AreShards hash after
-    copy_shards = shards_later copies most have later copy_kinds copy_values
+    copy_shards = shards_later copies gives most have later copy_kinds copy_values
 
   module _ (h number : ℕ) (copy : Access) (have : HaveTurned (turn.Copy h number copy) before after) (access : Access) (kind : are.kinds h ≡ Some access)
       (free : are.kinds number ≡ None) where
@@ -289,13 +306,12 @@ module _ (hash : HashKind) (before after : List MapState) (are : AreShards hash 
 
     pub copy_does : Does (turn.Copy h number copy)
     copy_does = record {
-      opens = Some number;
       next = naming (world_of_all before) number copy m;
       effect = effect_so copy
           ∙ ap (λ o. option_and_then (λ n. if maps.contains_key (world_of_all before) number then None
           else Some (reply_of (turn.Copy h number copy), naming (world_of_all before) number copy n)) (option_and_then (λ s. Some s.pairs) o))
           (shards.shown_in_all hash before are h ∙ ap (option_map (shown_as m)) kind)
           ∙ ap (λ b. if b then None else Some (reply_of (turn.Copy h number copy), naming (world_of_all before) number copy m)) not_there;
-      there = copy_there h number copy given given_at given_other (work_of_call (copy_call copy h)) have;
-      shards_are = copy_shards h number copy given given_at given_other (work_of_call (copy_call copy h)) have;
+      there = copy_there h number copy given given_at given_other (last_by (turn.Copy h number copy)) (work_of_call (copy_call copy h)) have;
+      shards_are = copy_shards h number copy given given_at given_other (last_by (turn.Copy h number copy)) (work_of_call (copy_call copy h)) have;
     }

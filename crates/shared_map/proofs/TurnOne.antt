@@ -1,5 +1,5 @@
 -- A shard in which nothing stands in the way of a change of all is turned.
-use Rattle.std.proofs.Common.{◌≡◌, ℕ, Bool, true, false, nat_le, if◌then◌else◌, Option}
+use Rattle.std.proofs.Common.{◌≡◌, ◌≢◌, ℕ, Bool, true, false, nat_le, if◌then◌else◌, Option}
 use Rattle.std.proofs.Common.{Some, None, Ok, Err, refl, sym, ap, subst, ◌∙◌, arith, option_and_then}
 use Rattle.std.specs.FinMap as map
 use Rattle.std.proofs.lemmas.Bool.{true≢false}
@@ -21,10 +21,10 @@ use Rattle.ctrie_map.specs.Denials.{denial_by}
 use Rattle.ctrie_map.specs.declared.errors.MapError.{MapError}
 use Rattle.ctrie_map.specs.declared.errors.MapError.TheVariants.{HandlesFull, WornOut}
 use Rattle.ctrie_map.specs.Maps.{MapState, handles_of}
-use Rattle.ctrie_map.specs.Performing.{Answers, Performs, copy_call, copying_any, effect_among}
-use Rattle.ctrie_map.specs.Sharding.{IsUnder, PerformsUnder}
+use Rattle.ctrie_map.specs.Performing.{Answers, AnswersBy, Performs, PerformsBy, copy_call, copying_any, effect_among}
+use Rattle.ctrie_map.specs.Sharding.{PerformsUnder}
 use Rattle.ctrie_map.proofs.Changing.{says}
-use Rattle.ctrie_map.proofs.Opened.{is_opened}
+use Rattle.ctrie_map.proofs.Opened.{IsOpened, is_opened}
 use Rattle.shared_map.specs.Asks.{Replied}
 use Rattle.shared_map.specs.Turning.{HasTurned, IsDue, map_shown}
 use Rattle.shared_map.specs.declared.turning.Turn.TheVariants as turn
@@ -45,9 +45,11 @@ module _ (s t : MapState) where
 
     clear_reply : (answer : Reply) → Answers s (call.Clear h) answer t → HasTurned (turn.Clear h) s t
     clear_reply reply.NoSlots p = absurd (omega (arith, p.0.0, due.room))
-    clear_reply answer (opens, next, effect, becomes) =
-        let (m, at, told, to) = says (handles_of s) h (λ m. (reply.Cleared, map.empty)) answer next effect in
-        record { limits = becomes.0; handles = becomes.1 ∙ to; work = works }
+    clear_reply (reply.Opened copy) (number, (next, effect, has)) =
+        cc (says (handles_of s) h (λ m. (reply.Cleared, map.empty)) (reply.Opened copy) next effect).2
+    clear_reply answer p =
+        let (m, at, told, to) = says (handles_of s) h (λ m. (reply.Cleared, map.empty)) answer p.1 p.2 in
+        record { limits = p.3.0; last = p.3.1; handles = p.3.2 ∙ to; work = works }
 
     clear_error : (error : MapError) → Performs (Err error) s (call.Clear h) t → HasTurned (turn.Clear h) s t
     clear_error WornOut p = absurd (true≢false (sym p.1 ∙ due.life))
@@ -65,14 +67,17 @@ module _ (s t : MapState) where
 
     closed_so : (answer : Reply) (next : HandleMap) (o : Option HandleState) →
         option_and_then {U = Reply × HandleMap} (λ m. Some (reply.Closed, map.remove (handles_of s) h)) (option_and_then (λ s. Some s.pairs) o) ≡ Some (answer, next) →
-        next ≡ map.remove (handles_of s) h
+        (answer ≡ reply.Closed) × (next ≡ map.remove (handles_of s) h)
     closed_so answer next None e = cc
-    closed_so answer next (Some shown) e = ap (λ p. p.1) (sym (same_Some (reply.Closed, map.remove (handles_of s) h) (answer, next) e))
+    closed_so answer next (Some shown) e =
+        let same = sym (same_Some (reply.Closed, map.remove (handles_of s) h) (answer, next) e) in
+        (ap (λ (p : Reply × HandleMap). p.0) same, ap (λ (p : Reply × HandleMap). p.1) same)
 
     close_reply : (answer : Reply) → Answers s (call.Close h) answer t → HasTurned (turn.Close h) s t
     close_reply reply.NoSlots p = absurd (omega (arith, p.0.0))
-    close_reply answer (opens, next, effect, becomes) =
-        record { limits = becomes.0; handles = becomes.1 ∙ closed_so answer next (map.get (handles_of s) h) effect; work = works }
+    close_reply (reply.Opened copy) (number, (next, effect, has)) = cc (closed_so (reply.Opened copy) next (map.get (handles_of s) h) effect).0
+    close_reply answer p =
+        record { limits = p.3.0; last = p.3.1; handles = p.3.2 ∙ (closed_so answer p.1 (map.get (handles_of s) h) p.2).1; work = works }
 
     close_error : (error : MapError) → Performs (Err error) s (call.Close h) t → HasTurned (turn.Close h) s t
     close_error WornOut p = absurd (true≢false (sym p.1 ∙ due.life))
@@ -111,36 +116,47 @@ module _ (s t : MapState) where
     its_map m None e = cc
     its_map m (Some shown) e = sym (same_Some shown.pairs m e)
 
-    copy_reply : (answer : Reply) → Answers s (copy_call access h) answer t → IsUnder number (Ok answer) → HasTurned (turn.Copy h number access) s t
-    copy_reply reply.NoSlots p under = absurd (omega (arith, p.0.0, due.room))
-    copy_reply answer (opens, next, effect, becomes) under =
-        let o = is_opened (handles_of s) opens access answer next (map_of (handles_of s) h) (sym (copying_so access opens) ∙ effect) in
-        let number_is : o.copy ≡ number = subst (λ a. IsUnder number (Ok a)) o.told under in
+    opened_so : (answer : Reply) (opens : Option ℕ) (next : HandleMap) →
+        effect_among (hash_of s.core.limits.hash) (handles_of s) (copy_call access h) opens ≡ Some (answer, next) →
+        IsOpened (handles_of s) opens access (map_of (handles_of s) h) answer next
+    opened_so answer opens next effect = is_opened (handles_of s) opens access answer next (map_of (handles_of s) h) (sym (copying_so access opens) ∙ effect)
+
+    copy_reply : (answer : Reply) → AnswersBy (λ copy. copy ≡ number) s (copy_call access h) answer t → HasTurned (turn.Copy h number access) s t
+    copy_reply reply.NoSlots p = absurd (omega (arith, p.0.0, due.room))
+    copy_reply (reply.Opened copy) (is, (next, effect, has)) =
+        let o = opened_so (reply.Opened copy) (Some copy) next effect in
+        let same : copy ≡ o.copy = cc o.told in
+        let number_is : o.copy ≡ number = sym same ∙ is in
         record {
-          limits = becomes.0;
-          handles = becomes.1 ∙ o.there ∙ ap (λ n. naming (handles_of s) n access o.m) number_is
+          limits = has.0;
+          last = has.1 ∙ is;
+          handles = has.2 ∙ o.there ∙ ap (λ n. naming (handles_of s) n access o.m) number_is
               ∙ ap (naming (handles_of s) number access) (its_map o.m (map.get (handles_of s) h) o.at);
           work = subst (λ w. WorksUpTo w s t) (sym (works_alike access)) works;
         }
+    copy_reply answer p = cc (opened_so answer p.0 p.1 p.2).told
+
+    abbrev refused : MapError → Replied
+    refused why = Err why
 
     -- only the number of handles denies it
     never : (error : MapError) (o : Option HandleState) → denial_by false false o 0 ≡ None → denial_by false true o (map.len (handles_of s)) ≡ Some error →
-        IsUnder number (Err error) → ⊥
+        refused error ≢ Err HandlesFull → ⊥
     never error None allowed e under = cc
-    never HandlesFull (Some shown) allowed e under = under
+    never HandlesFull (Some shown) allowed e under = under refl
     never error (Some shown) allowed e under = full_only (nat_le handle_limit (map.len (handles_of s))) e
       where
         full_only : (b : Bool) → (if b then Some HandlesFull else None) ≡ Some error → ⊥
         full_only true e = cc
         full_only false e = cc
 
-    copy_error : (error : MapError) → Performs (Err error) s (copy_call access h) t → IsUnder number (Err error) → HasTurned (turn.Copy h number access) s t
+    copy_error : (error : MapError) → PerformsBy (λ copy. copy ≡ number) (Err error) s (copy_call access h) t → refused error ≢ Err HandlesFull → HasTurned (turn.Copy h number access) s t
     copy_error WornOut p under = absurd (true≢false (sym p.1 ∙ due.life))
     copy_error error p under =
         absurd (never error (map.get (handles_of s) h) (sym (changes_none access) ∙ due.allowed) (sym (opening access) ∙ p.0) under)
 
     pub copy_turns : (told : Replied) → PerformsUnder number told s access h t → HasTurned (turn.Copy h number access) s t
-    copy_turns (Ok answer) p = copy_reply answer p.0.1 p.1
+    copy_turns (Ok answer) p = copy_reply answer p.0.1
     copy_turns (Err error) p = copy_error error p.0 p.1
 
 -- so many slots a copy takes at most

@@ -1,6 +1,7 @@
 -- What a change of all shards comes to, by what they were asked.
-use Rattle.std.proofs.Common.{◌≡◌, suc, Bool, true, false, ◌||◌, nat_lt, List}
-use Rattle.std.proofs.Common.{[], ◌∷◌, refl, sym, ap, ◌∙◌, ltb-true, ltb-false}
+use Rattle.std.proofs.Common.{◌≡◌, zero, suc, Bool, true, false, ◌||◌, nat_lt, List}
+use Rattle.std.proofs.Common.{[], ◌∷◌, refl, sym, ap, ◌∙◌, arith, ltb-true, ltb-false}
+use Rattle.std.proofs.lemmas.Option.{same_Some}
 use Rattle.history.specs.declared.calls.Call.{Call}
 use Rattle.ctrie_map.specs.Cores.{is_worn_out}
 use Rattle.ctrie_map.specs.Maps.{MapState, free_of}
@@ -28,6 +29,15 @@ or_first false b e = refl
 pub or_second : (a b : Bool) → (a || b) ≡ false → b ≡ false
 or_second true b e = cc
 or_second false b e = e
+
+pub none_tight : (call : Call) (ss : List MapState) → is_any_tight (slots_of call) ss ≡ false → ¬ IsAnyTight call ss
+none_tight call [] e (i, s, at, tight) = cc
+none_tight call (s ∷ ss) e (zero, t, at, tight) =
+    let same : s ≡ t = same_Some s t at in
+    let room = ltb-false (free_of s) (slots_of call) (or_first (nat_lt (free_of s) (slots_of call)) (is_any_tight (slots_of call) ss) e) in
+    let free = ap free_of same in omega (arith, room, free, tight)
+none_tight call (s ∷ ss) e (suc i, t, at, tight) =
+    none_tight call ss (or_second (nat_lt (free_of s) (slots_of call)) (is_any_tight (slots_of call) ss) e) (i, t, at, tight)
 
 are_due : (turn : Turn) (ss : List MapState) → is_any_worn_out ss ≡ false → is_any_tight (slots_of (call_of turn)) ss ≡ false → AreAllowed turn ss → AreDue turn ss
 are_due turn [] worn tight allowed = tt

@@ -19,6 +19,10 @@ use Rattle.shared_map.proofs.Finding.{entries_apart, found_append, not_found_apa
 abbrev pub shown_as : KeyMap → Access → HandleState
 shown_as m access = record { access = access; pairs = m }
 
+pub shown_kind : (m : KeyMap) (o : Option Access) → kind_of (option_map (shown_as m) o) ≡ o
+shown_kind m None = refl
+shown_kind m (Some a) = refl
+
 -- ---- maps of entries
 
 -- what is found where each value has become another one

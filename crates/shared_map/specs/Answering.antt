@@ -5,6 +5,7 @@ use Rattle.ctrie_base.specs.Hashes.{hash_of}
 use Rattle.ctrie_base.specs.declared.hashes.HashKind.{HashKind}
 use Rattle.history.specs.declared.calls.Call.{Call}
 use Rattle.history.specs.declared.calls.Call.TheVariants.{Get, Entries, Count, Snapshot}
+use Rattle.history.specs.declared.replies.Reply.{Reply}
 use Rattle.history.specs.declared.replies.Reply.TheVariants as reply
 use Rattle.history.specs.Worlds.{HandleMap}
 use Rattle.ctrie_map.specs.Calling.{IsRead}
@@ -12,6 +13,7 @@ use Rattle.ctrie_map.specs.Changes.{denial_among}
 use Rattle.ctrie_map.specs.Costs.{work_of_call}
 use Rattle.ctrie_map.specs.declared.errors.MapError.TheVariants.{Full, Memory, WornOut}
 use Rattle.ctrie_map.specs.Maps.{MapState}
+use Rattle.ctrie_map.specs.Names.{IsNext}
 use Rattle.ctrie_map.specs.Performing.{EffectAmong}
 use Rattle.ctrie_map.specs.Reading.{read_of, writability_by}
 use Rattle.shared_map.specs.declared.asks.Answer.TheVariants as answer
@@ -19,13 +21,18 @@ use Rattle.shared_map.specs.declared.asks.Ask.{Ask}
 use Rattle.shared_map.specs.declared.asks.Ask.TheVariants.{Do, From, Scan, First, IsWritable, Restore, Handles, Free, HasRoom}
 use Rattle.shared_map.specs.declared.asks.Request.{Request}
 use Rattle.shared_map.specs.Asks.{Replied, Told, told_as}
-use Rattle.shared_map.specs.Shards.{AreShards, LackSlots, concerned, free_of_all, have_room, is_any_worn_out, is_any_worn_out_to_restore, steps_of_all, world_of_all}
+use Rattle.shared_map.specs.Shards.{AreShards, IsNoneTight, LackSlots, concerned, free_of_all, have_room, is_any_worn_out, is_any_worn_out_to_restore}
+use Rattle.shared_map.specs.Shards.{last_given, steps_of_all, world_of_all}
 use Rattle.shared_map.specs.Restores.{RestoresAmong, restore_denial_among, work_of_a_restore}
 use Rattle.shared_map.specs.Readings.{IsFirst, IsPart, IsScan}
 
--- the whole has these handles then; hash and slots are as before
+-- the whole has these handles then, and this number was given last; hash, slots and life are as before
+abbrev pub HaveThen : List MapState → HandleMap → ℕ → List MapState → Type 0
+HaveThen before world last after = (map (λ s. s.core.limits) after ≡ map (λ s. s.core.limits) before) × (last_given after ≡ last) × (world_of_all after ≡ world)
+
+-- the whole has these handles then, and no number was given
 abbrev pub Become : List MapState → HandleMap → List MapState → Type 0
-Become before world after = (map (λ s. s.core.limits) after ≡ map (λ s. s.core.limits) before) × (world_of_all after ≡ world)
+Become before world after = HaveThen before world (last_given before) after
 
 -- at most so much work is done in all, and five steps of it for each slot by which more are free behind it than before
 abbrev pub WorkUpTo : ℕ → List MapState → List MapState → Type 0
@@ -38,11 +45,17 @@ module _ (hash : HashKind) (before : List MapState) where
   abbrev pub AreBegun : Call → Type 0
   AreBegun call = (denial_among (world_of_all before) call ≡ None) × (is_any_worn_out (concerned hash call before) ≡ false)
 
-  -- what a change comes to: as in one map
+  -- its reply, and what it does: as in one map; a copy has the next number
+  abbrev pub DoesAll : Call → Reply → List MapState → Type 0
+  DoesAll call (reply.Opened copy) after =
+      IsNext (last_given before) (world_of_all before) copy
+      × ((next : HandleMap) × EffectAmong (hash_of hash) (world_of_all before) call (Some copy) (reply.Opened copy) next × HaveThen before next copy after)
+  DoesAll call result after = (opens : Option ℕ) × (next : HandleMap) × EffectAmong (hash_of hash) (world_of_all before) call opens result next × Become before next after
+
+  -- what a change comes to
   abbrev pub ChangesAll : Call → Replied → List MapState → Type 0
   ChangesAll call (Ok reply.NoSlots) after = AreBegun call × LackSlots call (concerned hash call before) × Become before (world_of_all before) after
-  ChangesAll call (Ok result) after =
-      AreBegun call × ((opens : Option ℕ) × (next : HandleMap) × EffectAmong (hash_of hash) (world_of_all before) call opens result next × Become before next after)
+  ChangesAll call (Ok result) after = AreBegun call × IsNoneTight call (concerned hash call before) × DoesAll call result after
   ChangesAll call (Err WornOut) after =
       (denial_among (world_of_all before) call ≡ None) × (is_any_worn_out (concerned hash call before) ≡ true) × (after ≡ before)
   ChangesAll call (Err error) after = (denial_among (world_of_all before) call ≡ Some error) × (after ≡ before)
@@ -61,7 +74,7 @@ module _ (hash : HashKind) (before : List MapState) where
   -- what a restore comes to
   abbrev pub RestoresAll : ℕ → ℕ → Told → List MapState → Type 0
   RestoresAll h copy (Ok told) after =
-      (told ≡ answer.Restored) × (h ≡ copy → after ≡ before) × (h ≢ copy → is_any_worn_out_to_restore before ≡ false)
+      (told ≡ answer.Restored) × (h ≡ copy → after ≡ before) × (h ≢ copy → (is_any_worn_out_to_restore before ≡ false) × IsNoneTight (Snapshot copy) before)
       × ((next : HandleMap) × RestoresAmong (world_of_all before) h copy next × Become before next after)
   RestoresAll h copy (Err Full) after =
       (restore_denial_among (world_of_all before) h copy ≡ None) × (h ≢ copy) × (is_any_worn_out_to_restore before ≡ false)

@@ -1,7 +1,6 @@
 -- What shards are asked before all of them are changed.
-use Rattle.std.specs.Prelude.{◌≡◌, ◌&&◌, ◌||◌, ℕ, ◌<◌, Bool, true, false, not, nat_le, nat_lt, if◌then◌else◌, Option, Some, None, Result, Ok, Err}
+use Rattle.std.specs.Prelude.{◌≡◌, ◌&&◌, ◌||◌, ℕ, Bool, true, false, not, nat_le, nat_lt, if◌then◌else◌, Option, Some, None, Result, Ok, Err}
 use Rattle.std.specs.FinMap as map
-use Rattle.history.specs.Worlds.{HandleMap}
 use Rattle.machine_model.specs.States.{handle_limit}
 use Rattle.ctrie_map.specs.Calling.{Calls}
 use Rattle.ctrie_map.specs.Cores.{is_worn_out}
@@ -9,23 +8,24 @@ use Rattle.ctrie_map.specs.Costs.{WorksUpTo, work_of_call}
 use Rattle.ctrie_map.specs.declared.errors.MapError.{MapError}
 use Rattle.ctrie_map.specs.declared.errors.MapError.TheVariants.{HandlesFull, ReadOnly}
 use Rattle.ctrie_map.specs.Maps.{MapState, free_of, handles_of}
+use Rattle.ctrie_map.specs.Names.{IsNext}
 use Rattle.ctrie_map.specs.Reading.{writability}
 use Rattle.ctrie_map.specs.Restoring.{is_worn_out_to_restore}
 use Rattle.shared_map.specs.declared.asking.Calling.{Calling}
 use Rattle.shared_map.specs.declared.asking.Knowing.{Knowing}
 use Rattle.shared_map.specs.declared.asking.Measuring.{Measuring}
 
--- the number that a copy gets, if there is one
-abbrev pub IsNumber : HandleMap → Option ℕ → Type 0
-IsNumber world (Some number) = (number < handle_limit) × (map.get world number ≡ None)
-IsNumber world None = map.len world ≡ handle_limit
+-- the number that the next copy of the shard gets, if there is one
+abbrev pub IsNumber : MapState → Option ℕ → Type 0
+IsNumber shard (Some number) = IsNext shard.names.last (handles_of shard) number
+IsNumber shard None = map.len (handles_of shard) ≡ handle_limit
 
 -- this is known of a shard
 pub record IsKnown (known : Knowing) (shard : MapState) : Type 0 where
   pub hash : known.hash ≡ shard.core.limits.hash
   pub handles : known.handles ≡ map.len (handles_of shard)
   pub writable : known.writable ≡ writability shard known.handle
-  pub next : IsNumber (handles_of shard) known.next
+  pub next : IsNumber shard known.next
 
 abbrev pub Knows : Knowing → MapState → Knowing → MapState → Type 0
 Knows before shard after later = (later ≡ shard) × (after.handle ≡ before.handle) × IsKnown after shard

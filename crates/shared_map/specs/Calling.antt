@@ -22,10 +22,11 @@ pub record HasAsked (map : MapRoom) (before : MapSeat) (ask : Ask) (told : Told)
   pub counts : IsTrue (is_about (about (length map.room.first) (asking map.hash ask)) after.shard)
   pub keeps : IsSeatOf map after
 
--- The seat has seen all calls once more, and this tells whether so many about a shard are among them. It counts the calls about that shard then.
+-- The seat has seen all calls once more, and this tells whether there is such a shard, and so many calls about it are among them. It counts the calls about that shard then.
 pub record HasHeardOf (map : MapRoom) (before : MapSeat) (count : ShardCount) (told : Bool) (after : MapSeat) : Type 0 where
   pub heard : HasHeard MapAnswers before.seat after.seat
-  pub answered : count.shard < length map.room.first → IsTrue told ↔ count.calls ≤ length (calls_about (about (length map.room.first)) count.shard after.seat.seen.log)
+  pub answered :
+      IsTrue told ↔ (count.shard < length map.room.first) × (count.calls ≤ length (calls_about (about (length map.room.first)) count.shard after.seat.seen.log))
   pub counts : count.shard < length map.room.first → after.shard ≡ count.shard
   pub found : AreShards map.hash after.seat.seen.object
   pub keeps : IsSeatOf map after

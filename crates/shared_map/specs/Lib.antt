@@ -17,8 +17,8 @@ pub mod Seats
 pub mod Telling
 pub mod Calling
 pub mod Replaying
+pub mod Opening
 pub mod Laws
 pub mod Parts
 pub mod PartsLaws
 pub mod Finishing
-pub mod Opening

@@ -31,10 +31,6 @@ SharesAll hash shards seats shared made = (shared.hash ≡ hash) × AreMade shar
 abbrev pub Shares : MapState → ℕ → MapRoom → List MapSeat → Type 0
 Shares map seats shared made = SharesAll map.core.limits.hash (map ∷ []) seats shared made
 
--- why a map isn't made
-abbrev pub RefusesMaps : ℕ → MapError → Type 0
-RefusesMaps slots error = ((¬ AreSlots slots) × (error ≡ BadSizes)) ⊎ (error ≡ Memory)
-
 -- why there is none
 abbrev pub RefusesNew : ℕ → ℕ → MapError → Type 0
-RefusesNew slots shards error = ((¬ AreSlots slots ⊎ ¬ AreShardNumbers shards) × (error ≡ BadSizes)) ⊎ (error ≡ Memory)
+RefusesNew slots shards error = ((¬ AreSlots slots ⊎ ¬ AreShardNumbers shards) × (error ≡ BadSizes)) ⊎ (AreSlots slots × AreShardNumbers shards × (error ≡ Memory))

@@ -48,5 +48,6 @@ RestoresEach handle copy before (Err Full) after =
     (handle ≢ copy) × (is_any_worn_out_to_restore before ≡ false) × IsAnyTight (Snapshot copy) before × (after ≡ before)
 RestoresEach handle copy before (Err error) after = ⊥
 RestoresEach handle copy before (Ok told) after =
-    (told ≡ Restored) × (handle ≡ copy → after ≡ before) × (handle ≢ copy → is_any_worn_out_to_restore before ≡ false)
-    × (handle ≢ copy → AreUndenied handle copy before → HaveBecome (turned (turn.Copy copy handle Writable)) work_of_a_restore before after)
+    (told ≡ Restored) × (handle ≡ copy → after ≡ before)
+    × (handle ≢ copy → (is_any_worn_out_to_restore before ≡ false) × ¬ IsAnyTight (Snapshot copy) before)
+    × (handle ≢ copy → AreUndenied handle copy before → HaveBecome (turned (turn.Copy copy handle Writable)) (λ last. last) work_of_a_restore before after)

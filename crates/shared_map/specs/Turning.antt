@@ -15,6 +15,7 @@ use Rattle.ctrie_map.specs.Cores.{is_worn_out}
 use Rattle.ctrie_map.specs.Costs.{WorksUpTo, work_of_call}
 use Rattle.ctrie_map.specs.Denials.{denial_by}
 use Rattle.ctrie_map.specs.Maps.{MapState, free_of, handles_of}
+use Rattle.ctrie_map.specs.Names.{IsNext}
 use Rattle.ctrie_map.specs.Performing.{copy_call}
 use Rattle.shared_map.specs.Beneath.proof_alone.specs.Calls.{slots_of}
 use Rattle.shared_map.specs.declared.turning.Turn.{Turn}
@@ -43,6 +44,16 @@ turned (turn.Clear h) world = naming world h Writable map.empty
 turned (turn.Close h) world = map.remove world h
 turned (turn.Copy h number access) world = naming world number access (map_shown (map.get world h))
 
+-- the number that was given last then
+abbrev pub last_by : Turn → ℕ → ℕ
+last_by (turn.Copy h number access) last = number
+last_by other last = last
+
+-- the number of a copy is the next one
+abbrev pub HasNext : Turn → MapState → Type 0
+HasNext (turn.Copy h number access) shard = IsNext shard.names.last (handles_of shard) number
+HasNext other shard = Unit {0}
+
 -- the number of a copy is free
 abbrev pub IsFree : Turn → HandleMap → Type 0
 IsFree (turn.Copy h number access) world = (number < handle_limit) × (map.get world number ≡ None)
@@ -55,29 +66,30 @@ pub record IsDue (turn : Turn) (shard : MapState) : Type 0 where
   pub life : is_worn_out shard.core ≡ false
   pub room : slots_of (call_of turn) ≤ free_of shard
 
--- its handles become these, by so much work at most
-pub record HasBecome (become : HandleMap → HandleMap) (most : ℕ) (before after : MapState) : Type 0 where
+-- its handles become these, and the number that was given last this one, by so much work at most
+pub record HasBecome (become : HandleMap → HandleMap) (gives : ℕ → ℕ) (most : ℕ) (before after : MapState) : Type 0 where
   pub limits : after.core.limits ≡ before.core.limits
+  pub last : after.names.last ≡ gives before.names.last
   pub handles : handles_of after ≡ become (handles_of before)
   pub work : WorksUpTo most before after
 
 -- it is done
 abbrev pub HasTurned : Turn → MapState → MapState → Type 0
-HasTurned turn before after = HasBecome (turned turn) (work_of_call (call_of turn)) before after
+HasTurned turn before after = HasBecome (turned turn) (last_by turn) (work_of_call (call_of turn)) before after
 
 -- what the visitor does with a shard where nothing stands in its way
 abbrev pub Turns : Turning → MapState → Turning → MapState → Type 0
 Turns before shard after later = (after ≡ before) × (IsDue before.turn shard → HasTurned before.turn shard later)
 
 -- the same of all shards
-abbrev pub HaveBecome : (HandleMap → HandleMap) → ℕ → List MapState → List MapState → Type 0
-HaveBecome become most [] [] = Unit {0}
-HaveBecome become most [] (t ∷ ts) = ⊥
-HaveBecome become most (s ∷ ss) [] = ⊥
-HaveBecome become most (s ∷ ss) (t ∷ ts) = HasBecome become most s t × HaveBecome become most ss ts
+abbrev pub HaveBecome : (HandleMap → HandleMap) → (ℕ → ℕ) → ℕ → List MapState → List MapState → Type 0
+HaveBecome become gives most [] [] = Unit {0}
+HaveBecome become gives most [] (t ∷ ts) = ⊥
+HaveBecome become gives most (s ∷ ss) [] = ⊥
+HaveBecome become gives most (s ∷ ss) (t ∷ ts) = HasBecome become gives most s t × HaveBecome become gives most ss ts
 
 abbrev pub HaveTurned : Turn → List MapState → List MapState → Type 0
-HaveTurned turn before after = HaveBecome (turned turn) (work_of_call (call_of turn)) before after
+HaveTurned turn before after = HaveBecome (turned turn) (last_by turn) (work_of_call (call_of turn)) before after
 
 -- in no shard the handle or the number stands in the way
 abbrev pub AreAllowed : Turn → List MapState → Type 0

@@ -31,7 +31,8 @@ abbrev pub TurnsAll : Turn → List MapState → Replied → List MapState → T
 TurnsAll turn before (Err WornOut) after = (is_any_worn_out before ≡ true) × (after ≡ before)
 TurnsAll turn before (Err error) after = ⊥
 TurnsAll turn before (Ok reply.NoSlots) after = (is_any_worn_out before ≡ false) × IsAnyTight (call_of turn) before × (after ≡ before)
-TurnsAll turn before (Ok answer) after = (is_any_worn_out before ≡ false) × (answer ≡ reply_of turn) × (AreAllowed turn before → HaveTurned turn before after)
+TurnsAll turn before (Ok answer) after =
+    (is_any_worn_out before ≡ false) × ¬ IsAnyTight (call_of turn) before × (answer ≡ reply_of turn) × (AreAllowed turn before → HaveTurned turn before after)
 
 -- what is told of a call about all shards, where these are those of one map, and this is known of the first
 abbrev pub RepliesIf : Knowing → List MapState → Call → Replied → List MapState → Type 0

@@ -33,8 +33,8 @@ pub enum Ask {
         after: Option<u64>,
         room: usize,
     },
-    /// A key of a handle's map with its value, of the first shard that has one; none exactly where no key has a value. It takes
-    /// no memory. `NoHandle` where the handle isn't open.
+    /// Any key of a handle's map with its value; none exactly where no key has a value. It takes no memory. `NoHandle` where
+    /// the handle isn't open.
     First {
         handle: u16,
     },
@@ -44,15 +44,15 @@ pub enum Ask {
     },
     /// The handle, which is writable, is to have the copy's map from now on, in all shards or in none: each is asked before
     /// one is changed. `NoHandle` where one of the two isn't open; `ReadOnly`, `HandlesFull` and `WornOut` as of
-    /// `Map::restore` in any shard; `Full` where some shard has fewer free slots than a copy may take, and as of
-    /// `Map::restore` where there is one. All maps stay then.
+    /// `Map::restore` in any shard; `Full` just where some of several shards has fewer free slots than a copy may take, and as
+    /// of `Map::restore` where there is one. All maps stay then.
     Restore {
         handle: u16,
         copy: u16,
     },
     /// How many handles are open.
     Handles,
-    /// How many slots no open handle reaches.
+    /// How many slots are free, in all shards together.
     Free,
     /// Whether each shard has free slots enough for any call.
     HasRoom,

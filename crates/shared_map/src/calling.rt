@@ -6,8 +6,6 @@ ghost use Rattle.shared_map.specs.Calling.{HasAsked, HasHeardOf, Lists, Tells};
 ghost use Rattle.shared_map.specs.Telling.{contained_in, counted_in, done_in, first_in, found_in, has_room_in, listed_in, number_in, open_in, opened_in, part_in, restored_in, truth_in, writable_in};
 
 use crate::asks::{Ask, Told};
-use crate::maps::{MapSeat, SharedMap};
-use crate::naming::{MapName, NamedMap, NamedMapSeat};
 use crate::telling::{
     contained, counted, done, first, found, has_room, listed, number, opened, part, restored,
     truth, writable,
@@ -18,10 +16,10 @@ use sharded_gate::ShardCount;
 use std::sync::Wait;
 
 /// The calls of a seat on its map `M`. Each answers what the call of `Map` answers, on the map as the calls before it in the
-/// log left it, and stands in the log with its answer, also where it is refused. One on a key holds the key's shard alone, any
-/// other one all shards. It may wait for others.
+/// log left it, and stands in the log with its answer, also where it is refused. One on a key holds the key's shard alone,
+/// `scan` and `hear` the shard that they are of, any other one all shards. It may wait for others.
 pub trait MapCalls<M> {
-    ghost use Rattle.shared_map.specs.Seats.{MapRoom, MapSeat};
+    ghost use Rattle.shared_map.specs.Seats.{IsSeatOf, MapRoom, MapSeat};
 
     /// The seat.
     ghost seat: { Self → MapSeat };
@@ -37,8 +35,7 @@ pub trait MapCalls<M> {
         requires { fits map.now self.old }
         ensures { HasAsked (shared map.now) (seat self.old) ask result (seat self.new) };
 
-    /// Tells whether so many calls about a shard have been made, as `last` of a seat numbers them. All that it found stands
-    /// before what the seat calls next, so who is told the number of a call comes behind it.
+    /// As `SharedMap::hear`.
     fn hear<R: Wait>(&mut self, rt: &R, map: &M, count: ShardCount) -> bool
         requires { fits map.now self.old }
         ensures { HasHeardOf (shared map.now) (seat self.old) count result (seat self.new) };
@@ -183,7 +180,7 @@ pub trait MapCalls<M> {
         number(self.ask(rt, map, Ask::Handles))
     }
 
-    /// As `Map::free`, of all shards together.
+    /// How many slots are free, in all shards together.
     fn free<R: Wait>(&mut self, rt: &R, map: &M) -> u64
         requires { fits map.now self.old }
         ensures { Tells number_in (shared map.now) (seat self.old) Free result (seat self.new) }
@@ -360,40 +357,7 @@ pub trait MapCalls<M> {
         let call = Call::Close { handle };
         done(self.ask(rt, map, Ask::Do(call)))
     }
-}
 
-impl MapCalls<SharedMap> for MapSeat {
-    ghost use Rattle.shared_map.specs.Seats.{IsSeatOf};
-
-    ghost seat = { λ s. s };
-
-    ghost shared = { λ map. map };
-
-    ghost fits = { λ map s. IsSeatOf map s };
-
-    #[inline(always)]
-    fn ask<R: Wait>(&mut self, rt: &R, map: &SharedMap, ask: Ask) -> Told {
-        map.ask(rt, self, ask)
-    }
-
-    fn hear<R: Wait>(&mut self, rt: &R, map: &SharedMap, count: ShardCount) -> bool {
-        map.hear(rt, self, count)
-    }
-}
-
-impl<N: MapName> MapCalls<NamedMap<N>> for NamedMapSeat<N> {
-    ghost seat = { λ s. s };
-
-    ghost shared = { λ map. map };
-
-    ghost fits = { λ map s. Unit {0} };
-
-    #[inline(always)]
-    fn ask<R: Wait>(&mut self, rt: &R, map: &NamedMap<N>, ask: Ask) -> Told {
-        map.ask(rt, self, ask)
-    }
-
-    fn hear<R: Wait>(&mut self, rt: &R, map: &NamedMap<N>, count: ShardCount) -> bool {
-        map.hear(rt, self, count)
-    }
+    /// One of the map's seats fits it, so that each call can be followed by another one.
+    ghost kept: { (map : M) (s : Self) → IsSeatOf (shared map) (seat s) → fits map s };
 }

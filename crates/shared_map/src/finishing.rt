@@ -1,8 +1,7 @@
 //! The end of a shared map: the shards come out.
 
 ghost use Rattle.std.specs.Prelude.{◌≡◌, ◌≢◌, ◌∷◌, [], IfErr, IfOk, length};
-ghost use Rattle.gate.specs.Finishing.{AreHere, AreOf, IsGathered, IsMissing};
-ghost use Rattle.shared_map.specs.Answering.{MapAnswers};
+ghost use Rattle.gate.specs.Finishing.{AreHere, AreOf, IsMissing};
 ghost use Rattle.shared_map.specs.Finishing.{AreInOneOrder};
 
 use crate::asks::{Request, Told};
@@ -19,7 +18,7 @@ impl SharedMap {
     ) -> Result<Vec<Map>, (SharedMap, Vec<S>)>
         requires { AreOf S.seat self.room seats.items }
         ensures order { IfOk result (λ maps. AreInOneOrder S.seat self seats.items maps.items) }
-        ensures gathered { IfOk result (λ maps. AreHere S.seat self.room.seats seats.items × IsGathered MapAnswers S.seat self.room seats.items maps.items) }
+        ensures here { IfOk result (λ maps. AreHere S.seat self.room.seats seats.items) }
         ensures back { IfErr result (λ back. IsMissing S.seat self.room.seats seats.items × (back.0 ≡ self) × (back.1.items ≡ seats.items)) }
     {
         let SharedMap {

@@ -1,6 +1,6 @@
 //! Laws of the logs of shared maps.
 
-ghost use Rattle.shared_map.specs.Laws.{CallsReplay, OneShardIsAMap};
+ghost use Rattle.shared_map.specs.Laws.{CallsReplay, NewShardsAreEmpty, OneShardIsAMap, ShardsMakeTheMap};
 ghost use Rattle.shared_map.specs.PartsLaws.{ExportsAreOfTheFreeze, FreezesCopyTheMap, FrozenHandlesStay};
 ghost use Rattle.shared_map.specs.PartsLaws.{PartsListOneMoment, PartsListTheMap};
 ghost use Rattle.shared_map.specs.PartsLaws.{ScansJoin, ScansListAShard, ScansListOneMoment, ShardsListTheMap};
@@ -9,6 +9,16 @@ ghost use Rattle.shared_map.specs.PartsLaws.{ScansJoin, ScansListAShard, ScansLi
 #[tactic(auto, using(crate::proofs::Replays::calls_replay))]
 pub fn calls_replay()
     ensures { CallsReplay }
+{}
+
+/// A law: new shards are, as one map, a new one.
+pub fn new_shards_are_empty()
+    ensures { NewShardsAreEmpty }
+{}
+
+/// A law: of shards of one map a handle is open in the whole as in each, and a key has in the whole what the shard of its place has.
+pub fn shards_make_the_map()
+    ensures { ShardsMakeTheMap }
 {}
 
 /// A law: a map in one shard is the map in it, and is called as this one.

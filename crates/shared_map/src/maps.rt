@@ -1,8 +1,8 @@
 //! The map in shards behind its gate, which threads share.
 
 ghost use Rattle.std.specs.Prelude.{◌≡◌, ◌<◌, ◌≤◌, ◌*◌, ◌∷◌, [], length, IfErr, IfOk, OnOk};
-ghost use Rattle.ctrie_map.specs.Maps.{AreSlots};
-ghost use Rattle.shared_map.specs.Opening.{AreNewMaps, AreShardNumbers, IsNewShared, RefusesMaps, RefusesNew, Shares, SharesAll};
+ghost use Rattle.ctrie_map.specs.Maps.{AreSlots, RefusesSizes};
+ghost use Rattle.shared_map.specs.Opening.{AreNewMaps, AreShardNumbers, IsNewShared, RefusesNew, Shares, SharesAll};
 ghost use Rattle.shared_map.specs.Seats.{AreSeatsOf};
 ghost use Rattle.shared_map.specs.Shards.{AreShards, slots_of_all};
 
@@ -16,8 +16,8 @@ use std::marker::Model;
 /// A seat at a shared map, with a number of its own. Who has it makes its calls, one after another.
 pub type MapSeat = ShardedSeat<Map, Request, Told>;
 
-/// A map that the seats share, in one shard or several. A call on one key holds the key's shard alone, any other call holds
-/// all; all calls make one log.
+/// A map that the seats share, in one shard or several. A call on one key holds the key's shard alone, a scan the shard that it
+/// is of, any other call all of them; all calls make one log.
 #[derive(Drop)]
 pub struct SharedMap {
     pub(crate) gate: ShardedGate<Map, Request, Told>,
@@ -40,8 +40,8 @@ impl Model for SharedMap {
 
 impl SharedMap {
     /// A new map in so many shards, from 1 to 64, each with so many slots as `Map::new` takes, and so many seats, with the
-    /// numbers 1 and on. `BadSizes` where the number of slots or of shards is out of range, `Memory` where memory is wanting;
-    /// nothing is kept then.
+    /// numbers 1 and on. `BadSizes` exactly where the number of slots or of shards is out of range; else `Memory` where memory
+    /// is wanting. Nothing is kept then.
     #[tactic(auto, using(crate::proofs::New::new_are))]
     pub fn new(
         alloc: Global,
@@ -174,7 +174,7 @@ fn new_maps(alloc: Global, slots: u32, hash: HashKind, shards: u8) -> Result<Vec
     requires { 0 < shards }
     ensures made { IfOk result (λ maps. AreNewMaps slots hash shards maps.items) }
     ensures in_range { OnOk result (AreSlots slots) }
-    ensures refused { IfErr result (RefusesMaps slots) }
+    ensures refused { IfErr result (RefusesSizes slots) }
 {
     let mut maps = Vec::new(alloc);
     for made in 0..shards {

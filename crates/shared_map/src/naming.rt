@@ -4,10 +4,9 @@
 //! through any channel, and be called without a premise.
 
 ghost use Rattle.std.specs.Prelude.{◌≡◌, ◌≤◌, All, length, IfErr, IfOk};
-ghost use Rattle.gate.specs.Finishing.{AreHere, IsGathered, IsMissing};
+ghost use Rattle.gate.specs.Finishing.{AreHere, IsMissing};
 ghost use Rattle.gate.specs.Logs.{saturated};
 ghost use Rattle.sharded_gate.specs.Shards.{calls_about};
-ghost use Rattle.shared_map.specs.Answering.{MapAnswers};
 ghost use Rattle.shared_map.specs.Asks.{about};
 ghost use Rattle.shared_map.specs.Calling.{HasAsked, HasHeardOf};
 ghost use Rattle.shared_map.specs.Finishing.{AreInOneOrder};
@@ -15,6 +14,7 @@ ghost use Rattle.shared_map.specs.Seats.{AreSeatsOf, IsSeatOf, no_map};
 ghost use Rattle.shared_map.specs.Shards.{slots_of_all};
 
 use crate::asks::{Ask, Request, Told};
+use crate::calling::MapCalls;
 use crate::maps::{MapSeat, SharedMap};
 use ctrie_map::Map;
 use sharded_gate::{HoldsShardedSeat, ShardCount};
@@ -168,8 +168,7 @@ impl<N: MapName> NamedMap<N> {
         seats: Vec<NamedMapSeat<N>>,
     ) -> Result<Vec<Map>, (NamedMap<N>, Vec<NamedMapSeat<N>>)>
         ensures order { IfOk result (λ maps. AreInOneOrder (λ s. s.seat) self seats.items maps.items) }
-        ensures gathered { IfOk result (λ maps.
-            AreHere (λ s. s.seat) self.room.seats seats.items × IsGathered MapAnswers (λ s. s.seat) self.room seats.items maps.items) }
+        ensures here { IfOk result (λ maps. AreHere (λ s. s.seat) self.room.seats seats.items) }
         ensures back { IfErr result (λ back. IsMissing (λ s. s.seat) self.room.seats seats.items × (back.0 ≡ self) × (back.1.items ≡ seats.items)) }
     {
         all_bear_name(seats.as_slice());
@@ -200,5 +199,24 @@ impl<N: MapName> HoldsShardedSeat<Map, Request, Told> for NamedMapSeat<N> {
     fn into_seat(self) -> MapSeat {
         let NamedMapSeat { seat, name: _ } = self;
         seat
+    }
+}
+
+impl<N: MapName> MapCalls<NamedMap<N>> for NamedMapSeat<N> {
+    ghost seat = { λ s. s };
+
+    ghost shared = { λ map. map };
+
+    ghost fits = { λ map s. Unit {0} };
+
+    ghost kept = { λ map s is. tt };
+
+    #[inline(always)]
+    fn ask<R: Wait>(&mut self, rt: &R, map: &NamedMap<N>, ask: Ask) -> Told {
+        map.ask(rt, self, ask)
+    }
+
+    fn hear<R: Wait>(&mut self, rt: &R, map: &NamedMap<N>, count: ShardCount) -> bool {
+        map.hear(rt, self, count)
     }
 }

@@ -5,14 +5,15 @@ ghost use Rattle.shared_map.specs.Calling.{HasAsked, HasHeardOf};
 ghost use Rattle.shared_map.specs.Seats.{IsSeatOf};
 
 use crate::asks::{Ask, Request, Told};
+use crate::calling::MapCalls;
 use crate::maps::{MapSeat, SharedMap};
 use sharded_gate::ShardCount;
 use std::sync::Wait;
 
 impl SharedMap {
-    /// Has the seat ask the map. A call on one key holds its shard, any other call all of them. It is answered as the finite
-    /// maps say that the handles name, on the map as the calls before it in the log left it, and stands in the log with its
-    /// answer, also where it is refused. It may wait for others.
+    /// Has the seat ask the map. A call on one key holds its shard, a scan the shard that it is of, anything else all of them.
+    /// It is answered as the finite maps say that the handles name, on the map as the calls before it in the log left it, and
+    /// stands in the log with its answer, also where it is refused. It may wait for others.
     #[inline(always)]
     pub fn ask<R: Wait>(&self, rt: &R, seat: &mut MapSeat, ask: Ask) -> Told
         requires { IsSeatOf self.now seat.old }
@@ -22,8 +23,9 @@ impl SharedMap {
         self.gate.call(rt, seat, Request { ask, hash })
     }
 
-    /// Has the seat ask the map if what it asks for is not taken: the shard of its key, or all shards. With `None` another
-    /// seat had it: nothing was asked, and the seat has seen what it had.
+    /// The same if what it asks for is not taken: one shard by one try; all shards by one try for the one that is taken first
+    /// and a short while for each other one. With `None` another seat had it: nothing was asked, and the seat has seen what it
+    /// had.
     #[inline(always)]
     pub fn try_ask(&self, seat: &mut MapSeat, ask: Ask) -> Option<Told>
         requires { IsSeatOf self.now seat.old }
@@ -34,8 +36,9 @@ impl SharedMap {
         self.gate.try_call(seat, Request { ask, hash })
     }
 
-    /// Tells whether so many calls about a shard have been made, as `last` of a seat numbers them. All that it found stands
-    /// before what the seat calls next, so who is told the number of a call comes behind it.
+    /// Tells whether so many calls about a shard stand in the log that it finds, as `last` of a seat numbers them; of a shard
+    /// that isn't there it tells `false`. All that it found stands before what the seat calls next, so who is told the number
+    /// of a call, and hears `true` of it, comes behind it. It may find no more than the seat had seen before.
     pub fn hear<R: Wait>(&self, rt: &R, seat: &mut MapSeat, count: ShardCount) -> bool
         requires { IsSeatOf self.now seat.old }
         ensures { HasHeardOf self.now seat.old count result seat.new }
@@ -50,5 +53,26 @@ impl SharedMap {
         ensures busy { IfNone result (seat.new ≡ seat.old) }
     {
         self.gate.try_hear(seat, count)
+    }
+}
+
+impl MapCalls<SharedMap> for MapSeat {
+    ghost use Rattle.shared_map.specs.Seats.{IsSeatOf};
+
+    ghost seat = { λ s. s };
+
+    ghost shared = { λ map. map };
+
+    ghost fits = { λ map s. IsSeatOf map s };
+
+    ghost kept = { λ map s is. is };
+
+    #[inline(always)]
+    fn ask<R: Wait>(&mut self, rt: &R, map: &SharedMap, ask: Ask) -> Told {
+        map.ask(rt, self, ask)
+    }
+
+    fn hear<R: Wait>(&mut self, rt: &R, map: &SharedMap, count: ShardCount) -> bool {
+        map.hear(rt, self, count)
     }
 }

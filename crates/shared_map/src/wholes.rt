@@ -2,11 +2,10 @@
 
 ghost use Rattle.std.specs.Prelude.{◌≡◌, ◌<◌, ◌≤◌, length};
 ghost use Rattle.history.specs.declared.calls.Call.TheVariants.{Count, Entries};
-ghost use Rattle.ctrie_map.specs.Maps.{handles_of};
 ghost use Rattle.ctrie_map.specs.Performing.{copy_call};
 ghost use Rattle.shared_map.specs.Asking.{IsKnown};
 ghost use Rattle.shared_map.specs.Shards.{worlds_of};
-ghost use Rattle.shared_map.specs.Turning.{IsFree, call_of};
+ghost use Rattle.shared_map.specs.Turning.{HasNext, call_of};
 ghost use Rattle.shared_map.specs.Uniting.{pairs_at};
 ghost use Rattle.shared_map.specs.Wholes.{RepliesIf, IsCalledAlone, TurnsAll};
 
@@ -55,7 +54,7 @@ fn call_one<S: Shards<Map>>(shards: &mut S, call: Call) -> Replied
     told
 }
 
-/// A copy of the whole, under the number that the first shard would give.
+/// A copy of the whole, under the next number of the first shard.
 fn copy_all<S: Shards<Map>>(shards: &mut S, first: &Knowing, handle: u16, access: Access) -> Replied
     requires { 1 < length (S.items shards.old) }
     ensures answered { RepliesIf first.now (S.items shards.old) (copy_call access handle) result (S.items shards.new) }
@@ -81,7 +80,7 @@ fn copy_all<S: Shards<Map>>(shards: &mut S, first: &Knowing, handle: u16, access
 /// A change of all shards, unless something denies it.
 fn change_all<S: Shards<Map>>(shards: &mut S, first: &Knowing, turn: Turn) -> Replied
     requires many { 1 < length (S.items shards.old) }
-    requires free { (shard : _) → IsKnown first.now shard → IsFree turn (handles_of shard) }
+    requires next { (shard : _) → IsKnown first.now shard → HasNext turn shard }
     ensures answered { RepliesIf first.now (S.items shards.old) (call_of turn) result (S.items shards.new) }
     ensures rest { S.rest shards.new ≡ S.rest shards.old }
 {

@@ -2,6 +2,7 @@
 
 ghost use Rattle.shared_map.specs.Seats.{IsSeatOf};
 
+use crate::kinds::put_and_get;
 use shared_map::{Handle, HashKind, MapCalls, MapError, MapSeat, SharedMap};
 use std::alloc::AllocGlobal;
 use std::process::Abort;
@@ -100,6 +101,25 @@ fn read_and_copy<R: Wait + AllocGlobal + Abort>(rt: &R, shards: u8) -> Result<()
     assert_eq!(rt; seat.close(rt, &map, frozen), Ok(()));
     assert_eq!(rt; seat.get(rt, &map, frozen, 5), Err(MapError::NoHandle));
     assert!(rt; seat.has_room(rt, &map));
+    assert_eq!(rt; seat.freeze(rt, &map, copy), Ok(Handle::new(3)));
+    assert_eq!(rt; put_and_get(rt, &map, &mut seat), Ok(Some(52)));
+    Ok(())
+}
+
+/// A freeze of a new map in two shards, each of so many slots.
+fn freeze_two_shards<R: Wait + AllocGlobal>(rt: &R, slots: u32) -> Result<Handle, MapError> {
+    let (map, mut seats) = SharedMap::new(rt.alloc(), slots, HashKind::Fold, 1, 2)?;
+    match seats.pop() {
+        Some(mut seat) => seat.freeze(rt, &map, Handle::first()),
+        None => Err(MapError::BadSizes),
+    }
+}
+
+/// A new map takes two slots of each shard, and a copy wants 23 of each of several.
+#[test]
+fn a_copy_is_full_where_a_shard_is_tight(rt: HostRuntime) -> Result<(), Fail> {
+    assert_eq!(rt; freeze_two_shards(&rt, 24).err(), Some(MapError::Full));
+    assert!(rt; freeze_two_shards(&rt, 25).is_ok());
     Ok(())
 }
 

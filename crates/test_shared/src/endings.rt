@@ -3,6 +3,7 @@
 ghost use Rattle.std.specs.Prelude.{◌≡◌};
 ghost use Rattle.shared_map.specs.Seats.{AreSeatsOf};
 
+use crate::kinds::put_and_get;
 use shared_map::{
     Handle, HashKind, Map, MapCalls, MapError, MapName, MapSeat, SharedMap, only_shard,
 };
@@ -28,6 +29,7 @@ fn finish_without_one<N: MapName, R: Wait + AllocGlobal + Abort>(
         panic!(rt; "there are two")
     };
     assert_eq!(rt; last.put(rt, &map, Handle::first(), 5, 51), Ok(Some(50)));
+    assert_eq!(rt; put_and_get(rt, &map, &mut last), Ok(Some(52)));
     let Err((map, mut seats)) = map.finish(seats) else {
         panic!(rt; "the second seat isn't there")
     };
@@ -39,7 +41,7 @@ fn finish_without_one<N: MapName, R: Wait + AllocGlobal + Abort>(
     let Ok(plain) = only_shard(shards) else {
         panic!(rt; "there is one")
     };
-    assert_eq!(rt; plain.get(Handle::first(), 5), Ok(Some(51)));
+    assert_eq!(rt; plain.get(Handle::first(), 5), Ok(Some(52)));
     Ok(())
 }
 

@@ -6,6 +6,8 @@ mod calls;
 #[cfg(test)]
 mod endings;
 #[cfg(test)]
+mod kinds;
+#[cfg(test)]
 mod numbers;
 #[cfg(test)]
 mod parts;

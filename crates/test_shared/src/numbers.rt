@@ -61,6 +61,7 @@ fn calls_have_numbers(rt: HostRuntime) -> Result<(), Fail> {
     );
     assert!(rt; hears_of(&rt, &map, &mut two, second));
     assert!(rt; tell(&rt, &map, &one, &mut two));
+    assert!(rt; !two.hear(&rt, &map, ShardCount { shard: 8, calls: 0 }));
     assert_eq!(rt; two.get(&rt, &map, Handle::first(), 5), Ok(Some(50)));
     assert_eq!(rt;
         (one.last(), two.last()),

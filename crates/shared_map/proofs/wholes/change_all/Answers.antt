@@ -12,4 +12,4 @@ pub returns-in-None-clause-answered : goal.returns-in-None-clause-answered
 returns-in-None-clause-answered g c =
     if_turned c.args.first.now (g.S.Shards.items c.args.shards.now) c.args.turn c.turn_all.result (g.S.Shards.items c.turn_all.new.shards) c.requires.many
     (ap₂ (λ w o. denial_from w o c.args.first.now.writable c.args.first.now.handles) (sym c.writes.ensures) (sym c.opens.ensures) ∙ sym c.denial.ensures ∙ c.in-None.is)
-    c.requires.free c.turn_all.ensures.turns
+    c.requires.next c.turn_all.ensures.turns

@@ -25,7 +25,7 @@ pub returns-clause-turns : goal.returns-clause-turns
 returns-clause-turns g c =
     let (same, worn, tight) = measured (record { slots = c.slots.result; restores = false; is_worn_out = false; is_tight = false }) c.visit_each.new.visitor (g.S.Shards.items c.args.shards.now)
     (g.S.Shards.items c.visit_each.new.shards) c.visit_each.ensures.visited in
-    turns_ok c.args.turn (g.S.Shards.items c.args.shards.now) (g.S.Shards.items c.visit_each-2.new.shards) c.reply.result c.reply.ensures (sym worn ∙ c.if-measuring.false)
+    let roomy = ap (λ n. is_any_tight n (g.S.Shards.items c.args.shards.now)) (sym c.slots.ensures) ∙ sym tight ∙ c.if-measuring-2.false in
+    turns_ok c.args.turn (g.S.Shards.items c.args.shards.now) (g.S.Shards.items c.visit_each-2.new.shards) c.reply.result c.reply.ensures (sym worn ∙ c.if-measuring.false) roomy
     (turned_from c.args.turn (record { turn = c.args.turn }) c.visit_each-2.new.visitor (g.S.Shards.items c.args.shards.now) (g.S.Shards.items c.visit_each.new.shards)
-    (g.S.Shards.items c.visit_each-2.new.shards) same refl c.visit_each-2.ensures.visited (sym worn ∙ c.if-measuring.false)
-    (ap (λ n. is_any_tight n (g.S.Shards.items c.args.shards.now)) (sym c.slots.ensures) ∙ sym tight ∙ c.if-measuring-2.false))
+    (g.S.Shards.items c.visit_each-2.new.shards) same refl c.visit_each-2.ensures.visited (sym worn ∙ c.if-measuring.false) roomy)
