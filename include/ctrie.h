@@ -7,14 +7,17 @@
  *
  *     struct ctrie map = CTRIE_NONE;
  *     uint64_t value;
- *     if (ctrie_new(&map, 1024, CTRIE_FOLD) != CTRIE_DONE) return 1;
- *     if (CTRIE_REFUSED(ctrie_put(&map, 0, 7, 250, NULL))) return 1;
- *     if (ctrie_get(&map, 0, 7, &value) == CTRIE_YES) printf("%llu\n", (unsigned long long)value);
+ *     uint32_t code = ctrie_new(&map, 1024, CTRIE_FOLD);
+ *     if (!CTRIE_REFUSED(code)) code = ctrie_put(&map, 0, 7, 250, NULL);
+ *     if (!CTRIE_REFUSED(code)) code = ctrie_get(&map, 0, 7, &value);
+ *     if (code == CTRIE_YES) printf("%llu\n", (unsigned long long)value);
  *     ctrie_free(&map);
+ *     return CTRIE_REFUSED(code);
  *
  * A map's memory is what ctrie_new took, until ctrie_free: some 346 bytes a slot and 26 kB, however long it lives.
  * Of these 66 bytes a slot are written at once, and 264 for as many slots as there were branches or lists at once.
- * Beside it ctrie_entries, ctrie_scan, ctrie_diff and ctrie_put_all take memory for a list, and give it back at their end.
+ * Beside it ctrie_entries, ctrie_scan, ctrie_diff and ctrie_put_all take memory for a list, and give it back at their
+ * end.
  *
  * Each call answers a code: CTRIE_DONE, CTRIE_NO or CTRIE_YES where it was done, else why it was refused. A call that
  * is refused changes no map. What a call has to tell beside its code it writes where the last pointer says, and only
@@ -74,10 +77,12 @@ enum ctrie_code {
     CTRIE_BAD_SIZES = 7,    /* the number of slots isn't from 2 to 1,048,576, or that of a shared map's shards isn't from
                                1 to 64 */
     CTRIE_WORN_OUT = 8,     /* less work is left than a call may take, of 2^45 - 2^21 steps; the map can be read */
-    CTRIE_MEMORY = 9,       /* malloc refused; only of ctrie_new, ctrie_entries, ctrie_scan, ctrie_diff and ctrie_put_all */
-    CTRIE_NO_MAP = 11,      /* no map is held */
-    CTRIE_HAS_MAP = 12,     /* ctrie_new where a map is held already, which stays */
-    CTRIE_BAD_HASH = 13     /* ctrie_new with another number than those of enum ctrie_hash */
+    CTRIE_MEMORY = 9,       /* malloc refused: only of ctrie_new, ctrie_entries, ctrie_scan, ctrie_diff, ctrie_put_all, and of
+                               ctrie_shared_open, _new, _split, _entries and _scan */
+    CTRIE_NO_MAP = 11,      /* no map is held, or no seat at a shared one */
+    CTRIE_HAS_MAP = 12,     /* ctrie_new where a map is held already, which stays; ctrie_shared_open, _new, _split where a
+                               seat is */
+    CTRIE_BAD_HASH = 13     /* of these but _split: another number than those of enum ctrie_hash */
 };
 
 /* Whether a code tells of a refusal. */
@@ -120,14 +125,14 @@ struct ctrie_cursor {
 /* The version of the library, as CTRIE_VERSION_NUMBER: where the two differ, the header is another library's. */
 uint32_t ctrie_version(void);
 
-/* What a code says, in a few words. */
+/* What a code says, in a few words; of a code of ctrie_shared.h ctrie_shared_error does. */
 static inline const char *ctrie_error(uint32_t code) {
     switch (code) {
     case CTRIE_DONE: return "done";
     case CTRIE_YES: return "yes";
     case CTRIE_NO_HANDLE: return "the handle isn't open";
     case CTRIE_READ_ONLY: return "the map is read-only";
-    case CTRIE_HANDLES_FULL: return "256 handles are open";
+    case CTRIE_HANDLES_FULL: return "no handle is free for the copy";
     case CTRIE_CROWDED: return "32 other keys have the key's hash";
     case CTRIE_FULL: return "no slot is free";
     case CTRIE_BAD_SIZES: return "the number of slots is out of range";
@@ -136,7 +141,7 @@ static inline const char *ctrie_error(uint32_t code) {
     case CTRIE_NO_MAP: return "no map is held";
     case CTRIE_HAS_MAP: return "a map is held already";
     case CTRIE_BAD_HASH: return "no hash has this number";
-    default: return "no call answers this code";
+    default: return "no call of ctrie.h answers this code";
     }
 }
 

@@ -6,9 +6,9 @@
  * seat's log is legal, and goes on from what the seat saw last. That the logs of all seats are one, so one order of
  * all calls, is what the map's gate keeps; the contracts say it where all seats are given back to it
  * (SharedMap::finish), a call that C hasn't. The map lies in shards, from 1 to 64: a call on one key takes the key's
- * shard, any other call takes all. A call that finds a shard taken waits, for how long nothing promises: threads take
- * turns at a shard, in no order that is promised. Of the calls of ctrie.h a seat hasn't slots, diff, put_all, pop,
- * open_handles and entries behind a cursor (scan has one).
+ * shard, a scan and a hear the one that they name, any other call all. A call that finds a shard taken waits, for how
+ * long nothing promises: threads take turns at a shard, in no order that is promised. Of the calls of ctrie.h a seat
+ * hasn't slots, diff, put_all, pop, open_handles and entries behind a cursor (scan has one).
  *
  *     struct ctrie_seat seats[4] = {CTRIE_NO_SEAT, CTRIE_NO_SEAT, CTRIE_NO_SEAT, CTRIE_NO_SEAT};
  *     if (ctrie_shared_new(seats, 4, 1024, CTRIE_FOLD, 8) != CTRIE_DONE) return 1;
@@ -39,21 +39,23 @@ struct ctrie_seat {
 
 #define CTRIE_NO_SEAT {0}
 
-/* A shard, 0 and on, and the number of a call about it, counted from 1. A call on one key is about the key's shard, any
-   other call about all. */
+/* A shard, 0 and on, and the number of a call about it, counted from 1; 0 is the number of none. A call on one key is
+   about the key's shard, a scan about the one that it lists, any other call about all; a hear isn't counted. */
 struct ctrie_count {
     uint64_t shard;
     uint64_t calls;
 };
 
 enum ctrie_shared_code {
-    CTRIE_BUSY = 14,        /* a call that tries: another seat has a shard that it is about, and nothing was done */
-    CTRIE_NO_SEATS = 15     /* no seat is left to be handed out */
+    CTRIE_BUSY = 14,        /* a call that tries: another seat had a shard that it is about, and nothing was done */
+    CTRIE_NO_SEATS = 15     /* no seat is left to be handed out, or none is to be made */
 };
 
-/* ---- the calls that try: each answers CTRIE_BUSY where another seat has a shard that it is about, and nothing is done
-   then. The calls below, of the same names without try, call them until they come in: so a call that is to be made at
-   once, or not at all, is one of these. For the place of a value NULL may not stand here. */
+/* ---- the calls that try: each answers CTRIE_BUSY where another seat had a shard that it is about, and nothing is done
+   then. The calls below, of the same names without try, call them until they come in: so a call on one key, a scan or a
+   hear that is to be made at once, or not at all, is one of these. A call about all shards takes one of them at once, or
+   gives up, and then waits for each other one a short while, up to 256 tries with a pause behind each; meanwhile it holds
+   those that it has. For the place of a value NULL may not stand here. */
 
 CTRIE_MUST_USE
 uint32_t ctrie_shared_try_get(struct ctrie_seat *seat, uint16_t handle, uint64_t key, uint64_t *value);
@@ -110,14 +112,14 @@ uint32_t ctrie_shared_try_close(struct ctrie_seat *seat, uint16_t handle);
 /* ---- a shared map and its seats: these don't wait */
 
 /* Makes a shared map in so many shards, from 1 to 64, each as ctrie_new makes a map with so many slots; and so many
-   seats at it, from 1 to 255. The struct holds one, which hands out the others. DONE, MEMORY, BAD_HASH; BAD_SIZES where
-   the number of slots or of shards is out of range; HAS_MAP where it holds one already; NO_SEATS where there are to be
-   none. */
+   seats at it, from 1 to 255. The struct holds one, which hands out the others. DONE; BAD_HASH, before all others; HAS_MAP
+   where it holds one already; BAD_SIZES where the number of slots or of shards is out of range; MEMORY; NO_SEATS where
+   there are to be none. */
 CTRIE_MUST_USE
 uint32_t ctrie_shared_open(struct ctrie_seat *seat, uint32_t slots, uint32_t hash, uint8_t seats, uint8_t shards);
 
-/* Hands out one of the seats that the first struct has yet, to the second. DONE; NO_MAP where the first holds none,
-   HAS_MAP where the second does, NO_SEATS where none is left, MEMORY. */
+/* Hands out one of the seats that the first struct has yet, to the second. DONE; HAS_MAP where the second holds one,
+   before all others; NO_MAP where the first holds none; NO_SEATS where none is left; MEMORY. */
 CTRIE_MUST_USE
 uint32_t ctrie_shared_split(struct ctrie_seat *seat, struct ctrie_seat *other);
 
@@ -126,7 +128,8 @@ uint32_t ctrie_shared_split(struct ctrie_seat *seat, struct ctrie_seat *other);
 void ctrie_shared_free(struct ctrie_seat *seat);
 
 /* DONE with a shard, and how many calls of all seats about it this one knows of: after a call of its own a shard that
-   it was about, and the call's number there. NO_MAP. */
+   it was about, and the call's number there; after a hear the shard that it asked for, or any one where that isn't there;
+   before both the first shard, and no call. NO_MAP. */
 CTRIE_MUST_USE
 uint32_t ctrie_shared_last(struct ctrie_seat *seat, struct ctrie_count *last);
 
@@ -135,8 +138,8 @@ CTRIE_MUST_USE
 uint32_t ctrie_shared_shards(struct ctrie_seat *seat, uint64_t *shards);
 
 /* Makes a shared map in so many shards, each with so many slots, and gives each of these structs, which hold none, a
-   seat at it. DONE, BAD_SIZES, MEMORY, BAD_HASH, HAS_MAP; NO_SEATS where there are none or more than 255. Where it isn't
-   DONE all that was made is freed. */
+   seat at it. DONE; HAS_MAP where one of them holds one, before all others; NO_SEATS where there are none or more than 255;
+   else as ctrie_shared_open. Where it isn't DONE all that was made is freed. */
 CTRIE_MUST_USE
 static inline uint32_t ctrie_shared_new(struct ctrie_seat *seats, size_t count, uint32_t slots, uint32_t hash,
                                         uint8_t shards) {
@@ -269,7 +272,7 @@ static inline uint32_t ctrie_shared_handles(struct ctrie_seat *seat, uint64_t *h
     CTRIE_SHARED_WAIT(ctrie_shared_try_handles(seat, handles));
 }
 
-/* DONE with how many slots of all shards no open handle reaches. */
+/* DONE with how many slots of all shards are free. */
 CTRIE_MUST_USE
 static inline uint32_t ctrie_shared_free_slots(struct ctrie_seat *seat, uint64_t *free) {
     CTRIE_SHARED_WAIT(ctrie_shared_try_free_slots(seat, free));
@@ -282,8 +285,10 @@ static inline uint32_t ctrie_shared_has_room(struct ctrie_seat *seat) {
     CTRIE_SHARED_WAIT(ctrie_shared_try_has_room(seat));
 }
 
-/* YES where so many calls about the shard have been made, else NO. Who was told the number of another seat's call, by
-   ctrie_shared_last, and hears of it, calls behind it from then on, whichever shards these calls are about. */
+/* YES where so many calls about the shard have been made, as far as the seat sees then; else NO, and NO of a shard that
+   isn't there. Who was told the number of another seat's call, by ctrie_shared_last, and hears YES of it, calls behind it
+   from then on, whichever shards these calls are about. That YES comes of each call that was made is promised as little
+   as that a try comes in. */
 CTRIE_MUST_USE
 static inline uint32_t ctrie_shared_hear(struct ctrie_seat *seat, struct ctrie_count count) {
     CTRIE_SHARED_WAIT(ctrie_shared_try_hear(seat, &count));
@@ -313,7 +318,8 @@ static inline uint32_t ctrie_shared_replace(struct ctrie_seat *seat, uint16_t ha
     CTRIE_SHARED_WAIT(ctrie_shared_try_replace(seat, handle, key, value, before ? before : &unwanted));
 }
 
-/* As ctrie_replace_if: NO_HANDLE, READ_ONLY, FULL, WORN_OUT. A counter is a get and this, again where it tells NO. */
+/* As ctrie_replace_if: NO_HANDLE, READ_ONLY, FULL, WORN_OUT. A counter is a get and this, again where it tells NO; and a
+   put_if_absent where the get tells NO. */
 CTRIE_MUST_USE
 static inline uint32_t ctrie_shared_replace_if(struct ctrie_seat *seat, uint16_t handle, uint64_t key,
                                                uint64_t before, uint64_t value) {

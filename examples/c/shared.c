@@ -32,15 +32,23 @@ static void check(uint32_t code, const char *what) {
     exit(1);
 }
 
-/* One more in a counter: again, where another thread came between. */
-static void count(struct ctrie_seat *seat, uint64_t counter) {
+/* One more in a counter, which has 1 then where it had nothing; false where another thread came between. */
+static bool count_once(struct ctrie_seat *seat, uint64_t counter) {
     uint64_t before;
-    uint32_t code;
-    do {
-        check(ctrie_shared_get(seat, 0, counter, &before), "get");
-        code = ctrie_shared_replace_if(seat, 0, counter, before, before + 1);
-        check(code, "replace_if");
-    } while (code == CTRIE_NO);
+    uint32_t code = ctrie_shared_get(seat, 0, counter, &before);
+    check(code, "get");
+    if (code == CTRIE_NO) {
+        code = ctrie_shared_put_if_absent(seat, 0, counter, 1, NULL);
+        check(code, "put_if_absent");
+        return code == CTRIE_NO;
+    }
+    code = ctrie_shared_replace_if(seat, 0, counter, before, before + 1);
+    check(code, "replace_if");
+    return code == CTRIE_YES;
+}
+
+static void count(struct ctrie_seat *seat, uint64_t counter) {
+    while (!count_once(seat, counter)) continue;
 }
 
 static void *work(void *argument) {
@@ -95,6 +103,10 @@ static int export_is_right(struct ctrie_seat *seat) {
     return right && done <= counted && counted <= begun;
 }
 
+static const char *heard(struct ctrie_seat *seat, struct ctrie_count count) {
+    return ctrie_shared_hear(seat, count) == CTRIE_YES ? "made" : "not made";
+}
+
 int main(void) {
     struct ctrie_seat seats[WORKERS + 1] = {CTRIE_NO_SEAT};
     struct ctrie_seat other = CTRIE_NO_SEAT;
@@ -104,7 +116,6 @@ int main(void) {
     uint64_t i, value, wrong = 0;
 
     check(ctrie_shared_new(seats, WORKERS + 1, 1024, CTRIE_FOLD, 8), "new");
-    for (i = 0; i < COUNTERS; i++) check(ctrie_shared_put(mine, 0, i, 0, NULL), "put");
     for (i = 0; i < WORKERS; i++) {
         workers[i].seat = &seats[i];
         workers[i].number = i;
@@ -121,10 +132,12 @@ int main(void) {
     }
     check(ctrie_shared_put(mine, 0, 7, 250, &value), "put");
     check(ctrie_shared_last(mine, &last), "last");
-    printf("before it %" PRIu64 "; known to all as call %s\n", value,
-           ctrie_shared_hear(&seats[0], last) == CTRIE_YES ? "made" : "not made");
+    printf("before it %" PRIu64 "; known to all as call %s\n", value, heard(&seats[0], last));
     last.calls++;
-    printf("and the next one: %s\n", ctrie_shared_hear(&seats[0], last) == CTRIE_YES ? "made" : "not made");
+    printf("and the next one: %s\n", heard(&seats[0], last));
+    last.shard = 8;
+    last.calls = 1;
+    printf("the first one of a ninth shard: %s\n", heard(&seats[0], last));
 
     /* Nobody else is there now: a try comes in. */
     printf("a try: %s\n", ctrie_shared_error(ctrie_shared_try_get(mine, 0, 7, &value)));

@@ -1,7 +1,8 @@
 /*
  * A list of work that threads share. Who is free takes any one task: it finds one by ctrie_shared_first and removes it by
  * ctrie_shared_remove_if, which tells YES to one alone of those that found it. So each task is done once, whoever does it,
- * and a task may add others. The list was frozen before the work began, and in the end all is as planned again.
+ * and a task may add others. The list was frozen before the work began, and in the end all is as planned again. Another list
+ * is drafted in a copy.
  *
  *     cc -Iinclude examples/c/work_list.c out/c/lib/libctrie.a -pthread -o work_list && ./work_list
  */
@@ -55,6 +56,27 @@ static void *work(void *argument) {
     return NULL;
 }
 
+static void print_tasks(struct ctrie_seat *seat, uint16_t handle, const char *name) {
+    printf("%s: task 7 %s", name, answer(ctrie_shared_contains(seat, handle, 7)));
+    printf(", task %d %s\n", PLANNED, answer(ctrie_shared_contains(seat, handle, PLANNED)));
+}
+
+/* Drafts a list that has no planned task, and one that the plan hasn't: the plan stays as it is. */
+static void draft_another(struct ctrie_seat *seat, uint16_t plan) {
+    uint16_t draft;
+    uint64_t handles;
+    check(ctrie_shared_snapshot(seat, plan, &draft), "snapshot");
+    check(ctrie_shared_clear(seat, draft), "clear");
+    check(ctrie_shared_put(seat, draft, PLANNED, 10, NULL), "put");
+    print_tasks(seat, draft, "the draft");
+    print_tasks(seat, plan, "the plan");
+    check(ctrie_shared_handles(seat, &handles), "handles");
+    check(ctrie_shared_close(seat, draft), "close");
+    printf("open handles: %" PRIu64, handles);
+    check(ctrie_shared_handles(seat, &handles), "handles");
+    printf(", without the draft %" PRIu64 "\n", handles);
+}
+
 /* Does all that is in the list, and prints what it came to. */
 static void work_all(struct ctrie_seat *seats) {
     static struct worker workers[WORKERS];
@@ -103,13 +125,16 @@ int main(void) {
     printf("one more: %s", answer(ctrie_shared_first(mine, 0, &task)));
     printf(", worth %" PRIu64 "\n", task.value);
     printf("another plan: %s\n", answer(ctrie_shared_restore(mine, plan, 0)));
+    draft_another(mine, plan);
     check(ctrie_shared_close(mine, plan), "close");
     print_plan(mine, plan);
     printf("as it was planned once: %s\n", answer(ctrie_shared_restore(mine, 0, plan)));
 
-    /* No call finds CTRIE_SLOTS_FOR_A_CALL slots in 64. */
+    /* No call finds CTRIE_SLOTS_FOR_A_CALL slots in 64, of which a new map takes two. */
     check(ctrie_shared_new(&small, 1, 64, CTRIE_FOLD, 1), "new");
-    printf("room for any call in a small map: %s\n", answer(ctrie_shared_has_room(&small)));
+    printf("room for any call in a small map: %s", answer(ctrie_shared_has_room(&small)));
+    check(ctrie_shared_free_slots(&small, &count), "free_slots");
+    printf(", free slots: %" PRIu64 "\n", count);
 
     ctrie_shared_free(&small);
     for (i = 0; i <= WORKERS; i++) ctrie_shared_free(&seats[i]);

@@ -1,5 +1,5 @@
 -- What the calls do, each in the words of the map's own contract.
-use Rattle.std.specs.Prelude.{◌≡◌, ◌⊎◌, ◌<◌, ◌+◌, ℕ, nat_eq, List, length, Bool, Option, Some, None, Result, Ok, IfOk, IfErr, if◌then◌else◌}
+use Rattle.std.specs.Prelude.{◌≡◌, ◌⊎◌, ◌<◌, ◌≤◌, ◌+◌, ℕ, nat_eq, List, length, Bool, Option, Some, None, Result, Ok, IfOk, IfErr, IsTrue, if◌then◌else◌}
 use Rattle.std.specs.Prelude as list
 use Rattle.std.specs.FinMap as map
 use Rattle.ctrie_base.specs.declared.hashes.HashKind.{HashKind}
@@ -10,8 +10,10 @@ use Rattle.history.specs.declared.calls.Call.{Call}
 use Rattle.history.specs.declared.calls.Call.TheVariants.{Clear, Close, Freeze, Put, PutIfAbsent, Remove, RemoveIf, Replace, ReplaceIf, Snapshot}
 use Rattle.history.specs.Effects.{has_value}
 use Rattle.history.specs.Worlds.{KeyMap}
+use Rattle.shared_map.specs.Beneath.proof_alone.specs.Beneath.machine_model.specs.States.{handle_limit}
 use Rattle.shared_map.specs.Beneath.proof_alone.specs.Sweeps.{UsesReached}
 use Rattle.shared_map.specs.Beneath.slot_arena.specs.Heaps.{in_use}
+use Rattle.shared_map.specs.Beneath.slot_arena.specs.Refs.{most_slots}
 use Rattle.shared_map.specs.Beneath.ctrie_map.specs.declared.errors.MapError.{MapError}
 use Rattle.shared_map.specs.Beneath.ctrie_map.specs.declared.errors.MapError.TheVariants.{Memory}
 use Rattle.shared_map.specs.Beneath.ctrie_map.specs.Batches.{work_of_changes}
@@ -19,9 +21,11 @@ use Rattle.shared_map.specs.Beneath.ctrie_map.specs.Changes.{Changes, Closes, Co
 use Rattle.shared_map.specs.Beneath.ctrie_map.specs.Changes.{removed_if_it_has, set_if_absent, set_if_it_has, set_if_there}
 use Rattle.shared_map.specs.Beneath.ctrie_map.specs.Costs.{WorksUpTo, work_of_a_change, work_of_a_close, work_of_a_copy}
 use Rattle.shared_map.specs.Beneath.ctrie_map.specs.Filling.{PutsAll, RefusesPuts}
+use Rattle.shared_map.specs.Beneath.ctrie_map.specs.Names.{IsNext}
+use Rattle.shared_map.specs.Beneath.ctrie_map.specs.Popping.{RefusesPop}
 use Rattle.shared_map.specs.Beneath.ctrie_map.specs.Maps.{AreSlots, IsNew, MapState, RefusesSizes, free_of, handles_of}
 use Rattle.shared_map.specs.Beneath.ctrie_map.specs.Reading.{IsOneOf, Reads, reading, without, writability}
-use Rattle.shared_map.specs.Beneath.ctrie_map.specs.Restoring.{RefusesRestore, Restores}
+use Rattle.shared_map.specs.Beneath.ctrie_map.specs.Restoring.{HasLifeIfTried, RefusesRestore, Restores}
 use Rattle.ctrie_c.specs.Answers.{bad_hash, code_limit, done_told, has_map}
 use Rattle.ctrie_c.specs.Buffers.{Fills}
 use Rattle.ctrie_c.specs.Listing.{entry_of}
@@ -49,19 +53,20 @@ abbrev pub Contains : ℕ → ℕ → Result Bool MapError → MapState → MapS
 Contains handle key told old new = (told ≡ reading old handle (λ m. map.contains_key m key)) × (new ≡ old)
 
 abbrev pub TellsOpen : ℕ → Result Bool MapError → MapState → MapState → Type 0
-TellsOpen handle told old new = (told ≡ Ok (map.contains_key (handles_of old) handle)) × (new ≡ old)
+TellsOpen handle told old new =
+    (told ≡ Ok (map.contains_key (handles_of old) handle)) × (IsTrue (map.contains_key (handles_of old) handle) → handle < handle_limit) × (new ≡ old)
 
 abbrev pub TellsWritable : ℕ → Result Bool MapError → MapState → MapState → Type 0
 TellsWritable handle told old new = (told ≡ writability old handle) × (new ≡ old)
 
 abbrev pub Counts : ℕ → Result ℕ MapError → MapState → MapState → Type 0
-Counts handle told old new = (told ≡ reading old handle (λ m. map.len m)) × (new ≡ old)
+Counts handle told old new = (told ≡ reading old handle (λ m. map.len m)) × IfOk told (λ count. count ≤ most_slots) × (new ≡ old)
 
 abbrev pub Finds : ℕ → Result (Option (ℕ × ℕ)) MapError → MapState → MapState → Type 0
 Finds handle told old new = Reads old handle IsOneOf told × (new ≡ old)
 
 abbrev pub CountsHandles : Result ℕ MapError → MapState → MapState → Type 0
-CountsHandles told old new = (told ≡ Ok (map.len (handles_of old))) × (new ≡ old)
+CountsHandles told old new = (told ≡ Ok (map.len (handles_of old))) × (map.len (handles_of old) ≤ handle_limit) × (new ≡ old)
 
 -- and these, in ascending order, as many as there is room for
 abbrev pub ListsHandles : List ℕ → List ℕ → Result ℕ MapError → MapState → MapState → Type 0
@@ -124,7 +129,7 @@ RemovesIf handle key value = ChangesIf (RemoveIf handle key value) handle key va
 abbrev pub Pops : ℕ → Result (Option (ℕ × ℕ)) MapError → MapState → MapState → Type 0
 Pops handle told old new =
     IfOk told (λ popped. HasLife old × Changes old handle (λ m. IsOneOf m popped) (without popped) new)
-    × IfErr told (λ error. (key : ℕ) × Refuses old (Remove handle key) ⊥ new error) × WorksUpTo work_of_a_change old new
+    × IfErr told (RefusesPop old handle new) × WorksUpTo work_of_a_change old new
 
 abbrev pub Clears : ℕ → Result (Unit {0}) MapError → MapState → MapState → Type 0
 Clears handle told old new =
@@ -132,10 +137,11 @@ Clears handle told old new =
 
 -- ---- handles
 
--- a copy of this kind by this call
+-- a copy of this kind by this call, which has the next number
 abbrev pub Opens : Call → ℕ → Access → Result ℕ MapError → MapState → MapState → Type 0
 Opens call handle access told old new =
-    IfOk told (λ copy. HasLife old × Copies old handle access copy new) × IfErr told (Refuses old call ⊥ new) × WorksUpTo work_of_a_copy old new
+    IfOk told (λ copy. HasLife old × Copies old handle access copy new) × IfOk told (IsNext old.names.last (handles_of old)) × IfErr told (Refuses old call ⊥ new)
+    × WorksUpTo work_of_a_copy old new
 
 abbrev pub Snapshots : ℕ → Result ℕ MapError → MapState → MapState → Type 0
 Snapshots handle = Opens (Snapshot handle) handle Writable
@@ -146,7 +152,7 @@ Freezes handle = Opens (Freeze handle) handle ReadOnly
 abbrev pub RestoresIt : ℕ → ℕ → Result (Unit {0}) MapError → MapState → MapState → Type 0
 RestoresIt handle copy told old new =
     IfOk told (λ _. Restores old handle copy new) × (handle ≡ copy → new ≡ old) × IfErr told (RefusesRestore old handle copy new)
-    × WorksUpTo (work_of_a_copy + work_of_a_close) old new
+    × HasLifeIfTried told old handle copy × WorksUpTo (work_of_a_copy + work_of_a_close) old new
 
 abbrev pub ClosesIt : ℕ → Result (Unit {0}) MapError → MapState → MapState → Type 0
 ClosesIt handle told old new =

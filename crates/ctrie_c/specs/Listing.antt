@@ -1,5 +1,5 @@
 -- How the pairs of a map are listed, in parts.
-use Rattle.std.specs.Prelude.{◌≡◌, ℕ, true, List, [], ◌∷◌, length, map, Option, Some, None, Result, Ok, IfOk, IfErr, if◌then◌else◌}
+use Rattle.std.specs.Prelude.{◌≡◌, ◌≤◌, ℕ, true, List, [], ◌∷◌, length, map, Option, Some, None, Result, Ok, IfOk, IfErr, if◌then◌else◌}
 use Rattle.std.specs.FinMap as finite
 use Rattle.shared_map.specs.Beneath.proof_core.specs.Reading.{next_of}
 use Rattle.shared_map.specs.Beneath.proof_core.specs.Scanning.{scanned}
@@ -30,9 +30,9 @@ entry_of pair = (pair.key, pair.value)
 abbrev pub pair_told : ℕ → Pair → Result (Option (ℕ × ℕ)) MapError
 pair_told code pair = told_by None (Some (entry_of pair)) code
 
--- this part is written at the front of a buffer, and the cursor goes behind it
+-- this part, for which there is room, is written at the front of a buffer, and the cursor goes behind it
 abbrev pub Writes : List (ℕ × ℕ) → Cursor → List Pair → ℕ → Cursor → List Pair → Type 0
-Writes part cursor before count behind_it after = (count ≡ length part) × Fills (map pair_of part) before after × (behind_it ≡ behind cursor part)
+Writes part cursor before count behind_it after = (count ≡ length part) × (count ≤ length before) × Fills (map pair_of part) before after × (behind_it ≡ behind cursor part)
 
 -- what comes next in a handle's map, as much as there is room for
 abbrev pub reads_next : MapState → ℕ → Cursor → ℕ → Result (List (ℕ × ℕ)) MapError

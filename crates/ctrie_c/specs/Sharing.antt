@@ -115,7 +115,8 @@ Shares (Some kind) slots shards seats code (Some old) after = (code ≡ has_map)
 Shares (Some kind) slots shards seats code None (Some made) =
     (code ≡ 0) × IsNewShared slots kind shards seats made.map (made.spare ++ made.seat ∷ []) × AreSlots slots × AreShardNumbers shards
 Shares (Some kind) slots shards seats code None None =
-    ((code ≡ no_seat) × (seats ≡ 0)) ⊎ ((code < code_limit) × IfOk (done_told code) (λ _. ⊥) × IfErr (done_told code) (RefusesNew slots shards))
+    ((code ≡ no_seat) × (seats ≡ 0) × AreSlots slots × AreShardNumbers shards)
+    ⊎ ((code < code_limit) × IfOk (done_told code) (λ _. ⊥) × IfErr (done_told code) (RefusesNew slots shards))
 
 -- one of these seats is held at this map, and hands out the others
 abbrev pub HoldsOne : MapRoom → List MapSeat → ℕ → Option Sharing → Type 0

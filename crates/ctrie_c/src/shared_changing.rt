@@ -1,4 +1,4 @@
-//! Calls of a seat at a shared map that change it. Each tries once, and doesn't wait.
+//! Calls of a seat at a shared map that change it. Each is one try, which waits a short while at most.
 
 ghost use Rattle.std.specs.Prelude.{◌≡◌, nat_eq, false};
 ghost use Rattle.history.specs.declared.calls.Call.TheVariants as call;
@@ -142,6 +142,7 @@ pub extern "C" fn ctrie_shared_try_remove_if(
 #[unsafe(no_mangle)]
 pub extern "C" fn ctrie_shared_try_clear(alloc: Global, held: &mut HeldSeat, handle: u16) -> u32
     ensures does { Tries held.old.state held.new.state result (Says done_in (Do (call.Clear handle)) (done_told result)) }
+    ensures not_yes { nat_eq result 1 ≡ false }
 {
     match try_ask(alloc, held, Ask::Do(Call::Clear { handle })) {
         Err(code) => code,
@@ -159,6 +160,7 @@ pub extern "C" fn ctrie_shared_try_snapshot(
 ) -> u32
     ensures does { Tries held.old.state held.new.state result (Says opened_in (Do (call.Snapshot handle)) (number_told result copy.new)) }
     ensures kept { nat_eq result 0 ≡ false → copy.new ≡ copy.old }
+    ensures not_yes { nat_eq result 1 ≡ false }
 {
     match try_ask(alloc, held, Ask::Do(Call::Snapshot { handle })) {
         Err(code) => code,
@@ -176,6 +178,7 @@ pub extern "C" fn ctrie_shared_try_freeze(
 ) -> u32
     ensures does { Tries held.old.state held.new.state result (Says opened_in (Do (call.Freeze handle)) (number_told result copy.new)) }
     ensures kept { nat_eq result 0 ≡ false → copy.new ≡ copy.old }
+    ensures not_yes { nat_eq result 1 ≡ false }
 {
     match try_ask(alloc, held, Ask::Do(Call::Freeze { handle })) {
         Err(code) => code,
@@ -192,6 +195,7 @@ pub extern "C" fn ctrie_shared_try_restore(
     copy: u16,
 ) -> u32
     ensures does { Tries held.old.state held.new.state result (Says restored_in (Restore handle copy) (done_told result)) }
+    ensures not_yes { nat_eq result 1 ≡ false }
 {
     match try_ask(alloc, held, Ask::Restore { handle, copy }) {
         Err(code) => code,
@@ -203,6 +207,7 @@ pub extern "C" fn ctrie_shared_try_restore(
 #[unsafe(no_mangle)]
 pub extern "C" fn ctrie_shared_try_close(alloc: Global, held: &mut HeldSeat, handle: u16) -> u32
     ensures does { Tries held.old.state held.new.state result (Says done_in (Do (call.Close handle)) (done_told result)) }
+    ensures not_yes { nat_eq result 1 ≡ false }
 {
     match try_ask(alloc, held, Ask::Do(Call::Close { handle })) {
         Err(code) => code,

@@ -1,4 +1,4 @@
-//! Calls of a seat at a shared map that change nothing. Each tries once, and doesn't wait.
+//! Calls of a seat at a shared map that change nothing. Each is one try, which waits a short while at most.
 
 ghost use Rattle.std.specs.Prelude.{◌≡◌, nat_eq, false, length, Ok};
 ghost use Rattle.history.specs.declared.calls.Call.TheVariants as call;
@@ -106,6 +106,7 @@ pub extern "C" fn ctrie_shared_try_count(
 ) -> u32
     ensures does { Tries held.old.state held.new.state result (Says counted_in (Do (call.Count handle)) (number_told result count.new)) }
     ensures kept { nat_eq result 0 ≡ false → count.new ≡ count.old }
+    ensures not_yes { nat_eq result 1 ≡ false }
 {
     match try_ask(alloc, held, Ask::Do(Call::Count { handle })) {
         Err(code) => code,
@@ -122,6 +123,7 @@ pub extern "C" fn ctrie_shared_try_handles(
 ) -> u32
     ensures does { Tries held.old.state held.new.state result (Says (λ told. Ok (number_in told)) Handles (number_told result handles.new)) }
     ensures kept { nat_eq result 0 ≡ false → handles.new ≡ handles.old }
+    ensures not_yes { nat_eq result 1 ≡ false }
 {
     match try_ask(alloc, held, Ask::Handles) {
         Err(code) => code,
@@ -138,6 +140,7 @@ pub extern "C" fn ctrie_shared_try_free_slots(
 ) -> u32
     ensures does { Tries held.old.state held.new.state result (Says (λ told. Ok (number_in told)) Free (number_told result free.new)) }
     ensures kept { nat_eq result 0 ≡ false → free.new ≡ free.old }
+    ensures not_yes { nat_eq result 1 ≡ false }
 {
     match try_ask(alloc, held, Ask::Free) {
         Err(code) => code,
@@ -168,6 +171,7 @@ pub extern "C" fn ctrie_shared_try_entries(
     ensures does { Tries held.old.state held.new.state result (ListsFront pairs.old pairs.new handle (number_told result count.new)) }
     ensures kept { nat_eq result 0 ≡ false → count.new ≡ count.old }
     ensures stays { nat_eq result 0 ≡ false → pairs.new ≡ pairs.old }
+    ensures not_yes { nat_eq result 1 ≡ false }
 {
     match try_ask(alloc, held, Ask::Do(Call::Entries { handle })) {
         Err(code) => code,
@@ -195,6 +199,7 @@ fn write_front(all: &[(u64, u64)], pairs: &mut [Pair]) -> u64
 pub extern "C" fn ctrie_shared_last(alloc: Global, held: &mut HeldSeat, last: &mut Count) -> u32
     ensures does { TellsLast held.old.state held.new.state result (count_told result last.new) }
     ensures kept { nat_eq result 0 ≡ false → last.new ≡ last.old }
+    ensures not_yes { nat_eq result 1 ≡ false }
 {
     match take_seat(alloc, held) {
         None => NO_MAP,

@@ -28,6 +28,7 @@ pub extern "C" fn ctrie_shared_try_scan(
     ensures does { Tries held.old.state held.new.state result (ScansShard shard cursor.old pairs.old cursor.new pairs.new handle (number_told result count.new)) }
     ensures kept { nat_eq result 0 ≡ false → count.new ≡ count.old }
     ensures stays { nat_eq result 0 ≡ false → (cursor.new ≡ cursor.old) × (pairs.new ≡ pairs.old) }
+    ensures not_yes { nat_eq result 1 ≡ false }
 {
     let scan = Ask::Scan {
         handle,
@@ -62,6 +63,7 @@ fn write_part(part: &[(u64, u64)], cursor: &mut Cursor, pairs: &mut [Pair]) -> u
 pub extern "C" fn ctrie_shared_shards(alloc: Global, held: &mut HeldSeat, shards: &mut u64) -> u32
     ensures does { TellsShards held.old.state held.new.state result (number_told result shards.new) }
     ensures kept { nat_eq result 0 ≡ false → shards.new ≡ shards.old }
+    ensures not_yes { nat_eq result 1 ≡ false }
 {
     match take_seat(alloc, held) {
         None => NO_MAP,

@@ -22,6 +22,7 @@ pub returns : goal.returns
 returns c =
     let i = c.loop-count.count in let part = c.args.part.now in let filled = c.loop-count.invariant.0 in let many = length-map part pair_of in (
       omega (arith, c.loop-count-test.false, filled.0, many),
+      filled.1,
       rows_filled (map pair_of part) c.args.pairs.now c.loop-count.pairs i filled (omega (arith, many, c.loop-count-test.false)),
       c.loop-count.invariant.1 ∙ ap (behind c.args.cursor.now) (take_all i part c.loop-count-test.false),
     )

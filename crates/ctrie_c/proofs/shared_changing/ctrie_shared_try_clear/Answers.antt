@@ -3,8 +3,8 @@ use Rattle.shared_map.specs.Telling.{done_in}
 use Rattle.ctrie_c.proofs.Tries.{tried, untried}
 use Rattle.ctrie_c.proofs.shared_changing.ctrie_shared_try_clear.Goals as goal
 
-pub returns-in-Err : goal.returns-in-Err
-returns-in-Err c = record { does = untried _ _ _ _ c.in-Err.ensures.refused }
+pub returns-in-Err-clause-does : goal.returns-in-Err-clause-does
+returns-in-Err-clause-does c = untried _ _ _ _ c.in-Err.ensures.refused
 
-pub returns-in-Ok : goal.returns-in-Ok
-returns-in-Ok c = record { does = tried done_in _ _ _ _ _ _ c.in-Ok.ensures.asked c.tell_done.ensures.bound (c.tell_done.ensures.told ∙ c.done.ensures) }
+pub returns-in-Ok-clause-does : goal.returns-in-Ok-clause-does
+returns-in-Ok-clause-does c = tried done_in _ _ _ _ _ _ c.in-Ok.ensures.asked c.tell_done.ensures.bound (c.tell_done.ensures.told ∙ c.done.ensures)
