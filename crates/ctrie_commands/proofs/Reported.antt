@@ -3,16 +3,14 @@ use Rattle.std.proofs.Common.{◌≡◌, ℕ, zero, suc, ◌+◌, ◌-◌, ◌<�
 use Rattle.std.specs.Prelude.{Ok, Some, slice_get, All, sum_by}
 use Rattle.std.proofs.lemmas.List.Elements.{All-nil, All-cons, All-same, All-map}
 use Rattle.std.proofs.lemmas.List.{length-map}
-use Rattle.std.proofs.lemmas.Option.{none-some}
 use Rattle.std.specs.List.{Contains}
 use Rattle.ctrie_base.specs.declared.refusals.Refusal.{Refusal}
 use Rattle.ctrie_base.specs.declared.refusals.Refusal.TheVariants.{Spent}
 use Rattle.ctrie_base.specs.declared.hashes.HashKind.{HashKind}
-use Rattle.history.specs.Histories.{IsRunning}
 use Rattle.history.proofs.Places.{at_within}
 use Rattle.ctrie_commands.specs.Beneath.history_text.specs.Grammar.{EventFits}
 use Rattle.ctrie_commands.specs.Beneath.machine_model.specs.declared.steps.Limits.{Limits}
-use Rattle.lock_runner.specs.ActorHistory.Answers.{AreAnswersOf}
+use Rattle.lock_runner.specs.ActorHistory.Answers.{AreAnswersOf, RunsJust}
 use Rattle.script_commands.specs.Recorded.{recorded_in}
 use Rattle.ctrie_commands.specs.Beneath.proof_runs.specs.Machines.{Taken, past_of}
 use Rattle.ctrie_commands.specs.Beneath.step_machine.specs.Records.{IsRecordOf}
@@ -24,10 +22,10 @@ use Rattle.lock_runner.specs.Finishing.{IsHere, IsMissing, IsGathered, IsFinishe
 use Rattle.ctrie_commands.specs.Beneath.script_text.specs.Threads.Reading.{Reading}
 use Rattle.ctrie_commands.specs.declared.working.Worker.{Worker}
 use Rattle.script_commands.specs.Reports.{line, hash_text, event_lines, last_lines, record_report}
-use Rattle.ctrie_commands.specs.Working.{calls_of, Performed, answered_calls, HasEnded, Swept}
-use Rattle.ctrie_commands.specs.Threads.{with_sweeper, RunsNothing, IsPerformedBy, IsSweptBy, IsCarriedOut, all_denied, thread_report, IsReportOf}
+use Rattle.ctrie_commands.specs.Working.{RunsNothing, calls_of, Performed, answered_calls, HasEnded, Swept}
+use Rattle.ctrie_commands.specs.Threads.{with_sweeper, IsPerformedBy, IsSweptBy, IsCarriedOut, all_denied, thread_report, IsReportOf}
 use Rattle.ctrie_commands.proofs.ThreadReports.{record_text_legal}
-use Rattle.ctrie_commands.proofs.Advancing.{performed_later}
+use Rattle.ctrie_commands.proofs.Advancing.{performed_later, nothing_runs}
 use Rattle.ctrie_commands.proofs.Swept.{swept_later}
 use Rattle.ctrie_commands.proofs.Ranks.{AreRanked, from_map, to_map, swept_by_last}
 
@@ -63,9 +61,8 @@ none_missing script limits runner made workers seats is ranks are (actor, low, h
 -- what the seat doesn't run its actor doesn't
 runs_nothing : (board : Taken) (seats : List Seated) (runner : Room) (k actor : ℕ) (seat : Seated) → IsGathered runner seats board → slice_get seats k ≡ Some seat →
     seat.actor ≡ actor → IsIdle seat → RunsNothing actor board
-runs_nothing board seats runner k actor seat gathered at owns idle id runs =
-    let found = gathered.running k seat at id (subst (λ a. IsRunning (past_of board).events id a) (sym owns) runs) in
-    none-some found.0 (sym idle ∙ found.1)
+runs_nothing board seats runner k actor seat gathered at owns idle =
+    nothing_runs actor board seat (subst (λ a. RunsJust a (past_of board).events seat.running) owns (gathered.running k seat at)) idle
 
 runs_unless : (board : Taken) (seats : List Seated) (runner : Room) (k actor : ℕ) (worker : Worker) → IsGathered runner seats board → slice_get seats k ≡ Some worker.seat →
     worker.seat.actor ≡ actor → HasEnded worker → RunsNothing actor board ⊎ Contains worker.denied.items Spent

@@ -4,7 +4,6 @@ use Rattle.std.specs.Prelude.{◌≡◌, ℕ, ◌+◌, ◌<◌, ◌⊎◌, true,
 use Rattle.ctrie_base.specs.declared.refusals.Refusal.{Refusal}
 use Rattle.ctrie_base.specs.declared.refusals.Refusal.TheVariants.{Spent}
 use Rattle.ctrie_base.specs.declared.hashes.HashKind.{HashKind}
-use Rattle.history.specs.Histories.{IsRunning}
 use Rattle.ctrie_commands.specs.Beneath.history_commands.specs.Faults.{IsFault}
 use Rattle.ctrie_commands.specs.Beneath.history_commands.specs.Written.{AppendsSuch, AppendsPartOf}
 use Rattle.ctrie_commands.specs.Beneath.machine_model.specs.declared.steps.Limits.{Limits}
@@ -17,17 +16,13 @@ use Rattle.script_commands.specs.Recorded.{Recorded, recorded_in}
 use Rattle.script_commands.specs.Reports.{line, hash_text, event_lines, last_lines, denied_lines}
 use Rattle.ctrie_commands.specs.Beneath.history_commands.specs.Verdicts.{IsVerdict}
 use Rattle.script_commands.specs.Legality.{told_in, IsLegalText}
-use Rattle.ctrie_commands.specs.Working.{calls_of, Performed, answered_calls, Swept}
+use Rattle.ctrie_commands.specs.Working.{RunsNothing, calls_of, Performed, answered_calls, Swept}
 
 -- ---- what was done
 
 -- the sizes of the machine: one more actor takes the steps of the sweep
 abbrev pub with_sweeper : Limits → Limits
 with_sweeper limits = record limits { actors = limits.actors + 1 }
-
--- each operation of the actor that has begun has ended
-abbrev pub RunsNothing : ℕ → Taken → Type 0
-RunsNothing actor board = (id : ℕ) → ¬ IsRunning (past_of board).events id actor
 
 -- The answers of the actor in the history are those of its calls in the lines, in their order, but for those that the definition denied. Nothing runs
 -- still, unless the machine has taken all its steps.

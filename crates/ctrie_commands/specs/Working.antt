@@ -5,14 +5,17 @@ use Rattle.std.specs.declared.alloc.AllocError.{AllocError}
 use Rattle.std.specs.Global.{Vec}
 use Rattle.ctrie_base.specs.declared.refusals.Refusal.{Refusal}
 use Rattle.history.specs.declared.calls.Call.{Call}
+use Rattle.history.specs.Histories.{IsRunning}
 use Rattle.ctrie_base.specs.declared.refusals.Refusal.TheVariants.{Spent}
 use Rattle.ctrie_commands.specs.Beneath.machine_model.specs.declared.steps.Step.TheVariants as step
 use Rattle.ctrie_commands.specs.Beneath.machine_model.specs.Machine.{next}
 use Rattle.ctrie_commands.specs.Beneath.proof_runs.specs.Machines.{Taken, past_of, state_of}
 use Rattle.lock_runner.specs.declared.accounts.Answer.{Answer}
-use Rattle.lock_runner.specs.ActorHistory.Answers.{AreAnswersOf}
+use Rattle.lock_runner.specs.declared.accounts.Running.{Running}
+use Rattle.lock_runner.specs.ActorHistory.Answers.{AreAnswersOf, IsBegunIn, RunsJust}
 use Rattle.lock_runner.specs.Boards.{GoesOn}
 use Rattle.lock_runner.specs.Seats.{Seated, IsIdle}
+use Rattle.lock_runner.specs.Stepping.{IsDenied}
 use Rattle.ctrie_commands.specs.Beneath.script_text.specs.declared.thread_lines.ThreadLine.{ThreadLine}
 use Rattle.ctrie_commands.specs.Beneath.script_text.specs.declared.thread_lines.ThreadLine.TheVariants.{Do, Sweep}
 use Rattle.ctrie_commands.specs.Beneath.script_text.specs.Threads.Reading.{Reading}
@@ -55,31 +58,41 @@ answered_calls answers = map (λ answer. answer.call) answers
 abbrev pub OnTheWay : (Taken → Type 0) → Taken → Type 0
 OnTheWay IsSo board = (seen : Taken) × (board.limits ≡ seen.limits) × GoesOn seen.steps board.steps × IsSo seen
 
--- the definition denies the actor's call; or the call has begun, and its next step is denied since the machine has taken all its steps
-abbrev pub Denies : ℕ → Call → Refusal → Taken → Type 0
-Denies actor call refusal board =
-    (next (state_of board) (step.Begin actor call) ≡ Err refusal) ⊎ ((next (state_of board) (step.Go actor) ≡ Err Spent) × (refusal ≡ Spent))
+-- each operation of the actor that has begun has ended
+abbrev pub RunsNothing : ℕ → Taken → Type 0
+RunsNothing actor board = (id : ℕ) → ¬ IsRunning (past_of board).events id actor
+
+-- the actor's call has begun and not ended
+abbrev pub RunsCall : ℕ → Call → Taken → Type 0
+RunsCall actor call board = (operation : Running) × IsBegunIn (past_of board).events actor operation × (operation.call ≡ call)
+
+-- The definition denies the actor's call, and none of the actor's runs, unless an earlier line was told that the machine has taken all its steps; or the
+-- call has begun, and its next step is denied since the machine has taken all its steps.
+abbrev pub Denies : ℕ → List Refusal → Call → Refusal → Taken → Type 0
+Denies actor denied call refusal board =
+    ((RunsNothing actor board ⊎ Contains denied Spent) × (next (state_of board) (step.Begin actor call) ≡ Err refusal))
+    ⊎ (RunsCall actor call board × (next (state_of board) (step.Go actor) ≡ Err Spent) × (refusal ≡ Spent))
 
 -- just these calls of the actor have been answered
 abbrev pub HasAnswered : ℕ → List Call → Taken → Type 0
 HasAnswered actor calls board = (answers : List Answer) × AreAnswersOf actor (past_of board).events answers × (answered_calls answers ≡ calls)
 
--- it denies the call where just these calls of the actor have been answered
-abbrev pub DeniesBehind : ℕ → List Call → Call → Refusal → Taken → Type 0
-DeniesBehind actor answered call refusal board = Denies actor call refusal board × HasAnswered actor answered board
+-- it denies the call so where just these calls of the actor have been answered, and earlier ones were denied for these reasons
+abbrev pub DeniesBehind : ℕ → List Call → List Refusal → Call → Refusal → Taken → Type 0
+DeniesBehind actor answered denied call refusal board = Denies actor denied call refusal board × HasAnswered actor answered board
 
 -- the definition denies a step of the sweep
 abbrev pub DeniesSweep : Refusal → Taken → Type 0
 DeniesSweep refusal board = next (state_of board) step.Sweep ≡ Err refusal
 
 -- The actor's calls were performed on the way to this board, one after the other: these of them were answered, and the others were denied, for these
--- reasons, each where just the calls before it that were answered had been.
+-- reasons, each where just the calls before it that were answered had been, and none of the actor's ran but a call that was denied in its midst.
 pub data Performed (actor : ℕ) (board : Taken) : List Call → List Call → List Refusal → Type 0 where
   None : Performed actor board [] [] []
   Answered : (calls answered : List Call) (denied : List Refusal) (call : Call) → Performed actor board calls answered denied →
       Performed actor board (calls ++ call ∷ []) (answered ++ call ∷ []) denied
   Denied : (calls answered : List Call) (denied : List Refusal) (call : Call) (refusal : Refusal) → Performed actor board calls answered denied →
-      OnTheWay (DeniesBehind actor answered call refusal) board → Performed actor board (calls ++ call ∷ []) answered (denied ++ refusal ∷ [])
+      OnTheWay (DeniesBehind actor answered denied call refusal) board → Performed actor board (calls ++ call ∷ []) answered (denied ++ refusal ∷ [])
 
 -- ---- one thread
 
@@ -90,9 +103,19 @@ pub record IsUnused (seat : Seated) : Type 0 where
   pub heard : seat.heard ≡ 0
   pub idle : IsIdle seat
 
--- a call that was denied has left nothing that runs, unless the machine has taken all its steps
-abbrev pub LeavesNothing : Refusal → Worker → Worker → Type 0
-LeavesNothing refusal before after = (after.seat.running ≡ before.seat.running) ⊎ (refusal ≡ Spent)
+-- the seat's actor runs this call
+abbrev pub SeatRuns : Call → Seated → Type 0
+SeatRuns call seat = (operation : Running) × (seat.running ≡ Some operation) × (operation.call ≡ call)
+
+-- the call didn't begin, since the definition denies it, and what ran before runs still; or it runs, and the machine has taken all its steps
+abbrev pub WasDenied : Call → Refusal → Seated → Seated → Type 0
+WasDenied call refusal before after =
+    ((after.running ≡ before.running) × IsDenied after (step.Begin after.actor call) refusal)
+    ⊎ (SeatRuns call after × IsDenied after (step.Go after.actor) Spent × (refusal ≡ Spent))
+
+-- the answers that the seat has, and what it runs, are all that the machine tells of its actor
+abbrev pub IsAllTold : Seated → Type 0
+IsAllTold seat = AreAnswersOf seat.actor (past_of seat.seen).events seat.answers × RunsJust seat.actor (past_of seat.seen).events seat.running
 
 -- one call more was performed
 abbrev pub HasPerformed : Call → Worker → Worker → Type 0
@@ -100,8 +123,7 @@ HasPerformed call before after =
     ((answer : Answer) × (after.seat.answers ≡ before.seat.answers ++ answer ∷ []) × (answer.call ≡ call) × (after.denied.items ≡ before.denied.items)
     × IsIdle after.seat)
     ⊎ ((after.seat.answers ≡ before.seat.answers) × (refusal : Refusal) × (after.denied.items ≡ before.denied.items ++ refusal ∷ [])
-    × Denies after.seat.actor call refusal after.seat.seen × AreAnswersOf after.seat.actor (past_of after.seat.seen).events after.seat.answers
-    × LeavesNothing refusal before after)
+    × WasDenied call refusal before.seat after.seat × IsAllTold after.seat)
 
 -- the call that a line names, if it names one, was performed
 abbrev pub HasPerformedLine : List Call → Worker → Worker → Type 0

@@ -1,16 +1,18 @@
 -- The end of a runner.
-use Rattle.std.specs.Prelude.{◌≡◌, ℕ, ◌+◌, List, [], ◌∷◌, ◌++◌, Option, Some, slice_get, slice_index_or, unwrap_or, All, sum_by, length, Ok, Err}
-use Rattle.std.proofs.Common.{refl, sym, ap, subst, ◌∙◌, append_assoc, arith}
+use Rattle.std.specs.Prelude.{◌≡◌, ℕ, ◌+◌, ◌≤◌, List, [], ◌∷◌, ◌++◌, Option, Some, slice_get, slice_index_or, unwrap_or, All, sum_by, length, Ok, Err}
+use Rattle.std.proofs.Common.{refl, sym, ap, subst, ◌∙◌, append_assoc, ne_eqb, arith}
 use Rattle.std.proofs.lemmas.List.Sums.{sum_by-cons}
 use Rattle.std.proofs.lemmas.List.Elements.{All-head, All-tail}
 use Rattle.std.proofs.lemmas.Option.{slice_get_within, unwrap_or-slice_get}
+use Rattle.lock_runner.specs.Beneath.machine_model.specs.declared.steps.Step.{Step}
 use Rattle.lock_runner.specs.Beneath.machine_model.specs.declared.steps.Step.TheVariants as step
 use Rattle.lock_runner.specs.Beneath.machine_model.specs.Limits.{bounded}
 use Rattle.lock_runner.specs.Beneath.proof_runs.specs.Machines.{Taken, past_of, AreTaken, fresh}
 use Rattle.step_machine.specs.declared.records.Record.{Record}
 use Rattle.step_machine.specs.Records.{IsRecordOf, IsLegalRecord}
 use Rattle.history.proofs.Places.{at_seam}
-use Rattle.gate.specs.Logs.{Leads}
+use Rattle.gate.specs.Logs.{Leads, calls_of}
+use Rattle.gate.specs.Rules.{AreSeated}
 use Rattle.gate.specs.Seats as gate
 use Rattle.gate.specs.Finishing as finish
 use Rattle.gate.proofs.Summing.{seats_make_the_log}
@@ -21,14 +23,15 @@ use Rattle.lock_runner.specs.declared.asks.Work.{Work}
 use Rattle.lock_runner.specs.declared.asks.Work.TheVariants as work
 use Rattle.lock_runner.specs.declared.seats.Stop.TheVariants.{Denied, Memory, Ahead}
 use Rattle.lock_runner.specs.declared.finishing.Unfinished.TheVariants as unfinished
-use Rattle.lock_runner.specs.ActorHistory.Answers.{AreAnswersOf, RunsNoOther}
+use Rattle.lock_runner.specs.ActorHistory.Answers.{AreAnswersOf, RunsJust}
+use Rattle.lock_runner.specs.ActorHistory.Laws.{IsStepOf}
 use Rattle.lock_runner.specs.Asks.{Told, Hold, Pass, step_of, swept_by, swept}
 use Rattle.lock_runner.specs.Boards.{account_in, sweeps_in, HasFollowed}
 use Rattle.lock_runner.specs.Seats.{Room, Seated, pass_of, seated, sweeps_of, IsTold, IsSeated}
 use Rattle.lock_runner.specs.Holds.{Worked, Answers}
-use Rattle.lock_runner.specs.Finishing.{AreHere, all_swept, IsGathered, recorded, IsFinished}
+use Rattle.lock_runner.specs.Finishing.{IsHere, AreHere, all_swept, IsGathered, recorded, IsFinished}
 use Rattle.lock_runner.proofs.ActorHistory.Told.{answers_are_those_of_the_history}
-use Rattle.lock_runner.proofs.ActorHistory.Runs.{runs_no_other}
+use Rattle.lock_runner.proofs.ActorHistory.Runs.{runs_just}
 use Rattle.lock_runner.proofs.Boards.{goes_on_without, same_account, sweeps_push}
 use Rattle.lock_runner.proofs.Holds.{has_worked, along}
 
@@ -94,6 +97,16 @@ counted_alike (s ∷ seats) told =
       counted_alike seats (All-tail IsTold s seats told),
     )
 
+-- no hold is of a number that isn't a seat's
+no_calls : (number seats : ℕ) (es : List Hold) → (1 ≤ number → number ≤ seats → ⊥) → AreSeated seats es → calls_of number es ≡ []
+no_calls number seats [] out seated = refl
+no_calls number seats (e ∷ es) out seated =
+    let Is : Hold → Type 0 = λ x. (1 ≤ x.seat) × (x.seat ≤ seats) in
+    let its = All-head Is e es seated in
+    let apart : e.seat ≡ number → ⊥ = λ same. out (omega (arith, its.0, same)) (omega (arith, its.1, same)) in
+    let rest : calls_of number (e ∷ es) ≡ calls_of number es = rw (ne_eqb e.seat number apart) refl in
+    rest ∙ no_calls number seats es out (All-tail Is e es seated)
+
 -- ---- the end
 
 -- what contracts see of a runner with this gate
@@ -115,6 +128,15 @@ module _ (gate : gate.Room Shared) (seats : List Seated) (object : Shared) (star
   none_first : sweeps_in all.last.first.machine ≡ 0
   none_first = ap (λ (o : Shared). sweeps_in o.machine) all.first ∙ ap sweeps_in start
 
+  -- an actor without a seat has taken no step
+  none_taken : (actor : ℕ) → ¬ IsHere actor seats → All (λ s. ¬ IsStepOf actor s) object.machine.steps
+  none_taken actor away =
+      let none = no_calls actor gate.seats all.last.log (λ low high. away (here actor low high)) all.calls in
+      let more = (along actor all.last.first all.last.log all.last.object none all.legal).steps in
+      let first : all.last.first.machine.steps ≡ [] = ap (λ (o : Shared). o.machine.steps) all.first ∙ ap (λ (m : Taken). m.steps) start in
+      let rest : object.machine.steps ≡ more.0 = ap (λ (o : Shared). o.machine.steps) all.object_is ∙ more.1 ∙ ap (λ (xs : List Step). xs ++ more.0) first in
+      subst (λ (xs : List Step). All (λ s. ¬ IsStepOf actor s) xs) (sym rest) more.2
+
   gathers : IsGathered (room gate) seats object.machine
   gathers = record {
     limits = ap (λ (o : Shared). o.machine.limits) all.object_is ∙ limits_along all.last.first all.last.log all.last.object all.legal ∙ ap (λ (o : Shared). o.machine.limits) all.first;
@@ -124,8 +146,8 @@ module _ (gate : gate.Room Shared) (seats : List Seated) (object : Shared) (star
         subst (λ xs. AreAnswersOf s.actor (past_of object.machine).events xs) (ap (λ a. a.answers) (account k s at))
         (answers_are_those_of_the_history (bounded object.machine.limits) object.machine.steps s.actor);
     running = λ k s at.
-        subst (λ r. RunsNoOther s.actor (past_of object.machine).events r) (ap (λ a. a.running) (account k s at))
-        (runs_no_other (bounded object.machine.limits) object.machine.steps s.actor);
+        subst (λ r. RunsJust s.actor (past_of object.machine).events r) (ap (λ a. a.running) (account k s at))
+        (runs_just (bounded object.machine.limits) object.machine.steps s.actor);
     sweeps = omega (
       arith,
       ap (λ (o : Shared). sweeps_in o.machine) all.object_is,
@@ -134,6 +156,7 @@ module _ (gate : gate.Room Shared) (seats : List Seated) (object : Shared) (star
       seats_make_the_log Answers pass_of gate seats object here all swept,
       counted_alike seats told,
     );
+    others = none_taken;
   }
 
 pub finished : (gate : gate.Room Shared) (runner : Room) (seats : List Seated) (object : Shared) → room gate ≡ runner → gate.first.machine ≡ fresh gate.first.machine.limits → All IsTold seats →

@@ -1,16 +1,23 @@
--- Steps are counted.
-use Rattle.std.specs.Prelude.{◌≡◌, ℕ, ◌+◌, ◌≤◌, List, [], ◌∷◌, Ok}
-use Rattle.std.proofs.Common.{sym, ap, subst, ◌∙◌, arith}
+-- Steps are counted, and no event is taken back.
+use Rattle.std.specs.Prelude.{◌≡◌, ℕ, ◌+◌, ◌≤◌, List, [], ◌∷◌, length, Ok}
+use Rattle.std.proofs.Common.{sym, ap, subst, ◌∙◌, length-append, arith}
+use Rattle.history.specs.declared.events.Event.TheVariants.{Begin, End}
 use Rattle.lock_runner.specs.Beneath.machine_model.specs.declared.steps.Step.{Step}
 use Rattle.lock_runner.specs.Beneath.machine_model.specs.declared.steps.Outcome.{Outcome}
 use Rattle.lock_runner.specs.Beneath.machine_model.specs.States.{State, first_state}
 use Rattle.lock_runner.specs.Beneath.machine_model.specs.Limits.{bounded}
 use Rattle.lock_runner.specs.Beneath.machine_model.specs.Machine.{next, next_state, run_from, run}
+use Rattle.lock_runner.specs.Beneath.machine_model.specs.Records.{Record, first_record, next_record, noted, record_from, record_of}
+use Rattle.lock_runner.specs.Beneath.machine_model.specs.declared.records.Told.{Told}
+use Rattle.lock_runner.specs.Beneath.machine_model.specs.declared.records.Told.TheVariants as told
+use Rattle.lock_runner.specs.Beneath.machine_model.specs.Tellings.{told_in}
 use Rattle.lock_runner.specs.Beneath.machine_model.proofs.Moves.{moved}
+use Rattle.lock_runner.specs.Beneath.machine_model.proofs.Recorded.{record-append, kept_by_notes}
 use Rattle.lock_runner.specs.Beneath.machine_model.proofs.Along.{run-append, kept_by_moves}
 use Rattle.lock_runner.specs.Beneath.machine_model.proofs.Frames.{steps_counted}
-use Rattle.lock_runner.specs.Beneath.proof_runs.specs.Machines.{Taken, state_of}
+use Rattle.lock_runner.specs.Beneath.proof_runs.specs.Machines.{Taken, past_of, state_of}
 use Rattle.lock_runner.specs.Boards.{HasFollowed}
+use Rattle.lock_runner.specs.Holds.{events_in}
 
 -- one step more, or none
 step_grows : (base : ℕ) (state : State) (s : Step) → base ≤ state.steps → base ≤ (next_state state s).steps
@@ -31,3 +38,28 @@ steps_grow actor seen board followed =
 
 pub one_step : (board now : Taken) (s : Step) (o : Outcome) → next (state_of board) s ≡ Ok (o, state_of now) → (state_of now).steps ≡ (state_of board).steps + 1
 one_step board now s o taken = steps_counted (state_of board) s o (state_of now) (moved (state_of board) s o (state_of now) taken)
+
+-- ---- events
+
+-- one event more, or none
+noted_grows : (past : Record) (number : ℕ) (t : Told) → length past.events ≤ length (noted past number t).events
+noted_grows past number (told.Began id actor call opens) = omega (arith, length-append past.events (Begin id actor call opens ∷ []))
+noted_grows past number (told.Went actor progress) = omega arith
+noted_grows past number (told.Ended actor e answer) = omega (arith, length-append past.events (End e.id answer ∷ []))
+noted_grows past number told.Swept = omega arith
+
+recorded_grows : (base : ℕ) (state : State) (past : Record) (steps : List Step) → base ≤ length past.events → base ≤ length (record_from state past steps).events
+unfolding record_from
+recorded_grows base state past [] low = low
+recorded_grows base state past (s ∷ steps) low =
+    recorded_grows base (next_state state s) (next_record state past s) steps
+    (kept_by_notes (λ t p. base ≤ length p.events) state past s low (λ o after m. omega (arith, low, noted_grows past state.steps (told_in state s))))
+
+pub events_grow : (actor : ℕ) (seen board : Taken) → HasFollowed actor seen board → events_in seen ≤ events_in board
+events_grow actor seen board followed =
+    let limits = bounded seen.limits in
+    let more = recorded_grows (events_in seen) (state_of seen) (past_of seen) followed.steps.0 (omega arith) in
+    let whole : record_from (state_of seen) (past_of seen) followed.steps.0 ≡ past_of board =
+    sym (record-append (first_state limits) (first_record limits) seen.steps followed.steps.0) ∙ ap (λ xs. record_of limits xs) (sym followed.steps.1)
+    ∙ ap (λ l. record_of (bounded l) board.steps) (sym followed.limits) in
+    subst (λ (p : Record). events_in seen ≤ length p.events) whole more

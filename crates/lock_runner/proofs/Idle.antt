@@ -1,9 +1,10 @@
--- Where a step of an actor's operation is denied since it runs none.
+-- Where a step of an actor's operation is denied since it runs none, and a begin since it runs one.
 use Rattle.std.specs.Prelude.{◌≡◌, ℕ, ◌≤◌, ◌↔◌, Bool, true, false, not, is_some, MatchOption, [], ◌∷◌, Option, Some, None, Err}
 use Rattle.std.proofs.Common.{refl, sym, ap, ◌∙◌, arith}
 use Rattle.std.proofs.lemmas.Option.{none-some}
 use Rattle.ctrie_base.specs.declared.refusals.Refusal.{Refusal}
 use Rattle.ctrie_base.specs.declared.refusals.Refusal.TheVariants as refuse
+use Rattle.history.specs.declared.calls.Call.{Call}
 use Rattle.history.proofs.Places.{option_untested}
 use Rattle.lock_runner.specs.Beneath.machine_model.specs.declared.operations.Operation.{Operation}
 use Rattle.lock_runner.specs.Beneath.machine_model.specs.declared.steps.Step.TheVariants as step
@@ -11,7 +12,7 @@ use Rattle.lock_runner.specs.Beneath.machine_model.specs.declared.steps.Outcome.
 use Rattle.lock_runner.specs.Beneath.machine_model.specs.States.{State, operation_of}
 use Rattle.lock_runner.specs.Beneath.machine_model.specs.Operations.{action_of}
 use Rattle.lock_runner.specs.Beneath.machine_model.specs.Limits.{bounded}
-use Rattle.lock_runner.specs.Beneath.machine_model.specs.Machine.{next, go_unless, go_on, first_reason, is_actor, is_running, is_spent, settled_after, went}
+use Rattle.lock_runner.specs.Beneath.machine_model.specs.Machine.{next, begin_denial, begin_unless, go_unless, go_on, first_reason, is_actor, is_running, is_spent, settled_after, went}
 use Rattle.lock_runner.specs.Beneath.proof_runs.specs.Machines.{Taken, state_of}
 use Rattle.lock_runner.specs.declared.accounts.Running.{Running}
 use Rattle.lock_runner.proofs.ActorHistory.Turns.{shown}
@@ -80,3 +81,22 @@ idle_is_denied actor board low high none =
     let within : actor ≤ (state_of board).limits.actors = omega (arith, high, ap (λ l. l.actors) (limits_along (bounded board.limits) board.steps)) in
     let own : is_actor (state_of board) actor ≡ true = actor_by actor (state_of board).limits.actors low within in
     idle_by (state_of board) actor (is_actor (state_of board) actor) (is_running (state_of board) actor) (is_spent (state_of board)) own (ap is_some ((idle_alike actor board).1 none))
+
+-- ---- a begin
+
+tested : (o : Option Operation) → (o ≡ None → ⊥) → is_some o ≡ true
+tested None some = absurd (some refl)
+tested (Some operation) some = refl
+
+busy_denial : (state : State) (actor : ℕ) (call : Call) → is_actor state actor ≡ true → is_running state actor ≡ true → begin_denial state actor call ≡ Some refuse.ActorBusy
+busy_denial state actor call own busy = rw (own, busy) refl
+
+-- where the account runs something a begin is denied as busy
+pub busy_is_denied : (actor : ℕ) (board : Taken) (call : Call) (operation : Running) → 1 ≤ actor → actor ≤ board.limits.actors →
+    (account_in actor board).running ≡ Some operation → next (state_of board) (step.Begin actor call) ≡ Err refuse.ActorBusy
+unfolding next
+busy_is_denied actor board call operation low high ran =
+    let within : actor ≤ (state_of board).limits.actors = omega (arith, high, ap (λ l. l.actors) (limits_along (bounded board.limits) board.steps)) in
+    let own : is_actor (state_of board) actor ≡ true = actor_by actor (state_of board).limits.actors low within in
+    let busy : is_running (state_of board) actor ≡ true = tested _ (λ none. none-some operation (sym ((idle_alike actor board).0 none) ∙ ran)) in
+    ap (λ denial. begin_unless (state_of board) actor call denial) (busy_denial (state_of board) actor call own busy)

@@ -11,10 +11,11 @@ use Rattle.lock_runner.specs.Beneath.proof_runs.proofs.Sweeping.{nearer}
 use Rattle.lock_runner.specs.declared.accounts.Answer.{Answer}
 use Rattle.lock_runner.specs.declared.accounts.Running.{Running}
 use Rattle.lock_runner.specs.declared.asks.Work.{Work}
-use Rattle.lock_runner.specs.ActorHistory.Answers.{AreAnswersOf}
+use Rattle.lock_runner.specs.ActorHistory.Answers.{AreAnswersOf, RunsJust}
 use Rattle.lock_runner.specs.ActorHistory.Laws.{IsStepOf, IsMadeBy}
 use Rattle.lock_runner.proofs.ActorHistory.Steps.{others_leave_the_account, own_steps_make_the_account}
 use Rattle.lock_runner.proofs.ActorHistory.Told.{answers_are_those_of_the_history}
+use Rattle.lock_runner.proofs.ActorHistory.Runs.{runs_just}
 use Rattle.lock_runner.specs.Asks.{Told, Pass, step_of, swept_by}
 use Rattle.lock_runner.specs.Boards.{account_in}
 use Rattle.lock_runner.specs.Seats.{seen_in, IsSeated}
@@ -28,6 +29,13 @@ pub seated_answers : (me : Pass) (answers : List Answer) (running : Option Runni
 seated_answers me answers running sweeps seated =
     subst (AreAnswersOf me.number (past_of (seen_in me)).events) (ap (λ a. a.answers) seated.told)
     (answers_are_those_of_the_history (bounded (seen_in me).limits) (seen_in me).steps me.number)
+
+-- what it runs is all that its actor runs there
+pub seated_runs : (me : Pass) (answers : List Answer) (running : Option Running) (sweeps : ℕ) → IsSeated me answers running sweeps →
+    RunsJust me.number (past_of (seen_in me)).events running
+seated_runs me answers running sweeps seated =
+    subst (RunsJust me.number (past_of (seen_in me)).events) (ap (λ a. a.running) seated.told)
+    (runs_just (bounded (seen_in me).limits) (seen_in me).steps me.number)
 
 -- what the seat keeps, where the machine tells this of its actor and so many steps of the sweep were counted
 module _ (me after : Pass) (answers : List Answer) (running : Option Running) (sweeps : ℕ) (seated : IsSeated me answers running sweeps)

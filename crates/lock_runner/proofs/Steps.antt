@@ -35,7 +35,8 @@ use Rattle.lock_runner.specs.Holds.{events_in, Worked}
 use Rattle.lock_runner.specs.Stepping.{HasGoneOn, IsUntold, HasTaken, IsNotBegun, Begins, IsNotTaken, Goes, IsNotSwept, Sweeps}
 use Rattle.lock_runner.proofs.Boards.{goes_on_same, goes_on_more, goes_on_without, goes_on_by_one, has_followed_same}
 use Rattle.lock_runner.proofs.Holds.{Held, has_worked}
-use Rattle.lock_runner.proofs.Idle.{idle_only, idle_is_denied}
+use Rattle.lock_runner.proofs.Growing.{events_grow}
+use Rattle.lock_runner.proofs.Idle.{idle_only, idle_is_denied, busy_is_denied}
 use Rattle.lock_runner.proofs.Seating.{seated_still, seated_step, seated_sweep, own_step}
 
 -- ---- any hold
@@ -102,23 +103,39 @@ denied_now me after asked heard refusal h =
 
 -- ---- a begin
 
-not_begun : (me after : Pass) (heard : ℕ) (items : List Answer) (running : Option Running) (sweeps : ℕ) (stop : Stop) (call : Call) →
+-- a busy seat is told so at once
+pub begin_busy : (before : Seated) (me : Pass) (heard : ℕ) (answers : List Answer) (running : Option Running) (operation : Running) (sweeps : ℕ) (call : Call) →
+    seated me answers running sweeps heard ≡ before → IsSeated me answers running sweeps → running ≡ Some operation → Begins (Err (Denied refuse.ActorBusy)) before call before
+begin_busy before me heard answers running operation sweeps call is seat ran =
+    subst (λ b. Begins (Err (Denied refuse.ActorBusy)) b call b) is (
+      untold_same (seated me answers running sweeps heard),
+      refl,
+      has_followed_same me.number (seen_in me),
+      (
+        busy_is_denied me.number (seen_in me) call operation seat.low seat.high (ap (λ a. a.running) seat.told ∙ ran),
+        subst (λ r. MatchOption r (heard ≤ events_in (seen_in me)) (λ operation. refuse.ActorBusy ≡ refuse.ActorBusy)) (sym ran) refl,
+      ),
+    )
+
+not_begun : (me after : Pass) (heard : ℕ) (items : List Answer) (running : Option Running) (sweeps : ℕ) (stop : Stop) (call : Call) → running ≡ None →
     Held me (work.Begin call) heard (Err stop) after → IsNotBegun stop call (seated after items running sweeps heard)
-not_begun me after heard items running sweeps Ahead call h =
-    subst (λ b. events_in b < heard) (sym h.worked.0) h.worked.1
-not_begun me after heard items running sweeps Memory call h = tt
-not_begun me after heard items running sweeps (Denied refusal) call h =
-    (subst (λ b. heard ≤ events_in b) (sym h.worked.0) h.worked.1, denied_now me after (work.Begin call) heard refusal h)
+not_begun me after heard items running sweeps Ahead call idle h = (idle, subst (λ b. events_in b < heard) (sym h.worked.0) h.worked.1)
+not_begun me after heard items running sweeps Memory call idle h = idle
+not_begun me after heard items running sweeps (Denied refusal) call idle h = (
+  denied_now me after (work.Begin call) heard refusal h,
+  subst (λ r. MatchOption r (heard ≤ events_in (seen_in after)) (λ operation. refusal ≡ refuse.ActorBusy)) (sym idle)
+      (subst (λ b. heard ≤ events_in b) (sym h.worked.0) h.worked.1),
+)
 
 pub begin_stops : (before : Seated) (me after : Pass) (heard : ℕ) (answers items : List Answer) (running : Option Running) (sweeps : ℕ) (stop : Stop)
-    (call : Call) → seated me answers running sweeps heard ≡ before → items ≡ answers → Held me (work.Begin call) heard (Err stop) after →
+    (call : Call) → seated me answers running sweeps heard ≡ before → running ≡ None → items ≡ answers → Held me (work.Begin call) heard (Err stop) after →
     Begins (Err stop) before call (seated after items running sweeps heard)
-begin_stops before me after heard answers items running sweeps stop call is same h =
+begin_stops before me after heard answers items running sweeps stop call is idle same h =
     subst (λ b. Begins (Err stop) b call (seated after items running sweeps heard)) is (
       untold me after heard heard answers items running running sweeps (Err stop) (work.Begin call) same h,
       refl,
       waited me after heard stop (work.Begin call) h,
-      not_begun me after heard items running sweeps stop call h,
+      not_begun me after heard items running sweeps stop call idle h,
     )
 
 -- only a begin's outcome is told of one
@@ -146,14 +163,14 @@ begun me after heard answers items running sweeps call done id seat same h is =
     (Some (begun_at done.0 id call)) (made.1 ∙ ap (λ p. record { answers = answers; running = Some (begun_at p id call) }) (sym h.worked.1)))
 
 pub begin_goes : (before : Seated) (me after : Pass) (heard : ℕ) (answers items : List Answer) (running : Option Running) (sweeps : ℕ) (call : Call)
-    (done : ℕ × Outcome) (n : ℕ) → seated me answers running sweeps heard ≡ before → items ≡ answers →
+    (done : ℕ × Outcome) (n : ℕ) → seated me answers running sweeps heard ≡ before → running ≡ None → items ≡ answers →
     Held me (work.Begin call) heard (Ok done) after → done.1 ≡ outcome.Began n →
     Begins (Ok tt) before call (seated after items (Some (begun_at done.0 n call)) sweeps heard)
-begin_goes before me after heard answers items running sweeps call done n is same h was =
+begin_goes before me after heard answers items running sweeps call done n is idle same h was =
     subst (λ b. Begins (Ok tt) b call (seated after items (Some (begun_at done.0 n call)) sweeps heard)) is (
       untold me after heard heard answers items running (Some (begun_at done.0 n call)) sweeps (Ok done) (work.Begin call) same h,
       begun_at done.0 n call,
-      (refl, refl, h.worked.0),
+      (idle, refl, refl, (omega (arith, events_grow me.number (seen_in me) h.board h.followed, h.worked.1), h.worked.0)),
       took me after heard heard answers items running (Some (begun_at done.0 n call)) sweeps sweeps done (work.Begin call) (outcome.Began n) was h,
     )
 

@@ -1,6 +1,6 @@
 -- Whole calls, from their steps.
 use Rattle.std.specs.Prelude.{◌≡◌, ◌-◌, true, List, [], ◌∷◌, ◌++◌, Some, Result, Ok, Err, length, slice_get}
-use Rattle.std.proofs.Common.{sym, ap, ◌∙◌, inl, inr, arith, length-append}
+use Rattle.std.proofs.Common.{sym, ap, subst, ◌∙◌, inl, inr, arith, length-append}
 use Rattle.std.proofs.lemmas.Option.{same_Some}
 use Rattle.history.specs.declared.calls.Call.{Call}
 use Rattle.history.specs.declared.replies.Reply.{Reply}
@@ -9,7 +9,7 @@ use Rattle.lock_runner.specs.declared.accounts.Answer.{Answer}
 use Rattle.lock_runner.specs.declared.accounts.Running.{Running}
 use Rattle.lock_runner.specs.declared.seats.Stop.{Stop}
 use Rattle.lock_runner.specs.Seats.{Seated}
-use Rattle.lock_runner.specs.Stepping.{HasGoneOn, IsUntold, IsAnswered, Begins, Goes}
+use Rattle.lock_runner.specs.Stepping.{HasGoneOn, IsUntold, IsAnswered, IsBehind, Begins, Goes}
 use Rattle.lock_runner.specs.Performing.{CarriesOn, CarriesOut, IsPerformed}
 use Rattle.lock_runner.proofs.Boards.{goes_on_more}
 
@@ -49,20 +49,21 @@ carry_stops stop a b c ab same stopped = (untold_more a b c ab stopped.0, stoppe
 pub begun_and_ended : (call : Call) (a b c : Seated) → Begins (Ok tt) a call b → CarriesOn (Ok tt) b c → IsPerformed call a c
 begun_and_ended call a b c begun ended =
     let its = ended.1 in
-    let same : begun.1 ≡ ended.0 = same_Some _ _ (sym begun.2.0 ∙ its.ran) in
+    let same : begun.1 ≡ ended.0 = same_Some _ _ (sym begun.2.1 ∙ its.ran) in
     record {
       on = gone_more a b c begun.0.on its.on;
       sweeps = its.sweeps ∙ begun.0.sweeps;
+      ready = begun.2.0;
       idle = its.idle;
       answer = its.answer;
       last = its.last ∙ ap (λ xs. xs ++ its.answer ∷ []) begun.0.answers;
-      call = its.call ∙ ap (λ r. r.call) (sym same) ∙ begun.2.1;
-      unheard = omega (arith, begun.2.2, its.began, ap (λ r. r.began) same);
+      call = its.call ∙ ap (λ r. r.call) (sym same) ∙ begun.2.2;
+      behind = subst (λ place. IsBehind place a) (ap (λ r. r.began) same ∙ sym its.began) begun.2.3;
     }
 
 pub begun_and_stopped : (call : Call) (stop : Stop) (a b c : Seated) → Begins (Ok tt) a call b → CarriesOn (Err stop) b c → CarriesOut (Err stop) a call c
 begun_and_stopped call stop a b c begun stopped =
-    (untold_more a b c begun.0 stopped.0, inr ((begun.1, (stopped.1 ∙ begun.2.0, begun.2.1, begun.2.2)), stopped.2))
+    (untold_more a b c begun.0 stopped.0, inr ((begun.1, (begun.2.0, stopped.1 ∙ begun.2.1, begun.2.2, begun.2.3)), stopped.2))
 
 pub stopped_at_once : (call : Call) (stop : Stop) (a b : Seated) → Begins (Err stop) a call b → CarriesOut (Err stop) a call b
 stopped_at_once call stop a b stopped = (stopped.0, inl (stopped.1, stopped.2, stopped.3))

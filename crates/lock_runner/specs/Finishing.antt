@@ -1,9 +1,10 @@
 -- The end of a runner.
-use Rattle.std.specs.Prelude.{◌≡◌, ℕ, ◌≤◌, List, Some, slice_get, sum_by, Result, Ok, Err}
+use Rattle.std.specs.Prelude.{◌≡◌, ℕ, ◌≤◌, List, Some, slice_get, sum_by, All, Result, Ok, Err}
 use Rattle.step_machine.specs.declared.records.Record.{Record}
 use Rattle.lock_runner.specs.Beneath.proof_runs.specs.Machines.{Taken, past_of, AreTaken}
 use Rattle.step_machine.specs.Records.{IsRecordOf, IsLegalRecord}
-use Rattle.lock_runner.specs.ActorHistory.Answers.{AreAnswersOf, RunsNoOther}
+use Rattle.lock_runner.specs.ActorHistory.Answers.{AreAnswersOf, RunsJust}
+use Rattle.lock_runner.specs.ActorHistory.Laws.{IsStepOf}
 use Rattle.lock_runner.specs.declared.finishing.Unfinished.{Unfinished}
 use Rattle.lock_runner.specs.declared.finishing.Unfinished.TheVariants.{Missing, Memory}
 use Rattle.lock_runner.specs.Boards.{sweeps_in, GoesOn}
@@ -25,14 +26,15 @@ abbrev pub all_swept : List Seated → ℕ
 all_swept seats = sum_by (λ seat. seat.sweeps) seats
 
 -- The machine has the runner's sizes and goes on from all that its seats have seen; what each was answered are all ended
--- operations of its actor, which runs none but the seat's; and its steps of the sweep are those of the seats.
+-- operations of its actor, which runs just what its seat does; its steps of the sweep are those of the seats, and none is of an actor without a seat.
 pub record IsGathered (runner : Room) (seats : List Seated) (machine : Taken) : Type 0 where
   pub limits : machine.limits ≡ runner.limits
   pub sizes : (k : ℕ) (seat : Seated) → slice_get seats k ≡ Some seat → machine.limits ≡ seat.seen.limits
   pub steps : (k : ℕ) (seat : Seated) → slice_get seats k ≡ Some seat → GoesOn seat.seen.steps machine.steps
   pub answers : (k : ℕ) (seat : Seated) → slice_get seats k ≡ Some seat → AreAnswersOf seat.actor (past_of machine).events seat.answers
-  pub running : (k : ℕ) (seat : Seated) → slice_get seats k ≡ Some seat → RunsNoOther seat.actor (past_of machine).events seat.running
+  pub running : (k : ℕ) (seat : Seated) → slice_get seats k ≡ Some seat → RunsJust seat.actor (past_of machine).events seat.running
   pub sweeps : sweeps_in machine ≡ all_swept seats
+  pub others : (actor : ℕ) → ¬ IsHere actor seats → All (λ s. ¬ IsStepOf actor s) machine.steps
 
 -- the machine that a record tells of
 abbrev pub recorded : Record → Taken

@@ -1,5 +1,5 @@
 -- What the calls of a runner promise.
-use Rattle.std.specs.Prelude.{◌≡◌, ◌≤◌, ◌⊎◌, [], ◌∷◌, ◌++◌, Some, Result, Ok, Err}
+use Rattle.std.specs.Prelude.{◌≡◌, ◌⊎◌, [], ◌∷◌, ◌++◌, Some, Result, Ok, Err}
 use denote.Ref.{Bor}
 use Rattle.history.specs.declared.calls.Call.{Call}
 use Rattle.history.specs.declared.replies.Reply.{Reply}
@@ -7,7 +7,7 @@ use Rattle.lock_runner.specs.declared.accounts.Answer.{Answer}
 use Rattle.lock_runner.specs.declared.accounts.Running.{Running}
 use Rattle.lock_runner.specs.declared.seats.Stop.{Stop}
 use Rattle.lock_runner.specs.Seats.{Seated, IsIdle}
-use Rattle.lock_runner.specs.Stepping.{HasGoneOn, IsUntold, IsAnswered, HasTakenNone, Runs, IsNotBegun, IsNotTaken}
+use Rattle.lock_runner.specs.Stepping.{HasGoneOn, IsUntold, IsAnswered, HasTakenNone, IsBehind, Runs, IsNotBegun, IsNotTaken}
 
 -- ---- going on
 
@@ -30,31 +30,32 @@ Resumes result before after = HasGoneOn before after × (after.sweeps ≡ before
 
 -- ---- beginning and going on
 
--- the call was answered, and began where no event was that the seat had heard of
+-- the seat was idle; the call was answered, and began behind all that the seat had seen and heard of
 pub record IsPerformed (asked : Call) (before after : Seated) : Type 0 where
   pub on : HasGoneOn before after
   pub sweeps : after.sweeps ≡ before.sweeps
+  pub ready : IsIdle before
   pub idle : IsIdle after
   pub answer : Answer
   pub last : after.answers ≡ before.answers ++ answer ∷ []
   pub call : answer.call ≡ asked
-  pub unheard : before.heard ≤ answer.began
+  pub behind : IsBehind answer.began before
 
--- either nothing began, or the call runs still; and it is told why
+-- either nothing began, or the call began and runs still; and it is told why
 abbrev pub HasStopped : Stop → Seated → Call → Seated → Type 0
 HasStopped stop before call after =
-    ((after.running ≡ before.running) × HasTakenNone before after × IsNotBegun stop call after) ⊎ (Runs call before.heard after × IsNotTaken stop after)
+    ((after.running ≡ before.running) × HasTakenNone before after × IsNotBegun stop call after) ⊎ (Runs call before after × IsNotTaken stop after)
 
 abbrev pub CarriesOut : Result (Unit {0}) Stop → Seated → Call → Seated → Type 0
 CarriesOut (Ok done) before call after = IsPerformed call before after
 CarriesOut (Err stop) before call after = IsUntold before after × HasStopped stop before call after
 
--- one answer more stands last, which is that of the call, and its reply is lent; it began where no event was that the seat
--- had heard of. Or there is none more, and the call has stopped.
+-- The seat was idle; one answer more stands last, which is that of the call, and its reply is lent; it began behind all that
+-- the seat had seen and heard of. Or there is none more, and the call has stopped.
 abbrev pub AnswersCall : Result (Bor Reply) Stop → Seated → Call → Seated → Type 0
 AnswersCall (Ok reply) before call after =
-    IsIdle after × (answer : Answer) × (after.answers ≡ before.answers ++ answer ∷ []) × (answer.reply ≡ reply.now)
-    × (answer.call ≡ call) × (before.heard ≤ answer.began)
+    IsIdle before × IsIdle after × (answer : Answer) × (after.answers ≡ before.answers ++ answer ∷ []) × (answer.reply ≡ reply.now)
+    × (answer.call ≡ call) × IsBehind answer.began before
 AnswersCall (Err stop) before call after = (after.answers ≡ before.answers) × HasStopped stop before call after
 
 abbrev pub Performs : Result (Bor Reply) Stop → Seated → Call → Seated → Type 0

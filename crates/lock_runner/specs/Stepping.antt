@@ -2,7 +2,7 @@
 use Rattle.std.specs.Prelude.{◌≡◌, ℕ, ◌+◌, ◌<◌, ◌≤◌, Bool, true, false, MatchOption, [], ◌∷◌, ◌++◌, Some, None, Result, Ok, Err}
 use Rattle.ctrie_base.specs.declared.kinds.Kind.{Kind}
 use Rattle.ctrie_base.specs.declared.refusals.Refusal.{Refusal}
-use Rattle.ctrie_base.specs.declared.refusals.Refusal.TheVariants.{Idle, Spent}
+use Rattle.ctrie_base.specs.declared.refusals.Refusal.TheVariants.{ActorBusy, Idle, Spent}
 use Rattle.history.specs.declared.calls.Call.{Call}
 use Rattle.lock_runner.specs.Beneath.machine_model.specs.declared.steps.Step.{Step}
 use Rattle.lock_runner.specs.Beneath.machine_model.specs.declared.steps.Step.TheVariants as step
@@ -50,22 +50,28 @@ IsDenied seat s refusal = next (state_of seat.seen) s ≡ Err refusal
 
 -- ---- a begin
 
--- the actor runs this call, which began where no event was that the seat had heard of
-abbrev pub RunsAs : Running → Call → ℕ → Seated → Type 0
-RunsAs operation call heard seat = (seat.running ≡ Some operation) × (operation.call ≡ call) × (heard ≤ operation.began)
+-- the place is behind all events that the seat has seen, and of which it has heard
+abbrev pub IsBehind : ℕ → Seated → Type 0
+IsBehind place seat = (events_in seat.seen ≤ place) × (seat.heard ≤ place)
 
-abbrev pub Runs : Call → ℕ → Seated → Type 0
-Runs call heard seat = (operation : Running) × RunsAs operation call heard seat
+-- the actor, which ran nothing, runs this call now, which began behind all that its seat had seen and heard of
+abbrev pub RunsAs : Running → Call → Seated → Seated → Type 0
+RunsAs operation call before after = IsIdle before × (after.running ≡ Some operation) × (operation.call ≡ call) × IsBehind operation.began before
 
--- why nothing began: fewer events than were heard of, before all else the machine's denial, or want of memory
+abbrev pub Runs : Call → Seated → Seated → Type 0
+Runs call before after = (operation : Running) × RunsAs operation call before after
+
+-- why nothing began: while an operation runs the seat is busy; else there were fewer events than it had heard of, before all
+-- else the machine denied it, or memory was wanting
 abbrev pub IsNotBegun : Stop → Call → Seated → Type 0
-IsNotBegun Ahead call seat = events_in seat.seen < seat.heard
-IsNotBegun Memory call seat = Unit {0}
-IsNotBegun (Denied refusal) call seat = (seat.heard ≤ events_in seat.seen) × IsDenied seat (step.Begin seat.actor call) refusal
+IsNotBegun Ahead call seat = IsIdle seat × (events_in seat.seen < seat.heard)
+IsNotBegun Memory call seat = IsIdle seat
+IsNotBegun (Denied refusal) call seat =
+    IsDenied seat (step.Begin seat.actor call) refusal × MatchOption seat.running (seat.heard ≤ events_in seat.seen) (λ operation. refusal ≡ ActorBusy)
 
 abbrev pub Begins : Result (Unit {0}) Stop → Seated → Call → Seated → Type 0
 Begins (Ok done) before call after =
-    IsUntold before after × (operation : Running) × RunsAs operation call before.heard after
+    IsUntold before after × (operation : Running) × RunsAs operation call before after
     × HasTaken (step.Begin before.actor call) (outcome.Began operation.id) before after
 Begins (Err stop) before call after = IsUntold before after × (after.running ≡ before.running) × HasTakenNone before after × IsNotBegun stop call after
 

@@ -17,8 +17,9 @@ impl Seat {
     /// Performs a call of the seat's actor on the runner: begins it, and takes its steps until it ends, each
     /// by one hold of the gate. The reply is lent from the seat's answers, where it stands last. Nothing is
     /// answered where it stops: after `Ahead` nothing began; after `Memory`, and after `Denied(Spent)`, the
-    /// operation may have begun and run still, which `resume` tells. `Memory` may stand in the place of
-    /// `Ahead` or a denial.
+    /// operation may have begun and run still, which `resume` tells. Where an operation of the seat runs from
+    /// an earlier call, it is `Denied(ActorBusy)`, and nothing is done; else `Memory` may stand in the place
+    /// of `Ahead` or a denial.
     pub fn perform<R: Wait, B: Between>(
         &mut self,
         rt: &R,

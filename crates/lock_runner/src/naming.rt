@@ -3,6 +3,8 @@
 //! A name stands for one runner, so the type of a named seat says whose seat it is: it may lie in any
 //! container, go through any channel, and be called without a premise. The name is one of the runner's gate.
 ghost use Rattle.std.specs.Prelude.{◌≡◌, ◌≤◌, IfOk, IfErr, max};
+ghost use Rattle.lock_runner.specs.Beneath.proof_runs.specs.Machines.{past_of};
+ghost use Rattle.lock_runner.specs.ActorHistory.Answers.{AreAnswersOf, RunsJust};
 ghost use Rattle.lock_runner.specs.Seats.{AreSeatsOf};
 ghost use Rattle.lock_runner.specs.Stepping.{Sweeps};
 
@@ -132,10 +134,19 @@ impl<N: Name> NamedSeat<N> {
         self.seat.answers()
     }
 
+    /// As `Seat::answers_are_all`.
+    pub fn answers_are_all(&self)
+        ensures answers { AreAnswersOf self.now.actor (past_of self.now.seen).events self.now.answers }
+        ensures running { RunsJust self.now.actor (past_of self.now.seen).events self.now.running }
+    {
+        self.seat.answers_are_all();
+    }
+
     /// As `Seat::actor`.
     pub fn actor(&self) -> u8
         ensures number { result ≡ self.now.actor }
         ensures low { 1 ≤ result }
+        ensures high { result ≤ self.now.seen.limits.actors }
     {
         self.seat.actor()
     }

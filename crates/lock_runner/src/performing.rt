@@ -54,6 +54,7 @@ impl Seat {
     pub fn actor(&self) -> u8
         ensures number { result ≡ self.now.actor }
         ensures low { 1 ≤ result }
+        ensures high { result ≤ self.now.seen.limits.actors }
     {
         self.pass.number()
     }

@@ -1,7 +1,7 @@
 //! Seats: what each thread keeps of its own calls.
 ghost use Rattle.std.specs.Prelude.{◌≡◌, max};
 ghost use Rattle.lock_runner.specs.Beneath.proof_runs.specs.Machines.{past_of};
-ghost use Rattle.lock_runner.specs.ActorHistory.Answers.{AreAnswersOf};
+ghost use Rattle.lock_runner.specs.ActorHistory.Answers.{AreAnswersOf, RunsJust};
 ghost use Rattle.lock_runner.specs.declared.seats.Stop.TheVariants.{Memory};
 
 use crate::accounts::{Answer, Running};
@@ -72,9 +72,11 @@ impl Seat {
         self.answers.as_slice()
     }
 
-    /// A law: these are all that the machine's history told of the seat's actor when the seat saw it last.
+    /// A law: these are all that the machine's history told of the seat's actor when the seat saw it last, and
+    /// the actor ran just the operation that the seat has.
     pub fn answers_are_all(&self)
-        ensures { AreAnswersOf self.now.actor (past_of self.now.seen).events self.now.answers }
+        ensures answers { AreAnswersOf self.now.actor (past_of self.now.seen).events self.now.answers }
+        ensures running { RunsJust self.now.actor (past_of self.now.seen).events self.now.running }
     {
         let _ = &self.pass;
     }

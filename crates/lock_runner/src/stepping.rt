@@ -13,11 +13,15 @@ use std::sync::Wait;
 use step_machine::{Outcome, Swept};
 
 impl Runner {
-    /// Begins a call of the seat's actor, if the seat has not heard of more events than are recorded.
+    /// Begins a call of the seat's actor, if the seat has not heard of more events than are recorded. A busy
+    /// seat is told so before all else.
     pub(crate) fn begin<R: Wait>(&self, rt: &R, seat: &mut Seat, call: Call) -> Result<(), Stop>
         requires { IsSeatOf self.now seat.old }
         ensures { Begins result seat.old call seat.new }
     {
+        if seat.running.is_some() {
+            return Err(Stop::Denied(Refusal::ActorBusy));
+        }
         seat.answers.reserve(1)?;
         let ask = Ask {
             work: Work::Begin(call),

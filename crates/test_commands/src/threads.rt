@@ -80,6 +80,14 @@ fn count(report: &str, word: &str) -> usize {
         .count()
 }
 
+/// How many lines tell that one was denied for this reason.
+fn count_denied(report: &str, reason: &str) -> usize {
+    report
+        .split('\n')
+        .filter(|line| line.starts_with("denied ") && line.ends_with(reason))
+        .count()
+}
+
 const HEADER: &str = "slots 64\nhash low\nactors 2\n";
 
 /// Both actors are inside their calls at the same time.
@@ -98,7 +106,10 @@ fn two_lines_meet(rt: HostRuntime) -> Result<(), Fail> {
     Ok(())
 }
 
-/// Three actors and the sweep: the record is legal, and each line is told of once.
+/// How many of the lines below nothing denies: puts, removes, copies and some gets, all of handle 0.
+const UNDENIED: usize = 90;
+
+/// Three actors and the sweep: the record is legal, each line is told of once, and no line meets an earlier one of its actor.
 #[test]
 fn runs_many_lines(rt: HostRuntime) -> Result<(), Fail> {
     let mut script = String::from_str(rt.alloc(), "slots 512\nhash fold\nactors 3\n")?;
@@ -120,5 +131,8 @@ fn runs_many_lines(rt: HostRuntime) -> Result<(), Fail> {
     let begins = count(&report, "begin ");
     assert_eq!(rt; begins, count(&report, "end "));
     assert_eq!(rt; begins, 108_usize.saturating_sub(count(&report, "denied ")));
+    assert!(rt; begins >= UNDENIED);
+    assert_eq!(rt; count_denied(&report, " ActorBusy"), 0);
+    assert_eq!(rt; count_denied(&report, " Idle"), 0);
     Ok(())
 }

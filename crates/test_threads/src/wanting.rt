@@ -6,7 +6,8 @@ ghost use Rattle.lock_runner.specs.Seats.{IsSeatOf};
 
 use crate::records::is_right;
 use crate::support::{Counting, get, is_found, perform, put, two_seats};
-use lock_runner::{Between, Runner, Seat, Step, Stop, Unfinished};
+use ctrie_base::Refusal;
+use lock_runner::{Between, Nothing, Runner, Seat, Step, Stop, Unfinished};
 use std::alloc::{AllocError, Global};
 use std::cell::{Cell, RefCell};
 use std::process::Abort;
@@ -76,8 +77,17 @@ fn steps_of_last(steps: &[Step], actor: u8) -> u64 {
     taken
 }
 
-/// A call that found no memory in its middle runs on, and is answered once there is some. After each of its further steps
-/// but its last it is told how many of them were taken.
+/// The seat's operation runs still, so no other call begins with it.
+fn is_busy(rt: &(impl Abort + Wait), runner: &Runner, seat: &mut Seat)
+    requires { IsSeatOf runner.now seat.old }
+    ensures { IsSeatOf runner.now seat.new }
+{
+    let stop = seat.perform(rt, runner, put(1, 40), &Nothing).err();
+    assert!(rt; stop == Some(Stop::Denied(Refusal::ActorBusy)));
+}
+
+/// A call that found no memory in its middle runs on, and is answered once there is some; until then the seat is busy, with
+/// memory and without. After each of its further steps but its last it is told how many of them were taken.
 #[test]
 fn goes_on_once_there_is_memory(rt: HostRuntime) -> Result<(), Fail> {
     let (runner, mut one, mut two) = two_seats(rt.alloc())?;
@@ -89,7 +99,9 @@ fn goes_on_once_there_is_memory(rt: HostRuntime) -> Result<(), Fail> {
     };
     let stop = one.perform(&rt, &runner, put(1, 20), &starving).err();
     let before = starving.taken.get();
+    is_busy(&rt, &runner, &mut one);
     drop(starving);
+    is_busy(&rt, &runner, &mut one);
     assert!(rt; stop == Some(Stop::Memory));
     assert_eq!(rt; one.answers().len(), 1);
     perform(&rt, &runner, &mut two, put(2, 30));

@@ -19,11 +19,11 @@ use Rattle.lock_runner.specs.Beneath.machine_model.proofs.Alike.{alike_along}
 use Rattle.lock_runner.specs.Beneath.machine_model.proofs.Recorded.{along_with}
 use Rattle.lock_runner.specs.declared.accounts.Running.{Running}
 use Rattle.lock_runner.specs.ActorHistory.{account_of, begun_at}
-use Rattle.lock_runner.specs.ActorHistory.Answers.{RunsNoOther}
+use Rattle.lock_runner.specs.ActorHistory.Answers.{RunsNoOther, RunsJust}
 use Rattle.lock_runner.proofs.ActorHistory.Turns.{Recorded, recorded, recorded_of, Turns, Comes, Stays, Leaves, Rests, turns}
 use Rattle.lock_runner.proofs.ActorHistory.Sound.{Sound, IsAnswered, sound_along, fits_after, later_own, later_other, leave_other, leave_own}
 use Rattle.lock_runner.proofs.ActorHistory.Steps.{none_told}
-use Rattle.lock_runner.proofs.ActorHistory.Told.{same_begin, apart_events}
+use Rattle.lock_runner.proofs.ActorHistory.Told.{told_along, same_begin, apart_events}
 
 -- each actor's account has what the actor runs
 abbrev pub RunAll : List Event → Type 0
@@ -111,8 +111,16 @@ none_at_first actor id runs = absurd (none-some _ runs.0.2)
 first_all : (limits : Bounds) → RunAll (first_record limits).events
 first_all limits = none_at_first
 
-pub runs_no_other : (limits : Bounds) (steps : List Step) → RunAll (record_of limits steps).events
+runs_no_other : (limits : Bounds) (steps : List Step) → RunAll (record_of limits steps).events
 runs_no_other limits = along_with limits (λ state past. RunAll past.events) (first_all limits)
     (λ steps s o after m all. let sound = sound_along limits steps in
     after_all (recorded_of limits steps) (recorded after (noted (record_of limits steps) (run limits steps).steps (told_in (run limits steps) s))) s o sound
     (fits_after (run limits steps) after s o m sound.fits) (turns (run limits steps) (record_of limits steps) s o after sound.fits (alike_along limits steps).begun_are m) all)
+
+-- what the account has is just what the actor runs
+pub runs_just : (limits : Bounds) (steps : List Step) (actor : ℕ) → RunsJust actor (record_of limits steps).events (account_of actor (record_of limits steps).events).running
+runs_just limits steps actor =
+    let told = told_along limits steps in record {
+      own = λ operation is. let begin = told.begins actor operation is in record { opens = begin.0; begin = begin.1; unended = told.unended actor operation is };
+      no_other = runs_no_other limits steps actor;
+    }

@@ -7,7 +7,7 @@ use Rattle.history.specs.declared.calls.Call.{Call}
 use Rattle.history.specs.declared.replies.Reply.{Reply}
 use Rattle.history.specs.declared.events.Event.{Event}
 use Rattle.history.specs.declared.events.Event.TheVariants.{Begin, End}
-use Rattle.history.specs.Histories.{Operation, BeginsAt, EndsAt, begun}
+use Rattle.history.specs.Histories.{Operation, BeginsAt, EndsAt, HasEnded, begun}
 use Rattle.lock_runner.specs.Beneath.machine_model.specs.declared.steps.Bounds.{Bounds}
 use Rattle.lock_runner.specs.Beneath.machine_model.specs.declared.steps.Step.{Step}
 use Rattle.lock_runner.specs.Beneath.machine_model.specs.declared.steps.Outcome.{Outcome}
@@ -127,6 +127,7 @@ pub record Told (history : List Event) : Type 0 where
   pub unique : (p q id : ℕ) (a b : Operation) → BeginsAt history p id a → BeginsAt history q id b → p ≡ q
   pub begins : (actor : ℕ) (running : Running) → (account_of actor history).running ≡ Some running →
       (opens : Option ℕ) × BeginsAt history running.began running.id (opened actor running opens)
+  pub unended : (actor : ℕ) (running : Running) → (account_of actor history).running ≡ Some running → (reply : Reply) → ¬ HasEnded history running.id reply
   pub right : (actor : ℕ) → AreAnswersOf actor history (account_of actor history).answers
 
 -- ---- a begin
@@ -165,11 +166,13 @@ module _ (history : List Event) (told : Told history) (owner : ℕ) (call : Call
     ]
   ]
 
+  -- the new one is what its actor runs
+  later_new : (running : Running) → (account_of owner later).running ≡ Some running → begun_at (length history) (begun history) call ≡ running
+  later_new running e = same_Some _ _ (ap (λ a. a.running) (sym (later_own history owner call opens)) ∙ e)
+
   later_begins_own : (running : Running) → (account_of owner later).running ≡ Some running →
       (o : Option ℕ) × BeginsAt later running.began running.id (opened owner running o)
-  later_begins_own running e =
-      let same : begun_at (length history) (begun history) call ≡ running = same_Some _ _ (ap (λ a. a.running) (sym (later_own history owner call opens)) ∙ e) in
-      (opens, subst (λ r. BeginsAt later r.began r.id (opened owner r opens)) same (at_seam history [] begin))
+  later_begins_own running e = (opens, subst (λ r. BeginsAt later r.began r.id (opened owner r opens)) (later_new running e) (at_seam history [] begin))
 
   later_begins_by : (actor : ℕ) → (owner ≡ actor) ⊎ (owner ≡ actor → ⊥) → (running : Running) → (account_of actor later).running ≡ Some running →
       (o : Option ℕ) × BeginsAt later running.began running.id (opened actor running o)
@@ -178,6 +181,16 @@ module _ (history : List Event) (told : Told history) (owner : ℕ) (call : Call
   later_begins_by actor (inr other) = λ running e.
       let was = told.begins actor running (ap (λ a. a.running) (sym (later_other history owner call opens actor other)) ∙ e) in
       (was.0, at_front history (begin ∷ []) running.began _ was.1)
+
+  -- no end has the new one's id
+  later_unended_by : (actor : ℕ) → (owner ≡ actor) ⊎ (owner ≡ actor → ⊥) → (running : Running) → (account_of actor later).running ≡ Some running →
+      (reply : Reply) → ¬ HasEnded later running.id reply
+  later_unended_by actor (inl own) running e reply ended =
+      let same = later_new running (ap (λ a. (account_of a later).running) own ∙ e) in
+      absurd (omega (arith, (later_ends ended.0 running.id reply ended.1).1, ap (λ r. r.id) same))
+  later_unended_by actor (inr other) running e reply ended =
+      told.unended actor running (ap (λ a. a.running) (sym (later_other history owner call opens actor other)) ∙ e) reply
+      (ended.0, (later_ends ended.0 running.id reply ended.1).0)
 
   later_answers_by : (actor : ℕ) → (owner ≡ actor) ⊎ (owner ≡ actor → ⊥) → (account_of actor later).answers ≡ (account_of actor history).answers
   later_answers_by actor (inl own) = subst (λ a. (account_of a later).answers ≡ (account_of a history).answers) own (ap (λ a. a.answers) (later_own history owner call opens))
@@ -202,6 +215,7 @@ module _ (history : List Event) (told : Told history) (owner : ℕ) (call : Call
     ends = λ place id reply e. omega (arith, later_begun, (later_ends place id reply e).1);
     unique = later_unique;
     begins = λ actor. later_begins_by actor (cases_eq owner actor);
+    unended = λ actor. later_unended_by actor (cases_eq owner actor);
     right = later_right;
   }
 
@@ -247,6 +261,22 @@ module _ (history : List Event) (told : Told history) (owner id : ℕ) (reply : 
       let was = told.begins actor running (ap (λ a. a.running) (sym (others actor other)) ∙ e) in
       (was.0, at_front history (End id reply ∷ []) running.began _ was.1)
 
+  -- what ended was another operation
+  ended_unended_by : (actor : ℕ) → (owner ≡ actor) ⊎ (owner ≡ actor → ⊥) → (running : Running) → (account_of actor ended).running ≡ Some running →
+      (r : Reply) → ¬ HasEnded ended running.id r
+  ended_unended_by actor (inl is) running e r h = absurd (none-some running (ap (λ a. a.running) (sym own.answered) ∙ ap (λ n. (account_of n ended).running) is ∙ e))
+  ended_unended_by actor (inr other) running e r h =
+      let begin = ended_begins_by actor (inr other) running e in
+      elim (at_cases history (End id reply) h.0 _ h.1) [
+        | inl g ↦ told.unended actor running (ap (λ a. a.running) (sym (others actor other)) ∙ e) r (h.0, g)
+        | inr g ↦ other (only_own actor (
+          running.began,
+          opened actor running begin.0,
+          subst (λ n. BeginsAt ended running.began n (opened actor running begin.0)) (sym (same_end _ id running.id reply r refl g.1)) begin.1,
+          refl,
+        ))
+      ]
+
   ended_right_own : AreAnswersOf owner ended (account_of owner ended).answers
   ended_right_own =
       subst (λ answers. AreAnswersOf owner ended answers) (ap (λ a. a.answers) (sym own.answered))
@@ -267,6 +297,7 @@ module _ (history : List Event) (told : Told history) (owner id : ℕ) (reply : 
     ends = ended_ends;
     unique = λ p q jd a b e f. told.unique p q jd a b (ended_begins p jd a e) (ended_begins q jd b f);
     begins = λ actor. ended_begins_by actor (cases_eq owner actor);
+    unended = λ actor. ended_unended_by actor (cases_eq owner actor);
     right = λ actor. ended_right_by actor (cases_eq owner actor);
   }
 
@@ -290,6 +321,7 @@ told_at_first = record {
   ends = λ place id reply e. absurd (none-some _ e);
   unique = λ p q id a b e f. absurd (none-some _ e);
   begins = λ actor running e. absurd (none-some running e);
+  unended = λ actor running e reply ended. absurd (none-some running e);
   right = λ actor. record {
     each = λ k answer e. absurd (none-some _ e);
     all = λ place id reply e own. absurd (none-some _ e);

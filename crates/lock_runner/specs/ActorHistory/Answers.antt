@@ -2,7 +2,7 @@
 use Rattle.std.specs.Prelude.{◌≡◌, ℕ, ◌<◌, List, Option, Some, slice_get}
 use Rattle.history.specs.declared.replies.Reply.{Reply}
 use Rattle.history.specs.declared.events.Event.{Event}
-use Rattle.history.specs.Histories.{BeginsAt, EndsAt, IsRunning}
+use Rattle.history.specs.Histories.{BeginsAt, EndsAt, HasEnded, IsRunning}
 use Rattle.lock_runner.specs.declared.accounts.Answer.{Answer}
 use Rattle.lock_runner.specs.declared.accounts.Running.{Running}
 
@@ -27,3 +27,14 @@ pub record AreAnswersOf (actor : ℕ) (history : List Event) (answers : List Ans
 -- no operation of the actor but this one has begun and not ended
 abbrev pub RunsNoOther : ℕ → List Event → Option Running → Type 0
 RunsNoOther actor history running = (id : ℕ) → IsRunning history id actor → (operation : Running) × (running ≡ Some operation) × (operation.id ≡ id)
+
+-- the actor's operation begins in the history as this says, and doesn't end
+pub record IsBegunIn (history : List Event) (actor : ℕ) (operation : Running) : Type 0 where
+  pub opens : Option ℕ
+  pub begin : BeginsAt history operation.began operation.id record { actor = actor; call = operation.call; opens = opens }
+  pub unended : (reply : Reply) → ¬ HasEnded history operation.id reply
+
+-- the actor runs this operation and no other, or none
+pub record RunsJust (actor : ℕ) (history : List Event) (running : Option Running) : Type 0 where
+  pub own : (operation : Running) → running ≡ Some operation → IsBegunIn history actor operation
+  pub no_other : RunsNoOther actor history running

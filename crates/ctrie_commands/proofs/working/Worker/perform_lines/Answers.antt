@@ -18,6 +18,6 @@ loop-line-preserved g c =
       seat = gone_more _ _ _ so_far.seat c.perform_line.ensures.seat;
       sweeps = search rules;
       done = performed_more _ _ c.perform_line.new.self c.perform_line.ensures.seat (c.perform_line.ensures.seat.actor ∙ so_far.seat.actor) _ c.args.lines.now c.loop-line.line-index _
-          c.loop-line-test.true so_far.seat.actor so_far.done c.in_ok-perform_line.ensures.done;
+          c.loop-line-test.true so_far.seat.actor so_far.ended so_far.done c.in_ok-perform_line.ensures.done;
       ended = ended_more _ c.perform_line.new.self _ c.in_ok-perform_line.ensures.done so_far.ended;
     }

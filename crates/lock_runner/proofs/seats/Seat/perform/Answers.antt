@@ -8,7 +8,7 @@ returns g c =
     let done = c.in_ok-carry_out.ensures in
     let lent = c.last_reply.ensures in
     let reply = last_lent _ _ done.answer lent.0 _ done.last lent.1 lent.2 in
-    ((refl, (λ w. tt), (done.on, done.sweeps, (done.idle, done.answer, done.last, reply, done.call, done.unheard))), record { after = tt })
+    ((refl, (λ w. tt), (done.on, done.sweeps, (done.ready, done.idle, done.answer, done.last, reply, done.call, done.behind))), record { after = tt })
 
 pub returns-in_err-carry_out : goal.returns-in_err-carry_out
 returns-in_err-carry_out g c =
