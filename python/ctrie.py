@@ -11,10 +11,20 @@
 It prints 250 300. A `Map` is a dictionary of whole numbers from 0 to 2^64 - 1, in a given number of slots for nodes, whose memory is what
 it took at first. A snapshot or a freeze of it is one too, in the same slots: it has what the map has at that moment, by a bounded number of
 steps, and changes on its own or never. A map goes back to a copy by `restore`, `diff` tells what has changed since, and `put_all`
-sets several keys, all or none. Entries are listed in ascending order of keys.
+sets several keys, all or none.
 
-A key or value out of range is refused with OverflowError, one that is no whole number with TypeError. A call that is refused changes
-nothing, and raises an `Error`. A map and its copies are used on the thread that made the map, and not in a child made by fork.
+What is otherwise than of a dictionary:
+
+- A key or value that is set is refused with OverflowError where it is out of range, with TypeError where it is no whole number. What is
+  looked up may be anything: what is equal to no key has no value.
+- A call that the map refuses raises an `Error` and changes nothing, but that `update` keeps what it has set before.
+- Keys are listed in ascending order, and `popitem` takes any. A map may be changed while it is listed: `__iter__` tells what is seen.
+- `len`, and each 4,096 entries of a listing, take a walk over the whole map; but those of `scan` don't.
+- `|`, `reversed`, `copy`, `fromkeys` and a `repr` that shows the entries aren't there.
+
+A map and its copies are used on the thread that made the map, and not in a child made by fork. What another thread lets go of is given
+back at the next call of a map on that thread, and the maps that a thread has made are closed as it ends. Calls that may take long let
+other threads run.
 
 The library is the shared object that `./build ctrie_c` makes. It is the file that the environment's CTRIE_LIBRARY names, or else
 libctrie.so beside this file, the one that was built, or the one that the system finds.
@@ -26,10 +36,10 @@ import operator
 import os
 import threading
 import weakref
-from ctypes import POINTER, PyDLL, Structure, byref, c_bool, c_size_t, c_uint16, c_uint32, c_uint64, c_void_p
+from ctypes import CDLL, POINTER, PyDLL, Structure, byref, c_bool, c_size_t, c_uint16, c_uint32, c_uint64, c_void_p
 from typing import (
-    Any, Dict, ItemsView, Iterable, Iterator, List, Mapping, MutableMapping, NamedTuple, Optional, Tuple, Type, TypeVar, Union, ValuesView,
-    overload,
+    Any, Dict, ItemsView, Iterable, Iterator, List, Mapping, MutableMapping, NamedTuple, Optional, Set, Tuple, Type, TypeVar, Union,
+    ValuesView, overload,
 )
 
 __all__ = [
@@ -101,6 +111,7 @@ class Hash(enum.IntEnum):
 
 class _Held(Structure):
     _fields_ = [("at", c_void_p)]
+    __hash__ = object.__hash__
 
 
 class _Pair(Structure):
@@ -119,7 +130,6 @@ class _Cursor(Structure):
 _CALLS: Dict[str, Tuple[Any, ...]] = {
     "new": (c_uint32, c_uint32),
     "get": (c_uint16, c_uint64, POINTER(c_uint64)),
-    "contains": (c_uint16, c_uint64),
     "is_writable": (c_uint16,),
     "first": (c_uint16, POINTER(_Pair)),
     "count": (c_uint16, POINTER(c_uint64)),
@@ -130,7 +140,6 @@ _CALLS: Dict[str, Tuple[Any, ...]] = {
     "slots": (POINTER(c_uint32),),
     "free_slots": (POINTER(c_uint32),),
     "put": (c_uint16, c_uint64, c_uint64, POINTER(c_uint64)),
-    "put_if_absent": (c_uint16, c_uint64, c_uint64, POINTER(c_uint64)),
     "put_all": (c_uint16, POINTER(_Pair), c_size_t),
     "remove": (c_uint16, c_uint64, POINTER(c_uint64)),
     "pop": (c_uint16, POINTER(_Pair)),
@@ -139,7 +148,10 @@ _CALLS: Dict[str, Tuple[Any, ...]] = {
     "freeze": (c_uint16, POINTER(c_uint16)),
     "restore": (c_uint16, c_uint16),
     "close": (c_uint16,),
+    "free": (),
 }
+# Those that may take long where a map is large.
+_LONG = {"new", "count", "entries", "scan", "diff", "put_all", "clear", "restore", "close", "free"}
 _YES = 1
 _REFUSALS: Dict[int, Type[Error]] = {
     2: NoHandle, 3: ReadOnly, 4: HandlesFull, 5: Crowded, 6: Full, 7: BadSizes, 8: WornOut, 9: OutOfMemory, 11: Closed,
@@ -159,15 +171,17 @@ def _declared(call: Any, result: Any, *words: Any) -> Any:
 
 
 def _load() -> Dict[str, Any]:
-    """Returns the calls of the library. They keep the interpreter's lock, since they are short."""
+    """Returns the calls of the library. They keep the interpreter's lock, but for those that may take long."""
     file = _library_file()
-    library = PyDLL(file)
-    major, rest = divmod(_declared(library.ctrie_version, c_uint32)(), 10_000)
+    short, long = PyDLL(file), CDLL(file)
+    major, rest = divmod(_declared(short.ctrie_version, c_uint32)(), 10_000)
     version = ".".join(map(str, (major, *divmod(rest, 100))))
     if version != __version__:
         raise ImportError(f"{file} has the version {version}, and this module {__version__}")
-    calls = {name: _declared(library[f"ctrie_{name}"], c_uint32, POINTER(_Held), *words) for name, words in _CALLS.items()}
-    return {**calls, "free": _declared(library.ctrie_free, None, POINTER(_Held))}
+    return {
+        name: _declared((long if name in _LONG else short)[f"ctrie_{name}"], None if name == "free" else c_uint32, POINTER(_Held), *words)
+        for name, words in _CALLS.items()
+    }
 
 
 _LIBRARY = _load()
@@ -181,32 +195,93 @@ def _number(value: int) -> int:
     return number
 
 
-def _free(held: _Held, thread: int) -> None:
-    """Frees the map. On another thread it is left where it is."""
-    if threading.get_ident() == thread:
-        _LIBRARY["free"](byref(held))
+def _key(wanted: Any) -> Optional[int]:
+    """Returns the key that is equal to what is looked up, as 1 is to 1.0, if one is."""
+    try:
+        number = operator.index(wanted)
+    except TypeError:
+        number = wanted
+    try:
+        return int(number) if 0 <= number < 2**64 and int(number) == number else None
+    except (TypeError, ValueError, ArithmeticError):
+        return None
+
+
+class _Thread:
+    """A thread, with the maps that are used on it alone. It is known by this object: its number is given again once it has ended."""
+
+    def __init__(self) -> None:
+        self.number = threading.get_ident()
+        self.maps: Set[_Held] = set()
+        # Maps that are to be freed, and handles that are to be closed; other threads put them there too.
+        self.left: List[Tuple[_Held, Optional[int]]] = []
+
+    def let_go(self, held: _Held, handle: Optional[int] = None) -> None:
+        """Frees a map that is open, or closes one of its handles: at once, or for another thread at this one's next call."""
+        if held in self.maps:
+            self.left.append((held, handle))
+            # It has a map, so it hasn't ended, and its number is its own. (As it ends, `_CURRENT` may be gone.)
+            if threading.get_ident() == self.number:
+                self.give_back()
+
+    def give_back(self) -> None:
+        while self.left:
+            try:
+                held, handle = self.left.pop()
+            except IndexError:
+                # A call that came in between, by a signal or the collector, has given all back.
+                return
+            if handle is None:
+                self.maps.discard(held)
+                _LIBRARY["free"](byref(held))
+            else:
+                _LIBRARY["close"](byref(held), handle)
+
+    def end(self) -> None:
+        """Frees all maps, which nobody can use any more. (As the interpreter ends, it is called of threads that go on too.)"""
+        if threading.get_ident() == self.number:
+            self.left.extend((held, None) for held in list(self.maps))
+            self.give_back()
+
+
+class _Life:
+    """Of a thread: nothing else refers to it, so it goes as the thread ends."""
+
+
+class _Current(threading.local):
+    """The thread that runs, which each one sees as itself."""
+
+    def __init__(self) -> None:
+        self.thread, self.life = _Thread(), _Life()
+        weakref.finalize(self.life, self.thread.end)
+
+
+_CURRENT = _Current()
 
 
 class _Owner:
     """What holds a map in the library."""
 
     def __init__(self, slots: int, hash: Hash) -> None:
-        self.held, self.thread = _Held(None), threading.get_ident()
-        self.free = weakref.finalize(self, _free, self.held, self.thread)
+        self.held, self.thread = _Held(None), _CURRENT.thread
+        self.thread.maps.add(self.held)
+        self.free = weakref.finalize(self, self.thread.let_go, self.held)
         if not 0 <= operator.index(slots) < 2**32:
             raise BadSizes(BadSizes.__doc__)
         self.call("new", slots, Hash(hash))
 
     def is_open(self) -> bool:
-        return self.held.at is not None
+        # What is held isn't asked: while a call is under way, the library has taken the map out of it.
+        return self.held in self.thread.maps
 
     def check_thread(self) -> None:
-        if threading.get_ident() != self.thread:
+        if _CURRENT.thread is not self.thread:
             raise WrongThread(WrongThread.__doc__)
 
     def call(self, name: str, *words: Any) -> bool:
         """Carries out a call, and returns whether it tells yes."""
         self.check_thread()
+        self.thread.give_back()
         code: int = _LIBRARY[name](byref(self.held), *words)
         if code > _YES:
             raise _REFUSALS[code](_REFUSALS[code].__doc__)
@@ -276,7 +351,15 @@ class _Handle(MutableMapping[int, int]):
     def _told(self, name: str, *words: int) -> Optional[int]:
         """Returns the value that a call tells, if it tells one."""
         value = c_uint64()
-        return value.value if self._call(name, *map(_number, words), byref(value)) else None
+        return value.value if self._call(name, *words, byref(value)) else None
+
+    def _looked_up(self, name: str, wanted: Any) -> Optional[int]:
+        """Returns the value that a call on a key tells, if it tells one."""
+        key = _key(wanted)
+        if key is None:
+            self._call("is_writable")  # A closed map refuses it, as it refuses a look for a key.
+            return None
+        return self._told(name, key)
 
     def _pairs(self, name: str = "entries") -> Iterator[Tuple[int, int]]:
         cursor, pairs, count = _Cursor(0, False), (_Pair * _ROOM)(), c_uint64(_ROOM)
@@ -290,20 +373,20 @@ class _Handle(MutableMapping[int, int]):
         return Copy(self._owner, handle.value)
 
     def __getitem__(self, key: int) -> int:
-        value = self._told("get", key)
+        value = self._looked_up("get", key)
         if value is None:
             raise KeyError(key)
         return value
 
     def __setitem__(self, key: int, value: int) -> None:
-        self._told("put", key, value)
+        self._told("put", _number(key), _number(value))
 
     def __delitem__(self, key: int) -> None:
-        if self._told("remove", key) is None:
+        if self._looked_up("remove", key) is None:
             raise KeyError(key)
 
     def __contains__(self, key: object) -> bool:
-        return self._call("contains", _number(key))  # type: ignore[arg-type]
+        return self._looked_up("get", key) is not None
 
     def __len__(self) -> int:
         """Counts the keys by a walk over them all."""
@@ -316,8 +399,8 @@ class _Handle(MutableMapping[int, int]):
         return self._call("first", byref(_Pair()))
 
     def __iter__(self) -> Iterator[int]:
-        """Goes through the keys, 4,096 at a time. A map may change in between: then it goes on after the key that it came to. A frozen
-        copy is of one moment."""
+        """Goes through the keys. It reads 4,096 entries at a time, and what is changed behind that is seen from the next ones on: these
+        begin after the last key that was read, whether it is there still or not. A frozen copy is of one moment."""
         return (key for key, _ in self._pairs())
 
     def items(self) -> ItemsView[int, int]:
@@ -326,7 +409,7 @@ class _Handle(MutableMapping[int, int]):
 
     def scan(self) -> Iterator[Tuple[int, int]]:
         """Goes through the keys with their values in the map's own order, that of their hashes: a large map is listed sooner by it,
-        since in ascending order each 4,096 keys take a walk over all. It goes on as the keys do where the map changes."""
+        since in ascending order each 4,096 entries take a walk over all. Where the map changes it goes on as a listing of the keys."""
         return self._pairs("scan")
 
     def values(self) -> ValuesView[int]:
@@ -341,7 +424,7 @@ class _Handle(MutableMapping[int, int]):
 
     def get(self, key: int, default: Any = None) -> Any:
         """Returns the key's value, or the default."""
-        value = self._told("get", key)
+        value = self._looked_up("get", key)
         return default if value is None else value
 
     _NOTHING = object()
@@ -354,7 +437,7 @@ class _Handle(MutableMapping[int, int]):
 
     def pop(self, key: int, default: Any = _NOTHING) -> Any:
         """Removes the key, and returns its value, or the default where it has none; a KeyError where there is no default."""
-        value = self._told("remove", key)
+        value = self._looked_up("remove", key)
         if value is None and default is self._NOTHING:
             raise KeyError(key)
         return default if value is None else value
@@ -365,12 +448,6 @@ class _Handle(MutableMapping[int, int]):
         if not self._call("pop", byref(pair)):
             raise KeyError("no key has a value")
         return pair.key, pair.value
-
-    def setdefault(self, key: int, default: Optional[int] = None) -> int:
-        """Sets the value of a key that has none, and returns the value that it has then; a TypeError where it has none, and there is no
-        default: no value is None."""
-        value = self._told("get", key) if default is None else self._told("put_if_absent", key, default)
-        return operator.index(default) if value is None else value  # type: ignore[arg-type]
 
     def put_all(self, pairs: Union[Mapping[int, int], Iterable[Tuple[int, int]]]) -> None:
         """Sets the values of all these keys, or of none. (`update` sets one after the other, as a dictionary's, and what it has set before
@@ -421,7 +498,8 @@ class _Handle(MutableMapping[int, int]):
 
 class Copy(_Handle):
     """A snapshot or a freeze of a map, with a handle of its own. It is open until it is closed, by close(), by the end of a `with` or as
-    nothing refers to it any more; or until the map is. Closed, it raises `NoHandle`."""
+    nothing refers to it any more; or until the map is. Closed, it raises `NoHandle`. Where another thread was the last that referred
+    to it, it is closed at the next call of a map on its own thread."""
 
     def close(self) -> None:
         """Gives the handle back, and what slots the copy alone has."""
@@ -430,17 +508,17 @@ class Copy(_Handle):
         self._handle = None
 
     def __del__(self) -> None:
-        try:
-            self.close()
-        except Error:
-            pass
+        if self.is_open:
+            self._owner.thread.let_go(self._owner.held, self._handle)
+        self._handle = None
 
 
 class Map(_Handle):
     """A map with the given number of slots for nodes, from 2 to 1,048,576, some 1.6 for each key.
 
-    It is open until it is closed, by close(), by the end of a `with` or as nothing refers to it or to a copy of it any more. Closed, it
-    and its copies raise `Closed`."""
+    It is open until it is closed, by close(), by the end of a `with` or as nothing refers to it or to a copy of it any more; or until its
+    thread ends. Closed, it and its copies raise `Closed`. Where another thread was the last that referred to it, its memory is given back
+    at the next call of a map on its own thread."""
 
     def __init__(self, slots: int, hash: Hash = Hash.FOLD) -> None:
         super().__init__(_Owner(slots, hash), 0)

@@ -1,14 +1,23 @@
-"""Checks python/ctrie.py beside Python's own dictionaries, and how it refuses. `c` runs it."""
+"""Checks python/ctrie.py beside Python's dictionaries, how it refuses, and what becomes of maps where there are threads. `c` runs it."""
 import copy
+import decimal
 import gc
 import random
+import sys
 import threading
 import unittest
+import unittest.mock
 
 import ctrie
 
 CALLS = 20_000
 LARGEST = 2**64 - 1
+
+
+def on_another_thread(call):
+    thread = threading.Thread(target=call)
+    thread.start()
+    thread.join()
 
 
 class Calls(unittest.TestCase):
@@ -36,9 +45,23 @@ class Calls(unittest.TestCase):
         call = self.random.choice([
             lambda it: it.__setitem__(key, value), lambda it: it.pop(key), lambda it: it.pop(key, None), lambda it: it.__delitem__(key),
             lambda it: it.setdefault(key, value), lambda it: it.update({key: value, 7: 9}), lambda it: it[key],
-            lambda it: it.get(key, value), lambda it: key in it, len, bool,
+            lambda it: it.get(key, value), lambda it: key in it, len, bool, lambda it: it.setdefault(3, value),
         ])
         self.assertEqual(self.answer(lambda: call(one)), self.answer(lambda: call(like)))
+
+    def look_up(self, one, like):
+        """Looks up what may be equal to a key, and mostly is to none."""
+        key = self.random.choice((
+            -1, 2**64, "3", None, (3,), 3.0, 3.5, float("inf"), float("nan"), 2.0**64, 3j, decimal.Decimal(3), decimal.Decimal("NaN"),
+            decimal.Decimal("1E+999999999"),
+        ))
+        for call in (
+            lambda it: it[key], lambda it: it.get(key), lambda it: it.get(key, 6), lambda it: key in it,
+            lambda it: sorted(it.keys() & {key, 7}), lambda it: (key, 1) in it.items(), lambda it: it.keys().isdisjoint([key]),
+            lambda it: 7 in it and it.setdefault(7, "9"), lambda it: it.pop(key, None), lambda it: it.pop(key),
+            lambda it: it.__delitem__(key),
+        ):
+            self.assertEqual(self.answer(lambda: call(one)), self.answer(lambda: call(like)))
 
     def put_several(self, one, like):
         pairs = [(self.random.randrange(200), self.random.randrange(5)) for _ in range(self.random.randrange(9))]
@@ -84,6 +107,8 @@ class Calls(unittest.TestCase):
                 self.go_back(one, like)
             elif drawn < 0.05:
                 self.put_several(one, like)
+            elif drawn < 0.07:
+                self.look_up(one, like)
             else:
                 self.change(one, like)
             if drawn > 0.98:
@@ -142,33 +167,100 @@ class Refusals(unittest.TestCase):
 
     def test_only_whole_numbers_of_64_bits(self):
         with ctrie.Map(64) as one:
-            for number in (-1, 2**64):
+            for number, refusal in ((-1, OverflowError), (2**64, OverflowError), ("1", TypeError), (2.0, TypeError), (None, TypeError)):
                 for call in (
-                    lambda: one[number], lambda: number in one, lambda: one.update({number: 1}), lambda: one.update({1: number}),
-                    lambda: one.put_all({1: 1, number: 1}), lambda: one.put_all({1: 1, 2: number}),
+                    lambda: one.update({number: 1}), lambda: one.update({1: number}), lambda: one.setdefault(number, 1),
+                    lambda: one.setdefault(1, number), lambda: one.put_all({1: 1, number: 1}), lambda: one.put_all({1: 1, 2: number}),
                 ):
-                    self.assertRaises(OverflowError, call)
-            for other in ("1", 1.0, None):
-                self.assertRaises(TypeError, lambda: one.get(other))
+                    self.assertRaises(refusal, call)
             one[LARGEST] = LARGEST
             self.assertEqual(dict(one), {LARGEST: LARGEST})
+        for call in (lambda: one.get("1"), lambda: -1 in one, lambda: one.pop("1", 2)):
+            self.assertRaises(ctrie.Closed, call)
+        self.assertRaises(TypeError, copy.copy, one)
+
+
+class Threads(unittest.TestCase):
+    def refused(self, *calls):
+        """Returns what these calls raise on another thread."""
+        raised = []
+
+        def use():
+            for call in calls:
+                try:
+                    call()
+                except ctrie.Error as refused:
+                    raised.append(type(refused))
+
+        on_another_thread(use)
+        return raised
 
     def test_a_thread_of_its_own(self):
         with ctrie.Map(64) as one, one.snapshot() as copied:
-            raised = []
+            raised = self.refused(lambda: one.get(1), copied.close, one.close)
+            self.assertEqual((raised, len(one), len(copied)), ([ctrie.WrongThread] * 3, 0, 0))
 
-            def use():
-                for call in (lambda: one.get(1), copied.close, one.close):
-                    try:
-                        call()
-                    except ctrie.WrongThread as refused:
-                        raised.append(refused)
+    def test_a_thread_that_has_ended(self):
+        """The system gives its number to a later one."""
+        made = []
+        on_another_thread(lambda: made.append(ctrie.Map(64)))
+        on_another_thread(lambda: made.append(made[0].is_open))
+        for _ in range(20):
+            self.assertEqual(self.refused(lambda: made[0].get(1), made[0].freeze), [ctrie.WrongThread] * 2)
+        self.assertEqual((made[0].is_open, made[1]), (False, False))
 
-            thread = threading.Thread(target=use)
+    def test_copies_that_another_thread_drops(self):
+        with ctrie.Map(256) as one, ctrie.Map(256) as other:
+            kept = one.freeze()
+            free = one.free_slots
+            copies = [one.snapshot() for _ in range(5)]
+            copies[0][1] = 1
+            on_another_thread(copies.clear)
+            self.assertEqual((one.open_handles(), one.free_slots, len(kept)), ([0, kept.handle], free, 0))
+            # A map that is closed before has nothing to give back.
+            copies.append(one.freeze())
+            on_another_thread(copies.clear)
+            one.close()
+            self.assertEqual(len(other), 0)
+
+    def test_maps_are_freed_on_their_threads(self):
+        """One that another thread drops, one that is kept as its thread ends, and one that a thread keeps for itself."""
+        threads = {"new": [], "free": []}
+
+        def noted(name):
+            call = ctrie._LIBRARY[name]
+            return lambda *words: threads[name].append(threading.get_ident()) or call(*words)
+
+        with unittest.mock.patch.dict(ctrie._LIBRARY, {name: noted(name) for name in threads}):
+            maps, own = [ctrie.Map(64)], threading.local()
+            on_another_thread(maps.clear)
+            self.assertEqual(len(threads["free"]), 0)
+            ctrie.Map(64).close()
+            self.assertEqual(len(threads["free"]), 2)
+            on_another_thread(lambda: maps.append(ctrie.Map(64)))
+            on_another_thread(lambda: setattr(own, "map", ctrie.Map(64)))
+            self.assertEqual((threads["free"], len(threads["new"])), (threads["new"], 4))
+
+    def test_long_calls_let_other_threads_run(self):
+        with ctrie.Map(65_536) as one:
+            one.update((key, key) for key in range(30_000))
+            interval = sys.getswitchinterval()
+            ran, gate = threading.Event(), threading.Lock()
+            gate.acquire()
+            thread = threading.Thread(target=lambda: gate.acquire() and ran.set())
             thread.start()
+            # No thread is made to let others run.
+            sys.setswitchinterval(1_000)
+            try:
+                gate.release()
+                for _ in range(1_000):
+                    if ran.is_set():
+                        break
+                    self.assertEqual(len(one), 30_000)
+                self.assertTrue(ran.is_set())
+            finally:
+                sys.setswitchinterval(interval)
             thread.join()
-            self.assertEqual((len(raised), len(one), len(copied)), (3, 0, 0))
-        self.assertRaises(TypeError, copy.copy, one)
 
 
 class Lives(unittest.TestCase):
