@@ -46,11 +46,17 @@ fn plain(alloc: Global, load: Load) -> Result<u64, Refusal> {
     let mut machine = Machine::new(alloc, load.limits)?;
     for n in 0..load.calls {
         machine.complete(1, call(n))?;
-        for _ in 0..SWEEPS {
-            machine.apply(Step::Sweep)?;
-        }
+        sweep_alone(&mut machine)?;
     }
     Ok(machine.steps_taken())
+}
+
+/// The steps of the sweep behind a call.
+fn sweep_alone(machine: &mut Machine) -> Result<(), Refusal> {
+    for _ in 0..SWEEPS {
+        machine.apply(Step::Sweep)?;
+    }
+    Ok(())
 }
 
 /// A thread's share of the calls.
@@ -60,9 +66,17 @@ fn work<R: Wait>(rt: &R, runner: &Runner, seat: &mut Seat, calls: u64)
 {
     for n in 0..calls {
         let _ = seat.perform(rt, runner, call(n), &Nothing).is_ok();
-        for _ in 0..SWEEPS {
-            let _ = runner.sweep(rt, seat);
-        }
+        sweep_through(rt, runner, seat);
+    }
+}
+
+/// The same through the gate.
+fn sweep_through<R: Wait>(rt: &R, runner: &Runner, seat: &mut Seat)
+    requires { IsSeatOf runner.now seat.old }
+    ensures { IsSeatOf runner.now seat.new }
+{
+    for _ in 0..SWEEPS {
+        let _ = runner.sweep(rt, seat);
     }
 }
 

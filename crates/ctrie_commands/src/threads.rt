@@ -93,7 +93,7 @@ fn carried_out<R: Threads + Wait + Sync, B: Between + Sync>(
 ///
 /// Each actor that has lines is a thread that performs their calls in their order, and one actor more takes
 /// the steps of the sweep. Where a thread can't be made, the caller does what it had to do. `between` is
-/// called between two steps of a call.
+/// called between two steps of a call. The faults are those of `run_script`.
 pub fn run_threads<R: Threads + Wait + Sync, I: Read, W: Write, B: Between + Sync>(
     rt: &R,
     alloc: Global,

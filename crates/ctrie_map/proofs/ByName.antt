@@ -14,7 +14,8 @@ use Rattle.history.specs.Effects.{changing, copying, effect, is_crowded, naming,
 use Rattle.history.specs.Worlds.{HandleMap, HandleState, KeyMap}
 use Rattle.machine_model.specs.Calls.{handle_of, needs_writable, opens_handle}
 use Rattle.machine_model.specs.States.{State, handle_limit}
-use Rattle.proof_alone.specs.Calls.{RunsOut, slots_of}
+use Rattle.proof_alone.specs.Calls.{RunsOut}
+use Rattle.ctrie_map.specs.Beneath.proof_obstruction_free.specs.Calls.{slots_of}
 use Rattle.ctrie_map.specs.Beneath.map_worlds.specs.Worlds.{world_of}
 use Rattle.ctrie_map.specs.declared.errors.MapError.{MapError}
 use Rattle.ctrie_map.specs.declared.errors.MapError.TheVariants as error

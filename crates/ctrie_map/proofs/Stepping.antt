@@ -16,7 +16,8 @@ use Rattle.machine_model.specs.States.{State, operation_of}
 use Rattle.ctrie_map.specs.Beneath.proof_core.specs.Bounds.{Answers, Applies, Walks}
 use Rattle.machine_core.specs.Sweeping.{Reclaims, at_first, one_more}
 use Rattle.ctrie_map.specs.Beneath.proof_core.specs.Work.{Worked}
-use Rattle.proof_alone.specs.Calls.{CallsBegin, CallsGoOn, CanCall, IsNoWalk, LeadsOn, steps_of}
+use Rattle.proof_alone.specs.Calls.{CallsBegin, CallsGoOn, CanCall, LeadsOn, steps_of}
+use Rattle.ctrie_map.specs.Beneath.proof_obstruction_free.specs.Calls.{IsNoWalk}
 use Rattle.proof_alone.specs.Sweeps.{Sweeps, SweepsLeave, most_sweeps, sweeps, unswept}
 use Rattle.proof_alone.proofs.Going.{steps_so_far}
 use Rattle.ctrie_map.specs.Beneath.proof_straight.specs.Resting.{IsOfRun}

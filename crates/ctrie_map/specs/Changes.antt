@@ -9,7 +9,8 @@ use Rattle.history.specs.declared.calls.Call.TheVariants.{Get, Put, PutIfAbsent,
 use Rattle.history.specs.Effects.{has_value, is_crowded, naming}
 use Rattle.history.specs.Worlds.{HandleMap, HandleState, KeyMap}
 use Rattle.machine_model.specs.Calls.{handle_of, needs_writable, opens_handle}
-use Rattle.proof_alone.specs.Calls.{RunsOut, slots_of}
+use Rattle.proof_alone.specs.Calls.{RunsOut}
+use Rattle.ctrie_map.specs.Beneath.proof_obstruction_free.specs.Calls.{slots_of}
 use Rattle.ctrie_map.specs.declared.errors.MapError.{MapError}
 use Rattle.ctrie_map.specs.declared.errors.MapError.TheVariants.{Crowded, Full, WornOut}
 use Rattle.ctrie_map.specs.declared.names.Name.{Name}

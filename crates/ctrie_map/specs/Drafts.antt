@@ -8,7 +8,8 @@ use Rattle.history.specs.Worlds.{HandleMap, KeyMap}
 use Rattle.machine_model.specs.States.{State}
 use Rattle.ctrie_map.specs.Beneath.map_worlds.specs.Worlds.{world_of}
 use Rattle.ctrie_map.specs.Beneath.proof_obstruction_free.specs.Laws.{most_steps_alone}
-use Rattle.proof_alone.specs.Calls.{RunsOut, slots_of}
+use Rattle.proof_alone.specs.Calls.{RunsOut}
+use Rattle.ctrie_map.specs.Beneath.proof_obstruction_free.specs.Calls.{slots_of}
 use Rattle.proof_alone.specs.Sweeps.{most_sweeps}
 use Rattle.ctrie_map.specs.declared.errors.MapError.{MapError}
 use Rattle.ctrie_map.specs.declared.errors.MapError.TheVariants.{Full}

@@ -1,5 +1,5 @@
 -- What contracts see of a map: the state of its core, and its handles' names. What they say of it they say by the maps that its handles name, and by its free slots.
-use Rattle.std.specs.Prelude.{◌≡◌, ◌⊎◌, ◌+◌, ◌≤◌, ℕ, length}
+use Rattle.std.specs.Prelude.{◌≡◌, ◌⊎◌, ◌+◌, ℕ, length}
 use Rattle.ctrie_base.specs.declared.hashes.HashKind.{HashKind}
 use Rattle.history.specs.Worlds.{HandleMap, first_world}
 use Rattle.machine_model.specs.Machine.{longest_life}
@@ -7,7 +7,7 @@ use Rattle.machine_model.specs.States.{State}
 use Rattle.ctrie_map.specs.Beneath.map_worlds.specs.Worlds.{world_of}
 use Rattle.ctrie_map.specs.declared.errors.MapError.{MapError}
 use Rattle.ctrie_map.specs.declared.errors.MapError.TheVariants.{BadSizes, Memory}
-use Rattle.ctrie_map.specs.Beneath.slot_arena.specs.Refs.{most_slots}
+pub use Rattle.ctrie_map.specs.Beneath.slot_arena.specs.Arenas.{AreSlots}
 use Rattle.ctrie_map.specs.Cores.{IsCalm}
 use Rattle.ctrie_map.specs.Names.{AreNamesOf, NameTable, handles_under}
 
@@ -48,9 +48,6 @@ abbrev pub IsNew : ℕ → HashKind → MapState → Type 0
 IsNew slots hash made =
     (made.core.limits ≡ record { slots = slots; actors = 1; hash = hash; steps = longest_life }) × (made.names.last ≡ 0) × (handles_of made ≡ first_world)
     × (made.core.steps ≡ 0) × (free_of made + 2 ≡ slots)
-
-abbrev pub AreSlots : ℕ → Type 0
-AreSlots slots = (2 ≤ slots) × (slots ≤ most_slots)
 
 -- why there is none
 abbrev pub RefusesSizes : ℕ → MapError → Type 0

@@ -4,7 +4,7 @@ ghost use Rattle.std.specs.Prelude.{◌≡◌, ◌<◌, ◌≤◌, ◌+◌, ◌*
 ghost use Rattle.std.specs.FinMap as map;
 ghost use Rattle.history.specs.Worlds.{KeyMap};
 ghost use Rattle.machine_model.specs.States.{handle_limit};
-ghost use Rattle.proof_alone.specs.Calls.{slots_of};
+ghost use Rattle.ctrie_map.specs.Beneath.proof_obstruction_free.specs.Calls.{slots_of};
 ghost use Rattle.ctrie_map.specs.Beneath.map_worlds.specs.Worlds.{world_of};
 ghost use Rattle.ctrie_map.specs.Beneath.proof_obstruction_free.specs.Slots.{most_makes_alone};
 ghost use Rattle.ctrie_map.specs.Batches.{CanCopy, ChangesAll, ChangesEach, ChangesKey, RefusesBatch, RefusesKey, RefusesName, Stops, batch_call, work_of_changes};

@@ -2,7 +2,8 @@
 
 ghost use Rattle.std.specs.Prelude.{◌≡◌, ◌<◌, ◌≤◌, ◌+◌, ℕ, IfOk, false, [], length};
 ghost use Rattle.machine_model.specs.Machine.{is_busy};
-ghost use Rattle.proof_alone.specs.Calls.{CanCall, slots_of};
+ghost use Rattle.proof_alone.specs.Calls.{CanCall};
+ghost use Rattle.ctrie_map.specs.Beneath.proof_obstruction_free.specs.Calls.{slots_of};
 ghost use Rattle.proof_alone.specs.Sweeps.{Sweeps, most_sweeps};
 ghost use Rattle.ctrie_map.specs.Beneath.proof_straight.specs.Running.{Comes};
 ghost use Rattle.ctrie_map.specs.Cores.{Carries, IsCalm, Leads, TakesUpTo, is_worn_out, life_left, the_actor};

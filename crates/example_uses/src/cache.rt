@@ -64,15 +64,22 @@ impl Cache {
     }
 }
 
-/// Asks a cache of so many slots for 40 numbers three times, and for 27 after each.
+/// Asks for 40 numbers, and for 27 after each; the most steps of one.
+fn ask_all(cache: &mut Cache) -> Result<u64, MapError> {
+    let mut most = 0;
+    for number in 1..41 {
+        most = cache.steps(number)?.max(most);
+        most = cache.steps(27)?.max(most);
+    }
+    Ok(most)
+}
+
+/// Asks a cache of so many slots for all of them three times.
 fn ask<R: Print + AllocGlobal>(rt: &R, slots: u32) -> Result<(), MapError> {
     let mut cache = Cache::new(rt.alloc(), slots)?;
     let mut most = 0;
     for _ in 0..3 {
-        for number in 1..41 {
-            most = cache.steps(number)?.max(most);
-            most = cache.steps(27)?.max(most);
-        }
+        most = ask_all(&mut cache)?.max(most);
     }
     let known = cache.map.count(cache.now)?;
     let Cache { hits, renewals, .. } = cache;

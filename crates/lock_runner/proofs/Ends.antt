@@ -16,8 +16,6 @@ use Rattle.gate.specs.Rules.{AreSeated}
 use Rattle.gate.specs.Seats as gate
 use Rattle.gate.specs.Finishing as finish
 use Rattle.gate.proofs.Summing.{seats_make_the_log}
-use Rattle.lock_runner.specs.declared.accounts.Answer.{Answer}
-use Rattle.lock_runner.specs.declared.accounts.Running.{Running}
 use Rattle.lock_runner.specs.declared.asks.Shared.{Shared}
 use Rattle.lock_runner.specs.declared.asks.Work.{Work}
 use Rattle.lock_runner.specs.declared.asks.Work.TheVariants as work
@@ -27,7 +25,7 @@ use Rattle.lock_runner.specs.ActorHistory.Answers.{AreAnswersOf, RunsJust}
 use Rattle.lock_runner.specs.ActorHistory.Laws.{IsStepOf}
 use Rattle.lock_runner.specs.Asks.{Told, Hold, Pass, step_of, swept_by, swept}
 use Rattle.lock_runner.specs.Boards.{account_in, sweeps_in, HasFollowed}
-use Rattle.lock_runner.specs.Seats.{Room, Seated, pass_of, seated, sweeps_of, IsTold, IsSeated}
+use Rattle.lock_runner.specs.Seats.{Room, Seated, pass_of, sweeps_of, IsTold}
 use Rattle.lock_runner.specs.Holds.{Worked, Answers}
 use Rattle.lock_runner.specs.Finishing.{IsHere, AreHere, all_swept, IsGathered, recorded, IsFinished}
 use Rattle.lock_runner.proofs.ActorHistory.Told.{answers_are_those_of_the_history}
@@ -56,14 +54,6 @@ none_left [] n is none = refl
 none_left (x ∷ rest) n is none = absurd (omega (arith, is, none))
 
 -- ---- seats
-
--- a seat's value has all of its seat at the gate
-pub is_pass : (pass : Pass) (answers : List Answer) (running : Option Running) (sweeps heard : ℕ) → IsSeated pass answers running sweeps → pass ≡ pass_of (seated pass answers running sweeps heard)
-is_pass pass answers running sweeps heard seat =
-    ap (λ m. record { gate = pass.gate; number = pass.number; seen = record { first = record { machine = m }; object = pass.seen.object; log = pass.seen.log } }) seat.first
-
-pub is_told : (pass : Pass) (answers : List Answer) (running : Option Running) (sweeps heard : ℕ) → IsSeated pass answers running sweeps → IsTold (seated pass answers running sweeps heard)
-is_told pass answers running sweeps heard seat = record { told = seat.told; counted = seat.counted }
 
 -- ---- all holds of the gate
 

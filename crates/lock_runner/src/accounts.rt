@@ -5,8 +5,11 @@ use history::{Call, Reply};
 /// An operation that has ended. Places are indexes of the history.
 #[derive(Debug, Drop)]
 pub struct Answer {
+    /// The operation's id, by which the order names it.
     pub id: u64,
+    /// What it was asked.
     pub call: Call,
+    /// With what it ended.
     pub reply: Reply,
     /// The place of its begin.
     pub began: u64,

@@ -28,6 +28,4 @@ pub use laws::{
 pub use naming::{NamedRunner, NamedSeat};
 pub use runner::Runner;
 pub use seats::{Seat, Stop};
-pub use step_machine::{
-    GO_LIMIT, Limits, Machine, Outcome, Record, Step, alone_it_ends, closes_end, run,
-};
+pub use step_machine::{Limits, Machine, Record, Step, run};

@@ -12,7 +12,7 @@ use crate::accounts::Answer;
 use crate::runner::Runner;
 use crate::seats::{Seat, Stop};
 use gate::Name;
-use std::alloc::{AllocError, Global};
+use std::alloc::Global;
 use std::marker::{Model, PhantomData};
 use std::sync::Wait;
 use step_machine::Swept;
@@ -54,19 +54,22 @@ impl<N: Name> Model for NamedSeat<N> {
 }
 
 impl Runner {
-    /// The runner and its seats under the name that stands for it. Where memory is wanting nothing is left of them.
+    /// The runner and its seats under the name that stands for it. Where memory is wanting they come back.
     pub fn named<N: Name>(
         self,
         alloc: Global,
         seats: Vec<Seat>,
-    ) -> Result<(NamedRunner<N>, Vec<NamedSeat<N>>), AllocError>
+    ) -> Result<(NamedRunner<N>, Vec<NamedSeat<N>>), (Runner, Vec<Seat>)>
         requires name { self.id ≡ N.gate }
         requires seats { AreSeatsOf self seats.items }
-        ensures { IfOk result (λ named. (named.0 ≡ self) × (named.1.items ≡ seats.items)) }
+        ensures same { IfOk result (λ named. (named.0 ≡ self) × (named.1.items ≡ seats.items)) }
+        ensures back { IfErr result (λ back. (back.0 ≡ self) × (back.1.items ≡ seats.items)) }
     {
-        let mut named = Vec::new(alloc);
+        let Ok(mut named) = Vec::with_capacity(alloc, seats.len()) else {
+            return Err((self, seats));
+        };
         for seat in seats {
-            named.push(NamedSeat::new(seat))?;
+            let _ = named.push(NamedSeat::new(seat));
         }
         let runner = NamedRunner {
             runner: self,

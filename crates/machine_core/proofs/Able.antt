@@ -31,16 +31,17 @@ use Rattle.machine_core.specs.Beneath.snapshot.specs.Copies.{IsReadyBeside}
 use Rattle.running.specs.declared.job.Program.{Program}
 use Rattle.running.specs.declared.job.Program.TheVariants.{Key, Copy, Walk, Close}
 use Rattle.running.specs.declared.programs.Programs.{Programs}
-use Rattle.running.specs.declared.programs.Stage.{Stage}
-use Rattle.running.specs.declared.programs.Stage.TheVariants.{Runs, Answered, Swapped, Walked, Impossible}
-use Rattle.running.specs.Places.{IsBegun, IsSound, IsWaiting, ReadsIn, ReadsOn, asking_line, line_for, met_at, program_line, stage_line}
-use Rattle.running.specs.Steps.{CanProgram, CanStage, CanStep, at_scene, scene}
+use Rattle.running.specs.declared.programs.ProgramAt.{ProgramAt}
+use Rattle.running.specs.declared.programs.ProgramAt.TheVariants.{Runs, Answered, Swapped, Walked, Impossible}
+use Rattle.running.specs.Places.{IsBegun, IsSound, IsWaiting, ReadsIn, ReadsOn, asking_line, line_for, met_at, program_line, program_line_at}
+use Rattle.running.specs.Steps.{CanProgram, CanProgramAt, CanStep, at_scene, scene}
 use Rattle.running.proofs.Asks.{Asks, asked, asks, key_handle}
 use Rattle.running.proofs.Lasting.{tells}
 use Rattle.machine_core.specs.declared.parts.UnderWay.{UnderWay}
 use Rattle.machine_core.specs.Seen.{operation_at}
 use Rattle.machine_core.specs.Beneath.proof_operations.specs.Laws.{LineHasRoom, MakesNode}
-use Rattle.proof_core.proofs.Claims.{Lives, read_claims, root_live}
+use Rattle.machine_core.specs.Beneath.proof_memory.proofs.Claims.Reads.{read_claims}
+use Rattle.proof_core.proofs.Claims.{Lives, root_live}
 use Rattle.machine_core.proofs.Conditions.{Finds, IsLineOf, can_key, can_copy, can_walk, met, told}
 use Rattle.slot_arena.specs.Refs.{birth_limit}
 
@@ -94,14 +95,14 @@ module _ (state : State) (memory : Memory) (table : Table) (generation : ℕ) (p
       p.walk.at (subst (Finds memory.heap p.key.work.private (There state memory table generation p) (Own table p u (Walk call))) w.is finds)
   can_program Close l w begun reads finds = tt
 
-  can_stage : (program : Program) (stage : Stage) → IsBegun program p → IsWaiting p.asking (stage_line p None program stage) → ReadsIn stage program p →
-      Finds memory.heap p.key.work.private (There state memory table generation p) (Own table p u program) (asking_line p program stage p.asking) →
-      CanStage (scene memory table generation p) program stage
-  can_stage program Runs begun waits reads finds = can_program program (asking_line p program Runs p.asking) (within p program p.asking waits) begun reads finds
-  can_stage program (Answered answer) begun waits reads finds = tt
-  can_stage program (Swapped answer) begun waits reads finds = tt
-  can_stage program (Walked call) begun waits reads finds = tt
-  can_stage program Impossible begun waits reads finds = tt
+  can_program_at : (program : Program) (at : ProgramAt) → IsBegun program p → IsWaiting p.asking (program_line_at p None program at) → ReadsIn at program p →
+      Finds memory.heap p.key.work.private (There state memory table generation p) (Own table p u program) (asking_line p program at p.asking) →
+      CanProgramAt (scene memory table generation p) program at
+  can_program_at program Runs begun waits reads finds = can_program program (asking_line p program Runs p.asking) (within p program p.asking waits) begun reads finds
+  can_program_at program (Answered answer) begun waits reads finds = tt
+  can_program_at program (Swapped answer) begun waits reads finds = tt
+  can_program_at program (Walked call) begun waits reads finds = tt
+  can_program_at program Impossible begun waits reads finds = tt
 
   -- ---- ABORT in its place
 
@@ -116,10 +117,10 @@ module _ (state : State) (memory : Memory) (table : Table) (generation : ℕ) (p
         record { held = ready.held; room = λ r. omega (arith, ready.room r) },
       )
 
-  can_abort : (program : Program) (stage : Stage) (asking : Asking) → IsWaiting asking (stage_line p None program stage) →
-      Finds memory.heap p.key.work.private (There state memory table generation p) (Own table p u program) (asking_line p program stage asking) → CanAbortOn memory table (abort_of asking)
-  can_abort program stage Unasked waits finds = tt
-  can_abort program stage (Told g) waits finds = tt
+  can_abort : (program : Program) (at : ProgramAt) (asking : Asking) → IsWaiting asking (program_line_at p None program at) →
+      Finds memory.heap p.key.work.private (There state memory table generation p) (Own table p u program) (asking_line p program at asking) → CanAbortOn memory table (abort_of asking)
+  can_abort program at Unasked waits finds = tt
+  can_abort program at (Told g) waits finds = tt
   can_abort program Runs (Met offer) waits finds = takes_back program offer waits finds
   can_abort program (Answered answer) (Met offer) waits finds = absurd waits
   can_abort program (Swapped answer) (Met offer) waits finds = absurd waits
@@ -149,7 +150,7 @@ can_step state memory table generation p u line action room makes sound ready bi
       makes = makes;
     } in
     record {
-      runs = can_stage state memory table generation p u root_ready u.program p.at sound.begun sound.waits sound.reads finds;
+      runs = can_program_at state memory table generation p u root_ready u.program p.at sound.begun sound.waits sound.reads finds;
       abort = can_abort state memory table generation p u root_ready u.program p.at p.asking sound.waits finds;
       ready = ready;
       attempts = attempts;

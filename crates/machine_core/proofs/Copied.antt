@@ -54,9 +54,9 @@ use Rattle.history.specs.declared.calls.Call.TheVariants as call
 use Rattle.history.specs.declared.replies.Reply.TheVariants as reply
 use Rattle.machine_model.specs.Machine.{least_free}
 use Rattle.machine_model.specs.Records.{first_record}
-use Rattle.machine_core.specs.Beneath.proof_straight.specs.Copies.{cleared, closed, frozen, snapped}
+use Rattle.machine_core.specs.Beneath.proof_straight.specs.Copies.{cleared, closed, frozen, snapshotted}
 use Rattle.machine_core.specs.Beneath.proof_straight.specs.Resting.{IsOfRun}
-use Rattle.machine_core.specs.Beneath.proof_straight.proofs.Roots.Copying.{clears_straight, freezes_straight, snaps_straight}
+use Rattle.machine_core.specs.Beneath.proof_straight.proofs.Roots.Copying.{clears_straight, freezes_straight, snapshots_straight}
 use Rattle.machine_core.specs.Beneath.proof_straight.proofs.Roots.Closing.{closes_straight}
 use Rattle.machine_core.specs.Beneath.proof_straight.proofs.Change.Recording.{first_is_record}
 use Rattle.machine_core.specs.Beneath.proof_straight.proofs.Runs.ByRuns.{comes_without_record}
@@ -173,10 +173,10 @@ module _ (state : State) (actor handle : ℕ) (run : IsOfRun state) (rest : is_b
       (omega (arith, clear.slots)) (omega (arith, clear.steps)))
 
   pub snapshot_comes : (root : Ref) → begin_denial state actor (call.Snapshot handle) ≡ None → IsClear state (call.Snapshot handle) root → IsSettled state.heap root →
-      Comes state actor (call.Snapshot handle) 9 (reply.Opened (least_free state)) (after_call (snapped state handle root).base (snapped state handle root).draft 11)
+      Comes state actor (call.Snapshot handle) 9 (reply.Opened (least_free state)) (after_call (snapshotted state handle root).base (snapshotted state handle root).draft 11)
   snapshot_comes root allowed clear settled =
       comes_without_record state (first_record state.limits) actor (call.Snapshot handle) 9 _ _ _
-      (snaps_straight state (first_record state.limits) actor handle root (ready_at state actor (call.Snapshot handle) root run rest allowed clear.word) (first_is_record state) settled
+      (snapshots_straight state (first_record state.limits) actor handle root (ready_at state actor (call.Snapshot handle) root run rest allowed clear.word) (first_is_record state) settled
       (omega (arith, clear.slots)) (omega (arith, clear.steps)))
 
   pub clear_comes : (root : Ref) → begin_denial state actor (call.Clear handle) ≡ None → IsClear state (call.Clear handle) root → IsSettled state.heap root →

@@ -1,12 +1,11 @@
 -- How the entries of a branch are renewed, one after the other, and the branch with them.
 use Rattle.std.proofs.Common.{arith, ◌≡◌, ℕ, suc, ◌+◌, ◌*◌, ◌<◌, ◌≤◌, Bool, true, false, List, [], ◌∷◌, ◌++◌, drop, length, get_or, refl, sym, ap, ◌∙◌, subst}
 use Rattle.std.proofs.Math.Seq.{drop-cons}
-use Rattle.std.proofs.lemmas.Bool.{false≢true}
 use Rattle.std.proofs.lemmas.List.{drop_all, length-append}
-use Rattle.std.proofs.lemmas.List.Elements.{All-nil, All-push, All-take, All-weaker}
+use Rattle.std.proofs.lemmas.List.Elements.{All-nil, All-push, All-weaker}
 use Rattle.arrayvec.specs.ArrayVec.{ArrayVec}
 use Rattle.slot_arena.specs.declared.nodes.Node.{Node}
-use Rattle.slot_arena.specs.declared.nodes.Node.TheVariants.{Branch, Indirection, Single, Tomb, List as Listed}
+use Rattle.slot_arena.specs.declared.nodes.Node.TheVariants.{Branch, Indirection}
 use Rattle.slot_arena.specs.declared.refs.Ref.{Ref}
 use Rattle.slot_arena.specs.Arenas.{AreLive, IsLive}
 use Rattle.slot_arena.specs.Heaps.{Heap, entries_of, entry_at, generation_at, main_at, main_of, node_at, no_ref, refs_of_node}
@@ -18,7 +17,7 @@ use Rattle.machine_core.specs.Beneath.proof_straight.specs.Renewals.{Renewal, is
 use Rattle.machine_core.specs.Beneath.proof_straight.proofs.Renewal.NewEntries.{all_private, steps_by_slots}
 use Rattle.proof_core.specs.Drafting.{CanSwap, IsDraft}
 use Rattle.machine_core.specs.Pairing.{CanMake, IsMade, Makes}
-use Rattle.machine_core.specs.Renewing.{AreOverLive, IsRenewing, IsSoFar, Renews}
+use Rattle.machine_core.specs.Renewing.{IsRenewing, IsSoFar, Renews}
 use Rattle.machine_core.proofs.Paired.{can_begin, can_fewer, made_same, makes_on}
 
 -- ---- one entry
@@ -104,27 +103,8 @@ module _ (before : Memory) (indirection main : Ref) (generation : ℕ) (can : Ca
         subst (λ node. IsLive before.heap (get_or (entries_of node) k no_ref)) (sym branch)
         (subst (λ node. AreLive before.heap (refs_of_node node)) branch can.entries k no_ref within)
 
-    pub entry_live : (entry : Ref) → entry ≡ entry_at memory.heap main k → IsLive memory.heap entry
-    entry_live entry at = inv.makes.stay entry (subst (IsLive before.heap) (sym (at ∙ entry_still k)) entry_live_before)
-
     pub entry_node : (entry : Ref) → entry ≡ entry_at memory.heap main k → node_at memory.heap entry ≡ node_at before.heap entry
     entry_node entry at = inv.makes.nodes entry (subst (IsLive before.heap) (sym (at ∙ entry_still k)) entry_live_before)
-
-    -- so is the main node of an old one
-    over_by : AreOverLive before.heap main → (entry : Ref) (node : Node) → entry ≡ entry_at memory.heap main k → node_at before.heap entry ≡ node → is_of_other generation node ≡ true →
-        IsLive memory.heap (main_of node)
-    over_by over entry (Indirection g word) at is old =
-        inv.makes.stay word (over k g word (subst (λ node. k < length (entries_of node)) (sym branch) within) (ap (node_at before.heap) (sym (at ∙ entry_still k)) ∙ is))
-    over_by over entry (Branch b e) at is old = absurd (false≢true old)
-    over_by over entry (Single key value) at is old = absurd (false≢true old)
-    over_by over entry (Tomb single) at is old = absurd (false≢true old)
-    over_by over entry (Listed singles) at is old = absurd (false≢true old)
-
-    pub over_live : AreOverLive before.heap main → (entry : Ref) → entry ≡ entry_at memory.heap main k → is_of_other generation (node_at memory.heap entry) ≡ true →
-        IsLive memory.heap (main_at memory.heap entry)
-    over_live over entry at old =
-        subst (λ node. IsLive memory.heap (main_of node)) (sym (entry_node entry at))
-        (over_by over entry (node_at before.heap entry) at refl (ap (is_of_other generation) (sym (entry_node entry at)) ∙ old))
 
   -- one more is renewed
   pub next_renewing : (entry fresh : Ref) (after : Memory) (made' entries' : List Ref) (bitmap : ℕ) (all : ArrayVec Ref) → node_at before.heap main ≡ Branch bitmap all → i < length all.items →
@@ -157,9 +137,6 @@ module _ (before : Memory) (indirection main : Ref) (generation : ℕ) (can : Ca
   all_so_far state root items is g same all =
       let (so_far, rest, stands) = inv.draft state root items is g same in
       subst (λ r. IsSoFar state r memory made entries) (ends state root so_far ∙ sym (ap (λ l. renewed_entries state root l so_far) (drop_all i items.items all)) ∙ rest) stands
-
-  pub renewed_live : (bitmap : ℕ) (node : Node) → node ≡ renewed bitmap entries → AreLive memory.heap (refs_of_node node)
-  renewed_live bitmap node is = subst (λ n. AreLive memory.heap (refs_of_node n)) (sym is) (All-take (IsLive memory.heap) 32 entries inv.live)
 
   pub few_made : i ≤ 32 → length made ≤ 32
   few_made less = omega (arith, (can_one (omega (arith, less))).room)

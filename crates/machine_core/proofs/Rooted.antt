@@ -1,5 +1,5 @@
 -- How root words change at rest, and what is held then.
-use Rattle.std.proofs.Common.{arith, ◌≡◌, ℕ, ◌+◌, ◌<◌, ◌≤◌, ◌==◌, ◌||◌, ◌⊎◌, inl, inr, false, is_some, List, [], ◌∷◌, flat_map, get_or, set, length, Option, Some, None, if◌then◌else◌}
+use Rattle.std.proofs.Common.{arith, ◌≡◌, ℕ, ◌+◌, ◌<◌, ◌==◌, ◌||◌, ◌⊎◌, inl, inr, false, is_some, List, [], ◌∷◌, flat_map, get_or, set, length, Option, Some, None, if◌then◌else◌}
 use Rattle.std.proofs.Common.{refl, sym, ap, ◌∙◌, subst, eq-eqb, ne_eqb, length-set}
 use Rattle.std.proofs.lemmas.Bool.{cases_eq}
 use Rattle.std.proofs.lemmas.List.Elements.{All-head, All-tail}
@@ -20,7 +20,7 @@ use Rattle.machine_model.specs.Machine.{is_number}
 use Rattle.machine_model.specs.States.{State, rewritten, root_at, with_root, with_word}
 use Rattle.machine_core.specs.Beneath.proof_straight.specs.Copies.{Course, with_offer}
 use Rattle.machine_core.specs.Beneath.proof_straight.specs.Drafts.{Draft, held_with, redrafted}
-use Rattle.machine_core.specs.Beneath.rdcss_root.specs.Holding.{IsReady, Moves, root_refs}
+use Rattle.machine_core.specs.Beneath.rdcss_root.specs.Holding.{Moves, root_refs}
 use Rattle.machine_core.specs.Beneath.rdcss_root.specs.Tables.{Table, opened_in, with_root_in}
 use Rattle.machine_core.specs.declared.parts.Parts.{Parts}
 use Rattle.proof_core.specs.Drafting.{IsDraft}
@@ -29,10 +29,6 @@ use Rattle.machine_core.specs.Rooting.{HoldsBeside, IsCourse, writable}
 
 -- ---- what is held
 
--- what stands in root words is held, with what is held beside it
-pub ready_beside : (memory : Memory) (roots : List (Option Root)) (made : List Ref) (spare few : ℕ) → HoldsBeside memory roots made spare → few ≤ spare → IsReady memory roots few
-ready_beside memory roots made spare few holds less = record { held = λ r. omega (arith, holds.held r); room = λ r. omega (arith, holds.room r, less) }
-
 -- a root word was written, and the rest given up
 pub beside_given : (before middle after : Memory) (roots now : List (Option Root)) (made : List Ref) (spare : ℕ) → HoldsBeside before roots made (spare + 4) → Moves before middle roots now 4 →
     ((r : Ref) → times r after.outside + times r made ≡ times r middle.outside + times r []) → HoldsBeside after now [] spare
@@ -40,11 +36,6 @@ beside_given before middle after roots now made spare holds moves gives = record
   held = λ r. omega (arith, holds.held r, moves.outside r, gives r);
   room = λ r. omega (arith, holds.room r, moves.more r, gives r);
 }
-
--- what was made is held then
-pub made_held : (before middle : Memory) (roots now : List (Option Root)) (made : List Ref) (spare : ℕ) → HoldsBeside before roots made spare → Moves before middle roots now 4 →
-    (r : Ref) → times r made ≤ times r middle.outside
-made_held before middle roots now made spare holds moves r = omega (arith, holds.held r, moves.outside r)
 
 -- what is held is what the state has with these root words
 pub held_moved : (base : State) (old roots : List (Option Root)) (private before after : List Ref) (r : Ref) → base.roots ≡ old → times r before ≡ times r (held_with base private) →

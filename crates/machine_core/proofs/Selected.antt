@@ -6,7 +6,7 @@ use Rattle.std.specs.Ordering.{is_ge, is_lt, is_some_and, nat_cmp, ordering_then
 use Rattle.std.specs.declared.cmp.Ordering.{Ordering}
 use Rattle.std.specs.declared.cmp.Ordering.TheVariants.{Less, Equal, Greater}
 use Rattle.std.proofs.lemmas.Bool.{not-true, not-false}
-use Rattle.std.proofs.lemmas.List.{nil_from_length, take_all}
+use Rattle.std.proofs.lemmas.List.{take_all}
 use Rattle.std.proofs.lemmas.List.Sorted.{length_permutation}
 use Rattle.machine_model.specs.Pairs.{by_key, comes_before}
 use Rattle.ctrie_base.proofs.Sorting.{Alike, permuted_alike, count_more, sorted_same}
@@ -64,7 +64,3 @@ left_out n pair greatest old bound less long = sym (greatest_left comes_before n
     all_above [] all = tt
     all_above (y ∷ ys) all =
         (pairs_order.not_through pair greatest y (sym (same_test pair greatest) ∙ less) (sym (same_test greatest y) ∙ all.0), all_above ys all.1)
-
--- where none are wanted
-pub none_wanted : (n : ℕ) (pair : Pair) (old : List Pair) → length old ≡ 0 → n ≡ 0 → by_key old ≡ take n (by_key (pair ∷ old))
-none_wanted n pair old empty none = rw (nil_from_length old empty, none) refl

@@ -38,7 +38,7 @@ pub fn next_kind(parts: &Parts, actor: u8) -> Option<Kind>
     }
 }
 
-/// The same of this actor.
+/// The kind of this actor's next step, if it runs an operation.
 fn kind_for(actor: &Actor) -> Option<Kind>
     requires { (u : AnUnderWay) → actor.now.under_way ≡ Some u → IsSound u.program actor.now.programs }
     ensures { (state : State) → (table : Table) → result ≡ option_map (λ operation. kind_of (action_of state operation)) (operation_seen table actor.now) }
@@ -60,7 +60,7 @@ pub fn copied_reply(parts: &Parts, actor: u8) -> Result<Option<Reply>, Refusal>
     }
 }
 
-/// The same of this actor.
+/// A copy of the reply with which this actor's operation ends by its next step, if it does.
 fn copied_of(actor: &Actor) -> Result<Option<Reply>, AllocError>
     ensures { (table : Table) → IfOk result (λ reply. reply ≡ option_and_then (λ operation. answer_of operation.line) (operation_seen table actor.now)) }
 {

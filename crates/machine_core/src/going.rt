@@ -103,7 +103,7 @@ fn take_carried(parts: &mut Parts, kind: Kind) -> Option<Carried>
     }
 }
 
-/// The same of a swap of the root, which few steps are.
+/// What a swap of the root carried out, which few steps are.
 #[inline(never)]
 fn take_offer(parts: &mut Parts) -> Option<Carried>
     ensures told { result ≡ option_map (carried_of parts.old.heap.heap) parts.old.table.carried }

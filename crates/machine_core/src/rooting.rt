@@ -6,7 +6,7 @@ ghost use Rattle.slot_arena.specs.Heaps.{taken};
 ghost use Rattle.slot_arena.specs.Refs.{birth_limit};
 ghost use Rattle.slot_arena.specs.declared.nodes.Node.TheVariants.{Indirection};
 ghost use Rattle.slot_arena.specs.declared.refs.Ref.{Ref as ARef};
-ghost use Rattle.machine_model.specs.Acting.{opened, opened_root};
+ghost use Rattle.machine_model.specs.Acting.{opened};
 ghost use Rattle.machine_model.specs.Counting.{refs_of_word};
 ghost use Rattle.machine_model.specs.States.{State, root_at, with_root};
 ghost use Rattle.machine_model.specs.declared.roots.RootWord.{RootWord as AWord};
@@ -26,7 +26,7 @@ use crate::parts::Parts;
 use epochs::Heap;
 use history::Access;
 use machine_model::{Descriptor, Root, RootWord};
-use running::{Roots, release_all};
+use running::{Roots, opened_root, release_all};
 use slot_arena::{Node, Ref};
 
 /// Makes a root of the next generation over a main node, and holds it.
@@ -63,22 +63,6 @@ fn writable(word: RootWord) -> Option<Root>
         access: Access::Writable,
         word,
     })
-}
-
-/// The root that an offer opens: writable over a root of its own, read-only over the old one.
-fn opened_root(offer: &Descriptor) -> Root
-    ensures { result ≡ opened_root offer.now offer.now.second }
-{
-    match offer.second {
-        Some(second) => Root {
-            access: Access::Writable,
-            word: RootWord::Plain(second),
-        },
-        None => Root {
-            access: Access::ReadOnly,
-            word: RootWord::Plain(offer.root),
-        },
-    }
 }
 
 /// Puts an offer into the root word of a writable handle. What was made for it is held no more.

@@ -25,9 +25,6 @@ begins place kind.ScanPin h = refl
 begins place kind.Advance h = refl
 begins place kind.FreeOne h = refl
 
-pub stays : (place : ReadAt) → CommitsNoMore place place
-stays place k h = h
-
 -- where no READ was taken by a step, the code's READ may begin anew behind it
 pub anew : (heap : Heap) (access : Access) (reads : Option Read) (k : Kind) (place place' : ReadAt) → reads ≡ None →
     CommitsNoMore place place' → ReadsAlong heap access reads k place → ReadsAlong heap access reads k place'

@@ -1,5 +1,5 @@
 -- What ROOT comes to, as a call on one key sees it in which it runs.
-use Rattle.std.specs.Prelude.{◌≡◌, ℕ, [], refl}
+use Rattle.std.specs.Prelude.{◌≡◌, refl}
 use Rattle.std.proofs.Common.{ap, sym, ◌∙◌}
 use Rattle.operate.specs.Beneath.ctrie_base.specs.declared.kinds.Kind.{Kind}
 use Rattle.operate.specs.Beneath.ctrie_base.specs.declared.kinds.Kind.TheVariants as kind
@@ -12,28 +12,16 @@ use Rattle.operate.specs.Beneath.machine_model.specs.declared.roots.RootLine.{Ro
 use Rattle.operate.specs.Beneath.machine_model.specs.declared.roots.RootLine.TheVariants as root
 use Rattle.operate.specs.Beneath.machine_model.specs.declared.roots.RootWord.{RootWord}
 use Rattle.operate.specs.Beneath.machine_model.specs.Calls.{handle_of}
-use Rattle.operate.specs.Beneath.machine_model.specs.Finding.{going_down}
-use Rattle.operate.specs.Beneath.machine_model.specs.Operations.{from_root, kind_of, rooting_read}
+use Rattle.operate.specs.Beneath.machine_model.specs.Operations.{kind_of, rooting_read}
 use Rattle.operate.specs.Beneath.machine_model.specs.States.{State, word_at}
 use Rattle.operate.specs.Beneath.machine_model.specs.Swapping.{root_action, root_after}
 use Rattle.operate.specs.Beneath.gcas.specs.declared.read.Read.{Read}
 use Rattle.operate.specs.Beneath.gcas.specs.declared.read.ReadAt.{ReadAt}
 use Rattle.operate.specs.Beneath.gcas.specs.Reads.{ReadsAlong}
 use Rattle.operate.specs.Beneath.trie_parts.specs.declared.calls.KeyCall.{KeyCall}
-use Rattle.operate.specs.Beneath.trie_parts.specs.declared.calls.KeyCall.TheVariants.{Get, Put, PutIfAbsent, Replace, ReplaceIf, Remove, RemoveIf}
 use Rattle.operate.specs.Beneath.trie_parts.specs.declared.calls.Task.{Task}
 use Rattle.operate.specs.Beneath.trie_parts.specs.Tasks.{call_of}
 use Rattle.operate.specs.Beneath.trie_parts.proofs.Handles.{handle_same}
-
--- a call on one key goes down from the root
-pub below : (call : KeyCall) (handle : ℕ) (r : Ref) → from_root (call_of handle call) r ≡ going_down [] r
-below (Get k) handle r = refl
-below (Put k v) handle r = refl
-below (PutIfAbsent k v) handle r = refl
-below (Replace k v) handle r = refl
-below (ReplaceIf k v w) handle r = refl
-below (Remove k) handle r = refl
-below (RemoveIf k v) handle r = refl
 
 -- the root word of the operation is that of the handle
 word_same : (state : State) (operation : Operation) (call : KeyCall) (word : RootWord) → word_at state (handle_of operation.call) ≡ word →

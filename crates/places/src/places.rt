@@ -106,6 +106,8 @@ impl Places {
         ensures ticks { self.new.ticks ≡ self.old.ticks }
         ensures to_add { OnOk result (count ≤ self.new.room_to_add) }
         ensures to_close { OnOk result (count ≤ self.new.room_to_close) }
+        ensures more_to_add { self.old.room_to_add ≤ self.new.room_to_add }
+        ensures more_to_close { self.old.room_to_close ≤ self.new.room_to_close }
     {
         touch_room(&mut self.closings, count, 0)?;
         self.listed.reserve(count)?;

@@ -37,7 +37,8 @@ use Rattle.proof_obstruction_free.proofs.Slots.Free.{free_after}
 use Rattle.proof_obstruction_free.proofs.Slots.Tries.{tries_make_few}
 use Rattle.proof_straight.specs.Resting.{IsOfRun}
 use Rattle.proof_straight.specs.Running.{Comes}
-use Rattle.proof_alone.specs.Calls.{Acts, CallsDo, CanCall, Does, IsNoWalk, slots_of, steps_of}
+use Rattle.proof_alone.specs.Calls.{Acts, CallsDo, CanCall, Does, steps_of}
+use Rattle.proof_obstruction_free.specs.Calls.{IsNoWalk, slots_of}
 use Rattle.proof_alone.proofs.Ending.{alone, closes, first_step, fit, free_first, within, own}
 use Rattle.proof_alone.proofs.Going.{began, end_is_there, is_there, of_run_on_its_way, steps_so_far, there, went_on}
 use Rattle.proof_alone.proofs.Resting.{comes_to_rest}

@@ -4,7 +4,7 @@ use Rattle.std.proofs.Common.{inl, inr, refl, sym, ap, subst, arith, ◌∙◌}
 use Rattle.std.proofs.lemmas.Bool.{cases_lt}
 use Rattle.std.proofs.lemmas.List.Elements.{All-push}
 use Rattle.proof_alone.specs.Beneath.history.specs.declared.calls.Call.{Call}
-use Rattle.proof_alone.specs.Beneath.history.specs.declared.calls.Call.TheVariants.{Clear, Close, Count, Entries, Freeze, Snapshot}
+use Rattle.proof_alone.specs.Beneath.history.specs.declared.calls.Call.TheVariants.{Clear, Close, Freeze, Snapshot}
 use Rattle.proof_alone.specs.Beneath.history.specs.declared.replies.Reply.{Reply}
 use Rattle.proof_alone.specs.Beneath.history.specs.declared.replies.Reply.TheVariants.{Closed}
 use Rattle.proof_alone.specs.Beneath.machine_model.specs.declared.operations.Operation.{Operation}
@@ -28,19 +28,13 @@ use Rattle.proof_obstruction_free.proofs.Ends.Bounds.{copies_end_first}
 use Rattle.proof_obstruction_free.proofs.Ends.Closes.{closes_end}
 use Rattle.proof_obstruction_free.proofs.Ends.Lists.{none_more}
 use Rattle.proof_obstruction_free.proofs.Inherited.EndsAll.{each_step_leads_to_its_end}
+use Rattle.proof_obstruction_free.proofs.Resting.{of_no_walk}
 use Rattle.proof_obstruction_free.proofs.Slots.AtBegin.{tries_first}
 use Rattle.proof_straight.specs.Running.{Comes, GoesOn, starts}
-use Rattle.proof_alone.specs.Calls.{CallsBegin, CallsEnd, CallsGoOn, CanCall, IsNoWalk, IsOnItsWay, LeadsOn, steps_of}
+use Rattle.proof_alone.specs.Calls.{CallsBegin, CallsEnd, CallsGoOn, CanCall, IsOnItsWay, LeadsOn, steps_of}
 use Rattle.proof_alone.proofs.Going.{began, goes_there, is_there, not_later, still_runs, there}
 use Rattle.proof_alone.proofs.Runs.{by_run, stepped}
 use Rattle.proof_alone.proofs.Steps.{begins, begun, idle_waits, one_state, runs_then}
-
--- any call that walks over no pairs is on one key or on a root, or it is a close
-of_short : (call : Call) → IsNoWalk call → IsOnKeyOrRoot call ⊎ (is_close call ≡ true)
-of_short (Close h) short = inr refl
-of_short (Entries h) short = absurd short
-of_short (Count h) short = absurd short
-of_short call short = inl tt
 
 module _ (limits : Bounds) (steps : List Step) (ok : AreBounds limits) (keys : KeysFit steps) (actor : ℕ) (call : Call) (can : CanCall (run limits steps) actor call) where
   -- the operation that begins
@@ -108,7 +102,7 @@ module _ (limits : Bounds) (steps : List Step) (ok : AreBounds limits) (keys : K
   }
 
   its_end : LeadsToEnd
-  its_end = leads_by (of_short call can.short)
+  its_end = leads_by (of_no_walk call can.short)
 
   -- ---- within its steps
 

@@ -22,7 +22,7 @@ use Rattle.proof_obstruction_free.proofs.Ends.Lists.{none_more, one_more}
 use Rattle.proof_straight.specs.Resting.{IsOfRun}
 use Rattle.proof_straight.specs.Running.{Comes, GoesOn, starts, walks}
 use Rattle.proof_alone.proofs.Runs.{of_run_behind, stepped}
-use Rattle.proof_alone.proofs.Steps.{end_or_on, one_answer, one_state, runs_on}
+use Rattle.proof_alone.proofs.Steps.{end_or_on, one_state, runs_on}
 
 -- ---- there is one way
 
@@ -54,17 +54,6 @@ not_later state actor call n answer after h m now goes = by (cases_lt n m)
         let (here, further, kind, earlier, step) = went_at state actor call m now goes n past in
         let same = goes_to_one state actor call n h.last here h.goes earlier in
         absurd (end_or_on state.begun answer after kind further (sym h.ends ∙ ap (λ s. next s (Go actor)) same ∙ step))
-
--- and comes to one end
-pub comes_to_one : (state : State) (actor : ℕ) (call : Call) (n m : ℕ) (answer other : Reply) (x y : State) → Comes state actor call n answer x → Comes state actor call m other y →
-    (n ≡ m) × (answer ≡ other) × (x ≡ y)
-comes_to_one state actor call n m answer other x y g h =
-    let low = not_later state actor call n answer x g m h.last h.goes in
-    let high = not_later state actor call m other y h n g.last g.goes in
-    let as_many : n ≡ m = omega (arith, low, high) in
-    let last = goes_to_one state actor call m g.last h.last (subst (λ k. GoesOn state actor call k g.last) as_many g.goes) h.goes in
-    let ends = sym g.ends ∙ ap (λ s. next s (Go actor)) last ∙ h.ends in
-    (as_many, one_answer state.begun state.begun answer other x y ends, one_state _ _ x y ends)
 
 -- ---- a run leads along it
 

@@ -13,14 +13,14 @@ use Rattle.proof_alone.specs.Beneath.machine_model.specs.declared.steps.Outcome.
 use Rattle.proof_alone.specs.Beneath.machine_model.specs.declared.steps.Outcome.TheVariants.{Began, Ended, Went}
 use Rattle.proof_alone.specs.Beneath.machine_model.specs.declared.steps.Step.{Step}
 use Rattle.proof_alone.specs.Beneath.machine_model.specs.declared.steps.Step.TheVariants.{Begin, Go}
-use Rattle.proof_alone.specs.Beneath.machine_model.specs.Acting.{ended, gone, operation_after}
+use Rattle.proof_alone.specs.Beneath.machine_model.specs.Acting.{gone, operation_after}
 use Rattle.proof_alone.specs.Beneath.machine_model.specs.Counting.{settled}
 use Rattle.proof_alone.specs.Beneath.machine_model.specs.Machine.{Answer, begin_denial, begin_unless, begun_operation, next, state_after, with_begin}
 use Rattle.proof_alone.specs.Beneath.machine_model.specs.Moves.{Begins, Ends, Goes, Moves, Sweeps}
 use Rattle.proof_alone.specs.Beneath.machine_model.specs.States.{State, operation_of}
 use Rattle.proof_alone.specs.Beneath.machine_model.proofs.Actors.{begin_actor, begin_actors, begin_counts, mark_one, marks_by}
 use Rattle.proof_alone.specs.Beneath.machine_model.proofs.Moves.{moved}
-use Rattle.proof_alone.specs.Beneath.proof_commits.proofs.Known.StepsAt.{after_mark, end_own, go_own}
+use Rattle.proof_alone.specs.Beneath.proof_commits.proofs.Known.StepsAt.{after_mark, go_own}
 use Rattle.proof_alone.specs.Beneath.proof_order.specs.Running.{IsSame}
 use Rattle.proof_alone.specs.Beneath.proof_order.proofs.History.Running.{after_same}
 
@@ -101,18 +101,6 @@ pub runs_on : (state : State) (actor : ℕ) (kind : Kind) (after : State) → ne
 runs_on state actor kind after e = on_by state (Go actor) (Went kind) after (moved state (Go actor) (Went kind) after e) actor kind refl refl
 
 -- ---- the end
-
-idle_by : (state : State) (s : Step) (o : Outcome) (after : State) → Moves state s o after → (actor id : ℕ) (answer : Reply) → s ≡ Go actor → o ≡ Ended id answer →
-    operation_of after actor ≡ None
-idle_by state s o after (Begins d) actor id answer is told = cc is
-idle_by state s o after (Sweeps d) actor id answer is told = cc is
-idle_by state s o after (Goes d found a g) actor id answer is told = cc told
-idle_by state s o after (Ends {actor = who} {operation} {answer = said} d found a) actor id answer is told =
-    let whose : who ≡ actor = cc is in subst (λ k. operation_of (settled state (ended state who)) k ≡ None) whose (end_own state who operation said)
-
--- the actor runs nothing then
-pub idle_behind : (state : State) (actor id : ℕ) (answer : Reply) (after : State) → next state (Go actor) ≡ Ok (Ended id answer, after) → operation_of after actor ≡ None
-idle_behind state actor id answer after e = idle_by state (Go actor) _ after (moved state (Go actor) _ after e) actor id answer refl refl
 
 -- who runs nothing takes no step
 waits_by : (state : State) (s : Step) (o : Outcome) (after : State) → Moves state s o after → (actor : ℕ) → s ≡ Go actor → operation_of state actor ≡ None → ⊥

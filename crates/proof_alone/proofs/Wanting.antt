@@ -29,7 +29,8 @@ use Rattle.proof_obstruction_free.proofs.Slots.AtBegin.{tries_first}
 use Rattle.proof_obstruction_free.proofs.Slots.Few.{enough_for_copies}
 use Rattle.proof_obstruction_free.proofs.Slots.Tries.{enough_for_tries}
 use Rattle.proof_straight.specs.Running.{Comes, GoesOn, starts, walks}
-use Rattle.proof_alone.specs.Calls.{CanCall, EnoughSlotsForCalls, IsNoWalk, RefusedIfOut, RunsOut, slots_of, steps_of}
+use Rattle.proof_alone.specs.Calls.{CanCall, EnoughSlotsForCalls, RefusedIfOut, RunsOut, steps_of}
+use Rattle.proof_obstruction_free.specs.Calls.{IsNoWalk, slots_of}
 use Rattle.proof_alone.proofs.Ending.{alone, closes, free_first, own, runs, within}
 use Rattle.proof_alone.proofs.Going.{began, is_there, there}
 use Rattle.proof_alone.proofs.Runs.{by_run}

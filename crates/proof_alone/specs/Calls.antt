@@ -3,7 +3,7 @@ use Rattle.std.specs.Prelude.{◌≡◌, ◌≢◌, ◌⊎◌, ℕ, suc, ◌+◌
 use Rattle.proof_alone.specs.Beneath.ctrie_base.specs.Hashes.{hash_of}
 use Rattle.proof_alone.specs.Beneath.ctrie_base.specs.declared.kinds.Kind.{Kind}
 use Rattle.proof_alone.specs.Beneath.history.specs.declared.calls.Call.{Call}
-use Rattle.proof_alone.specs.Beneath.history.specs.declared.calls.Call.TheVariants.{Clear, Snapshot, Freeze, Close, Entries, Count}
+use Rattle.proof_alone.specs.Beneath.history.specs.declared.calls.Call.TheVariants.{Clear, Snapshot, Freeze, Close}
 use Rattle.proof_alone.specs.Beneath.history.specs.declared.replies.Reply.{Reply}
 use Rattle.proof_alone.specs.Beneath.history.specs.declared.replies.Reply.TheVariants.{NoSlots}
 use Rattle.proof_alone.specs.Beneath.history.specs.Effects.{Effect}
@@ -15,18 +15,13 @@ use Rattle.proof_alone.specs.Beneath.machine_model.specs.Laws.{FindsNoSlot}
 use Rattle.proof_alone.specs.Beneath.machine_model.specs.Machine.{begin_denial, is_busy, next}
 use Rattle.proof_alone.specs.Beneath.machine_model.specs.States.{State, operation_of}
 use Rattle.map_worlds.specs.Worlds.{world_of}
+use Rattle.proof_obstruction_free.specs.Calls.{IsNoWalk, slots_of}
 use Rattle.proof_obstruction_free.specs.Laws.{most_steps_alone}
-use Rattle.proof_obstruction_free.specs.Slots.{most_makes_alone, most_steps_of_copies}
+use Rattle.proof_obstruction_free.specs.Slots.{most_steps_of_copies}
 use Rattle.proof_straight.specs.Resting.{IsOfRun}
 use Rattle.proof_straight.specs.Running.{Comes, GoesOn}
 
 -- ---- how much it takes
-
--- any call but entries and count, which walk over all pairs
-abbrev pub IsNoWalk : Call → Type 0
-IsNoWalk (Entries h) = ⊥
-IsNoWalk (Count h) = ⊥
-IsNoWalk call = Unit {0}
 
 -- the most steps that it takes alone behind its begin
 abbrev pub steps_of : Call → ℕ
@@ -35,14 +30,6 @@ steps_of (Clear h) = most_steps_of_copies
 steps_of (Snapshot h) = most_steps_of_copies
 steps_of (Freeze h) = most_steps_of_copies
 steps_of call = most_steps_alone
-
--- the most slots that it takes alone: a close wants none
-abbrev pub slots_of : Call → ℕ
-slots_of (Close h) = 0
-slots_of (Clear h) = most_steps_of_copies
-slots_of (Snapshot h) = most_steps_of_copies
-slots_of (Freeze h) = most_steps_of_copies
-slots_of call = most_makes_alone
 
 -- ---- that it ends
 

@@ -1,24 +1,18 @@
 -- The sweep while nothing runs.
 use Rattle.std.specs.Prelude.{◌≡◌, ◌≢◌, ℕ, zero, suc, ◌+◌, ◌*◌, ◌≤◌, false, [], length, Ok}
-use Rattle.proof_alone.specs.Beneath.slot_arena.specs.declared.refs.Ref.{Ref}
 use Rattle.proof_alone.specs.Beneath.slot_arena.specs.Heaps.{in_use}
 use Rattle.proof_alone.specs.Beneath.machine_model.specs.declared.steps.Outcome.{Outcome}
 use Rattle.proof_alone.specs.Beneath.machine_model.specs.declared.steps.Step.TheVariants.{Sweep}
-use Rattle.proof_alone.specs.Beneath.machine_model.specs.Contents.{IsReached}
 use Rattle.proof_alone.specs.Beneath.machine_model.specs.Machine.{is_busy, next}
 use Rattle.proof_alone.specs.Beneath.machine_model.specs.States.{State}
-use Rattle.proof_alone.specs.Beneath.proof_memory.specs.Laws.{IsInUse}
 use Rattle.map_worlds.specs.Worlds.{world_of}
+use Rattle.proof_obstruction_free.specs.Sweeping.{UsesReached, steps_for_a_slot}
 use Rattle.proof_straight.specs.Resting.{IsOfRun}
 
 -- so many steps of the sweep lead from one state to the other, and limbo isn't empty before any of them
 pub data Sweeps (before : State) : ℕ → State → Type 0 where
   unswept : Sweeps before zero before
   sweeps : {n : ℕ} {middle after : State} {outcome : Outcome} → Sweeps before n middle → middle.limbo ≢ [] → next middle Sweep ≡ Ok (outcome, after) → Sweeps before (suc n) after
-
--- the most steps for a slot that is freed: the epoch grows twice, each time when all actors were passed, and one step frees it
-abbrev pub steps_for_a_slot : ℕ → ℕ
-steps_for_a_slot actors = 2 * actors + 3
 
 -- and the most, whatever stands in limbo
 abbrev pub most_sweeps : State → ℕ
@@ -39,10 +33,6 @@ abbrev pub SweepsLeave : Type 0
 SweepsLeave = (before : State) (n : ℕ) (after : State) → IsOfRun before → is_busy before ≡ false → Sweeps before n after → Swept before n after
 
 -- ---- where limbo is empty
-
--- just what the handles reach is in use
-abbrev pub UsesReached : State → Type 0
-UsesReached state = (r : Ref) → (IsInUse state.heap r → IsReached state r) × (IsReached state r → IsInUse state.heap r)
 
 -- so it is where nothing runs and limbo is empty; and slots in use and free ones are all slots
 abbrev pub CleanIsReached : Type 0

@@ -147,14 +147,16 @@ pub record IsGiven (limits : Bounds) (steps : List Step) (n : ℕ) (indirection 
 abbrev pub known_after : {limits : Bounds} {steps : List Step} {n : ℕ} {indirection main : Ref} → IsGiven limits steps n indirection main → Moment
 known_after {limits} {steps} {n} given = moment_at (records_of limits steps (suc n)) given.actor
 
--- what it gives was the logical main node after its moment, and the moment is the first such step from its last read or swap of the main word on
+-- What it gives was the logical main node after its moment, and the moment is the first such step from its last read or swap of the main word on. The indirection
+-- was in use at all these times.
 abbrev pub MomentIsFirst : Type 0
 MomentIsFirst =
     (limits : Bounds) (steps : List Step) → AreBounds limits → (n : ℕ) → n < last_of limits steps → (indirection main : Ref) (given : IsGiven limits steps n indirection main) →
     ((known_after given).read_at ≤ (known_after given).moment) × ((known_after given).moment ≤ n)
-    × (HasIndirection (states_of limits steps ((known_after given).moment + 1)) indirection → logical_main (states_of limits steps ((known_after given).moment + 1)).heap indirection ≡ main)
-    × ((k : ℕ) → (known_after given).read_at < k → k ≤ (known_after given).moment → HasIndirection (states_of limits steps k) indirection →
-    ¬ (logical_main (states_of limits steps k).heap indirection ≡ main))
+    × HasIndirection (states_of limits steps ((known_after given).moment + 1)) indirection
+    × (logical_main (states_of limits steps ((known_after given).moment + 1)).heap indirection ≡ main)
+    × ((k : ℕ) → (known_after given).read_at < k → k ≤ (known_after given).moment →
+    HasIndirection (states_of limits steps k) indirection × ¬ (logical_main (states_of limits steps k).heap indirection ≡ main))
 
 -- what it gives of an indirection whose generation was closed before that read or swap stays its logical main node for ever
 abbrev pub GivenForGood : Type 0
@@ -176,13 +178,12 @@ pub record ChangesLate (limits : Bounds) (steps : List Step) (closed n : ℕ) (i
   pub closing : closed_at (record_of limits steps) (generation_at (states_of limits steps n).heap indirection) ≡ Some closed
   pub changes : ¬ (logical_main (states_of limits steps (n + 1)).heap indirection ≡ logical_main (states_of limits steps n).heap indirection)
 
--- what commits late stood in the main word before the closing
+-- what commits late stood in the main word before the closing: the indirection was in use then, and had it
 abbrev pub LateStoodBefore : Type 0
 LateStoodBefore =
     (limits : Bounds) (steps : List Step) → AreBounds limits → (closed n : ℕ) (indirection : Ref) → ChangesLate limits steps closed n indirection →
-    (k : ℕ) × (k ≤ closed)
-    × (HasIndirection (states_of limits steps k) indirection →
-    main_at (states_of limits steps k).heap indirection ≡ main_at (states_of limits steps n).heap indirection)
+    (k : ℕ) × (k ≤ closed) × HasIndirection (states_of limits steps k) indirection
+    × (main_at (states_of limits steps k).heap indirection ≡ main_at (states_of limits steps n).heap indirection)
 
 -- at most one node commits late
 abbrev pub LateOnce : Type 0

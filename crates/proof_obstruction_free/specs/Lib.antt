@@ -14,5 +14,7 @@ pub mod ReadLaws
 pub mod SwapEnds
 pub mod Inherited
 pub mod Slots
+pub mod Calls
+pub mod Sweeping
 pub mod Closes
 pub mod ProgramEnds

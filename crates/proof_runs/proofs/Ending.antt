@@ -6,7 +6,7 @@ use Rattle.std.proofs.lemmas.List.{append-nil, replicate-append-replicate}
 use Rattle.proof_runs.specs.Beneath.ctrie_base.specs.declared.refusals.Refusal.{Refusal}
 use Rattle.proof_runs.specs.Beneath.ctrie_base.specs.declared.refusals.Refusal.TheVariants as refuse
 use Rattle.proof_runs.specs.Beneath.history.specs.declared.calls.Call.{Call}
-use Rattle.proof_runs.specs.Beneath.history.specs.declared.calls.Call.TheVariants.{Clear, Snapshot, Freeze, Close, Entries, Count}
+use Rattle.proof_runs.specs.Beneath.history.specs.declared.calls.Call.TheVariants.{Clear, Snapshot, Freeze, Close}
 use Rattle.proof_runs.specs.Beneath.history.specs.declared.replies.Reply.{Reply}
 use Rattle.proof_runs.specs.Beneath.history.specs.declared.replies.Reply.TheVariants.{Closed, NoSlots}
 use Rattle.proof_runs.specs.Beneath.machine_model.specs.Calls.{is_close}
@@ -17,18 +17,15 @@ use Rattle.proof_runs.specs.Beneath.machine_model.specs.declared.steps.Step.TheV
 use Rattle.proof_runs.specs.Beneath.machine_model.specs.declared.steps.Outcome.{Outcome}
 use Rattle.proof_runs.specs.Beneath.machine_model.specs.declared.steps.Outcome.TheVariants as outcome
 use Rattle.proof_runs.specs.Beneath.machine_model.specs.Keys.{FitsKey, KeysFit}
-use Rattle.proof_runs.specs.Beneath.machine_model.proofs.Moves.{moved}
-use Rattle.proof_runs.specs.Beneath.machine_model.specs.Acting.{ended as ended_state}
-use Rattle.proof_runs.specs.Beneath.machine_model.specs.Moves.{Moves, Begins, Goes, Ends, Sweeps, begun_operation}
+use Rattle.proof_runs.specs.Beneath.machine_model.specs.Moves.{begun_operation}
 use Rattle.proof_runs.specs.Beneath.machine_model.specs.Counting.{settled}
 use Rattle.proof_runs.specs.Beneath.machine_model.specs.Going.{go_limit}
 use Rattle.proof_runs.specs.Beneath.machine_model.specs.Limits.{AreLimits, bounded}
-use Rattle.proof_runs.specs.Beneath.machine_model.specs.Machine.{Answer, next, next_state, begin_denial, begin_unless, run, with_begin}
+use Rattle.proof_runs.specs.Beneath.machine_model.specs.Machine.{Answer, next, begin_denial, begin_unless, run, with_begin}
 use Rattle.proof_runs.specs.Beneath.machine_model.specs.Records.{Record}
-use Rattle.proof_runs.specs.Beneath.machine_model.specs.States.{State, first_state, operation_of}
-use Rattle.proof_runs.specs.Beneath.proof_commits.proofs.Known.StepsAt.{begin_own, end_own}
-use Rattle.proof_runs.specs.Beneath.machine_model.proofs.Along.{kept_by_moves, limits_along, run_push}
-use Rattle.proof_runs.specs.Beneath.machine_model.proofs.Frames.{steps_counted}
+use Rattle.proof_runs.specs.Beneath.machine_model.specs.States.{State, operation_of}
+use Rattle.proof_runs.specs.Beneath.proof_commits.proofs.Known.StepsAt.{begin_own}
+use Rattle.proof_runs.specs.Beneath.machine_model.proofs.Along.{limits_along}
 use Rattle.proof_runs.specs.Beneath.machine_model.proofs.HeapMoves.{begin_heap}
 use Rattle.proof_runs.specs.Beneath.proof_order.proofs.Views.Unconditional.{books_of}
 use Rattle.std.proofs.lemmas.List.Elements.{All-push}
@@ -38,11 +35,13 @@ use Rattle.proof_obstruction_free.specs.Closes.{ClosesEnd}
 use Rattle.proof_obstruction_free.specs.Copies.{IsCopying}
 use Rattle.proof_obstruction_free.specs.Laws.{EachStepLeadsToItsEnd, EndsAt, GoesOnAt, IsOnKeyOrRoot, RunsAlone, alone_after, most_steps_alone}
 use Rattle.proof_obstruction_free.specs.Slots.{EnoughForCopies, EnoughForTries}
+use Rattle.proof_obstruction_free.proofs.Resting.{idle_behind, of_no_walk}
 use Rattle.proof_obstruction_free.proofs.Slots.AtBegin.{tries_first}
 use Rattle.proof_runs.specs.Beneath.machine_model.specs.Lines.{new_try}
 use Rattle.proof_runs.specs.Machines.{Taken, past_of, state_of, with_step, Applied, IsTaken}
 use Rattle.proof_runs.specs.Callers.{after_go, going_on, Resumes, Completes, CompletesUnless}
-use Rattle.proof_runs.specs.Ending.{EndsIfSure, EndsIn, IsAnswer, IsBounded, IsNearer, IsSure, enough_slots}
+use Rattle.proof_runs.specs.Ending.{EndsIfSure, EndsIn, IsAnswer, IsNearer, IsSure}
+use Rattle.proof_obstruction_free.specs.Calls.{slots_of}
 use Rattle.proof_runs.proofs.Bounds.{in_bounds}
 use Rattle.proof_runs.proofs.Going.{goes, ends}
 
@@ -52,36 +51,17 @@ more n s xs =
     let one : n + 1 ≡ suc n = omega arith in
     append_assoc xs (replicate n s) (s ∷ []) ∙ ap (λ l. xs ++ l) (replicate-append-replicate n 1 s ∙ ap (λ m. replicate m s) one)
 
--- the actor runs nothing behind the end of its operation
-idle_by : (state : State) (s : Step) (o : Outcome) (after : State) → Moves state s o after → (actor id : ℕ) (answer : Reply) → s ≡ step.Go actor → o ≡ outcome.Ended id answer →
-    operation_of after actor ≡ None
-idle_by state s o after (Begins d) actor id answer is told = cc is
-idle_by state s o after (Sweeps d) actor id answer is told = cc is
-idle_by state s o after (Goes d found a g) actor id answer is told = cc told
-idle_by state s o after (Ends {actor = who} {operation} {answer = said} d found a) actor id answer is told =
-    let whose : who ≡ actor = cc is in subst (λ a. operation_of (settled state (ended_state state who)) a ≡ None) whose (end_own state who operation said)
-
-pub idle_behind : (state : State) (actor id : ℕ) (answer : Reply) (after : State) → next state (step.Go actor) ≡ Ok (outcome.Ended id answer, after) → operation_of after actor ≡ None
-idle_behind state actor id answer after e = idle_by state (step.Go actor) _ after (moved state (step.Go actor) _ after e) actor id answer refl refl
-
--- a call that is sure to end
-pub of_bounded : (call : Call) → IsBounded call → IsOnKeyOrRoot call ⊎ (is_close call ≡ true)
-of_bounded (Close h) b = inr refl
-of_bounded (Entries h) b = absurd b
-of_bounded (Count h) b = absurd b
-of_bounded call b = inl tt
-
 -- where so many slots are free as its call wants at most, an operation isn't refused for want of slots
 abbrev pub EnoughForCall : Type 0
 EnoughForCall =
     (limits : Bounds) (steps : List Step) (actor : ℕ) (operation : Operation) → RunsAlone limits steps actor operation → operation.line ≡ new_try →
-    enough_slots operation.call ≤ length (run limits steps).heap.free →
+    slots_of operation.call ≤ length (run limits steps).heap.free →
     (n id : ℕ) (answer : Reply) (after : State) → next (alone_after limits steps actor n) (step.Go actor) ≡ Ok (outcome.Ended id answer, after) → answer ≢ NoSlots
 
 pub enough_for_call : EnoughForTries → EnoughForCopies → EnoughForCall
 enough_for_call tries copies limits steps actor operation alone stands = by_call operation.call refl
   where
-    by_call : (call : Call) → operation.call ≡ call → enough_slots call ≤ length (run limits steps).heap.free →
+    by_call : (call : Call) → operation.call ≡ call → slots_of call ≤ length (run limits steps).heap.free →
         (n id : ℕ) (answer : Reply) (after : State) → next (alone_after limits steps actor n) (step.Go actor) ≡ Ok (outcome.Ended id answer, after) → answer ≢ NoSlots
     by_call (Clear h) is few = copies limits steps actor operation alone (subst IsCopying (sym is) tt) stands few
     by_call (Snapshot h) is few = copies limits steps actor operation alone (subst IsCopying (sym is) tt) stands few
@@ -93,12 +73,6 @@ enough_for_call tries copies limits steps actor operation alone stands = by_call
 most_steps : (machine : Taken) → (state_of machine).limits.steps ≡ (bounded machine.limits).steps
 most_steps machine = ap (λ (l : Bounds). l.steps) (limits_along (bounded machine.limits) machine.steps)
 
--- a step is counted, if it is taken
-step_within : (state : State) (s : Step) → (state.steps ≤ (next_state state s).steps) × ((next_state state s).steps ≤ state.steps + 1)
-step_within state s =
-    kept_by_moves (λ x. (state.steps ≤ x.steps) × (x.steps ≤ state.steps + 1)) state s (omega arith, omega arith)
-    (λ o after m. let counted = steps_counted state s o after m in (omega (arith, counted), omega (arith, counted)))
-
 module _ (machine : Taken) (actor : ℕ) where
   -- the machine after so many steps of this actor
   abbrev pub after : ℕ → Taken
@@ -109,14 +83,6 @@ module _ (machine : Taken) (actor : ℕ) where
 
   begins : after 0 ≡ machine
   begins = ap (λ l. record machine { steps = l }) (append-nil machine.steps)
-
-  -- each is one step more at most
-  pub steps_within : (n : ℕ) → ((state_of machine).steps ≤ (state_of (after n)).steps) × ((state_of (after n)).steps ≤ (state_of machine).steps + n)
-  steps_within zero = let same = ap (λ m. (state_of m).steps) begins in (omega (arith, same), omega (arith, same))
-  steps_within (suc n) =
-      let before = steps_within n in
-      let last = ap (λ m. (state_of m).steps) (one_more n) ∙ ap (λ (s : State). s.steps) (run_push (first_state (bounded machine.limits)) (after n).steps (step.Go actor)) in
-      let one = step_within (state_of (after n)) (step.Go actor) in (omega (arith, before.0, last, one.0), omega (arith, before.1, last, one.1))
 
   -- as long as each step goes on
   going : (n : ℕ) → ((k : ℕ) → k < n → GoesOnAt (bounded machine.limits) machine.steps actor k) → going_on n actor machine ≡ (Ok None, after n)
@@ -200,14 +166,14 @@ module _ (machine : Taken) (actor : ℕ) where
     -- the steps come to the end
     answered : (answer : Reply) × (last : Taken) × (going_on go_limit actor machine ≡ (Ok (Some answer), last))
     answered =
-        let (n, few, on, last) = leads (of_bounded operation.call sure.0) in
+        let (n, few, on, last) = leads (of_no_walk operation.call sure.0) in
         let within : n < go_limit = omega (arith, few) in
         (last.0, after (suc n), ends n actor operation.id last.0 machine (after n) (after (suc n)) within (going n on) (one_more n, last.1))
 
     -- so does this one
     pub comes : (answer : Reply) (last : Taken) → going_on go_limit actor machine ≡ (Ok (Some answer), last) → Comes last
     comes answer to goes =
-        let (n, few, on, last) = leads (of_bounded operation.call sure.0) in
+        let (n, few, on, last) = leads (of_no_walk operation.call sure.0) in
         let within : n < go_limit = omega (arith, few) in
         let led = ends n actor operation.id last.0 machine (after n) (after (suc n)) within (going n on) (one_more n, last.1) in
         record {
@@ -223,11 +189,11 @@ module _ (machine : Taken) (actor : ℕ) where
     -- and none of them is denied
     pub ends_in : (n : ℕ) × (n ≤ most_steps_alone) × EndsIn n actor machine
     ends_in =
-        let (n, few, on, last) = leads (of_bounded operation.call sure.0) in
+        let (n, few, on, last) = leads (of_no_walk operation.call sure.0) in
         (suc n, omega (arith, few), subst (EndsIn (suc n) actor) begins (left n 0 n operation.id (omega arith) on last))
 
     -- where enough slots are free none of them is refused for want of slots
-    not_refused : EnoughForCall → (IsOnKeyOrRoot operation.call → operation.line ≡ new_try) → enough_slots operation.call ≤ length (state_of machine).heap.free →
+    not_refused : EnoughForCall → (IsOnKeyOrRoot operation.call → operation.line ≡ new_try) → slots_of operation.call ≤ length (state_of machine).heap.free →
         IsOnKeyOrRoot operation.call ⊎ (is_close operation.call ≡ true) → (n : ℕ) (last : Taken) →
         going_on n actor machine ≡ (Ok (Some NoSlots), last) → ⊥
     not_refused spare stands free (inl call) n last goes =
@@ -237,9 +203,9 @@ module _ (machine : Taken) (actor : ℕ) where
         let ends_now = (closes (bounded machine.limits) machine.steps actor operation runs closing (omega (arith, steps_left))).0 in
         closed_told n operation.id last (alone_after (bounded machine.limits) machine.steps actor 1) ends_now goes
 
-    pub spared : EnoughForCall → (IsOnKeyOrRoot operation.call → operation.line ≡ new_try) → enough_slots operation.call ≤ length (state_of machine).heap.free → (n : ℕ) (last : Taken) →
+    pub spared : EnoughForCall → (IsOnKeyOrRoot operation.call → operation.line ≡ new_try) → slots_of operation.call ≤ length (state_of machine).heap.free → (n : ℕ) (last : Taken) →
         going_on n actor machine ≡ (Ok (Some NoSlots), last) → ⊥
-    spared spare stands free = not_refused spare stands free (of_bounded operation.call sure.0)
+    spared spare stands free = not_refused spare stands free (of_no_walk operation.call sure.0)
 
     -- so that is what they come to
     pub must_be : (result : Result (Option Reply) Refusal) (to : Taken) → going_on go_limit actor machine ≡ (result, to) → (answer : Reply) × (result ≡ Ok (Some answer))
@@ -309,13 +275,13 @@ module _ (law : EachStepLeadsToItsEnd) (closes : ClosesEnd) (before after : Take
 -- ---- enough slots
 
 module _ (law : EachStepLeadsToItsEnd) (closes : ClosesEnd) (spare : EnoughForCall) (before : Taken) (actor : ℕ) (call : Call) (sizes : AreLimits before.limits) (keys : KeysFit before.steps)
-    (fits : FitsKey (step.Begin actor call)) (sure : IsSure (state_of before) call (1 + most_steps_alone)) (free : enough_slots call ≤ length (state_of before).heap.free) where
+    (fits : FitsKey (step.Begin actor call)) (sure : IsSure (state_of before) call (1 + most_steps_alone)) (free : slots_of call ≤ length (state_of before).heap.free) where
   -- behind its begin a call isn't refused for want of slots
   pub spared_behind : (d : begin_denial (state_of before) actor call ≡ None) (n : ℕ) (last : Taken) → going_on n actor (middle before actor call d) ≡ (Ok (Some NoSlots), last) → ⊥
   spared_behind d =
       spared (middle before actor call d) actor law closes sizes (All-push FitsKey before.steps (step.Begin actor call) keys fits) (begun_operation (state_of before) call)
       (begun_runs_on before actor call d) (sure_behind before actor call d most_steps_alone sure) spare (tries_first call)
-      (subst (λ h. enough_slots call ≤ length h.free)
+      (subst (λ h. slots_of call ≤ length h.free)
       (sym (ap (λ (s : State). s.heap) (led_so before actor call d) ∙ begin_heap (state_of before) actor call (begun_operation (state_of before) call))) free)
 
   spares_by : (after : Taken) (denial : Option Refusal) → begin_denial (state_of before) actor call ≡ denial → CompletesUnless denial (Ok (Some NoSlots)) before actor call after → ⊥

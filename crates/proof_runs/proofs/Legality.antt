@@ -35,10 +35,12 @@ use Rattle.proof_runs.specs.Legality.{IsLegalFor, LeadsToContents, HasInOrder, I
 use Rattle.proof_runs.proofs.Bounds.{in_bounds}
 use Rattle.proof_runs.proofs.Going.{HasMore, going-append, has_more}
 use Rattle.proof_runs.proofs.Ending.{EnoughForCall, spared_behind}
-use Rattle.proof_runs.specs.Ending.{IsSpared, IsSure, enough_slots}
+use Rattle.proof_runs.specs.Ending.{IsSpared, IsSure}
+use Rattle.proof_obstruction_free.specs.Calls.{slots_of}
 use Rattle.proof_obstruction_free.specs.Closes.{ClosesEnd}
 use Rattle.proof_obstruction_free.specs.Laws.{EachStepLeadsToItsEnd, most_steps_alone}
-use Rattle.proof_runs.proofs.Resting.{OnlyRuns, leads_to_rest, only_at_rest, still_only, unanswered_at_rest}
+use Rattle.proof_runs.proofs.Resting.{leads_to_rest, unanswered_at_rest}
+use Rattle.proof_obstruction_free.proofs.Resting.{OnlyRuns, only_at_rest, still_only}
 use Rattle.proof_runs.proofs.Telling.{Tells, stepped, tells}
 
 module _ (machine : Taken) (explained : IsExplained (bounded machine.limits) (state_of machine) (past_of machine)) where
@@ -152,23 +154,23 @@ module _ (before after : Taken) (actor : ℕ) (call : Call) (rest : is_busy (sta
   rests (Err why) c = tt
 
   module _ (law : AloneItActs) (sizes : AreLimits after.limits) (keys : KeysFit after.steps) where
-    acted_by : (answer : Reply) → Tells before after actor call answer → ActedAlone (Ok (Some answer)) before call after
+    acted_by : (answer : Reply) → Tells before after actor call answer → ActedAlone (Ok (Some answer)) before actor call after
     acted_by answer told =
         let led = told.led in
         let longer : Taken = record { limits = before.limits; steps = before.steps ++ led.more } in
         let same : after ≡ longer = ap (λ (l : Limits). record { limits = l; steps = after.steps }) led.limits ∙ ap (λ xs. record { limits = before.limits; steps = xs }) led.steps in
-        let alone : RanAlone (state_of before) (past_of before) (past_of longer) told.id actor call told.opens answer =
-        record { rest = rest; told = sym (ap (λ m. (past_of m).events) same) ∙ led.events } in
+        let events = sym (ap (λ m. (past_of m).events) same) ∙ led.events in
+        let alone : RanAlone (state_of before) (past_of before) (past_of longer) told.id actor call told.opens answer = record { rest = rest; told = events } in
         let in_range = in_bounds before.limits (subst AreLimits led.limits sizes) in
         let acts = law (bounded before.limits) before.steps led.more told.id actor call told.opens answer in_range (subst KeysFit led.steps keys) alone in
-        subst (ActedAlone (Ok (Some answer)) before call) (sym same) (told.id, told.opens, acts.0, acts.1, acts.2, acts.3, acts.4)
+        subst (ActedAlone (Ok (Some answer)) before actor call) (sym same) (told.id, told.opens, acts.0, acts.1, events, acts.2, acts.3, acts.4)
 
-    acted_behind : (n : ℕ) (answer : Reply) → going_on n actor middle ≡ (Ok (Some answer), after) → ActedAlone (Ok (Some answer)) before call after
+    acted_behind : (n : ℕ) (answer : Reply) → going_on n actor middle ≡ (Ok (Some answer), after) → ActedAlone (Ok (Some answer)) before actor call after
     acted_behind n answer goes =
         let (o, state, taken) = begin_by n answer (begin_denial (state_of before) actor call) refl goes in
         acted_by answer (tells n before after actor call answer goes o state taken)
 
-    pub acted : (result : Result (Option Reply) Refusal) → Completes result before actor call after → ActedAlone result before call after
+    pub acted : (result : Result (Option Reply) Refusal) → Completes result before actor call after → ActedAlone result before actor call after
     acted (Ok (Some answer)) c = acted_behind go_limit answer (completed_by (begin_denial (state_of before) actor call) answer c)
     acted (Ok None) c = tt
     acted (Err why) c = tt
@@ -182,7 +184,8 @@ module _ (before machine after : Taken) (actor : ℕ) (call : Call) (went : Went
   rests_again (Ok None) goes = tt
   rests_again (Err why) goes = tt
 
-  pub acted_again : AloneItActs → AreLimits after.limits → KeysFit after.steps → (result : Result (Option Reply) Refusal) → Resumes result machine actor after → ActedAlone result before call after
+  pub acted_again : AloneItActs → AreLimits after.limits → KeysFit after.steps → (result : Result (Option Reply) Refusal) → Resumes result machine actor after →
+      ActedAlone result before actor call after
   acted_again law sizes keys (Ok (Some answer)) goes =
       acted_behind before after actor call went.0 law sizes keys (went.1.0 + go_limit) answer
       (goes_further before after actor call went.0 went.1.0 go_limit machine answer went.1.1 goes)
@@ -195,7 +198,7 @@ module _ (before machine after : Taken) (actor : ℕ) (call : Call) (went : Went
       has_more (went.1.0 + k) actor (with_step before (step.Begin actor call)) after (Ok (Some answer)) (goes_further before after actor call went.0 went.1.0 k machine answer went.1.1 goes)
 
   spared_by : (law : EachStepLeadsToItsEnd) (closes : ClosesEnd) (spare : EnoughForCall) → AreLimits after.limits → KeysFit after.steps → IsSure (state_of before) call (1 + most_steps_alone) →
-      enough_slots call ≤ length (state_of before).heap.free → going_on go_limit actor machine ≡ (Ok (Some NoSlots), after) → (denial : Option Refusal) →
+      slots_of call ≤ length (state_of before).heap.free → going_on go_limit actor machine ≡ (Ok (Some NoSlots), after) → (denial : Option Refusal) →
       begin_denial (state_of before) actor call ≡ denial → ⊥
   spared_by law closes spare sizes keys sure free goes (Some why) d =
       not_denied before after actor call went.0 (went.1.0 + go_limit) NoSlots why d (goes_further before after actor call went.0 went.1.0 go_limit machine NoSlots went.1.1 goes)

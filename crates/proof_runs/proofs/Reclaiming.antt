@@ -18,7 +18,8 @@ use Rattle.proof_runs.specs.Beneath.machine_model.specs.Contents.{content_at}
 use Rattle.proof_runs.specs.Beneath.machine_model.specs.Records.{first_record, order_of}
 use Rattle.proof_runs.specs.Machines.{Taken, past_of, state_of, with_step}
 use Rattle.proof_runs.specs.Callers.{swept, Reclaims, ReclaimsUnless}
-use Rattle.proof_runs.specs.Reclaiming.{UsesReached, LooksSame}
+use Rattle.proof_runs.specs.Reclaiming.{LooksSame}
+use Rattle.proof_obstruction_free.specs.Sweeping.{UsesReached}
 
 pub same_looks : (machine : Taken) → LooksSame machine machine
 same_looks machine = record { events = refl; order = refl; roots = λ handle. refl; contents = λ handle root e. refl }

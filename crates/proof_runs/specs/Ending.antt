@@ -3,7 +3,6 @@ use Rattle.std.specs.Prelude.{◌≡◌, ◌≢◌, ℕ, zero, suc, ◌+◌, ◌
 use Rattle.proof_runs.specs.Beneath.ctrie_base.specs.declared.refusals.Refusal.{Refusal}
 use Rattle.proof_runs.specs.Beneath.ctrie_base.specs.declared.refusals.Refusal.TheVariants.{Memory}
 use Rattle.proof_runs.specs.Beneath.history.specs.declared.calls.Call.{Call}
-use Rattle.proof_runs.specs.Beneath.history.specs.declared.calls.Call.TheVariants.{Clear, Snapshot, Freeze, Close, Entries, Count}
 use Rattle.proof_runs.specs.Beneath.history.specs.declared.replies.Reply.{Reply}
 use Rattle.proof_runs.specs.Beneath.history.specs.declared.replies.Reply.TheVariants.{NoSlots}
 use Rattle.proof_runs.specs.Beneath.machine_model.specs.declared.operations.Operation.{Operation}
@@ -11,19 +10,13 @@ use Rattle.proof_runs.specs.Beneath.machine_model.specs.declared.steps.Step.{Ste
 use Rattle.proof_runs.specs.Beneath.machine_model.specs.declared.steps.Step.TheVariants.{Go}
 use Rattle.proof_runs.specs.Beneath.machine_model.specs.Machine.{begin_denial}
 use Rattle.proof_runs.specs.Beneath.machine_model.specs.States.{State, operation_of}
+use Rattle.proof_obstruction_free.specs.Calls.{IsNoWalk, slots_of}
 use Rattle.proof_obstruction_free.specs.Laws.{most_steps_alone}
-use Rattle.proof_obstruction_free.specs.Slots.{most_makes_alone, most_steps_of_copies}
 use Rattle.proof_runs.specs.Machines.{Taken, state_of, with_step, IsTaken}
-
--- any call but entries and count
-abbrev pub IsBounded : Call → Type 0
-IsBounded (Entries h) = ⊥
-IsBounded (Count h) = ⊥
-IsBounded call = Unit {0}
 
 -- such a call, while so many steps are left
 abbrev pub IsSure : State → Call → ℕ → Type 0
-IsSure state call steps = IsBounded call × (state.steps + steps ≤ state.limits.steps)
+IsSure state call steps = IsNoWalk call × (state.steps + steps ≤ state.limits.steps)
 
 -- There is a reply, or a refusal: why the begin is denied, or want of memory. It isn't answered that the operation still runs.
 abbrev pub IsAnswer : Option Refusal → Result (Option Reply) Refusal → Type 0
@@ -42,17 +35,9 @@ ResumesIfSure machine actor result =
 
 -- ---- slots
 
--- so many free slots are enough for such a call whose actor alone takes steps from its begin on: a close wants none
-abbrev pub enough_slots : Call → ℕ
-enough_slots (Close h) = 0
-enough_slots (Clear h) = most_steps_of_copies
-enough_slots (Snapshot h) = most_steps_of_copies
-enough_slots (Freeze h) = most_steps_of_copies
-enough_slots call = most_makes_alone
-
 -- a call that is sure to end isn't refused for want of slots where so many are free
 abbrev pub IsSpared : Taken → Call → Result (Option Reply) Refusal → Type 0
-IsSpared machine call result = IsSure (state_of machine) call (1 + most_steps_alone) → enough_slots call ≤ length (state_of machine).heap.free → result ≢ Ok (Some NoSlots)
+IsSpared machine call result = IsSure (state_of machine) call (1 + most_steps_alone) → slots_of call ≤ length (state_of machine).heap.free → result ≢ Ok (Some NoSlots)
 
 -- ---- step by step
 

@@ -1,10 +1,11 @@
 -- The legal order, of a machine at any time, and what a call does that runs alone.
-use Rattle.std.specs.Prelude.{◌≡◌, ℕ, Bool, false, List, Option, Some, None, option_map, Result, Ok}
+use Rattle.std.specs.Prelude.{◌≡◌, ℕ, Bool, false, List, [], ◌∷◌, ◌++◌, Option, Some, None, option_map, Result, Ok}
 use Rattle.std.specs.FinMap as map
 use Rattle.proof_runs.specs.Beneath.ctrie_base.specs.Hashes.{hash_of}
 use Rattle.proof_runs.specs.Beneath.ctrie_base.specs.declared.refusals.Refusal.{Refusal}
 use Rattle.proof_runs.specs.Beneath.history.specs.declared.calls.Access.TheVariants.{Writable}
 use Rattle.proof_runs.specs.Beneath.history.specs.declared.calls.Call.{Call}
+use Rattle.proof_runs.specs.Beneath.history.specs.declared.events.Event.TheVariants as event
 use Rattle.proof_runs.specs.Beneath.history.specs.declared.replies.Reply.{Reply}
 use Rattle.proof_runs.specs.Beneath.history.specs.Worlds.{HandleState, HandleMap}
 use Rattle.proof_runs.specs.Beneath.history.specs.Orders.{Explains, IsLegal}
@@ -43,13 +44,15 @@ HasInOrder machine handle key value =
 abbrev pub writable_in : HandleMap → ℕ → Option Bool
 writable_in world handle = option_map (λ shown. is_access Writable (Some shown.access)) (map.get world handle)
 
--- An operation that was answered entered the order last, and its call led from the world that showed the contents before to the one that shows them after, with
--- its reply; where it was refused for want of slots, neither changed.
-abbrev pub ActedAlone : Result (Option Reply) Refusal → Taken → Call → Taken → Type 0
-ActedAlone (Ok (Some answer)) before call after =
-    (id : ℕ) × (opens : Option ℕ) × (world next : HandleMap) × ShowsContents world (state_of before) × ShowsContents next (state_of after)
+-- Where an operation was answered the history grew by just its begin and its end. It entered the order last, and its call led from the world that showed the
+-- contents before to the one that shows them after, with its reply; where it was refused for want of slots, neither order nor contents changed.
+abbrev pub ActedAlone : Result (Option Reply) Refusal → Taken → ℕ → Call → Taken → Type 0
+ActedAlone (Ok (Some answer)) before actor call after =
+    (id : ℕ) × (opens : Option ℕ) × (world next : HandleMap)
+    × ((past_of after).events ≡ (past_of before).events ++ event.Begin id actor call opens ∷ event.End id answer ∷ [])
+    × ShowsContents world (state_of before) × ShowsContents next (state_of after)
     × Does (hash_of before.limits.hash) (past_of before) (past_of after) id call opens answer world next
-ActedAlone result before call after = Unit {0}
+ActedAlone result before actor call after = Unit {0}
 
 -- the call began where the earlier machine was at rest, and since then only its actor has taken steps, which haven't ended it
 abbrev pub WentAlone : Taken → ℕ → Call → Taken → Type 0

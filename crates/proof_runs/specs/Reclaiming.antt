@@ -1,17 +1,12 @@
 -- What the sweep leaves.
 use Rattle.std.specs.Prelude.{◌≡◌, ◌≤◌, ◌+◌, ◌*◌, ℕ, length, Some, Result, Ok, Err}
 use Rattle.proof_runs.specs.Beneath.ctrie_base.specs.declared.refusals.Refusal.{Refusal}
-use Rattle.proof_runs.specs.Beneath.slot_arena.specs.declared.refs.Ref.{Ref}
 use Rattle.proof_runs.specs.Beneath.machine_model.specs.declared.roots.Root.{Root}
-use Rattle.proof_runs.specs.Beneath.machine_model.specs.States.{State, root_at}
+use Rattle.proof_runs.specs.Beneath.machine_model.specs.States.{root_at}
 use Rattle.proof_runs.specs.Beneath.machine_model.specs.Records.{order_of}
-use Rattle.proof_runs.specs.Beneath.machine_model.specs.Contents.{IsReached, content_at}
-use Rattle.proof_memory.specs.Laws.{IsInUse}
+use Rattle.proof_runs.specs.Beneath.machine_model.specs.Contents.{content_at}
+use Rattle.proof_obstruction_free.specs.Sweeping.{steps_for_a_slot}
 use Rattle.proof_runs.specs.Machines.{Taken, past_of, state_of}
-
--- the slots in use are exactly those that the handles reach
-abbrev pub UsesReached : State → Type 0
-UsesReached state = (r : Ref) → (IsInUse state.heap r → IsReached state r) × (IsReached state r → IsInUse state.heap r)
 
 -- history and order are the same, and so are the handles and the content of each open one
 pub record LooksSame (before after : Taken) : Type 0 where
@@ -21,10 +16,6 @@ pub record LooksSame (before after : Taken) : Type 0 where
   pub contents : (handle : ℕ) (root : Root) → root_at (state_of before) handle ≡ Some root → content_at (state_of after) handle ≡ content_at (state_of before) handle
 
 -- ---- how many steps it takes
-
--- the most steps for a slot that is freed: the epoch grows twice, each time when all actors were passed, and one step frees it
-abbrev pub steps_for_a_slot : ℕ → ℕ
-steps_for_a_slot actors = 2 * actors + 3
 
 -- no more are taken for each slot that is freed, and so many beside
 abbrev pub SweepsUpTo : ℕ → Taken → Taken → Type 0

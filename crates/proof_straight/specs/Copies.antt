@@ -66,8 +66,8 @@ frozen state handle root =
     let made = with_new_root (first_course state) (main_at state.heap root) in
     with_offer made handle (offer_of state root made.draft.newest None (Some (least_free state)))
 
-abbrev pub snapped : State → ℕ → Ref → Course
-snapped state handle root =
+abbrev pub snapshotted : State → ℕ → Ref → Course
+snapshotted state handle root =
     let first = with_new_root (first_course state) (main_at state.heap root) in
     let second = with_new_root first (main_at state.heap root) in
     with_offer second handle (offer_of state root first.draft.newest (Some second.draft.newest) (Some (least_free state)))

@@ -18,7 +18,7 @@ use Rattle.machine_model.specs.States.{State}
 use Rattle.proof_straight.specs.Drafts.{first_draft, after_call}
 use Rattle.machine_model.specs.Machine.{begin_denial, least_free}
 use Rattle.machine_model.specs.Records.{Record}
-use Rattle.proof_straight.specs.Copies.{Course, IsSettled, cleared, closed, frozen, snapped}
+use Rattle.proof_straight.specs.Copies.{Course, IsSettled, cleared, closed, frozen, snapshotted}
 use Rattle.proof_straight.specs.Recorded.{closed_record, contracted_record, copied_record, unchanged_record}
 use Rattle.proof_straight.specs.Running.{ComesTo, IsAtRest, IsKeyed, IsReady, IsRecordOf}
 use Rattle.proof_straight.specs.Places.{Finds, HasRoom, Leaves, LeavesSingle, Misses, StandsOver, read_in, steps_down}
@@ -128,11 +128,11 @@ FreezesStraight =
     CopiesTo state past actor (call.Freeze handle) root 8 (reply.Opened (least_free state)) (frozen state handle root)
 
 -- a snapshot
-abbrev pub SnapsStraight : Type 0
-SnapsStraight =
+abbrev pub SnapshotsStraight : Type 0
+SnapshotsStraight =
     (state : State) (past : Record) (actor handle : ℕ) (root : Ref) → IsReady state actor (call.Snapshot handle) root → IsRecordOf state past →
     IsSettled state.heap root → 2 ≤ length state.heap.free → LastsFor state 9 →
-    CopiesTo state past actor (call.Snapshot handle) root 9 (reply.Opened (least_free state)) (snapped state handle root)
+    CopiesTo state past actor (call.Snapshot handle) root 9 (reply.Opened (least_free state)) (snapshotted state handle root)
 
 -- a clear
 abbrev pub ClearsStraight : Type 0

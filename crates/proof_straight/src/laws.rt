@@ -1,7 +1,7 @@
 //! Laws of calls that run alone.
 
 ghost use Rattle.proof_straight.specs.Laws.{AnswersStraight, MissesStraight, CrowdedStraight, SetsStraight, InsertsStraight, RemovesStraight, PartsStraight, ContractsStraight};
-ghost use Rattle.proof_straight.specs.Laws.{FreezesStraight, SnapsStraight, ClearsStraight, ClosesStraight};
+ghost use Rattle.proof_straight.specs.Laws.{FreezesStraight, SnapshotsStraight, ClearsStraight, ClosesStraight};
 ghost use Rattle.proof_straight.specs.Renewals.{RenewsStraight};
 ghost use Rattle.proof_straight.specs.Passing.{PassesRenewal};
 ghost use Rattle.proof_straight.specs.Running.{ComesByRun};
@@ -53,8 +53,8 @@ pub fn freezes_straight()
 {}
 
 /// A law: a snapshot.
-pub fn snaps_straight()
-    ensures { SnapsStraight }
+pub fn snapshots_straight()
+    ensures { SnapshotsStraight }
 {}
 
 /// A law: a clear.

@@ -13,5 +13,5 @@ pub use laws::{
     answers_straight, clears_straight, closes_straight, comes_by_run, contracts_straight,
     crowded_straight, free_slots_empty, freezes_straight, inserts_straight, limbo_up_to_date,
     misses_straight, parts_straight, passes_renewal, removes_straight, renews_straight,
-    sets_straight, snaps_straight,
+    sets_straight, snapshots_straight,
 };

@@ -32,7 +32,7 @@ pub use complete::{Complete, CompleteAt};
 pub use laws::acts_on_table;
 pub use offer::Offer;
 pub use root::ReadRoot;
-pub use roots::Roots;
+pub use roots::{Roots, opened_root};
 pub use trie_parts::{
     Descriptor, Heap, Kind, MOST_ENTRIES, Next, Node, NodeRef, Read, ReadAt, Ref, RootWord, Work,
     entries_at, generation_at, node_at, renewed,

@@ -236,7 +236,7 @@ impl Roots {
 }
 
 /// The root that an offer opens: writable over a root of its own, read-only over the old one.
-fn opened_root(offer: &Descriptor) -> Root
+pub fn opened_root(offer: &Descriptor) -> Root
     ensures { result ≡ opened_root offer.now offer.now.second }
 {
     match offer.second {

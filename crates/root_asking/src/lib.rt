@@ -17,5 +17,5 @@ pub use asking::Asking;
 pub use laws::each_embeds;
 pub use rdcss_root::{
     Complete, Descriptor, Heap, MOST_ENTRIES, Next, Node, NodeRef, Offer, Read, ReadAt, ReadRoot,
-    Ref, RootWord, Roots, Work, entries_at, generation_at, node_at, renewed,
+    Ref, RootWord, Roots, Work, entries_at, generation_at, node_at, opened_root, renewed,
 };

@@ -16,8 +16,8 @@ use Rattle.running.specs.Beneath.root_asking.specs.declared.asking.Asking.TheVar
 use Rattle.running.specs.Beneath.root_asking.specs.Inside.{swapping_at, with_read}
 use Rattle.running.specs.declared.job.Program.{Program}
 use Rattle.running.specs.declared.programs.Programs.{Programs}
-use Rattle.running.specs.declared.programs.Stage.{Stage}
-use Rattle.running.specs.Places.{asking_line, met_at, stage_line}
+use Rattle.running.specs.declared.programs.ProgramAt.{ProgramAt}
+use Rattle.running.specs.Places.{asking_line, met_at, program_line_at}
 use Rattle.running.proofs.Giving.{SwapsNone}
 
 -- a program that swaps no main node of its own swaps in none
@@ -36,9 +36,9 @@ same_publication here operation (line.Swap why s) = publishes_still here (change
 same_publication here operation l = refl
 
 -- so it is whatever is asked
-pub publishes_so : (p : Programs) (program : Program) (stage : Stage) (asking : Asking) (operation : Operation) (published : Option Publication) →
-    ((told : Option ℕ) → published_by operation (stage_line p told program stage) ≡ published) → published ≡ published_by operation (asking_line p program stage asking)
-publishes_so p program stage Unasked operation published is = sym (is None)
-publishes_so p program stage (Met offer) operation published is =
-    sym (same_publication (met_at p.key.work.swap.read.at offer) operation (stage_line p None program stage) ∙ is None)
-publishes_so p program stage (Told generation) operation published is = sym (is (Some generation))
+pub publishes_so : (p : Programs) (program : Program) (at : ProgramAt) (asking : Asking) (operation : Operation) (published : Option Publication) →
+    ((told : Option ℕ) → published_by operation (program_line_at p told program at) ≡ published) → published ≡ published_by operation (asking_line p program at asking)
+publishes_so p program at Unasked operation published is = sym (is None)
+publishes_so p program at (Met offer) operation published is =
+    sym (same_publication (met_at p.key.work.swap.read.at offer) operation (program_line_at p None program at) ∙ is None)
+publishes_so p program at (Told generation) operation published is = sym (is (Some generation))

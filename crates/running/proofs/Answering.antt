@@ -19,9 +19,9 @@ use Rattle.snapshot.specs.Copies.{copy_line_at}
 use Rattle.snapshot.specs.Walks.{walk_line_at}
 use Rattle.running.specs.declared.job.Program.{Program}
 use Rattle.running.specs.declared.programs.Programs.{Programs}
-use Rattle.running.specs.declared.programs.Stage.{Stage}
+use Rattle.running.specs.declared.programs.ProgramAt.{ProgramAt}
 use Rattle.operate.specs.Places.{answer_of}
-use Rattle.running.specs.Places.{asking_line, met_at, stage_line}
+use Rattle.running.specs.Places.{asking_line, met_at, program_line_at}
 
 -- the line on which its READ stands doesn't matter to that
 same_answer : (here : ReadLine) (l : Line) → answer_of (with_read here l) ≡ answer_of l
@@ -54,8 +54,8 @@ walk_goes_on q told todo pairs (walk.Main main) = refl
 walk_goes_on q told todo pairs walk.Entry = refl
 
 -- a line stays one of an end, or doesn't, whatever is asked
-pub ends : (p : Programs) (program : Program) (stage : Stage) (asking : Asking) (answer : Option Reply) → ((told : Option ℕ) → answer_of (stage_line p told program stage) ≡ answer) →
-    answer_of (asking_line p program stage asking) ≡ answer
-ends p program stage Unasked answer is = is None
-ends p program stage (Met offer) answer is = same_answer (met_at p.key.work.swap.read.at offer) (stage_line p None program stage) ∙ is None
-ends p program stage (Told generation) answer is = is (Some generation)
+pub ends : (p : Programs) (program : Program) (at : ProgramAt) (asking : Asking) (answer : Option Reply) → ((told : Option ℕ) → answer_of (program_line_at p told program at) ≡ answer) →
+    answer_of (asking_line p program at asking) ≡ answer
+ends p program at Unasked answer is = is None
+ends p program at (Met offer) answer is = same_answer (met_at p.key.work.swap.read.at offer) (program_line_at p None program at) ∙ is None
+ends p program at (Told generation) answer is = is (Some generation)

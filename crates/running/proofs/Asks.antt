@@ -50,7 +50,7 @@ use Rattle.running.specs.declared.job.Job.{Job}
 use Rattle.running.specs.declared.job.Program.{Program}
 use Rattle.running.specs.declared.job.Program.TheVariants.{Key, Copy, Walk, Close}
 use Rattle.running.specs.declared.programs.Programs.{Programs}
-use Rattle.running.specs.declared.programs.Stage.TheVariants.{Runs}
+use Rattle.running.specs.declared.programs.ProgramAt.TheVariants.{Runs}
 use Rattle.running.specs.Places.{IsBegun, IsWaiting, ReadsOn, generation_in, asking_line, call_for, met_at, program_line}
 use Rattle.running.specs.Steps.{Changes, Does, Scene, at_scene, operation_in}
 use Rattle.running.proofs.Lasting.{tells}

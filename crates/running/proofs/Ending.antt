@@ -19,9 +19,9 @@ use Rattle.running.specs.Beneath.root_asking.specs.Inside.{with_read}
 use Rattle.running.specs.declared.job.Job.{Job}
 use Rattle.running.specs.declared.job.Program.{Program}
 use Rattle.running.specs.declared.programs.Programs.{Programs}
-use Rattle.running.specs.declared.programs.Stage.{Stage}
-use Rattle.running.specs.declared.programs.Stage.TheVariants.{Impossible}
-use Rattle.running.specs.Places.{IsSound, asking_line, line_for, met_at, stage_line}
+use Rattle.running.specs.declared.programs.ProgramAt.{ProgramAt}
+use Rattle.running.specs.declared.programs.ProgramAt.TheVariants.{Impossible}
+use Rattle.running.specs.Places.{IsSound, asking_line, line_for, met_at, program_line_at}
 use Rattle.running.specs.Steps.{Changes, Does, Scene, at_scene, operation_in}
 
 -- it changes nothing
@@ -31,11 +31,11 @@ IsIdle (act.End answer) = Unit {0}
 IsIdle action = ⊥
 
 -- where no READ stands in the line it doesn't matter what is asked
-pub stays : (p : Programs) (program : Program) (stage : Stage) (asking : Asking) (l : Line) → ((told : Option ℕ) → stage_line p told program stage ≡ l) →
-    ((here : ReadLine) → with_read here l ≡ l) → asking_line p program stage asking ≡ l
-stays p program stage Unasked l is none = is None
-stays p program stage (Met offer) l is none = ap (with_read (met_at p.key.work.swap.read.at offer)) (is None) ∙ none (met_at p.key.work.swap.read.at offer)
-stays p program stage (Told generation) l is none = is (Some generation)
+pub stays : (p : Programs) (program : Program) (at : ProgramAt) (asking : Asking) (l : Line) → ((told : Option ℕ) → program_line_at p told program at ≡ l) →
+    ((here : ReadLine) → with_read here l ≡ l) → asking_line p program at asking ≡ l
+stays p program at Unasked l is none = is None
+stays p program at (Met offer) l is none = ap (with_read (met_at p.key.work.swap.read.at offer)) (is None) ∙ none (met_at p.key.work.swap.read.at offer)
+stays p program at (Told generation) l is none = is (Some generation)
 
 -- an action that leaves all as it is
 idle : (job : Job) (scene : Scene) (action : Action) → IsIdle action → Changes job scene action scene
@@ -106,14 +106,14 @@ rests job program scene l k action from sound none each = record {
   sound = sound;
 }
 
--- the last step of an operation, whose stage tells it
-pub ended : (job : Job) (program : Program) (scene : Scene) (stage : Stage) (answer : Reply) → scene.programs.at ≡ stage →
-    ((told : Option ℕ) → stage_line scene.programs told program stage ≡ line.End answer) → IsSound program scene.programs →
+-- the last step of an operation, which tells it where it stands
+pub ended : (job : Job) (program : Program) (scene : Scene) (at : ProgramAt) (answer : Reply) → scene.programs.at ≡ at →
+    ((told : Option ℕ) → program_line_at scene.programs told program at ≡ line.End answer) → IsSound program scene.programs →
     Does job program (line_for program scene.programs) scene (record { kind = kind.End; committed = None; given = None; counts = false }) scene
-ended job program scene stage answer at is sound =
+ended job program scene at answer stands is sound =
     rests job program scene (line.End answer) kind.End (act.End answer)
-    (ap (λ s. asking_line scene.programs program s scene.programs.asking) at
-    ∙ stays scene.programs program stage scene.programs.asking (line.End answer) is (λ here. refl))
+    (ap (λ s. asking_line scene.programs program s scene.programs.asking) stands
+    ∙ stays scene.programs program at scene.programs.asking (line.End answer) is (λ here. refl))
     sound tt (λ state operation. record { does = refl; kind_is = refl; line_is = refl; reads = refl; keeps = refl; counts = refl })
 
 -- a step to which no machine comes

@@ -52,8 +52,8 @@ use Rattle.snapshot.specs.Walks.{call_of as walk_call, on_call, walk_line, walk_
 use Rattle.running.specs.declared.job.Job.{Job}
 use Rattle.running.specs.declared.job.Program.TheVariants.{Key, Copy, Walk}
 use Rattle.running.specs.declared.programs.Programs.{Programs}
-use Rattle.running.specs.declared.programs.Stage.{Stage}
-use Rattle.running.specs.Places.{ReadsIn, stage_line, task_for}
+use Rattle.running.specs.declared.programs.ProgramAt.{ProgramAt}
+use Rattle.running.specs.Places.{ReadsIn, program_line_at, task_for}
 use Rattle.running.specs.Steps.{Changes, Does, Scene, at_scene, operation_in, taken_in, taken_so}
 use Rattle.running.proofs.Asks.{key_handle}
 use Rattle.running.proofs.Giving.{SwapsNone, same_action, takes, takes_reading}
@@ -61,14 +61,14 @@ use Rattle.running.proofs.Lasting.{copy_swaps_none, walk_swaps_none}
 
 -- ---- a snapshot, a freeze or a clear
 
-pub copies : (job : Job) (call : CopyCall) (told : Option ℕ) (before : Scene) (memory : Memory) (table : Table) (generation : ℕ) (work : Work) (copy : ACopyOp) (k : Kind) (stage : Stage) →
+pub copies : (job : Job) (call : CopyCall) (told : Option ℕ) (before : Scene) (memory : Memory) (table : Table) (generation : ℕ) (work : Work) (copy : ACopyOp) (k : Kind) (at : ProgramAt) →
     let p = before.programs in
     let l = copy_line p.key.work.swap.read told p.copy in
     let task = task_for job call in
-    let after : Programs = record p { at = stage; asking = Unasked; key = record p.key { work = work }; copy = copy } in
+    let after : Programs = record p { at = at; asking = Unasked; key = record p.key { work = work }; copy = copy } in
     let as_task : Operation → Operation = λ operation. for_task task p.copy.attempt (mark_of before.table task) p.key.work.swap.read.access operation in
     ((state : State) (operation : Operation) →
-    Leads (at_roots state before.memory.heap before.table) (as_task operation) l k (stage_line after None (Copy call) stage) work.swap.read.at) →
+    Leads (at_roots state before.memory.heap before.table) (as_task operation) l k (program_line_at after None (Copy call) at) work.swap.read.at) →
     ActsInAll before.memory before.table.roots p.key.work.private (with_generation before.generation (action_on l)) memory table.roots work.private →
     table ≡ acted_table before.table job.handle job.actor (action_on l) →
     generation ≡ drawn_by before.memory.heap before.generation (action_on l) →
@@ -76,12 +76,12 @@ pub copies : (job : Job) (call : CopyCall) (told : Option ℕ) (before : Scene) 
     ((state : State) (operation : Operation) →
     copy.generation ≡ generation_from (at_roots state before.memory.heap before.table) (record (as_task operation) { generation = p.copy.generation }) l) →
     work.swap.read.access ≡ p.key.work.swap.read.access →
-    ReadsIn stage (Copy call) after →
+    ReadsIn at (Copy call) after →
     Does job (Copy call) l before (taken_so k work.swap.read.at) (record { memory = memory; table = table; generation = generation; programs = after })
-copies job call told before memory table generation work copy k stage leads acts acted drawn attempt kept access stands =
+copies job call told before memory table generation work copy k at leads acts acted drawn attempt kept access stands =
     let p : Programs = before.programs in
     let l : Line = copy_line p.key.work.swap.read told p.copy in
-    let after : Scene = record { memory = memory; table = table; generation = generation; programs = record p { at = stage; asking = Unasked; key = record p.key { work = work }; copy = copy } } in
+    let after : Scene = record { memory = memory; table = table; generation = generation; programs = record p { at = at; asking = Unasked; key = record p.key { work = work }; copy = copy } } in
     let does : Changes job before (action_on l) after = record { acts = acts; table = acted; drawn = drawn; attempt = attempt } in
     let none : SwapsNone l = copy_swaps_none p.key.work.swap.read told p.copy in
     record {
@@ -135,18 +135,18 @@ pub walked_same : (handle : ℕ) (call : WalkCall) (pairs : List (ℕ × ℕ)) �
 walked_same handle Entries pairs = refl
 walked_same handle Count pairs = refl
 
-pub walks : (job : Job) (call : WalkCall) (told : Option ℕ) (before : Scene) (memory : Memory) (work : Work) (w : AWalk) (k : Kind) (stage : Stage) →
+pub walks : (job : Job) (call : WalkCall) (told : Option ℕ) (before : Scene) (memory : Memory) (work : Work) (w : AWalk) (k : Kind) (at : ProgramAt) →
     let p = before.programs in
     let l = walk_line p.key.work.swap.read told p.walk in
-    let after : Programs = record p { at = stage; asking = Unasked; key = record p.key { work = work }; walk = w } in
+    let after : Programs = record p { at = at; asking = Unasked; key = record p.key { work = work }; walk = w } in
     ((state : State) (operation : Operation) →
-    Leads (at_roots state before.memory.heap before.table) (on_call (walk_call job.handle call) p.key.work.swap.read.access operation) l k (stage_line after None (Walk call) stage)
+    Leads (at_roots state before.memory.heap before.table) (on_call (walk_call job.handle call) p.key.work.swap.read.access operation) l k (program_line_at after None (Walk call) at)
     work.swap.read.at) →
     Acts before.memory p.key.work.private (action_on l) memory work.private →
     work.swap.read.access ≡ p.key.work.swap.read.access →
-    ReadsIn stage (Walk call) after →
+    ReadsIn at (Walk call) after →
     Does job (Walk call) l before (taken_so k work.swap.read.at) (record { memory = memory; table = before.table; generation = before.generation; programs = after })
-walks job call told before memory work w k stage leads acts access stands =
+walks job call told before memory work w k at leads acts access stands =
     let p : Programs = before.programs in
     let q : Read = p.key.work.swap.read in
     let l : Line = walk_line q told p.walk in
@@ -157,7 +157,7 @@ walks job call told before memory work w k stage leads acts access stands =
       memory = memory;
       table = before.table;
       generation = before.generation;
-      programs = record p { at = stage; asking = Unasked; key = record p.key { work = work }; walk = w };
+      programs = record p { at = at; asking = Unasked; key = record p.key { work = work }; walk = w };
     } in
     let does : Changes job before (action_on l) after =
     record {
@@ -197,14 +197,14 @@ plain_action heap generation (act.MakeRoot main) none = absurd none
 plain_action heap generation action none = (refl, refl)
 
 -- such a call took a step of its program
-pub keys : (job : Job) (call : KeyCall) (told : Option ℕ) (before : Scene) (memory : Memory) (table : Table) (key : KeyOp) (reading : Bool) (k : Kind) (stage : Stage) →
+pub keys : (job : Job) (call : KeyCall) (told : Option ℕ) (before : Scene) (memory : Memory) (table : Table) (key : KeyOp) (reading : Bool) (k : Kind) (at : ProgramAt) →
     let p = before.programs in
     let l = key_line p.key told in
-    let after : Programs = record p { at = stage; asking = Unasked; key = key } in
+    let after : Programs = record p { at = at; asking = Unasked; key = key } in
     p.key.task.call ≡ call →
     reading ≡ is_some (read_of l) →
     ((state : State) (operation : Operation) → word_at state (handle_of operation.call) ≡ word_in before.table job.handle →
-    Leads (at_heap state before.memory.heap p.key.task.hashes) (as_key p.key operation) l k (stage_line after None (Key call) stage) key.work.swap.read.at) →
+    Leads (at_heap state before.memory.heap p.key.task.hashes) (as_key p.key operation) l k (program_line_at after None (Key call) at) key.work.swap.read.at) →
     ((state : State) (operation : Operation) →
     ActsInAll before.memory before.table.roots p.key.work.private (line_action (at_heap state before.memory.heap p.key.task.hashes) (as_key p.key operation) l)
     memory table.roots key.work.private) →
@@ -213,20 +213,20 @@ pub keys : (job : Job) (call : KeyCall) (told : Option ℕ) (before : Scene) (me
     key.task.generation ≡ generation_from (at_heap state before.memory.heap p.key.task.hashes) (as_key p.key operation) l) →
     key.work.swap.read.access ≡ p.key.work.swap.read.access →
     key.task ≡ record p.key.task { generation = key.task.generation } →
-    ReadsIn stage (Key call) after →
+    ReadsIn at (Key call) after →
     Does job (Key call) l before (taken_in reading k key.work.swap.read.at)
     (record { memory = memory; table = table; generation = before.generation; programs = after })
-keys job call told before memory table key reading k stage begun reads leads acts acted kept access task stands =
+keys job call told before memory table key reading k at begun reads leads acts acted kept access task stands =
     let p : Programs = before.programs in
     let l : Line = key_line p.key told in
-    let then : Scene = record { memory = memory; table = table; generation = before.generation; programs = record p { at = stage; asking = Unasked; key = key } } in
+    let then : Scene = record { memory = memory; table = table; generation = before.generation; programs = record p { at = at; asking = Unasked; key = key } } in
     let word : (state : State) (operation : Operation) → word_at (at_scene state before) (handle_of (key_call job.handle call)) ≡ word_in before.table job.handle =
     λ state operation. ap (word_in before.table) (key_handle job.handle call) in
     record {
       takes = λ state operation.
           let o : Operation = operation_in job (Key call) before operation in
           let led =
-          subst (λ (x : Operation). Leads (at_scene state before) x l k (stage_line then.programs None (Key call) stage) key.work.swap.read.at)
+          subst (λ (x : Operation). Leads (at_scene state before) x l k (program_line_at then.programs None (Key call) at) key.work.swap.read.at)
           (key_operation job call before operation begun) (leads (at_scene state before) o (word state operation)) in
           takes_reading (at_scene state before) o l _ k key.work.swap.read.at reading reads led;
       changes = λ state operation.

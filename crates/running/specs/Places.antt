@@ -30,8 +30,8 @@ use Rattle.running.specs.declared.job.Job.{Job}
 use Rattle.running.specs.declared.job.Program.{Program}
 use Rattle.running.specs.declared.job.Program.TheVariants.{Key, Copy, Walk, Close}
 use Rattle.running.specs.declared.programs.Programs.{Programs}
-use Rattle.running.specs.declared.programs.Stage.{Stage}
-use Rattle.running.specs.declared.programs.Stage.TheVariants.{Runs, Answered, Swapped, Walked, Impossible}
+use Rattle.running.specs.declared.programs.ProgramAt.{ProgramAt}
+use Rattle.running.specs.declared.programs.ProgramAt.TheVariants.{Runs, Answered, Swapped, Walked, Impossible}
 
 -- ---- the call
 
@@ -73,22 +73,22 @@ program_line p root_seen (Copy call) = copy_line p.key.work.swap.read root_seen 
 program_line p root_seen (Walk call) = walk_line p.key.work.swap.read root_seen p.walk
 program_line p root_seen Close = line.End reply.Closed
 
-abbrev pub stage_line : Programs → Option ℕ → Program → Stage → Line
-stage_line p root_seen program Runs = program_line p root_seen program
-stage_line p root_seen program (Answered answer) = line_answered answer
-stage_line p root_seen program (Swapped answer) = line_behind answer
-stage_line p root_seen program (Walked call) = line.End (walked_reply (walk_call 0 call) p.walk.pairs.items)
-stage_line p root_seen program Impossible = impossible
+abbrev pub program_line_at : Programs → Option ℕ → Program → ProgramAt → Line
+program_line_at p root_seen program Runs = program_line p root_seen program
+program_line_at p root_seen program (Answered answer) = line_answered answer
+program_line_at p root_seen program (Swapped answer) = line_behind answer
+program_line_at p root_seen program (Walked call) = line.End (walked_reply (walk_call 0 call) p.walk.pairs.items)
+program_line_at p root_seen program Impossible = impossible
 
 -- a READ that has met this offer while it asked takes it back
 abbrev pub met_at : ReadAt → Descriptor → ReadLine
 met_at (at.Decide main previous) offer = read.Abort main previous offer
 met_at place offer = read.Main
 
-abbrev pub asking_line : Programs → Program → Stage → Asking → Line
-asking_line p program stage Unasked = stage_line p None program stage
-asking_line p program stage (Met offer) = with_read (met_at p.key.work.swap.read.at offer) (stage_line p None program stage)
-asking_line p program stage (Told generation) = stage_line p (Some generation) program stage
+abbrev pub asking_line : Programs → Program → ProgramAt → Asking → Line
+asking_line p program at Unasked = program_line_at p None program at
+asking_line p program at (Met offer) = with_read (met_at p.key.work.swap.read.at offer) (program_line_at p None program at)
+asking_line p program at (Told generation) = program_line_at p (Some generation) program at
 
 -- the definition's line of an operation with this program
 abbrev pub line_for : Program → Programs → Line
@@ -116,11 +116,11 @@ ReadsOn (Key call) p = ReadsKey p.key
 ReadsOn (Copy call) p = CopyReadsAt p.copy.at p.key.work.swap.read
 ReadsOn program p = Unit {0}
 
-abbrev pub ReadsIn : Stage → Program → Programs → Type 0
+abbrev pub ReadsIn : ProgramAt → Program → Programs → Type 0
 ReadsIn Runs program p = ReadsOn program p
-ReadsIn stage program p = Unit {0}
+ReadsIn at program p = Unit {0}
 
 pub record IsSound (program : Program) (p : Programs) : Type 0 where
   pub begun : IsBegun program p
-  pub waits : IsWaiting p.asking (stage_line p None program p.at)
+  pub waits : IsWaiting p.asking (program_line_at p None program p.at)
   pub reads : ReadsIn p.at program p

@@ -23,8 +23,8 @@ use Rattle.running.specs.declared.job.Job.{Job}
 use Rattle.running.specs.declared.job.Program.{Program}
 use Rattle.running.specs.declared.job.Program.TheVariants.{Key, Copy, Walk, Close}
 use Rattle.running.specs.declared.programs.Programs.{Programs}
-use Rattle.running.specs.declared.programs.Stage.{Stage}
-use Rattle.running.specs.declared.programs.Stage.TheVariants.{Runs}
+use Rattle.running.specs.declared.programs.ProgramAt.{ProgramAt}
+use Rattle.running.specs.declared.programs.ProgramAt.TheVariants.{Runs}
 use Rattle.running.specs.declared.ran.Ran.{Ran}
 use Rattle.running.specs.declared.ran.Ran.TheVariants.{Reading, Beside}
 use Rattle.running.specs.Places.{IsSound, generation_in, line_for, operation_for}
@@ -102,13 +102,13 @@ CanProgram scene (Copy call) = CanCopy scene.memory scene.table scene.programs.k
 CanProgram scene (Walk call) = CanWalk scene.memory.heap scene.programs.key.work.swap.read scene.programs.walk
 CanProgram scene Close = Unit {0}
 
-abbrev pub CanStage : Scene → Program → Stage → Type 0
-CanStage scene program Runs = CanProgram scene program
-CanStage scene program stage = Unit {0}
+abbrev pub CanProgramAt : Scene → Program → ProgramAt → Type 0
+CanProgramAt scene program Runs = CanProgram scene program
+CanProgramAt scene program at = Unit {0}
 
 -- What is going to be changed, or referred to, is in use, and of its kind; what lies in place has room; and what is held can be counted.
 pub record CanStep (scene : Scene) (program : Program) : Type 0 where
-  pub runs : CanStage scene program scene.programs.at
+  pub runs : CanProgramAt scene program scene.programs.at
   pub abort : CanAbortOn scene.memory scene.table (abort_of scene.programs.asking)
   pub ready : IsReadyBeside scene.memory scene.table.roots scene.programs.key.work.private
   pub attempts : scene.programs.copy.attempt < 2 ^ 64 - 1

@@ -10,7 +10,7 @@ ghost use Rattle.running.specs.Places.{asking_line, program_line, IsBegun, Reads
 ghost use Rattle.running.specs.Steps.{Does, scene, taken_beside};
 
 use crate::job::{Job, Program};
-use crate::programs::{Programs, Stage};
+use crate::programs::{ProgramAt, Programs};
 use ctrie_base::Kind;
 use operate::{Heap, KeyCall};
 use snapshot::{Asking, Roots};
@@ -32,12 +32,12 @@ impl Programs {
         requires begun { IsBegun program.now self.old }
         requires reads { ReadsOn program.now self.old }
         requires can { CanAbortOn heap.old roots.old (abort_of asking) }
-        ensures { Does job.now program.now (asking_line self.old program.now Stage.Runs asking)
+        ensures { Does job.now program.now (asking_line self.old program.now ProgramAt.Runs asking)
             (scene heap.old roots.old generation self.old) (taken_beside result) (scene heap.new roots.new generation self.new) }
     {
         let mut asking = asking;
         let kind = asking.step(roots, job.handle, heap);
-        self.at = Stage::Runs;
+        self.at = ProgramAt::Runs;
         self.asking = asking;
         kind
     }
@@ -57,7 +57,7 @@ impl Programs {
         requires begun { IsBegun program.now self.old }
         requires reads { ReadsOn program.now self.old }
         requires can { CanAbortOn heap.old roots.old (abort_of self.old.asking) }
-        ensures { Does job.now program.now (asking_line self.old program.now Stage.Runs self.old.asking)
+        ensures { Does job.now program.now (asking_line self.old program.now ProgramAt.Runs self.old.asking)
             (scene heap.old roots.old generation self.old) (taken_beside result) (scene heap.new roots.new generation self.new) }
     {
         let asking = self.asking;

@@ -6,7 +6,7 @@ ghost use Rattle.running.specs.Places.{program_line, IsNoKeyCall, ReadsOn};
 ghost use Rattle.running.specs.Steps.{CanProgram, Does, RoomFor, outcome_of, scene};
 
 use crate::job::{Job, Program};
-use crate::programs::{Programs, Stage};
+use crate::programs::{ProgramAt, Programs};
 use crate::ran::Ran;
 use ctrie_base::Kind;
 use operate::Heap;
@@ -76,25 +76,25 @@ impl Programs {
                 let kind = self.ask(Asking::Unasked, job, &program, roots, *generations, heap);
                 Ran::Beside(kind)
             }
-            Next::Done(kind, reply) => self.come_to(Stage::Swapped(reply), kind),
+            Next::Done(kind, reply) => self.come_to(ProgramAt::Swapped(reply), kind),
         }
     }
 
     /// The program took a step of this kind, and goes on.
     pub(crate) fn go_so(&mut self, kind: Kind) -> Ran
-        ensures same { self.new ≡ record self.old { at = Stage.Runs; asking = Asking.Unasked } }
+        ensures same { self.new ≡ record self.old { at = ProgramAt.Runs; asking = Asking.Unasked } }
         ensures ran { result ≡ Ran.Reading kind }
     {
         self.run_on();
         Ran::Reading(kind)
     }
 
-    /// The program took a step of this kind, and has come to this stage.
-    pub(crate) fn come_to(&mut self, stage: Stage, kind: Kind) -> Ran
-        ensures same { self.new ≡ record self.old { at = stage; asking = Asking.Unasked } }
+    /// The program took a step of this kind, and stands here now.
+    pub(crate) fn come_to(&mut self, at: ProgramAt, kind: Kind) -> Ran
+        ensures same { self.new ≡ record self.old { at = at; asking = Asking.Unasked } }
         ensures ran { result ≡ Ran.Reading kind }
     {
-        self.at = stage;
+        self.at = at;
         self.asking = Asking::Unasked;
         Ran::Reading(kind)
     }

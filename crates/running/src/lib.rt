@@ -19,9 +19,8 @@ mod walking;
 
 pub use job::{Job, Program};
 pub use operate::{
-    KeyCall, changed_at, entries_at, entry_at, flag_of, generation_at, make_changed, node_at,
-    release_all,
+    KeyCall, entries_at, entry_at, flag_of, generation_at, make_changed, node_at, release_all,
 };
-pub use programs::{Programs, Stage};
-pub use snapshot::{CopyCall, Roots, WalkCall};
+pub use programs::{ProgramAt, Programs};
+pub use snapshot::{CopyCall, Roots, WalkCall, opened_root};
 pub use taken::Taken;

@@ -22,7 +22,7 @@ use std::alloc::Global;
 
 /// How far an operation has come.
 #[derive(Clone, Copy)]
-pub enum Stage {
+pub enum ProgramAt {
     /// Its program runs.
     Runs,
     /// It was a call on one key, and has ended with this reply.
@@ -37,7 +37,7 @@ pub enum Stage {
 
 /// The programs of an actor's operations, kept in place: one at most is under way.
 pub struct Programs {
-    pub(crate) at: Stage,
+    pub(crate) at: ProgramAt,
     pub(crate) asking: Asking,
     /// The calls on one key; its READ and its private list are those of all.
     pub(crate) key: KeyOp,
@@ -65,7 +65,7 @@ impl Programs {
         ensures private { result.key.work.private ≡ [] }
     {
         Programs {
-            at: Stage::Impossible,
+            at: ProgramAt::Impossible,
             asking: Asking::Unasked,
             key: KeyOp::new(hashes),
             copy: CopyOp::new(),
@@ -145,11 +145,11 @@ impl Programs {
             (scene heap.old roots.old generations.old self.old) result (scene heap.new roots.new generations.new self.new) }
     {
         match &self.at {
-            Stage::Runs => self.step_running(job, program, roots, generations, heap),
-            Stage::Answered(_) => Taken::of_kind(Kind::End),
-            Stage::Swapped(_) => Taken::of_kind(Kind::End),
-            Stage::Walked(_) => Taken::of_kind(Kind::End),
-            Stage::Impossible => Taken::of_kind(Kind::ReadRoot),
+            ProgramAt::Runs => self.step_running(job, program, roots, generations, heap),
+            ProgramAt::Answered(_) => Taken::of_kind(Kind::End),
+            ProgramAt::Swapped(_) => Taken::of_kind(Kind::End),
+            ProgramAt::Walked(_) => Taken::of_kind(Kind::End),
+            ProgramAt::Impossible => Taken::of_kind(Kind::ReadRoot),
         }
     }
 
@@ -164,7 +164,7 @@ impl Programs {
         generations: &mut u64,
         heap: &mut Heap,
     ) -> Taken
-        requires runs { self.old.at ≡ Stage.Runs }
+        requires runs { self.old.at ≡ ProgramAt.Runs }
         requires program { CanProgram (scene heap.old roots.old generations.old self.old) program.now }
         requires room { RoomFor program.now self.old }
         requires abort { CanAbortOn heap.old roots.old (abort_of self.old.asking) }
@@ -174,7 +174,7 @@ impl Programs {
         requires begun { IsBegun program.now self.old }
         requires sound { IsWaiting self.old.asking (program_line self.old None program.now) }
         requires reads { ReadsOn program.now self.old }
-        ensures { Does job.now program.now (asking_line self.old program.now Stage.Runs self.old.asking)
+        ensures { Does job.now program.now (asking_line self.old program.now ProgramAt.Runs self.old.asking)
             (scene heap.old roots.old generations.old self.old) result (scene heap.new roots.new generations.new self.new) }
     {
         match &self.asking {
@@ -201,7 +201,7 @@ impl Programs {
         generations: &mut u64,
         heap: &mut Heap,
     ) -> Taken
-        requires runs { self.old.at ≡ Stage.Runs }
+        requires runs { self.old.at ≡ ProgramAt.Runs }
         requires untold { root_seen ≡ None → self.old.asking ≡ Asking.Unasked }
         requires program { CanProgram (scene heap.old roots.old generations.old self.old) program.now }
         requires room { RoomFor program.now self.old }
@@ -233,7 +233,7 @@ impl Programs {
         generation: u64,
         heap: &mut Heap,
     ) -> Taken
-        requires runs { self.old.at ≡ Stage.Runs }
+        requires runs { self.old.at ≡ ProgramAt.Runs }
         requires untold { root_seen ≡ None → self.old.asking ≡ Asking.Unasked }
         requires can { CanKey heap.old roots.old self.old.key }
         requires ready { IsReadyBeside heap.old roots.old.roots self.old.key.work.private }
@@ -249,7 +249,7 @@ impl Programs {
                 Taken::of_kind(kind)
             }
             Next::Done(kind, reply) => {
-                self.come_by_key(Stage::Answered(reply), is_reading, kind)
+                self.come_by_key(ProgramAt::Answered(reply), is_reading, kind)
             }
         }
     }
@@ -257,11 +257,11 @@ impl Programs {
     /// Its program runs on, and knows nothing of the root. Where that is so already nothing is written.
     #[inline(always)]
     pub(crate) fn run_on(&mut self)
-        ensures { self.new ≡ record self.old { at = Stage.Runs; asking = Asking.Unasked } }
+        ensures { self.new ≡ record self.old { at = ProgramAt.Runs; asking = Asking.Unasked } }
     {
         match &self.at {
-            Stage::Runs => {}
-            _ => self.at = Stage::Runs,
+            ProgramAt::Runs => {}
+            _ => self.at = ProgramAt::Runs,
         }
         match &self.asking {
             Asking::Unasked => {}
@@ -273,9 +273,9 @@ impl Programs {
     /// and then nothing is written.
     #[inline(always)]
     fn go_by_key(&mut self, root_seen: Option<u64>, is_reading: bool, kind: Kind) -> Taken
-        requires runs { self.old.at ≡ Stage.Runs }
+        requires runs { self.old.at ≡ ProgramAt.Runs }
         requires untold { root_seen ≡ None → self.old.asking ≡ Asking.Unasked }
-        ensures same { self.new ≡ record self.old { at = Stage.Runs; asking = Asking.Unasked } }
+        ensures same { self.new ≡ record self.old { at = ProgramAt.Runs; asking = Asking.Unasked } }
         ensures taken { result ≡ taken_in is_reading kind self.old.key.work.swap.read.at }
     {
         if root_seen.is_some() {
@@ -284,13 +284,13 @@ impl Programs {
         Taken::by_key(is_reading, kind, &self.key.work.swap.read.at)
     }
 
-    /// The call on one key took a step of this kind, was in a READ or not, and has come to this stage.
+    /// The call on one key took a step of this kind, was in a READ or not, and stands here now.
     #[inline(always)]
-    fn come_by_key(&mut self, stage: Stage, is_reading: bool, kind: Kind) -> Taken
-        ensures same { self.new ≡ record self.old { at = stage; asking = Asking.Unasked } }
+    fn come_by_key(&mut self, at: ProgramAt, is_reading: bool, kind: Kind) -> Taken
+        ensures same { self.new ≡ record self.old { at = at; asking = Asking.Unasked } }
         ensures taken { result ≡ taken_in is_reading kind self.old.key.work.swap.read.at }
     {
-        self.at = stage;
+        self.at = at;
         self.asking = Asking::Unasked;
         Taken::by_key(is_reading, kind, &self.key.work.swap.read.at)
     }

@@ -12,7 +12,7 @@ ghost use Rattle.running.specs.Beneath.rdcss_root.specs.Tables.{Table};
 ghost use Rattle.running.specs.Places.{asking_line, generation_in, line_for, operation_for, program_line, IsSound, IsWaiting};
 
 use crate::job::{Job, Program};
-use crate::programs::{Programs, Stage};
+use crate::programs::{ProgramAt, Programs};
 use ctrie_base::Kind;
 use operate::{KeyReply, Publication};
 use snapshot::{Access, Asking, CopyReply, Reply};
@@ -27,14 +27,14 @@ impl Programs {
         ensures same { self.new ≡ record self.old { walk = self.new.walk } }
     {
         match &self.at {
-            Stage::Runs => self.at_once(program),
-            Stage::Answered(reply) => Some(key_reply(*reply)),
-            Stage::Swapped(reply) => Some(reply_of(*reply)),
-            Stage::Walked(call) => {
+            ProgramAt::Runs => self.at_once(program),
+            ProgramAt::Answered(reply) => Some(key_reply(*reply)),
+            ProgramAt::Swapped(reply) => Some(reply_of(*reply)),
+            ProgramAt::Walked(call) => {
                 let call = *call;
                 Some(self.walk.take_reply(call))
             }
-            Stage::Impossible => None,
+            ProgramAt::Impossible => None,
         }
     }
 
@@ -43,11 +43,11 @@ impl Programs {
         ensures { IfOk result (λ reply. reply ≡ answer_of (line_for program self.now)) }
     {
         Ok(match &self.at {
-            Stage::Runs => self.at_once(program),
-            Stage::Answered(reply) => Some(key_reply(*reply)),
-            Stage::Swapped(reply) => Some(reply_of(*reply)),
-            Stage::Walked(call) => Some(self.walk.copy_reply(*call)?),
-            Stage::Impossible => None,
+            ProgramAt::Runs => self.at_once(program),
+            ProgramAt::Answered(reply) => Some(key_reply(*reply)),
+            ProgramAt::Swapped(reply) => Some(reply_of(*reply)),
+            ProgramAt::Walked(call) => Some(self.walk.copy_reply(*call)?),
+            ProgramAt::Impossible => None,
         })
     }
 
@@ -57,22 +57,22 @@ impl Programs {
         ensures { result ≡ is_some (answer_of (line_for program.now self.now)) }
     {
         match &self.at {
-            Stage::Runs => self.is_at_end(program),
+            ProgramAt::Runs => self.is_at_end(program),
             _ => self.is_over_at(program),
         }
     }
 
-    /// The same, whatever its stage.
+    /// The same, wherever it stands.
     #[inline(never)]
     fn is_over_at(&self, program: &Program) -> bool
         ensures { result ≡ is_some (answer_of (line_for program.now self.now)) }
     {
         match &self.at {
-            Stage::Runs => self.is_at_end(program),
-            Stage::Answered(_) => true,
-            Stage::Swapped(_) => true,
-            Stage::Walked(_) => true,
-            Stage::Impossible => false,
+            ProgramAt::Runs => self.is_at_end(program),
+            ProgramAt::Answered(_) => true,
+            ProgramAt::Swapped(_) => true,
+            ProgramAt::Walked(_) => true,
+            ProgramAt::Impossible => false,
         }
     }
 
@@ -123,11 +123,11 @@ impl Programs {
         ensures { (table : Table) (operation : Operation) → result ≡ published_by (operation_for job.now program.now table self.now operation) (line_for program.now self.now) }
     {
         match &self.at {
-            Stage::Runs => self.published_by_program(job, program),
-            Stage::Answered(_) => None,
-            Stage::Swapped(_) => None,
-            Stage::Walked(_) => None,
-            Stage::Impossible => None,
+            ProgramAt::Runs => self.published_by_program(job, program),
+            ProgramAt::Answered(_) => None,
+            ProgramAt::Swapped(_) => None,
+            ProgramAt::Walked(_) => None,
+            ProgramAt::Impossible => None,
         }
     }
 
@@ -151,17 +151,17 @@ impl Programs {
         ensures { (state : State) (operation : Operation) → result ≡ kind_of (line_action state operation (line_for program self.now)) }
     {
         match &self.at {
-            Stage::Runs => self.running_kind(program),
-            Stage::Answered(_) => Kind::End,
-            Stage::Swapped(_) => Kind::End,
-            Stage::Walked(_) => Kind::End,
-            Stage::Impossible => Kind::ReadRoot,
+            ProgramAt::Runs => self.running_kind(program),
+            ProgramAt::Answered(_) => Kind::End,
+            ProgramAt::Swapped(_) => Kind::End,
+            ProgramAt::Walked(_) => Kind::End,
+            ProgramAt::Impossible => Kind::ReadRoot,
         }
     }
 
     fn running_kind(&self, program: Program) -> Kind
         requires waits { IsWaiting self.now.asking (program_line self.now None program) }
-        ensures { (state : State) (operation : Operation) → result ≡ kind_of (line_action state operation (asking_line self.now program Stage.Runs self.now.asking)) }
+        ensures { (state : State) (operation : Operation) → result ≡ kind_of (line_action state operation (asking_line self.now program ProgramAt.Runs self.now.asking)) }
     {
         match &self.asking {
             Asking::Unasked => self.kind_of_program(program, None),

@@ -5,7 +5,7 @@ ghost use Rattle.snapshot.specs.Walks.{CanWalk, HasRoom, walk_line};
 ghost use Rattle.running.specs.Steps.{Does, outcome_of, scene};
 
 use crate::job::{Job, Program};
-use crate::programs::{Programs, Stage};
+use crate::programs::{ProgramAt, Programs};
 use crate::ran::Ran;
 use operate::Heap;
 use snapshot::{Asking, Next, Roots, WalkCall, Walked};
@@ -38,8 +38,8 @@ impl Programs {
                 let kind = self.ask(Asking::Unasked, job, &program, roots, generation, heap);
                 Ran::Beside(kind)
             }
-            Next::Done(kind, Walked::All) => self.come_to(Stage::Walked(call), kind),
-            Next::Done(kind, Walked::Impossible) => self.come_to(Stage::Impossible, kind),
+            Next::Done(kind, Walked::All) => self.come_to(ProgramAt::Walked(call), kind),
+            Next::Done(kind, Walked::Impossible) => self.come_to(ProgramAt::Impossible, kind),
         }
     }
 }

@@ -30,7 +30,8 @@ use Rattle.script_commands.specs.Beneath.proof_obstruction_free.specs.Closes.{Cl
 use Rattle.script_commands.specs.Beneath.proof_obstruction_free.specs.Laws.{AloneItEnds, HasEnded, alone_after, history_after, most_steps_alone}
 use Rattle.script_commands.specs.Beneath.proof_runs.specs.Ending.{IsSure}
 use Rattle.script_commands.specs.Beneath.proof_runs.specs.Machines.{Taken, past_of, state_of}
-use Rattle.script_commands.specs.Beneath.proof_runs.proofs.Ending.{begun_runs_on, of_bounded, sure_behind}
+use Rattle.script_commands.specs.Beneath.proof_runs.proofs.Ending.{begun_runs_on, sure_behind}
+use Rattle.script_commands.specs.Beneath.proof_obstruction_free.proofs.Resting.{of_no_walk}
 use Rattle.script_text.specs.declared.commands.Command.{Command}
 use Rattle.script_text.specs.declared.commands.Command.TheVariants.{Begin, Go, Until, Finish, Do, Sweep}
 use Rattle.script_text.specs.Grammar.{CommandFits}
@@ -148,7 +149,7 @@ module _ (limits : Bounds) (steps : List Step) (actor : ℕ) (operation : Operat
   ended law closes sizes keys runs sure =
       let most : (run limits steps).limits.steps ≡ limits.steps = ap (λ (l : Bounds). l.steps) (limits_along limits steps) in
       let left : (run limits steps).steps + most_steps_alone ≤ limits.steps = omega (arith, sure.1, most) in
-      elim (of_bounded operation.call sure.0) [
+      elim (of_no_walk operation.call sure.0) [
         | inl call ↦ ended_by most_steps_alone 12422 refl (law limits steps actor operation (record { limits_ok = sizes; keys_fit = keys; runs = runs; call = call; left = left }))
         | inr closing ↦ ended_by 1 16383 refl (closes limits steps actor operation runs closing (omega (arith, left))).1
       ]

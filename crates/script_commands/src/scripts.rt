@@ -28,6 +28,9 @@ fn carried_out(alloc: Global, text: &[u8]) -> Result<String, Fault>
 }
 
 /// Reads a script to its end, carries it out, and writes the report.
+///
+/// `Line` tells a fault of the text and where it is; `Read` and `Write` a failed call of the reader or the writer; else
+/// it is `Memory`. A beginning of the report may be written before `Write`, and nothing before the others.
 pub fn run_script<R: Read, W: Write>(
     alloc: Global,
     input: &mut Counted<R>,

@@ -19,6 +19,7 @@ use Rattle.text_lines.proofs.Whole.{Leads, text_leads}
 use Rattle.history_text.specs.Lines.{header_of}
 use Rattle.history_text.proofs.FoundReplies.{header_found, cons_same}
 use Rattle.machine_model.specs.declared.steps.Limits.{Limits}
+use Rattle.machine_model.specs.Limits.{AreLimits}
 use Rattle.script_text.specs.declared.commands.Command.{Command}
 use Rattle.script_text.specs.declared.reading.Script.{Script}
 use Rattle.script_text.specs.Headers.{header_value, header_number, slots_of, actors_of}
@@ -26,7 +27,7 @@ use Rattle.script_text.specs.Commands.{command_of}
 use Rattle.script_text.specs.Scripts.{Progress, Start, Sized, Hashed, InLines, words_after, all_read}
 use Rattle.script_text.specs.Reading.{Reading, script_format, script_of}
 use Rattle.script_text.specs.Views.{read}
-use Rattle.script_text.specs.Grammar.{command_words, script_lines, CommandFits, LimitsFit, IsSpelling}
+use Rattle.script_text.specs.Grammar.{command_words, script_lines, CommandFits, IsSpelling}
 use Rattle.script_text.proofs.FoundCommands.{command_found, two}
 use Rattle.history_text.proofs.FoundLines.{line_of}
 
@@ -119,7 +120,7 @@ behind_slots (l ∷ more) slots end script leads done =
     )
 
 from_start : (lines : List (List ℕ)) (end : Progress Command) (script : Reading) → Leads script_format Start lines end → all_read end ≡ Ok script
-    → (lines ≡ script_lines script) × LimitsFit script.limits × AllByRecursion CommandFits script.lines
+    → (lines ≡ script_lines script) × AreLimits script.limits × AllByRecursion CommandFits script.lines
 unfolding words_after
 from_start [] end script leads done = absurd (let none = ap all_read leads ∙ done in cc)
 from_start (l ∷ more) end script leads done =

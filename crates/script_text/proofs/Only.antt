@@ -18,6 +18,7 @@ use Rattle.history_text.specs.Lines.{header_of}
 use Rattle.history_text.specs.Texts.{call_words}
 use Rattle.history_text.proofs.AgainReplies.{header_again, clean_hash, clean_call}
 use Rattle.machine_model.specs.declared.steps.Limits.{Limits}
+use Rattle.machine_model.specs.Limits.{AreLimits}
 use Rattle.script_text.specs.declared.commands.Command.{Command}
 use Rattle.script_text.specs.declared.commands.Command.TheVariants.{Begin, Go, Until, Finish, Do, Sweep}
 use Rattle.script_text.specs.declared.reading.Script.{Script}
@@ -25,7 +26,7 @@ use Rattle.script_text.specs.Headers.{header_value, header_number, slots_of, act
 use Rattle.script_text.specs.Scripts.{Progress, Start, Sized, Hashed, InLines, words_after}
 use Rattle.script_text.specs.Reading.{Reading, command_dialect, script_format, script_of}
 use Rattle.script_text.specs.Views.{read}
-use Rattle.script_text.specs.Grammar.{command_words, script_lines, CommandFits, IsActor, IsTimes, IsOfOperation, LimitsFit, IsSpelling, IsShort}
+use Rattle.script_text.specs.Grammar.{command_words, script_lines, CommandFits, IsActor, IsTimes, IsOfOperation, IsSpelling, IsShort}
 use Rattle.script_text.proofs.AgainCommands.{command_again}
 
 -- The words of the lines.
@@ -86,7 +87,7 @@ hash_again : (k : HashKind) → header_of (words_of (spaced (codes "hash" ∷ ha
 hash_again k = ap header_of (words_again (codes "hash") (hashes.name_of k ∷ []) (clean (codes "hash") refl) (clean_hash k, tt)) ∙ header_again k
 
 -- a script's lines lead to it
-script_leads : (script : Reading) → LimitsFit script.limits → AllByRecursion CommandFits script.lines
+script_leads : (script : Reading) → AreLimits script.limits → AllByRecursion CommandFits script.lines
     → Leads script_format Start (script_lines script) (InLines script.limits script.lines)
 unfolding words_after
 script_leads script f each =

@@ -11,6 +11,7 @@ use Rattle.text_lines.specs.Texts.{said_lines, HasLines}
 use Rattle.history_text.specs.Texts.{call_words}
 use Rattle.history_text.specs.Grammar.{CallFits}
 use Rattle.machine_model.specs.declared.steps.Limits.{Limits}
+use Rattle.machine_model.specs.Limits.{AreLimits}
 use Rattle.script_text.specs.declared.commands.Command.{Command}
 use Rattle.script_text.specs.declared.commands.Command.TheVariants.{Begin, Go, Until, Finish, Do, Sweep}
 use Rattle.script_text.specs.Reading.{Reading, script_format}
@@ -57,12 +58,9 @@ CommandFits (Finish actor) = IsActor actor
 CommandFits (Do actor call) = IsActor actor × CallFits call
 CommandFits (Sweep times) = IsTimes times
 
-abbrev pub LimitsFit : Limits → Type 0
-LimitsFit limits = (2 ≤ limits.slots) × (limits.slots ≤ 65536) × (1 ≤ limits.actors) × (limits.actors ≤ 64)
-
 -- the text's lines that aren't ignored are those of the script, all of it in range
 abbrev pub IsSpelling : List ℕ → Reading → Type 0
-IsSpelling text script = (said_lines text ≡ script_lines script) × LimitsFit script.limits × AllByRecursion CommandFits script.lines
+IsSpelling text script = (said_lines text ≡ script_lines script) × AreLimits script.limits × AllByRecursion CommandFits script.lines
 
 abbrev pub IsShort : List ℕ → Type 0
 IsShort text = HasLines script_format.most_lines text

@@ -18,7 +18,7 @@ use Rattle.ctrie_map.specs.Performing.{copy_call}
 use Rattle.shared_map.specs.Answering.{RepliesAll}
 use Rattle.shared_map.specs.Asking.{IsKnown, IsNumber, denial_from}
 use Rattle.shared_map.specs.Asks.{Replied}
-use Rattle.shared_map.specs.Beneath.proof_alone.specs.Calls.{slots_of}
+use Rattle.shared_map.specs.Beneath.proof_obstruction_free.specs.Calls.{slots_of}
 use Rattle.shared_map.specs.Shards.{AreShards, IsAnyTight, is_any_worn_out, worlds_of}
 use Rattle.shared_map.specs.Turning.{AreAllowed, HasNext, HaveTurned, Turns, call_of, reply_of}
 use Rattle.shared_map.specs.Uniting.{pairs_at}

@@ -22,7 +22,7 @@ use Rattle.ctrie_map.specs.Restoring.{HasLifeIfTried, RefusesRestore, is_worn_ou
 use Rattle.ctrie_map.proofs.Named.{at_other, at_same}
 use Rattle.shared_map.specs.Answering.{AnswersAll, RestoresAll, WorkUpTo}
 use Rattle.shared_map.specs.Asks.{Told, answer_to_restore, told_as}
-use Rattle.shared_map.specs.Beneath.proof_alone.specs.Calls.{slots_of}
+use Rattle.shared_map.specs.Beneath.proof_obstruction_free.specs.Calls.{slots_of}
 use Rattle.shared_map.specs.Restores.{RestoresAmong, restore_denial_among, work_of_a_restore}
 use Rattle.shared_map.specs.Restoring.{AreUndenied, ComesTo, IsRestoredAlone, RestoresEach, RestoresOne, restore_denial_from}
 use Rattle.shared_map.specs.Shards.{AreShards, IsAnyTight, is_any_worn_out_to_restore, last_given, world_of_all, worlds_of}

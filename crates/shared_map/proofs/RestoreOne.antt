@@ -9,7 +9,7 @@ use Rattle.ctrie_map.specs.declared.errors.MapError.{MapError}
 use Rattle.ctrie_map.specs.declared.errors.MapError.TheVariants.{Full, WornOut}
 use Rattle.ctrie_map.specs.Maps.{MapState, free_of, handles_of}
 use Rattle.ctrie_map.specs.Restoring.{RefusesRestore, is_worn_out_to_restore, restore_denial}
-use Rattle.shared_map.specs.Beneath.proof_alone.specs.Calls.{slots_of}
+use Rattle.shared_map.specs.Beneath.proof_obstruction_free.specs.Calls.{slots_of}
 use Rattle.shared_map.specs.Restores.{work_of_a_restore}
 use Rattle.shared_map.specs.Restoring.{ComesTo}
 use Rattle.shared_map.specs.Turning.{HasBecome, map_shown, turned}

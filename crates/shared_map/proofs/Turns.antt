@@ -5,7 +5,7 @@ use Rattle.std.proofs.lemmas.Option.{same_Some}
 use Rattle.history.specs.declared.calls.Call.{Call}
 use Rattle.ctrie_map.specs.Cores.{is_worn_out}
 use Rattle.ctrie_map.specs.Maps.{MapState, free_of}
-use Rattle.shared_map.specs.Beneath.proof_alone.specs.Calls.{slots_of}
+use Rattle.shared_map.specs.Beneath.proof_obstruction_free.specs.Calls.{slots_of}
 use Rattle.shared_map.specs.Shards.{IsAnyTight, is_any_worn_out}
 use Rattle.shared_map.specs.Turning.{AreAllowed, HaveTurned, Turns, call_of}
 use Rattle.shared_map.specs.Visits.{VisitedEach}

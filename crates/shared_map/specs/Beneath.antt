@@ -4,6 +4,6 @@ pub use Rattle.sharded_gate as sharded_gate
 pub use Rattle.gate as gate
 pub use Rattle.ctrie_map.specs.Beneath.machine_core as machine_core
 pub use Rattle.ctrie_map.specs.Beneath.proof_core as proof_core
-pub use Rattle.ctrie_map.specs.Beneath.proof_alone as proof_alone
+pub use Rattle.ctrie_map.specs.Beneath.proof_obstruction_free as proof_obstruction_free
 pub use Rattle.ctrie_map.specs.Beneath.proof_contents as proof_contents
 pub use Rattle.ctrie_map.specs.Beneath.slot_arena as slot_arena

@@ -5,7 +5,7 @@ use Rattle.ctrie_base.specs.declared.hashes.HashKind.{HashKind}
 use Rattle.history.specs.declared.calls.Access.{Access}
 use Rattle.history.specs.declared.calls.Call.{Call}
 use Rattle.history.specs.Worlds.{HandleMap}
-use Rattle.ctrie_map.specs.Beneath.proof_alone.specs.Calls.{slots_of}
+use Rattle.ctrie_map.specs.Beneath.proof_obstruction_free.specs.Calls.{slots_of}
 use Rattle.ctrie_map.specs.Beneath.proof_obstruction_free.specs.Slots.{most_makes_alone}
 use Rattle.ctrie_map.specs.Changes.{LacksSlots}
 use Rattle.ctrie_map.specs.Cores.{IsTight, is_worn_out}

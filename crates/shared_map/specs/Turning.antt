@@ -17,7 +17,7 @@ use Rattle.ctrie_map.specs.Denials.{denial_by}
 use Rattle.ctrie_map.specs.Maps.{MapState, free_of, handles_of}
 use Rattle.ctrie_map.specs.Names.{IsNext}
 use Rattle.ctrie_map.specs.Performing.{copy_call}
-use Rattle.shared_map.specs.Beneath.proof_alone.specs.Calls.{slots_of}
+use Rattle.shared_map.specs.Beneath.proof_obstruction_free.specs.Calls.{slots_of}
 use Rattle.shared_map.specs.declared.turning.Turn.{Turn}
 use Rattle.shared_map.specs.declared.turning.Turn.TheVariants as turn
 use Rattle.shared_map.specs.declared.turning.Turning.{Turning}

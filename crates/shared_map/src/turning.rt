@@ -3,7 +3,7 @@
 ghost use Rattle.std.specs.Prelude.{◌≡◌};
 ghost use Rattle.machine_model.specs.Calls.{opens_handle};
 ghost use Rattle.ctrie_map.specs.Changes.{changes_map};
-ghost use Rattle.shared_map.specs.Beneath.proof_alone.specs.Calls.{slots_of};
+ghost use Rattle.shared_map.specs.Beneath.proof_obstruction_free.specs.Calls.{slots_of};
 ghost use Rattle.shared_map.specs.Turning.{Turns, call_of, reply_of};
 
 use ctrie_map::{Handle, Map};

@@ -1,5 +1,5 @@
 -- What holds of an arena in which a slot was made: what waits, and what is live.
-use Rattle.std.proofs.Common.{◌≡◌, ℕ, ◌<◌, ◌==◌, ◌∷◌, length, get_or, set, slice_index, Option, Some, None, refl, sym, ap, ◌∙◌, inl, inr, arith, eq-eqb}
+use Rattle.std.proofs.Common.{◌≡◌, ℕ, ◌<◌, ◌==◌, ◌∷◌, false, length, get_or, set, slice_index, Option, Some, None, refl, sym, ap, ◌∙◌, inl, inr, arith, eq-eqb}
 use Rattle.std.proofs.lemmas.Bool.{cases_eq}
 use Rattle.std.proofs.lemmas.List.{get_or-set_same, get_or-set_other}
 use Rattle.slot_arena.specs.declared.refs.Ref.{Ref}
@@ -8,12 +8,12 @@ use Rattle.slot_arena.specs.Refs.{ref_to, birth_of, most_slots}
 use Rattle.slot_arena.specs.Times.{times}
 use Rattle.slot_arena.specs.Tallies.{Tally, NotesZeros}
 use Rattle.slot_arena.specs.Chains.{Chain}
-use Rattle.slot_arena.specs.Arenas.{Contents, IsLive, NotesWaiting}
+use Rattle.slot_arena.specs.Arenas.{Contents, IsLive, NotesWaiting, has_birth, is_live}
 use Rattle.slot_arena.specs.Kept.{live, IsKept}
 use Rattle.slot_arena.proofs.Waiting.{born, waits_by, notes_by}
 use Rattle.slot_arena.proofs.Makes.{first_unused}
 use Rattle.slot_arena.proofs.Written.{born_set, live_stays}
-use Rattle.slot_arena.proofs.Reading.{live_seen, live_shown}
+use Rattle.slot_arena.proofs.Reading.{live_is, live_seen, live_shown}
 use Rattle.slot_arena.proofs.Changed.{live_here}
 use Rattle.slot_arena.proofs.Live.{slot_of_ref, birth_of_ref}
 
@@ -60,3 +60,10 @@ module _
         live_shown now.heap (ref_to slot.birth at)
         (ap (λ s. live s (ref_to slot.birth at)) filled ∙ live_here was.heap.slots at (Some slot) (ref_to slot.birth at) within (slot_of_ref slot.birth at small)
         ∙ eq-eqb slot.birth (birth_of (ref_to slot.birth at)) (sym (birth_of_ref slot.birth at small)))
+
+    -- which wasn't before
+    pub made_fresh : at < free.size → is_live was.heap (ref_to slot.birth at) ≡ false
+    made_fresh below =
+        let small : at < most_slots = let few = kept.few in let is = kept.chained in omega arith in
+        let its_birth : ℕ = birth_of (ref_to slot.birth at) in
+        live_is was.heap (ref_to slot.birth at) ∙ ap (λ i. has_birth its_birth (get_or was.heap.slots i None)) (slot_of_ref slot.birth at small) ∙ ap (has_birth its_birth) empty

@@ -116,6 +116,7 @@ impl Arena {
         ensures heap { self.new.heap ≡ taken self.old.heap (changed_branch bitmap change (node_at self.old.heap from)) }
         ensures outside { self.new.outside ≡ refs_of_option result ++ self.old.outside }
         ensures lives { IfSome result (IsLive self.new.heap) }
+        ensures fresh { IfSome result (λ r. is_live self.old.heap r ≡ false) }
         ensures stay { (q : Ref) → IsLive self.old.heap q → IsLive self.new.heap q }
         ensures noted { NotesWaiting self.old self.new }
         ensures few { length self.new.noted ≤ length self.old.noted + 32 }

@@ -29,6 +29,6 @@ mod walk;
 pub use copy_op::{CopyAt, CopyOp, Making};
 pub use history::{Access, Reply};
 pub use laws::{draws_generations, tells_copy, tells_walk};
-pub use root_asking::{Asking, Next, ReadAt, Roots};
+pub use root_asking::{Asking, Next, ReadAt, Roots, opened_root};
 pub use tasks::{CopyCall, CopyReply, CopyTask, WalkCall};
 pub use walk::{Walk, WalkAt, Walked};

@@ -29,7 +29,6 @@ use Rattle.machine_core.specs.declared.telling.Stepped.{Stepped}
 use Rattle.machine_core.specs.Told.{TellsBegin, TellsEnd, TellsStep}
 use Rattle.proof_runs.specs.Tellings.{CanTell, TellingsFit}
 use Rattle.step_machine.specs.Beneath.proof_core.specs.Bounds.{Answers, Applies}
-use Rattle.proof_runs.specs.Machines.{Applied, Taken, state_of, with_step}
 use Rattle.step_machine.specs.Taking.{HasTaken, TakesAndTells}
 use Rattle.machine_core.proofs.Steps.{denied}
 use Rattle.step_machine.proofs.Denials.{allowed, never_memory, not_for_memory}
@@ -136,16 +135,6 @@ pub sweep_told : (result : Result Outcome Refusal) (before after : State) (kept 
 sweep_told (Ok o) before after kept e = (e, sym (recorded_so before kept.past step.Sweep o after told.Swept e refl), refl)
 sweep_told (Err refusal) before after kept e = denied_kept before after kept step.Sweep refusal e.0 e.1
 
--- ---- what a machine says of it
+-- ---- what a step tells
 
-pub applied_so : (result : Result Outcome Refusal) (machine next_machine : Taken) (s : Step) (before after : State) (kept now : Chronicled) → before ≡ state_of machine →
-    after ≡ state_of next_machine →
-    TakesAndTells result before kept s after now → ((o : Outcome) → result ≡ Ok o → next_machine ≡ with_step machine s) → ((r : Refusal) → result ≡ Err r → next_machine ≡ machine) →
-    Applied result machine s next_machine
-applied_so (Ok o) machine next_machine s before after kept now was is e taken same =
-    (taken o refl, subst (λ state. next (state_of machine) s ≡ Ok (o, state)) is (subst (λ state. next state s ≡ Ok (o, after)) was e.0))
-applied_so (Err refuse.Memory) machine next_machine s before after kept now was is e taken same = (same refuse.Memory refl, subst (λ state. denial_of state s ≡ None) was e.2)
-applied_so (Err r) machine next_machine s before after kept now was is e taken same = (same r refl, subst (λ state. next state s ≡ Err r) was e.2)
-
--- what a step tells
 pub ruleset feeds = (can_begin, can_go, can_end, recorded_so, denied_kept, go_kept, wanting_kept, sweep_told)

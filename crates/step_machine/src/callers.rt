@@ -11,7 +11,8 @@ ghost use Rattle.step_machine.specs.Beneath.proof_core.specs.Going.{goes_on};
 ghost use Rattle.machine_core.specs.Told.{published_in};
 ghost use Rattle.proof_runs.specs.Callers.{Stepped, Replies, Resumes, Completes, Reclaims};
 ghost use Rattle.machine_model.specs.Machine.{is_busy, next_kind};
-ghost use Rattle.proof_runs.specs.Reclaiming.{UsesReached, LooksSame, SweepsFew};
+ghost use Rattle.proof_runs.specs.Reclaiming.{LooksSame, SweepsFew};
+ghost use Rattle.step_machine.specs.Beneath.proof_obstruction_free.specs.Sweeping.{UsesReached};
 ghost use Rattle.proof_runs.specs.Legality.{ActedAlone, RestsIfAnswered, WentAlone};
 ghost use Rattle.proof_runs.specs.Ending.{CompletesIfSure, IsSpared, ResumesIfSure};
 
@@ -28,13 +29,13 @@ impl Machine {
     /// happens to no call but entries and count while enough steps are left. What denies the
     /// begin is answered, and nothing has changed then. After `Memory` or `Spent` the steps taken so far stand:
     /// an operation that began still runs. `Memory` is answered only where nothing denies the next step. From
-    /// rest, an operation that ends enters the order last, and the contents change by its call, with its
-    /// reply; where it is refused for want of slots, neither changes. The machine is at rest again then. Nor is a
-    /// call that is sure to end refused so where 570 slots are free; a snapshot, a freeze or a clear isn't where 23
-    /// are, and a close never is.
+    /// rest, the history grows by the begin and the end of an operation that ends; it enters the order last, and
+    /// the contents change by its call, with its reply; where it is refused for want of slots, neither order nor
+    /// contents change. The machine is at rest again then. Nor is a call that is sure to end refused so where 570
+    /// slots are free; a snapshot, a freeze or a clear isn't where 23 are, and a close never is.
     pub fn complete(&mut self, actor: u8, call: Call) -> Result<Option<Reply>, Refusal>
         ensures steps { Completes result self.old actor call self.new }
-        ensures alone { is_busy (state_of self.old) ≡ false → ActedAlone result self.old call self.new }
+        ensures alone { is_busy (state_of self.old) ≡ false → ActedAlone result self.old actor call self.new }
         ensures rests { is_busy (state_of self.old) ≡ false → RestsIfAnswered result self.new }
         ensures ends { CompletesIfSure self.old actor call result }
         ensures spare { IsSpared self.old call result }
@@ -69,7 +70,7 @@ impl Machine {
     /// taken steps since it began at rest, an answer is as if `complete` had given it.
     pub fn resume(&mut self, actor: u8) -> Result<Option<Reply>, Refusal>
         ensures steps { Resumes result self.old actor self.new }
-        ensures alone { (before : Taken) (call : Call) → WentAlone before actor call self.old → ActedAlone result before call self.new }
+        ensures alone { (before : Taken) (call : Call) → WentAlone before actor call self.old → ActedAlone result before actor call self.new }
         ensures rests { (before : Taken) (call : Call) → WentAlone before actor call self.old → RestsIfAnswered result self.new }
         ensures ends { ResumesIfSure self.old actor result }
         ensures spare { (before : Taken) (call : Call) → WentAlone before actor call self.old → IsSpared before call result }

@@ -183,7 +183,7 @@ impl Machine {
         self.denial(step).unwrap_or(Refusal::Memory)
     }
 
-    /// The same of the actor's next step. It is made here, and not where there is room.
+    /// Why the actor's next step is refused for which there is no room. It is made here, and not where there is room.
     #[cold]
     #[inline(never)]
     fn wanting_to_go(&self, actor: u8) -> Refusal

@@ -1,10 +1,11 @@
 //! A reader and a writer that move one byte a call, and fail at each call in turn.
 
 use ctrie_commands::{
-    Counted, Fault, Nothing, check_history, explain_history, run_script, run_threads,
+    Counted, Fault, Nothing, check_history, draw_history, explain_history, run_script, run_threads,
 };
 use std::io;
 use std::io::{ErrorKind, Read, Write};
+use std::process::Abort;
 use std::sync::Wait;
 use std::thread::Threads;
 
@@ -82,17 +83,24 @@ impl Write for Sink {
 #[derive(Clone, Copy, Debug)]
 enum Command {
     Check,
+    Draw,
     Explain,
     Run,
     Threads,
 }
 
-/// A text, and what comes of it.
+/// A text, and how that ends which comes of it: with this, which is all but of a picture.
 #[derive(Clone, Copy)]
 struct Case {
     command: Command,
     text: &'static str,
-    written: &'static str,
+    end: &'static str,
+}
+
+impl Case {
+    fn is_picture(&self) -> bool {
+        matches!(self.command, Command::Draw)
+    }
 }
 
 const SCRIPT: &str = "slots 64\nhash low\nactors 1\ndo 1 put 0 5 50\ndo 1 get 0 5\n";
@@ -103,26 +111,31 @@ const REPORT: &str =
 const HISTORY: &str =
     "hash low\nbegin 0 1 put 0 1 10\nend 0 none\nbegin 1 1 get 0 1\nend 1 none\norder 0 1\n";
 
-const CASES: [Case; 4] = [
+const CASES: [Case; 5] = [
     Case {
         command: Command::Check,
         text: HISTORY,
-        written: "not legal\n",
+        end: "not legal\n",
+    },
+    Case {
+        command: Command::Draw,
+        text: HISTORY,
+        end: "</g>\n</svg>\n",
     },
     Case {
         command: Command::Explain,
         text: HISTORY,
-        written: "not legal\noperation 1, get 0 1, was answered none; the maps before it give some 10\n",
+        end: "not legal\noperation 1, get 0 1, was answered none; the maps before it give some 10\n",
     },
     Case {
         command: Command::Run,
         text: SCRIPT,
-        written: REPORT,
+        end: REPORT,
     },
     Case {
         command: Command::Threads,
         text: SCRIPT,
-        written: REPORT,
+        end: REPORT,
     },
 ];
 
@@ -138,6 +151,7 @@ fn carried_out<R: AllocGlobal + Threads + Wait + Sync>(
     let (input, output) = (&mut input, &mut output);
     let found = match case.command {
         Command::Check => check_history(rt.alloc(), input, output).map(|_| ()),
+        Command::Draw => draw_history(rt.alloc(), input, output).map(|_| ()),
         Command::Explain => explain_history(rt.alloc(), input, output).map(|_| ()),
         Command::Run => run_script(rt.alloc(), input, output),
         Command::Threads => run_threads(rt, rt.alloc(), input, output, &Nothing),
@@ -145,15 +159,25 @@ fn carried_out<R: AllocGlobal + Threads + Wait + Sync>(
     (found, input.failed(), output.failed())
 }
 
-/// Byte by byte in and out.
+/// What is written, byte by byte in and out.
+fn written<R: Abort + AllocGlobal + Threads + Wait + Sync>(rt: &R, case: Case) -> Vec<u8> {
+    let mut sink = Sink::new(Vec::new(rt.alloc()), 0);
+    let source = Source::new(case.text, 0, ErrorKind::Other);
+    let found = carried_out(rt, case, source, &mut sink);
+    assert!(rt; found == (Ok(()), 0, 0));
+    let Sink { taken, .. } = sink;
+    taken
+}
+
+/// It is just what is wanted, and a picture from its declaration on to its last element.
 #[test]
 fn moves_one_byte_a_call(rt: HostRuntime) {
     for case in CASES {
-        let mut sink = Sink::new(Vec::new(rt.alloc()), 0);
-        let source = Source::new(case.text, 0, ErrorKind::Other);
-        let found = carried_out(&rt, case, source, &mut sink);
-        assert!(rt; found == (Ok(()), 0, 0), "{:?}", case.command);
-        assert!(rt; sink.taken.as_slice() == case.written.as_bytes());
+        let written = written(&rt, case);
+        let is_picture = written.starts_with(b"<?xml version=\"1.0\" ");
+        assert!(rt; is_picture == case.is_picture());
+        assert!(rt; written.ends_with(case.end.as_bytes()));
+        assert!(rt; is_picture || written.len() == case.end.len());
     }
 }
 
@@ -161,26 +185,32 @@ fn moves_one_byte_a_call(rt: HostRuntime) {
 #[test]
 fn tells_each_failed_read(rt: HostRuntime) {
     for case in CASES {
-        for (kind, result, written) in [
-            (ErrorKind::Other, Err(Fault::Read), ""),
-            (ErrorKind::Interrupted, Ok(()), case.written),
+        let written = written(&rt, case);
+        for (kind, result, wanted) in [
+            (ErrorKind::Other, Err(Fault::Read), [].as_slice()),
+            (ErrorKind::Interrupted, Ok(()), written.as_slice()),
         ] {
             for call in 1..=case.text.len() as u64 + 1 {
                 let mut sink = Sink::new(Vec::new(rt.alloc()), 0);
                 let source = Source::new(case.text, call, kind);
                 let found = carried_out(&rt, case, source, &mut sink);
                 assert!(rt; found == (result, 1, 0), "{:?} {call}", case.command);
-                assert!(rt; sink.taken.as_slice() == written.as_bytes());
+                assert!(rt; sink.taken.as_slice() == wanted);
             }
         }
     }
 }
 
-/// Each write fails in turn, the last a flush: a beginning was written.
+/// Each write fails in turn, the last a flush: a beginning was written. Of the many of a picture one in 64 does.
 #[test]
 fn tells_each_failed_write(rt: HostRuntime) {
     for case in CASES {
-        for call in 1..=case.written.len() as u64 + 1 {
+        let written = written(&rt, case);
+        let calls = written.len() as u64 + 1;
+        for call in 1..=calls {
+            if case.is_picture() && call % 64 != 0 && call != calls {
+                continue;
+            }
             let mut sink = Sink::new(Vec::new(rt.alloc()), call);
             let source = Source::new(case.text, 0, ErrorKind::Other);
             let found = carried_out(&rt, case, source, &mut sink);
@@ -190,7 +220,7 @@ fn tells_each_failed_write(rt: HostRuntime) {
                 case.command
             );
             assert!(rt; sink.taken.len() as u64 + 1 == call);
-            assert!(rt; case.written.as_bytes().starts_with(sink.taken.as_slice()));
+            assert!(rt; written.starts_with(sink.taken.as_slice()));
         }
     }
 }

@@ -181,12 +181,14 @@ fn machine_after(alloc: Global, limits: Limits, steps: &[Step]) -> Result<Machin
     Ok(machine)
 }
 
-/// Whether the actor's operation ends; where it runs none, whether new ones do.
-fn actor_ends(machine: &mut Machine, actor: u8) -> Result<bool, Refusal> {
+/// Whether the actor's operation ends after these steps; where it runs none, whether a new one of each call does.
+fn actor_ends(alloc: Global, limits: Limits, steps: &[Step], actor: u8) -> Result<bool, Refusal> {
+    let mut machine = machine_after(alloc, limits, steps)?;
     if machine.is_running(actor) {
         return Ok(machine.resume(actor)?.is_some());
     }
     for call in &CALLS {
+        let mut machine = machine_after(alloc, limits, steps)?;
         if machine.complete(actor, *call)?.is_none() {
             return Ok(false);
         }
@@ -194,11 +196,10 @@ fn actor_ends(machine: &mut Machine, actor: u8) -> Result<bool, Refusal> {
     Ok(true)
 }
 
-/// Whether that is so of each actor after these steps.
+/// Whether that is so of each actor.
 fn each_ends(alloc: Global, limits: Limits, steps: &[Step]) -> Result<bool, Refusal> {
     for actor in 1..=limits.actors {
-        let mut machine = machine_after(alloc, limits, steps)?;
-        if !actor_ends(&mut machine, actor)? {
+        if !actor_ends(alloc, limits, steps, actor)? {
             return Ok(false);
         }
     }

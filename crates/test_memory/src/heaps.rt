@@ -94,7 +94,6 @@ fn frees_after_two_epochs(rt: HostRuntime) -> Result<(), Fail> {
     heap.settle();
     assert_eq!(rt; heap.limbo_len(), 0);
     assert_eq!(rt; heap.free_slots(), 4);
-    let _ticks = heap.ticks();
     Ok(())
 }
 

@@ -80,5 +80,4 @@ fn crosses_threads<T: Send + Sync>(_value: &T) {}
 fn goes_to_other_threads(rt: HostRuntime) {
     let places = Places::new(rt.alloc());
     crosses_threads(&places);
-    let _ticks = places.ticks();
 }

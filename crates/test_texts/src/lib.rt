@@ -3,8 +3,6 @@
 #![tactic(auto)]
 
 #[cfg(test)]
-mod laws;
-#[cfg(test)]
 mod pictures;
 #[cfg(test)]
 mod streams;

@@ -40,7 +40,6 @@ fn counts_without_bytes(rt: HostRuntime) {
     ticks.add();
     let both = Ticks::sum(&ticks, &Ticks::new());
     crosses_threads(&both);
-    let _ = Trace::new().with_first(&1u8).with_last(&2).rest();
     assert_eq!(rt; size_of::<Ticks>(), 0);
     assert_eq!(rt; size_of::<Trace<u64>>(), 0);
 }

@@ -62,7 +62,9 @@ fn pooled<N: Name + Send + Sync, R: Threads + Wait + Sync + AllocGlobal + Abort>
     requires name { runner.id ≡ N.gate }
     requires seats { AreSeatsOf runner seats.items }
 {
-    let (runner, seats) = runner.named::<N>(rt.alloc(), seats)?;
+    let Ok((runner, seats)) = runner.named::<N>(rt.alloc(), seats) else {
+        panic!(rt; "there is memory")
+    };
     let pool = Mutex::new(seats);
     let answered = thread::map_indices(rt, rt.alloc(), 3, &|n| work(rt, &runner, &pool, n as u64))?;
     assert!(rt; answered.iter().all(|calls| *calls == 40));

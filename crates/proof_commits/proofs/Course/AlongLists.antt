@@ -20,7 +20,7 @@ use Rattle.proof_commits.specs.Laws.{LateOnce, TombsStay}
 use Rattle.proof_memory.specs.Laws.{IsInUse}
 use Rattle.proof_commits.specs.Beneath.machine_model.proofs.Recorded.{record_ends}
 use Rattle.proof_commits.proofs.Course.OfLists.{known_from, RootsOfRuns, known_of, OwnedIn, states, owned_at, prev_changes, decided_for_good_at, main_changes}
-use Rattle.proof_commits.proofs.Course.OfLists.{replaced_at, tomb_at, moment_over, moment_of_given, Told, for_good_at, late_stood_at, late_once_at, checked_at}
+use Rattle.proof_commits.proofs.Course.OfLists.{replaced_at, tomb_at, moment_over, moment_of_given, read_behind, Told, for_good_at, late_stood_at, late_once_at, checked_at}
 
 pub pending_has_owner : PendingHasOwner
 pending_has_owner limits steps ok =
@@ -53,6 +53,7 @@ pub moment_is_first : MomentIsFirst
 moment_is_first limits steps ok n h i m g =
     let k = known_from limits steps ok in
     moment_over limits ok steps k n h i m _ _ (moment_of_given limits ok steps k refl n h i m g)
+    (subst (λ j. HasIndirection (states_of limits steps (suc n)) j) g.of (read_behind limits ok steps k n h g.actor g.operation g.runs g.read g.reads))
 
 -- what is closed at the end of the steps
 closed_last : (limits : Bounds) (steps : List Step) (n c : ℕ) (i : Ref) → closed_at (record_of limits steps) (generation_at (states_of limits steps n).heap i) ≡ Some c →

@@ -104,10 +104,6 @@ find_elsewhere : (past : List Publication) (g f : Ref) (c : Option Entrant) → 
 find_elsewhere past g f c apart =
     ap (λ b. option_and_then (λ (p : Publication). p.changer) (cond b (Some (record { main = g; changer = c })) (find (λ (p : Publication). p.main == f) past))) (ne_eqb g f apart)
 
--- what an operation publishes, by its line
-publishes_none : (operation : Operation) (why : Purpose) (i a f : Ref) (l : ReadLine) → published_by operation (line.Swap why (in_swap i a f l)) ≡ None
-publishes_none operation why i a f l = refl
-
 -- ---- at each time
 
 -- whose change a node is that is being decided: its owner's, if the SWAP is for a change of its key

@@ -3,6 +3,7 @@ use Rattle.std.proofs.Common.{◌≡◌, ℕ, suc, ◌+◌, ◌<◌, ◌≤◌, 
 use Rattle.std.proofs.lemmas.Bool.{cases_eq}
 use Rattle.std.proofs.lemmas.Option.{same_Some}
 use Rattle.proof_commits.specs.Beneath.history.specs.declared.replies.Reply.{Reply}
+use Rattle.proof_commits.specs.Beneath.history.proofs.Places.{option_tested}
 use Rattle.proof_commits.specs.Beneath.slot_arena.specs.declared.refs.Ref.{Ref}
 use Rattle.proof_commits.specs.Beneath.slot_arena.specs.declared.nodes.Node.{Node}
 use Rattle.proof_commits.specs.Beneath.slot_arena.specs.declared.nodes.Node.TheVariants.{Tomb}
@@ -13,6 +14,7 @@ use Rattle.proof_commits.specs.Beneath.machine_model.specs.declared.actions.Acti
 use Rattle.proof_commits.specs.Beneath.machine_model.specs.declared.operations.Operation.{Operation}
 use Rattle.proof_commits.specs.Beneath.machine_model.specs.declared.reading.After.{After}
 use Rattle.proof_commits.specs.Beneath.machine_model.specs.declared.reading.After.TheVariants.{Goes, Gives}
+use Rattle.proof_commits.specs.Beneath.machine_model.specs.declared.reading.Read.{Read}
 use Rattle.proof_commits.specs.Beneath.machine_model.specs.declared.reading.ReadLine.{ReadLine}
 use Rattle.proof_commits.specs.Beneath.machine_model.specs.declared.reading.SwapLine.{SwapLine}
 use Rattle.proof_commits.specs.Beneath.machine_model.specs.declared.reading.SwapLine.TheVariants as swap
@@ -26,12 +28,12 @@ use Rattle.proof_commits.specs.Beneath.machine_model.specs.declared.records.Mome
 use Rattle.proof_commits.specs.Beneath.machine_model.specs.Records.{Record, closed_at, moment_after, moment_at, noted_progress}
 use Rattle.proof_commits.specs.Beneath.machine_model.specs.Tellings.{progress_of}
 use Rattle.proof_commits.specs.Beneath.machine_model.specs.Reading.{read_after, at_indirection}
-use Rattle.proof_commits.specs.Beneath.machine_model.specs.Operations.{action_of}
+use Rattle.proof_commits.specs.Beneath.machine_model.specs.Operations.{action_of, read_of}
 use Rattle.proof_commits.specs.Beneath.machine_model.specs.Machine.{AreBounds, go_denial}
 use Rattle.proof_commits.specs.Beneath.machine_model.specs.Moves as Machine
 use Rattle.proof_commits.specs.Beneath.machine_model.proofs.Times.{run_is}
 use Rattle.proof_commits.specs.Beneath.machine_model.specs.Times.{states_of, records_of, last_of}
-use Rattle.proof_commits.specs.Beneath.machine_model.specs.Grown.{node_under}
+use Rattle.proof_commits.specs.Beneath.machine_model.specs.Grown.{grown, node_under}
 use Rattle.proof_commits.specs.Protocol.{Words, Rests, Reads, Protocol}
 use Rattle.proof_commits.specs.Protocol as Protocol'
 use Rattle.proof_commits.proofs.Words.Stood.{Stood, stood_still, none≢pending, stands_now, over_pending}
@@ -52,6 +54,7 @@ use Rattle.proof_commits.specs.Words.{words_of}
 use Rattle.proof_commits.proofs.Lines.Read.{generation_stays, solid_stays}
 use Rattle.proof_commits.proofs.Lines.Reads.{ends_at_end}
 use Rattle.proof_commits.proofs.Words.Along.{protocol}
+use Rattle.proof_commits.proofs.Words.OfRuns.{link_made}
 use Rattle.proof_commits.proofs.Course.Moments.{moment_noted}
 use Rattle.proof_commits.proofs.Lines.Swap.{runs_deciding, runs_publishing, in_swap_fresh, reads_stage}
 use Rattle.proof_commits.specs.Runs.{HasIndirection}
@@ -60,6 +63,10 @@ use Rattle.proof_commits.specs.Laws.{CommitsMain, IsGiven}
 use Rattle.proof_commits.specs.Laws.{IsTomb}
 use Rattle.proof_memory.specs.Wants.{is_indirection, is_branch_or_list}
 use Rattle.proof_memory.specs.Laws.{IsInUse}
+use Rattle.proof_memory.proofs.Claims.Reads.{read_claims, read_link}
+use Rattle.proof_memory.proofs.Claims.Uses.{meets_of, safe_of}
+use Rattle.proof_memory.proofs.Heap.Moves.{used_before}
+use Rattle.proof_memory.proofs.Safety.AtTimes.{line_behind}
 use Rattle.proof_commits.specs.Beneath.machine_model.proofs.Grown.{grown_in_use, node_grown, prev_grown}
 use Rattle.proof_commits.specs.Beneath.machine_model.proofs.Numbered.{step_leads, step_noted}
 use Rattle.proof_commits.specs.Beneath.machine_model.proofs.Notes.{noted_going}
@@ -167,6 +174,13 @@ module _ (limits : Bounds) (ok : AreBounds limits) (steps : List Step) (known : 
   link_in_use : (t : ℕ) (i : Ref) → HasIndirection (states t) i → is_indirection (node_under states t i) ≡ true
   link_in_use t i h = subst (λ x. is_indirection x ≡ true) (node_in_use t i h.0) h.1
 
+  -- an indirection that stood under the reference by then, and is in use later, is in use then
+  had_before : (t u : ℕ) → t ≤ u → u ≤ last → (i : Ref) → w.link t i ≡ true → HasIndirection (states u) i → HasIndirection (states t) i
+  had_before t u below within i link has =
+      let (was, made) = option_tested (grown states t i) (link_made (grown states t i) link) in
+      let used = used_before limits states last known.run t u below within i was made has.0 in
+      (used, ap is_indirection (node_in_use t i used) ∙ link)
+
   main_in_use : (t : ℕ) → t ≤ last → (i : Ref) → HasIndirection (states t) i → logical_main (states t).heap i ≡ Protocol'.logical_at w t i
   main_in_use t h i has = logical_standing limits states last known t h i has.0.0 has.0.1 (link_in_use t i has)
 
@@ -215,19 +229,38 @@ module _ (limits : Bounds) (ok : AreBounds limits) (steps : List Step) (known : 
   -- of a moment, over the states
   abbrev pub MomentOver : (ℕ → State) → ℕ → Ref → Ref → ℕ → ℕ → Type 0
   MomentOver s n i m r mu =
-      (r ≤ mu) × (mu ≤ n) × (HasIndirection (s (mu + 1)) i → logical_main (s (mu + 1)).heap i ≡ m)
-      × ((k : ℕ) → r < k → k ≤ mu → HasIndirection (s k) i → logical_main (s k).heap i ≡ m → ⊥)
+      (r ≤ mu) × (mu ≤ n) × HasIndirection (s (mu + 1)) i × (logical_main (s (mu + 1)).heap i ≡ m)
+      × ((k : ℕ) → r < k → k ≤ mu → HasIndirection (s k) i × (logical_main (s k).heap i ≡ m → ⊥))
 
-  main_after : (n : ℕ) → n < last → (i m : Ref) (r mu : ℕ) → IsMoment w i m r mu n → HasIndirection (states (suc mu)) i → logical_main (states (suc mu)).heap i ≡ m
-  main_after n h i m r mu moment has = main_in_use (suc mu) (omega (arith, moment.past)) i has ∙ moment.is
+  -- the indirection that a READ reads is in use behind its step
+  pub read_behind : (n : ℕ) → n < last → (actor : ℕ) (operation : Operation) → operation_of (states n) actor ≡ Some operation → (read : Read) →
+      read_of operation.line ≡ Some read → HasIndirection (states (suc n)) read.indirection
+  read_behind n h actor operation runs read reads =
+      let heap = (states (suc n)).heap in
+      let claims = read_claims (IsInUse heap) heap read limits.hash operation.call operation.access operation.line reads (line_behind limits states last known.run n h actor operation runs) in
+      let found = read_link (IsInUse heap) heap read.indirection read.line claims in
+      (safe_of found, meets_of found)
 
-  pub moment_over : (n : ℕ) → n < last → (i m : Ref) (r mu : ℕ) → IsMoment w i m r mu n → MomentOver states n i m r mu
-  moment_over n h i m r mu moment = (
-    moment.from,
-    moment.past,
-    subst (λ k. HasIndirection (states k) i → logical_main (states k).heap i ≡ m) (sym (add-one mu)) (main_after n h i m r mu moment),
-    λ k after before has same. moment.first k after before (sym (main_in_use k (omega (arith, moment.past)) i has) ∙ same),
-  )
+  -- so it was since its last read or swap of the main word
+  read_there : (n : ℕ) → n < last → (i m : Ref) (r mu : ℕ) → IsMoment w i m r mu n → HasIndirection (states (suc n)) i → (k : ℕ) → r < k → k ≤ suc n → HasIndirection (states k) i
+  read_there n h i m r mu moment has k after before =
+      let stood : Stood w k i m = record { at = suc r; past = omega (arith, after); link = moment.link; is = moment.stood } in
+      had_before k (suc n) before (omega (arith, h)) i ((sound_at p k (omega (arith, h, before))).words.link i m stood) has
+
+  pub moment_over : (n : ℕ) → n < last → (i m : Ref) (r mu : ℕ) → IsMoment w i m r mu n → HasIndirection (states (suc n)) i → MomentOver states n i m r mu
+  moment_over n h i m r mu moment has =
+      let there = read_there n h i m r mu moment has (suc mu) (omega (arith, moment.from)) (omega (arith, moment.past)) in
+      let behind : HasIndirection (states (mu + 1)) i × (logical_main (states (mu + 1)).heap i ≡ m) =
+      subst (λ k. HasIndirection (states k) i × (logical_main (states k).heap i ≡ m)) (sym (add-one mu))
+      (there, main_in_use (suc mu) (omega (arith, moment.past, h)) i there ∙ moment.is) in (
+        moment.from,
+        moment.past,
+        behind.0,
+        behind.1,
+        λ k after before.
+            let has_k = read_there n h i m r mu moment has k after (omega (arith, moment.past, before)) in
+            (has_k, λ same. moment.first k after before (sym (main_in_use k (omega (arith, moment.past, h, before)) i has_k) ∙ same)),
+      )
 
   -- a step of an operation that isn't its end
   goes_on : (before : State) (actor : ℕ) (o : Outcome) (after : State) → Machine.Moves before (step.Go actor) o after → (operation : Operation) →
@@ -300,13 +333,15 @@ module _ (limits : Bounds) (ok : AreBounds limits) (steps : List Step) (known : 
 
   pub late_stood_at : Told → (c n : ℕ) → c ≤ n → n < last → (i : Ref) → HasIndirection (states n) i → HasIndirection (states (suc n)) i →
       closed_at (known.run.records last) (generation_at (states n).heap i) ≡ Some c → (logical_main (states (suc n)).heap i ≡ logical_main (states n).heap i → ⊥) →
-      (k : ℕ) × (k ≤ c) × (HasIndirection (states k) i → main_at (states k).heap i ≡ main_at (states n).heap i)
+      (k : ℕ) × (k ≤ c) × HasIndirection (states k) i × (main_at (states k).heap i ≡ main_at (states n).heap i)
   late_stood_at told c n late h i has still closing other =
       let x = changed_at n h i has still other in
-      let early = commits_early p n h i x.fresh x.replaced x.commits (stands_now (link_in_use n i has) x.stands) in (
+      let early = commits_early p n h i x.fresh x.replaced x.commits (stands_now (link_in_use n i has) x.stands) in
+      let there = had_before early.at n (omega (arith, early.past)) (omega arith) i early.link has in (
         early.at,
         early.early c (closing_at told n (omega arith) i c has closing),
-        λ there. ap main_of (node_in_use early.at i there.0) ∙ early.is ∙ sym x.stands ∙ sym (ap main_of (node_in_use n i has.0)),
+        there,
+        ap main_of (node_in_use early.at i there.0) ∙ early.is ∙ sym x.stands ∙ sym (ap main_of (node_in_use n i has.0)),
       )
 
   pub late_once_at : Told → (c n k : ℕ) → c ≤ n → n < k → k < last → (i : Ref) → HasIndirection (states n) i → HasIndirection (states (suc n)) i →

@@ -27,7 +27,8 @@ pub fn read_for_good()
     ensures { ReadForGood }
 {}
 
-/// A law: what commits after its indirection's generation was closed stood in the main word before.
+/// A law: what commits after its indirection's generation was closed stood in the main word before; the
+/// indirection was in use then.
 pub fn late_stood_before()
     ensures { LateStoodBefore }
 {}

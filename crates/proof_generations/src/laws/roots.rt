@@ -15,8 +15,8 @@ pub fn offers_are_their_operations()
     ensures found { OffersAreFound }
 {}
 
-/// A law: the handle of a running operation stays open, of its kind (`open`); the number that it is to open is
-/// its own, and names no handle until its offer is carried out (`reserved`).
+/// A law: the handle of a running operation stays open, of its kind, but that of a close (`open`); the number
+/// that it is to open is its own, and names no handle until its offer is carried out (`reserved`).
 pub fn handles_of_operations()
     ensures open { HandlesStayOpen }
     ensures reserved { NumbersAreReserved }

@@ -1,5 +1,5 @@
 -- What a step of a run does to the heap that only grows: one kind of move for each word or node that a step writes, tied to the action of the operation that takes it.
--- The layers above cite `word_move`, and for two times `grown_stays`, `grown_in_use` and `not_yet_drawn`.
+-- The layers above cite `word_move`, and for two times `grown_stays`, `grown_in_use`, `not_yet_drawn` and `used_before`.
 use Rattle.std.proofs.Common.{◌≡◌, ℕ, zero, suc, ◌+◌, ◌<◌, ◌≤◌, ◌==◌, Bool, true, false, nat_le, List, [], ◌∷◌, map, length, Option, Some, None, get_or, refl, sym, ap, ◌∙◌, subst}
 use Rattle.std.proofs.Common.{◌⊎◌, inl, inr, eqb-true, arith}
 use Rattle.std.proofs.lemmas.Bool.{cases_eq, cond_both}
@@ -41,7 +41,7 @@ use Rattle.proof_memory.proofs.Heap.Under.{main_here, main_other, prev_here, pre
 use Rattle.proof_memory.proofs.Safety.Guards.{Safe}
 use Rattle.proof_memory.proofs.Heap.Effects.{SameSlot, same_slot, slots_joined, apart, main_is}
 use Rattle.proof_memory.specs.Making.{made_node}
-use Rattle.proof_memory.proofs.Safety.States.{IsSafe, used_of, births_grow, stands_in_use}
+use Rattle.proof_memory.proofs.Safety.States.{IsSafe, used_of, births_grow, stood_or_made, stands_in_use}
 use Rattle.proof_memory.proofs.Safety.Steps.{of_actor, step_claims, step_effect}
 use Rattle.proof_memory.proofs.Safety.AtEachTime.{safe_at}
 use Rattle.machine_model.proofs.Grown.{stands_in, grown_in_use}
@@ -298,4 +298,31 @@ module _ (limits : Bounds) (states : ℕ → State) (last : ℕ) (run : IsRun li
         let (between, found, kept) = grown_stays t u (omega arith) (omega arith) r was e in
         let (now, found_now, kept_now) = moved_stays (states u) (grown states u) (grown states (suc u)) (word_move u within) r between found in
         (now, found_now, slots_joined was between now kept kept_now)
+  ]
+
+  -- what is made already and in use after a step was in use before it
+  used_at_step : (t : ℕ) → t < last → (r : Ref) (was now : Slot) → grown states t r ≡ Some was → standing (states (suc t)).heap r ≡ Some now → IsInUse (states t).heap r
+  used_at_step t h r was now made found =
+      by_turn (states t) (states (suc t)) (safe_at limits states last run t (omega arith)) (run.turn t h) (born t (omega arith) r was made) found
+    where
+      too_late : (births : ℕ) → birth_of r ≡ births + 1 → birth_of r ≤ births → ⊥
+      too_late births a b = omega arith
+
+      by_turn : (before after : State) → IsSafe before → Turn before after → birth_of r ≤ before.heap.births → standing after.heap r ≡ Some now → IsInUse before.heap r
+      by_turn before after I (turns s o m) drawn found = elim (stood_or_made _ _ _ _ _ _ ((step_effect before I s o after m).3) r now found) [
+        | inl stood ↦ stood
+        | inr made ↦ absurd (too_late before.heap.births made.0 drawn)
+      ]
+
+  -- what is made by some time and in use later is in use then
+  pub used_before : (t u : ℕ) → t ≤ u → u ≤ last → (r : Ref) (was : Slot) → grown states t r ≡ Some was → IsInUse (states u).heap r → IsInUse (states t).heap r
+  used_before t zero below within r was made used = subst (λ x. IsInUse (states x).heap r) (nothing_below t below) used
+    where
+      nothing_below : (t : ℕ) → t ≤ zero → zero ≡ t
+      nothing_below t h = omega arith
+  used_before t (suc u) below within r was made used = elim (cases_eq t (suc u)) [
+    | inl same ↦ subst (λ x. IsInUse (states x).heap r) (sym same) used
+    | inr other ↦
+        let between = grown_stays t u (omega arith) (omega arith) r was made in
+        used_before t u (omega arith) (omega arith) r was made (used_at_step u within r between.0 used.0 between.1 used.1)
   ]

@@ -1,6 +1,6 @@
 -- What a run's times know of memory, in the words that the layers above use: what a running operation's line and action take their references for, and that what
 -- is looked up in the machine's heap is what stands in the heap that only grows.
-use Rattle.std.proofs.Common.{◌≡◌, ℕ, ◌≤◌, true, Some, refl, sym, ap, ◌∙◌, subst}
+use Rattle.std.proofs.Common.{◌≡◌, ℕ, suc, ◌<◌, ◌≤◌, true, Some, refl, sym, ap, ◌∙◌, subst, arith}
 use Rattle.proof_memory.specs.Beneath.slot_arena.specs.declared.refs.Ref.{Ref}
 use Rattle.proof_memory.specs.Beneath.slot_arena.specs.declared.nodes.Slot.{Slot}
 use Rattle.proof_memory.specs.Beneath.slot_arena.specs.Heaps.{node_at, main_at, prev_at, main_of, generation_at, generation_of}
@@ -10,7 +10,8 @@ use Rattle.machine_model.specs.States.{State, first_state, operation_of}
 use Rattle.machine_model.specs.Operations.{action_of}
 use Rattle.machine_model.proofs.Frames.{limits_kept}
 use Rattle.machine_model.proofs.Times.{at_each_time}
-use Rattle.machine_model.specs.Times.{IsRun}
+use Rattle.machine_model.specs.Times.{turns}
+use Rattle.machine_model.specs.Times.{IsRun, Turn}
 use Rattle.machine_model.specs.Grown.{grown, main_word, prev_word}
 use Rattle.machine_model.specs.Grown.{node_under as grown_node}
 use Rattle.proof_memory.specs.Wants.{Wanted, meets, Is, Holds, AllHold, action_wants, line_wants}
@@ -18,7 +19,8 @@ use Rattle.proof_memory.specs.Laws.{IsInUse}
 use Rattle.proof_memory.proofs.Claims.Uses.{Carries, all_carried, same_node, safe_of, meets_of}
 use Rattle.proof_memory.proofs.Safety.Guards.{Safe}
 use Rattle.proof_memory.proofs.Safety.States.{IsSafe}
-use Rattle.proof_memory.proofs.Safety.Steps.{of_actor, step_claims}
+use Rattle.proof_memory.proofs.Safety.Base.{IsRecent}
+use Rattle.proof_memory.proofs.Safety.Steps.{of_actor, step_carries, step_claims}
 use Rattle.proof_memory.proofs.Safety.AtEachTime.{safe_at}
 use Rattle.machine_model.proofs.Grown.{node_standing, grown_in_use, node_grown, prev_grown}
 
@@ -63,6 +65,24 @@ module _ (limits : Bounds) (states : ℕ → State) (last : ℕ) (run : IsRun li
   pub action_at : (actor : ℕ) (operation : Operation) → operation_of (states t) actor ≡ Some operation →
       AllHold (IsInUse (states t).heap) (states t).heap (action_wants (action_of (states t) operation))
   action_at actor operation e = action_finds (states t) (safe_at limits states last run t within) actor operation e
+
+-- what a line takes its references for they still are behind a step
+module _ (limits : Bounds) (states : ℕ → State) (last : ℕ) (run : IsRun limits states last) (t : ℕ) (within : t < last) where
+  pub line_behind : (actor : ℕ) (operation : Operation) → operation_of (states t) actor ≡ Some operation →
+      AllHold (IsInUse (states (suc t)).heap) (states (suc t)).heap (line_wants limits.hash operation.call operation.access operation.line)
+  line_behind actor operation e =
+      subst (λ (l : Bounds). AllHold (IsInUse (states (suc t)).heap) (states (suc t)).heap (line_wants l.hash operation.call operation.access operation.line))
+      (limits_at limits states last run t (omega (arith, within)))
+      (by_turn (states t) (states (suc t)) (safe_at limits states last run t (omega (arith, within))) (run.turn t within) e)
+    where
+      by_turn : (before after : State) → IsSafe before → Turn before after → operation_of before actor ≡ Some operation →
+          AllHold (IsInUse after.heap) after.heap (line_wants before.limits.hash operation.call operation.access operation.line)
+      by_turn before after I (turns s o m) e =
+          let wants = λ (operation : Operation). line_wants before.limits.hash operation.call operation.access operation.line in
+          let (k, found) = of_actor before (λ k operation. IsRecent before k operation × AllHold (Safe before operation.epoch) before.heap (wants operation))
+          (λ k operation e. (I.recent k operation e, I.lines k operation e)) actor operation e in
+          all_carried (Safe before operation.epoch) before.heap (IsInUse after.heap) after.heap
+          (λ r s. let x = step_carries before I _ o after m operation.epoch found.0.0 found.0.1 r s in (x.0.used, x.1)) (wants operation) found.1
 
 -- what is claimed of a reference is so in the heap that only grows
 pub kind_at : (states : ℕ → State) (t : ℕ) (r : Ref) (wanted : Wanted) → Holds (IsInUse (states t).heap) (states t).heap (Is r wanted) →

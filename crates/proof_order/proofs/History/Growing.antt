@@ -78,13 +78,6 @@ places_grow state past s o after (Ends {actor} {operation} {answer} d is a) =
     (_, ap (λ (r : Record). r.places) (noted_ending state past actor operation answer is a))
 places_grow state past s o after (Sweeps spent) = grows_same _ _ refl
 
--- so do the closings
-pub closings_grow : (state : State) (past : Record) (s : Step) (o : Outcome) (after : State) → Moves state s o after → Grows past.closings (noted past state.steps (told_in state s)).closings
-closings_grow state past s o after (Begins {actor} {call} d) = grows_same _ _ refl
-closings_grow state past s o after (Goes {actor} {operation} {action} d is a g) = (_, ap (λ (r : Record). r.closings) (noted_going state past actor operation action is a g))
-closings_grow state past s o after (Ends {actor} {operation} {answer} d is a) = grows_same _ _ (ap (λ (r : Record). r.closings) (noted_ending state past actor operation answer is a))
-closings_grow state past s o after (Sweeps spent) = grows_same _ _ refl
-
 -- and the history
 pub events_grow : (state : State) (past : Record) (s : Step) (o : Outcome) (after : State) → Moves state s o after → Grows past.events (noted past state.steps (told_in state s)).events
 events_grow state past s o after (Begins {actor} {call} d) = (_, refl)

@@ -1,6 +1,6 @@
 -- Each operation that has a place has begun.
-use Rattle.std.proofs.Common.{◌≡◌, ℕ, zero, suc, ◌⊎◌, inl, inr, Bool, true, false, if◌then◌else◌, List, []}
-use Rattle.std.proofs.Common.{◌∷◌, ◌++◌, get_or, length, Option, Some, None, ◌<◌, ◌≤◌, option_and_then, cond, find, option_to_list, ◌==◌}
+use Rattle.std.proofs.Common.{◌≡◌, ℕ, suc, ◌⊎◌, inl, inr, Bool, true, false, if◌then◌else◌, List, []}
+use Rattle.std.proofs.Common.{◌∷◌, ◌++◌, length, Option, Some, None, ◌<◌, ◌≤◌, option_and_then, cond, find, option_to_list, ◌==◌}
 use Rattle.std.proofs.Common.{refl, sym, ap, ◌∙◌, subst}
 use Rattle.std.proofs.lemmas.Bool.{and_parts}
 use Rattle.proof_order.specs.Beneath.history.specs.declared.calls.Call.{Call}
@@ -66,11 +66,6 @@ runs_begun state past books k operation runs =
     let told = books.told k operation runs in
     let says : Told = record { actor = suc k; call = operation.call; opens = operation.opens } in
     (told.place, says, told.begins)
-
-pub among_runs : (actors : List (Option Operation)) (operation : Operation) → Among (Some operation) actors → (k : ℕ) × (get_or actors k None ≡ Some operation)
-among_runs [] operation a = absurd a
-among_runs (x ∷ xs) operation (inl e) = (zero, sym e)
-among_runs (x ∷ xs) operation (inr a) = let (k, e) = among_runs xs operation a in (suc k, e)
 
 -- ---- the places that a step adds
 

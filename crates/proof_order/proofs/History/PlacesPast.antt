@@ -45,9 +45,6 @@ place_low (Some c) moment id n changed_nothing lt = by (nat_lt c moment) refl
 one_below : (n : ℕ) (place : Place) → place.step < n → Below n (place ∷ [])
 one_below n place lt = All-cons (λ (p : Place). p.step < n) place [] lt (All-nil (λ (p : Place). p.step < n))
 
-one_more_below : (n : ℕ) (places : List Place) (place : Place) → Below n places → place.step < n → Below n (places ++ place ∷ [])
-one_more_below n places place h lt = All-append (λ (p : Place). p.step < n) places (place ∷ []) h (one_below n place lt)
-
 -- what enters at a commit
 entered_below : (past : Record) (step : ℕ) (changer : Option Entrant) (n : ℕ) → step < n → Below n (entered_by past step changer)
 entered_below past step None n lt = All-nil (λ (p : Place). p.step < n)

@@ -24,8 +24,8 @@ use Rattle.proof_order.specs.Beneath.machine_model.specs.declared.steps.Step.The
 use Rattle.proof_order.specs.Beneath.machine_model.specs.Calls.{handle_of}
 use Rattle.proof_order.specs.Beneath.machine_model.specs.States.{State, word_at, operation_of}
 use Rattle.proof_order.specs.Beneath.machine_model.specs.Reading.{read_after}
-use Rattle.proof_order.specs.Beneath.machine_model.specs.Swapping.{complete_after, complete_action, after_reading, of_offer}
-use Rattle.proof_order.specs.Beneath.machine_model.specs.Operations.{action_of, line_action, first_line}
+use Rattle.proof_order.specs.Beneath.machine_model.specs.Swapping.{complete_after, after_reading, of_offer}
+use Rattle.proof_order.specs.Beneath.machine_model.specs.Operations.{action_of, first_line}
 use Rattle.proof_order.specs.Beneath.machine_model.specs.Acting.{gone, operation_after}
 use Rattle.proof_order.specs.Beneath.machine_model.specs.Counting.{settled}
 use Rattle.proof_order.specs.Beneath.machine_model.specs.Moves.{Begins, Goes, Ends, Sweeps}
@@ -59,12 +59,6 @@ completing_stage (line.Root (root.Completing d)) c e = ap (λ (x : Complete). st
 completing_stage (line.Climb (climb.Root b (root.Completing d))) c e = ap (λ (x : Complete). stage_of_complete x.offer x.line) (same_Some d c e)
 completing_stage (line.Copy (copy.Complete d)) c e = ap (λ (x : Complete). stage_of_complete x.offer x.line) (same_Some d c e)
 completing_stage l c e = absurd (grind arith)
-
-pub completing_action : (state : State) (operation : Operation) (l : Line) (c : Complete) → completing_of l ≡ Some c → line_action state operation l ≡ complete_action c
-completing_action state operation (line.Root (root.Completing d)) c e = ap complete_action (same_Some d c e)
-completing_action state operation (line.Climb (climb.Root b (root.Completing d))) c e = ap complete_action (same_Some d c e)
-completing_action state operation (line.Copy (copy.Complete d)) c e = ap complete_action (same_Some d c e)
-completing_action state operation l c e = absurd (grind arith)
 
 first_none : (call : Call) → completing_of (first_line call) ≡ None
 first_none call = grind arith

@@ -1,5 +1,5 @@
 -- A SWAP that has swapped its node in, along a run: a commit is of a pending node, a committed one stays so and is seen so, and it is one actor's.
-use Rattle.std.proofs.Common.{◌≡◌, ℕ, suc, ◌<◌, ◌≤◌, inl, inr, Some, refl, sym, ap, ◌∙◌, subst, arith}
+use Rattle.std.proofs.Common.{◌≡◌, ℕ, suc, ◌<◌, ◌≤◌, inl, inr, Some, sym, ap, ◌∙◌, subst, arith}
 use Rattle.std.proofs.lemmas.Bool.{cases_eq}
 use Rattle.proof_order.specs.Beneath.slot_arena.specs.declared.nodes.Prev.TheVariants as prev
 use Rattle.proof_order.specs.Beneath.slot_arena.specs.declared.refs.Ref.{Ref}
@@ -52,14 +52,6 @@ module _ (limits : Bounds) (states : ℕ → State) (last : ℕ) (run : IsRun li
 
     staged_so : Staged run_words.words t (suc k) (stage_of_swap s.indirection s.replaced s.fresh s.line)
     staged_so = subst (λ x. Staged run_words.words t (suc k) x) stage_so ((sound_at run_words t within).staged (suc k))
-
-    pub fresh_so : HasFresh (run_words.words.stage t (suc k)) s.fresh
-    fresh_so = subst (λ x. HasFresh x s.fresh) (sym stage_so) (by s.line)
-      where
-        by : (l : SwapLine) → HasFresh (stage_of_swap s.indirection s.replaced s.fresh l) s.fresh
-        by swap.Publish = refl
-        by (swap.Deciding l) = refl
-        by swap.Check = refl
 
     stood_so : IsPublished s.line → Stood run_words.words t s.indirection s.fresh
     stood_so published = by s.line published staged_so

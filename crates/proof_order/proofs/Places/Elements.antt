@@ -1,8 +1,8 @@
 -- Which elements a list has, by recursion on it: what stands among them, what holds of each, and what a filter keeps.
-use Rattle.std.proofs.Common.{◌≡◌, ℕ, zero, suc, ◌<◌, ◌≤◌, ◌==◌, Bool, true, false, cond, nat_lt, ◌⊎◌, inl, inr, List, ◌∷◌, ◌++◌, map, filter, flat_map, length, get_or, Option}
+use Rattle.std.proofs.Common.{◌≡◌, ℕ, zero, suc, ◌<◌, ◌≤◌, ◌==◌, Bool, true, false, cond, nat_lt, ◌⊎◌, inl, inr, List, ◌∷◌, ◌++◌, map, filter, length, get_or, Option}
 use Rattle.std.proofs.Common.{Some, None, slice_get, Contains, refl, sym, ap, ◌∙◌, subst, arith, lt-ltb, le-ltb, ne_eqb, eq-eqb, length-append, ◌+◌, []}
 use Rattle.std.proofs.lemmas.Bool.{cases_order}
-use Rattle.proof_order.specs.Beneath.history.proofs.Among.{Among, among_either, among_filter}
+use Rattle.proof_order.specs.Beneath.history.proofs.Among.{Among, among_filter}
 
 -- P holds of each element
 abbrev pub Each : {X : Type 0} → (X → Type 0) → List X → Type 0
@@ -40,13 +40,6 @@ pub among_mapped : {X Y : Type 0} (f : X → Y) (xs : List X) (y : Y) → Among 
 among_mapped f [] y a = absurd a
 among_mapped f (x ∷ xs) y (inl e) = (x, inl refl, sym e)
 among_mapped f (x ∷ xs) y (inr a) = let (z, within, e) = among_mapped f xs y a in (z, inr within, e)
-
-pub among_flat_map : {X Y : Type 0} (f : X → List Y) (xs : List X) (y : Y) → Among y (flat_map f xs) → (x : X) × Among x xs × Among y (f x)
-among_flat_map f [] y a = absurd a
-among_flat_map f (x ∷ xs) y a = elim (among_either (f x) (flat_map f xs) y a) [
-  | inl here ↦ (x, inl refl, here)
-  | inr later ↦ let (z, within, its) = among_flat_map f xs y later in (z, inr within, its)
-]
 
 -- ---- what holds of each
 

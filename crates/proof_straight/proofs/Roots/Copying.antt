@@ -20,9 +20,9 @@ use Rattle.machine_model.specs.Copying.{after_given, copy_after_read, copy_if_ma
 use Rattle.machine_model.specs.Machine.{access_of, begin_denial, begun_operation, least_free}
 use Rattle.machine_model.specs.Reading.{after_prev, at_indirection, reading}
 use Rattle.machine_model.specs.States.{State, root_at}
-use Rattle.proof_straight.specs.Copies.{Course, IsSettled, cleared, first_course, frozen, offer_of, snapped, with_new_root}
+use Rattle.proof_straight.specs.Copies.{Course, IsSettled, cleared, first_course, frozen, offer_of, snapshotted, with_new_root}
 use Rattle.proof_straight.specs.Drafts.{after_call, first_draft, with_made}
-use Rattle.proof_straight.specs.Laws.{ClearsStraight, FreezesStraight, SnapsStraight}
+use Rattle.proof_straight.specs.Laws.{ClearsStraight, FreezesStraight, SnapshotsStraight}
 use Rattle.proof_straight.specs.Running.{ComesTo}
 use Rattle.machine_model.specs.Records.{Record, no_moment}
 use Rattle.machine_model.specs.Tellings.{given_by}
@@ -104,9 +104,9 @@ freezes_straight state past (suc k) handle root ready is settled free lasts =
     (offer_ends state past k c root course.base (record { actor = alone.actor; within = alone.within; rest = alone.rest }) handle_root is_open ready.word course.draft course.draft.newest None
     (Some (least_free state)) stays.same_main stays.decided stays.same_generation 4 (read_fits state past k c (state.steps + 2) main fits) at_offer (omega (arith, lasts)))
 
-pub snaps_straight : SnapsStraight
-snaps_straight state past zero handle root ready is settled free lasts = absurd (no_actor ready)
-snaps_straight state past (suc k) handle root ready is settled free lasts =
+pub snapshots_straight : SnapshotsStraight
+snapshots_straight state past zero handle root ready is settled free lasts = absurd (no_actor ready)
+snapshots_straight state past (suc k) handle root ready is settled free lasts =
     let c = call.Snapshot handle in
     let alone = alone_at state k c root ready in
     let calm = calm_at state (suc k) c root ready in
@@ -127,7 +127,7 @@ snaps_straight state past (suc k) handle root ready is settled free lasts =
     let at_offer =
     makes_root state past k c root one (record { actor = alone.actor; within = alone.within; rest = alone.rest }) second main offer 4 u.drawn at_second refl
     (ap (λ n. copy_if_made (on_line (rooted state c root) one.draft (line.Copy second)) second n) u.drawn) in
-    subst (λ r. ComesTo state past (suc k) c 9 (reply.Opened (least_free state)) (after_call (snapped state handle root).base (snapped state handle root).draft (9 + 2)) r)
+    subst (λ r. ComesTo state past (suc k) c 9 (reply.Opened (least_free state)) (after_call (snapshotted state handle root).base (snapshotted state handle root).draft (9 + 2)) r)
     (copied_noted state past k c root (state.steps + 2) (state.steps + 7) (state.steps + 9) (reply.Opened (least_free state)) refl)
     (offer_ends state past k c root two.base (record { actor = alone.actor; within = alone.within; rest = alone.rest }) handle_root is_open ready.word two.draft one.draft.newest
     (Some two.draft.newest) (Some (least_free state)) stays.same_main stays.decided stays.same_generation 5 (read_fits state past k c (state.steps + 2) main fits) at_offer (omega (arith, lasts)))

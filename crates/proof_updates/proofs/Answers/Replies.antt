@@ -20,9 +20,7 @@ use Rattle.proof_updates.specs.Beneath.machine_model.specs.declared.steps.Step.T
 use Rattle.proof_updates.specs.Beneath.machine_model.specs.Calls.{key_of, is_close, needs_read_only}
 use Rattle.proof_updates.specs.Beneath.machine_model.specs.States.{State}
 use Rattle.proof_updates.specs.Beneath.machine_model.specs.Operations.{first_line}
-use Rattle.proof_updates.specs.Beneath.machine_model.specs.Counting.{settled}
-use Rattle.proof_updates.specs.Beneath.machine_model.specs.Machine.{begin_denial, with_begin}
-use Rattle.proof_updates.specs.Beneath.machine_model.specs.Moves.{Begins}
+use Rattle.proof_updates.specs.Beneath.machine_model.specs.Machine.{begin_denial}
 use Rattle.proof_updates.specs.Beneath.machine_model.specs.Moves.{Moves, begun_operation}
 use Rattle.proof_updates.specs.Beneath.machine_model.specs.Times.{turns, noted_turn}
 use Rattle.proof_updates.specs.Beneath.machine_model.specs.Times.{IsRun, Turn}
@@ -55,10 +53,6 @@ use Rattle.proof_updates.specs.Beneath.machine_model.specs.declared.records.Mome
 -- a call that walks reads a read-only handle
 begun_reads : (state : State) (actor : ℕ) (call : Call) → begin_denial state actor call ≡ None → needs_read_only call ≡ true → (begun_operation state call).access ≡ ReadOnly
 begun_reads state actor call d e = grind arith
-
-after_begin : (state : State) (actor : ℕ) (call : Call) (o : Outcome) (after : State) → Moves state (step.Begin actor call) o after →
-    after ≡ settled state (with_begin state actor call (begun_operation state call))
-after_begin state actor call o after (Begins d) = refl
 
 -- a close has its place at once
 close_places : (state : State) (past : Record) (actor : ℕ) (call : Call) → is_close call ≡ true → is_placed (noted past state.steps (told_in state (step.Begin actor call))) state.begun ≡ true

@@ -5,12 +5,10 @@ use Rattle.proof_updates.specs.Beneath.history.specs.declared.replies.Reply.{Rep
 use Rattle.proof_updates.specs.Beneath.slot_arena.specs.declared.refs.Ref.{Ref}
 use Rattle.proof_updates.specs.Beneath.slot_arena.specs.declared.nodes.Node.{Node}
 use Rattle.proof_updates.specs.Beneath.slot_arena.specs.declared.nodes.Node.TheVariants.{Indirection, Branch, Single, Tomb, List as Listed}
-use Rattle.proof_updates.specs.Beneath.slot_arena.specs.Heaps.{Heap, node_at}
+use Rattle.proof_updates.specs.Beneath.slot_arena.specs.Heaps.{node_at}
 use Rattle.proof_updates.specs.Beneath.machine_model.specs.declared.operations.Operation.{Operation}
 use Rattle.proof_updates.specs.Beneath.machine_model.specs.declared.reading.After.TheVariants.{Gives}
 use Rattle.proof_updates.specs.Beneath.machine_model.specs.declared.reading.Read.{Read}
-use Rattle.proof_updates.specs.Beneath.machine_model.specs.declared.reading.ReadLine.{ReadLine}
-use Rattle.proof_updates.specs.Beneath.machine_model.specs.declared.reading.ReadLine.TheVariants as read
 use Rattle.proof_updates.specs.Beneath.machine_model.specs.declared.walking.WalkLine.{WalkLine}
 use Rattle.proof_updates.specs.Beneath.machine_model.specs.declared.walking.WalkLine.TheVariants as walk
 use Rattle.proof_updates.specs.Beneath.machine_model.specs.declared.lines.Line.{Line}
@@ -24,7 +22,8 @@ use Rattle.proof_updates.specs.Beneath.machine_model.specs.Walking.{walk_after, 
 use Rattle.proof_updates.specs.Beneath.machine_model.specs.Times.{IsRun}
 use Rattle.proof_updates.specs.Beneath.machine_model.specs.Grown.{node_under}
 use Rattle.proof_updates.specs.Beneath.proof_memory.specs.Laws.{IsInUse}
-use Rattle.proof_updates.specs.Beneath.proof_memory.specs.Wants.{Is, Holds, AMain, AnIndirection, meets, AllHold, read_wants}
+use Rattle.proof_updates.specs.Beneath.proof_memory.specs.Wants.{Is, Holds, AnIndirection, meets}
+use Rattle.proof_updates.specs.Beneath.proof_memory.proofs.Claims.Reads.{read_link}
 use Rattle.proof_updates.specs.Beneath.proof_memory.proofs.Claims.Uses.{safe_of, meets_of}
 use Rattle.proof_updates.specs.Beneath.proof_commits.specs.Laws.{IsNoSwap}
 use Rattle.proof_updates.specs.Beneath.proof_commits.specs.Stages.{stage_of}
@@ -54,15 +53,6 @@ use Rattle.proof_updates.specs.Beneath.machine_model.specs.Records.{Record}
 pub goes_at : (states : ℕ → State) (records : ℕ → Record) (t k : ℕ) (operation : Operation) → OwnStep states records t k operation → GoesAt states records t (suc k) operation
 goes_at states records t k operation own =
     record { o = own.outcome; moves = own.moves; runs = own.runs; goes = own.goes; after = own_after states records t k operation own; noted = own.noted }
-
--- what is read is an indirection
-read_link : (S : Ref → Type 0) (heap : Heap) (i : Ref) (l : ReadLine) → AllHold S heap (read_wants i l) → Holds S heap (Is i AnIndirection)
-read_link S heap i read.Main h = h.0
-read_link S heap i (read.Prev m) h = h.0
-read_link S heap i (read.AskRoot m p) h = h.0
-read_link S heap i (read.Abort m p offer) h = h.0
-read_link S heap i (read.Decide m p told) h = h.0
-read_link S heap i (read.Restore m p) h = h.0
 
 module _ (limits : Bounds) (states : ℕ → State) (last : ℕ) (depth path : Ref → ℕ) (run : IsRun limits states last) (ok : IsTrie (trie_of limits states last depth path))
     (t k : ℕ) (lt : t < last) (operation : Operation) (own : OwnStep states run.records t k operation)

@@ -3,6 +3,3 @@ use Rattle.bench_machine.proofs.gating.work.Given as goal
 
 abbrev pub invariant-loop-n : goal.invariant-loop-n
 invariant-loop-n g l = l.seat.runner ≡ l.fn.seat.runner
-
-abbrev pub invariant-loop : goal.invariant-loop
-invariant-loop g l = l.seat.runner ≡ l.fn.seat.runner

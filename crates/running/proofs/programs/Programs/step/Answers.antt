@@ -1,7 +1,7 @@
 use Rattle.std.specs.Prelude.{refl}
 use Rattle.std.proofs.Common.{sym, subst}
-use Rattle.running.specs.declared.programs.Stage.{Stage}
-use Rattle.running.specs.declared.programs.Stage.TheVariants.{Answered, Swapped, Walked}
+use Rattle.running.specs.declared.programs.ProgramAt.{ProgramAt}
+use Rattle.running.specs.declared.programs.ProgramAt.TheVariants.{Answered, Swapped, Walked}
 use Rattle.running.specs.Places.{asking_line}
 use Rattle.running.specs.Steps.{Does, Scene, scene}
 use Rattle.running.proofs.Ending.{ended, stuck}
@@ -12,7 +12,7 @@ returns-in-Runs c =
     let p = c.args.self.now in
     let before : Scene = record { memory = c.args.heap.now; table = c.args.roots.now; generation = c.args.generations.now; programs = p } in
     let after : Scene = record { memory = c.step_running.new.heap; table = c.step_running.new.roots; generation = c.step_running.new.generations; programs = c.step_running.new.self } in
-    subst (λ (s : Stage). Does c.args.job.now c.args.program.now (asking_line p c.args.program.now s p.asking) before c.step_running.result after)
+    subst (λ (s : ProgramAt). Does c.args.job.now c.args.program.now (asking_line p c.args.program.now s p.asking) before c.step_running.result after)
     (sym c.in-Runs.is) c.step_running.ensures
 
 pub returns-in-Answered : goal.returns-in-Answered

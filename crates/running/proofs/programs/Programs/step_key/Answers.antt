@@ -11,7 +11,7 @@ use Rattle.operate.proofs.Wherever.{untold}
 use Rattle.running.specs.declared.job.Job.{Job}
 use Rattle.running.specs.declared.job.Program.TheVariants.{Key}
 use Rattle.running.specs.declared.programs.Programs.{Programs}
-use Rattle.running.specs.declared.programs.Stage.TheVariants.{Runs, Answered}
+use Rattle.running.specs.declared.programs.ProgramAt.TheVariants.{Runs, Answered}
 use Rattle.running.specs.Steps.{Does, Scene, scene, taken_beside}
 use Rattle.running.specs.Taking.{Taken}
 use Rattle.running.proofs.Going.{keys, with_word}

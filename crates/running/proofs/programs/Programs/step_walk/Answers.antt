@@ -5,7 +5,7 @@ use Rattle.running.specs.Beneath.trie_parts.specs.Here.{no_state, no_operation}
 use Rattle.running.specs.Beneath.trie_parts.specs.Steps.{IsAskingLine}
 use Rattle.snapshot.specs.Walks.{walk_line, call_of}
 use Rattle.running.specs.declared.job.Program.TheVariants.{Walk}
-use Rattle.running.specs.declared.programs.Stage.TheVariants.{Runs, Walked, Impossible}
+use Rattle.running.specs.declared.programs.ProgramAt.TheVariants.{Runs, Walked, Impossible}
 use Rattle.running.proofs.Asks.{handle_named}
 use Rattle.running.proofs.Going.{walked_same, walks}
 use Rattle.running.proofs.Lasting.{walk_untold}

@@ -1,20 +1,20 @@
-use Rattle.std.proofs.Common.{◌≡◌, ◌+◌, ◌≤◌, ◌∷◌, ◌++◌, true, length, get_or, set, All, Option, Some, None, is_some, refl, sym, ap, ◌∙◌, subst, arith, length-append}
+use Rattle.std.proofs.Common.{◌≡◌, ◌+◌, ◌≤◌, ◌∷◌, ◌++◌, true, false, length, get_or, set, All, Option, Some, None, is_some, refl, sym, ap, ◌∙◌, subst, arith, length-append}
 use Rattle.std.proofs.lemmas.List.Elements.{All-append}
 use Rattle.slot_arena.specs.declared.refs.Ref.{Ref}
 use Rattle.slot_arena.specs.declared.nodes.Node.{Node}
 use Rattle.slot_arena.specs.declared.nodes.Node.TheVariants.{Branch}
 use Rattle.slot_arena.specs.declared.nodes.Prev.TheVariants as prev
 use Rattle.slot_arena.specs.declared.nodes.Slot.{Slot}
-use Rattle.slot_arena.specs.Refs.{slot_of}
+use Rattle.slot_arena.specs.Refs.{ref_to, slot_of}
 use Rattle.slot_arena.specs.Heaps.{Heap, entries_from, node_at, node_of, refs_of_node, taken}
 use Rattle.slot_arena.specs.Tallies.{Tally, naming}
-use Rattle.slot_arena.specs.Arenas.{Contents, IsLive, NotesWaiting}
+use Rattle.slot_arena.specs.Arenas.{Contents, IsLive, NotesWaiting, is_live}
 use Rattle.slot_arena.specs.Entries.{changed_branch, coming, entries_after}
 use Rattle.slot_arena.specs.Kept.{live, IsKept}
 use Rattle.slot_arena.proofs.Changed.{counts_small}
 use Rattle.slot_arena.proofs.Live.{all_within}
 use Rattle.slot_arena.proofs.Makes.{make_held_kept}
-use Rattle.slot_arena.proofs.Making.{made_lives, made_notes, made_stays}
+use Rattle.slot_arena.proofs.Making.{made_fresh, made_lives, made_notes, made_stays}
 use Rattle.slot_arena.proofs.Reading.{all_seen, live_inside, node_seen, slot_seen, taken_first, taken_none}
 use Rattle.slot_arena.proofs.Staying.{back_live, few_after, few_parts, fits_lent, front_live, refs_counted, refs_live}
 use Rattle.slot_arena.specs.Loans.{Loan, IsLending}
@@ -252,6 +252,27 @@ returns-clause-lives c =
     (made_lives was now c.self.inside.ledger.tally c.raise_changed.new.self.tally c.begin.new.self.tally c.self.inside.free c.take.new.self c.self.inside.used (c.self.inside.used + 1)
     c.in_ok-slot.slot slot
     c.self.invariant.0 c.in_ok-slot.ensures.slots.0 c.fill.ensures c.in_ok-slot.ensures.slots.1)
+
+pub returns-clause-fresh : goal.returns-clause-fresh
+returns-clause-fresh c =
+    let was : Contents = record {
+      heap = record { slots = c.self.inside.cells; free = c.self.inside.free.slots; births = c.self.inside.births };
+      outside = c.self.inside.outside.items;
+      noted = c.self.inside.ledger.tally.noted;
+      ticks = c.self.inside.free.ticks + c.self.inside.ledger.tally.ticks;
+    } in
+    let now : Contents = record {
+      heap = record { slots = c.fill.new.self; free = c.take.new.self.slots; births = c.self.inside.births + 1 };
+      outside = c.with_first-self-inside.result.items;
+      noted = c.begin.new.self.tally.noted;
+      ticks = 0;
+    } in
+    let slot : Slot = record { birth = c.self.inside.births + 1; node = Branch c.args.bitmap c.joined-entries.result; prev = prev.None } in
+    subst (λ r. is_live c.args.self.now.heap r ≡ false) (sym c.new-made.ensures)
+    (subst (λ (a : Contents). is_live a.heap (ref_to slot.birth c.in_ok-slot.slot) ≡ false) c.self.view_is
+    (made_fresh was now c.self.inside.ledger.tally c.raise_changed.new.self.tally c.begin.new.self.tally c.self.inside.free c.take.new.self c.self.inside.used (c.self.inside.used + 1)
+    c.in_ok-slot.slot slot
+    c.self.invariant.0 c.in_ok-slot.ensures.slots.0 c.fill.ensures c.in_ok-slot.ensures.slots.1))
 
 pub returns-clause-ticks : goal.returns-clause-ticks
 returns-clause-ticks c =

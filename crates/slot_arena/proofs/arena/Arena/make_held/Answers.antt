@@ -1,19 +1,16 @@
-use Rattle.std.proofs.Common.{◌≡◌, ℕ, ◌+◌, ◌<◌, ◌∷◌, true, length, get_or, set, slice_index, All, Some, None, refl, sym, ap, ◌∙◌, subst, inl, arith}
-use Rattle.slot_arena.specs.Refs.{ref_to, slot_of, birth_of, most_slots}
+use Rattle.std.proofs.Common.{◌≡◌, ◌+◌, ◌<◌, ◌∷◌, true, false, length, set, slice_index, All, Some, None, refl, sym, ap, ◌∙◌, subst, inl, arith}
+use Rattle.slot_arena.specs.Refs.{ref_to, slot_of}
 use Rattle.slot_arena.specs.Heaps.{Heap, refs_of_node}
 use Rattle.slot_arena.specs.Tallies.{Tally, naming}
-use Rattle.slot_arena.specs.Arenas.{Contents, IsLive, NotesWaiting}
+use Rattle.slot_arena.specs.Arenas.{Contents, IsLive, NotesWaiting, is_live}
 use Rattle.slot_arena.specs.Kept.{live, IsKept}
 use Rattle.slot_arena.proofs.Live.{all_within}
 use Rattle.slot_arena.proofs.Changed.{counts_small}
 use Rattle.slot_arena.proofs.Reading.{all_seen, taken_none, taken_first}
 use Rattle.slot_arena.proofs.Makes.{make_held_kept, first_unused}
-use Rattle.slot_arena.proofs.Making.{made_lives, made_notes, made_stays}
+use Rattle.slot_arena.proofs.Making.{made_fresh, made_lives, made_notes, made_stays}
 use Rattle.slot_arena.specs.declared.nodes.Slot.{Slot}
-use Rattle.slot_arena.proofs.Live.{slot_of_ref}
 use Rattle.slot_arena.specs.declared.nodes.Prev.TheVariants as prev
-use Rattle.slot_arena.specs.Arenas.{has_birth}
-use Rattle.slot_arena.proofs.Reading.{live_is}
 use Rattle.slot_arena.specs.Loans.{IsLending}
 use Rattle.slot_arena.proofs.Lenders.{first_none, lending_filled, lending_kept}
 use Rattle.slot_arena.proofs.arena.Arena.make_held.Goals as goal
@@ -157,10 +154,21 @@ returns-clause-lives c =
 
 pub returns-clause-fresh : goal.returns-clause-fresh
 returns-clause-fresh c =
-    let k : ℕ = c.in_ok-slot.slot in
-    let b : ℕ = c.self.inside.births + 1 in
-    let small : k < most_slots = let few = c.self.invariant.0.few in let is = c.self.invariant.0.chained in let below = c.in_ok-slot.ensures.slots.1 in omega arith in
-    let empty = first_unused c.self.inside.cells c.self.inside.ledger.tally.counts c.self.inside.free c.self.inside.used c.self.inside.outside.items c.self.invariant.0 k c.take.new.self.slots
-    c.in_ok-slot.ensures.slots.0 in
-    live_is c.args.self.now.heap c.new-made.result ∙ ap (λ (a : Contents). live a.heap.slots c.new-made.result) (sym c.self.view_is) ∙ ap (live c.self.inside.cells) c.new-made.ensures
-    ∙ ap (λ i. has_birth (birth_of (ref_to b k)) (get_or c.self.inside.cells i None)) (slot_of_ref b k small) ∙ ap (has_birth (birth_of (ref_to b k))) empty
+    let was : Contents = record {
+      heap = record { slots = c.self.inside.cells; free = c.self.inside.free.slots; births = c.self.inside.births };
+      outside = c.self.inside.outside.items;
+      noted = c.self.inside.ledger.tally.noted;
+      ticks = c.self.inside.free.ticks + c.self.inside.ledger.tally.ticks;
+    } in
+    let now : Contents = record {
+      heap = record { slots = c.fill.new.self; free = c.take.new.self.slots; births = c.self.inside.births + 1 };
+      outside = c.with_first-self-inside.result.items;
+      noted = c.begin.new.self.tally.noted;
+      ticks = 0;
+    } in
+    let slot : Slot = record { birth = c.self.inside.births + 1; node = c.args.node; prev = prev.None } in
+    subst (λ r. is_live c.args.self.now.heap r ≡ false) (sym c.new-made.ensures)
+    (subst (λ (a : Contents). is_live a.heap (ref_to slot.birth c.in_ok-slot.slot) ≡ false) c.self.view_is
+    (made_fresh was now c.self.inside.ledger.tally c.raise_all.new.self.tally c.begin.new.self.tally c.self.inside.free c.take.new.self c.self.inside.used (c.self.inside.used + 1)
+    c.in_ok-slot.slot slot
+    c.self.invariant.0 c.in_ok-slot.ensures.slots.0 c.fill.ensures c.in_ok-slot.ensures.slots.1))

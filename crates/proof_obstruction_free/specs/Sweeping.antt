@@ -1,0 +1,14 @@
+-- What the sweep takes at most for a slot, and which slots it leaves in use.
+use Rattle.std.specs.Prelude.{ℕ, ◌+◌, ◌*◌}
+use Rattle.proof_obstruction_free.specs.Beneath.slot_arena.specs.declared.refs.Ref.{Ref}
+use Rattle.proof_obstruction_free.specs.Beneath.machine_model.specs.Contents.{IsReached}
+use Rattle.proof_obstruction_free.specs.Beneath.machine_model.specs.States.{State}
+use Rattle.proof_obstruction_free.specs.Beneath.proof_memory.specs.Laws.{IsInUse}
+
+-- the most steps for a slot that is freed: the epoch grows twice, each time when all actors were passed, and one step frees it
+abbrev pub steps_for_a_slot : ℕ → ℕ
+steps_for_a_slot actors = 2 * actors + 3
+
+-- just what the handles reach is in use
+abbrev pub UsesReached : State → Type 0
+UsesReached state = (r : Ref) → (IsInUse state.heap r → IsReached state r) × (IsReached state r → IsInUse state.heap r)
