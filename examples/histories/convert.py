@@ -33,7 +33,7 @@ from edn import Fault, Word
 from orders import Budget, Spent, after, merged, order_of
 
 CALLS = {":read": "read", ":write": "write", ":cas": "cas", ":get": "read", ":put": "write", ":append": "append"}
-MOST_NUMBER, MOST_ACTOR = 2**64 - 1, 255
+MOST_NUMBER, MOST_ACTOR, MOST_LINES = 2**64 - 1, 255, 300_000
 
 
 @dataclass(eq=False)
@@ -136,6 +136,10 @@ def operations_of(forms):
             operation.end = time
             if operation.what == "read":
                 operation.found = found_by(line, form, operation, tuples)
+    grows = {it.key for it in kept if it.what == "append"}
+    for it in kept:
+        if it.key in grows and it.value is not None and not isinstance(it.value, str):
+            raise Fault(it.line, "strings are appended to what this writes, and it is none")
     gone = {it.begin for it in failed}
     return [it for it in kept if it.begin not in gone], failed
 
@@ -218,7 +222,8 @@ class Telling:
     def lines(self):
         yield "# Worked out by examples/histories/convert.py: the order, what puts were answered, and what appends made."
         yield from self.names()
-        yield "hash low"
+        # By this hash no two keys have the same one, so that no put is crowded: a register of another checker never is.
+        yield "hash wide"
         for time, operation in sorted((time, it) for it in self.operations for time in (it.begin, it.end) if time < math.inf):
             number = self.ids[operation.begin]
             if time == operation.begin:
@@ -228,11 +233,19 @@ class Telling:
         yield " ".join(["order", *(str(self.ids[it.begin]) for it in self.order)])
 
 
+def by_key(operations):
+    """Returns the operations of each key, the key that comes first first."""
+    found = {}
+    for it in operations:
+        found.setdefault(it.key, []).append(it)
+    return found
+
+
 def ordered(operations, steps):
     """Returns an order of the operations, and the keys whose answers no order explains."""
     budget, orders, unexplained = Budget(steps), [], []
-    for key in dict.fromkeys(it.key for it in operations):
-        order, explains = order_of([it for it in operations if it.key == key], budget)
+    for key, of_key in by_key(operations).items():
+        order, explains = order_of(of_key, budget)
         orders.append(order)
         if not explains:
             unexplained.append(key)
@@ -244,14 +257,16 @@ def say(text):
 
 
 def say_what_is_left(operations, failed):
-    """Says what of the history is told otherwise than it stands there, and which reads nothing explains."""
+    """Says what of the history is told otherwise than it stands there, and what was read and neither written nor made by an append."""
     unended, appends = [it for it in operations if it.end == math.inf], [it for it in operations if it.what == "append"]
     for found, what in ((failed, "failed and left out"), (unended, "left open"), (appends, "appends told as puts")):
         if found:
             say(f"operations that are {what}: {len(found)}, the first of line {min(it.line for it in found)}")
-    written, grows = {(it.key, it.value) for it in operations if it.what != "read"}, {it.key for it in appends}
+    written = {(it.key, it.value) for it in operations if it.what != "read"}
+    appended = {key: tuple(it.value for it in made) for key, made in by_key(appends).items()}
     for it in operations:
-        if it.found is not None and (it.key, it.found) not in written and it.key not in grows:
+        read = it.found if it.what == "read" else it.before if it.end < math.inf else None
+        if read is not None and (it.key, read) not in written and not str(read).endswith(appended.get(it.key, ())):
             say(f"line {it.line}: what this reads is written nowhere")
 
 
@@ -260,7 +275,10 @@ def convert(text, steps):
     say_what_is_left(operations, failed)
     order, unexplained = ordered(operations, steps)
     told = Telling(operations, order)
-    print("\n".join(told.lines()))
+    lines = list(told.lines())
+    if len(lines) > MOST_LINES:
+        raise Fault(operations[-1].line, f"up to this the history has more than the {MOST_LINES:,} lines that check reads")
+    print("\n".join(lines))
     if unexplained:
         say(f"no order explains the answers of these keys: {', '.join(str(told.keys[it]) for it in unexplained)}")
     return 3 if unexplained else 0

@@ -15,7 +15,7 @@ use Rattle.ctrie_commands.specs.Threads.{AppendsThreadReport, AppendsThreadRepor
 use Rattle.ctrie_words.specs.declared.arguments.Request.TheVariants.{Check, Run, Threads, Explain, Draw}
 use Rattle.ctrie.specs.declared.outcomes.Outcome.{Outcome}
 use Rattle.ctrie.specs.declared.outcomes.Outcome.TheVariants.{Done, Legal, NotLegal}
-use Rattle.ctrie.specs.Outcomes.{Tells, judged, done}
+use Rattle.ctrie.specs.Outcomes.{Tells, TellsLegality, judged, done}
 
 -- ---- how it comes out
 
@@ -60,7 +60,28 @@ pub done_holds : (result : Result (Unit {0}) Fault) (P : Type 0) → OnOk result
 done_holds (Ok nothing) P holds e = holds
 done_holds (Err fault) P holds e = grind (arith, e)
 
+pub done_not_judged : (result : Result (Unit {0}) Fault) (legal : Bool) → done result ≡ judged (Ok legal) → ⊥
+done_not_judged (Ok nothing) true e = grind (arith, e)
+done_not_judged (Ok nothing) false e = grind (arith, e)
+done_not_judged (Err fault) true e = grind (arith, e)
+done_not_judged (Err fault) false e = grind (arith, e)
+
 -- ---- what was written
+
+-- what tells the verdict was written, whatever the text
+pub legality_told : (verdict : Result Bool Fault) (request : _) (old new : Option (List ℕ)) → IfOk verdict (λ legal. AppendsSuch (TellsLegality request legal) old new) →
+    (legal : Bool) → judged verdict ≡ judged (Ok legal) → AppendsSuch (TellsLegality request legal) old new
+legality_told (Ok true) request old new written true e = written
+legality_told (Ok false) request old new written false e = written
+legality_told (Ok true) request old new written false e = absurd (let wrong : ⊥ = grind (arith, e) in wrong)
+legality_told (Ok false) request old new written true e = absurd (let wrong : ⊥ = grind (arith, e) in wrong)
+legality_told (Err fault) request old new written true e = absurd (let wrong : ⊥ = grind (arith, e) in wrong)
+legality_told (Err fault) request old new written false e = absurd (let wrong : ⊥ = grind (arith, e) in wrong)
+
+pub line_told : (verdict : Result Bool Fault) (path : _) (old new : Option (List ℕ)) → IfOk verdict (λ legal. Appends old new (verdict_line legal)) →
+    IfOk verdict (λ legal. AppendsSuch (TellsLegality (Check path) legal) old new)
+line_told (Ok legal) path old new written = (verdict_line legal, refl, written)
+line_told (Err fault) path old new written = tt
 
 -- its verdict was written
 pub verdict_told : (known old new : Option (List ℕ)) (verdict : Result Bool Fault) (path : _) → IfOk verdict (λ legal. IfSome known (λ text. IsVerdict text legal)) →

@@ -4,8 +4,8 @@ use Rattle.ctrie_base.specs.declared.refusals.Refusal.{Refusal}
 use Rattle.ctrie.specs.Beneath.history_commands.specs.declared.faults.Fault.{Fault}
 use Rattle.ctrie.specs.Beneath.history_commands.specs.Faults.{status_of}
 use Rattle.ctrie.specs.Beneath.history_commands.specs.Verdicts.{IsVerdict, verdict_line, HasLineFault}
-use Rattle.ctrie.specs.Beneath.history_commands.specs.Explanations.{IsExplanation}
-use Rattle.ctrie.specs.Beneath.history_commands.specs.Pictures.{IsPicture}
+use Rattle.ctrie.specs.Beneath.history_commands.specs.Explanations.{IsExplanation, ExplainsVerdict}
+use Rattle.ctrie.specs.Beneath.history_commands.specs.Pictures.{IsPicture, ShowsVerdict}
 use Rattle.ctrie.specs.Beneath.script_commands.specs.Scripts.{IsReport, HasScriptFault}
 use Rattle.ctrie_commands.specs.Threads.{IsThreadReport, HasThreadFault}
 use Rattle.ctrie_words.specs.declared.arguments.Request.{Request}
@@ -41,6 +41,13 @@ Tells (Explain path) text NotLegal bytes = IsVerdict text false × IsExplanation
 Tells (Draw path) text Legal bytes = IsVerdict text true × IsPicture text true bytes
 Tells (Draw path) text NotLegal bytes = IsVerdict text false × IsPicture text false bytes
 Tells request text outcome bytes = ⊥
+
+-- these bytes tell this verdict on a history, in the form that is asked for, whatever the text
+abbrev pub TellsLegality : Request → Bool → List ℕ → Type 0
+TellsLegality (Check path) legal bytes = bytes ≡ verdict_line legal
+TellsLegality (Explain path) legal bytes = ExplainsVerdict legal bytes
+TellsLegality (Draw path) legal bytes = ShowsVerdict legal bytes
+TellsLegality request legal bytes = ⊥
 
 -- the first line with a fault is this one, with this fault
 abbrev pub HasFault : Request → List ℕ → ℕ → Refusal → Type 0

@@ -1,11 +1,11 @@
 //! What comes of a request.
 
-ghost use Rattle.std.specs.Prelude.{◌≡◌, ◌≢◌, ◌<◌, ◌^◌, ℕ, Ok, Err, IfOk, OnOk, IfErr, IfSome};
+ghost use Rattle.std.specs.Prelude.{◌≡◌, ◌≢◌, ◌<◌, ◌^◌, ℕ, Bool, Ok, Err, IfOk, OnOk, IfErr, IfSome};
 ghost use Rattle.std.specs.Io.KnownBytes.{Keeps, IsAtEnd};
 ghost use Rattle.counted_io.specs.Counts.{inner_of, failures};
 ghost use Rattle.ctrie.specs.Beneath.script_commands.specs.Legality.{AppendsJudged};
 ghost use Rattle.ctrie.specs.Beneath.history_commands.specs.Written.{AppendsSuch, AppendsPartOf};
-ghost use Rattle.ctrie.specs.Outcomes.{Tells, HasFault, judged, done};
+ghost use Rattle.ctrie.specs.Outcomes.{Tells, TellsLegality, HasFault, judged, done};
 
 use ctrie_commands::{
     Counted, Fault, Nothing, check_history, draw_history, explain_history, run_script, run_threads,
@@ -64,7 +64,10 @@ pub fn carry_out<R: Threads + Wait + Sync, I: Read, W: Write>(
         AppendsSuch (Tells request.entry text outcome) (W.contents (inner_of output.old)) (W.contents (inner_of output.new)))) }
     ensures all_read { OnOk result (IsAtEnd (I.remaining (inner_of input.new))) }
 
-    // Whatever the reader had: of a script a text was written of which a check answers true.
+    // Whatever the reader had: of a history just what tells the verdict was written, and of a script a text of which a
+    // check answers true.
+    ensures told { (legal : Bool) → result ≡ judged (Ok legal)
+        → AppendsSuch (TellsLegality request.entry legal) (W.contents (inner_of output.old)) (W.contents (inner_of output.new)) }
     ensures legal { result ≡ Ok Outcome.Done → AppendsJudged (W.contents (inner_of output.old)) (W.contents (inner_of output.new)) }
 
     // What each fault tells.

@@ -14,7 +14,7 @@ use Rattle.history.specs.declared.faults.Obstacle.TheVariants.{NeedsWritable, Ne
 use Rattle.history.specs.Worlds.{KeyMap, HandleState, HandleMap}
 use Rattle.history.specs.Effects.{map_of, writable_map_of, read_only_map_of, with_access, naming, copying, effect}
 use Rattle.history.specs.Histories.{OpensRightly}
-use Rattle.history.specs.Faults.{needed_access, Names, Hinders}
+use Rattle.history.specs.Faults.{needed_access, IsOfKind, Hinders}
 use Rattle.history.specs.Handles.{handle_of}
 use Rattle.history.specs.Obstacles.{mismatch}
 
@@ -23,7 +23,7 @@ state_in None access is = let wrong : ⊥ = cc is in absurd wrong
 state_in (Some s) access is = (s.pairs, ap (λ (a : Access). Some (record { access = a; pairs = s.pairs })) (same_Some s.access access is))
 
 -- a handle that is there names a map
-pub named : (world : HandleMap) (h : ℕ) (access : Access) → option_and_then (λ s. Some s.access) (map.get world h) ≡ Some access → Names world h access
+pub named : (world : HandleMap) (h : ℕ) (access : Access) → option_and_then (λ s. Some s.access) (map.get world h) ≡ Some access → IsOfKind world h access
 named world h access is = state_in (map.get world h) access is
 
 no_state : (o : Option HandleState) → option_and_then (λ s. Some s.access) o ≡ None → o ≡ None
@@ -35,7 +35,7 @@ unnamed world h is = no_state (map.get world h) is
 
 -- a handle of the wrong kind
 pub kind_hinders : (world : HandleMap) (call : Call) (opens : Option ℕ) (h : ℕ) (access : Access) (needed : Option Access) (obstacle : Obstacle) → needed_access call ≡ needed → h ≡ handle_of call
-    → Names world h access → mismatch needed access h ≡ Some obstacle → Hinders world call opens obstacle
+    → IsOfKind world h access → mismatch needed access h ≡ Some obstacle → Hinders world call opens obstacle
 kind_hinders world call opens h Writable None obstacle needs here names is = let wrong : ⊥ = cc is in absurd wrong
 kind_hinders world call opens h ReadOnly None obstacle needs here names is = let wrong : ⊥ = cc is in absurd wrong
 kind_hinders world call opens h Writable (Some Writable) obstacle needs here names is = let wrong : ⊥ = cc is in absurd wrong
@@ -49,25 +49,25 @@ kind_hinders world call opens h Writable (Some ReadOnly) obstacle needs here nam
 
 -- the handle that the call is to open is open already
 abbrev pub IsTaken : HandleMap → Call → Option ℕ → Type 0
-IsTaken world call opens = (n : ℕ) × (opens ≡ Some n) × Names world (handle_of call) Writable × IsSome (map.get world n)
+IsTaken world call opens = (n : ℕ) × (opens ≡ Some n) × IsOfKind world (handle_of call) Writable × IsSome (map.get world n)
 
 -- a call on a map that is there has an effect
 
-no_map : (world : HandleMap) (h : ℕ) (access : Access) (does : KeyMap → Option (Reply × HandleMap)) → ((m : KeyMap) → IsSome (does m)) → Names world h access
+no_map : (world : HandleMap) (h : ℕ) (access : Access) (does : KeyMap → Option (Reply × HandleMap)) → ((m : KeyMap) → IsSome (does m)) → IsOfKind world h access
     → ¬ (option_and_then does (map_of world h) ≡ None)
 no_map world h access does some names none =
     let there : map_of world h ≡ Some names.0 = ap (λ (o : Option HandleState). option_and_then (λ s. Some s.pairs) o) names.1 in
     let P : Option (Reply × HandleMap) → Type 0 = λ o. IsSome o in
     false≢true (subst P (sym (ap (λ (o : Option KeyMap). option_and_then does o) there) ∙ none) (some names.0))
 
-no_writable : (world : HandleMap) (h : ℕ) (does : KeyMap → Option (Reply × HandleMap)) → ((m : KeyMap) → IsSome (does m)) → Names world h Writable
+no_writable : (world : HandleMap) (h : ℕ) (does : KeyMap → Option (Reply × HandleMap)) → ((m : KeyMap) → IsSome (does m)) → IsOfKind world h Writable
     → ¬ (option_and_then does (writable_map_of world h) ≡ None)
 no_writable world h does some names none =
     let there : writable_map_of world h ≡ Some names.0 = ap (λ (o : Option HandleState). option_and_then (λ s. with_access Writable s.access s.pairs) o) names.1 in
     let P : Option (Reply × HandleMap) → Type 0 = λ o. IsSome o in
     false≢true (subst P (sym (ap (λ (o : Option KeyMap). option_and_then does o) there) ∙ none) (some names.0))
 
-no_read_only : (world : HandleMap) (h : ℕ) (does : KeyMap → Option (Reply × HandleMap)) → ((m : KeyMap) → IsSome (does m)) → Names world h ReadOnly
+no_read_only : (world : HandleMap) (h : ℕ) (does : KeyMap → Option (Reply × HandleMap)) → ((m : KeyMap) → IsSome (does m)) → IsOfKind world h ReadOnly
     → ¬ (option_and_then does (read_only_map_of world h) ≡ None)
 no_read_only world h does some names none =
     let there : read_only_map_of world h ≡ Some names.0 = ap (λ (o : Option HandleState). option_and_then (λ s. with_access ReadOnly s.access s.pairs) o) names.1 in
@@ -80,8 +80,8 @@ numbered : (o : Option HandleState) (n : ℕ) (world : HandleMap) (access : Acce
 numbered None n world access m none = let wrong : ⊥ = cc none in absurd wrong
 numbered (Some s) n world access m none = refl
 
-taken : (world : HandleMap) (h : ℕ) (opens : Option ℕ) (access : Access) → IsSome opens → Names world h Writable → copying world h opens access ≡ None
-    → (n : ℕ) × (opens ≡ Some n) × Names world h Writable × IsSome (map.get world n)
+taken : (world : HandleMap) (h : ℕ) (opens : Option ℕ) (access : Access) → IsSome opens → IsOfKind world h Writable → copying world h opens access ≡ None
+    → (n : ℕ) × (opens ≡ Some n) × IsOfKind world h Writable × IsSome (map.get world n)
 taken world h None access opens names none = absurd (false≢true opens)
 taken world h (Some n) access opens names none =
     let there : writable_map_of world h ≡ Some names.0 = ap (λ (o : Option HandleState). option_and_then (λ s. with_access Writable s.access s.pairs) o) names.1 in
@@ -90,7 +90,7 @@ taken world h (Some n) access opens names none =
     (n, refl, names, numbered (map.get world n) n world access names.0 (sym copies ∙ none))
 
 -- where the handle is of the right kind, only a copy may lack an effect
-pub all_else : (hash : ℕ → ℕ) (world : HandleMap) (call : Call) (opens : Option ℕ) (access : Access) → OpensRightly call opens → Names world (handle_of call) access
+pub all_else : (hash : ℕ → ℕ) (world : HandleMap) (call : Call) (opens : Option ℕ) (access : Access) → OpensRightly call opens → IsOfKind world (handle_of call) access
     → mismatch (needed_access call) access (handle_of call) ≡ None → effect hash world call opens ≡ None → IsTaken world call opens
 all_else hash world (Get h k) opens access rightly names fits none = absurd (no_map world h access _ (λ m. refl) names none)
 all_else hash world (Close h) opens access rightly names fits none = absurd (no_map world h access _ (λ m. refl) names none)

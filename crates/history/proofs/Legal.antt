@@ -8,7 +8,7 @@ use Rattle.history.specs.declared.replies.Reply.TheVariants.{NoSlots}
 use Rattle.history.specs.declared.events.Event.{Event}
 use Rattle.history.specs.declared.events.Event.TheVariants.{Begin}
 use Rattle.history.specs.declared.faults.OrderFault.{OrderFault}
-use Rattle.history.specs.declared.faults.OrderFault.TheVariants.{WrongEvent, NotBegun, StandsTwice, WasRefused, StandsLate, NoEffect, OtherReply, Missing}
+use Rattle.history.specs.declared.faults.OrderFault.TheVariants.{WrongEvent, NotBegun, StandsTwice, WasRefused, StandsBehind, NoEffect, OtherReply, Missing}
 use Rattle.history.specs.declared.tables.Table.{Table}
 use Rattle.history.specs.Worlds.{HandleMap}
 use Rattle.history.specs.Effects.{effect}
@@ -16,8 +16,8 @@ use Rattle.history.specs.Histories.{Operation, HasEnded, IsWellFormed}
 use Rattle.history.specs.Orders.{OrderedAt, Answered, Recalls, Explains, IsLegal}
 use Rattle.history.specs.Tables.{Records, recorded}
 use Rattle.history.specs.Beginnings.{LeadsTo, MayStand}
-use Rattle.history.specs.Faults.{IsAmong, Calls, IsWrongBehind, IsMissing, IsFirstMissing, IsFirstFault}
-use Rattle.history.specs.Replays.{Marks, IsAnswer, IsUnmarked, FindsUnmarked, Judges}
+use Rattle.history.specs.Faults.{IsAmong, Calls, IsWrongBehind, IsMissing, IsFirstMissing, IsFirstFault, Judges}
+use Rattle.history.specs.Replays.{Marks, IsAnswer, IsUnmarked, FindsUnmarked}
 use Rattle.history.proofs.Places.{at_within, option_cases}
 use Rattle.history.proofs.Begins.{begins_once}
 use Rattle.history.proofs.Leading.{must_stand}
@@ -61,7 +61,7 @@ not_wrong hash history ids id world next (WrongEvent place) well stands wrong = 
 not_wrong hash history ids id world next (NotBegun x) well stands wrong = wrong.1 stands.has_begun
 not_wrong hash history ids id world next (StandsTwice x) well stands wrong = stands.is_new wrong.1.0 wrong.1.1
 not_wrong hash history ids id world next (WasRefused x) well stands wrong = stands.not_refused wrong.2
-not_wrong hash history ids id world next (StandsLate x other) well stands wrong =
+not_wrong hash history ids id world next (StandsBehind x other) well stands wrong =
     let among : IsAmong ids other = (wrong.4).among in
     stands.on_time among.0 other among.1 wrong.3
 not_wrong hash history ids id world next (NoEffect x obstacle) well stands wrong =
@@ -92,7 +92,7 @@ not_legal hash history order (WrongEvent place) first legal = first.1.2 (legal.1
 not_legal hash history order (NotBegun x) first legal = not_legal_at hash history order (NotBegun x) first.1.0 first.1.1 first.1.2 first.0 first.1.3 first.1.4 first.1.5 legal
 not_legal hash history order (StandsTwice x) first legal = not_legal_at hash history order (StandsTwice x) first.1.0 first.1.1 first.1.2 first.0 first.1.3 first.1.4 first.1.5 legal
 not_legal hash history order (WasRefused x) first legal = not_legal_at hash history order (WasRefused x) first.1.0 first.1.1 first.1.2 first.0 first.1.3 first.1.4 first.1.5 legal
-not_legal hash history order (StandsLate x y) first legal = not_legal_at hash history order (StandsLate x y) first.1.0 first.1.1 first.1.2 first.0 first.1.3 first.1.4 first.1.5 legal
+not_legal hash history order (StandsBehind x y) first legal = not_legal_at hash history order (StandsBehind x y) first.1.0 first.1.1 first.1.2 first.0 first.1.3 first.1.4 first.1.5 legal
 not_legal hash history order (NoEffect x o) first legal = not_legal_at hash history order (NoEffect x o) first.1.0 first.1.1 first.1.2 first.0 first.1.3 first.1.4 first.1.5 legal
 not_legal hash history order (OtherReply x c r g) first legal =
     not_legal_at hash history order (OtherReply x c r g) first.1.0 first.1.1 first.1.2 first.0 first.1.3 first.1.4 first.1.5 legal
@@ -107,13 +107,13 @@ wrong_first hash history order place id world (WrongEvent at_event) well at lead
 wrong_first hash history order place id world (NotBegun x) well at leads wrong = (well, (place, id, world, at, leads, wrong))
 wrong_first hash history order place id world (StandsTwice x) well at leads wrong = (well, (place, id, world, at, leads, wrong))
 wrong_first hash history order place id world (WasRefused x) well at leads wrong = (well, (place, id, world, at, leads, wrong))
-wrong_first hash history order place id world (StandsLate x y) well at leads wrong = (well, (place, id, world, at, leads, wrong))
+wrong_first hash history order place id world (StandsBehind x y) well at leads wrong = (well, (place, id, world, at, leads, wrong))
 wrong_first hash history order place id world (NoEffect x o) well at leads wrong = (well, (place, id, world, at, leads, wrong))
 wrong_first hash history order place id world (OtherReply x c r g) well at leads wrong = (well, (place, id, world, at, leads, wrong))
 wrong_first hash history order place id world (Missing x) well at leads wrong = absurd wrong
 
 -- there is no fault exactly where the order is legal
-pub none_if_legal : (hash : ℕ → ℕ) (history : List Event) (order : List ℕ) (fault : Option OrderFault) → Judges fault hash history order → IsNone fault ↔ IsLegal hash history order
+pub none_if_legal : (hash : ℕ → ℕ) (history : List Event) (order : List ℕ) (fault : Option OrderFault) → Judges hash history order fault → IsNone fault ↔ IsLegal hash history order
 none_if_legal hash history order None judged = (λ none. judged, λ legal. refl)
 none_if_legal hash history order (Some fault) judged = (λ none. absurd (true≢false none), λ legal. absurd (not_legal hash history order fault judged legal))
 

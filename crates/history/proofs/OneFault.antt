@@ -14,13 +14,13 @@ use Rattle.history.specs.declared.events.Event.TheVariants.{Begin, End}
 use Rattle.history.specs.declared.faults.Obstacle.{Obstacle}
 use Rattle.history.specs.declared.faults.Obstacle.TheVariants.{NotOpen, NeedsWritable, NeedsReadOnly, OpenAlready}
 use Rattle.history.specs.declared.faults.OrderFault.{OrderFault}
-use Rattle.history.specs.declared.faults.OrderFault.TheVariants.{WrongEvent, NotBegun, StandsTwice, WasRefused, StandsLate, NoEffect, OtherReply, Missing}
+use Rattle.history.specs.declared.faults.OrderFault.TheVariants.{WrongEvent, NotBegun, StandsTwice, WasRefused, StandsBehind, NoEffect, OtherReply, Missing}
 use Rattle.history.specs.Worlds.{HandleMap, HandleState, first_world}
 use Rattle.history.specs.Effects.{effect}
 use Rattle.history.specs.Histories.{Operation, BeginsAt, EndsAt, HasBegun, HasEnded, OpensRightly, MayFollow, IsWellFormed}
 use Rattle.history.specs.Orders.{OrderedAt, IsBefore}
 use Rattle.history.specs.Beginnings.{LeadsTo}
-use Rattle.history.specs.Faults.{Names, Hinders, IsAmong, BeganLast, IsInTime, Calls, IsWrongBehind, IsFirstWrong, IsFirstMissing, IsFirstFault, needed_access}
+use Rattle.history.specs.Faults.{IsOfKind, Hinders, IsAmong, BeganLast, IsInTime, Calls, IsWrongBehind, IsFirstWrong, IsFirstMissing, IsFirstFault, needed_access}
 use Rattle.history.specs.Handles.{handle_of}
 use Rattle.history.specs.Laws.{HasOneFirstFault}
 use Rattle.history.proofs.Places.{in_take, at_take}
@@ -89,10 +89,10 @@ opens_nothing (Entries h) opens n rightly needs is = let wrong : ⊥ = cc (right
 opens_nothing (Count h) opens n rightly needs is = let wrong : ⊥ = cc (rightly, is) in wrong
 
 -- what a handle names
-names_there : (world : HandleMap) (h k : ℕ) (a : Access) → h ≡ k → Names world h a → ¬ (map.get world k ≡ None)
+names_there : (world : HandleMap) (h k : ℕ) (a : Access) → h ≡ k → IsOfKind world h a → ¬ (map.get world k ≡ None)
 names_there world h k a same names none = let there : map.get world h ≡ None = ap (map.get world) same ∙ none in let wrong : ⊥ = cc (names.1, there) in wrong
 
-names_once : (world : HandleMap) (h k : ℕ) (a b : Access) → h ≡ k → Names world h a → Names world k b → a ≡ b
+names_once : (world : HandleMap) (h k : ℕ) (a b : Access) → h ≡ k → IsOfKind world h a → IsOfKind world k b → a ≡ b
 names_once world h k a b same names_a names_b =
     let states = same_Some (record { access = a; pairs = names_a.0 }) (record { access = b; pairs = names_b.0 }) (sym names_a.1 ∙ ap (map.get world) same ∙ names_b.1) in
     ap (λ (s : HandleState). s.access) states
@@ -121,7 +121,7 @@ abbrev rank : OrderFault → ℕ
 rank (NotBegun x) = 1
 rank (StandsTwice x) = 2
 rank (WasRefused x) = 3
-rank (StandsLate x other) = 4
+rank (StandsBehind x other) = 4
 rank (NoEffect x obstacle) = 5
 rank (OtherReply x call told given) = 6
 rank fault = 0
@@ -132,7 +132,7 @@ module _ (hash : ℕ → ℕ) (history : List Event) (ids : List ℕ) (id : ℕ)
   begun_past (NotBegun x) lt wrong = absurd (omega (arith, lt))
   begun_past (StandsTwice x) lt wrong = leads.has_begun wrong.1.0 id wrong.1.1
   begun_past (WasRefused x) lt wrong = ended_begun history id NoSlots well wrong.2
-  begun_past (StandsLate x other) lt wrong = ended_begun history id wrong.3.2 well (wrong.3.0, wrong.3.4)
+  begun_past (StandsBehind x other) lt wrong = ended_begun history id wrong.3.2 well (wrong.3.0, wrong.3.4)
   begun_past (NoEffect x o) lt wrong = let calls = wrong.2.2 in (calls.0, record { actor = calls.1; call = wrong.2.0; opens = wrong.2.1 }, calls.2)
   begun_past (OtherReply x call told given) lt wrong = ended_begun history id told well wrong.2
   begun_past (Missing x) lt wrong = absurd wrong
@@ -142,7 +142,7 @@ module _ (hash : ℕ → ℕ) (history : List Event) (ids : List ℕ) (id : ℕ)
   new_past (NotBegun x) lt wrong = absurd (omega (arith, lt))
   new_past (StandsTwice x) lt wrong = absurd (omega (arith, lt))
   new_past (WasRefused x) lt wrong = wrong.1
-  new_past (StandsLate x other) lt wrong = wrong.1
+  new_past (StandsBehind x other) lt wrong = wrong.1
   new_past (NoEffect x o) lt wrong = wrong.1.is_new
   new_past (OtherReply x call told given) lt wrong = wrong.1.is_new
   new_past (Missing x) lt wrong = absurd wrong
@@ -152,7 +152,7 @@ module _ (hash : ℕ → ℕ) (history : List Event) (ids : List ℕ) (id : ℕ)
   answered_past (NotBegun x) lt wrong = absurd (omega (arith, lt))
   answered_past (StandsTwice x) lt wrong = absurd (omega (arith, lt))
   answered_past (WasRefused x) lt wrong = absurd (omega (arith, lt))
-  answered_past (StandsLate x other) lt wrong = wrong.2
+  answered_past (StandsBehind x other) lt wrong = wrong.2
   answered_past (NoEffect x o) lt wrong = wrong.1.not_refused
   answered_past (OtherReply x call told given) lt wrong = wrong.1.not_refused
   answered_past (Missing x) lt wrong = absurd wrong
@@ -162,7 +162,7 @@ module _ (hash : ℕ → ℕ) (history : List Event) (ids : List ℕ) (id : ℕ)
   timed_past (NotBegun x) lt wrong = absurd (omega (arith, lt))
   timed_past (StandsTwice x) lt wrong = absurd (omega (arith, lt))
   timed_past (WasRefused x) lt wrong = absurd (omega (arith, lt))
-  timed_past (StandsLate x other) lt wrong = absurd (omega (arith, lt))
+  timed_past (StandsBehind x other) lt wrong = absurd (omega (arith, lt))
   timed_past (NoEffect x o) lt wrong = wrong.1
   timed_past (OtherReply x call told given) lt wrong = wrong.1
   timed_past (Missing x) lt wrong = absurd wrong
@@ -173,7 +173,7 @@ module _ (hash : ℕ → ℕ) (history : List Event) (ids : List ℕ) (id : ℕ)
   effect_or_none x o (NotBegun y) lt none wrong = omega (arith, lt)
   effect_or_none x o (StandsTwice y) lt none wrong = omega (arith, lt)
   effect_or_none x o (WasRefused y) lt none wrong = omega (arith, lt)
-  effect_or_none x o (StandsLate y other) lt none wrong = omega (arith, lt)
+  effect_or_none x o (StandsBehind y other) lt none wrong = omega (arith, lt)
   effect_or_none x o (NoEffect y p) lt none wrong = omega (arith, lt)
   effect_or_none x o (OtherReply y call told given) lt none wrong =
       let same = calls_once history id none.2.0 call none.2.1 wrong.4.0 well none.2.2 wrong.4.2 in
@@ -187,7 +187,7 @@ module _ (hash : ℕ → ℕ) (history : List Event) (ids : List ℕ) (id : ℕ)
   not_before (NotBegun x) g lt first wrong = first.1 (begun_past g lt wrong)
   not_before (StandsTwice x) g lt first wrong = new_past g lt wrong first.1
   not_before (WasRefused x) g lt first wrong = answered_past g lt wrong first.2
-  not_before (StandsLate x other) g lt first wrong =
+  not_before (StandsBehind x other) g lt first wrong =
       let timed = timed_past g lt wrong in
       let among = (first.4).among in
       timed.on_time among.0 other among.1 first.3
@@ -196,7 +196,7 @@ module _ (hash : ℕ → ℕ) (history : List Event) (ids : List ℕ) (id : ℕ)
   not_before (OtherReply x call told given) (NotBegun y) lt first wrong = omega (arith, lt)
   not_before (OtherReply x call told given) (StandsTwice y) lt first wrong = omega (arith, lt)
   not_before (OtherReply x call told given) (WasRefused y) lt first wrong = omega (arith, lt)
-  not_before (OtherReply x call told given) (StandsLate y other) lt first wrong = omega (arith, lt)
+  not_before (OtherReply x call told given) (StandsBehind y other) lt first wrong = omega (arith, lt)
   not_before (OtherReply x call told given) (NoEffect y o) lt first wrong = omega (arith, lt)
   not_before (OtherReply x call told given) (OtherReply y c r g) lt first wrong = omega (arith, lt)
   not_before (OtherReply x call told given) (Missing y) lt first wrong = wrong
@@ -220,7 +220,7 @@ module _ (hash : ℕ → ℕ) (history : List Event) (ids : List ℕ) (id : ℕ)
   same_rank (NotBegun x) (NotBegun y) e p q = ap NotBegun (p.0 ∙ sym q.0)
   same_rank (StandsTwice x) (StandsTwice y) e p q = ap StandsTwice (p.0 ∙ sym q.0)
   same_rank (WasRefused x) (WasRefused y) e p q = ap WasRefused (p.0 ∙ sym q.0)
-  same_rank (StandsLate x a) (StandsLate y b) e p q = ap (λ k. StandsLate k a) (p.0 ∙ sym q.0) ∙ ap (StandsLate y) (one_last a b p.3 p.4 q.3 q.4)
+  same_rank (StandsBehind x a) (StandsBehind y b) e p q = ap (λ k. StandsBehind k a) (p.0 ∙ sym q.0) ∙ ap (StandsBehind y) (one_last a b p.3 p.4 q.3 q.4)
   same_rank (NoEffect x a) (NoEffect y b) e p q =
       let call : Call = p.2.0 in
       let opens : Option ℕ = p.2.1 in
@@ -242,7 +242,7 @@ module _ (hash : ℕ → ℕ) (history : List Event) (ids : List ℕ) (id : ℕ)
   same_rank (NotBegun x) g e p q = absurd (omega (arith, e))
   same_rank (StandsTwice x) g e p q = absurd (omega (arith, e))
   same_rank (WasRefused x) g e p q = absurd (omega (arith, e))
-  same_rank (StandsLate x a) g e p q = absurd (omega (arith, e))
+  same_rank (StandsBehind x a) g e p q = absurd (omega (arith, e))
   same_rank (NoEffect x a) g e p q = absurd (omega (arith, e))
   same_rank (OtherReply x c r g) h e p q = absurd (omega (arith, e))
 
@@ -269,7 +269,7 @@ site hash history order (WrongEvent place) first = in_events place first
 site hash history order (NotBegun x) first = in_order (NotBegun x) first.0 first.1
 site hash history order (StandsTwice x) first = in_order (StandsTwice x) first.0 first.1
 site hash history order (WasRefused x) first = in_order (WasRefused x) first.0 first.1
-site hash history order (StandsLate x y) first = in_order (StandsLate x y) first.0 first.1
+site hash history order (StandsBehind x y) first = in_order (StandsBehind x y) first.0 first.1
 site hash history order (NoEffect x o) first = in_order (NoEffect x o) first.0 first.1
 site hash history order (OtherReply x c r g) first = in_order (OtherReply x c r g) first.0 first.1
 site hash history order (Missing id) first = behind id first.1.0 first.0 first.1.1 first.2

@@ -1,5 +1,5 @@
 -- Steps of a world: what becomes of it when one of its handles changes or goes.
-use Rattle.std.proofs.Common.{◌≡◌, ℕ, Option, Some, None, option_and_then, is_some, if◌then◌else◌, sym, ap, ap₂, ◌∙◌}
+use Rattle.std.proofs.Common.{◌≡◌, ℕ, Option, Some, None, option_and_then, is_some, if◌then◌else◌, refl, sym, ap, ap₂, ◌∙◌}
 use Rattle.std.specs.FinMap as map
 use Rattle.history.specs.declared.calls.Access.{Access}
 use Rattle.history.specs.declared.calls.Call.{Call}
@@ -28,6 +28,19 @@ pub changed_world-absent : (hash : ℕ → ℕ) (call : Call) (w : HandleMap) (h
 changed_world-absent hash call w h is =
     ap (λ (o : Option HandleState). answer_in w (option_and_then {U = Reply × HandleMap} (λ s.
     option_and_then {U = Reply × HandleMap} (λ e. Some (e.0, map.insert w h e.1)) (changed_handle hash call s.access s.pairs)) o)) (sym is)
+
+-- what is made of something that is there is there
+none_there : {S T : Type 0} (make : S → T) (o : Option S) → option_and_then (λ s. Some (make s)) o ≡ None → o ≡ None
+none_there make None none = refl
+none_there make (Some s) none = let wrong : ⊥ = cc none in absurd wrong
+
+-- where the world makes nothing of a call, a handle that is there doesn't either
+pub changed_world-none : (hash : ℕ → ℕ) (call : Call) (w : HandleMap) (h : ℕ) (s : HandleState) → map.get w h ≡ Some s → changed_world hash call w h ≡ None
+    → changed_handle hash call s.access s.pairs ≡ None
+changed_world-none hash call w h s is none =
+    none_there (λ (e : Reply × HandleState). (e.0, map.insert w h e.1)) (changed_handle hash call s.access s.pairs)
+    (ap (λ (o : Option HandleState). option_and_then {U = Reply × HandleMap} (λ s.
+    option_and_then {U = Reply × HandleMap} (λ e. Some (e.0, map.insert w h e.1)) (changed_handle hash call s.access s.pairs)) o) (sym is) ∙ none)
 
 -- a handle that is there goes
 pub closed : (w next : HandleMap) (h : ℕ) (s : HandleState) → map.get w h ≡ Some s → next ≡ map.remove w h

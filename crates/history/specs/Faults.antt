@@ -12,12 +12,12 @@ use Rattle.history.specs.declared.events.Event.TheVariants.{Begin}
 use Rattle.history.specs.declared.faults.Obstacle.{Obstacle}
 use Rattle.history.specs.declared.faults.Obstacle.TheVariants.{NotOpen, NeedsWritable, NeedsReadOnly, OpenAlready}
 use Rattle.history.specs.declared.faults.OrderFault.{OrderFault}
-use Rattle.history.specs.declared.faults.OrderFault.TheVariants.{WrongEvent, NotBegun, StandsTwice, WasRefused, StandsLate, NoEffect, OtherReply, Missing}
+use Rattle.history.specs.declared.faults.OrderFault.TheVariants.{WrongEvent, NotBegun, StandsTwice, WasRefused, StandsBehind, NoEffect, OtherReply, Missing}
 use Rattle.history.specs.Handles.{handle_of}
 use Rattle.history.specs.Worlds.{KeyMap, HandleMap}
 use Rattle.history.specs.Effects.{effect}
 use Rattle.history.specs.Histories.{Operation, BeginsAt, HasBegun, HasEnded, MayFollow, IsWellFormed}
-use Rattle.history.specs.Orders.{OrderedAt, IsBefore}
+use Rattle.history.specs.Orders.{OrderedAt, IsBefore, IsLegal}
 use Rattle.history.specs.Beginnings.{LeadsTo}
 
 -- what the handle must be: get and close take any; what changes or copies the map needs a writable one
@@ -29,15 +29,15 @@ needed_access (Count h) = Some ReadOnly
 needed_access call = Some Writable
 
 -- the handle names a map of this kind
-abbrev pub Names : HandleMap → ℕ → Access → Type 0
-Names world h access = (m : KeyMap) × (map.get world h ≡ Some (record { access = access; pairs = m }))
+abbrev pub IsOfKind : HandleMap → ℕ → Access → Type 0
+IsOfKind world h access = (m : KeyMap) × (map.get world h ≡ Some (record { access = access; pairs = m }))
 
 -- the world stands in the way of the call in this way
 abbrev pub Hinders : HandleMap → Call → Option ℕ → Obstacle → Type 0
 Hinders world call opens (NotOpen h) = (h ≡ handle_of call) × (map.get world h ≡ None)
-Hinders world call opens (NeedsWritable h) = (h ≡ handle_of call) × (needed_access call ≡ Some Writable) × Names world h ReadOnly
-Hinders world call opens (NeedsReadOnly h) = (h ≡ handle_of call) × (needed_access call ≡ Some ReadOnly) × Names world h Writable
-Hinders world call opens (OpenAlready n) = (opens ≡ Some n) × Names world (handle_of call) Writable × IsSome (map.get world n)
+Hinders world call opens (NeedsWritable h) = (h ≡ handle_of call) × (needed_access call ≡ Some Writable) × IsOfKind world h ReadOnly
+Hinders world call opens (NeedsReadOnly h) = (h ≡ handle_of call) × (needed_access call ≡ Some ReadOnly) × IsOfKind world h Writable
+Hinders world call opens (OpenAlready n) = (opens ≡ Some n) × IsOfKind world (handle_of call) Writable × IsSome (map.get world n)
 
 -- the operation stands among these
 abbrev pub IsAmong : List ℕ → ℕ → Type 0
@@ -64,7 +64,7 @@ abbrev pub IsWrongBehind : (ℕ → ℕ) → List Event → List ℕ → ℕ →
 IsWrongBehind hash history ids id world (NotBegun x) = (x ≡ id) × ¬ HasBegun history id
 IsWrongBehind hash history ids id world (StandsTwice x) = (x ≡ id) × IsAmong ids id
 IsWrongBehind hash history ids id world (WasRefused x) = (x ≡ id) × ¬ IsAmong ids id × HasEnded history id NoSlots
-IsWrongBehind hash history ids id world (StandsLate x other) =
+IsWrongBehind hash history ids id world (StandsBehind x other) =
     (x ≡ id) × ¬ IsAmong ids id × ¬ HasEnded history id NoSlots × IsBefore history id other × BeganLast history ids other
 IsWrongBehind hash history ids id world (NoEffect x obstacle) =
     (x ≡ id) × IsInTime history ids id
@@ -96,3 +96,8 @@ IsFirstFault hash history order fault =
     IsWellFormed history
     × ((place id : ℕ) × (world : HandleMap) × OrderedAt order place id × LeadsTo hash history (take place order) world
     × IsWrongBehind hash history (take place order) id world fault)
+
+-- the order's first fault; or it has none, and is legal
+abbrev pub Judges : (ℕ → ℕ) → List Event → List ℕ → Option OrderFault → Type 0
+Judges hash history order None = IsLegal hash history order
+Judges hash history order (Some fault) = IsFirstFault hash history order fault

@@ -4,6 +4,7 @@ pub mod WorldCodes
 pub mod Crowds
 pub mod Effects
 pub mod Changes
+pub mod Memory
 pub mod Histories
 pub mod Orders
 pub mod Tables

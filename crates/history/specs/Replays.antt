@@ -10,10 +10,10 @@ use Rattle.history.specs.declared.tables.Table.{Table}
 use Rattle.history.specs.declared.orders.Replay.{Replay}
 use Rattle.history.specs.Worlds.{HandleMap}
 use Rattle.history.specs.Histories.{Operation, BeginsAt, begun}
-use Rattle.history.specs.Orders.{OrderedAt, IsLegal}
+use Rattle.history.specs.Orders.{OrderedAt}
 use Rattle.history.specs.Tables.{recorded}
 use Rattle.history.specs.Beginnings.{MayStand}
-use Rattle.history.specs.Faults.{IsInTime, IsWrongBehind, IsFirstFault}
+use Rattle.history.specs.Faults.{IsInTime, IsWrongBehind}
 
 -- the operations that stand among these ids are marked, and the latest place where one of them begins is known
 pub record Marks (history : List Event) (ids : List ℕ) (taken : List Bool) (latest : ℕ) : Type 0 where
@@ -69,8 +69,3 @@ IsUnmarked history table taken id =
 abbrev pub FindsUnmarked : List Event → Table → List Bool → Option ℕ → Type 0
 FindsUnmarked history table taken None = (id : ℕ) → ¬ IsUnmarked history table taken id
 FindsUnmarked history table taken (Some id) = IsUnmarked history table taken id × ((other : ℕ) → other < id → ¬ IsUnmarked history table taken other)
-
--- the order's first fault; or it has none, and is legal
-abbrev pub Judges : Option OrderFault → (ℕ → ℕ) → List Event → List ℕ → Type 0
-Judges None hash history order = IsLegal hash history order
-Judges (Some fault) hash history order = IsFirstFault hash history order fault

@@ -1,8 +1,9 @@
 //! What the calls that change a map do to it.
 
-ghost use Rattle.std.specs.Prelude.{◌≡◌, IfOk, OnErr, IsOkUnless};
+ghost use Rattle.std.specs.Prelude.{◌≡◌, None, Ok, IsOk, IfOk, OnErr, IsOkUnless};
 ghost use Rattle.ctrie_base.specs.Hashes.{hash_of};
 ghost use Rattle.history.specs.Changes.{change_in, reply_or_same};
+ghost use Rattle.history.specs.Memory.{TakesNone};
 ghost use Rattle.history.specs.Effects.{put_in, put_if_absent_in, replace_in, replace_if_in, remove_in, remove_if_in};
 
 use crate::calls::Call;
@@ -16,6 +17,8 @@ pub fn change(content: &mut Content, call: &Call, hash: HashKind) -> Result<Opti
     ensures answer { IfOk result
         (λ reply. (reply, content.new)
         ≡ reply_or_same content.old (change_in (hash_of hash) call.now content.old)) }
+    ensures none { change_in (hash_of hash) call.now content.old ≡ None → result ≡ Ok None }
+    ensures few { TakesNone call.now → IsOk result }
     ensures err { OnErr result (content.new ≡ content.old) }
     ensures only_memory { IsOkUnless result Refusal.Memory }
 {

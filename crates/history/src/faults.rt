@@ -36,7 +36,7 @@ pub enum OrderFault {
         id: u64,
     },
     /// The operation ended before the other one began, and stands behind it.
-    StandsLate {
+    StandsBehind {
         id: u64,
         other: u64,
     },

@@ -1,8 +1,9 @@
 //! One open handle.
 
-ghost use Rattle.std.specs.Prelude.{◌≡◌, IfOk, OnErr, IsOkUnless};
+ghost use Rattle.std.specs.Prelude.{◌≡◌, None, Ok, IsOk, IfOk, OnErr, IsOkUnless};
 ghost use Rattle.ctrie_base.specs.Hashes.{hash_of};
 ghost use Rattle.history.specs.Changes.{changed_handle, reply_or_same};
+ghost use Rattle.history.specs.Memory.{TakesNone};
 
 use crate::calls::{Access, Call};
 use crate::changes::change;
@@ -58,6 +59,8 @@ impl Handle {
             (λ reply. (reply, self.new)
             ≡ reply_or_same self.old
             (changed_handle (hash_of hash) call.now self.old.access self.old.pairs)) }
+        ensures none { changed_handle (hash_of hash) call.now self.old.access self.old.pairs ≡ None → result ≡ Ok None }
+        ensures few { TakesNone call.now → IsOk result }
         ensures err { OnErr result (self.new ≡ self.old) }
         ensures only_memory { IsOkUnless result Refusal.Memory }
     {

@@ -8,8 +8,8 @@ ghost use Rattle.history.specs.Worlds.{first_world};
 ghost use Rattle.history.specs.Histories.{begun, IsWellFormed};
 ghost use Rattle.history.specs.Orders.{IsLegal};
 ghost use Rattle.history.specs.Tables.{Records, IsRowOf, recorded};
-ghost use Rattle.history.specs.Faults.{IsFirstFault};
-ghost use Rattle.history.specs.Replays.{Marks, Takes, Places, Judges, FindsUnmarked, IsAnswer, Trails, Differs, begun_at};
+ghost use Rattle.history.specs.Faults.{IsFirstFault, Judges};
+ghost use Rattle.history.specs.Replays.{Marks, Takes, Places, FindsUnmarked, IsAnswer, Trails, Differs, begun_at};
 ghost use Rattle.history.specs.Laws.{LeadsToOneWorld, HasOneFirstFault};
 
 use crate::events::Event;
@@ -165,7 +165,7 @@ impl Replay {
             return Some(OrderFault::WasRefused { id });
         }
         let other = self.behind(events, row)?;
-        Some(OrderFault::StandsLate { id, other })
+        Some(OrderFault::StandsBehind { id, other })
     }
 
     /// The operation in it that began last, if the one of this row ended before.
@@ -208,7 +208,7 @@ fn fault_in(
     hash: HashKind,
 ) -> Result<Option<OrderFault>, Refusal>
     requires { Records events.now table.now }
-    ensures found { IfOk result (λ fault. Judges fault (hash_of hash) events.now order.now) }
+    ensures found { IfOk result (λ fault. Judges (hash_of hash) events.now order.now fault) }
     ensures only_memory { IsOkUnless result Refusal.Memory }
 {
     let mut replay = Replay::new(alloc, table.rows.len())?;

@@ -1,8 +1,8 @@
 //! The replies to calls.
 
-ghost use Rattle.std.specs.Prelude.{◌≡◌, ◌↔◌, ◌++◌, ◌∷◌, [], List, ℕ, IsTrue, IfOk};
+ghost use Rattle.std.specs.Prelude.{◌≡◌, ◌↔◌, List, ℕ, IsTrue, IfOk};
 
-use std::alloc::{AllocError, Global};
+use std::alloc::AllocError;
 use std::marker::Model;
 
 /// Pairs of a key and its value.
@@ -45,23 +45,9 @@ impl Pairs {
     pub fn copy(&self) -> Result<Pairs, AllocError>
         ensures { IfOk result (λ copy. copy ≡ self.now) }
     {
-        let mut items = Vec::new(self.allocator());
+        let mut items = Vec::new(*self.items.allocator());
         items.extend_from_slice(self.as_slice())?;
         Ok(Pairs { items })
-    }
-
-    /// A copy with one pair more, at its end.
-    pub fn with(&self, key: u64, value: u64) -> Result<Pairs, AllocError>
-        ensures { IfOk result (λ copy. copy ≡ self.now ++ (key, value) ∷ []) }
-    {
-        let mut copy = self.copy()?;
-        copy.items.push((key, value))?;
-        Ok(copy)
-    }
-
-    /// Where their memory comes from.
-    pub fn allocator(&self) -> Global {
-        *self.items.allocator()
     }
 
     /// Whether the two are the same pairs.

@@ -17,8 +17,11 @@ use std::alloc::Global;
 /// An operation that has begun. Places are indexes of the history.
 #[derive(Clone, Copy)]
 pub struct Row {
+    /// The actor that has begun it.
     pub actor: u8,
+    /// Its call.
     pub call: Call,
+    /// The handle that it opens, if it is a snapshot or a freeze.
     pub opens: Option<u16>,
     /// Where it begins.
     pub begin: usize,
@@ -38,7 +41,9 @@ impl Row {
 /// The operations of a history by their ids, and which of them each actor runs.
 #[derive(Drop)]
 pub struct Table {
+    /// The operations that have begun, by their ids.
     pub rows: Vec<Row>,
+    /// By each actor's number the id of the operation that it runs, if it runs one.
     pub running: [Option<u64>; 256],
 }
 

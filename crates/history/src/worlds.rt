@@ -1,11 +1,12 @@
 //! The world of a history, and the effect of a call in it.
 
-ghost use Rattle.std.specs.Prelude.{◌≡◌, Some, IfOk, OnErr, IsOkUnless, option_and_then, option_copied};
+ghost use Rattle.std.specs.Prelude.{◌≡◌, Some, None, Ok, IsOk, IfOk, OnErr, IsOkUnless, option_and_then, option_copied};
 ghost use Rattle.std.specs.FinMap as map;
 ghost use Rattle.ctrie_base.specs.Hashes.{hash_of};
 ghost use Rattle.history.specs.Worlds.{first_world};
 ghost use Rattle.history.specs.Effects.{map_of, writable_map_of, read_only_map_of, copying, effect, answer_in};
 ghost use Rattle.history.specs.Changes.{changed_world};
+ghost use Rattle.history.specs.Memory.{TakesNone};
 
 use crate::calls::{Access, Call};
 use crate::content::Content;
@@ -111,6 +112,7 @@ impl World {
             (λ reply. reply
             ≡ option_and_then (λ m. Some (Reply.Pairs (map.entries m)))
             (read_only_map_of self.now handle)) }
+        ensures none { read_only_map_of self.now handle ≡ None → result ≡ Ok None }
         ensures only_memory { IsOkUnless result Refusal.Memory }
     {
         match self.read_only(handle) {
@@ -124,6 +126,8 @@ impl World {
         ensures answer { IfOk result
             (λ reply. (reply, self.new)
             ≡ answer_in self.old (changed_world (hash_of hash) call.now self.old handle)) }
+        ensures none { changed_world (hash_of hash) call.now self.old handle ≡ None → result ≡ Ok None }
+        ensures few { TakesNone call.now → IsOk result }
         ensures err { OnErr result (self.new ≡ self.old) }
         ensures only_memory { IsOkUnless result Refusal.Memory }
     {
@@ -153,6 +157,7 @@ impl World {
     ) -> Result<Option<Reply>, Refusal>
         ensures answer { IfOk result
             (λ reply. (reply, self.new) ≡ answer_in self.old (copying self.old handle opens access)) }
+        ensures none { copying self.old handle opens access ≡ None → result ≡ Ok None }
         ensures err { OnErr result (self.new ≡ self.old) }
         ensures only_memory { IsOkUnless result Refusal.Memory }
     {
@@ -173,8 +178,10 @@ impl World {
 
 /// Answers a call in a world and carries it out; `None` where the call has no effect there: its
 /// handle isn't there or is of the wrong kind, or the handle that it opens is missing or there
-/// already. A snapshot or a freeze opens the handle `opens`, other calls ignore it. After `Memory`
-/// the world is as it was.
+/// already. A snapshot or a freeze opens the handle `opens`, other calls ignore it.
+///
+/// `Memory` comes only where the call has an effect and takes memory: a `Get`, `Remove`, `RemoveIf`,
+/// `Clear`, `Close` or `Count` takes none. After it the world is as it was.
 pub fn reply_of(
     world: &mut World,
     call: &Call,
@@ -184,6 +191,8 @@ pub fn reply_of(
     ensures answer { IfOk result
         (λ reply. (reply, world.new)
         ≡ answer_in world.old (effect (hash_of hash) world.old call.now opens)) }
+    ensures none { effect (hash_of hash) world.old call.now opens ≡ None → result ≡ Ok None }
+    ensures few { TakesNone call.now → IsOk result }
     ensures err { OnErr result (world.new ≡ world.old) }
     ensures only_memory { IsOkUnless result Refusal.Memory }
 {

@@ -32,6 +32,6 @@ pub verdict_by_scene : (text : List ℕ) (scene : Scene) → IsSceneOf text scen
 verdict_by_scene text scene is =
     let reading = is.reading in (
       reading,
-      is.read,
+      is.says,
       told_none scene.reason _ (told_unless_legal (hash_of reading.hash) reading.events reading.order scene.reason is.shows.fault is.shows.reason is.shows.judged),
     )

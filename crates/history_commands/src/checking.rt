@@ -3,9 +3,7 @@
 ghost use Rattle.std.specs.Prelude.{◌≡◌, ◌≢◌, ◌<◌, ◌^◌, ℕ, IfOk, OnOk, IfErr, IfSome};
 ghost use Rattle.std.specs.Io.KnownBytes.{Appends, Keeps, IsAtEnd};
 ghost use Rattle.counted_io.specs.Counts.{inner_of, failures};
-ghost use Rattle.history_text.specs.Reading.{history_of};
-ghost use Rattle.history_commands.specs.Faults.{IsOf};
-ghost use Rattle.history_commands.specs.Verdicts.{IsVerdict, HasLineFault, AppendsPart, verdict_line};
+ghost use Rattle.history_commands.specs.Verdicts.{IsVerdict, HasLineFault, IsOfHistory, AppendsPart, verdict_line};
 
 use crate::faults::Fault;
 use counted_io::{Counted, read_all, write_all};
@@ -17,7 +15,7 @@ use std::io::{Read, Write};
 /// Whether the order that the text gives is legal for its events.
 fn judge(alloc: Global, text: &[u8]) -> Result<bool, Fault>
     ensures verdict { IfOk result (IsVerdict text.now) }
-    ensures faults { IfErr result (IsOf (history_of text.now)) }
+    ensures faults { IfErr result (IsOfHistory text.now) }
 {
     let given = read_history(alloc, text)?;
     let events = given.events.as_slice();

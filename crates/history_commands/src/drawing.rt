@@ -3,11 +3,9 @@
 ghost use Rattle.std.specs.Prelude.{◌≡◌, ◌≢◌, ◌<◌, ◌^◌, ℕ, IfOk, OnOk, IfErr, IfSome};
 ghost use Rattle.std.specs.Io.KnownBytes.{Keeps, IsAtEnd};
 ghost use Rattle.counted_io.specs.Counts.{inner_of, failures};
-ghost use Rattle.history_text.specs.Reading.{history_of};
-ghost use Rattle.history_commands.specs.Faults.{IsOf};
-ghost use Rattle.history_commands.specs.Verdicts.{IsVerdict, HasLineFault};
+ghost use Rattle.history_commands.specs.Verdicts.{IsVerdict, HasLineFault, IsOfHistory};
 ghost use Rattle.history_commands.specs.Written.{AppendsSuch, AppendsPartOf};
-ghost use Rattle.history_commands.specs.Pictures.{IsSceneOf, IsPicture};
+ghost use Rattle.history_commands.specs.Pictures.{IsSceneOf, IsPicture, ShowsVerdict};
 
 use crate::faults::Fault;
 use counted_io::{Counted, read_all, write_all};
@@ -20,7 +18,7 @@ use std::io::{Read, Write};
 /// The scene of the text's history and order.
 fn scene_in(alloc: Global, text: &[u8]) -> Result<Scene, Fault>
     ensures scene { IfOk result (IsSceneOf text.now) }
-    ensures faults { IfErr result (IsOf (history_of text.now)) }
+    ensures faults { IfErr result (IsOfHistory text.now) }
 {
     has_each_operation();
     let given = read_history(alloc, text)?;
@@ -42,10 +40,13 @@ pub fn draw_history<R: Read, W: Write>(
     requires input_count { failures input.old < 2 ^ 63 }
     requires output_count { failures output.old < 2 ^ 63 }
 
-    // The answer is right of what the reader had, which has no fault; and just its picture was written.
+    // The answer is right of what the reader had, which has no fault; and just its picture was written: whatever the
+    // reader had, one that tells this answer.
     ensures verdict { IfOk result (λ legal. IfSome (R.remaining (inner_of input.old)) (λ text. IsVerdict text legal)) }
     ensures written { IfOk result (λ legal. IfSome (R.remaining (inner_of input.old)) (λ text.
         AppendsSuch (IsPicture text legal) (W.contents (inner_of output.old)) (W.contents (inner_of output.new)))) }
+    ensures told { IfOk result (λ legal.
+        AppendsSuch (ShowsVerdict legal) (W.contents (inner_of output.old)) (W.contents (inner_of output.new))) }
     ensures all_read { OnOk result (IsAtEnd (R.remaining (inner_of input.new))) }
 
     // What each fault tells.

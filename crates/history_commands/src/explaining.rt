@@ -5,11 +5,9 @@ ghost use Rattle.std.specs.Option.{option_copied};
 ghost use Rattle.std.specs.Io.KnownBytes.{Keeps, IsAtEnd};
 ghost use Rattle.std.specs.String.{string_bytes};
 ghost use Rattle.counted_io.specs.Counts.{inner_of, failures};
-ghost use Rattle.history_text.specs.Reading.{history_of};
-ghost use Rattle.history_commands.specs.Faults.{IsOf};
-ghost use Rattle.history_commands.specs.Verdicts.{IsVerdict, HasLineFault};
+ghost use Rattle.history_commands.specs.Verdicts.{IsVerdict, HasLineFault, IsOfHistory};
 ghost use Rattle.history_commands.specs.Written.{AppendsSuch, AppendsPartOf};
-ghost use Rattle.history_commands.specs.Explanations.{IsReason, IsExplanation, explanation};
+ghost use Rattle.history_commands.specs.Explanations.{IsReason, IsExplanation, ExplainsVerdict, explanation};
 
 use crate::faults::Fault;
 use counted_io::{Counted, read_all, write_all};
@@ -21,7 +19,7 @@ use std::io::{Read, Write};
 /// The first reason why the order that the text gives isn't legal for its events, if there is one.
 fn reason_in(alloc: Global, text: &[u8]) -> Result<Option<OrderFault>, Fault>
     ensures reason { IfOk result (IsReason text.now) }
-    ensures faults { IfErr result (IsOf (history_of text.now)) }
+    ensures faults { IfErr result (IsOfHistory text.now) }
 {
     let given = read_history(alloc, text)?;
     let events = given.events.as_slice();
@@ -52,10 +50,13 @@ pub fn explain_history<R: Read, W: Write>(
     requires input_count { failures input.old < 2 ^ 63 }
     requires output_count { failures output.old < 2 ^ 63 }
 
-    // The answer is right of what the reader had, which has no fault; and just what explains it was written.
+    // The answer is right of what the reader had, which has no fault; and just what explains it was written: whatever
+    // the reader had, something that tells this answer.
     ensures verdict { IfOk result (λ legal. IfSome (R.remaining (inner_of input.old)) (λ text. IsVerdict text legal)) }
     ensures written { IfOk result (λ legal. IfSome (R.remaining (inner_of input.old)) (λ text.
         AppendsSuch (IsExplanation text legal) (W.contents (inner_of output.old)) (W.contents (inner_of output.new)))) }
+    ensures told { IfOk result (λ legal.
+        AppendsSuch (ExplainsVerdict legal) (W.contents (inner_of output.old)) (W.contents (inner_of output.new))) }
     ensures all_read { OnOk result (IsAtEnd (R.remaining (inner_of input.new))) }
 
     // What each fault tells.

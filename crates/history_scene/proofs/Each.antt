@@ -12,13 +12,13 @@ use Rattle.history.specs.declared.events.Event.TheVariants.{Begin}
 use Rattle.history.specs.declared.faults.OrderFault.{OrderFault}
 use Rattle.history.specs.Histories.{Operation, BeginsAt, EndsAt, HasEnded, begun, IsWellFormed}
 use Rattle.history.specs.Orders.{IsLegal}
-use Rattle.history.specs.Faults.{IsFirstFault}
+use Rattle.history.specs.Faults.{IsFirstFault, Judges}
 use Rattle.history.proofs.Places.{at_within}
 use Rattle.history.proofs.Begins.{begins_once, begun_more, begun_grows}
 use Rattle.history.proofs.Legal.{not_legal}
 use Rattle.history_text.specs.FaultTexts.{fault_text}
 use Rattle.history_scene.specs.declared.scenes.Bar.{Bar}
-use Rattle.history_scene.specs.Scenes.{Ends, IsBar, Judges, text_in}
+use Rattle.history_scene.specs.Scenes.{Ends, IsBar, text_in}
 use Rattle.history_scene.specs.Laws.{HasEachOperation}
 use Rattle.history.proofs.OneFault.{ends_once}
 

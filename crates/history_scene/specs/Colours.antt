@@ -5,7 +5,7 @@ use Rattle.history.specs.declared.calls.Call.TheVariants.{Snapshot, Freeze}
 use Rattle.history.specs.declared.replies.Reply.{Reply}
 use Rattle.history.specs.declared.replies.Reply.TheVariants.{NoSlots}
 use Rattle.history.specs.declared.faults.OrderFault.{OrderFault}
-use Rattle.history.specs.declared.faults.OrderFault.TheVariants.{WrongEvent, NotBegun, StandsTwice, WasRefused, StandsLate, NoEffect, OtherReply, Missing}
+use Rattle.history.specs.declared.faults.OrderFault.TheVariants.{WrongEvent, NotBegun, StandsTwice, WasRefused, StandsBehind, NoEffect, OtherReply, Missing}
 use Rattle.history_scene.specs.declared.colours.Colour.{Colour}
 use Rattle.history_scene.specs.declared.colours.Colour.TheVariants as colour
 
@@ -15,7 +15,7 @@ names (WrongEvent place) id = false
 names (NotBegun one) id = one == id
 names (StandsTwice one) id = one == id
 names (WasRefused one) id = one == id
-names (StandsLate late other) id = (late == id) || (other == id)
+names (StandsBehind late other) id = (late == id) || (other == id)
 names (NoEffect one obstacle) id = one == id
 names (OtherReply one call recorded given) id = one == id
 names (Missing one) id = one == id

@@ -8,8 +8,7 @@ use Rattle.history.specs.declared.replies.Reply.{Reply}
 use Rattle.history.specs.declared.events.Event.{Event}
 use Rattle.history.specs.declared.faults.OrderFault.{OrderFault}
 use Rattle.history.specs.Histories.{Operation, BeginsAt, EndsAt, HasEnded, begun}
-use Rattle.history.specs.Orders.{IsLegal}
-use Rattle.history.specs.Faults.{IsFirstFault}
+use Rattle.history.specs.Faults.{Judges}
 use Rattle.history_text.specs.Texts.{call_text, opens_words, reply_text, behind_spaces}
 use Rattle.history_text.specs.FaultTexts.{fault_text}
 use Rattle.history_scene.specs.declared.scenes.Bar.{Bar}
@@ -52,11 +51,6 @@ AreBars history order fault bars =
 -- by each actor's number its lane
 abbrev pub IsLaneTable : List Event → List ℕ → Type 0
 IsLaneTable history lanes = (actor : ℕ) → actor < 256 → slice_get lanes actor ≡ Some (lane_of history actor)
-
--- the order's first fault, if it isn't legal
-abbrev pub Judges : (ℕ → ℕ) → List Event → List ℕ → Option OrderFault → Type 0
-Judges hash history order None = IsLegal hash history order
-Judges hash history order (Some fault) = IsFirstFault hash history order fault
 
 -- The scene of a history and an order.
 pub record IsScene (hash : ℕ → ℕ) (history : List Event) (order : List ℕ) (scene : Scene) : Type 0 where

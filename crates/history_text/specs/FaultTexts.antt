@@ -4,7 +4,7 @@ use Rattle.std.specs.Fmt.{decimal}
 use Rattle.history.specs.declared.faults.Obstacle.{Obstacle}
 use Rattle.history.specs.declared.faults.Obstacle.TheVariants.{NotOpen, NeedsWritable, NeedsReadOnly, OpenAlready}
 use Rattle.history.specs.declared.faults.OrderFault.{OrderFault}
-use Rattle.history.specs.declared.faults.OrderFault.TheVariants.{WrongEvent, NotBegun, StandsTwice, WasRefused, StandsLate, NoEffect, OtherReply, Missing}
+use Rattle.history.specs.declared.faults.OrderFault.TheVariants.{WrongEvent, NotBegun, StandsTwice, WasRefused, StandsBehind, NoEffect, OtherReply, Missing}
 use Rattle.history_text.specs.Texts.{call_text, reply_text}
 
 abbrev pub obstacle_text : Obstacle → List ℕ
@@ -22,7 +22,7 @@ fault_text (WrongEvent place) = codes "event " ++ (decimal place ++ codes " may 
 fault_text (NotBegun id) = operation_text id (codes " has not begun")
 fault_text (StandsTwice id) = operation_text id (codes " stands twice")
 fault_text (WasRefused id) = operation_text id (codes " was refused for want of slots")
-fault_text (StandsLate id other) = operation_text id (codes " ended before operation " ++ (decimal other ++ codes " began, and stands behind it"))
+fault_text (StandsBehind id other) = operation_text id (codes " ended before operation " ++ (decimal other ++ codes " began, and stands behind it"))
 fault_text (NoEffect id obstacle) = operation_text id (codes " has no effect there: " ++ obstacle_text obstacle)
 fault_text (OtherReply id call recorded given) =
     operation_text id (codes ", " ++ (call_text call ++ (codes ", was answered " ++ (reply_text recorded ++ (codes "; the maps before it give " ++ reply_text given)))))

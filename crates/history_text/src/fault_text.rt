@@ -23,7 +23,7 @@ impl fmt::Display for FaultText<'_> {
             OrderFault::WasRefused { id } => {
                 write!(f, "operation {id} was refused for want of slots")
             }
-            OrderFault::StandsLate { id, other } => {
+            OrderFault::StandsBehind { id, other } => {
                 write!(
                     f,
                     "operation {id} ended before operation {other} began, and stands behind it"

@@ -54,7 +54,7 @@ legal_text text told spell legal = record { spelled = (spell, legal.1.well_forme
 
 -- a check of it answers true
 pub judged_legal : (text : List ℕ) (told : Reading) → IsLegalText text told → IsShort text → IsVerdict text true
-judged_legal text told is short = (told, read_again text told is.spelled short, (λ _. is.legal, λ _. refl))
+judged_legal text told is short = (told, (is.spelled, read_again text told is.spelled short), (λ _. is.legal, λ _. refl))
 
 -- the text of a state's history and order, if these are legal
 pub told_legal : (hash : HashKind) (state : Recorded) (text said : List ℕ) → All EventFits state.past.events → IsLegal (hash_of hash) state.past.events (order_of state.past) → text ≡ said →

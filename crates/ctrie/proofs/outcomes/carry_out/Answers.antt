@@ -1,8 +1,9 @@
 -- The request is the one of the branch, and what the call that was made says of its own result holds of what comes of it.
 use Rattle.std.proofs.Common.{sym, ◌∙◌}
-use Rattle.ctrie.proofs.Telling.{judged_fault, judged_ok, judged_err, judged_not_done, done_fault, done_ok, done_err, done_holds}
-use Rattle.ctrie.proofs.Telling.{verdict_told, report_told, thread_report_told, explanation_told, picture_told}
+use Rattle.ctrie.proofs.Telling.{judged_fault, judged_ok, judged_err, judged_not_done, done_fault, done_ok, done_err, done_holds, done_not_judged}
+use Rattle.ctrie.proofs.Telling.{legality_told, line_told, verdict_told, report_told, thread_report_told, explanation_told, picture_told}
 use Rattle.ctrie.proofs.Telling.{verdict_part, report_part, thread_report_part, explanation_part, picture_part}
+use Rattle.ctrie_words.specs.declared.arguments.Request.TheVariants.{Check, Explain, Draw}
 use Rattle.ctrie.proofs.outcomes.carry_out.Goals as goal
 
 pub returns-in-Check-clause-written : goal.returns-in-Check-clause-written
@@ -10,6 +11,10 @@ returns-in-Check-clause-written g c = rw (c.in-Check.is, c.judged.ensures) (verd
 
 pub returns-in-Check-clause-all_read : goal.returns-in-Check-clause-all_read
 returns-in-Check-clause-all_read g c = rw c.judged.ensures (judged_ok c.check_history.result _ c.check_history.ensures.all_read)
+
+pub returns-in-Check-clause-told : goal.returns-in-Check-clause-told
+returns-in-Check-clause-told g c = λ legal e.
+    rw c.in-Check.is (legality_told _ (Check c.in-Check.field-0) _ _ (line_told _ c.in-Check.field-0 _ _ c.check_history.ensures.written) legal (sym c.judged.ensures ∙ e))
 
 pub returns-in-Check-clause-legal : goal.returns-in-Check-clause-legal
 returns-in-Check-clause-legal g c = λ e. absurd (judged_not_done _ (sym c.judged.ensures ∙ e))
@@ -38,6 +43,9 @@ returns-in-Run-clause-written g c = rw (c.in-Run.is, c.done.ensures) (report_tol
 pub returns-in-Run-clause-all_read : goal.returns-in-Run-clause-all_read
 returns-in-Run-clause-all_read g c = rw c.done.ensures (done_ok c.run_script.result _ c.run_script.ensures.all_read)
 
+pub returns-in-Run-clause-told : goal.returns-in-Run-clause-told
+returns-in-Run-clause-told g c = λ legal e. absurd (done_not_judged _ legal (sym c.done.ensures ∙ e))
+
 pub returns-in-Run-clause-legal : goal.returns-in-Run-clause-legal
 returns-in-Run-clause-legal g c = λ e. done_holds _ _ c.run_script.ensures.legal (sym c.done.ensures ∙ e)
 
@@ -64,6 +72,9 @@ returns-in-Threads-clause-written g c = rw (c.in-Threads.is, c.done-in-Threads.e
 
 pub returns-in-Threads-clause-all_read : goal.returns-in-Threads-clause-all_read
 returns-in-Threads-clause-all_read g c = rw c.done-in-Threads.ensures (done_ok c.run_threads.result _ c.run_threads.ensures.all_read)
+
+pub returns-in-Threads-clause-told : goal.returns-in-Threads-clause-told
+returns-in-Threads-clause-told g c = λ legal e. absurd (done_not_judged _ legal (sym c.done-in-Threads.ensures ∙ e))
 
 pub returns-in-Threads-clause-legal : goal.returns-in-Threads-clause-legal
 returns-in-Threads-clause-legal g c = λ e. done_holds _ _ c.run_threads.ensures.legal (sym c.done-in-Threads.ensures ∙ e)
@@ -93,6 +104,9 @@ returns-in-Explain-clause-written g c = rw (c.in-Explain.is, c.judged-in-Explain
 pub returns-in-Explain-clause-all_read : goal.returns-in-Explain-clause-all_read
 returns-in-Explain-clause-all_read g c = rw c.judged-in-Explain.ensures (judged_ok c.explain_history.result _ c.explain_history.ensures.all_read)
 
+pub returns-in-Explain-clause-told : goal.returns-in-Explain-clause-told
+returns-in-Explain-clause-told g c = λ legal e. rw c.in-Explain.is (legality_told _ (Explain c.in-Explain.field-0) _ _ c.explain_history.ensures.told legal (sym c.judged-in-Explain.ensures ∙ e))
+
 pub returns-in-Explain-clause-legal : goal.returns-in-Explain-clause-legal
 returns-in-Explain-clause-legal g c = λ e. absurd (judged_not_done _ (sym c.judged-in-Explain.ensures ∙ e))
 
@@ -119,6 +133,9 @@ returns-in-Draw-clause-written g c = rw (c.in-Draw.is, c.judged-in-Draw.ensures)
 
 pub returns-in-Draw-clause-all_read : goal.returns-in-Draw-clause-all_read
 returns-in-Draw-clause-all_read g c = rw c.judged-in-Draw.ensures (judged_ok c.draw_history.result _ c.draw_history.ensures.all_read)
+
+pub returns-in-Draw-clause-told : goal.returns-in-Draw-clause-told
+returns-in-Draw-clause-told g c = λ legal e. rw c.in-Draw.is (legality_told _ (Draw c.in-Draw.field-0) _ _ c.draw_history.ensures.told legal (sym c.judged-in-Draw.ensures ∙ e))
 
 pub returns-in-Draw-clause-legal : goal.returns-in-Draw-clause-legal
 returns-in-Draw-clause-legal g c = λ e. absurd (judged_not_done _ (sym c.judged-in-Draw.ensures ∙ e))

@@ -2,7 +2,7 @@
 use Rattle.std.proofs.Common.{◌≡◌, None, IsSome, refl, sym, ◌∙◌, ap, subst}
 use Rattle.std.proofs.lemmas.Option.{same_Some}
 use Rattle.std.specs.FinMap as map
-use Rattle.history.specs.Faults.{needed_access, Names}
+use Rattle.history.specs.Faults.{needed_access, IsOfKind}
 use Rattle.history.specs.Handles.{handle_of}
 use Rattle.history.specs.Obstacles.{mismatch}
 use Rattle.history.proofs.Hindering.{named, kind_hinders, all_else, IsTaken}
@@ -24,7 +24,7 @@ returns c =
     let call = c.args.call.now in
     let access = c.in-Some.access in
     let here = c.handle-handle.ensures in
-    let names : Names world (handle_of call) access = subst (λ h. Names world h access) here (named world c.handle-handle.result access (sym c.access.ensures ∙ c.in-Some.is)) in
+    let names : IsOfKind world (handle_of call) access = subst (λ h. IsOfKind world h access) here (named world c.handle-handle.result access (sym c.access.ensures ∙ c.in-Some.is)) in
     let fits : mismatch (needed_access call) access (handle_of call) ≡ None =
     ap (λ h. mismatch (needed_access call) access h) (sym here) ∙ ap (λ needed. mismatch needed access c.handle-handle.result) (sym c.needed_access.ensures) ∙ sym c.mismatch.ensures
     ∙ c.in_default-mismatch.is in

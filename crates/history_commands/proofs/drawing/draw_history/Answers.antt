@@ -20,6 +20,12 @@ returns-clause-written g c =
     let grown = rw c.as_bytes.ensures.value at c.in_ok-write_all.ensures.ok in
     known_holds _ (λ text. AppendsSuch (IsPicture text _) _ _) _ c.in_ok-text.ensures.bytes (_, (c.in_ok-scene.scene, is, legal, c.in_ok-picture.ensures.ok), grown)
 
+pub returns-clause-told : goal.returns-clause-told
+returns-clause-told g c =
+    let legal : c.is_none.result ≡ is_none c.in_ok-scene.scene.reason = none_told _ _ c.is_none.ensures in
+    let grown = rw c.as_bytes.ensures.value at c.in_ok-write_all.ensures.ok in
+    (_, (c.in_ok-scene.scene, legal, c.in_ok-picture.ensures.ok), grown)
+
 pub returns-in_err-write_all-clause-part : goal.returns-in_err-write_all-clause-part
 returns-in_err-write_all-clause-part g c = λ _.
     let is = rw c.as_slice.ensures.value at c.in_ok-scene.ensures.scene in

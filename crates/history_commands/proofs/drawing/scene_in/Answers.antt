@@ -10,7 +10,7 @@ returns-in-Ok-clause-scene c =
     let shows : IsScene (hash_of read.hash) read.events read.order c.in-Ok.scene = rw (c.as_slice-events.ensures.value, c.as_slice-order.ensures.value) at c.in-Ok.ensures.scene in
     record {
       reading = read;
-      read = c.in_ok-given.ensures.exact;
+      says = (c.in_ok-given.ensures.found, c.in_ok-given.ensures.exact);
       shows = shows;
       each = λ id begin operation begins. c.has_each_operation.ensures (hash_of read.hash) read.events read.order c.in-Ok.scene id begin operation c.in_ok-given.ensures.found.1 shows begins;
     }

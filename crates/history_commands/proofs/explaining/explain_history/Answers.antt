@@ -21,6 +21,13 @@ returns-clause-written g c =
     let grown = rw c.as_bytes.ensures.value at c.in_ok-write_all.ensures.ok in
     known_holds _ (λ text. AppendsSuch (IsExplanation text _) _ _) _ c.in_ok-text.ensures.bytes (_, (c.in_ok-reason.reason, is, legal, lines), grown)
 
+pub returns-clause-told : goal.returns-clause-told
+returns-clause-told g c =
+    let lines = rw c.as_ref.ensures.value at c.in_ok-lines.ensures in
+    let legal : c.is_none.result ≡ is_none c.in_ok-reason.reason = none_told _ _ c.is_none.ensures in
+    let grown = rw c.as_bytes.ensures.value at c.in_ok-write_all.ensures.ok in
+    (_, (c.in_ok-reason.reason, legal, lines), grown)
+
 pub returns-in_err-write_all-clause-part : goal.returns-in_err-write_all-clause-part
 returns-in_err-write_all-clause-part g c = λ _.
     let is = rw c.as_slice.ensures.value at c.in_ok-reason.ensures.reason in

@@ -4,7 +4,7 @@ use Rattle.std.proofs.lemmas.Result.{IfOk-weaker, on_err_weaker}
 use Rattle.ctrie_base.specs.Hashes.{hash_of}
 use Rattle.history.specs.Worlds.{HandleMap, HandleState}
 use Rattle.history.proofs.EntryMaps.{get_seen, put_seen, put_again}
-use Rattle.history.proofs.WorldSteps.{changed_world-there, changed_world-absent}
+use Rattle.history.proofs.WorldSteps.{changed_world-there, changed_world-absent, changed_world-none}
 use Rattle.history.proofs.worlds.World.change.Goals as goal
 
 pub returns-in_default-clause-answer : goal.returns-in_default-clause-answer
@@ -22,6 +22,12 @@ returns-clause-answer c =
     let put = put_seen c.self.inside.handles.entries (c.get_mut.follows.lender c.change.new.self).entries w c.args.handle c.change.new.self c.self.view_is written.0 in
     IfOk-weaker c.change.result _ _ (λ reply same. changed_world-there (hash_of c.args.hash) c.args.call.now w _ c.args.handle c.in-Some.state.now c.change.new.self reply (sym there) put
     same) c.change.ensures.answer
+
+pub returns-clause-none : goal.returns-clause-none
+returns-clause-none c = λ none.
+    let w = c.args.self.now in
+    let there = get_seen c.self.inside.handles.entries w c.args.handle _ c.self.view_is c.in-Some.ensures.value in
+    c.change.ensures.none (changed_world-none (hash_of c.args.hash) c.args.call.now w c.args.handle c.in-Some.state.now (sym there) none)
 
 pub returns-clause-err : goal.returns-clause-err
 returns-clause-err c =

@@ -1,4 +1,4 @@
 use Rattle.history_text.proofs.fault_text.FaultTextDisplay.fmt.Goals as goal
 
-pub returns-in-StandsLate-clause-writes : goal.returns-in-StandsLate-clause-writes
-returns-in-StandsLate-clause-writes g c = λ p ok. rw c.in-StandsLate.is (c.write-in-StandsLate.ensures.writes p ok)
+pub returns-in-StandsBehind-clause-writes : goal.returns-in-StandsBehind-clause-writes
+returns-in-StandsBehind-clause-writes g c = λ p ok. rw c.in-StandsBehind.is (c.write-in-StandsBehind.ensures.writes p ok)
