@@ -136,12 +136,13 @@ def operations_of(forms):
             operation.end = time
             if operation.what == "read":
                 operation.found = found_by(line, form, operation, tuples)
+    gone = {it.begin for it in failed}
+    kept = [it for it in kept if it.begin not in gone]
     grows = {it.key for it in kept if it.what == "append"}
     for it in kept:
         if it.key in grows and it.value is not None and not isinstance(it.value, str):
             raise Fault(it.line, "strings are appended to what this writes, and it is none")
-    gone = {it.begin for it in failed}
-    return [it for it in kept if it.begin not in gone], failed
+    return kept, failed
 
 
 # ---- telling

@@ -66,7 +66,7 @@ pub fn carry_out<R: Threads + Wait + Sync, I: Read, W: Write>(
 
     // Whatever the reader had: of a history just what tells the verdict was written, and of a script a text of which a
     // check answers true.
-    ensures told { (legal : Bool) → result ≡ judged (Ok legal)
+    ensures verdict { (legal : Bool) → result ≡ judged (Ok legal)
         → AppendsSuch (TellsLegality request.entry legal) (W.contents (inner_of output.old)) (W.contents (inner_of output.new)) }
     ensures legal { result ≡ Ok Outcome.Done → AppendsJudged (W.contents (inner_of output.old)) (W.contents (inner_of output.new)) }
 

@@ -39,7 +39,7 @@ pub fn tombs_stay()
 {}
 
 /// A law: what a READ gives was the logical main node after its moment, which is the first such step from
-/// its last read or swap of the main word on.
+/// its last read or swap of the main word on; the indirection was in use then, and since the READ.
 pub fn moment_is_first()
     ensures { MomentIsFirst }
 {}

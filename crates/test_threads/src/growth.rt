@@ -85,6 +85,9 @@ fn a_refused_growth_stops_one_seat(rt: HostRuntime) {
     assert!(rt; first == Came::Answered || second == Came::Answered);
     if let Ok(Some(record)) = finished(rt.alloc(), runner, one, two) {
         judge(&rt, &record, 1);
+        if unended(record.events.as_slice()) == 1 {
+            let _ = println!(rt; "an operation is left in its middle");
+        }
     }
 }
 

@@ -22,7 +22,7 @@ use Rattle.proof_updates.specs.Beneath.machine_model.specs.Walking.{walk_after, 
 use Rattle.proof_updates.specs.Beneath.machine_model.specs.Times.{IsRun}
 use Rattle.proof_updates.specs.Beneath.machine_model.specs.Grown.{node_under}
 use Rattle.proof_updates.specs.Beneath.proof_memory.specs.Laws.{IsInUse}
-use Rattle.proof_updates.specs.Beneath.proof_memory.specs.Wants.{Is, Holds, AnIndirection, meets}
+use Rattle.proof_updates.specs.Beneath.proof_memory.specs.Wants.{AMain, Is, Holds, AnIndirection, meets}
 use Rattle.proof_updates.specs.Beneath.proof_memory.proofs.Claims.Reads.{read_link}
 use Rattle.proof_updates.specs.Beneath.proof_memory.proofs.Claims.Uses.{safe_of, meets_of}
 use Rattle.proof_updates.specs.Beneath.proof_commits.specs.Laws.{IsNoSwap}

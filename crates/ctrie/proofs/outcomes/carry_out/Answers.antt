@@ -12,8 +12,8 @@ returns-in-Check-clause-written g c = rw (c.in-Check.is, c.judged.ensures) (verd
 pub returns-in-Check-clause-all_read : goal.returns-in-Check-clause-all_read
 returns-in-Check-clause-all_read g c = rw c.judged.ensures (judged_ok c.check_history.result _ c.check_history.ensures.all_read)
 
-pub returns-in-Check-clause-told : goal.returns-in-Check-clause-told
-returns-in-Check-clause-told g c = λ legal e.
+pub returns-in-Check-clause-verdict : goal.returns-in-Check-clause-verdict
+returns-in-Check-clause-verdict g c = λ legal e.
     rw c.in-Check.is (legality_told _ (Check c.in-Check.field-0) _ _ (line_told _ c.in-Check.field-0 _ _ c.check_history.ensures.written) legal (sym c.judged.ensures ∙ e))
 
 pub returns-in-Check-clause-legal : goal.returns-in-Check-clause-legal
@@ -43,8 +43,8 @@ returns-in-Run-clause-written g c = rw (c.in-Run.is, c.done.ensures) (report_tol
 pub returns-in-Run-clause-all_read : goal.returns-in-Run-clause-all_read
 returns-in-Run-clause-all_read g c = rw c.done.ensures (done_ok c.run_script.result _ c.run_script.ensures.all_read)
 
-pub returns-in-Run-clause-told : goal.returns-in-Run-clause-told
-returns-in-Run-clause-told g c = λ legal e. absurd (done_not_judged _ legal (sym c.done.ensures ∙ e))
+pub returns-in-Run-clause-verdict : goal.returns-in-Run-clause-verdict
+returns-in-Run-clause-verdict g c = λ legal e. absurd (done_not_judged _ legal (sym c.done.ensures ∙ e))
 
 pub returns-in-Run-clause-legal : goal.returns-in-Run-clause-legal
 returns-in-Run-clause-legal g c = λ e. done_holds _ _ c.run_script.ensures.legal (sym c.done.ensures ∙ e)
@@ -73,8 +73,8 @@ returns-in-Threads-clause-written g c = rw (c.in-Threads.is, c.done-in-Threads.e
 pub returns-in-Threads-clause-all_read : goal.returns-in-Threads-clause-all_read
 returns-in-Threads-clause-all_read g c = rw c.done-in-Threads.ensures (done_ok c.run_threads.result _ c.run_threads.ensures.all_read)
 
-pub returns-in-Threads-clause-told : goal.returns-in-Threads-clause-told
-returns-in-Threads-clause-told g c = λ legal e. absurd (done_not_judged _ legal (sym c.done-in-Threads.ensures ∙ e))
+pub returns-in-Threads-clause-verdict : goal.returns-in-Threads-clause-verdict
+returns-in-Threads-clause-verdict g c = λ legal e. absurd (done_not_judged _ legal (sym c.done-in-Threads.ensures ∙ e))
 
 pub returns-in-Threads-clause-legal : goal.returns-in-Threads-clause-legal
 returns-in-Threads-clause-legal g c = λ e. done_holds _ _ c.run_threads.ensures.legal (sym c.done-in-Threads.ensures ∙ e)
@@ -104,8 +104,8 @@ returns-in-Explain-clause-written g c = rw (c.in-Explain.is, c.judged-in-Explain
 pub returns-in-Explain-clause-all_read : goal.returns-in-Explain-clause-all_read
 returns-in-Explain-clause-all_read g c = rw c.judged-in-Explain.ensures (judged_ok c.explain_history.result _ c.explain_history.ensures.all_read)
 
-pub returns-in-Explain-clause-told : goal.returns-in-Explain-clause-told
-returns-in-Explain-clause-told g c = λ legal e. rw c.in-Explain.is (legality_told _ (Explain c.in-Explain.field-0) _ _ c.explain_history.ensures.told legal (sym c.judged-in-Explain.ensures ∙ e))
+pub returns-in-Explain-clause-verdict : goal.returns-in-Explain-clause-verdict
+returns-in-Explain-clause-verdict g c = λ legal e. rw c.in-Explain.is (legality_told _ (Explain c.in-Explain.field-0) _ _ c.explain_history.ensures.told legal (sym c.judged-in-Explain.ensures ∙ e))
 
 pub returns-in-Explain-clause-legal : goal.returns-in-Explain-clause-legal
 returns-in-Explain-clause-legal g c = λ e. absurd (judged_not_done _ (sym c.judged-in-Explain.ensures ∙ e))
@@ -134,8 +134,8 @@ returns-in-Draw-clause-written g c = rw (c.in-Draw.is, c.judged-in-Draw.ensures)
 pub returns-in-Draw-clause-all_read : goal.returns-in-Draw-clause-all_read
 returns-in-Draw-clause-all_read g c = rw c.judged-in-Draw.ensures (judged_ok c.draw_history.result _ c.draw_history.ensures.all_read)
 
-pub returns-in-Draw-clause-told : goal.returns-in-Draw-clause-told
-returns-in-Draw-clause-told g c = λ legal e. rw c.in-Draw.is (legality_told _ (Draw c.in-Draw.field-0) _ _ c.draw_history.ensures.told legal (sym c.judged-in-Draw.ensures ∙ e))
+pub returns-in-Draw-clause-verdict : goal.returns-in-Draw-clause-verdict
+returns-in-Draw-clause-verdict g c = λ legal e. rw c.in-Draw.is (legality_told _ (Draw c.in-Draw.field-0) _ _ c.draw_history.ensures.told legal (sym c.judged-in-Draw.ensures ∙ e))
 
 pub returns-in-Draw-clause-legal : goal.returns-in-Draw-clause-legal
 returns-in-Draw-clause-legal g c = λ e. absurd (judged_not_done _ (sym c.judged-in-Draw.ensures ∙ e))
