@@ -21,6 +21,6 @@ pub use climb::{Climb, ClimbAt, Climbed};
 pub use renew::{Renew, RenewAt, Renewed};
 pub use trie_parts::{
     Access, Entrant, HashKind, Heap, KeyCall, Kind, Next, NodeRef, Private, Publication, Ref, Swap,
-    Task, Work, above, current, entries_at, entry_at, flag_of, generation_at, is_below_root,
-    make_changed, node_at, release_all,
+    Task, Work, above, bitmap_at, current, entries_at, entry_at, flag_of, generation_at,
+    is_below_root, key_at, main_at, make_changed, node_at, release_all,
 };

@@ -12,4 +12,5 @@ pub mod Naming
 pub mod Settled
 pub mod Forgetting
 pub mod Recents
+pub mod Growing
 pub mod Running

@@ -14,7 +14,7 @@ use Rattle.slot_arena.specs.Heaps.{Heap, taken, take_from, with_main, with_prev,
 use Rattle.std.specs.Prelude.{option_map}
 use Rattle.slot_arena.specs.Times.{times, other_slots}
 use Rattle.slot_arena.specs.Tallies.{naming}
-use Rattle.slot_arena.specs.Arenas.{Contents, IsLive, AreLive, waiting, waiting_in, NotesWaiting}
+use Rattle.slot_arena.specs.Arenas.{Contents, IsLive, AreLive, waiting, waiting_in, NotesWaiting, NotesWaitingBut}
 use Rattle.slot_arena.proofs.Times.{once, once_same, once_other, times-cons}
 use Rattle.slot_arena.proofs.Namings.{naming-cons}
 use Rattle.slot_arena.proofs.Reading.{live_seen, freed_seen}
@@ -125,9 +125,9 @@ lists_same a b bags heap outside noted lists = record {
   listed = λ r is none. lists.listed r (sym (waiting_same b a (slot_of r) heap outside) ∙ is) (sym (ap (times (slot_of r)) noted) ∙ none);
 }
 
--- a slot out of limbo is freed
+-- a slot out of limbo is freed: it is in no bag then, and not in use, so whether it is noted doesn't matter
 pub lists_freed : (a b : Contents) (bags : Bags) (at : Ref) → Lists a bags → 0 < times at (all_of bags) → b.heap ≡ freed a.heap at →
-    ((q : Ref) → (q ≡ at → ⊥) → IsLive a.heap q → IsLive b.heap q) → NotesWaiting a b → Lists b (bags_after None (slot_of at) bags)
+    ((q : Ref) → (q ≡ at → ⊥) → IsLive a.heap q → IsLive b.heap q) → NotesWaitingBut (slot_of at) a b → Lists b (bags_after None (slot_of at) bags)
 lists_freed a b bags at lists some heap stay notes = record {
   sizes = lists.sizes ∙ sym (ap (λ (h : Heap). length h.slots) heap ∙ length-freed a.heap at);
   live = subst (AreLive b.heap) left
@@ -137,10 +137,10 @@ lists_freed a b bags at lists some heap stay notes = record {
   single = λ j. subst (λ rs. naming j rs ≤ 1) left (omega (arith, naming_others j (slot_of at) (all_of bags), lists.single j));
   waits = λ r h none.
       let found = others_times (slot_of at) r (all_of bags) (subst (λ rs. 0 < times r rs) (sym left) h) in
-      let step = notes (slot_of r) none in sym step.1 ∙ lists.waits r found.0 step.0;
+      let step = notes (slot_of r) found.1 none in sym step.1 ∙ lists.waits r found.0 step.0;
   listed = λ r is none.
-      let step = notes (slot_of r) none in
-      subst (λ rs. 0 < times r rs) left (others_there (slot_of at) r (all_of bags) (λ same. none-some r (sym (ap (waiting b) same ∙ gone) ∙ is)) (lists.listed r (step.1 ∙ is) step.0));
+      let apart : slot_of r ≡ slot_of at → ⊥ = λ same. none-some r (sym (ap (waiting b) same ∙ gone) ∙ is) in
+      let step = notes (slot_of r) apart none in subst (λ rs. 0 < times r rs) left (others_there (slot_of at) r (all_of bags) apart (lists.listed r (step.1 ∙ is) step.0));
 }
   where
     left : other_slots (slot_of at) (all_of bags) ≡ all_of (bags_after None (slot_of at) bags)

@@ -29,7 +29,7 @@ CountsAlone =
 
 -- ---- sequences of a heap's calls, by what their clauses say of limbo and the epochs
 
--- making, swapping, publishing, holding, releasing, counting, recording an epoch and giving it up, setting what stands beside a slot
+-- making, swapping, publishing, holding, releasing, counting, recording an epoch and giving it up
 abbrev pub Stays : Memory → Memory → Type 0
 Stays before after = (after.limbo ≡ before.limbo) × (after.epoch ≡ before.epoch)
 

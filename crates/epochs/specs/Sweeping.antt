@@ -1,6 +1,7 @@
 -- The sweep: one step frees a slot, or reads an actor's record of the epoch, or lets the epoch grow. So a slot is freed two
 -- epochs after its count became zero, when no operation that began before is running any more.
-use Rattle.std.specs.Prelude.{ℕ, ⊤, ◌+◌, ◌-◌, ◌<◌, ◌==◌, Bool, true, nat_le, List, [], ◌∷◌, length, slice_index_or, Option, Some, None, if◌then◌else◌}
+use Rattle.std.specs.Prelude.{ℕ, zero, suc, ⊤, ◌+◌, ◌-◌, ◌<◌, ◌==◌, ◌&&◌, Bool, true, nat_le, is_none, List, [], ◌∷◌, length, slice_index_or, Option, Some, None, if◌then◌else◌}
+use Rattle.std.specs.List.{list_all}
 use Rattle.slot_arena.specs.declared.refs.Ref.{Ref}
 use Rattle.slot_arena.specs.Heaps.{Heap, freed}
 use Rattle.epochs.specs.declared.limbo.Zeroed.{Zeroed}
@@ -40,6 +41,15 @@ sweep_by pins r None = if nat_le r.cursor (length pins) then scanned r (is_passe
 -- a step of the sweep, where these are the epochs that the actors have recorded
 abbrev pub swept_once : List (Option ℕ) → Reclaimer → Swept × Reclaimer
 swept_once pins r = sweep_by pins r (ripe r.epoch r.limbo)
+
+-- so many steps of the sweep
+unfoldable pub swept_times : List (Option ℕ) → ℕ → Reclaimer → Reclaimer
+swept_times pins zero r = r
+swept_times pins (suc n) r = swept_times pins n (swept_once pins r).1
+
+-- the next steps pass each actor, from the first one on, and then the epoch grows
+abbrev pub passes_all : List (Option ℕ) → Reclaimer → Bool
+passes_all pins r = is_none (ripe r.epoch r.limbo) && r.cursor == 1 && list_all (is_passed r.epoch) pins
 
 -- the epoch is over for an actor: it has recorded none, or a later one
 abbrev pub IsOlder : ℕ → Option ℕ → Type 0

@@ -24,16 +24,16 @@ use std::marker::Model;
 
 /// Slots whose nodes are freed two epochs after nothing refers to them; until then they wait in limbo.
 pub struct Heap {
-    arena: Arena,
-    bags: Ring,
+    pub(crate) arena: Arena,
+    pub(crate) bags: Ring,
     /// Room for the slots that come into limbo in one step.
-    fresh: Fresh,
-    epoch: u64,
+    pub(crate) fresh: Fresh,
+    pub(crate) epoch: u64,
     /// The actor whose record is read next, from 1.
-    cursor: u8,
-    pins: Vec<Option<u64>>,
+    pub(crate) cursor: u8,
+    pub(crate) pins: Vec<Option<u64>>,
     /// Those of the arena, the bags and the new ones.
-    ticks: Ticks,
+    pub(crate) ticks: Ticks,
 }
 
 impl Drop for Heap {
@@ -316,8 +316,8 @@ impl Heap {
         ensures stay { (q : Ref) → IsLive self.old.heap q → 0 < count_of self.old.heap self.old.outside q → IsLive self.new.heap q }
         ensures outside { self.new.outside ≡ self.old.outside }
         ensures pins { self.new.pins ≡ self.old.pins }
-        ensures few { length self.new.noted ≤ 34 }
-        ensures ticks { TakesUpTo 44 self.old.ticks self.new.ticks }
+        ensures few { length self.new.noted ≤ 33 }
+        ensures ticks { TakesUpTo 43 self.old.ticks self.new.ticks }
     {
         let Some(slot) = self.bags.first() else {
             let pins = self.pins.as_slice();

@@ -20,7 +20,7 @@ mod read;
 mod swap;
 
 pub use laws::acts_on_heap;
-pub use looks::generation_at;
+pub use looks::{generation_at, main_at};
 pub use machine_model::{
     Access, Change, Descriptor, Entrant, Heap, Publication, Root, RootWord, Site,
 };

@@ -8,7 +8,7 @@ use machine_model::{Heap, NodeRef, Ref};
 
 /// The main word of an indirection; the default reference where none stands there.
 #[tactic(auto, using(crate::proofs::Stored::node_is, crate::proofs::Stored::nothing_is))]
-pub(crate) fn main_at(heap: &Heap, at: Ref) -> Ref
+pub fn main_at(heap: &Heap, at: Ref) -> Ref
     ensures { result ≡ main_at heap.now.heap at }
 {
     match heap.stored_node(at) {

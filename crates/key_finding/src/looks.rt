@@ -195,10 +195,12 @@ fn removing(heap: &Heap, path: &[Ref], main: Ref, position: usize, value: u64) -
         line_found (at_heap state heap.now.heap hashes) path.now s main result ≡ removing (at_heap state heap.now.heap hashes) path.now main position value
         (node_at heap.now.heap main) }
 {
-    let other = entry_at(heap, main, 1usize.saturating_sub(position));
     match node_at(heap, main) {
         Some(NodeRef::Branch { entries, .. }) => from_branch(path, position, value, entries.len()),
-        Some(NodeRef::List { singles }) => from_list(other, position, value, singles.len()),
+        Some(NodeRef::List { singles }) => {
+            let other = entry_at(heap, main, 1usize.saturating_sub(position));
+            from_list(other, position, value, singles.len())
+        }
         None => from_branch(path, position, value, 0),
         _ => Found::Impossible,
     }

@@ -8,6 +8,7 @@ pub mod Held
 pub mod Steps
 pub mod Ends
 pub mod Reclaimed
+pub mod Growths
 pub mod Starts
 pub mod Knows
 pub mod Kept

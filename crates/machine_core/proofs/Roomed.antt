@@ -8,6 +8,7 @@ use Rattle.machine_core.specs.Beneath.snapshot.specs.declared.tasks.WalkCall.The
 use Rattle.running.specs.declared.job.Program.{Program}
 use Rattle.running.specs.declared.job.Program.TheVariants.{Key, Copy, Walk, Close}
 use Rattle.running.specs.Places.{call_for}
+use Rattle.running.specs.Steps.{IsWalk}
 use Rattle.proof_core.specs.Bounds.{Walks}
 use Rattle.machine_model.specs.States.{operation_of}
 use Rattle.std.proofs.Math.Seq.{map-set_same}
@@ -23,7 +24,7 @@ use Rattle.machine_core.specs.declared.parts.Parts.{Parts}
 use Rattle.machine_core.specs.declared.parts.UnderWay.{UnderWay}
 use Rattle.machine_core.specs.Keeping.{IsKept, IsSeated, KnowsOfferers, Replaces}
 use Rattle.proof_core.specs.Numbering.{KnowsNumbers}
-use Rattle.machine_core.specs.Rooming.{GivesRoom, HasRoomToStep, IsWalk, IsWalking}
+use Rattle.machine_core.specs.Rooming.{GivesRoom, HasRoomToStep, IsWalking}
 use Rattle.machine_core.specs.Seen.{actors_seen, operation_at, operation_seen, seen}
 use Rattle.machine_core.specs.Ties.{IsTied}
 use Rattle.machine_core.proofs.Kept.{operation_under_way, replaced_seated}

@@ -1,5 +1,5 @@
 -- A machine that has taken no step.
-use Rattle.std.proofs.Common.{◌≡◌, ℕ, zero, suc, ◌+◌, ◌==◌, ◌<◌, ◌≤◌, ◌&&◌, Bool, true, false, not, List, [], ◌∷◌}
+use Rattle.std.proofs.Common.{◌≡◌, ℕ, zero, suc, ◌+◌, ◌*◌, ◌==◌, ◌<◌, ◌≤◌, ◌&&◌, Bool, true, false, not, List, [], ◌∷◌}
 use Rattle.std.proofs.Common.{◌++◌, map, filter, set, get_or, replicate, flat_map, count_by, length, All, Option, Some, None, refl, sym, ap, ◌∙◌, arith, subst}
 use Rattle.std.specs.Prelude.{option_map, slice_get}
 use Rattle.std.proofs.lemmas.List.{length-append, length-replicate}
@@ -16,7 +16,7 @@ use Rattle.slot_arena.specs.Heaps.{Heap, taken, empty_branch, next_ref, named_fr
 use Rattle.slot_arena.specs.Counts.{count_of}
 use Rattle.slot_arena.specs.Times.{times, without}
 use Rattle.slot_arena.proofs.Times.{once_same, times-cons, times-without, times_le}
-use Rattle.epochs.specs.Memories.{Memory}
+use Rattle.epochs.specs.Memories.{Memory, Settles}
 use Rattle.epochs.specs.Limbo.{is_zero, is_in, limbo_after, by_birth}
 use Rattle.machine_model.specs.declared.operations.Operation.{Operation}
 use Rattle.machine_model.specs.declared.roots.Root.{Root}
@@ -31,6 +31,8 @@ use Rattle.machine_core.specs.declared.parts.Actor.{Actor}
 use Rattle.machine_core.specs.declared.parts.Parts.{Parts}
 use Rattle.machine_core.specs.Keeping.{AreSeated, IsKept}
 use Rattle.proof_core.specs.Numbering.{KnowsNumbers}
+use Rattle.proof_core.specs.Work.{crossing}
+use Rattle.proof_core.proofs.Crossing.{settling_pays}
 use Rattle.machine_core.specs.Seen.{actors_seen, operation_at, seen}
 use Rattle.machine_core.specs.Starting.{AreIdle, IsIdle}
 use Rattle.machine_core.specs.Ties.{private_refs}
@@ -82,6 +84,17 @@ pub first_limbo : (slots : ℕ) → 2 ≤ slots → limbo_after (first_heap slot
 first_limbo zero low = absurd (omega (arith, low))
 first_limbo (suc zero) low = absurd (omega (arith, low))
 first_limbo (suc (suc n)) low = limbo_of (first_heap (suc (suc n))) (first_used n) (first_refs n)
+
+-- ---- ticks
+
+-- what settling takes where nothing is in limbo, before it or after it
+pub settled_first : (before after : Memory) → Settles before after → before.limbo ≡ [] → after.limbo ≡ [] → after.ticks ≤ before.ticks + 3 * length before.noted
+settled_first before after settles none still = omega (
+  arith,
+  settling_pays before.heap before.outside before.epoch before.limbo after.limbo before.ticks after.ticks (length before.noted) settles.limbo settles.ticks,
+  ap (λ l. crossing l after.limbo) none,
+  ap (crossing []) still,
+)
 
 -- ---- what is held
 

@@ -22,7 +22,7 @@ use Rattle.machine_core.specs.Beneath.proof_straight.specs.Resting.{IsOfRun}
 use Rattle.machine_core.specs.Going.{Steps}
 use Rattle.machine_core.specs.Keeping.{Replaces}
 use Rattle.machine_core.specs.Seen.{operation_at, seen, under_way_of}
-use Rattle.machine_core.specs.Work.{ActsLittle, worked}
+use Rattle.machine_core.specs.Work.{ActsLittle, ticks_of_a_sweep, worked}
 use Rattle.proof_core.specs.Work.{NotesUpTo, WorksLittle, WorksUpTo, crossing, held_by, ticks_of_a_step}
 use Rattle.proof_core.proofs.Crossing.{sweeping_pays}
 use Rattle.machine_core.proofs.Ends.{left}
@@ -101,11 +101,11 @@ one_freed swept.Freed = omega arith
 -- a step of the sweep, whose freed slot leaves limbo before it is settled
 pub swept_little : (before middle after : Memory) (did : Swept) → length before.heap.slots ≤ most_slots →
     (did, record { heap = middle.heap; limbo = before.limbo; epoch = middle.epoch; cursor = middle.cursor }) ≡ swept_once before.pins (reclaimer_of before) →
-    middle.limbo ≡ drop (freed_by did) before.limbo → length middle.noted ≤ 34 → TakesUpTo 44 before.ticks middle.ticks →
+    middle.limbo ≡ drop (freed_by did) before.limbo → length middle.noted ≤ 33 → TakesUpTo 43 before.ticks middle.ticks →
     after.limbo ≡ limbo_after middle.heap middle.outside middle.epoch middle.limbo → middle.ticks ≤ after.ticks →
     after.ticks + 12 * length (staying middle.heap middle.outside middle.limbo)
     ≤ middle.ticks + 3 * length middle.noted + 12 * length middle.limbo + 12 * length (newly_zero middle.heap middle.outside middle.limbo) →
-    WorksUpTo ticks_of_a_step before.ticks before.limbo after.ticks after.limbo
+    WorksUpTo ticks_of_a_sweep before.ticks before.limbo after.ticks after.limbo
 swept_little before middle after did small done left_out few ticks settled rises takes =
     let shorter : after.limbo ≡ limbo_after middle.heap middle.outside middle.epoch (drop (freed_by did) before.limbo) =
     settled ∙ ap (limbo_after middle.heap middle.outside middle.epoch) left_out in

@@ -1,9 +1,8 @@
 -- What an actor is whose walk was given room.
 use Rattle.std.specs.Prelude.{◌≡◌, Option, Some, None}
 use Rattle.running.specs.declared.job.Program.{Program}
-use Rattle.running.specs.declared.job.Program.TheVariants.{Walk}
 use Rattle.running.specs.Places.{line_for, IsSound}
-use Rattle.running.specs.Steps.{CanStep, RoomFor, Scene}
+use Rattle.running.specs.Steps.{CanStep, IsWalk, RoomFor, Scene}
 use Rattle.machine_core.specs.declared.parts.Actor.{Actor}
 use Rattle.machine_core.specs.declared.parts.UnderWay.{UnderWay}
 
@@ -18,10 +17,6 @@ abbrev pub HasRoomToStep : Actor → Type 0
 HasRoomToStep actor = (u : UnderWay) → actor.under_way ≡ Some u → RoomFor u.program actor.programs
 
 -- what it has under way is a walk
-abbrev pub IsWalk : Program → Type 0
-IsWalk (Walk call) = Unit {0}
-IsWalk program = ⊥
-
 abbrev pub IsWalking : Option UnderWay → Type 0
 IsWalking None = ⊥
 IsWalking (Some u) = IsWalk u.program

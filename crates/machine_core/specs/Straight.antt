@@ -20,7 +20,7 @@ use Rattle.proof_core.specs.Tries.{IsTrie}
 abbrev pub CarriesOut : State → (actor : ℕ) → Call → Reply → State → Type 0
 CarriesOut state actor call reply after = (n : ℕ) × Comes state actor call n reply after
 
--- no offer stands over the handle's root, and as many slots are free and as many steps left as a call takes at most that is carried out at once
+-- no offer stands over the handle's root, and as many slots are free and as many steps left as a call takes at most that is carried out at once and renews no branch
 pub record IsClear (state : State) (call : Call) (root : Ref) : Type 0 where
   pub word : word_at state (handle_of call) ≡ Plain root
   pub slots : 32 ≤ length state.heap.free

@@ -76,8 +76,10 @@ fn compare_mains(
     let mut news = Left::of(heap, newer);
     while olds.is_some() || news.is_some() {
         let (p, q) = (olds.index(), news.index());
-        let older = olds.take_if(p <= q);
-        let newer = news.take_if(q <= p);
+        let takes_older = p <= q || !news.is_some();
+        let takes_newer = q <= p || !olds.is_some();
+        let older = olds.take_if(takes_older);
+        let newer = news.take_if(takes_newer);
         compare(keys, levels, heap, older, newer)?;
     }
     Ok(())

@@ -6,9 +6,10 @@ ghost use Rattle.slot_arena.specs.Heaps.{prev_at};
 ghost use Rattle.machine_core.specs.Descending.{EndsAt, Finds};
 
 use crate::contents::MOST_LEVELS;
-use crate::mains::{has_flag, main_at, position_of};
+use crate::mains::position_of;
 use epochs::Heap;
-use running::{entry_at, flag_of, node_at};
+use nodes::has_flag;
+use running::{entry_at, flag_of, main_at, node_at};
 use slot_arena::{NodeRef, Prev, Ref};
 
 /// What stands for a key in the place of its flag in a branch.

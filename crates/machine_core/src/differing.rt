@@ -12,7 +12,7 @@ ghost use Rattle.proof_core.specs.Reading.{Covers};
 ghost use Rattle.machine_core.specs.Seen.{seen};
 
 use crate::comparing::keys_apart;
-use crate::finding::value_of;
+use crate::finding::value_along;
 use crate::parts::Parts;
 use std::alloc::AllocError;
 
@@ -65,8 +65,8 @@ fn add_difference(
 ) -> Result<(), AllocError>
     ensures { OnOk result (differences.new.items ≡ differences.old.items ++ difference_of key (found_along (seen parts.now) older key) (found_along (seen parts.now) newer key)) }
 {
-    let before = value_of(parts, older, key);
-    let after = value_of(parts, newer, key);
+    let before = value_along(parts, older, key);
+    let after = value_along(parts, newer, key);
     if before != after {
         differences.push(Difference { key, before, after })?;
     }

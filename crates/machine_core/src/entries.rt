@@ -1,17 +1,12 @@
 //! The entries of a main node, taken one by one, each beside the one in the same place of another main node.
 
-ghost use Rattle.std.specs.Prelude.{◌≡◌, ◌<◌, ◌≤◌, ◌++◌, true, nat_lt, length};
+ghost use Rattle.std.specs.Prelude.{◌≡◌, ◌<◌, ◌++◌, true, nat_lt, length};
 ghost use Rattle.slot_arena.specs.Heaps.{refs_of_option};
 ghost use Rattle.proof_core.specs.Comparing.{entries_below};
 
 use epochs::Heap;
-use running::{entries_at, node_at};
-use slot_arena::{NodeRef, Ref};
-
-/// The index of an entry of no branch, which comes behind those of a branch, and where none is left.
-const NO_BRANCH: u32 = 32;
-
-const NONE_LEFT: u32 = 33;
+use running::{bitmap_at, entries_at};
+use slot_arena::Ref;
 
 /// What is left of the entries of a main node.
 #[derive(Drop)]
@@ -32,7 +27,7 @@ impl<'a> Left<'a> {
                 entries: &[],
             },
             Some(main) => Left {
-                flags: flags_of(heap, main),
+                flags: bitmap_at(heap, main),
                 entries: entries_at(heap, main),
             },
         }
@@ -45,16 +40,9 @@ impl<'a> Left<'a> {
         !self.entries.is_empty()
     }
 
-    /// The index of the next entry in its branch.
-    pub fn index(&self) -> u32
-        ensures some { 0 < length self.now.entries.now → result ≤ 32 }
-        ensures none { length self.now.entries.now ≡ 0 → result ≡ 33 }
-    {
-        if self.entries.is_empty() {
-            NONE_LEFT
-        } else {
-            self.flags.trailing_zeros().min(NO_BRANCH)
-        }
+    /// The index of the next entry in its branch; 32 for one of no branch, and where none is left.
+    pub fn index(&self) -> u32 {
+        self.flags.trailing_zeros()
     }
 
     /// Takes the next entry, if it is wanted.
@@ -69,13 +57,5 @@ impl<'a> Left<'a> {
         self.flags &= self.flags.wrapping_sub(1);
         self.entries = rest;
         Some(*first)
-    }
-}
-
-/// The flags of a branch.
-fn flags_of(heap: &Heap, main: Ref) -> u32 {
-    match node_at(heap, main) {
-        Some(NodeRef::Branch { bitmap, .. }) => bitmap,
-        _ => 0,
     }
 }

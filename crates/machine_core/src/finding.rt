@@ -7,9 +7,10 @@ ghost use Rattle.machine_core.specs.Finding.{found_along, meant};
 ghost use Rattle.machine_core.specs.Seen.{seen};
 
 use crate::contents::MOST_LEVELS;
-use crate::mains::{has_flag, logical_main, position_of, root_of};
+use crate::mains::{logical_main, position_of, root_of};
 use crate::parts::Parts;
 use epochs::Heap;
+use nodes::has_flag;
 use running::{entry_at, flag_of, node_at};
 use slot_arena::{NodeRef, Ref};
 
@@ -24,7 +25,7 @@ pub enum Found {
 }
 
 /// The value of the key in the handle's map.
-pub fn value_of(parts: &Parts, handle: u16, key: u64) -> Option<u64>
+pub fn value_along(parts: &Parts, handle: u16, key: u64) -> Option<u64>
     ensures { result ≡ found_along (seen parts.now) handle key }
 {
     let hash = parts.key_hash(key);

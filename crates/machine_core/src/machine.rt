@@ -1,6 +1,6 @@
 //! The core as one value.
 
-ghost use Rattle.std.specs.Prelude.{◌≡◌, ℕ, [], false, true, length, option_map, None, Some, IsSome, IfNone, IfSome, IfOk, IfErr, IsOkUnless, OnErr, OnOk};
+ghost use Rattle.std.specs.Prelude.{◌≡◌, ◌+◌, ◌≤◌, ℕ, [], false, true, length, option_map, None, Some, IsSome, IfNone, IfSome, IfOk, IfErr, IsOkUnless, OnErr, OnOk};
 ghost use Rattle.slot_arena.specs.Heaps.{in_use};
 ghost use Rattle.machine_model.specs.declared.steps.Step.TheVariants as steps;
 ghost use Rattle.machine_model.specs.States.{first_state, root_at};
@@ -12,6 +12,7 @@ ghost use Rattle.machine_core.specs.Beneath.proof_straight.specs.Resting.{IsOfRu
 ghost use Rattle.machine_core.specs.Finding.{found_along};
 ghost use Rattle.machine_core.specs.Straight.{CarriesOut};
 ghost use Rattle.machine_core.specs.Sweeping.{Reclaims};
+ghost use Rattle.machine_core.specs.Work.{ticks_of_a_start};
 ghost use Rattle.machine_core.specs.Told.{began, ended, published_in, reply_in, stepped, TellsBegin, TellsEnd, TellsStep};
 ghost use Rattle.proof_core.specs.Going.{goes_on};
 ghost use Rattle.proof_core.specs.Work.{WorksLittle};
@@ -19,7 +20,7 @@ ghost use Rattle.proof_core.specs.Work.{WorksLittle};
 use crate::actors::{copied_reply, is_busy, next_kind};
 use crate::contents::content_of;
 use crate::denials::{begin_denial, denial_of, go_denial, is_access, spent_denial, sweep_denial};
-use crate::finding::value_of;
+use crate::finding::value_along;
 use crate::going::{goes_on, published};
 use crate::handles::runs_on;
 use crate::parts::Parts;
@@ -63,6 +64,7 @@ impl Core {
     /// range; any other refusal is `Memory`. It is all the memory that a machine takes, but for walks and what is listed.
     pub fn new(alloc: Global, bounds: Bounds) -> Result<Core, Refusal>
         ensures made { IfOk result (λ core. core.state ≡ first_state bounds) }
+        ensures work { IfOk result (λ core. core.work ≤ bounds.slots + ticks_of_a_start) }
         ensures refused { IfErr result (λ refusal. RefusesBounds bounds refusal) }
         ensures in_range { OnOk result (AreBounds bounds) }
     {
@@ -154,8 +156,8 @@ impl Core {
         }
     }
 
-    /// Carries a call out at once that its actor would carry out alone, from its begin to its end, where nothing stands in its
-    /// way; none, and nothing has changed, where something does.
+    /// Carries a call out at once that its actor would carry out alone, from its begin to its end; or gives none, and nothing
+    /// has changed. Which of the two no clause says.
     pub fn at_once(&mut self, actor: u8, call: Call) -> Option<Reply>
         requires rest { is_busy self.old.state ≡ false }
         requires allowed { begin_denial self.old.state actor call ≡ None }
@@ -177,7 +179,8 @@ impl Core {
         }
     }
 
-    /// Takes steps of the sweep as long as something stands in limbo, or until the machine is spent.
+    /// Takes steps of the sweep as long as something stands in limbo, or until the machine is spent. Where an operation runs,
+    /// the epoch that it recorded may keep slots in limbo: then all the steps are taken that are left.
     pub fn reclaim(&mut self)
         ensures reclaims { (n : ℕ) × Reclaims self.old n self.new }
         ensures clean { is_spent self.new.state ≡ false → self.new.state.limbo ≡ [] }
@@ -223,7 +226,7 @@ impl Core {
         if self.parts.table.root(handle).is_none() {
             return Err(Refusal::NoHandle);
         }
-        Ok(value_of(&self.parts, handle, key))
+        Ok(value_along(&self.parts, handle, key))
     }
 
     /// The kind of the next step of the actor's operation, if it runs one.
@@ -272,10 +275,11 @@ impl Core {
         }
     }
 
-    /// How many handles are open or reserved: at most 256.
-    #[tactic(auto, using(proof_core::proofs::Numbers::taken_counted))]
+    /// How many handles are open or reserved.
+    #[tactic(auto, using(proof_core::proofs::Numbers::taken_counted, proof_core::proofs::Numbers::few_taken))]
     pub fn handles_taken(&self) -> u32
-        ensures { result ≡ handles_taken self.now.state }
+        ensures number { result ≡ handles_taken self.now.state }
+        ensures few { result ≤ 256 }
     {
         u32::from(self.parts.handles.taken())
     }
@@ -317,7 +321,8 @@ impl Core {
 
     /// How many steps were taken.
     pub fn steps_taken(&self) -> u64
-        ensures { result ≡ self.now.state.steps }
+        ensures number { result ≡ self.now.state.steps }
+        ensures most { result ≤ self.now.state.limits.steps }
     {
         self.parts.steps
     }

@@ -24,8 +24,8 @@ use ctrie_base::HashKind;
 use epochs::Heap;
 use machine_model::Change;
 use nodes::{dual, list_depth, parting, rung};
-use running::{entry_at, node_at};
-use slot_arena::{Node, NodeRef, Ref};
+use running::{entry_at, key_at};
+use slot_arena::{Node, Ref};
 
 /// The slots that a call has made: at most two for each level, two more, and the topmost indirection; or an indirection for
 /// each entry of a branch, and the new branch.
@@ -84,10 +84,7 @@ fn link_down(
 fn hash_at(heap: &Heap, hashes: HashKind, single: Ref) -> u64
     ensures { result ≡ hash_of hashes (key_in (node_at heap.now.heap single)) }
 {
-    match node_at(heap, single) {
-        Some(NodeRef::Single { key, .. }) => hashes.hash(key),
-        _ => hashes.hash(0),
-    }
+    hashes.hash(key_at(heap, single))
 }
 
 /// Puts a single of the key beside that of another key, where the way down ends. It tells how many levels below both stand.

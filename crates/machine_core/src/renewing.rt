@@ -19,14 +19,13 @@ use crate::calls::{key_fits, key_of};
 use crate::contents::MOST_LEVELS;
 use crate::descending::{Onward, Place, is_decided, look_in};
 use crate::drafting::swap_in;
-use crate::mains::{bitmap_at, main_at, position_of};
+use crate::mains::position_of;
 use crate::pairing::{Made, make_more};
 use crate::parts::Parts;
 use arrayvec::ArrayVec;
 use epochs::Heap;
 use history::Call;
-use nodes::renewed;
-use running::{entries_at, entry_at, flag_of, generation_at, node_at};
+use running::{bitmap_at, entries_at, entry_at, flag_of, generation_at, main_at, node_at};
 use slot_arena::{Node, NodeRef, Ref};
 
 /// Goes down from a root along the key's hash, past indirections of any generation, over branches that can be renewed. None
@@ -78,8 +77,8 @@ fn are_decided(heap: &Heap, main: Ref) -> bool
     ensures decided { IsTrue result → AreDecided heap.now.heap main (length (entries_of (node_at heap.now.heap main))) }
     ensures few { length (entries_of (node_at heap.now.heap main)) ≤ 32 }
 {
-    for i in 0..entries_at(heap, main).len() {
-        if !can_renew(heap, entry_at(heap, main, i)) {
+    for entry in entries_at(heap, main) {
+        if !can_renew(heap, *entry) {
             return false;
         }
     }
@@ -148,8 +147,8 @@ fn renew(heap: &mut Heap, generation: u64, indirection: Ref, main: Ref) -> u64
         let fresh = renew_entry(heap, &mut made, generation, entry);
         entries.push(fresh);
     }
-    let node = renewed(bitmap, entries.as_slice());
     let steps = entries.len() as u64 + 3 * made.len() as u64 + 10;
+    let node = Node::Branch { bitmap, entries };
     swap_in(heap, indirection, main, node, made.as_slice());
     steps
 }

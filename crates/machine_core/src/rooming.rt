@@ -11,7 +11,6 @@ ghost use Rattle.machine_core.specs.declared.parts.Actor.{Actor as AnActor};
 
 use crate::parts::{Actor, Parts};
 use ctrie_base::Refusal;
-use running::Program;
 
 /// Makes room for the next step of the actor's operation, if that is a walk. Nothing that is seen changes.
 #[inline(always)]
@@ -40,12 +39,7 @@ impl Actor {
     {
         match &self.under_way {
             None => Ok(()),
-            Some(under_way) => match &under_way.program {
-                Program::Key(_) => Ok(()),
-                Program::Copy(_) => Ok(()),
-                Program::Close => Ok(()),
-                Program::Walk(_) => self.programs.make_room(&under_way.program),
-            },
+            Some(under_way) => self.programs.make_room(&under_way.program),
         }
     }
 }

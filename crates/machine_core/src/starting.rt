@@ -1,6 +1,6 @@
 //! How a machine starts.
 
-ghost use Rattle.std.specs.Prelude.{◌≡◌, ◌↔◌, ℕ, IsTrue, [], ◌∷◌, replicate, None, Some, true, IfOk, OnOk, IsOkUnless};
+ghost use Rattle.std.specs.Prelude.{◌≡◌, ◌↔◌, ◌+◌, ◌≤◌, ℕ, IsTrue, [], ◌∷◌, replicate, None, Some, true, IfOk, OnOk, IsOkUnless};
 ghost use Rattle.slot_arena.specs.Arenas.{IsLive};
 ghost use Rattle.slot_arena.specs.Refs.{ref_to};
 ghost use Rattle.slot_arena.specs.Times.{times};
@@ -13,6 +13,7 @@ ghost use Rattle.machine_core.specs.Beneath.rdcss_root.specs.Tables.{new_table, 
 ghost use Rattle.machine_core.specs.Keeping.{IsKept};
 ghost use Rattle.machine_core.specs.Seen.{seen};
 ghost use Rattle.machine_core.specs.Starting.{AreIdle, IsIdle};
+ghost use Rattle.machine_core.specs.Work.{ticks_of_a_start};
 
 use crate::parts::{Actor, Parts};
 use arrayvec::ArrayVec;
@@ -51,6 +52,7 @@ fn first_memory(alloc: Global, slots: u32, actors: u8) -> Result<Heap, Refusal>
     ensures cursor { IfOk result (λ memory. memory.cursor ≡ 1) }
     ensures pins { IfOk result (λ memory. memory.pins ≡ replicate actors None) }
     ensures noted { IfOk result (λ memory. memory.noted ≡ []) }
+    ensures ticks { IfOk result (λ memory. memory.ticks ≤ slots + 274) }
     ensures live { IfOk result (λ memory. IsLive memory.heap (ref_to 2 1)) }
     ensures only_memory { IsOkUnless result Refusal.Memory }
 {
@@ -75,12 +77,14 @@ fn first_table(alloc: Global, heap: &mut Heap, actors: u8) -> Result<Roots, Allo
     requires outside { heap.old.outside ≡ ref_to 2 1 ∷ [] }
     requires live { IsLive heap.old.heap (ref_to 2 1) }
     requires limbo { limbo_after heap.old.heap heap.old.outside heap.old.epoch heap.old.limbo ≡ [] }
+    requires settled { (heap.old.limbo ≡ []) × (heap.old.noted ≡ []) }
     ensures table { IfOk result (λ table. table ≡ with_root_in (new_table actors) 0 (Some (record { access = Access.Writable; word = RootWord.Plain (ref_to 2 1) }))) }
     ensures heap { heap.new.heap ≡ heap.old.heap }
     ensures held { (r : ℕ) → OnOk result (times r heap.new.outside ≡ times r (ref_to 2 1 ∷ [])) }
     ensures limbo { OnOk result (heap.new.limbo ≡ []) }
     ensures epochs { OnOk result ((heap.new.epoch ≡ heap.old.epoch) × (heap.new.cursor ≡ heap.old.cursor) × (heap.new.pins ≡ heap.old.pins)) }
     ensures noted { OnOk result (heap.new.noted ≡ []) }
+    ensures ticks { OnOk result (heap.new.ticks ≤ heap.old.ticks + 36) }
 {
     let mut table = Roots::new(alloc, actors)?;
     let root = Ref::new(2, 1);
@@ -120,7 +124,7 @@ fn idle_actor(alloc: Global, hashes: HashKind) -> Actor
 fn idle_actors(alloc: Global, hashes: HashKind, actors: u8) -> Result<Vec<Actor>, AllocError>
     ensures { IfOk result (λ idle. AreIdle hashes actors idle.items) }
 {
-    let mut idle = Vec::new(alloc);
+    let mut idle = Vec::with_capacity(alloc, actors as usize)?;
     for _ in 0..actors {
         idle.push(idle_actor(alloc, hashes))?;
     }
@@ -134,6 +138,7 @@ pub fn first_parts(alloc: Global, bounds: Bounds) -> Result<Parts, Refusal>
     ensures first { IfOk result (λ parts. seen parts ≡ first_state bounds) }
     ensures kept { IfOk result (λ parts. IsKept parts) }
     ensures noted { IfOk result (λ parts. parts.heap.noted ≡ []) }
+    ensures ticks { IfOk result (λ parts. parts.heap.ticks ≤ bounds.slots + ticks_of_a_start) }
     ensures only_memory { IsOkUnless result Refusal.Memory }
 {
     let mut heap = first_memory(alloc, bounds.slots, bounds.actors)?;

@@ -29,13 +29,13 @@ use machine_model::RootWord;
 use running::{entries_at, generation_at};
 use slot_arena::Ref;
 
-/// No call that is carried out at once takes more slots.
-const MOST_SLOTS: u32 = 32;
+/// No call that is carried out at once takes more slots, but for those with which it renews branches on its way down.
+const MOST_MADE: u32 = 32;
 
 /// Nor more steps.
 const MOST_STEPS: u64 = 4096;
 
-/// Carries the call out, where nothing stands in its way; none, and nothing has changed, where something does.
+/// Carries the call out, or gives none, and nothing has changed: which of the two no clause says.
 pub fn at_once(parts: &mut Parts, actor: u8, call: Call) -> Option<Reply>
     requires core { IsCore parts.old }
     requires rest { is_busy (seen parts.old) ≡ false }
@@ -106,7 +106,7 @@ fn can_renew_to(heap: &Heap, place: &Place) -> bool
     requires { place.now.depth < most_levels }
     ensures { IsTrue result → 33 * place.now.depth + 32 ≤ length heap.now.heap.free }
 {
-    heap.free_slots() >= 33 * place.depth as u32 + MOST_SLOTS
+    heap.free_slots() >= 33 * place.depth as u32 + MOST_MADE
 }
 
 /// Whether the call, if it takes its key out, leaves two entries at least.
@@ -200,7 +200,7 @@ fn clear_root(parts: &Parts, call: Call) -> Option<Ref>
     ensures { IfSome result (λ root. IsClear (seen parts.now) call root) }
 {
     let steps = parts.limits.steps.saturating_sub(parts.steps);
-    if parts.heap.free_slots() < MOST_SLOTS || steps < MOST_STEPS {
+    if parts.heap.free_slots() < MOST_MADE || steps < MOST_STEPS {
         return None;
     }
     match parts.word(call.handle()) {

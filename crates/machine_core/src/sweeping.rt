@@ -1,5 +1,5 @@
 //! A step of the sweep: it frees a slot, or reads an actor's epoch, or lets the epoch grow. And all of them that free what
-//! stands in limbo.
+//! stands in limbo; those that only let the epoch grow are taken at once.
 
 ghost use Rattle.std.specs.Prelude.{◌≡◌, ◌≢◌, ◌+◌, ℕ, [], Ok, false, true};
 ghost use Rattle.machine_model.specs.declared.steps.Outcome.TheVariants as outcome;
@@ -8,8 +8,8 @@ ghost use Rattle.machine_model.specs.Machine.{is_spent, next};
 ghost use Rattle.machine_core.specs.Keeping.{IsCore};
 ghost use Rattle.machine_core.specs.Seen.{seen};
 ghost use Rattle.machine_core.specs.Sweeping.{Reclaims};
-ghost use Rattle.machine_core.specs.Work.{worked};
-ghost use Rattle.proof_core.specs.Work.{WorksLittle};
+ghost use Rattle.machine_core.specs.Work.{worked, SweepsLittle};
+ghost use Rattle.slot_arena.specs.Ticking.{TakesUpTo};
 
 use crate::denials::is_spent;
 use crate::parts::Parts;
@@ -23,7 +23,7 @@ pub fn sweep_once(parts: &mut Parts) -> Swept
     ensures swept { next (seen parts.old) steps.Sweep ≡ Ok (outcome.Swept result, seen parts.new) }
     ensures core { IsCore parts.new }
     ensures counted { parts.new ≡ record parts.old { heap = parts.new.heap; steps = parts.old.steps + 1 } }
-    ensures work { WorksLittle (worked parts.old) (worked parts.new) }
+    ensures work { SweepsLittle (worked parts.old) (worked parts.new) }
 {
     let swept = parts.heap.sweep();
     parts.heap.settle();
@@ -39,6 +39,29 @@ fn can_sweep(parts: &Parts) -> bool
     parts.heap.limbo_len() > 0 && !is_spent(parts)
 }
 
+/// Takes all steps of the sweep up to where the epoch grows, at once, where they pass each actor, from the first one on, and
+/// that many are left. Tells whether it did.
+#[inline(always)]
+fn grow(parts: &mut Parts) -> bool
+    requires core { IsCore parts.old }
+    requires some { (seen parts.old).limbo ≢ [] }
+    ensures grown { result ≡ true → Reclaims (worked parts.old) (parts.old.limits.actors + 1) (worked parts.new) }
+    ensures counted { result ≡ true → parts.new ≡ record parts.old { heap = parts.new.heap; steps = parts.old.steps + (parts.old.limits.actors + 1) } }
+    ensures same { result ≡ false → parts.new ≡ record parts.old { heap = record parts.old.heap { ticks = parts.new.heap.ticks } } }
+    ensures work { TakesUpTo 1 parts.old.heap.ticks parts.new.heap.ticks }
+    ensures core { IsCore parts.new }
+{
+    let steps = u64::from(parts.limits.actors) + 1;
+    if parts.limits.steps < parts.steps + steps {
+        return false;
+    }
+    if !parts.heap.grow() {
+        return false;
+    }
+    parts.steps += steps;
+    true
+}
+
 /// Takes steps of the sweep until limbo is empty, or the machine is spent.
 pub fn reclaim(parts: &mut Parts)
     requires core { IsCore parts.old }
@@ -47,6 +70,8 @@ pub fn reclaim(parts: &mut Parts)
     ensures core { IsCore parts.new }
 {
     while can_sweep(parts) {
-        let _ = sweep_once(parts);
+        if !grow(parts) {
+            let _ = sweep_once(parts);
+        }
     }
 }

@@ -146,13 +146,6 @@ impl KeyOp {
         self.begin_try();
     }
 
-    /// The references that it holds from outside.
-    pub fn private(&self) -> &Private
-        ensures { result.now ≡ self.now.work.private }
-    {
-        &self.work.private
-    }
-
     /// Takes the call's next step, on this handle, unless it has to be told the generation of the root first.
     #[inline(always)]
     pub fn step(

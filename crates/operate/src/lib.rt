@@ -18,8 +18,8 @@ mod repairs;
 mod went;
 
 pub use contract::{
-    Heap, KeyCall, Publication, Ref, entries_at, entry_at, flag_of, generation_at, make_changed,
-    node_at, release_all,
+    Heap, KeyCall, Publication, Ref, bitmap_at, entries_at, entry_at, flag_of, generation_at,
+    key_at, main_at, make_changed, node_at, release_all,
 };
 pub use key_finding::KeyReply;
 pub use key_op::{BelowAt, KeyAt, KeyOp};

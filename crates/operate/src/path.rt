@@ -7,13 +7,13 @@ use arrayvec::ArrayVec;
 use contract::Ref;
 use std::marker::Model;
 
-/// The most indirections of a path: a trie has so many levels.
-const MOST_LEVELS: usize = 14;
+/// The most indirections of a path: the root, and one of each level below it.
+const LONGEST_PATH: usize = 14;
 
 /// The indirections from the root down to the current one, in place.
 #[derive(Drop)]
 pub(crate) struct Path {
-    items: ArrayVec<Ref, MOST_LEVELS>,
+    items: ArrayVec<Ref, LONGEST_PATH>,
 }
 
 impl Model for Path {

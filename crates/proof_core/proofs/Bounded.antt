@@ -289,3 +289,7 @@ first_run limits state ok e = record {
   limits = subst (λ l. AreBounds l) (sym (ap (λ x. x.limits) e)) ok;
   keys = All-nil FitsKey;
 }
+
+-- and so are the steps, by the bounds themselves
+pub steps_within : (state : State) → IsOfRun state → state.steps ≤ state.limits.steps
+steps_within state h = omega (arith, (grows_along state.limits h.steps).steps, ap (λ (s : State). s.steps) h.is)

@@ -36,6 +36,18 @@ taken_counted numbers state h =
     let whole : taken_below state (0 + length numbers.taken) ≡ taken_below state 256 = ap (taken_below state) (omega (arith, h.many.0)) in
     omega (arith, counted, whole, none_taken state)
 
+-- there are no more than there are numbers
+few_below : (state : State) (n : ℕ) → taken_below state n ≤ n
+few_below state zero = omega (arith, none_taken state)
+few_below state (suc n) = omega (arith, few_below state n, one_most (is_taken state n), taken_more state n, ap (taken_below state) (add-one n))
+  where
+    one_most : (b : Bool) → cond b 1 0 ≤ 1
+    one_most true = omega arith
+    one_most false = omega arith
+
+pub few_taken : (state : State) → handles_taken state ≤ 256
+few_taken state = few_below state 256
+
 -- ---- the least
 
 least_at : (state : State) (left n least : ℕ) → n + left ≡ 256 → n ≤ least → least ≤ 256 → ((i : ℕ) → i < least → i < 256 → is_taken state i ≡ true) →

@@ -114,6 +114,11 @@ pub record CanStep (scene : Scene) (program : Program) : Type 0 where
   pub attempts : scene.programs.copy.attempt < 2 ^ 64 - 1
   pub generations : scene.generation < 2 ^ 64 - 1
 
+-- the program is a walk
+abbrev pub IsWalk : Program → Type 0
+IsWalk (Walk call) = Unit {0}
+IsWalk program = ⊥
+
 -- a walk has room in its lists
 abbrev pub RoomFor : Program → Programs → Type 0
 RoomFor (Walk call) p = HasRoom p.walk

@@ -19,7 +19,8 @@ mod walking;
 
 pub use job::{Job, Program};
 pub use operate::{
-    KeyCall, entries_at, entry_at, flag_of, generation_at, make_changed, node_at, release_all,
+    KeyCall, bitmap_at, entries_at, entry_at, flag_of, generation_at, key_at, main_at,
+    make_changed, node_at, release_all,
 };
 pub use programs::{ProgramAt, Programs};
 pub use snapshot::{CopyCall, Roots, WalkCall, opened_root};

@@ -1,6 +1,6 @@
 //! The programs of an actor's operations, changed in place.
 
-ghost use Rattle.std.specs.Prelude.{◌≡◌, ◌<◌, ◌≤◌, ◌+◌, ◌-◌, ◌^◌, ℕ, [], length, Option, None, Some, IfErr, OnOk};
+ghost use Rattle.std.specs.Prelude.{◌≡◌, ◌<◌, ◌≤◌, ◌+◌, ◌-◌, ◌^◌, ℕ, [], length, Option, None, Some, IfErr, OnErr, OnOk};
 ghost use Rattle.running.specs.Beneath.epochs.specs.Memories.{KeepsEpochs};
 ghost use Rattle.running.specs.Beneath.machine_model.specs.Operations.{first_line};
 ghost use Rattle.running.specs.Beneath.trie_parts.specs.Holding.{AreHeld, KeepsOthers};
@@ -10,7 +10,7 @@ ghost use Rattle.operate.specs.Places.{key_line};
 ghost use Rattle.operate.specs.Steps.{CanKey};
 ghost use Rattle.snapshot.specs.Copies.{IsReadyBeside};
 ghost use Rattle.running.specs.Places.{asking_line, call_for, generation_in, line_for, program_line, IsBegun, IsSound, IsWaiting, ReadsOn};
-ghost use Rattle.running.specs.Steps.{CanProgram, CanStep, Does, RoomFor, scene, taken_in};
+ghost use Rattle.running.specs.Steps.{CanProgram, CanStep, Does, IsWalk, RoomFor, scene, taken_in};
 ghost use Rattle.running.specs.declared.job.Program.{Program as AProgram};
 
 use crate::job::{Job, Program};
@@ -119,6 +119,7 @@ impl Programs {
         ensures same { self.new ≡ record self.old { walk = self.new.walk } }
         ensures room { OnOk result (RoomFor program.now self.new) }
         ensures only_memory { IfErr result (λ refusal. refusal ≡ Refusal.Memory) }
+        ensures only_walks { OnErr result (IsWalk program.now) }
     {
         match program {
             Program::Walk(_) => self.walk.make_room(),

@@ -27,7 +27,7 @@ impl Programs {
         ensures same { self.new ≡ record self.old { walk = self.new.walk } }
     {
         match &self.at {
-            ProgramAt::Runs => self.at_once(program),
+            ProgramAt::Runs => self.reply_at_end(program),
             ProgramAt::Answered(reply) => Some(key_reply(*reply)),
             ProgramAt::Swapped(reply) => Some(reply_of(*reply)),
             ProgramAt::Walked(call) => {
@@ -43,7 +43,7 @@ impl Programs {
         ensures { IfOk result (λ reply. reply ≡ answer_of (line_for program self.now)) }
     {
         Ok(match &self.at {
-            ProgramAt::Runs => self.at_once(program),
+            ProgramAt::Runs => self.reply_at_end(program),
             ProgramAt::Answered(reply) => Some(key_reply(*reply)),
             ProgramAt::Swapped(reply) => Some(reply_of(*reply)),
             ProgramAt::Walked(call) => Some(self.walk.copy_reply(*call)?),
@@ -101,7 +101,7 @@ impl Programs {
     }
 
     /// The reply with which the program ends by its next step, if it does.
-    fn at_once(&self, program: Program) -> Option<Reply>
+    fn reply_at_end(&self, program: Program) -> Option<Reply>
         ensures { (root_seen : Option ℕ) → answer_of (program_line self.now root_seen program) ≡ result }
     {
         match program {

@@ -169,16 +169,16 @@ module _ (a : Tally) (loan : Loan) (now : Ledger) (seen : shown a loan ≡ now) 
   pub plain_seen : IsOver now.loan → a.counts ≡ now.tally.counts
   plain_seen over = sym (ap (owed a.counts) (over_lent loan (ap (λ (l : Ledger). l.loan.refs) seen ∙ over))) ∙ ap (λ (l : Ledger). l.tally.counts) seen
 
-  -- what is counted and not lent
-  pub spare_seen : IsBacked a.counts (lent loan) → (k : ℕ) → (naming k (lent loan) ≡ 0) ⊎ (1 < slice_index a.counts k) →
-      (naming k (lent now.loan) ≡ 0) ⊎ (naming k (lent now.loan) + 1 < slice_index now.tally.counts k)
-  spare_seen backed k (inl none) = inl (ap (λ (l : Ledger). naming k (lent l.loan)) (sym seen) ∙ none)
-  spare_seen backed k (inr more) = inr (omega (arith, ap (λ (l : Ledger). naming k (lent l.loan)) seen, count_seen backed k))
+  -- what is counted stands there at least once
+  pub some_seen : IsBacked a.counts (lent loan) → (k : ℕ) → 0 < slice_index now.tally.counts k → 0 < slice_index a.counts k
+  some_seen backed k some = elim (cases_lt 0 (slice_index a.counts k)) [
+    | inl there ↦ there
+    | inr none ↦ absurd (omega (arith, some, count_seen backed k, backed.some k (omega arith)))
+  ]
 
-  pub spare_left : IsBacked a.counts (lent loan) → (k : ℕ) → (naming k (lent now.loan) ≡ 0) ⊎ (naming k (lent now.loan) + 1 < slice_index now.tally.counts k) →
-      (naming k (lent loan) ≡ 0) ⊎ (1 < slice_index a.counts k)
-  spare_left backed k (inl none) = inl (ap (λ (l : Ledger). naming k (lent l.loan)) seen ∙ none)
-  spare_left backed k (inr more) = inr (omega (arith, ap (λ (l : Ledger). naming k (lent l.loan)) seen, count_seen backed k, more))
+  -- counts that stay show the same
+  pub counts_same : (b : Tally) (counts : List ℕ) → b.counts ≡ a.counts → counts ≡ owed b.counts (lent loan) → counts ≡ now.tally.counts
+  counts_same b counts same are = are ∙ ap (λ cs. owed cs (lent loan)) same ∙ ap (λ (l : Ledger). l.tally.counts) seen
 
 -- where nothing is lent the counts are what stands there
 pub backed_none : (counts : List ℕ) → ((k : ℕ) → slice_index counts k < 2 ^ 32) → IsBacked counts []

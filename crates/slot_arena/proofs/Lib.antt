@@ -20,6 +20,7 @@ pub mod Holds
 pub mod Frees
 pub mod Reading
 pub mod Words
+pub mod Rising
 pub mod Publishes
 pub mod Starts
 pub mod InUse

@@ -26,7 +26,7 @@ same_ref q r slot birth = omega arith
 pub ref_again : (r : Ref) → ref_to (birth_of r) (slot_of r) ≡ r
 ref_again r = omega arith
 
-birth_known : (birth : ℕ) (o : Option Slot) (slot : Slot) → o ≡ Some slot → has_birth birth o ≡ true → slot.birth ≡ birth
+pub birth_known : (birth : ℕ) (o : Option Slot) (slot : Slot) → o ≡ Some slot → has_birth birth o ≡ true → slot.birth ≡ birth
 birth_known birth o slot is has = let at : (slot.birth == birth) ≡ true = sym (ap (has_birth birth) is) ∙ has in eqb-true slot.birth birth at
 
 -- two references to one slot in use are the same

@@ -1,7 +1,8 @@
 -- Slots from their parts, under reads and writes of the parts.
-use Rattle.std.proofs.Common.{◌≡◌, ℕ, zero, suc, ◌<◌, ◌==◌, Bool, true, false, cond, List, [], ◌∷◌, length, replicate, get_or}
-use Rattle.std.proofs.Common.{set, Option, Some, None, IsSome, refl, sym, ap, ◌∙◌, arith, eqb-true, eq-eqb}
-use Rattle.std.proofs.lemmas.Bool.{false≢true}
+use Rattle.std.proofs.Common.{◌≡◌, ℕ, zero, suc, ◌<◌, List, [], ◌∷◌, length, replicate, get_or}
+use Rattle.std.proofs.Common.{set, Option, Some, None, IsSome, is_some, refl, sym, ap, ◌∙◌, subst, inl, inr, arith}
+use Rattle.std.proofs.lemmas.Bool.{cases_eq, false≢true}
+use Rattle.std.proofs.lemmas.List.{get_or-set_same, get_or-set_other, length-replicate, length-set}
 use Rattle.std.specs.Prelude.{option_map}
 use Rattle.slot_arena.specs.declared.refs.Ref.{Ref}
 use Rattle.slot_arena.specs.declared.nodes.Node.{Node}
@@ -9,14 +10,10 @@ use Rattle.slot_arena.specs.declared.nodes.Prev.{Prev}
 use Rattle.slot_arena.specs.declared.nodes.Prev.TheVariants as prev
 use Rattle.slot_arena.specs.declared.nodes.Slot.{Slot}
 use Rattle.slot_arena.specs.Heaps.{node_of, prev_of, with_main_word, main_changed, prev_changed}
-use Rattle.slot_arena.specs.Cells.{slot_from, slots_from, birth_of_slot}
-
--- what a slot holds, if it is in use
-abbrev slot_if : Bool → ℕ → Node → Prev → Option Slot
-slot_if test b n p = cond test None (Some (record { birth = b; node = n; prev = p }))
+use Rattle.slot_arena.specs.Cells.{slot_from, slots_from, Agree, AreParts, birth_of_slot}
 
 -- a slot that is there has all its parts
-pub within : (bs : List ℕ) (ns : List Node) (ps : List Prev) (k : ℕ) → k < length (slots_from bs ns ps) → (k < length bs) × (k < length ns) × (k < length ps)
+pub within : (bs : List ℕ) (ns : List (Option Node)) (ps : List Prev) (k : ℕ) → k < length (slots_from bs ns ps) → (k < length bs) × (k < length ns) × (k < length ps)
 within [] ns ps k h = absurd (omega arith)
 within (b ∷ bs) [] ps k h = absurd (omega arith)
 within (b ∷ bs) (n ∷ ns) [] k h = absurd (omega arith)
@@ -24,7 +21,7 @@ within (b ∷ bs) (n ∷ ns) (p ∷ ps) zero h = (omega arith, omega arith, omeg
 within (b ∷ bs) (n ∷ ns) (p ∷ ps) (suc k) h = let rest = within bs ns ps k (omega arith) in (omega arith, omega arith, omega arith)
 
 -- and all its parts make a slot
-pub length-slots_from : (bs : List ℕ) (ns : List Node) (ps : List Prev) → length ns ≡ length bs → length ps ≡ length bs → length (slots_from bs ns ps) ≡ length bs
+pub length-slots_from : (bs : List ℕ) (ns : List (Option Node)) (ps : List Prev) → length ns ≡ length bs → length ps ≡ length bs → length (slots_from bs ns ps) ≡ length bs
 length-slots_from [] ns ps e f = refl
 length-slots_from (b ∷ bs) [] ps e f = absurd (omega arith)
 length-slots_from (b ∷ bs) (n ∷ ns) [] e f = absurd (omega arith)
@@ -36,109 +33,199 @@ used_within [] k h = absurd (false≢true h)
 used_within (x ∷ xs) zero h = omega arith
 used_within (x ∷ xs) (suc k) h = let rest = used_within xs k h in omega arith
 
-birth_of : (test : Bool) (b : ℕ) (n : Node) (p : Prev) → (b == 0) ≡ test → birth_of_slot (slot_if test b n p) ≡ b
-birth_of true b n p e = sym (eqb-true b 0 e)
-birth_of false b n p e = refl
+-- a slot in use stays so where what stands in one changes
+pub used_changed : (slots : List (Option Slot)) (k j : ℕ) (f : Slot → Slot) → IsSome (get_or slots j None) → IsSome (get_or (set slots k (option_map f (get_or slots k None))) j None)
+used_changed [] k j f h = h
+used_changed (None ∷ slots) zero j f h = h
+used_changed (Some slot ∷ slots) zero zero f h = refl
+used_changed (Some slot ∷ slots) zero (suc j) f h = h
+used_changed (o ∷ slots) (suc k) zero f h = h
+used_changed (o ∷ slots) (suc k) (suc j) f h = used_changed slots k j f h
 
-pub birth_at : (bs : List ℕ) (ns : List Node) (ps : List Prev) (k : ℕ) → k < length (slots_from bs ns ps) → get_or bs k 0 ≡ birth_of_slot (get_or (slots_from bs ns ps) k None)
-birth_at [] ns ps k h = absurd (omega arith)
-birth_at (b ∷ bs) [] ps k h = absurd (omega arith)
-birth_at (b ∷ bs) (n ∷ ns) [] k h = absurd (omega arith)
-birth_at (b ∷ bs) (n ∷ ns) (p ∷ ps) zero h = sym (birth_of (b == 0) b n p refl)
-birth_at (b ∷ bs) (n ∷ ns) (p ∷ ps) (suc k) h = birth_at bs ns ps k (omega arith)
+-- ---- what is read
 
-not_born : (test : Bool) (b : ℕ) (n : Node) (p : Prev) → (b == 0) ≡ test → b ≡ 0 → slot_if test b n p ≡ None
-not_born true b n p e h = refl
-not_born false b n p e h = absurd (false≢true (sym e ∙ eq-eqb b 0 h))
+rest : (b : ℕ) (bs : List ℕ) (n : Option Node) (ns : List (Option Node)) (p : Prev) (ps : List Prev) → AreParts (b ∷ bs) (n ∷ ns) (p ∷ ps) → AreParts bs ns ps
+rest b bs n ns p ps are = record { nodes_all = omega (arith, are.nodes_all); prevs_all = omega (arith, are.prevs_all); each = λ slot. are.each (suc slot) }
+
+node_one : (b : ℕ) (n : Option Node) (p : Prev) → n ≡ option_map (λ (s : Slot). s.node) (slot_from b n p)
+node_one b None p = refl
+node_one b (Some node) p = refl
+
+pub node_read : (bs : List ℕ) (ns : List (Option Node)) (ps : List Prev) → AreParts bs ns ps → (k : ℕ) → get_or ns k None ≡ option_map (λ (s : Slot). s.node) (get_or (slots_from bs ns ps) k None)
+node_read [] [] ps are k = refl
+node_read [] (n ∷ ns) ps are k = absurd (omega (arith, are.nodes_all))
+node_read (b ∷ bs) [] ps are k = absurd (omega (arith, are.nodes_all))
+node_read (b ∷ bs) (n ∷ ns) [] are k = absurd (omega (arith, are.prevs_all))
+node_read (b ∷ bs) (n ∷ ns) (p ∷ ps) are zero = node_one b n p
+node_read (b ∷ bs) (n ∷ ns) (p ∷ ps) are (suc k) = node_read bs ns ps (rest b bs n ns p ps are) k
+
+prev_one : (b : ℕ) (n : Option Node) (p : Prev) → Agree b n p → p ≡ prev_of (slot_from b n p)
+prev_one b None p (born, word) = word
+prev_one b (Some node) p born = refl
+
+pub prev_read : (bs : List ℕ) (ns : List (Option Node)) (ps : List Prev) → AreParts bs ns ps → (k : ℕ) → get_or ps k prev.None ≡ prev_of (get_or (slots_from bs ns ps) k None)
+prev_read [] ns [] are k = refl
+prev_read [] ns (p ∷ ps) are k = absurd (omega (arith, are.prevs_all))
+prev_read (b ∷ bs) [] ps are k = absurd (omega (arith, are.nodes_all))
+prev_read (b ∷ bs) (n ∷ ns) [] are k = absurd (omega (arith, are.prevs_all))
+prev_read (b ∷ bs) (n ∷ ns) (p ∷ ps) are zero = prev_one b n p (are.each zero)
+prev_read (b ∷ bs) (n ∷ ns) (p ∷ ps) are (suc k) = prev_read bs ns ps (rest b bs n ns p ps are) k
+
+birth_one : (b : ℕ) (n : Option Node) (p : Prev) → Agree b n p → b ≡ birth_of_slot (slot_from b n p)
+birth_one b None p (born, word) = born
+birth_one b (Some node) p born = refl
+
+pub birth_read : (bs : List ℕ) (ns : List (Option Node)) (ps : List Prev) → AreParts bs ns ps → (k : ℕ) → get_or bs k 0 ≡ birth_of_slot (get_or (slots_from bs ns ps) k None)
+birth_read [] ns ps are k = refl
+birth_read (b ∷ bs) [] ps are k = absurd (omega (arith, are.nodes_all))
+birth_read (b ∷ bs) (n ∷ ns) [] are k = absurd (omega (arith, are.prevs_all))
+birth_read (b ∷ bs) (n ∷ ns) (p ∷ ps) are zero = birth_one b n p (are.each zero)
+birth_read (b ∷ bs) (n ∷ ns) (p ∷ ps) are (suc k) = birth_read bs ns ps (rest b bs n ns p ps are) k
+
+none_one : (b : ℕ) (n : Option Node) (p : Prev) → Agree b n p → b ≡ 0 → slot_from b n p ≡ None
+none_one b None p agree none = refl
+none_one b (Some node) p born none = absurd (omega (arith, born, none))
 
 -- a slot without a birth isn't in use
-pub birth_none : (bs : List ℕ) (ns : List Node) (ps : List Prev) (k : ℕ) → get_or bs k 0 ≡ 0 → get_or (slots_from bs ns ps) k None ≡ None
-birth_none [] ns ps k h = refl
-birth_none (b ∷ bs) [] ps k h = refl
-birth_none (b ∷ bs) (n ∷ ns) [] k h = refl
-birth_none (b ∷ bs) (n ∷ ns) (p ∷ ps) zero h = not_born (b == 0) b n p refl h
-birth_none (b ∷ bs) (n ∷ ns) (p ∷ ps) (suc k) h = birth_none bs ns ps k h
+pub birth_none : (bs : List ℕ) (ns : List (Option Node)) (ps : List Prev) → AreParts bs ns ps → (k : ℕ) → get_or bs k 0 ≡ 0 → get_or (slots_from bs ns ps) k None ≡ None
+birth_none [] ns ps are k h = refl
+birth_none (b ∷ bs) [] ps are k h = refl
+birth_none (b ∷ bs) (n ∷ ns) [] are k h = refl
+birth_none (b ∷ bs) (n ∷ ns) (p ∷ ps) are zero h = none_one b n p (are.each zero) h
+birth_none (b ∷ bs) (n ∷ ns) (p ∷ ps) are (suc k) h = birth_none bs ns ps (rest b bs n ns p ps are) k h
 
-node_in : (test : Bool) (b : ℕ) (n : Node) (p : Prev) → IsSome (slot_if test b n p) →
-    n ≡ node_of (slot_if test b n p)
-node_in true b n p h = absurd (false≢true h)
-node_in false b n p h = refl
+-- where a slot is in use its node is that
+pub node_shown : (o : Option Slot) (node : Node) → Some node ≡ option_map (λ (s : Slot). s.node) o → node ≡ node_of o
+node_shown None node is = cc
+node_shown (Some slot) node is = cc
 
-pub node_found : (bs : List ℕ) (ns : List Node) (ps : List Prev) (k : ℕ) (d : Node) → IsSome (get_or (slots_from bs ns ps) k None) → get_or ns k d ≡ node_of (get_or (slots_from bs ns ps) k None)
-node_found [] ns ps k d h = absurd (false≢true h)
-node_found (b ∷ bs) [] ps k d h = absurd (false≢true h)
-node_found (b ∷ bs) (n ∷ ns) [] k d h = absurd (false≢true h)
-node_found (b ∷ bs) (n ∷ ns) (p ∷ ps) zero d h = node_in (b == 0) b n p h
-node_found (b ∷ bs) (n ∷ ns) (p ∷ ps) (suc k) d h = node_found bs ns ps k d h
+pub is_some-map : {X Y : Type 0} (f : X → Y) (o : Option X) → is_some (option_map f o) ≡ is_some o
+is_some-map f None = refl
+is_some-map f (Some x) = refl
 
-prev_in : (test : Bool) (b : ℕ) (n : Node) (p : Prev) → IsSome (slot_if test b n p) →
-    p ≡ prev_of (slot_if test b n p)
-prev_in true b n p h = absurd (false≢true h)
-prev_in false b n p h = refl
+-- ---- what is written
 
-pub prev_found : (bs : List ℕ) (ns : List Node) (ps : List Prev) (k : ℕ) (d : Prev) → IsSome (get_or (slots_from bs ns ps) k None) → get_or ps k d ≡ prev_of (get_or (slots_from bs ns ps) k None)
-prev_found [] ns ps k d h = absurd (false≢true h)
-prev_found (b ∷ bs) [] ps k d h = absurd (false≢true h)
-prev_found (b ∷ bs) (n ∷ ns) [] k d h = absurd (false≢true h)
-prev_found (b ∷ bs) (n ∷ ns) (p ∷ ps) zero d h = prev_in (b == 0) b n p h
-prev_found (b ∷ bs) (n ∷ ns) (p ∷ ps) (suc k) d h = prev_found bs ns ps k d h
+pub cleared : (bs : List ℕ) (ns : List (Option Node)) (ps : List Prev) (k : ℕ) → slots_from (set bs k 0) (set ns k None) (set ps k prev.None) ≡ set (slots_from bs ns ps) k None
+cleared [] ns ps k = refl
+cleared (b ∷ bs) [] ps zero = refl
+cleared (b ∷ bs) [] ps (suc k) = refl
+cleared (b ∷ bs) (n ∷ ns) [] zero = refl
+cleared (b ∷ bs) (n ∷ ns) [] (suc k) = refl
+cleared (b ∷ bs) (n ∷ ns) (p ∷ ps) zero = refl
+cleared (b ∷ bs) (n ∷ ns) (p ∷ ps) (suc k) = ap (λ s. slot_from b n p ∷ s) (cleared bs ns ps k)
 
-pub cleared : (bs : List ℕ) (ns : List Node) (ps : List Prev) (k : ℕ) (n : Node) → slots_from (set bs k 0) (set ns k n) ps ≡ set (slots_from bs ns ps) k None
-cleared [] ns ps k m = refl
-cleared (b ∷ bs) [] ps zero m = refl
-cleared (b ∷ bs) [] ps (suc k) m = refl
-cleared (b ∷ bs) (n ∷ ns) [] zero m = refl
-cleared (b ∷ bs) (n ∷ ns) [] (suc k) m = refl
-cleared (b ∷ bs) (n ∷ ns) (p ∷ ps) zero m = refl
-cleared (b ∷ bs) (n ∷ ns) (p ∷ ps) (suc k) m = ap (λ s. slot_from b n p ∷ s) (cleared bs ns ps k m)
+pub filled : (bs : List ℕ) (ns : List (Option Node)) (ps : List Prev) (k birth : ℕ) (node : Node) →
+    slots_from (set bs k birth) (set ns k (Some node)) (set ps k prev.None) ≡ set (slots_from bs ns ps) k (Some (record { birth = birth; node = node; prev = prev.None }))
+filled [] ns ps k birth node = refl
+filled (b ∷ bs) [] ps zero birth node = refl
+filled (b ∷ bs) [] ps (suc k) birth node = refl
+filled (b ∷ bs) (n ∷ ns) [] zero birth node = refl
+filled (b ∷ bs) (n ∷ ns) [] (suc k) birth node = refl
+filled (b ∷ bs) (n ∷ ns) (p ∷ ps) zero birth node = refl
+filled (b ∷ bs) (n ∷ ns) (p ∷ ps) (suc k) birth node = ap (λ s. slot_from b n p ∷ s) (filled bs ns ps k birth node)
 
-born : (test : Bool) (b : ℕ) (n : Node) (p : Prev) → (b == 0) ≡ test → 0 < b → slot_if test b n p ≡ Some (record { birth = b; node = n; prev = p })
-born true b n p e h = let none = eqb-true b 0 e in absurd (omega arith)
-born false b n p e h = refl
+main_in : (b : ℕ) (n : Option Node) (p : Prev) (m : Ref) → slot_from b (option_map (with_main_word m) n) p ≡ option_map (main_changed m) (slot_from b n p)
+main_in b None p m = refl
+main_in b (Some node) p m = refl
 
-pub filled : (bs : List ℕ) (ns : List Node) (ps : List Prev) (k birth : ℕ) (node : Node) → 0 < birth →
-    slots_from (set bs k birth) (set ns k node) (set ps k prev.None) ≡ set (slots_from bs ns ps) k (Some (record { birth = birth; node = node; prev = prev.None }))
-filled [] ns ps k birth node h = refl
-filled (b ∷ bs) [] ps zero birth node h = refl
-filled (b ∷ bs) [] ps (suc k) birth node h = refl
-filled (b ∷ bs) (n ∷ ns) [] zero birth node h = refl
-filled (b ∷ bs) (n ∷ ns) [] (suc k) birth node h = refl
-filled (b ∷ bs) (n ∷ ns) (p ∷ ps) zero birth node h = ap (λ s. s ∷ slots_from bs ns ps) (born (birth == 0) birth node prev.None refl h)
-filled (b ∷ bs) (n ∷ ns) (p ∷ ps) (suc k) birth node h = ap (λ s. slot_from b n p ∷ s) (filled bs ns ps k birth node h)
+pub main_written : (bs : List ℕ) (ns : List (Option Node)) (ps : List Prev) (k : ℕ) (m : Ref) →
+    slots_from bs (set ns k (option_map (with_main_word m) (get_or ns k None))) ps ≡ set (slots_from bs ns ps) k (option_map (main_changed m) (get_or (slots_from bs ns ps) k None))
+main_written [] ns ps k m = refl
+main_written (b ∷ bs) [] ps zero m = refl
+main_written (b ∷ bs) [] ps (suc k) m = refl
+main_written (b ∷ bs) (n ∷ ns) [] zero m = refl
+main_written (b ∷ bs) (n ∷ ns) [] (suc k) m = refl
+main_written (b ∷ bs) (n ∷ ns) (p ∷ ps) zero m = ap (λ s. s ∷ slots_from bs ns ps) (main_in b n p m)
+main_written (b ∷ bs) (n ∷ ns) (p ∷ ps) (suc k) m = ap (λ s. slot_from b n p ∷ s) (main_written bs ns ps k m)
 
-main_in : (test : Bool) (b : ℕ) (n : Node) (p : Prev) (m : Ref) → slot_if test b (with_main_word m n) p
-    ≡ option_map (main_changed m) (slot_if test b n p)
-main_in true b n p m = refl
-main_in false b n p m = refl
+prev_put : (b : ℕ) (n : Option Node) (p q : Prev) → slot_from b n q ≡ option_map (prev_changed q) (slot_from b n p)
+prev_put b None p q = refl
+prev_put b (Some node) p q = refl
 
-pub main_written : (bs : List ℕ) (ns : List Node) (ps : List Prev) (k : ℕ) (m : Ref) (d : Node) →
-    slots_from bs (set ns k (with_main_word m (get_or ns k d))) ps ≡ set (slots_from bs ns ps) k (option_map (main_changed m) (get_or (slots_from bs ns ps) k None))
-main_written [] ns ps k m d = refl
-main_written (b ∷ bs) [] ps zero m d = refl
-main_written (b ∷ bs) [] ps (suc k) m d = refl
-main_written (b ∷ bs) (n ∷ ns) [] zero m d = refl
-main_written (b ∷ bs) (n ∷ ns) [] (suc k) m d = refl
-main_written (b ∷ bs) (n ∷ ns) (p ∷ ps) zero m d = ap (λ s. s ∷ slots_from bs ns ps) (main_in (b == 0) b n p m)
-main_written (b ∷ bs) (n ∷ ns) (p ∷ ps) (suc k) m d = ap (λ s. slot_from b n p ∷ s) (main_written bs ns ps k m d)
-
-prev_put : (test : Bool) (b : ℕ) (n : Node) (p q : Prev) → slot_if test b n q
-    ≡ option_map (prev_changed q) (slot_if test b n p)
-prev_put true b n p q = refl
-prev_put false b n p q = refl
-
-pub prev_written : (bs : List ℕ) (ns : List Node) (ps : List Prev) (k : ℕ) (q : Prev) →
+pub prev_written : (bs : List ℕ) (ns : List (Option Node)) (ps : List Prev) (k : ℕ) (q : Prev) →
     slots_from bs ns (set ps k q) ≡ set (slots_from bs ns ps) k (option_map (prev_changed q) (get_or (slots_from bs ns ps) k None))
 prev_written [] ns ps k q = refl
 prev_written (b ∷ bs) [] ps zero q = refl
 prev_written (b ∷ bs) [] ps (suc k) q = refl
 prev_written (b ∷ bs) (n ∷ ns) [] zero q = refl
 prev_written (b ∷ bs) (n ∷ ns) [] (suc k) q = refl
-prev_written (b ∷ bs) (n ∷ ns) (p ∷ ps) zero q = ap (λ s. s ∷ slots_from bs ns ps) (prev_put (b == 0) b n p q)
+prev_written (b ∷ bs) (n ∷ ns) (p ∷ ps) zero q = ap (λ s. s ∷ slots_from bs ns ps) (prev_put b n p q)
 prev_written (b ∷ bs) (n ∷ ns) (p ∷ ps) (suc k) q = ap (λ s. slot_from b n p ∷ s) (prev_written bs ns ps k q)
 
--- where no slot has a birth, none is in use
-pub none_used : (count : ℕ) (ns : List Node) (ps : List Prev) → length ns ≡ count → length ps ≡ count → slots_from (replicate count 0) ns ps ≡ replicate count None
-none_used zero ns ps e f = refl
-none_used (suc n) [] ps e f = absurd (omega arith)
-none_used (suc n) (x ∷ ns) [] e f = absurd (omega arith)
-none_used (suc n) (x ∷ ns) (p ∷ ps) e f = ap (λ s. None ∷ s) (none_used n ns ps (omega arith) (omega arith))
+-- ---- parts that agree
+
+agree_by : (b c : ℕ) (n m : Option Node) (p q : Prev) → c ≡ b → m ≡ n → q ≡ p → Agree b n p → Agree c m q
+agree_by b c n m p q e f g is = subst (λ x. Agree x m q) (sym e) (subst (λ y. Agree b y q) (sym f) (subst (λ z. Agree b n z) (sym g) is))
+
+agree_main : (b : ℕ) (n : Option Node) (p : Prev) (m : Ref) → Agree b n p → Agree b (option_map (with_main_word m) n) p
+agree_main b None p m is = is
+agree_main b (Some node) p m is = is
+
+agree_prev : (b : ℕ) (n : Option Node) (p q : Prev) → IsSome n → Agree b n p → Agree b n q
+agree_prev b None p q used is = absurd (false≢true used)
+agree_prev b (Some node) p q used is = is
+
+module _ (bs : List ℕ) (ns : List (Option Node)) (ps : List Prev) (are : AreParts bs ns ps) (k : ℕ) (there : k < length bs) where
+  -- all parts of a slot are written
+  pub parts_set : (b : ℕ) (n : Option Node) (p : Prev) → Agree b n p → AreParts (set bs k b) (set ns k n) (set ps k p)
+  parts_set b n p is = record {
+    nodes_all = omega (arith, are.nodes_all, length-set bs k b, length-set ns k n);
+    prevs_all = omega (arith, are.prevs_all, length-set bs k b, length-set ps k p);
+    each = λ slot. elim (cases_eq slot k) [
+      | inl same ↦
+          subst (λ i. Agree (get_or (set bs k b) i 0) (get_or (set ns k n) i None) (get_or (set ps k p) i prev.None)) (sym same)
+          (agree_by b _ n _ p _ (get_or-set_same bs k b 0 there) (get_or-set_same ns k n None (omega (arith, are.nodes_all))) (get_or-set_same ps k p prev.None (omega (arith, are.prevs_all))) is)
+      | inr other ↦
+          agree_by (get_or bs slot 0) _ (get_or ns slot None) _ (get_or ps slot prev.None) _ (get_or-set_other bs k slot b 0 other) (get_or-set_other ns k slot n None other)
+          (get_or-set_other ps k slot p prev.None other) (are.each slot)
+    ];
+  }
+
+  -- a main word is
+  pub parts_main : (m : Ref) → AreParts bs (set ns k (option_map (with_main_word m) (get_or ns k None))) ps
+  parts_main m =
+      let n : Option Node = option_map (with_main_word m) (get_or ns k None) in
+      record {
+        nodes_all = omega (arith, are.nodes_all, length-set ns k n);
+        prevs_all = are.prevs_all;
+        each = λ slot. elim (cases_eq slot k) [
+          | inl same ↦
+              subst (λ i. Agree (get_or bs i 0) (get_or (set ns k n) i None) (get_or ps i prev.None)) (sym same)
+              (agree_by (get_or bs k 0) _ n _ (get_or ps k prev.None) _ refl (get_or-set_same ns k n None (omega (arith, are.nodes_all))) refl
+              (agree_main (get_or bs k 0) (get_or ns k None) (get_or ps k prev.None) m (are.each k)))
+          | inr other ↦ agree_by (get_or bs slot 0) _ (get_or ns slot None) _ (get_or ps slot prev.None) _ refl (get_or-set_other ns k slot n None other) refl (are.each slot)
+        ];
+      }
+
+  -- the prev word of a slot in use is
+  pub parts_prev : (q : Prev) → IsSome (get_or ns k None) → AreParts bs ns (set ps k q)
+  parts_prev q used = record {
+    nodes_all = are.nodes_all;
+    prevs_all = omega (arith, are.prevs_all, length-set ps k q);
+    each = λ slot. elim (cases_eq slot k) [
+      | inl same ↦
+          subst (λ i. Agree (get_or bs i 0) (get_or ns i None) (get_or (set ps k q) i prev.None)) (sym same)
+          (agree_by (get_or bs k 0) _ (get_or ns k None) _ q _ refl refl (get_or-set_same ps k q prev.None (omega (arith, are.prevs_all)))
+          (agree_prev (get_or bs k 0) (get_or ns k None) (get_or ps k prev.None) q used (are.each k)))
+      | inr other ↦ agree_by (get_or bs slot 0) _ (get_or ns slot None) _ (get_or ps slot prev.None) _ refl refl (get_or-set_other ps k slot q prev.None other) (are.each slot)
+    ];
+  }
+
+-- ---- at the beginning
+
+same_all : {X : Type 0} (count : ℕ) (x : X) (i : ℕ) → get_or (replicate count x) i x ≡ x
+same_all zero x i = refl
+same_all (suc n) x zero = refl
+same_all (suc n) x (suc i) = same_all n x i
+
+-- no slot is in use
+pub none_parts : (count : ℕ) → AreParts (replicate count 0) (replicate count None) (replicate count prev.None)
+none_parts count = record {
+  nodes_all = (let none : Option Node = None in length-replicate count none) ∙ sym (length-replicate count 0);
+  prevs_all = length-replicate count prev.None ∙ sym (length-replicate count 0);
+  each = λ slot. agree_by 0 _ None _ prev.None _ (same_all count 0 slot) (same_all count None slot) (same_all count prev.None slot) (refl, refl);
+}
+
+pub none_used : (count : ℕ) → slots_from (replicate count 0) (replicate count None) (replicate count prev.None) ≡ replicate count None
+none_used zero = refl
+none_used (suc n) = ap (λ s. None ∷ s) (none_used n)

@@ -13,7 +13,7 @@ use Rattle.slot_arena.specs.Counts.{count_of}
 use Rattle.slot_arena.specs.Times.{times}
 use Rattle.slot_arena.specs.Tallies.{NotesZeros}
 use Rattle.slot_arena.specs.Chains.{Chain}
-use Rattle.slot_arena.specs.Arenas.{Contents, IsLive, has_birth, waiting, waiting_in, NotesWaiting}
+use Rattle.slot_arena.specs.Arenas.{Contents, IsLive, has_birth, waiting, waiting_in, NotesWaiting, NotesWaitingBut}
 use Rattle.slot_arena.specs.Kept.{live, IsKept}
 use Rattle.slot_arena.proofs.Parts.{used_within}
 use Rattle.slot_arena.proofs.Live.{live_ref, slot_of_ref, birth_of_ref, ref_again}
@@ -70,27 +70,31 @@ module _ (heap : Heap) (counts : List ℕ) (free : Chain) (used : ℕ) (outside 
       elsewhere (inl unborn) = ap (waiting_in heap outside k) (none unborn)
       elsewhere (inr referred) = waiting_is (get_or heap.slots k None) refl ∙ by_count (get_or heap.slots k None) referred
 
--- what waits by births and counts before waits by them afterwards, where it isn't noted
-pub notes_by : (a b : Contents) (counts counts' : List ℕ) (free free' : Chain) (used used' : ℕ) →
-    IsKept a.heap.slots counts free used a.outside → IsKept b.heap.slots counts' free' used' b.outside →
-    ((k : ℕ) → times k b.noted ≡ 0 → (times k a.noted ≡ 0) ×
-    (waits_by k (born (get_or a.heap.slots k None)) (slice_index counts k == 0) ≡ waits_by k (born (get_or b.heap.slots k None)) (slice_index counts' k == 0))) → NotesWaiting a b
-notes_by a b counts counts' free free' used used' kept kept' each k none =
-    let step = each k none in (
-      step.0,
-      waiting_is a.heap counts free used a.outside kept k (get_or a.heap.slots k None) refl ∙ step.1
-          ∙ sym (waiting_is b.heap counts' free' used' b.outside kept' k (get_or b.heap.slots k None) refl),
-    )
+-- what waits by its birth and its count waits where these are the same
+module _
+    (a b : Contents) (counts counts' : List ℕ) (free free' : Chain) (used used' : ℕ) (kept : IsKept a.heap.slots counts free used a.outside) (kept' : IsKept b.heap.slots counts' free' used' b.outside)
+  where
+    by_parts : (k : ℕ) → waits_by k (born (get_or a.heap.slots k None)) (slice_index counts k == 0) ≡ waits_by k (born (get_or b.heap.slots k None)) (slice_index counts' k == 0) →
+        waiting a k ≡ waiting b k
+    by_parts k same =
+        waiting_is a.heap counts free used a.outside kept k (get_or a.heap.slots k None) refl ∙ same
+        ∙ sym (waiting_is b.heap counts' free' used' b.outside kept' k (get_or b.heap.slots k None) refl)
 
--- zeros that are noted are noted as waiting, where slots come into use and go out of it noted
-pub notes_waiting : (a b : Contents) (counts counts' : List ℕ) (free free' : Chain) (used used' : ℕ) →
-    IsKept a.heap.slots counts free used a.outside → IsKept b.heap.slots counts' free' used' b.outside →
-    NotesZeros (record { counts = counts; noted = a.noted; ticks = 0 }) (record { counts = counts'; noted = b.noted; ticks = 0 }) →
-    ((k : ℕ) → times k b.noted ≡ 0 → born (get_or a.heap.slots k None) ≡ born (get_or b.heap.slots k None)) → NotesWaiting a b
-notes_waiting a b counts counts' free free' used used' kept kept' zeros same =
-    notes_by a b counts counts' free free' used used' kept kept' (λ k none.
-    let step = zeros k none in
-    (step.0, ap (λ o. waits_by k o (slice_index counts k == 0)) (same k none) ∙ ap (waits_by k (born (get_or b.heap.slots k None))) step.1))
+    by_birth : (k : ℕ) → born (get_or a.heap.slots k None) ≡ born (get_or b.heap.slots k None) → (slice_index counts k == 0) ≡ (slice_index counts' k == 0) → waiting a k ≡ waiting b k
+    by_birth k same zero = by_parts k (ap (λ o. waits_by k o (slice_index counts k == 0)) same ∙ ap (waits_by k (born (get_or b.heap.slots k None))) zero)
+
+    pub notes_by : ((k : ℕ) → times k b.noted ≡ 0 → (times k a.noted ≡ 0) ×
+        (waits_by k (born (get_or a.heap.slots k None)) (slice_index counts k == 0) ≡ waits_by k (born (get_or b.heap.slots k None)) (slice_index counts' k == 0))) → NotesWaiting a b
+    notes_by each k none = let step = each k none in (step.0, by_parts k step.1)
+
+    module _ (zeros : NotesZeros (record { counts = counts; noted = a.noted; ticks = 0 }) (record { counts = counts'; noted = b.noted; ticks = 0 })) where
+      -- zeros that are noted are noted as waiting
+      pub notes_waiting : ((k : ℕ) → times k b.noted ≡ 0 → born (get_or a.heap.slots k None) ≡ born (get_or b.heap.slots k None)) → NotesWaiting a b
+      notes_waiting same k none = let step = zeros k none in (step.0, by_birth k (same k none) step.1)
+
+      -- but for a slot that comes into use or goes out of it
+      pub notes_but : (one : ℕ) → ((k : ℕ) → (k ≡ one → ⊥) → born (get_or a.heap.slots k None) ≡ born (get_or b.heap.slots k None)) → NotesWaitingBut one a b
+      notes_but one same k other none = let step = zeros k none in (step.0, by_birth k (same k other) step.1)
 
 -- what is live and unreferred waits
 pub zero_waits : (arena : Contents) (r : Ref) → IsLive arena.heap r → (count_of arena.heap arena.outside r == 0) ≡ true → waiting arena (slot_of r) ≡ Some r

@@ -8,7 +8,7 @@ use Rattle.slot_arena.specs.declared.nodes.Node.{Node}
 use Rattle.slot_arena.specs.declared.nodes.Prev.{Prev}
 use Rattle.slot_arena.specs.declared.nodes.Slot.{Slot}
 use Rattle.slot_arena.specs.Refs.{slot_of, birth_of}
-use Rattle.slot_arena.specs.Heaps.{Heap, node_of, node_at, prev_of, prev_at, main_of, main_at, with_main_word, main_changed, prev_changed, refs_of_node, refs_of_prev, refs_of_slot}
+use Rattle.slot_arena.specs.Heaps.{Heap, node_of, entries_of, node_at, prev_of, prev_at, main_of, main_at, with_main_word, main_changed, prev_changed, refs_of_node, refs_of_prev, refs_of_slot}
 use Rattle.slot_arena.specs.Times.{times}
 use Rattle.slot_arena.specs.Tallies.{Tally, naming, NotesZeros}
 use Rattle.slot_arena.specs.Chains.{Chain}
@@ -51,6 +51,13 @@ main_few (Single key value) to = refl
 main_few (Tomb single) to = refl
 main_few (Listed singles) to = refl
 
+main_entries : (node : Node) (to : Ref) → entries_of (with_main_word to node) ≡ entries_of node
+main_entries (Indirection generation main) to = refl
+main_entries (Branch bitmap entries) to = refl
+main_entries (Single key value) to = refl
+main_entries (Tomb single) to = refl
+main_entries (Listed singles) to = refl
+
 main_there : (node : Node) (ps : List Ref) (from q : Ref) → is_indirection node ≡ true → main_of node ≡ from → times q (from ∷ []) ≤ times q (refs_of_node node ++ ps)
 main_there (Indirection generation main) ps from q kind is = omega (arith, times-cons q main ps, times-cons q from [], ap (once q) is)
 main_there (Branch bitmap entries) ps from q kind is = absurd (false≢true kind)
@@ -58,9 +65,10 @@ main_there (Single key value) ps from q kind is = absurd (false≢true kind)
 main_there (Tomb single) ps from q kind is = absurd (false≢true kind)
 main_there (Listed singles) ps from q kind is = absurd (false≢true kind)
 
--- what a change of the slot that r names does: its birth and the size of its node stay, the references of minus go, and those of plus come
+-- what a change of the slot that r names does: its birth, the entries and the size of its node stay, the references of minus go, and those of plus come
 pub record IsChange (slots : List (Option Slot)) (r : Ref) (change : Slot → Slot) (minus plus : List Ref) : Type 0 where
   pub births : (slot : Slot) → (change slot).birth ≡ slot.birth
+  pub entries : (slot : Slot) → entries_of (change slot).node ≡ entries_of slot.node
   pub sizes : (slot : Slot) → length (refs_of_node (change slot).node) ≡ length (refs_of_node slot.node)
   pub moves : (slot : Slot) → get_or slots (slot_of r) None ≡ Some slot → (q : Ref) →
       times q (refs_of_slot (Some (change slot))) + times q minus ≡ times q (refs_of_slot (Some slot)) + times q plus
@@ -70,6 +78,7 @@ pub main_is_change : (slots : List (Option Slot)) (r to from : Ref) → is_indir
     main_of (node_of (get_or slots (slot_of r) None)) ≡ from → IsChange slots r (main_changed to) (from ∷ []) (to ∷ [])
 main_is_change slots r to from kind is = record {
   births = λ slot. refl;
+  entries = λ slot. main_entries slot.node to;
   sizes = λ slot. main_few slot.node to;
   moves = λ slot at q. main_change slot.node (refs_of_prev slot.prev) to from q (sym (ap (λ o. is_indirection (node_of o)) at) ∙ kind) (sym (ap (λ o. main_of (node_of o)) at) ∙ is);
   there = λ slot at q. main_there slot.node (refs_of_prev slot.prev) from q (sym (ap (λ o. is_indirection (node_of o)) at) ∙ kind) (sym (ap (λ o. main_of (node_of o)) at) ∙ is);
@@ -79,6 +88,7 @@ pub prev_is_change : (slots : List (Option Slot)) (r : Ref) (to from : Prev) →
     IsChange slots r (prev_changed to) (refs_of_prev from) (refs_of_prev to)
 prev_is_change slots r to from is = record {
   births = λ slot. refl;
+  entries = λ slot. refl;
   sizes = λ slot. refl;
   moves = λ slot at q. omega (
     arith,

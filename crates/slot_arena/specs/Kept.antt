@@ -1,10 +1,10 @@
 -- What an arena keeps of its slots, counts and free slots.
-use Rattle.std.specs.Prelude.{◌≡◌, ℕ, ◌+◌, ◌<◌, ◌≤◌, ◌^◌, Bool, true, List, length, Option, None, is_some, slice_index, slice_index_or, count_by, if◌then◌else◌}
+use Rattle.std.specs.Prelude.{◌≡◌, ℕ, ◌+◌, ◌<◌, ◌≤◌, ◌^◌, Bool, true, List, length, All, Option, None, is_some, slice_index, slice_index_or, count_by, if◌then◌else◌}
 use Rattle.std.specs.List.{sum_by}
 use Rattle.slot_arena.specs.declared.refs.Ref.{Ref}
 use Rattle.slot_arena.specs.declared.nodes.Slot.{Slot}
 use Rattle.slot_arena.specs.Refs.{slot_of, birth_of, most_slots, birth_limit}
-use Rattle.slot_arena.specs.Heaps.{node_of, refs_of_node, refs_of_slot}
+use Rattle.slot_arena.specs.Heaps.{node_of, entries_of, refs_of_node, refs_of_slot}
 use Rattle.slot_arena.specs.Times.{times}
 use Rattle.slot_arena.specs.Chains.{Chain}
 use Rattle.slot_arena.specs.Arenas.{has_birth}
@@ -36,3 +36,12 @@ pub record IsKept (slots : List (Option Slot)) (counts : List ℕ) (free : Chain
   -- so that no count overflows
   pub narrow : (slot : ℕ) → length (refs_of_node (node_of (slice_index_or slots slot None))) ≤ 32
   pub held : (r : ℕ) → times r outside ≤ 2 ^ 31
+
+-- the entries of a main node were born before it
+abbrev pub HasOlder : Option Slot → Type 0
+HasOlder o = All (λ r. birth_of r < birth_of_slot o) (entries_of (node_of o))
+
+-- each birth was drawn, and what any node but an indirection refers to was born before it
+pub record IsRising (slots : List (Option Slot)) (births : ℕ) : Type 0 where
+  pub drawn : (slot : ℕ) → birth_of_slot (slice_index_or slots slot None) ≤ births
+  pub older : (slot : ℕ) → HasOlder (slice_index_or slots slot None)

@@ -1,5 +1,5 @@
 -- Where the nodes of slots stand: a cell for each slot, and rows of a pool for the entries of branches and lists.
-use Rattle.std.specs.Prelude.{◌≡◌, ◌⊎◌, ⊤, ℕ, ◌+◌, ◌<◌, ◌≤◌, ◌==◌, Bool, true, false, List, [], ◌∷◌, ◌++◌, length, count_by, slice_index_or, slice_set}
+use Rattle.std.specs.Prelude.{◌≡◌, ◌⊎◌, ⊤, ℕ, ◌+◌, ◌<◌, ◌≤◌, ◌==◌, Bool, true, false, List, [], ◌∷◌, ◌++◌, Option, Some, None, length, count_by, slice_index_or, slice_set}
 use Rattle.arrayvec.specs.ArrayVec.{ArrayVec}
 use Rattle.slot_arena.specs.declared.refs.Ref.{Ref}
 use Rattle.slot_arena.specs.declared.nodes.Node.{Node}
@@ -19,20 +19,14 @@ pub record Pool : Type 0 where
 abbrev pub row_at : List (ArrayVec Ref) → ℕ → ArrayVec Ref
 row_at rows row = slice_index_or rows row (entries_from [])
 
--- the node that a cell stands for
-abbrev pub node_in : List (ArrayVec Ref) → Cell → Node
-node_in rows (cell.Indirection generation main) = Indirection generation main
-node_in rows (cell.Branch bitmap row) = Branch bitmap (row_at rows row)
-node_in rows (cell.Single key value) = Single key value
-node_in rows (cell.Tomb single) = Tomb single
-node_in rows (cell.List row) = Listed (row_at rows row)
-
--- what stands in a slot without a node
-abbrev pub no_cell : Cell
-no_cell = cell.Single 0 0
-
-abbrev pub no_node : Node
-no_node = Single 0 0
+-- the node that a cell stands for, if it does
+abbrev pub node_in : List (ArrayVec Ref) → Cell → Option Node
+node_in rows cell.Free = None
+node_in rows (cell.Indirection generation main) = Some (Indirection generation main)
+node_in rows (cell.Branch bitmap row) = Some (Branch bitmap (row_at rows row))
+node_in rows (cell.Single key value) = Some (Single key value)
+node_in rows (cell.Tomb single) = Some (Tomb single)
+node_in rows (cell.List row) = Some (Listed (row_at rows row))
 
 abbrev pub with_main_cell : Ref → Cell → Cell
 with_main_cell m (cell.Indirection generation main) = cell.Indirection generation m
@@ -40,6 +34,7 @@ with_main_cell m other = other
 
 -- the cell has this row
 abbrev pub has : ℕ → Cell → Bool
+has row cell.Free = false
 has row (cell.Indirection generation main) = false
 has row (cell.Branch bitmap own) = own == row
 has row (cell.Single key value) = false
@@ -48,11 +43,16 @@ has row (cell.List own) = own == row
 
 -- the cell has a row
 abbrev pub has_row : Cell → Bool
+has_row cell.Free = false
 has_row (cell.Indirection generation main) = false
 has_row (cell.Branch bitmap own) = true
 has_row (cell.Single key value) = false
 has_row (cell.Tomb single) = false
 has_row (cell.List own) = true
+
+-- the cell's row is there, if it has one
+abbrev pub RowStands : Cell → List (ArrayVec Ref) → Type 0
+RowStands own rows = (row : ℕ) → has row own ≡ true → row < length rows
 
 -- each row is that of one cell, or spare
 pub record HasRows (cells : List Cell) (pool : Pool) : Type 0 where
@@ -83,6 +83,7 @@ IsPlaced before (Listed singles) placed after = (row : ℕ) × (placed ≡ cell.
 
 -- the pool in which the cell's row is spare, if it has one
 abbrev pub given_back : Cell → Pool → Pool
+given_back cell.Free pool = pool
 given_back (cell.Indirection generation main) pool = pool
 given_back (cell.Branch bitmap row) pool = record pool { spare = pool.spare ++ row ∷ [] }
 given_back (cell.Single key value) pool = pool
@@ -91,6 +92,7 @@ given_back (cell.List row) pool = record pool { spare = pool.spare ++ row ∷ []
 
 -- then there is room for its number
 abbrev pub CanGiveBack : Cell → Pool → Type 0
+CanGiveBack cell.Free pool = ⊤
 CanGiveBack (cell.Indirection generation main) pool = ⊤
 CanGiveBack (cell.Branch bitmap row) pool = length pool.spare < pool.size
 CanGiveBack (cell.Single key value) pool = ⊤

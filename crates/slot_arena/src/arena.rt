@@ -6,7 +6,7 @@ ghost use Rattle.slot_arena.specs.Heaps.{node_at, prev_at, main_at, refs_of_node
 ghost use Rattle.slot_arena.specs.Counts.{count_of};
 ghost use Rattle.slot_arena.specs.Times.{times, without};
 ghost use Rattle.slot_arena.specs.Ticking.{TakesUpTo};
-ghost use Rattle.slot_arena.specs.Arenas.{IsLive, AreLive, is_live, waiting, is_indirection, is_main_node, NotesWaiting, new_arena, AreSlots};
+ghost use Rattle.slot_arena.specs.Arenas.{IsLive, AreLive, is_live, waiting, is_indirection, is_main_node, NotesWaiting, NotesWaitingBut, new_arena, AreSlots};
 ghost use Rattle.slot_arena.specs.Entries.{Fits, coming as coming_entries, changed_branch};
 ghost use Rattle.slot_arena.specs.Views.{viewed};
 ghost use Rattle.slot_arena.specs.WordSwaps.{coming, StandsIn, with_word};
@@ -50,14 +50,14 @@ impl Drop for Arena {
 
 impl Model for Arena {
     ghost use Rattle.slot_arena.specs.Arenas.{Contents, contents_of};
-    ghost use Rattle.slot_arena.specs.Kept.{IsKept};
+    ghost use Rattle.slot_arena.specs.Kept.{IsKept, IsRising};
     ghost use Rattle.slot_arena.specs.Loans.{IsLending};
 
     ghost Value = { Contents };
 
     ghost view = { λ a. contents_of (record { slots = a.cells; free = a.free.slots; births = a.births }) a.outside.items a.free.ticks a.ledger.tally };
 
-    ghost invariant = { λ a. IsKept a.cells a.ledger.tally.counts a.free a.used a.outside.items × IsLending a.cells a.ledger.loan };
+    ghost invariant = { λ a. IsKept a.cells a.ledger.tally.counts a.free a.used a.outside.items × IsLending a.cells a.ledger.loan × IsRising a.cells a.births };
 }
 
 impl Arena {
@@ -122,20 +122,43 @@ impl Arena {
         ensures few { length self.new.noted ≤ length self.old.noted + 32 }
         ensures ticks { TakesUpTo 36 self.old.ticks self.new.ticks }
     {
+        if self.is_indirection(from) {
+            return self.make_joined(from, bitmap, change);
+        }
         let slot = self.free.take()?;
         let refs = refs_in(self.cells.node(from.slot()));
-        let (front, back) = change.staying(refs);
-        let coming = change.coming();
         self.ledger.raise_changed(from, refs, &change);
         self.ledger.begin(slot);
-        let entries = joined(front, coming, back);
         self.births += 1;
         self.used += 1;
+        let refs = self.ledger.lender_refs();
         self.cells
-            .fill(slot, self.births, Node::Branch { bitmap, entries });
+            .fill_changed(slot, self.births, bitmap, refs, &change);
         let made = Ref::new(self.births, slot);
         self.outside = self.outside.with_first(&made);
         Some(made)
+    }
+
+    /// Does what `make_changed` does, without a loan: an indirection lends nothing, since its main word may change.
+    #[inline(never)]
+    fn make_joined(&mut self, from: Ref, bitmap: u32, change: EntryChange) -> Option<Ref>
+        requires births { self.old.heap.births + 1 < birth_limit }
+        requires from_live { IsLive self.old.heap from }
+        requires fits { Fits change (refs_of_node (node_at self.old.heap from)) }
+        requires live { AreLive self.old.heap (coming_entries change) }
+        ensures made { result ≡ next_ref self.old.heap }
+        ensures heap { self.new.heap ≡ taken self.old.heap (changed_branch bitmap change (node_at self.old.heap from)) }
+        ensures outside { self.new.outside ≡ refs_of_option result ++ self.old.outside }
+        ensures lives { IfSome result (IsLive self.new.heap) }
+        ensures fresh { IfSome result (λ r. is_live self.old.heap r ≡ false) }
+        ensures stay { (q : Ref) → IsLive self.old.heap q → IsLive self.new.heap q }
+        ensures noted { NotesWaiting self.old self.new }
+        ensures few { length self.new.noted ≤ length self.old.noted + 32 }
+        ensures ticks { TakesUpTo 36 self.old.ticks self.new.ticks }
+    {
+        let (front, back) = change.staying(refs_in(self.cells.node(from.slot())));
+        let entries = joined(front, change.coming(), back);
+        self.make_held(Node::Branch { bitmap, entries })
     }
 
     /// The node.
@@ -144,6 +167,15 @@ impl Arena {
         ensures { viewed result ≡ node_at self.now.heap at }
     {
         self.cells.node(at.slot())
+    }
+
+    /// Whether the node is an indirection.
+    #[inline(always)]
+    fn is_indirection(&self, at: Ref) -> bool
+        requires { IsLive self.now.heap at }
+        ensures { result ≡ is_indirection (node_at self.now.heap at) }
+    {
+        matches!(self.look(at), NodeRef::Indirection { .. })
     }
 
     /// The node that stands in the slot, whatever its birth, if the slot is in use.
@@ -296,7 +328,7 @@ impl Arena {
         self.outside = Trace::changed::<Ref, TakenOut>(&self.outside, &at);
     }
 
-    /// Frees a slot to which nothing refers; it is the first of the free ones then.
+    /// Frees a slot to which nothing refers; it is the first of the free ones then. That it waits no longer isn't noted.
     #[inline(always)]
     pub fn free(&mut self, at: Ref)
         requires live { IsLive self.old.heap at }
@@ -304,15 +336,14 @@ impl Arena {
         ensures heap { self.new.heap ≡ freed self.old.heap at }
         ensures outside { self.new.outside ≡ self.old.outside }
         ensures stay { (q : Ref) → (q ≡ at → ⊥) → IsLive self.old.heap q → IsLive self.new.heap q }
-        ensures noted { NotesWaiting self.old self.new }
-        ensures few { length self.new.noted ≤ length self.old.noted + 34 }
-        ensures ticks { TakesUpTo 37 self.old.ticks self.new.ticks }
+        ensures noted { NotesWaitingBut (slot_of at) self.old self.new }
+        ensures few { length self.new.noted ≤ length self.old.noted + 33 }
+        ensures ticks { TakesUpTo 36 self.old.ticks self.new.ticks }
     {
         let slot = at.slot();
         let prev = self.cells.prev(slot);
         self.ledger.lower_node(at, refs_in(self.cells.node(slot)));
         self.ledger.lower_all(refs_of_prev(&prev));
-        self.ledger.note(slot);
         self.cells.clear(slot);
         self.used -= 1;
         self.free.put(slot);

@@ -1,11 +1,13 @@
 //! What stands in the slots.
 
-ghost use Rattle.std.specs.Prelude.{◌≡◌, ◌<◌, length, replicate, slice_index_or, slice_set, option_map, is_some, IsSome, Some, None, IfOk};
-ghost use Rattle.slot_arena.specs.Heaps.{node_of, prev_of, main_changed, prev_changed};
+ghost use Rattle.std.specs.Prelude.{◌≡◌, ◌<◌, ◌≤◌, length, replicate, slice_index_or, slice_set, option_map, IsSome, Some, None, IfOk};
+ghost use Rattle.slot_arena.specs.Entries.{Fits, entries_after};
+ghost use Rattle.slot_arena.specs.Heaps.{entries_from, node_of, prev_of, main_changed, prev_changed};
 ghost use Rattle.slot_arena.specs.Cells.{birth_of_slot};
 ghost use Rattle.slot_arena.specs.Views.{viewed};
 ghost use Rattle.slot_arena.specs.WordSwaps.{word_changed};
 
+use crate::entries::EntryChange;
 use crate::nodes::{Node, NodeRef, Prev, Slot};
 use crate::refs::Ref;
 use crate::stored_nodes::StoredNodes;
@@ -13,8 +15,8 @@ use crate::word_swaps::WordSwap;
 use std::alloc::{AllocError, Global};
 use std::marker::Model;
 
-/// What stands in the slots, part by part. A slot without a birth isn't in use, and what stands in it
-/// doesn't matter.
+/// What stands in the slots, part by part. A slot without a node isn't in use: it has no birth then, and no `prev` word, so that a
+/// look at what stands there needs no other part.
 pub(crate) struct Cells {
     births: Vec<u64>,
     nodes: StoredNodes,
@@ -32,15 +34,15 @@ impl Drop for Cells {
 }
 
 impl Model for Cells {
-    ghost use Rattle.std.specs.Prelude.{◌≡◌, List, Option, length};
+    ghost use Rattle.std.specs.Prelude.{List, Option};
     ghost use Rattle.slot_arena.specs.declared.nodes.Slot.{Slot};
-    ghost use Rattle.slot_arena.specs.Cells.{slots_from};
+    ghost use Rattle.slot_arena.specs.Cells.{AreParts, slots_from};
 
     ghost Value = { List (Option Slot) };
 
     ghost view = { λ c. slots_from c.births.items c.nodes c.prevs.items };
 
-    ghost invariant = { λ c. (length c.nodes ≡ length c.births.items) × (length c.prevs.items ≡ length c.births.items) };
+    ghost invariant = { λ c. AreParts c.births.items c.nodes c.prevs.items };
 }
 
 impl Cells {
@@ -91,43 +93,52 @@ impl Cells {
     pub(crate) fn stored_node(&self, slot: u32) -> Option<NodeRef<'_>>
         ensures { option_map viewed result ≡ option_map (λ slot. slot.node) (slice_index_or self.now slot None) }
     {
-        if self.is_used(slot) {
-            Some(self.node(slot))
-        } else {
-            None
-        }
+        self.nodes.stored(slot)
     }
 
     /// The `prev` word that stands in a slot; None where it isn't in use.
     pub(crate) fn stored_prev(&self, slot: u32) -> Prev
         ensures { result ≡ prev_of (slice_index_or self.now slot None) }
     {
-        if self.is_used(slot) {
-            self.prev(slot)
-        } else {
-            Prev::None
-        }
-    }
-
-    /// Whether there is such a slot, and it is in use.
-    fn is_used(&self, slot: u32) -> bool
-        ensures { result ≡ is_some (slice_index_or self.now slot None) }
-    {
         if slot as usize >= self.len() {
-            return false;
+            return Prev::None;
         }
-        self.birth(slot) != 0
+        self.prevs[slot as usize]
     }
 
-    /// Puts a node into a slot, under a birth.
+    /// Puts a node into a slot that isn't in use, under a birth.
     #[inline(always)]
     pub(crate) fn fill(&mut self, slot: u32, birth: u64, node: Node)
         requires within { slot < length self.old }
+        requires free { slice_index_or self.old slot None ≡ None }
         requires born { 0 < birth }
         ensures { self.new ≡ slice_set self.old slot (Some (record { birth = birth; node = node; prev = Prev.None })) }
     {
         self.births[slot as usize] = birth;
         self.nodes.put(slot, node);
+        self.prevs[slot as usize] = Prev::None;
+    }
+
+    /// The same of a branch, whose entries are what a change makes of these references.
+    #[inline(always)]
+    pub(crate) fn fill_changed(
+        &mut self,
+        slot: u32,
+        birth: u64,
+        bitmap: u32,
+        refs: &[Ref],
+        change: &EntryChange,
+    )
+        requires within { slot < length self.old }
+        requires free { slice_index_or self.old slot None ≡ None }
+        requires born { 0 < birth }
+        requires fits { Fits change.now refs.now }
+        requires few { length refs.now ≤ 32 }
+        ensures { self.new ≡ slice_set self.old slot
+            (Some (record { birth = birth; node = Node.Branch bitmap (entries_from (entries_after change.now refs.now)); prev = Prev.None })) }
+    {
+        self.births[slot as usize] = birth;
+        self.nodes.put_changed(slot, bitmap, refs, change);
         self.prevs[slot as usize] = Prev::None;
     }
 
@@ -141,7 +152,7 @@ impl Cells {
 
     /// Changes the `prev` word of a main node.
     pub(crate) fn set_prev(&mut self, slot: u32, prev: Prev)
-        requires { slot < length self.old }
+        requires { IsSome (slice_index_or self.old slot None) }
         ensures { self.new ≡ slice_set self.old slot (option_map (prev_changed prev) (slice_index_or self.old slot None)) }
     {
         self.prevs[slot as usize] = prev;
@@ -149,7 +160,7 @@ impl Cells {
 
     /// Replaces a word.
     pub(crate) fn set_word(&mut self, slot: u32, swap: WordSwap)
-        requires { slot < length self.old }
+        requires { IsSome (slice_index_or self.old slot None) }
         ensures { self.new ≡ slice_set self.old slot (option_map (word_changed swap) (slice_index_or self.old slot None)) }
     {
         match swap {
@@ -165,5 +176,6 @@ impl Cells {
     {
         self.births[slot as usize] = 0;
         self.nodes.clear(slot);
+        self.prevs[slot as usize] = Prev::None;
     }
 }

@@ -68,6 +68,20 @@ impl EntryChange {
     }
 }
 
+/// Puts what a change makes of these references in the place of entries.
+#[inline(always)]
+pub(crate) fn put_changed(entries: &mut Entries, refs: &[Ref], change: &EntryChange)
+    requires fits { Fits change.now refs.now }
+    requires few { length refs.now ≤ 32 }
+    ensures { entries.new ≡ entries_from (entries_after change.now refs.now) }
+{
+    let (front, back) = change.staying(refs);
+    entries.clear();
+    let _ = entries.try_extend_from_slice(front);
+    let _ = entries.try_extend_from_slice(change.coming());
+    let _ = entries.try_extend_from_slice(back);
+}
+
 /// The references of three slices, one behind the other, as entries.
 #[inline(always)]
 pub fn joined(front: &[Ref], middle: &[Ref], back: &[Ref]) -> Entries

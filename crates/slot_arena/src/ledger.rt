@@ -1,6 +1,6 @@
 //! Counts of references, of which some are lent.
 
-ghost use Rattle.std.specs.Prelude.{◌≡◌, ℕ, ◌+◌, ◌-◌, ◌<◌, ◌≤◌, ◌^◌, ◌==◌, ◌⊎◌, false, [], ◌∷◌, ◌++◌, length, replicate, slice_index, slice_set, All, IfOk, MatchOption};
+ghost use Rattle.std.specs.Prelude.{◌≡◌, ℕ, ◌+◌, ◌-◌, ◌<◌, ◌≤◌, ◌^◌, ◌==◌, ◌⊎◌, [], ◌∷◌, ◌++◌, length, replicate, slice_index, slice_set, All, IfOk, MatchOption};
 ghost use Rattle.slot_arena.specs.Refs.{slot_of};
 ghost use Rattle.slot_arena.specs.Times.{times};
 ghost use Rattle.slot_arena.specs.Ticking.{TakesUpTo};
@@ -84,19 +84,6 @@ impl Ledger {
         self.tally.begin(slot);
     }
 
-    /// Notes a slot.
-    pub(crate) fn note(&mut self, slot: u32)
-        requires { slot < length self.old.tally.counts }
-        ensures counts { self.new.tally.counts ≡ self.old.tally.counts }
-        ensures noted { 0 < times slot self.new.tally.noted }
-        ensures others { NotesZeros self.old.tally self.new.tally }
-        ensures few { length self.new.tally.noted ≤ length self.old.tally.noted + 1 }
-        ensures ticks { self.new.tally.ticks ≡ self.old.tally.ticks + 1 }
-        ensures loan { self.new.loan ≡ self.old.loan }
-    {
-        self.tally.note(slot);
-    }
-
     /// How many slots are noted.
     pub(crate) fn noted_len(&self) -> usize
         ensures noted { result ≡ length self.now.tally.noted }
@@ -144,7 +131,8 @@ impl Ledger {
         self.tally.raise_all(refs);
     }
 
-    /// Counts one reference less to a slot.
+    /// Counts one reference less to a slot. Before the tally's last one goes, which may be lent, the loan is repaid: no count of
+    /// the tally reaches zero while it is lent.
     #[inline(always)]
     fn lower(&mut self, slot: u32)
         requires within { slot < length self.old.tally.counts }
@@ -155,31 +143,22 @@ impl Ledger {
         ensures ticks { self.new.tally.ticks ≡ self.old.tally.ticks + 1 }
         ensures loan { KeepsLoan self.old.loan self.new.loan }
     {
+        if self.tally.lower_but_last(slot) {
+            return;
+        }
         self.claim(slot);
         self.tally.lower(slot);
     }
 
-    /// Repays the loan where the tally has one reference left for a slot, which is lent too: no count of the tally reaches
-    /// zero while it is lent.
+    /// Repays the loan where a reference to the slot is lent, or may be.
     fn claim(&mut self, slot: u32)
-        requires { slot < length self.old.tally.counts }
         ensures tally { self.new.tally ≡ self.old.tally }
         ensures loan { KeepsLoan self.old.loan self.new.loan }
-        ensures free { (naming slot (lent self.new.loan) ≡ 0) ⊎ (naming slot (lent self.new.loan) + 1 < slice_index self.new.tally.counts slot) }
+        ensures free { naming slot (lent self.new.loan) ≡ 0 }
     {
-        if self.may_lend(slot) {
+        if self.loan.is_out() && self.loan.may_name(slot) {
             self.repay();
         }
-    }
-
-    /// Whether the last reference that stands in the tally for a slot is lent, or may be.
-    #[inline(always)]
-    fn may_lend(&mut self, slot: u32) -> bool
-        requires { slot < length self.old.tally.counts }
-        ensures same { self.new ≡ self.old }
-        ensures free { result ≡ false → (naming slot (lent self.old.loan) ≡ 0) ⊎ (naming slot (lent self.old.loan) + 1 < slice_index self.old.tally.counts slot) }
-    {
-        self.loan.is_out() && self.tally.is_last(slot) && self.loan.may_name(slot)
     }
 
     /// Counts each of these references one less to the slot that it names.
@@ -224,7 +203,7 @@ impl Ledger {
         }
     }
 
-    /// Counts what a changed copy of a node refers to: what stays of the node's references is lent.
+    /// Counts what a changed copy of a node refers to: what stays of the node's references is lent. The node doesn't refer to itself.
     pub(crate) fn raise_changed(&mut self, from: Ref, refs: &[Ref], change: &EntryChange)
         requires fits { Fits change.now refs.now }
         requires few { length refs.now ≤ 32 }
@@ -232,6 +211,7 @@ impl Ledger {
         requires coming { All (λ r. slot_of r < length self.old.tally.counts) (coming change.now) }
         requires room { (slot : ℕ) → slice_index self.old.tally.counts slot + 33 < 2 ^ 32 }
         requires some { (slot : ℕ) → naming slot refs.now ≤ slice_index self.old.tally.counts slot }
+        requires apart { naming (slot_of from) refs.now ≡ 0 }
         ensures size { length self.new.tally.counts ≡ length self.old.tally.counts }
         ensures counts { (slot : ℕ) → slice_index self.new.tally.counts slot ≡ slice_index self.old.tally.counts slot + naming slot (entries_after change.now refs.now) }
         ensures noted { NotesZeros self.old.tally self.new.tally }
@@ -246,6 +226,15 @@ impl Ledger {
         let (front, back) = self.loan.parts();
         self.tally.charge(front);
         self.tally.charge(back);
+    }
+
+    /// What the lender refers to, where a loan is out.
+    #[inline(always)]
+    pub(crate) fn lender_refs(&self) -> &[Ref]
+        ensures { result.now ≡ self.now.loan.refs }
+    {
+        let _ = &self.tally;
+        self.loan.refs()
     }
 
     /// Where this lender's loan is out, it is repaid.

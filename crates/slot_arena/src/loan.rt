@@ -1,6 +1,7 @@
 //! A loan of counts.
 
 ghost use Rattle.std.specs.Prelude.{◌≡◌, ◌+◌, ◌≤◌, false, true, [], length, take, drop};
+ghost use Rattle.slot_arena.specs.Refs.{slot_of};
 ghost use Rattle.slot_arena.specs.Tallies.{naming};
 ghost use Rattle.slot_arena.specs.Loans.{IsOver};
 
@@ -8,7 +9,8 @@ use crate::entries::MOST_ENTRIES;
 use crate::refs::Ref;
 use std::marker::Model;
 
-/// What a node refers to, where it lends the counts of these references, all or all but one, to its changed copy.
+/// What a node refers to, where it lends the counts of these references, all or all but one, to its changed copy. It doesn't
+/// refer to itself.
 #[derive(Drop)]
 pub(crate) struct Loan {
     lender: Ref,
@@ -23,13 +25,15 @@ pub(crate) struct Loan {
 
 impl Model for Loan {
     ghost use Rattle.std.specs.Prelude.{◌≡◌, ◌≤◌, length, take};
+    ghost use Rattle.slot_arena.specs.Refs.{slot_of};
+    ghost use Rattle.slot_arena.specs.Tallies.{naming};
     ghost use Rattle.slot_arena.specs.Loans.{Loan as Lending};
 
     ghost Value = { Lending };
 
     ghost view = { λ l. record { lender = l.lender; refs = take l.len l.refs; kept = l.kept } };
 
-    ghost invariant = { λ l. (l.len ≤ length l.refs) × (length l.refs ≡ 32) × (l.kept ≤ l.len) };
+    ghost invariant = { λ l. (l.len ≤ length l.refs) × (length l.refs ≡ 32) × (l.kept ≤ l.len) × (naming (slot_of l.lender) (take l.len l.refs) ≡ 0) };
 }
 
 impl Loan {
@@ -51,6 +55,7 @@ impl Loan {
     pub(crate) fn begin(&mut self, lender: Ref, refs: &[Ref], kept: usize)
         requires few { length refs.now ≤ 32 }
         requires kept { kept ≤ length refs.now }
+        requires apart { naming (slot_of lender) refs.now ≡ 0 }
         ensures { self.new ≡ record { lender = lender; refs = refs.now; kept = kept } }
     {
         self.refs[..refs.len()].copy_from_slice(refs);
@@ -86,6 +91,14 @@ impl Loan {
         self.lender
     }
 
+    /// What it refers to, all of it; nothing where no loan is out.
+    #[inline(always)]
+    pub(crate) fn refs(&self) -> &[Ref]
+        ensures { result.now ≡ self.now.refs }
+    {
+        &self.refs[..self.len]
+    }
+
     /// The position of the one that isn't lent.
     #[inline(always)]
     pub(crate) fn kept(&self) -> usize
@@ -108,12 +121,15 @@ impl Loan {
         (front, &rest[1..])
     }
 
-    /// Whether one of the references names the slot, or may. One slot is looked for among them, as that of the lender where nothing
-    /// refers to it any more: whoever looks for more does better to have the loan repaid.
+    /// Whether one of the references names the slot, or may. None names the lender's. One other slot is looked for among them: whoever
+    /// looks for more does better to have the loan repaid.
     pub(crate) fn may_name(&mut self, slot: u32) -> bool
         ensures none { result ≡ false → naming slot self.old.refs ≡ 0 }
         ensures same { self.new ≡ self.old }
     {
+        if self.lender.slot() == slot {
+            return false;
+        }
         if self.is_searched {
             return true;
         }

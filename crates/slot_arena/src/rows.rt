@@ -1,8 +1,11 @@
 //! A pool of rows, in which the entries of branches and lists stand.
 
 ghost use Rattle.std.specs.Prelude.{◌≡◌, ◌<◌, ◌≤◌, ◌++◌, ◌∷◌, [], length, IfOk};
+ghost use Rattle.slot_arena.specs.Entries.{Fits, entries_after};
+ghost use Rattle.slot_arena.specs.Heaps.{entries_from};
 ghost use Rattle.slot_arena.specs.Pools.{CanPut, IsPut, row_at};
 
+use crate::entries::{EntryChange, put_changed};
 use crate::refs::Ref;
 use arrayvec::ArrayVec;
 use std::alloc::{AllocError, Global};
@@ -74,6 +77,39 @@ impl Rows {
                 row
             }
         }
+    }
+
+    /// Puts what a change makes of these references into a row: where one is spare they are written there at once.
+    #[inline(always)]
+    pub(crate) fn put_changed(&mut self, refs: &[Ref], change: &EntryChange) -> u32
+        requires room { CanPut self.old }
+        requires fits { Fits change.now refs.now }
+        requires few { length refs.now ≤ 32 }
+        ensures { IsPut self.old (entries_from (entries_after change.now refs.now)) result self.new }
+    {
+        match self.spare.pop() {
+            Some(row) => {
+                put_changed(&mut self.rows[row as usize], refs, change);
+                row
+            }
+            None => self.add_changed(refs, change),
+        }
+    }
+
+    /// The same in a row behind all others, where none is spare. It isn't inlined, so that no call blanks a row which it doesn't need.
+    #[inline(never)]
+    fn add_changed(&mut self, refs: &[Ref], change: &EntryChange) -> u32
+        requires none { self.old.spare ≡ [] }
+        requires room { CanPut self.old }
+        requires fits { Fits change.now refs.now }
+        requires few { length refs.now ≤ 32 }
+        ensures { IsPut self.old (entries_from (entries_after change.now refs.now)) result self.new }
+    {
+        let mut entries = ArrayVec::new();
+        put_changed(&mut entries, refs, change);
+        let row = self.rows.len() as u32;
+        self.rows.push_reserved(entries);
+        row
     }
 
     /// The row is spare from now on.

@@ -1,6 +1,6 @@
 //! The counts of references, by slot.
 
-ghost use Rattle.std.specs.Prelude.{◌≡◌, ℕ, ◌+◌, ◌-◌, ◌<◌, ◌≤◌, ◌^◌, ◌==◌, [], ◌∷◌, ◌++◌, length, replicate, slice_index, slice_set, All, IfOk, MatchOption};
+ghost use Rattle.std.specs.Prelude.{◌≡◌, ℕ, ◌+◌, ◌-◌, ◌<◌, ◌≤◌, ◌^◌, true, false, [], ◌∷◌, ◌++◌, length, replicate, slice_index, slice_set, All, IfOk, MatchOption};
 ghost use Rattle.slot_arena.specs.Refs.{slot_of};
 ghost use Rattle.slot_arena.specs.Times.{times};
 ghost use Rattle.slot_arena.specs.Tallies.{naming, NotesZeros};
@@ -11,7 +11,8 @@ use std::alloc::{AllocError, Global};
 use std::marker::Model;
 
 /// How many references each slot has, and the slots whose count reached or left zero, each once. A call
-/// looks at one slot, and counts one tick of its own; one that is given references, one for each.
+/// looks at one slot, and counts one tick of its own; one that is given references, one for each. Those
+/// that count none tell nothing of what they find: `lower`, `restore`, `restore_all`.
 pub(crate) struct Tally {
     counts: Vec<u32>,
     noted: Vec<u32>,
@@ -65,14 +66,6 @@ impl Tally {
         self.counts[slot as usize]
     }
 
-    /// Whether a slot has one reference, which a call is about to take: no tick.
-    pub(crate) fn is_last(&self, slot: u32) -> bool
-        requires { slot < length self.now.counts }
-        ensures { result ≡ (slice_index self.now.counts slot == 1) }
-    {
-        self.counts[slot as usize] == 1
-    }
-
     /// Gives a slot without references its first one, which isn't noted.
     pub(crate) fn begin(&mut self, slot: u32)
         requires { slot < length self.old.counts }
@@ -80,19 +73,6 @@ impl Tally {
     {
         self.ticks.add();
         self.counts[slot as usize] = 1;
-    }
-
-    /// Notes a slot.
-    pub(crate) fn note(&mut self, slot: u32)
-        requires { slot < length self.old.counts }
-        ensures counts { self.new.counts ≡ self.old.counts }
-        ensures noted { 0 < times slot self.new.noted }
-        ensures others { NotesZeros self.old self.new }
-        ensures few { length self.new.noted ≤ length self.old.noted + 1 }
-        ensures ticks { self.new.ticks ≡ self.old.ticks + 1 }
-    {
-        self.enlist(slot);
-        self.ticks.add();
     }
 
     /// Lists a slot among the noted ones.
@@ -163,7 +143,26 @@ impl Tally {
         self.counts[slot as usize] += 1;
     }
 
-    /// Counts one reference less to a slot.
+    /// Counts one reference less to a slot, but for its last one. Tells whether it did.
+    #[inline(always)]
+    pub(crate) fn lower_but_last(&mut self, slot: u32) -> bool
+        requires within { slot < length self.old.counts }
+        requires some { 0 < slice_index self.old.counts slot }
+        ensures lowered { result ≡ true → (1 < slice_index self.old.counts slot) × (self.new.counts ≡ slice_set self.old.counts slot (slice_index self.old.counts slot - 1)) }
+        ensures last { result ≡ false → (slice_index self.old.counts slot ≡ 1) × (self.new.counts ≡ self.old.counts) }
+        ensures noted { self.new.noted ≡ self.old.noted }
+        ensures ticks { self.new.ticks ≡ self.old.ticks + 1 }
+    {
+        self.ticks.add();
+        let count = self.counts[slot as usize];
+        if count == 1 {
+            return false;
+        }
+        self.counts[slot as usize] = count - 1;
+        true
+    }
+
+    /// Counts one reference less to a slot, which was looked at before: no tick.
     #[inline(always)]
     pub(crate) fn lower(&mut self, slot: u32)
         requires within { slot < length self.old.counts }
@@ -171,14 +170,13 @@ impl Tally {
         ensures counts { self.new.counts ≡ slice_set self.old.counts slot (slice_index self.old.counts slot - 1) }
         ensures noted { NotesZeros self.old self.new }
         ensures few { length self.new.noted ≤ length self.old.noted + 1 }
-        ensures ticks { self.new.ticks ≡ self.old.ticks + 1 }
+        ensures ticks { self.new.ticks ≡ self.old.ticks }
     {
         let count = self.counts[slot as usize] - 1;
         self.counts[slot as usize] = count;
         if count == 0 {
             self.enlist(slot);
         }
-        self.ticks.add();
     }
 
     /// Counts each of these references one more to the slot that it names.

@@ -2,8 +2,8 @@
 //! one before.
 //!
 //! Each call computes the definition of the same name (`Heaps` of `slot_arena`, `Builders` of `nodes`,
-//! `Paths` of `machine_model`), for every heap, path and position, so that none of them asks for
-//! anything but those that make nodes. None takes memory.
+//! `Paths` of `machine_model`), for every heap, path and position. Only those that build another branch, or
+//! make a node, ask for anything. None takes memory.
 #![tactic(auto)]
 
 mod calls;
@@ -17,7 +17,7 @@ mod work;
 pub use calls::{KeyCall, Task};
 pub use gcas::{
     Access, Change, Descriptor, Entrant, Heap, Next, Publication, Read, ReadAt, Root, RootWord,
-    Site, Swap, generation_at,
+    Site, Swap, generation_at, main_at,
 };
 pub use looking::{bitmap_at, entries_at, entry_at, entry_count, is_single_at, key_at, node_at};
 pub use made::{changed_at, contracted, contracted_at, make_changed, renewed};

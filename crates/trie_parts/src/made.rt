@@ -49,6 +49,24 @@ pub fn make_changed(heap: &mut Heap, main: Ref, flag: u32, change: Change) -> Op
     if let Some((bitmap, entry)) = in_place(heap, main, flag, &change) {
         return heap.make_changed(main, bitmap, entry);
     }
+    make_whole(heap, main, flag, change)
+}
+
+/// The same of a main node that is built whole first. It isn't inlined, so that a branch needs no place for a node.
+#[inline(never)]
+fn make_whole(heap: &mut Heap, main: Ref, flag: u32, change: Change) -> Option<Ref>
+    requires flag { 0 < flag }
+    requires births { heap.old.heap.births + 1 < birth_limit }
+    requires live { AreLive heap.old.heap (refs_of_node (changed flag (node_at heap.old.heap main) change)) }
+    ensures made { result ≡ next_ref heap.old.heap }
+    ensures lives { IfSome result (IsLive heap.new.heap) }
+    ensures stay { (q : ARef) → IsLive heap.old.heap q → IsLive heap.new.heap q }
+    ensures heap { heap.new.heap ≡ taken heap.old.heap (changed flag (node_at heap.old.heap main) change) }
+    ensures outside { heap.new.outside ≡ refs_of_option result ++ heap.old.outside }
+    ensures epochs { KeepsEpochs heap.old heap.new }
+    ensures few { length heap.new.noted ≤ length heap.old.noted + 32 }
+    ensures ticks { TakesUpTo 36 heap.old.ticks heap.new.ticks }
+{
     let node = changed_at(heap, main, flag, change);
     heap.make_held(node)
 }
@@ -68,7 +86,7 @@ fn in_place(heap: &Heap, main: Ref, flag: u32, change: &Change) -> Option<(u32, 
     }
 }
 
-/// The same of a branch of this bitmap and these entries.
+/// The change of a branch of this bitmap and these entries as that of one entry, with the bitmap then, where it is one.
 #[inline(always)]
 fn entry_change(
     flag: u32,

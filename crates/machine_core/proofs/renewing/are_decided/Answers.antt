@@ -1,16 +1,19 @@
-use Rattle.std.proofs.Common.{arith, length, ap}
-use Rattle.slot_arena.specs.Heaps.{entries_of, node_at}
+use Rattle.std.proofs.Common.{arith, length, get_or, ap, ◌∙◌}
+use Rattle.std.proofs.lemmas.List.{get_or_default}
+use Rattle.slot_arena.specs.Heaps.{entries_of, no_ref, node_at}
 use Rattle.machine_core.proofs.Passed.{decided_all, decided_first, decided_next}
 use Rattle.machine_core.proofs.renewing.are_decided.Goals as goal
 
-pub loop-i-init : goal.loop-i-init
-loop-i-init c = decided_first c.args.heap.now.heap c.args.main
+pub loop-entry-init : goal.loop-entry-init
+loop-entry-init c = decided_first c.args.heap.now.heap c.args.main
 
-pub loop-i-preserved : goal.loop-i-preserved
-loop-i-preserved c =
-    decided_next c.args.heap.now.heap c.args.main c.loop-i.i c.entry_at.result c.loop-i.invariant c.entry_at.ensures (c.can_renew.ensures c.if-not-can_renew.false)
+pub loop-entry-preserved : goal.loop-entry-preserved
+loop-entry-preserved c =
+    decided_next c.args.heap.now.heap c.args.main c.loop-entry.entry-index c.entry-item.result c.loop-entry.invariant
+    (c.entry-item.is ∙ get_or_default c.entries_at-entry-items.result.now c.loop-entry.entry-index c.entry-item.result no_ref c.loop-entry-test.true
+    ∙ ap (λ es. get_or es c.loop-entry.entry-index no_ref) c.entries_at-entry-items.ensures.entries) (c.can_renew.ensures c.if-not-can_renew.false)
 
 pub returns-clause-decided : goal.returns-clause-decided
 returns-clause-decided c sure =
-    decided_all c.args.heap.now.heap c.args.main c.loop-i.i (length (entries_of (node_at c.args.heap.now.heap c.args.main))) c.loop-i.invariant
-    (omega (arith, c.loop-i-test.false, ap length c.entries_at-i-end.ensures.entries))
+    decided_all c.args.heap.now.heap c.args.main c.loop-entry.entry-index (length (entries_of (node_at c.args.heap.now.heap c.args.main))) c.loop-entry.invariant
+    (omega (arith, c.loop-entry-test.false, ap length c.entries_at-entry-items.ensures.entries))

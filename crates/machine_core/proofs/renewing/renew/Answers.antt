@@ -1,7 +1,8 @@
 use Rattle.std.proofs.Common.{arith, ◌+◌, ◌*◌, length, [], ap, refl, sym, ◌∙◌}
+use Rattle.std.proofs.lemmas.List.{take_all}
 use Rattle.slot_arena.specs.Heaps.{bitmap_of, entries_of}
 use Rattle.slot_arena.specs.Times.{times}
-use Rattle.nodes.specs.Builders.{renewed}
+use Rattle.slot_arena.specs.declared.nodes.Node.TheVariants.{Branch}
 use Rattle.machine_core.proofs.Paired.{can_begin, can_swap_still}
 use Rattle.machine_core.proofs.Renewed.{all_renewed, can_one, few_made, first_renewing, next_renewing}
 use Rattle.machine_core.proofs.renewing.renew.Goals as goal
@@ -31,17 +32,19 @@ pub swap_in-requires-clause-held : goal.swap_in-requires-clause-held
 swap_in-requires-clause-held c r =
     let can = c.loop-i.invariant.makes.can 0
     (can_begin c.args.heap.now c.args.indirection c.args.main [] 33 (c.loop-i.i + 0) refl (omega arith) (omega (arith, c.loop-i.auto.i-end, c.entries_at-i-end.ensures.few)) c.requires.can) in
-    omega (arith, ap (times r) c.as_slice-2.ensures.value, can.held r)
+    omega (arith, ap (times r) c.as_slice.ensures.value, can.held r)
 
 pub returns-clause-renews : goal.returns-clause-renews
 returns-clause-renews c state root bitmap entries is g branch =
     let long = ap (λ n. length (entries_of n)) branch in
     all_renewed c.args.heap.now c.args.indirection c.args.main c.args.generation c.requires.can c.loop-i.i c.loop-i.heap c.loop-i.made.items c.loop-i.entries.items c.loop-i.invariant
-    state root bitmap c.bitmap_at-bitmap.result entries c.renewed-node.result (c.len.result + 3 * c.len-2.result + 10) c.swap_in.new.heap is g branch
+    state root bitmap c.bitmap_at-bitmap.result entries (Branch c.bitmap_at-bitmap.result c.loop-i.entries) (c.len.result + 3 * c.len-2.result + 10) c.swap_in.new.heap is g branch
     (omega (arith, c.loop-i-test.false, ap length c.entries_at-i-end.ensures.entries, long)) (c.bitmap_at-bitmap.ensures ∙ ap bitmap_of branch)
-    (c.renewed-node.ensures.node ∙ ap (renewed c.bitmap_at-bitmap.result) c.as_slice.ensures.value) (omega (arith, c.len.ensures.value, c.len-2.ensures.value))
+    (sym (ap (λ es. Branch c.bitmap_at-bitmap.result (record { items = es }))
+    (take_all 32 c.loop-i.entries.items (omega (arith, c.loop-i.invariant.many, c.loop-i.auto.i-end, c.entries_at-i-end.ensures.few)))))
+    (omega (arith, c.len.ensures.value, c.len-2.ensures.value))
     (omega (arith, c.loop-i.auto.i-end, ap length c.entries_at-i-end.ensures.entries, long))
-    (λ draft so private. c.swap_in.ensures.drafts state draft so (private ∙ sym c.as_slice-2.ensures.value))
+    (λ draft so private. c.swap_in.ensures.drafts state draft so (private ∙ sym c.as_slice.ensures.value))
 
 pub returns-clause-few : goal.returns-clause-few
 returns-clause-few c =

@@ -1,7 +1,32 @@
-use Rattle.std.proofs.Common.{ap, arith}
+use Rattle.std.proofs.Common.{length, ap, arith, ◌∙◌}
 use Rattle.epochs.specs.Memories.{Memory}
 use Rattle.proof_core.proofs.Bounded.{taken_most}
+use Rattle.proof_core.proofs.Claims.{one_live}
+use Rattle.machine_core.proofs.Starts.{first_limbo, next_first, next_second, settled_first}
 use Rattle.machine_core.proofs.starting.first_memory.Goals as goal
 
 pub make_held-requires-2-clause-births : goal.make_held-requires-2-clause-births
 make_held-requires-2-clause-births c = omega (arith, taken_most _ _ _ c.make_held.ensures.heap, ap (λ (m : Memory). m.heap.births) c.in_ok-heap.ensures.made.0)
+
+pub returns-clause-limbo : goal.returns-clause-limbo
+returns-clause-limbo c = grind (arith, next_first, next_second, first_limbo, one_live)
+
+pub returns-clause-ticks : goal.returns-clause-ticks
+returns-clause-ticks c =
+    let made = c.in_ok-heap.ensures.made.0 in
+    let first = c.make_held.ensures in
+    let second = c.make_held-2.ensures in
+    let released = c.release.ensures in
+    let none = released.epochs.0 ∙ second.epochs.0 ∙ first.epochs.0 ∙ ap (λ (m : Memory). m.limbo) made in
+    omega (
+      arith,
+      settled_first c.release.new.self c.settle.new.self c.settle.ensures none (returns-clause-limbo c),
+      released.ticks,
+      released.few,
+      second.ticks.1,
+      second.few,
+      first.ticks.1,
+      first.few,
+      ap (λ (m : Memory). m.ticks) made,
+      ap (λ (m : Memory). length m.noted) made,
+    )

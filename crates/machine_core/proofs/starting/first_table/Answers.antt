@@ -1,9 +1,9 @@
-use Rattle.std.proofs.Common.{◌≡◌, ◌+◌, ◌∷◌, [], ap, ◌∙◌}
+use Rattle.std.proofs.Common.{◌≡◌, ◌+◌, ◌∷◌, [], length, ap, ◌∙◌, arith}
 use Rattle.slot_arena.specs.declared.refs.Ref.{Ref}
 use Rattle.slot_arena.specs.Times.{times}
 use Rattle.epochs.specs.Limbo.{limbo_after}
 use Rattle.epochs.proofs.Forgetting.{counts_alone}
-use Rattle.machine_core.proofs.Starts.{first_held, first_released, first_there, none_ready}
+use Rattle.machine_core.proofs.Starts.{first_held, first_released, first_there, none_ready, settled_first}
 use Rattle.machine_core.proofs.starting.first_table.Goals as goal
 
 pub put-requires-clause-ready : goal.put-requires-clause-ready
@@ -35,3 +35,11 @@ returns-clause-limbo c =
     ∙ ap (λ e. limbo_after before.heap c.release.new.self.outside e c.release.new.self.limbo) (released.epochs.1 ∙ kept_so.epochs.1)
     ∙ ap (limbo_after before.heap c.release.new.self.outside before.epoch) (released.epochs.0 ∙ kept_so.epochs.0)
     ∙ counts_alone before.heap c.release.new.self.outside before.outside before.epoch before.limbo (kept c) ∙ c.requires.limbo
+
+pub returns-clause-ticks : goal.returns-clause-ticks
+returns-clause-ticks c =
+    let put = c.put.ensures.moves.keeps in
+    let released = c.release.ensures in
+    let none = released.epochs.0 ∙ put.epochs.0 ∙ c.requires.settled.0 in
+    let settled = settled_first c.release.new.self c.settle.new.self c.settle.ensures none (returns-clause-limbo c) in
+    omega (arith, settled, released.ticks, released.few, put.ticks.1, put.few, ap length c.requires.settled.1)

@@ -1,23 +1,31 @@
-use Rattle.std.proofs.Common.{ap}
+use Rattle.std.proofs.Common.{◌≡◌, Ok, ap, subst}
+use Rattle.machine_model.specs.declared.steps.Outcome.TheVariants as outcome
+use Rattle.machine_model.specs.declared.steps.Step.TheVariants.{Sweep}
+use Rattle.machine_model.specs.Machine.{next}
+use Rattle.machine_model.specs.States.{State}
+use Rattle.proof_core.specs.Work.{Worked}
 use Rattle.machine_core.specs.declared.parts.Parts.{Parts}
-use Rattle.machine_core.proofs.Reclaimed.{fewer_left, reclaimed_first, reclaimed_more}
+use Rattle.machine_core.specs.Seen.{seen}
+use Rattle.machine_core.specs.Work.{SweepsLittle, worked}
+use Rattle.machine_core.proofs.Growths.{reclaimed_grown, reclaimed_more}
+use Rattle.machine_core.proofs.Reclaimed.{reclaimed_first}
 use Rattle.machine_core.proofs.sweeping.reclaim.Goals as goal
 
 pub loop-parts-init : goal.loop-parts-init
 loop-parts-init c = reclaimed_first c.args.parts.now c.requires.core
 
-pub sweep_once-requires-clause-core : goal.sweep_once-requires-clause-core
-sweep_once-requires-clause-core c = c.loop-parts.invariant.core
-
-pub loop-parts-smaller : goal.loop-parts-smaller
-loop-parts-smaller c =
-    fewer_left c.loop-parts.parts c.sweep_once.new.parts ((c.can_sweep.ensures.some c.loop-parts-test.true).1) (ap (λ (p : Parts). p.limits) c.sweep_once.ensures.counted)
-    (ap (λ (p : Parts). p.steps) c.sweep_once.ensures.counted)
+pub loop-parts-preserved-then-not-grow : goal.loop-parts-preserved-then-not-grow
+loop-parts-preserved-then-not-grow c =
+    let now : Parts = c.loop-parts.parts in
+    let after : Parts = c.sweep_once.new.parts in
+    let same = c.grow.ensures.same c.if-not-grow.true in
+    reclaimed_more c.args.parts.now now after c.grow.new.parts.heap.ticks c.sweep_once.result c.loop-parts.invariant ((c.can_sweep.ensures.some c.loop-parts-test.true).0) c.grow.ensures.work
+    (subst (λ (s : State). next s Sweep ≡ Ok (outcome.Swept c.sweep_once.result, seen after)) (ap seen same) c.sweep_once.ensures.swept)
+    (subst (λ (w : Worked). SweepsLittle w (worked after)) (ap worked same) c.sweep_once.ensures.work) c.sweep_once.ensures.core
 
 pub loop-parts-preserved : goal.loop-parts-preserved
 loop-parts-preserved c =
-    reclaimed_more c.args.parts.now c.loop-parts.parts c.sweep_once.new.parts c.sweep_once.result c.loop-parts.invariant ((c.can_sweep.ensures.some c.loop-parts-test.true).0)
-    c.sweep_once.ensures.swept c.sweep_once.ensures.work c.sweep_once.ensures.core
+    reclaimed_grown c.args.parts.now c.loop-parts.parts c.grow.new.parts _ c.loop-parts.invariant (c.grow.ensures.grown c.if-not-grow.false) c.grow.ensures.core
 
 pub returns-clause-reclaims : goal.returns-clause-reclaims
 returns-clause-reclaims c = (c.loop-parts.invariant.n, c.loop-parts.invariant.reclaims)

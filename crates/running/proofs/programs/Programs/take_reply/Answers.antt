@@ -17,5 +17,5 @@ returns-in-Walked-clause-reply c =
 pub returns-in-Runs-clause-reply : goal.returns-in-Runs-clause-reply
 returns-in-Runs-clause-reply c =
     let p = c.args.self.now in
-    let answer = c.at_once.result in
-    sym (subst (λ (s : ProgramAt). answer_of (asking_line p c.args.program s p.asking) ≡ answer) (sym c.in-Runs.is) (ends p c.args.program Runs p.asking answer c.at_once.ensures))
+    let answer = c.reply_at_end.result in
+    sym (subst (λ (s : ProgramAt). answer_of (asking_line p c.args.program s p.asking) ≡ answer) (sym c.in-Runs.is) (ends p c.args.program Runs p.asking answer c.reply_at_end.ensures))

@@ -1,15 +1,15 @@
-use Rattle.std.proofs.Common.{◌≡◌, ◌+◌, ◌-◌, ◌<◌, ◌≤◌, true, ◌∷◌, length, get_or, set, slice_index, All, Some, None, is_some, sym, ap, ◌∙◌, subst, inl, arith}
+use Rattle.std.proofs.Common.{◌≡◌, ◌+◌, ◌-◌, ◌<◌, ◌≤◌, true, ◌∷◌, length, get_or, set, All, Some, None, is_some, sym, ap, ◌∙◌, subst, arith}
 use Rattle.slot_arena.specs.declared.refs.Ref.{Ref}
 use Rattle.slot_arena.specs.declared.nodes.Slot.{Slot}
 use Rattle.slot_arena.specs.Refs.{slot_of}
 use Rattle.slot_arena.specs.Heaps.{node_of, prev_of, refs_of_node, refs_of_prev, refs_of_slot}
 use Rattle.slot_arena.specs.Times.{times}
 use Rattle.slot_arena.specs.Tallies.{naming}
-use Rattle.slot_arena.specs.Arenas.{Contents, NotesWaiting}
-use Rattle.slot_arena.specs.Kept.{live, found, IsKept}
+use Rattle.slot_arena.specs.Arenas.{Contents, NotesWaitingBut}
+use Rattle.slot_arena.specs.Kept.{live, found, IsKept, IsRising}
 use Rattle.slot_arena.proofs.Live.{live_within, all_within}
 use Rattle.slot_arena.proofs.Exact.{count_found, part_live, part_counted}
-use Rattle.slot_arena.proofs.Waiting.{born, notes_waiting}
+use Rattle.slot_arena.proofs.Waiting.{born, notes_but}
 use Rattle.slot_arena.proofs.Reading.{live_inside, live_seen, slot_seen}
 use Rattle.slot_arena.proofs.Times.{times-append}
 use Rattle.slot_arena.proofs.Namings.{naming-append}
@@ -21,6 +21,7 @@ use Rattle.slot_arena.proofs.Reading.{freed_seen, live_shown}
 use Rattle.slot_arena.proofs.Live.{one_live}
 use Rattle.slot_arena.proofs.Changed.{live_there}
 use Rattle.slot_arena.specs.Loans.{IsLending}
+use Rattle.slot_arena.proofs.Rising.{rising_freed}
 use Rattle.slot_arena.proofs.Lenders.{lending_apart, lending_kept, lends_here, none_kept}
 use Rattle.slot_arena.proofs.Lendings.{keeps_trans}
 use Rattle.slot_arena.proofs.arena.Arena.free.Goals as goal
@@ -102,13 +103,6 @@ lower_all-requires-clause-some c i =
     let counted_so = part_counted c.self.inside.cells c.self.inside.ledger.tally.counts c.self.inside.outside.items c.self.invariant.0.exact c.self.invariant.0.few (refs_of_slot (Some slot)) part i in
     omega (arith, naming-append i (refs_of_node slot.node) (refs_of_prev slot.prev), ap (naming i) node_is, ap (naming i) prev_is, c.lower_node.ensures.counts i)
 
-pub note-requires : goal.note-requires
-note-requires c =
-    let at : Ref = c.args.at in
-    let has = live_inside _ _ c.self.view_is c.args.at c.requires.live in
-    let within = live_within c.self.inside.cells at has in
-    omega (arith, c.slot-slot.ensures, c.lower_node.ensures.size, c.lower_all.ensures.size, c.self.invariant.0.sizes)
-
 pub clear-requires : goal.clear-requires
 clear-requires c =
     let at : Ref = c.args.at in
@@ -139,11 +133,11 @@ put-requires-clause-apart c =
     ap (λ k. times k c.self.inside.free.slots) c.slot-slot.ensures ∙ c.self.invariant.0.apart (slot_of at) (ap is_some seen.1)
 
 -- a loan that is out then is of another node
-still_lends : (c : goal.After-put) → IsLending c.clear.new.self c.note.new.self.loan
+still_lends : (c : goal.After-put) → IsLending c.clear.new.self c.lower_all.new.self.loan
 still_lends c =
-    let loan = c.note.new.self.loan in
+    let loan = c.lower_all.new.self.loan in
     let has = live_inside _ _ c.self.view_is c.args.at c.requires.live in
-    let after = keeps_trans c.lower_node.new.self.loan c.lower_all.new.self.loan loan c.lower_all.ensures.loan (inl c.note.ensures.loan) in
+    let after = c.lower_all.ensures.loan in
     let kept = keeps_trans c.self.inside.ledger.loan c.lower_node.new.self.loan loan c.lower_node.ensures.loan after in
     subst (λ s. IsLending s loan) (sym (c.clear.ensures ∙ ap (λ k. set c.self.inside.cells k None) c.slot-slot.ensures))
     (lending_apart c.self.inside.cells loan c.args.at None (lending_kept c.self.inside.cells c.self.inside.ledger.loan loan kept c.self.invariant.1)
@@ -163,16 +157,15 @@ invariant_of-self c = (
       ap (λ (a : Contents). found a.heap.slots a.outside at) c.self.view_is ∙ sym (count_found c.args.self.now.heap c.args.self.now.outside at) ∙ c.requires.unreferred in
       let one = some_used c.self.inside.cells c.self.inside.ledger.tally.counts c.self.inside.free c.self.inside.used c.self.inside.outside.items c.self.invariant.0 (slot_of at)
       (live_within c.self.inside.cells at has) (ap is_some seen.1) in
-      subst (λ s. IsKept s c.note.new.self.tally.counts c.put.new.self (c.self.inside.used - 1) c.self.inside.outside.items)
+      subst (λ s. IsKept s c.lower_all.new.self.tally.counts c.put.new.self (c.self.inside.used - 1) c.self.inside.outside.items)
       (sym (c.clear.ensures ∙ ap (λ k. set c.self.inside.cells k None) c.slot-slot.ensures))
-      (free_kept c.self.inside.cells c.self.inside.ledger.tally.counts c.note.new.self.tally.counts c.self.inside.free c.put.new.self c.self.inside.used (c.self.inside.used - 1)
+      (free_kept c.self.inside.cells c.self.inside.ledger.tally.counts c.lower_all.new.self.tally.counts c.self.inside.free c.put.new.self c.self.inside.used (c.self.inside.used - 1)
       c.self.inside.outside.items
       c.self.invariant.0 at slot seen.1 has unreferred
       (c.put.ensures.slots ∙ ap (λ k. k ∷ c.self.inside.free.slots) c.slot-slot.ensures) c.put.ensures.size (omega arith)
-      (ap length c.note.ensures.counts ∙ c.lower_all.ensures.size ∙ c.lower_node.ensures.size)
+      (c.lower_all.ensures.size ∙ c.lower_node.ensures.size)
       (λ i. omega (
         arith,
-        ap (λ cs. slice_index cs i) c.note.ensures.counts,
         c.lower_all.ensures.counts i,
         c.lower_node.ensures.counts i,
         naming-append i (refs_of_node slot.node) (refs_of_prev slot.prev),
@@ -180,6 +173,9 @@ invariant_of-self c = (
         ap (naming i) prev_is,
       ))),
   still_lends c,
+  subst (λ s. IsRising s c.self.inside.births) (sym (c.clear.ensures ∙ ap (λ k. set c.self.inside.cells k None) c.slot-slot.ensures))
+      (rising_freed c.self.inside.cells c.self.inside.births c.self.invariant.2 (slot_of c.args.at)
+      (live_within c.self.inside.cells c.args.at (live_inside _ _ c.self.view_is c.args.at c.requires.live))),
 )
 
 pub returns-clause-heap : goal.returns-clause-heap
@@ -203,17 +199,14 @@ returns-clause-noted c =
     let now : Contents = record {
       heap = record { slots = c.clear.new.self; free = c.put.new.self.slots; births = c.self.inside.births };
       outside = c.self.inside.outside.items;
-      noted =
-          c.note.new.self.tally.noted;
+      noted = c.lower_all.new.self.tally.noted;
       ticks = 0;
     } in
-    let zeros = zeros_trans c.self.inside.ledger.tally c.lower_node.new.self.tally c.note.new.self.tally c.lower_node.ensures.noted
-    (zeros_trans c.lower_node.new.self.tally c.lower_all.new.self.tally c.note.new.self.tally c.lower_all.ensures.noted c.note.ensures.others) in
-    subst (λ (a : Contents). NotesWaiting a now) c.self.view_is
-    (notes_waiting was now c.self.inside.ledger.tally.counts c.note.new.self.tally.counts c.self.inside.free c.put.new.self c.self.inside.used (c.self.inside.used - 1) c.self.invariant.0
-    (invariant_of-self c).0 zeros
-    (λ i none. born_set c.self.inside.cells c.slot-slot.result i None (λ same. let there = c.note.ensures.noted in omega (arith, ap (λ k. times k c.note.new.self.tally.noted) same))
-    ∙ sym (ap (λ s. born (get_or s i None)) c.clear.ensures)))
+    let zeros = zeros_trans c.self.inside.ledger.tally c.lower_node.new.self.tally c.lower_all.new.self.tally c.lower_node.ensures.noted c.lower_all.ensures.noted in
+    subst (λ (a : Contents). NotesWaitingBut (slot_of c.args.at) a now) c.self.view_is
+    (notes_but was now c.self.inside.ledger.tally.counts c.lower_all.new.self.tally.counts c.self.inside.free c.put.new.self c.self.inside.used (c.self.inside.used - 1) c.self.invariant.0
+    (invariant_of-self c).0 zeros (slot_of c.args.at)
+    (λ i other. born_set c.self.inside.cells c.slot-slot.result i None (λ same. other (same ∙ c.slot-slot.ensures)) ∙ sym (ap (λ s. born (get_or s i None)) c.clear.ensures)))
 
 pub returns-clause-stay : goal.returns-clause-stay
 returns-clause-stay c q other has =

@@ -43,6 +43,7 @@ invariant_of-self c = (
       (All-cons (λ q. live c.self.inside.cells q ≡ true) at [] has (All-nil (λ q. live c.self.inside.cells q ≡ true)))
       (λ q. omega arith) held),
   lending_kept c.self.inside.cells c.self.inside.ledger.loan c.raise_all.new.self.loan (inl c.raise_all.ensures.loan) c.self.invariant.1,
+  c.self.invariant.2,
 )
 
 pub returns-clause-noted : goal.returns-clause-noted

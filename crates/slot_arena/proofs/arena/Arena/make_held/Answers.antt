@@ -1,9 +1,9 @@
-use Rattle.std.proofs.Common.{◌≡◌, ◌+◌, ◌<◌, ◌∷◌, true, false, length, set, slice_index, All, Some, None, refl, sym, ap, ◌∙◌, subst, inl, arith}
+use Rattle.std.proofs.Common.{◌≡◌, ◌+◌, ◌<◌, ◌∷◌, true, false, length, set, slice_index, All, Some, refl, sym, ap, ◌∙◌, subst, inl, arith}
 use Rattle.slot_arena.specs.Refs.{ref_to, slot_of}
 use Rattle.slot_arena.specs.Heaps.{Heap, refs_of_node}
 use Rattle.slot_arena.specs.Tallies.{Tally, naming}
 use Rattle.slot_arena.specs.Arenas.{Contents, IsLive, NotesWaiting, is_live}
-use Rattle.slot_arena.specs.Kept.{live, IsKept}
+use Rattle.slot_arena.specs.Kept.{live, IsKept, IsRising}
 use Rattle.slot_arena.proofs.Live.{all_within}
 use Rattle.slot_arena.proofs.Changed.{counts_small}
 use Rattle.slot_arena.proofs.Reading.{all_seen, taken_none, taken_first}
@@ -12,6 +12,7 @@ use Rattle.slot_arena.proofs.Making.{made_fresh, made_lives, made_notes, made_st
 use Rattle.slot_arena.specs.declared.nodes.Slot.{Slot}
 use Rattle.slot_arena.specs.declared.nodes.Prev.TheVariants as prev
 use Rattle.slot_arena.specs.Loans.{IsLending}
+use Rattle.slot_arena.proofs.Rising.{rising_made}
 use Rattle.slot_arena.proofs.Lenders.{first_none, lending_filled, lending_kept}
 use Rattle.slot_arena.proofs.arena.Arena.make_held.Goals as goal
 
@@ -48,6 +49,11 @@ begin-requires-clause-none c =
     (c.raise_all.ensures.counts c.in_ok-slot.slot
     ∙ ap (λ rs. slice_index c.self.inside.ledger.tally.counts c.in_ok-slot.slot + naming c.in_ok-slot.slot rs) c.refs_of.ensures.refs)
 
+pub fill-requires-clause-free : goal.fill-requires-clause-free
+fill-requires-clause-free c =
+    first_unused c.self.inside.cells c.self.inside.ledger.tally.counts c.self.inside.free c.self.inside.used c.self.inside.outside.items c.self.invariant.0 c.in_ok-slot.slot c.take.new.self.slots
+    c.in_ok-slot.ensures.slots.0
+
 pub invariant_of-self-2 : goal.invariant_of-self-2
 invariant_of-self-2 c = (
   let slots = ap (λ (a : Contents). a.heap.slots) c.self.view_is in
@@ -71,6 +77,11 @@ invariant_of-self-2 c = (
       (first_unused c.self.inside.cells c.self.inside.ledger.tally.counts c.self.inside.free c.self.inside.used c.self.inside.outside.items c.self.invariant.0 c.in_ok-slot.slot c.take.new.self.slots
       c.in_ok-slot.ensures.slots.0)
       (lending_kept c.self.inside.cells c.self.inside.ledger.loan c.begin.new.self.loan (inl (c.begin.ensures.loan ∙ c.raise_all.ensures.loan)) c.self.invariant.1)),
+  let slots = ap (λ (a : Contents). a.heap.slots) c.self.view_is in
+      let within : c.in_ok-slot.slot < length c.self.inside.cells = let is = c.self.invariant.0.chained in let least = c.in_ok-slot.ensures.slots.1 in omega arith in
+      subst (λ s. IsRising s (c.self.inside.births + 1)) (sym c.fill.ensures)
+      (rising_made c.self.inside.cells c.self.inside.births c.self.invariant.2 c.in_ok-slot.slot c.args.node within
+      (subst (λ s. All (λ q. live s q ≡ true) (refs_of_node c.args.node)) (sym slots) (all_seen c.args.self.now.heap (refs_of_node c.args.node) c.requires.live))),
 )
 
 pub returns-clause-heap : goal.returns-clause-heap

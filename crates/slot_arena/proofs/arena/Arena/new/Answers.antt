@@ -3,9 +3,10 @@ use Rattle.slot_arena.specs.declared.refs.Ref.{Ref}
 use Rattle.slot_arena.specs.declared.nodes.Slot.{Slot}
 use Rattle.slot_arena.specs.Tallies.{Tally}
 use Rattle.slot_arena.specs.Chains.{Chain}
-use Rattle.slot_arena.specs.Kept.{IsKept}
+use Rattle.slot_arena.specs.Kept.{IsKept, IsRising}
 use Rattle.std.proofs.Common.{replicate}
 use Rattle.slot_arena.proofs.Starts.{start_kept}
+use Rattle.slot_arena.proofs.Rising.{rising_new}
 use Rattle.std.specs.List.{range_with_len}
 use Rattle.slot_arena.proofs.arena.Arena.new.Goals as goal
 
@@ -18,4 +19,5 @@ invariant_of-result c = (
       os) (sym c.new-4.ensures)
       (start_kept c.args.slots (omega arith))))),
   inl c.in_ok-new-2.ensures.1,
+  subst (λ (s : List (Option Slot)). IsRising s 0) (sym c.in_ok-new.ensures) (rising_new c.args.slots),
 )

@@ -1,4 +1,4 @@
-use Rattle.std.proofs.Common.{◌≡◌, ◌+◌, ◌<◌, true, List, [], ◌∷◌, length, get_or, set, slice_index, All, Option, None, is_some, refl, sym, ap, ◌∙◌, subst, inl, arith, rules, tests}
+use Rattle.std.proofs.Common.{◌≡◌, ◌+◌, ◌<◌, true, List, [], ◌∷◌, length, get_or, set, slice_index, All, Option, None, IsSome, is_some, refl, sym, ap, ◌∙◌, subst, inl, arith, rules, tests}
 use Rattle.std.specs.Prelude.{option_map}
 use Rattle.std.proofs.lemmas.List.{length-set}
 use Rattle.slot_arena.specs.declared.refs.Ref.{Ref}
@@ -8,7 +8,7 @@ use Rattle.slot_arena.specs.Refs.{slot_of}
 use Rattle.slot_arena.specs.Heaps.{Heap, node_of, prev_of, main_of, main_changed, prev_changed, refs_of_prev, with_main}
 use Rattle.slot_arena.specs.Tallies.{Tally, naming, NotesZeros}
 use Rattle.slot_arena.specs.Arenas.{Contents, NotesWaiting, is_indirection}
-use Rattle.slot_arena.specs.Kept.{live, IsKept}
+use Rattle.slot_arena.specs.Kept.{live, IsKept, IsRising}
 use Rattle.slot_arena.proofs.Live.{live_within, all_within}
 use Rattle.slot_arena.proofs.Exact.{part_live, part_counted}
 use Rattle.slot_arena.proofs.Changed.{counts_small}
@@ -17,9 +17,11 @@ use Rattle.slot_arena.proofs.Times.{once}
 use Rattle.slot_arena.proofs.Waiting.{born, notes_waiting}
 use Rattle.slot_arena.proofs.Marks.{zeros_trans}
 use Rattle.slot_arena.proofs.Words.{IsChange, changed_by, main_changes, prev_is_change, prev_part, born_word, live_word}
+use Rattle.slot_arena.proofs.Parts.{used_changed}
 use Rattle.slot_arena.proofs.Publishes.{publish_kept}
 use Rattle.slot_arena.proofs.Reading.{live_inside, live_is, node_seen, used_seen, main_seen, prev_put_seen}
 use Rattle.slot_arena.specs.Loans.{IsLending}
+use Rattle.slot_arena.proofs.Rising.{rising_changed}
 use Rattle.slot_arena.proofs.Lenders.{lending_apart, lending_kept, none_kept}
 use Rattle.slot_arena.proofs.Lendings.{keeps_trans}
 use Rattle.slot_arena.proofs.arena.Arena.publish.Goals as goal
@@ -92,13 +94,9 @@ first_change c =
 pub set_prev-requires : goal.set_prev-requires
 set_prev-requires c =
     let has = live_inside _ _ c.self.view_is c.args.to c.requires.new_live in
-    omega (
-      arith,
-      live_within c.self.inside.cells c.args.to has,
-      c.slot-4.ensures,
-      ap length c.set_main.ensures,
-      length-set c.self.inside.cells c.slot-3.result (option_map (main_changed c.args.to) (get_or c.self.inside.cells c.slot-3.result None)),
-    )
+    subst (λ s. IsSome (get_or s c.slot-4.result None)) (sym c.set_main.ensures)
+    (used_changed c.self.inside.cells c.slot-3.result c.slot-4.result (main_changed c.args.to)
+    (subst (λ k. IsSome (get_or c.self.inside.cells k None)) (sym c.slot-4.ensures) (used_seen c.self.inside.cells c.args.to has)))
 
 slots_are : (c : goal.After-settle-2) → c.set_prev.new.self ≡ second_of (first_of c.self.inside.cells c.args.at c.args.to) c.args.to c.args.from
 slots_are c =
@@ -123,6 +121,17 @@ still_lends c =
     (lending_apart first loan c.args.to (option_map (prev_changed (prev.Pending c.args.from)) (get_or first (slot_of c.args.to) None))
     (lending_apart c.self.inside.cells loan c.args.at (option_map (main_changed c.args.to) (get_or c.self.inside.cells (slot_of c.args.at) None))
     (lending_kept c.self.inside.cells c.self.inside.ledger.loan loan kept c.self.invariant.1) other has) c.settle-2.ensures.none there)
+
+-- births are as before
+still_risen : (c : goal.After-settle-2) → IsRising c.set_prev.new.self c.self.inside.births
+still_risen c =
+    let first : List (Option Slot) = first_of c.self.inside.cells c.args.at c.args.to in
+    let has = live_inside _ _ c.self.view_is c.args.at c.requires.live in
+    let there : live first c.args.to ≡ true =
+    live_word c.self.inside.cells c.args.at _ _ _ (first_change c) (live_within c.self.inside.cells c.args.at has) c.args.to ∙ live_inside _ _ c.self.view_is c.args.to c.requires.new_live in
+    subst (λ s. IsRising s c.self.inside.births) (sym (slots_are c))
+    (rising_changed first c.self.inside.births (rising_changed c.self.inside.cells c.self.inside.births c.self.invariant.2 c.args.at has _ _ _ (first_change c)) c.args.to there _ _ _
+    (prev_is_change first c.args.to (prev.Pending c.args.from) _ refl))
 
 pub invariant_of-self : goal.invariant_of-self
 invariant_of-self c = (
@@ -150,6 +159,7 @@ invariant_of-self c = (
         ap (naming i) refs_are,
       )))),
   still_lends c,
+  still_risen c,
 )
 
 pub returns-clause-heap : goal.returns-clause-heap

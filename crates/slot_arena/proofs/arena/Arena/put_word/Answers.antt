@@ -1,16 +1,17 @@
-use Rattle.std.proofs.Common.{◌≡◌, ◌<◌, true, List, length, get_or, set, All, None, sym, ap, ◌∙◌, subst, inl, arith}
+use Rattle.std.proofs.Common.{◌≡◌, ◌<◌, true, List, length, get_or, set, All, None, is_some, sym, ap, ◌∙◌, subst, inl, arith}
 use Rattle.std.specs.Prelude.{option_map}
 use Rattle.slot_arena.specs.declared.refs.Ref.{Ref}
 use Rattle.slot_arena.specs.Refs.{slot_of}
 use Rattle.slot_arena.specs.Tallies.{Tally, naming, NotesZeros}
 use Rattle.slot_arena.specs.WordSwaps.{coming, word_changed}
 use Rattle.slot_arena.specs.Arenas.{Contents, AreLive}
-use Rattle.slot_arena.specs.Kept.{live, IsKept}
-use Rattle.slot_arena.proofs.Live.{live_within, all_within}
+use Rattle.slot_arena.specs.Kept.{live, IsKept, IsRising}
+use Rattle.slot_arena.proofs.Live.{all_within}
 use Rattle.slot_arena.proofs.Changed.{counts_small}
-use Rattle.slot_arena.proofs.Reading.{live_inside, all_seen}
+use Rattle.slot_arena.proofs.Reading.{live_inside, all_seen, used_seen}
 use Rattle.slot_arena.proofs.Words.{changed_by, word_changes, one_comes, one_goes, word_seen, word_within, word_counted, word_kept, word_noted, word_stays}
 use Rattle.slot_arena.specs.Loans.{IsLending}
+use Rattle.slot_arena.proofs.Rising.{rising_changed}
 use Rattle.slot_arena.proofs.Lenders.{lending_apart, lending_kept}
 use Rattle.slot_arena.proofs.Lendings.{keeps_trans}
 use Rattle.slot_arena.proofs.arena.Arena.put_word.Goals as goal
@@ -40,7 +41,9 @@ lower_all-requires-clause-some c i =
     omega (arith, c.raise_all.ensures.counts i, ap (naming i) c.going.ensures, some)
 
 pub set_word-requires : goal.set_word-requires
-set_word-requires c = omega (arith, live_within c.self.inside.cells c.args.at (live_inside _ _ c.self.view_is c.args.at c.requires.live), c.slot.ensures)
+set_word-requires c =
+    let has = live_inside _ _ c.self.view_is c.args.at c.requires.live in
+    subst (λ k. is_some (get_or c.self.inside.cells k None) ≡ true) (sym c.slot.ensures) (used_seen c.self.inside.cells c.args.at has)
 
 slots_are : (c : goal.After-settle) → c.set_word.new.self ≡ changed_by (word_changed c.args.swap) c.self.inside.cells c.args.at
 slots_are c = c.set_word.ensures ∙ ap (λ k. set c.self.inside.cells k (option_map (word_changed c.args.swap) (get_or c.self.inside.cells k None))) c.slot.ensures
@@ -59,6 +62,8 @@ invariant_of-self c = (
       (keeps_trans c.self.inside.ledger.loan c.lower_all.new.self.loan c.settle.new.self.loan
       (keeps_trans c.self.inside.ledger.loan c.raise_all.new.self.loan c.lower_all.new.self.loan (inl c.raise_all.ensures.loan) c.lower_all.ensures.loan) c.settle.ensures.loan) c.self.invariant.1)
       c.settle.ensures.none (live_inside _ _ c.self.view_is c.args.at c.requires.live)),
+  subst (λ s. IsRising s c.self.inside.births) (sym (slots_are c))
+      (rising_changed _ _ c.self.invariant.2 _ (live_inside _ _ c.self.view_is c.args.at c.requires.live) _ _ _ (word_changes _ _ c.self.view_is c.args.at c.args.swap c.requires.stands)),
 )
 
 pub returns-clause-heap : goal.returns-clause-heap

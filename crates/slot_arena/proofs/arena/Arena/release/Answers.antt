@@ -41,6 +41,7 @@ invariant_of-self c = (
       (All-nil (λ q. live c.self.inside.cells q ≡ true)) (part_held c.self.inside.cells c.self.inside.outside.items at some)
       (λ r. held_less c.self.inside.outside.items at r some c.self.invariant.0.held)),
   lending_kept c.self.inside.cells c.self.inside.ledger.loan c.lower_all.new.self.loan c.lower_all.ensures.loan c.self.invariant.1,
+  c.self.invariant.2,
 )
 
 pub returns-clause-noted : goal.returns-clause-noted

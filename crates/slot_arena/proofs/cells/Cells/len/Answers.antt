@@ -4,4 +4,4 @@ use Rattle.slot_arena.proofs.cells.Cells.len.Goals as goal
 
 pub returns : goal.returns
 returns c =
-    omega (arith, ap length c.self.view_is, length-slots_from c.self.inside.births.items c.self.inside.nodes c.self.inside.prevs.items c.self.invariant.0 c.self.invariant.1)
+    omega (arith, ap length c.self.view_is, length-slots_from c.self.inside.births.items c.self.inside.nodes c.self.inside.prevs.items c.self.invariant.nodes_all c.self.invariant.prevs_all)

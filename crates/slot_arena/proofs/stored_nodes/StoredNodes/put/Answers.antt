@@ -1,36 +1,25 @@
-use Rattle.std.proofs.Common.{◌≡◌, List, get_or, set, sym, ap, ◌∙◌, subst}
-use Rattle.std.proofs.lemmas.List.{get_or_read}
+use Rattle.std.proofs.Common.{List, Option, Some, set, ap, ◌∙◌}
 use Rattle.slot_arena.specs.declared.nodes.Node.{Node}
-use Rattle.slot_arena.specs.Pools.{Pool, CanPut, IsPlaced, given_back, no_cell}
-use Rattle.slot_arena.proofs.Pools.{cell_within, can_give_back, can_put_there, put_rows, put_nodes}
+use Rattle.slot_arena.proofs.Pools.{can_put, cell_within, free_cell, placed_nodes, placed_rows}
 use Rattle.slot_arena.proofs.stored_nodes.StoredNodes.put.Goals as goal
-
-pub give_back-requires : goal.give_back-requires
-give_back-requires c =
-    let within = cell_within c.self.inside.rows.rows c.self.inside.cells.items c.args.self.now c.args.slot c.self.view_is c.requires in
-    let there = get_or_read c.self.inside.cells.items c.args.slot c.index-before.result.now within c.index-before.ensures no_cell in
-    can_give_back c.self.inside.cells.items c.self.inside.rows c.self.invariant c.args.slot within c.index-before.result.now (sym there)
 
 pub place-requires : goal.place-requires
 place-requires c =
-    let within = cell_within c.self.inside.rows.rows c.self.inside.cells.items c.args.self.now c.args.slot c.self.view_is c.requires in
-    let there = get_or_read c.self.inside.cells.items c.args.slot c.index-before.result.now within c.index-before.ensures no_cell in
-    let same : c.give_back.new.rows ≡ given_back (get_or c.self.inside.cells.items c.args.slot no_cell) c.self.inside.rows = c.give_back.ensures ∙ ap (λ x. given_back x c.self.inside.rows) there in
-    subst CanPut (sym same) (can_put_there c.self.inside.cells.items c.self.inside.rows c.self.invariant c.args.slot within)
+    let within = cell_within c.self.inside.rows.rows c.self.inside.cells.items c.args.self.now c.args.slot c.self.view_is c.requires.within in
+    can_put c.self.inside.cells.items c.self.inside.rows c.self.invariant c.args.slot within
+    (free_cell c.self.inside.rows.rows c.self.inside.cells.items c.args.self.now c.args.slot c.self.view_is within c.requires.free)
 
 pub invariant_of-self : goal.invariant_of-self
 invariant_of-self c =
-    let within = cell_within c.self.inside.rows.rows c.self.inside.cells.items c.args.self.now c.args.slot c.self.view_is c.requires in
-    let there = get_or_read c.self.inside.cells.items c.args.slot c.index-before.result.now within c.index-before.ensures no_cell in
-    let same : c.give_back.new.rows ≡ given_back (get_or c.self.inside.cells.items c.args.slot no_cell) c.self.inside.rows = c.give_back.ensures ∙ ap (λ x. given_back x c.self.inside.rows) there in
-    put_rows c.self.inside.cells.items c.self.inside.rows c.self.invariant c.args.slot within c.args.node c.place.result c.place.new.rows
-    (subst (λ (p : Pool). IsPlaced p c.args.node c.place.result c.place.new.rows) same c.place.ensures)
+    let within = cell_within c.self.inside.rows.rows c.self.inside.cells.items c.args.self.now c.args.slot c.self.view_is c.requires.within in
+    placed_rows c.self.inside.cells.items c.self.inside.rows c.self.invariant c.args.slot within
+    (free_cell c.self.inside.rows.rows c.self.inside.cells.items c.args.self.now c.args.slot c.self.view_is within c.requires.free)
+    c.args.node c.place.result c.place.new.rows c.place.ensures
 
 pub returns : goal.returns
 returns c =
-    let within = cell_within c.self.inside.rows.rows c.self.inside.cells.items c.args.self.now c.args.slot c.self.view_is c.requires in
-    let there = get_or_read c.self.inside.cells.items c.args.slot c.index-before.result.now within c.index-before.ensures no_cell in
-    let same : c.give_back.new.rows ≡ given_back (get_or c.self.inside.cells.items c.args.slot no_cell) c.self.inside.rows = c.give_back.ensures ∙ ap (λ x. given_back x c.self.inside.rows) there in
-    put_nodes c.self.inside.cells.items c.self.inside.rows c.self.invariant c.args.slot within c.args.node c.place.result c.place.new.rows
-    (subst (λ (p : Pool). IsPlaced p c.args.node c.place.result c.place.new.rows) same c.place.ensures)
-    ∙ ap (λ (ns : List Node). set ns c.args.slot c.args.node) c.self.view_is
+    let within = cell_within c.self.inside.rows.rows c.self.inside.cells.items c.args.self.now c.args.slot c.self.view_is c.requires.within in
+    placed_nodes c.self.inside.cells.items c.self.inside.rows c.self.invariant c.args.slot within
+    (free_cell c.self.inside.rows.rows c.self.inside.cells.items c.args.self.now c.args.slot c.self.view_is within c.requires.free)
+    c.args.node c.place.result c.place.new.rows c.place.ensures
+    ∙ ap (λ (ns : List (Option Node)). set ns c.args.slot (Some c.args.node)) c.self.view_is

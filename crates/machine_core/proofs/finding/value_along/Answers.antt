@@ -4,7 +4,7 @@ use Rattle.slot_arena.specs.Heaps.{node_at, logical_main}
 use Rattle.machine_model.specs.Contents.{most_levels}
 use Rattle.machine_core.specs.Beneath.proof_contents.specs.Nodes.Looking.{Absent, Has, Below}
 use Rattle.proof_core.proofs.Levels.{decides, nothing_left}
-use Rattle.machine_core.proofs.finding.value_of.Goals as goal
+use Rattle.machine_core.proofs.finding.value_along.Goals as goal
 
 pub returns-in-Absent : goal.returns-in-Absent
 returns-in-Absent c =

@@ -5,7 +5,7 @@ use Rattle.machine_model.specs.Contents.{most_levels}
 use Rattle.machine_model.specs.States.{root_of, word_at}
 use Rattle.machine_core.specs.Beneath.proof_contents.specs.Nodes.Looking.{find_at}
 use Rattle.machine_core.specs.Seen.{seen}
-use Rattle.machine_core.proofs.finding.value_of.Given as goal
+use Rattle.machine_core.proofs.finding.value_along.Given as goal
 
 -- what is below the indirection at this depth decides it
 abbrev pub invariant-loop-depth : goal.invariant-loop-depth
