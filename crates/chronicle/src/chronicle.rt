@@ -1,6 +1,6 @@
 //! The record of a machine.
 
-ghost use Rattle.std.specs.Prelude.{◌≡◌, ◌<◌, ◌≤◌, ◌++◌, ◌∷◌, [], IfOk, IfSome, OnOk, IsOkUnless, length, None, Some, option_to_list};
+ghost use Rattle.std.specs.Prelude.{◌≡◌, ◌+◌, ◌<◌, ◌≤◌, ◌++◌, ◌∷◌, [], IfOk, IfSome, OnOk, IsOkUnless, length, None, Some, option_to_list};
 ghost use Rattle.ctrie_base.specs.declared.refusals.Refusal.TheVariants.{Memory};
 ghost use Rattle.history.specs.declared.replies.Reply.TheVariants.{Closed};
 ghost use Rattle.machine_model.specs.declared.steps.Bounds.{Bounds};
@@ -84,6 +84,8 @@ impl Chronicle {
     pub fn new(alloc: Global, slots: u32, actors: u8) -> Result<Chronicle, Refusal>
         ensures past { IfOk result (λ made. (limits : Bounds) → limits.actors ≡ actors → made.past ≡ first_record limits) }
         ensures slots { IfOk result (λ made. made.slots ≡ slots) }
+        ensures generations { IfOk result (λ made. made.generations ≡ 0) }
+        ensures room { IfOk result (λ made. made.room ≡ 0) }
         ensures only_memory { IsOkUnless result Memory }
     {
         Ok(Chronicle {
@@ -105,6 +107,8 @@ impl Chronicle {
         ensures slots { self.new.slots ≡ self.old.slots }
         ensures generations { OnOk result (generations ≤ self.new.generations) }
         ensures room { OnOk result (0 < self.new.room) }
+        ensures more_generations { self.old.generations ≤ self.new.generations }
+        ensures more { self.old.room ≤ self.new.room }
         ensures only_memory { IsOkUnless result Memory }
     {
         if self.is_ready && generations <= self.closings.generations() {
@@ -121,6 +125,8 @@ impl Chronicle {
         ensures slots { self.new.slots ≡ self.old.slots }
         ensures generations { OnOk result (generations ≤ self.new.generations) }
         ensures room { OnOk result (0 < self.new.room) }
+        ensures more_generations { self.old.generations ≤ self.new.generations }
+        ensures more { self.old.room ≤ self.new.room }
         ensures only_memory { IsOkUnless result Memory }
     {
         self.is_ready = false;
@@ -136,7 +142,9 @@ impl Chronicle {
     pub fn reserve(&mut self, steps: usize) -> Result<(), Refusal>
         ensures past { self.new.past ≡ self.old.past }
         ensures slots { self.new.slots ≡ self.old.slots }
+        ensures generations { self.new.generations ≡ self.old.generations }
         ensures room { OnOk result (steps ≤ self.new.room) }
+        ensures more { self.old.room ≤ self.new.room }
         ensures only_memory { IsOkUnless result Memory }
     {
         self.is_ready = false;
@@ -152,6 +160,8 @@ impl Chronicle {
         requires can { CanBegin self.old actor id }
         ensures past { self.new.past ≡ noted_begin self.old.past step id actor call opens }
         ensures slots { self.new.slots ≡ self.old.slots }
+        ensures generations { self.new.generations ≡ self.old.generations }
+        ensures room { self.old.room ≤ self.new.room + 1 }
     {
         self.is_ready = false;
         self.ordered.begin();
@@ -172,6 +182,8 @@ impl Chronicle {
         requires can { CanGo self.old step actor progress.now }
         ensures past { self.new.past ≡ noted_progress self.old.past step actor progress.now }
         ensures slots { self.new.slots ≡ self.old.slots }
+        ensures generations { self.new.generations ≡ self.old.generations }
+        ensures room { self.old.room ≤ self.new.room + 1 }
     {
         follow(&mut self.moments, actor, &self.commits, step, progress);
         if let Some(main) = progress.committed {
@@ -192,6 +204,8 @@ impl Chronicle {
         requires can { CanEnd self.old actor entrant.id }
         ensures past { self.new.past ≡ noted_end self.old.past actor entrant reply }
         ensures slots { self.new.slots ≡ self.old.slots }
+        ensures generations { self.new.generations ≡ self.old.generations }
+        ensures room { self.old.room ≤ self.new.room + 1 }
     {
         self.is_ready = false;
         let place = self.place_at_end(actor, entrant, &reply);
@@ -251,6 +265,8 @@ impl Chronicle {
           places = self.old.past.places ++ entered self.old.past step (Some main);
         } }
         ensures slots { self.new.slots ≡ self.old.slots }
+        ensures generations { self.new.generations ≡ self.old.generations }
+        ensures room { self.old.room ≤ self.new.room + 1 }
     {
         self.is_ready = false;
         let place = self.place_at_commit(step, main);
@@ -268,6 +284,8 @@ impl Chronicle {
           places = self.old.past.places ++ placed_by step (Some carried);
         } }
         ensures slots { self.new.slots ≡ self.old.slots }
+        ensures generations { self.new.generations ≡ self.old.generations }
+        ensures room { self.old.room ≤ self.new.room + 1 }
     {
         self.is_ready = false;
         self.closings.close(carried.generation, step);
@@ -281,6 +299,8 @@ impl Chronicle {
         requires can { CanPublish self.old (record { main = main; changer = changer }) }
         ensures past { self.new.past ≡ record self.old.past { published = record { main = main; changer = changer } ∷ self.old.past.published } }
         ensures slots { self.new.slots ≡ self.old.slots }
+        ensures generations { self.new.generations ≡ self.old.generations }
+        ensures room { self.new.room ≡ self.old.room }
     {
         self.publications.note(Publication { main, changer });
     }

@@ -37,6 +37,7 @@ impl Closings {
     #[tactic(auto, using(crate::proofs::ClosingSteps::none_closed))]
     pub fn new(alloc: Global) -> Closings
         ensures closings { result.closings ≡ [] }
+        ensures generations { result.generations ≡ 0 }
     {
         Closings {
             steps: Vec::new(alloc),
@@ -48,6 +49,7 @@ impl Closings {
     pub fn room_for(&mut self, generations: u64) -> Result<(), AllocError>
         ensures closings { self.new.closings ≡ self.old.closings }
         ensures generations { OnOk result (generations ≤ self.new.generations) }
+        ensures more { self.old.generations ≤ self.new.generations }
     {
         lengthen(&mut self.steps, generations as usize)
     }
@@ -92,6 +94,7 @@ impl Closings {
 fn lengthen(steps: &mut Vec<Option<u64>>, count: usize) -> Result<(), AllocError>
     ensures same { (other : ℕ) → slice_index_or steps.new.items other None ≡ slice_index_or steps.old.items other None }
     ensures length { OnOk result (count ≤ length steps.new.items) }
+    ensures more { length steps.old.items ≤ length steps.new.items }
 {
     if steps.len() < count {
         // The last one alone, so that memory grows by more than is asked for.

@@ -1,6 +1,7 @@
 //! Who stands in the legal order.
 
-ghost use Rattle.std.specs.Prelude.{◌≡◌, ◌+◌, ◌<◌, ◌≤◌, ◌++◌, ◌∷◌, [], ◌==◌, All, IfOk, IfSome, OnOk, IsOkUnless, length, option_to_list, slice_index_or, slice_set, vec_len, false, true};
+ghost use Rattle.std.specs.Prelude.{◌≡◌, ◌+◌, ◌<◌, ◌≤◌, ◌++◌, ◌∷◌, [], ◌==◌, All, IfOk, IfSome, OnOk, IsOkUnless, length, option_to_list};
+ghost use Rattle.std.specs.Prelude.{slice_index_or, slice_set, vec_len, vec_capacity, false, true};
 ghost use Rattle.std.specs.List.{list_any};
 ghost use Rattle.ctrie_base.specs.declared.refusals.Refusal.TheVariants.{Memory};
 ghost use Rattle.places.specs.Places.{ids_by_place};
@@ -59,6 +60,9 @@ impl Ordered {
         ensures to_begin { OnOk result (0 < self.new.room_to_begin) }
         ensures to_add { OnOk result (0 < self.new.room_to_add) }
         ensures to_close { OnOk result (0 < self.new.room_to_close) }
+        ensures more_to_begin { self.old.room_to_begin ≤ self.new.room_to_begin }
+        ensures more_to_add { self.old.room_to_add ≤ self.new.room_to_add }
+        ensures more_to_close { self.old.room_to_close ≤ self.new.room_to_close }
     {
         self.placed.reserve(1)?;
         self.places.room()
@@ -74,6 +78,9 @@ impl Ordered {
         ensures to_begin { OnOk result (count ≤ self.new.room_to_begin) }
         ensures to_add { OnOk result (count ≤ self.new.room_to_add) }
         ensures to_close { OnOk result (count ≤ self.new.room_to_close) }
+        ensures more_to_begin { self.old.room_to_begin ≤ self.new.room_to_begin }
+        ensures more_to_add { self.old.room_to_add ≤ self.new.room_to_add }
+        ensures more_to_close { self.old.room_to_close ≤ self.new.room_to_close }
     {
         touch_room(&mut self.placed, count, false)?;
         self.places.reserve(count)
@@ -85,7 +92,9 @@ impl Ordered {
         ensures places { self.new.places ≡ self.old.places }
         ensures closings { self.new.closings ≡ self.old.closings }
         ensures ids { self.new.ids ≡ self.old.ids + 1 }
-        ensures room_to_add { self.new.room_to_add ≡ self.old.room_to_add }
+        ensures to_begin { self.old.room_to_begin ≡ self.new.room_to_begin + 1 }
+        ensures to_add { self.new.room_to_add ≡ self.old.room_to_add }
+        ensures to_close { self.new.room_to_close ≡ self.old.room_to_close }
     {
         self.placed.push_reserved(false);
     }
@@ -98,7 +107,9 @@ impl Ordered {
         ensures closings { self.new.closings ≡ self.old.closings ++ step ∷ [] }
         ensures places { self.new.places ≡ self.old.places }
         ensures ids { self.new.ids ≡ self.old.ids }
-        ensures room_to_add { self.new.room_to_add ≡ self.old.room_to_add }
+        ensures to_begin { self.new.room_to_begin ≡ self.old.room_to_begin }
+        ensures to_add { self.new.room_to_add ≡ self.old.room_to_add }
+        ensures to_close { self.old.room_to_close ≡ self.new.room_to_close + 1 }
     {
         self.places.close(step);
     }
@@ -110,6 +121,9 @@ impl Ordered {
         ensures places { self.new.places ≡ self.old.places ++ at ∷ [] }
         ensures closings { self.new.closings ≡ self.old.closings }
         ensures ids { self.new.ids ≡ self.old.ids }
+        ensures to_begin { self.new.room_to_begin ≡ self.old.room_to_begin }
+        ensures to_add { self.old.room_to_add ≤ self.new.room_to_add + 1 }
+        ensures to_close { self.new.room_to_close ≡ self.old.room_to_close }
     {
         mark(&mut self.placed, at.id as usize);
         self.places.add(at);
@@ -122,6 +136,9 @@ impl Ordered {
         ensures places { self.new.places ≡ self.old.places ++ option_to_list place }
         ensures closings { self.new.closings ≡ self.old.closings }
         ensures ids { self.new.ids ≡ self.old.ids }
+        ensures to_begin { self.new.room_to_begin ≡ self.old.room_to_begin }
+        ensures to_add { self.old.room_to_add ≤ self.new.room_to_add + 1 }
+        ensures to_close { self.new.room_to_close ≡ self.old.room_to_close }
     {
         if let Some(at) = place {
             self.add(at);
@@ -154,7 +171,8 @@ impl Ordered {
 /// Marks this id.
 fn mark(placed: &mut Vec<bool>, id: usize)
     requires { id < vec_len placed.old }
-    ensures { placed.new.items ≡ slice_set placed.old.items id true }
+    ensures items { placed.new.items ≡ slice_set placed.old.items id true }
+    ensures capacity { vec_capacity placed.new ≡ vec_capacity placed.old }
 {
     placed[id] = true;
 }

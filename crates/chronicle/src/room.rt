@@ -9,6 +9,7 @@ use std::alloc::AllocError;
 pub fn touch_room(events: &mut Vec<Event>, count: usize) -> Result<(), AllocError>
     ensures same { events.new.items ≡ events.old.items }
     ensures room { OnOk result (vec_len events.new + count ≤ vec_capacity events.new) }
+    ensures capacity { vec_capacity events.old ≤ vec_capacity events.new }
 {
     let length = events.len();
     let Some(all) = length.checked_add(count) else {

@@ -27,11 +27,11 @@ pub enum Refusal {
     NoActor = 7,
     /// The actor runs no operation. Nothing changes.
     Idle = 8,
-    /// The machine has taken all of its 2^40 steps. Nothing changes.
+    /// The machine has taken all its steps: this one isn't taken.
     Spent = 9,
     /// No slot was free. The operation ends without effect.
     NoSlots = 10,
-    /// A growth was really refused. Nothing changes.
+    /// A growth was really refused. The step that wanted it, or the call without steps, changes nothing.
     Memory = 11,
     /// A limit, or a runner's number of seats, is out of range. Nothing is made.
     BadLimits = 12,
@@ -39,7 +39,7 @@ pub enum Refusal {
     BadLine = 20,
     /// A word that must be a number isn't one in range. Nothing is run or written.
     BadNumber = 21,
-    /// A header line is missing, out of place or out of range. Nothing is run or written.
+    /// A line of the header has a fault, or is missing. Nothing is run or written.
     BadHeader = 22,
     /// There are more lines than the limit. Nothing is run or written.
     TooLong = 23,

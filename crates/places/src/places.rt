@@ -123,7 +123,8 @@ impl Places {
         ensures closings { self.new.closings ≡ self.old.closings ++ step ∷ [] }
         ensures places { self.new.places ≡ self.old.places }
         ensures ticks { self.new.ticks ≡ self.old.ticks }
-        ensures room { self.new.room_to_add ≡ self.old.room_to_add }
+        ensures to_add { self.new.room_to_add ≡ self.old.room_to_add }
+        ensures to_close { self.old.room_to_close ≡ self.new.room_to_close + 1 }
     {
         self.closings.push_reserved(step);
         self.closed = step;
@@ -135,7 +136,8 @@ impl Places {
         ensures places { self.new.places ≡ self.old.places ++ at ∷ [] }
         ensures closings { self.new.closings ≡ self.old.closings }
         ensures ticks { self.new.ticks ≡ self.old.ticks + 1 }
-        ensures room { self.new.room_to_close ≡ self.old.room_to_close }
+        ensures to_add { self.old.room_to_add ≤ self.new.room_to_add + 1 }
+        ensures to_close { self.new.room_to_close ≡ self.old.room_to_close }
     {
         if at.step <= self.closed {
             self.stray.push(at, &mut self.ticks);

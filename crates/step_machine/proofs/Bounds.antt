@@ -1,14 +1,20 @@
--- A core of a machine's bounds is refused for want of memory alone.
-use Rattle.std.proofs.Common.{◌≡◌, sym, subst, inl, inr}
+-- A core of a machine's bounds is refused for want of memory alone, and takes 2^40 steps at most.
+use Rattle.std.proofs.Common.{◌≡◌, ◌≤◌, ◌^◌, ℕ, List, ap, arith, sym, subst, inl, inr}
 use Rattle.ctrie_base.specs.declared.refusals.Refusal.{Refusal}
 use Rattle.machine_model.specs.declared.steps.Bounds.{Bounds}
 use Rattle.machine_model.specs.declared.steps.Limits.{Limits}
+use Rattle.machine_model.specs.declared.steps.Step.{Step}
 use Rattle.machine_model.specs.Limits.{AreLimits, bounded}
-use Rattle.machine_model.specs.Machine.{AreBounds}
+use Rattle.machine_model.specs.Machine.{AreBounds, run}
 use Rattle.machine_model.specs.Refusing.{RefusesLimits}
+use Rattle.machine_model.proofs.Along.{limits_along}
 use Rattle.step_machine.specs.Beneath.proof_core.specs.Bounds.{RefusesBounds}
 use Rattle.proof_runs.proofs.Bounds.{in_bounds}
 
 pub refuses : (limits : Limits) (bounds : Bounds) (refusal : Refusal) → bounds ≡ bounded limits → AreLimits limits → RefusesBounds bounds refusal → RefusesLimits limits refusal
 refuses limits bounds refusal is ok (inl (bad, told)) = absurd (bad (subst AreBounds (sym is) (in_bounds limits ok)))
 refuses limits bounds refusal is ok (inr (fits, told)) = inr (ok, told)
+
+-- no more steps than a machine of these limits may take
+pub most_taken : (limits : Limits) (steps : List Step) (n : ℕ) → n ≤ (run (bounded limits) steps).limits.steps → n ≤ 2 ^ 40
+most_taken limits steps n most = omega (arith, most, ap (λ (l : Bounds). l.steps) (limits_along (bounded limits) steps))

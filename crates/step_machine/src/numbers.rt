@@ -1,6 +1,6 @@
 //! What is counted of a machine.
 
-ghost use Rattle.std.specs.Prelude.{◌≡◌, ◌+◌, length};
+ghost use Rattle.std.specs.Prelude.{◌≡◌, ◌+◌, ◌^◌, ◌≤◌, length};
 ghost use Rattle.step_machine.specs.Beneath.slot_arena.specs.Heaps.{in_use};
 ghost use Rattle.machine_model.specs.Machine.{handles_taken};
 ghost use Rattle.proof_runs.specs.Machines.{state_of};
@@ -8,9 +8,10 @@ ghost use Rattle.proof_runs.specs.Machines.{state_of};
 use crate::machine::Machine;
 
 impl Machine {
-    /// How many handles are open or reserved, at most 256.
+    /// How many handles are open or reserved.
     pub fn handles_taken(&self) -> u32
-        ensures { result ≡ handles_taken (state_of self.now) }
+        ensures number { result ≡ handles_taken (state_of self.now) }
+        ensures few { result ≤ 256 }
     {
         self.body().handles_taken()
     }
@@ -46,9 +47,10 @@ impl Machine {
         self.body().epoch()
     }
 
-    /// How many steps were taken, at most 2^40.
+    /// How many steps were taken.
     pub fn steps_taken(&self) -> u64
-        ensures { result ≡ (state_of self.now).steps }
+        ensures number { result ≡ (state_of self.now).steps }
+        ensures most { result ≤ 2 ^ 40 }
     {
         self.body().steps_taken()
     }
