@@ -132,7 +132,7 @@ static inline const char *ctrie_error(uint32_t code) {
     case CTRIE_YES: return "yes";
     case CTRIE_NO_HANDLE: return "the handle isn't open";
     case CTRIE_READ_ONLY: return "the map is read-only";
-    case CTRIE_HANDLES_FULL: return "no handle is free for the copy";
+    case CTRIE_HANDLES_FULL: return "no handle is free";
     case CTRIE_CROWDED: return "32 other keys have the key's hash";
     case CTRIE_FULL: return "no slot is free";
     case CTRIE_BAD_SIZES: return "the number of slots is out of range";

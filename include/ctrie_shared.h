@@ -48,7 +48,7 @@ struct ctrie_count {
 
 enum ctrie_shared_code {
     CTRIE_BUSY = 14,        /* a call that tries: another seat had a shard that it is about, and nothing was done */
-    CTRIE_NO_SEATS = 15     /* no seat is left to be handed out, or none is to be made */
+    CTRIE_NO_SEATS = 15     /* no seat is left to be handed out; or none is to be made, or more than 255 */
 };
 
 /* ---- the calls that try: each answers CTRIE_BUSY where another seat had a shard that it is about, and nothing is done
@@ -162,7 +162,7 @@ static inline const char *ctrie_shared_error(uint32_t code) {
     case CTRIE_NO_MAP: return "no seat is held";
     case CTRIE_HAS_MAP: return "a seat is held already";
     case CTRIE_BUSY: return "another seat has the shard";
-    case CTRIE_NO_SEATS: return "no seat is left";
+    case CTRIE_NO_SEATS: return "no seat is left, or the number of seats is out of range";
     default: return ctrie_error(code);
     }
 }
@@ -286,9 +286,9 @@ static inline uint32_t ctrie_shared_has_room(struct ctrie_seat *seat) {
 }
 
 /* YES where so many calls about the shard have been made, as far as the seat sees then; else NO, and NO of a shard that
-   isn't there. Who was told the number of another seat's call, by ctrie_shared_last, and hears YES of it, calls behind it
-   from then on, whichever shards these calls are about. That YES comes of each call that was made is promised as little
-   as that a try comes in. */
+   isn't there, for which it looks at the first one. Who was told the number of another seat's call, by ctrie_shared_last,
+   and hears YES of it, calls behind it from then on, whichever shards these calls are about. That YES comes of each call
+   that was made is promised as little as that a try comes in. */
 CTRIE_MUST_USE
 static inline uint32_t ctrie_shared_hear(struct ctrie_seat *seat, struct ctrie_count count) {
     CTRIE_SHARED_WAIT(ctrie_shared_try_hear(seat, &count));

@@ -16,7 +16,7 @@ sets several keys, all or none.
 What is otherwise than of a dictionary:
 
 - A key or value that is set is refused with OverflowError where it is out of range, with TypeError where it is no whole number. What is
-  looked up may be anything: what is equal to no key has no value.
+  looked up may be anything: what is equal to no key has no value, and a complex number never has one.
 - A call that the map refuses raises an `Error` and changes nothing, but that `update` keeps what it has set before.
 - Keys are listed in ascending order, and `popitem` takes any. A map may be changed while it is listed: `__iter__` tells what is seen.
 - `len`, and each 4,096 entries of a listing, take a walk over the whole map; but those of `scan` don't.
@@ -196,13 +196,10 @@ def _number(value: int) -> int:
 
 
 def _key(wanted: Any) -> Optional[int]:
-    """Returns the key that is equal to what is looked up, as 1 is to 1.0, if one is."""
+    """Returns the key that is equal to what is looked up, as 1 is to 1.0, if there is one and the two can be compared by size: a complex
+    number can't."""
     try:
-        number = operator.index(wanted)
-    except TypeError:
-        number = wanted
-    try:
-        return int(number) if 0 <= number < 2**64 and int(number) == number else None
+        return int(wanted) if 0 <= wanted < 2**64 and int(wanted) == wanted else None
     except (TypeError, ValueError, ArithmeticError):
         return None
 
@@ -357,7 +354,9 @@ class _Handle(MutableMapping[int, int]):
         """Returns the value that a call on a key tells, if it tells one."""
         key = _key(wanted)
         if key is None:
-            self._call("is_writable")  # A closed map refuses it, as it refuses a look for a key.
+            # As a look for a key a closed map refuses it, and as a removal a frozen one.
+            if not self._call("is_writable") and name == "remove":
+                raise ReadOnly(ReadOnly.__doc__)
             return None
         return self._told(name, key)
 

@@ -1,6 +1,7 @@
 """Checks python/ctrie.py beside Python's dictionaries, how it refuses, and what becomes of maps where there are threads. `c` runs it."""
 import copy
 import decimal
+import fractions
 import gc
 import random
 import sys
@@ -18,6 +19,13 @@ def on_another_thread(call):
     thread = threading.Thread(target=call)
     thread.start()
     thread.join()
+
+
+class Index:
+    """What stands for the number 3 and is equal to none."""
+
+    def __index__(self):
+        return 3
 
 
 class Calls(unittest.TestCase):
@@ -53,7 +61,7 @@ class Calls(unittest.TestCase):
         """Looks up what may be equal to a key, and mostly is to none."""
         key = self.random.choice((
             -1, 2**64, "3", None, (3,), 3.0, 3.5, float("inf"), float("nan"), 2.0**64, 3j, decimal.Decimal(3), decimal.Decimal("NaN"),
-            decimal.Decimal("1E+999999999"),
+            decimal.Decimal("1E+999999999"), True, fractions.Fraction(3), Index(),
         ))
         for call in (
             lambda it: it[key], lambda it: it.get(key), lambda it: it.get(key, 6), lambda it: key in it,
@@ -136,7 +144,8 @@ class Refusals(unittest.TestCase):
             with one.freeze() as frozen:
                 for call in (
                     frozen.clear, lambda: frozen.update({1: 1}), lambda: frozen.pop(1), frozen.popitem, lambda: frozen.put_all({1: 1}),
-                    lambda: frozen.restore(one),
+                    lambda: frozen.restore(one), lambda: frozen.pop(1, None), lambda: frozen.pop("1", None),
+                    lambda: frozen.__delitem__("1"),
                 ):
                     self.assertRaises(ctrie.ReadOnly, call)
             for call in (lambda: frozen[1], lambda: one.restore(frozen), lambda: one.diff(frozen), lambda: frozen.diff(one)):
@@ -175,6 +184,8 @@ class Refusals(unittest.TestCase):
                     self.assertRaises(refusal, call)
             one[LARGEST] = LARGEST
             self.assertEqual(dict(one), {LARGEST: LARGEST})
+            one[3] = 4
+            self.assertEqual([one.get(it) for it in (3, 3.0, 3 + 0j)], [4, 4, None])
         for call in (lambda: one.get("1"), lambda: -1 in one, lambda: one.pop("1", 2)):
             self.assertRaises(ctrie.Closed, call)
         self.assertRaises(TypeError, copy.copy, one)

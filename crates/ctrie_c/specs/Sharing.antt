@@ -1,5 +1,5 @@
 -- What a C program holds of a shared map: a seat with a share of it; and what the calls do.
-use Rattle.std.specs.Prelude.{◌≡◌, ◌<◌, ◌⊎◌, ℕ, List, [], ◌∷◌, ◌++◌, length, take, drop, map, min, Bool, Option, Some, None, Result, Ok, Err, IfOk, IfErr}
+use Rattle.std.specs.Prelude.{◌≡◌, ◌≢◌, ◌<◌, ◌⊎◌, ℕ, List, [], ◌∷◌, ◌++◌, length, take, drop, map, min, Bool, Option, Some, None, Result, Ok, Err, IfOk, IfErr}
 use Rattle.ctrie_base.specs.declared.hashes.HashKind.{HashKind}
 use Rattle.shared_map.specs.Beneath.ctrie_map.specs.declared.errors.MapError.{MapError}
 use Rattle.shared_map.specs.Beneath.ctrie_map.specs.declared.errors.MapError.TheVariants.{Memory}
@@ -132,5 +132,6 @@ abbrev pub Splits : ℕ → Option Sharing → Option Sharing → Option Sharing
 Splits code held (Some other) later got = (code ≡ has_map) × (later ≡ held) × (got ≡ Some other)
 Splits code None None later got = (code ≡ no_map) × (later ≡ None) × (got ≡ None)
 Splits code (Some old) None (Some new) (Some other) = (code ≡ 0) × HasHandedOut old new other
-Splits code (Some old) None (Some new) None = (new ≡ old) × (((code ≡ no_seat) × (old.spare ≡ [])) ⊎ ((code < code_limit) × (done_told code ≡ Err Memory)))
+Splits code (Some old) None (Some new) None =
+    (new ≡ old) × (((code ≡ no_seat) × (old.spare ≡ [])) ⊎ ((old.spare ≢ []) × (code < code_limit) × (done_told code ≡ Err Memory)))
 Splits code (Some old) None None got = ⊥

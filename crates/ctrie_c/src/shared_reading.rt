@@ -215,7 +215,7 @@ pub extern "C" fn ctrie_shared_last(alloc: Global, held: &mut HeldSeat, last: &m
     }
 }
 
-/// Tells whether so many calls about a shard have been made. What the seat calls next stands behind all of them.
+/// As `SharedMap::try_hear`: whether so many calls about a shard stand in the log that the seat finds.
 #[tactic(auto, using(crate::proofs::Tries::heard_so))]
 #[unsafe(no_mangle)]
 pub extern "C" fn ctrie_shared_try_hear(alloc: Global, held: &mut HeldSeat, count: &Count) -> u32

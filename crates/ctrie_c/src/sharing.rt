@@ -1,6 +1,6 @@
 //! Seats at a shared map, each with a share of it.
 
-ghost use Rattle.std.specs.Prelude.{◌≡◌, [], IfSome, IfNone, IfOk, OnErr};
+ghost use Rattle.std.specs.Prelude.{◌≡◌, ◌≢◌, [], IfSome, IfNone, IfOk, OnErr};
 ghost use Rattle.ctrie_c.specs.Sharing.{Asks, HasHandedOut, Hears};
 
 use shared_map::{Ask, MapSeat, ShardCount, SharedMap, Told};
@@ -43,7 +43,7 @@ impl SharingSeat {
         self.map.try_ask(&mut self.seat, ask)
     }
 
-    /// Tells whether so many calls about a shard have been made, if the shard is not taken.
+    /// As `SharedMap::try_hear`.
     pub(crate) fn try_hear(&mut self, count: ShardCount) -> Option<bool>
         ensures heard { IfSome result (λ heard. Hears count heard self.old self.new) }
         ensures busy { IfNone result (self.new ≡ self.old) }
@@ -55,11 +55,14 @@ impl SharingSeat {
     pub(crate) fn hand_out(&mut self, alloc: Global) -> Result<Option<Box<SharingSeat>>, AllocError>
         ensures handed { IfOk result (λ other. IfSome other (λ seat. HasHandedOut self.old self.new seat.value)) }
         ensures none { IfOk result (λ other. IfNone other ((self.old.spare ≡ []) × (self.new ≡ self.old))) }
-        ensures refused { OnErr result (self.new ≡ self.old) }
+        ensures refused { OnErr result ((self.old.spare ≢ []) × (self.new ≡ self.old)) }
     {
-        let map = Arc::try_clone(&self.map)?;
         let Some(seat) = self.spare.pop() else {
             return Ok(None);
+        };
+        let Ok(map) = Arc::try_clone(&self.map) else {
+            let _ = self.spare.push(seat);
+            return Err(AllocError);
         };
         let spare = Vec::new(alloc);
         match Box::new(alloc, SharingSeat { map, seat, spare }) {

@@ -27,9 +27,11 @@ use Rattle.ctrie_map.specs.Maps.{IsWhole, MapState, Stays, handles_of, map_with}
 use Rattle.ctrie_map.specs.Names.{AreNamesOf, IsNext, NameTable, handles_under, how_many, name_at, shown_by, with_given, with_name}
 use Rattle.ctrie_map.specs.Performing.{IsOnMap, Performs, PerformsBy, copy_call, effect_among}
 use Rattle.ctrie_map.proofs.Changing.{says}
+use Rattle.ctrie_map.proofs.Denying.{change_allowed, close_allowed, copy_allowed}
 use Rattle.ctrie_map.proofs.Named.{as_many, shows, state_of}
 use Rattle.ctrie_map.proofs.Opened.{IsOpened, is_opened}
 use Rattle.ctrie_map.proofs.Renaming.{change_named, change_shows, close_named, close_shows, open_named, open_shows}
+use Rattle.ctrie_map.proofs.Unnamed.{not_full}
 
 -- ---- calls that may change a map
 
@@ -183,12 +185,8 @@ module _ (before : State) (names : NameTable) (whole : IsWhole (map_with before 
             ∙ ap (λ b. denial_by b false (map.get (handles_of now) (handle_of c)) len) alike.changes
             ∙ ap (λ o. denial_by true false o len) (ap (map.get (handles_of now)) is ∙ shown) ∙ ap (λ a. denial_by true false (Some (state_of a m)) len) writable
 
-        core_allows : core_denial before (on_handle name.core c) ≡ None
-        core_allows =
-            let len = map.len world in
-            let k = on_handle name.core c in
-            ap (λ b. denial_by (needs_writable k) b (map.get world (handle_of k)) len) alike.opens_none
-            ∙ ap (λ b. denial_by b false (map.get world (handle_of k)) len) alike.writes ∙ ap (λ o. denial_by true false o len) (ap (map.get world) alike.on ∙ there)
+        pub core_changes : core_denial before (on_handle name.core c) ≡ None
+        core_changes = change_allowed before name.core m there (on_handle name.core c) alike.on alike.writes alike.opens_none
 
         by_effect : (answer : Reply) (opens : Option ℕ) (next : HandleMap) (after : State) →
             effect hash world (on_handle name.core c) opens ≡ Some (answer, next) → Turns before next after →
@@ -219,11 +217,11 @@ module _ (before : State) (names : NameTable) (whole : IsWhole (map_with before 
             record { named = got.0; performs = ((none_denied, life), (p.0, got.1.0, got.1.1, (p.3.0, refl, got.1.2))) }
 
         by_error : (why : MapError) (after : State) → Carries (Err why) before (on_handle name.core c) after → Comes c (Err why) after names
-        by_error error.WornOut after p = record { named = still_named after p.2; performs = (none_denied, p.1, same_so after p.2) }
-        by_error why after p = cc (sym core_allows ∙ p.0)
+        by_error why after p =
+            subst (λ w. Comes c (Err w) after names) (sym p.0) (record { named = still_named after p.2; performs = (none_denied, p.1, same_so after p.2) })
 
         pub changed : (result : Result Reply MapError) (after : State) → Carries result before (on_handle name.core c) after → Comes c result after names
-        changed (Ok answer) after p = by_answer answer after p.1 p.2
+        changed (Ok answer) after p = by_answer answer after p.0 p.1
         changed (Err why) after p = by_error why after p
 
     -- ---- a copy
@@ -268,68 +266,76 @@ module _ (before : State) (names : NameTable) (whole : IsWhole (map_with before 
         subst (RunsOut before the_actor) (sym (core_call_so copy (on_copy h access) ∙ at_core access)) out,
       )
 
-      pub copy_refused : (IsNumber : ℕ → Type 0) (why : MapError) (after : State) → Carries (Err why) before (call.Snapshot name.core) after → ComesBy IsNumber copy (Err why) after names
-      copy_refused IsNumber error.WornOut after p = record { named = still_named after p.2; performs = (same_denial ∙ p.0, p.1, same_so after p.2) }
-      copy_refused IsNumber why after p = record { named = still_named after p.1; performs = (same_denial ∙ p.0, same_so after p.1) }
+      -- a number is free
+      module _ (number : ℕ) (low : number < handle_limit) (free : name_at names number ≡ None) where
+        pub core_copies : core_denial before (call.Snapshot name.core) ≡ None
+        core_copies = copy_allowed before name.core m there (not_full world names whole.named number low free)
 
-      -- what the core says of a copy that has an effect
-      opened_core : (answer : Reply) (opens : Option ℕ) (next : HandleMap) → copying world name.core opens Writable ≡ Some (answer, next) →
-          IsOpened world opens Writable (writable_map_of world name.core) answer next
-      opened_core answer opens next e = is_opened world opens Writable answer next (writable_map_of world name.core) e
+        copy_begun : denial_in now copy ≡ None
+        copy_begun = same_denial ∙ core_copies
 
-      -- a reply that opens nothing finds no slot
-      pub unopened : (IsNumber : ℕ → Type 0) (answer : Reply) (after : State) → ((core : ℕ) → answer ≢ Opened core) → Carries (Ok answer) before (call.Snapshot name.core) after →
-          ComesBy IsNumber copy (Ok answer) after names
-      unopened IsNumber NoSlots after none (allowed, life, (tight, out, turns)) =
-          record { named = named_so after turns; performs = ((same_denial ∙ allowed, life), (lacks_copy tight out, stays_so after turns)) }
-      unopened IsNumber answer after none p = let o = opened_core answer p.2.0 p.2.1 p.2.2 in absurd (none o.copy o.told)
+        pub copy_refused : (IsNumber : ℕ → Type 0) (why : MapError) (after : State) → Carries (Err why) before (call.Snapshot name.core) after → ComesBy IsNumber copy (Err why) after names
+        copy_refused IsNumber why after p =
+            subst (λ w. ComesBy IsNumber copy (Err w) after names) (sym p.0) (record { named = still_named after p.2; performs = (copy_begun, p.1, same_so after p.2) })
 
-      module _ (IsNumber : ℕ → Type 0) (number : ℕ) (low : number < handle_limit) (free : name_at names number ≡ None) (is_number : IsNumber number) where
-        unshown : map.get (handles_of now) number ≡ None
-        unshown = shows world names number ∙ ap (shown_by world) free
+        -- what the core says of a copy that has an effect
+        opened_core : (answer : Reply) (opens : Option ℕ) (next : HandleMap) → copying world name.core opens Writable ≡ Some (answer, next) →
+            IsOpened world opens Writable (writable_map_of world name.core) answer next
+        opened_core answer opens next e = is_opened world opens Writable answer next (writable_map_of world name.core) e
 
-        effect_so : (a : Access) → effect_among (hash_of before.limits.hash) (handles_of now) (copy_call a h) (Some number)
-            ≡ option_and_then (λ n. if map.contains_key (handles_of now) number then None else Some (Opened number, naming (handles_of now) number a n))
-            (option_and_then (λ s. Some s.pairs) (map.get (handles_of now) h))
-        effect_so Writable = refl
-        effect_so ReadOnly = refl
+        -- a reply that opens nothing finds no slot
+        pub unopened : (IsNumber : ℕ → Type 0) (answer : Reply) (after : State) → ((core : ℕ) → answer ≢ Opened core) → Carries (Ok answer) before (call.Snapshot name.core) after →
+            ComesBy IsNumber copy (Ok answer) after names
+        unopened IsNumber NoSlots after none (life, (tight, out, turns)) =
+            record { named = named_so after turns; performs = ((copy_begun, life), (lacks_copy tight out, stays_so after turns)) }
+        unopened IsNumber answer after none p = let o = opened_core answer p.1.0 p.1.1 p.1.2 in absurd (none o.copy o.told)
 
-        effect_is : effect_among (hash_of before.limits.hash) (handles_of now) copy (Some number) ≡ Some (Opened number, naming (handles_of now) number access m)
-        effect_is =
-            effect_so access
-            ∙ ap (λ o. option_and_then (λ n. if map.contains_key (handles_of now) number then None else Some (Opened number, naming (handles_of now) number access n))
-            (option_and_then (λ s. Some s.pairs) o)) shown
-            ∙ ap (λ o. if is_some o then None else Some (Opened number, naming (handles_of now) number access m)) unshown
+        module _ (IsNumber : ℕ → Type 0) (is_number : IsNumber number) where
+          unshown : map.get (handles_of now) number ≡ None
+          unshown = shows world names number ∙ ap (shown_by world) free
 
-        pub opened : (core : ℕ) (after : State) → Carries (Ok (Opened core)) before (call.Snapshot name.core) after →
-            ComesBy IsNumber copy (Ok (Opened number)) after (with_given names number (record { core = core; access = access }))
-        opened core after p =
-            let (allowed, life, (opens, last, e, turns)) = p in
-            let o = opened_core (Opened core) opens last e in
-            let same : core ≡ o.copy = cc o.told in
-            let fresh : map.get world core ≡ None = ap (map.get world) same ∙ o.new in
-            let is_m : o.m ≡ m = same_Some o.m m (sym o.at ∙ ap (λ s. option_and_then (λ s. with_access Writable s.access s.pairs) s) there) in
-            let to : world_of after ≡ naming world core Writable m =
-            turns.1 ∙ o.there ∙ ap (λ k. naming world k Writable o.m) (sym same) ∙ ap (naming world core Writable) is_m in
-            let new : Name = record { core = core; access = access } in
-            record {
-              named = subst (λ w. AreNamesOf w (with_given names number new)) (sym to) (open_named world names whole.named number low free new fresh m);
-              performs = (
-                (same_denial ∙ allowed, life),
-                (
-                  is_number,
+          effect_so : (a : Access) → effect_among (hash_of before.limits.hash) (handles_of now) (copy_call a h) (Some number)
+              ≡ option_and_then (λ n. if map.contains_key (handles_of now) number then None else Some (Opened number, naming (handles_of now) number a n))
+              (option_and_then (λ s. Some s.pairs) (map.get (handles_of now) h))
+          effect_so Writable = refl
+          effect_so ReadOnly = refl
+
+          effect_is : effect_among (hash_of before.limits.hash) (handles_of now) copy (Some number) ≡ Some (Opened number, naming (handles_of now) number access m)
+          effect_is =
+              effect_so access
+              ∙ ap (λ o. option_and_then (λ n. if map.contains_key (handles_of now) number then None else Some (Opened number, naming (handles_of now) number access n))
+              (option_and_then (λ s. Some s.pairs) o)) shown
+              ∙ ap (λ o. if is_some o then None else Some (Opened number, naming (handles_of now) number access m)) unshown
+
+          pub opened : (core : ℕ) (after : State) → Carries (Ok (Opened core)) before (call.Snapshot name.core) after →
+              ComesBy IsNumber copy (Ok (Opened number)) after (with_given names number (record { core = core; access = access }))
+          opened core after p =
+              let (life, (opens, last, e, turns)) = p in
+              let o = opened_core (Opened core) opens last e in
+              let same : core ≡ o.copy = cc o.told in
+              let fresh : map.get world core ≡ None = ap (map.get world) same ∙ o.new in
+              let is_m : o.m ≡ m = same_Some o.m m (sym o.at ∙ ap (λ s. option_and_then (λ s. with_access Writable s.access s.pairs) s) there) in
+              let to : world_of after ≡ naming world core Writable m =
+              turns.1 ∙ o.there ∙ ap (λ k. naming world k Writable o.m) (sym same) ∙ ap (naming world core Writable) is_m in
+              let new : Name = record { core = core; access = access } in
+              record {
+                named = subst (λ w. AreNamesOf w (with_given names number new)) (sym to) (open_named world names whole.named number low free new fresh m);
+                performs = (
+                  (copy_begun, life),
                   (
-                    naming (handles_of now) number access m,
-                    effect_is,
+                    is_number,
                     (
-                      turns.0,
-                      refl,
-                      ap (handles_under (with_given names number new)) to ∙ open_shows world names whole.named number low free new fresh m,
+                      naming (handles_of now) number access m,
+                      effect_is,
+                      (
+                        turns.0,
+                        refl,
+                        ap (handles_under (with_given names number new)) to ∙ open_shows world names whole.named number low free new fresh m,
+                      ),
                     ),
                   ),
-                ),
-              );
-            }
+                );
+              }
 
     -- ---- a close
 
@@ -339,12 +345,12 @@ module _ (before : State) (names : NameTable) (whole : IsWhole (map_with before 
     close_denied : denial_in now closes ≡ None
     close_denied = ap (λ o. denial_by false false o (map.len (handles_of now))) shown
 
-    core_closes : core_denial before (call.Close name.core) ≡ None
-    core_closes = ap (λ o. denial_by false false o (map.len world)) there
+    pub core_closes : core_denial before (call.Close name.core) ≡ None
+    core_closes = close_allowed before name.core (ap is_some there)
 
     pub close_refused : (why : MapError) (after : State) → Carries (Err why) before (call.Close name.core) after → Comes closes (Err why) after names
-    close_refused error.WornOut after p = record { named = still_named after p.2; performs = (close_denied, p.1, same_so after p.2) }
-    close_refused why after p = cc (sym core_closes ∙ p.0)
+    close_refused why after p =
+        subst (λ w. Comes closes (Err w) after names) (sym p.0) (record { named = still_named after p.2; performs = (close_denied, p.1, same_so after p.2) })
 
     -- the core's close that has an effect
     closed_core : (answer : Reply) (next : HandleMap) →
@@ -356,12 +362,12 @@ module _ (before : State) (names : NameTable) (whole : IsWhole (map_with before 
         let same = same_Some (Closed, map.remove world name.core) (answer, next) (sym is ∙ e) in (ap (λ p. p.0) (sym same), ap (λ p. p.1) (sym same))
 
     pub not_closed : (answer : Reply) (after : State) → answer ≢ Closed → Carries (Ok answer) before (call.Close name.core) after → Comes closes (Ok answer) after names
-    not_closed NoSlots after none (allowed, life, (tight, out, turns)) = absurd (omega (arith, tight))
-    not_closed answer after none p = absurd (none (closed_core answer p.2.1 p.2.2).0)
+    not_closed NoSlots after none (life, (tight, out, turns)) = absurd (omega (arith, tight))
+    not_closed answer after none p = absurd (none (closed_core answer p.1.1 p.1.2).0)
 
     pub closed : (after : State) → Carries (Ok Closed) before (call.Close name.core) after → Comes closes (Ok Closed) after (with_name names h None)
     closed after p =
-        let (allowed, life, (opens, last, e, turns)) = p in
+        let (life, (opens, last, e, turns)) = p in
         let to : world_of after ≡ map.remove world name.core = turns.1 ∙ (closed_core Closed last e).1 in
         record {
           named = subst (λ w. AreNamesOf w (with_name names h None)) (sym to) (close_named world names whole.named h name at);

@@ -7,7 +7,6 @@ use Rattle.history.specs.declared.replies.Reply.{Reply}
 use Rattle.history.specs.declared.replies.Reply.TheVariants.{NoSlots}
 use Rattle.machine_model.specs.declared.steps.Bounds.{Bounds}
 use Rattle.machine_model.specs.Calls.{key_of}
-use Rattle.machine_model.specs.Machine.{begin_denial}
 use Rattle.machine_model.specs.States.{State}
 use Rattle.ctrie_map.specs.Beneath.proof_obstruction_free.specs.Laws.{most_steps_alone}
 use Rattle.proof_alone.specs.Calls.{Acts, CallsDo, CanCall, Does, EnoughSlotsForCalls, RefusedIfOut, RunsOut, steps_of}
@@ -17,10 +16,10 @@ use Rattle.ctrie_map.specs.Beneath.proof_obstruction_free.specs.Sweeping.{steps_
 use Rattle.ctrie_map.specs.Beneath.proof_straight.specs.Resting.{IsOfRun}
 use Rattle.ctrie_map.specs.Beneath.proof_straight.specs.Running.{Comes}
 use Rattle.ctrie_map.specs.Beneath.map_worlds.specs.Worlds.{world_of}
-use Rattle.ctrie_map.specs.Cores.{Carries, IsCalm, IsTight, Replies, TakesUpTo, is_worn_out, the_actor}
+use Rattle.ctrie_map.specs.Cores.{Carries, IsCalm, IsTight, Replies, TakesUpTo, core_denial, is_worn_out, the_actor}
 use Rattle.ctrie_map.specs.Costs.{work_of_call}
 use Rattle.ctrie_map.specs.Performing.{IsChange}
-use Rattle.ctrie_map.proofs.Denying.{not_denied}
+use Rattle.ctrie_map.proofs.Denying.{is_begun}
 
 short : (c : Call) → IsChange c → IsNoWalk c
 short (call.Entries h) change = change
@@ -34,10 +33,10 @@ few_steps (call.Snapshot h) = omega arith
 few_steps (call.Freeze h) = omega arith
 few_steps c = omega arith
 
-module _ (before : State) (c : Call) (calm : IsCalm before) (run : IsOfRun before) (change : IsChange c) (allowed : begin_denial before the_actor c ≡ None) (life : is_worn_out before ≡ false)
+module _ (before : State) (c : Call) (calm : IsCalm before) (run : IsOfRun before) (change : IsChange c) (allowed : core_denial before c ≡ None) (life : is_worn_out before ≡ false)
     (fits : key_of c < 2 ^ 64) where
   pub can : CanCall before the_actor c
-  can = record { of_run = run; rest = calm.rest; allowed = allowed; short = short c change; fits = fits; left = grind (arith, life) }
+  can = record { of_run = run; rest = calm.rest; allowed = is_begun before run calm.rest calm.one c change allowed life; short = short c change; fits = fits; left = grind (arith, life) }
 
   -- it was carried out
   module _ (law : CallsDo) (answer : Reply) (middle : State) (comes : (n : ℕ) × Comes before the_actor c n answer middle) where
@@ -74,7 +73,7 @@ module _ (before : State) (c : Call) (calm : IsCalm before) (run : IsOfRun befor
         answers a is acts = (acts.0, world_of middle, acts.1, (swept.limits ∙ does.limits, swept.world))
 
         pub performs : Carries (Ok answer) before c after
-        performs = (not_denied before run calm.rest calm.one c change allowed, life, answers answer refl does.acts)
+        performs = (life, answers answer refl does.acts)
 
       pub works : TakesUpTo (work_of_call c) before after
       works =

@@ -1,5 +1,5 @@
--- What denies a call in the machine is what denies a call of the core.
-use Rattle.std.specs.Prelude.{◌≡◌, ◌⊎◌, ℕ, Bool, true, false, not, ◌&&◌, is_some, nat_le, if◌then◌else◌, List, [], ◌∷◌, Option, Some, None, option_map, Err}
+-- What denies a call in the machine is what denies a call of the core; and which calls nothing denies.
+use Rattle.std.specs.Prelude.{◌≡◌, ◌<◌, ◌⊎◌, ℕ, Bool, true, false, not, ◌&&◌, IsSome, is_some, nat_le, if◌then◌else◌, List, [], ◌∷◌, Option, Some, None, option_map}
 use Rattle.std.specs.FinMap as map
 use Rattle.std.specs.List.{list_any}
 use Rattle.std.proofs.Common.{refl, sym, ap, subst, arith, inl, inr, get_or, ◌∙◌}
@@ -11,7 +11,7 @@ use Rattle.history.specs.declared.calls.Access.{Access}
 use Rattle.history.specs.declared.calls.Access.TheVariants.{Writable, ReadOnly}
 use Rattle.history.specs.declared.calls.Call.{Call}
 use Rattle.history.specs.declared.calls.Call.TheVariants as call
-use Rattle.history.specs.Worlds.{HandleState}
+use Rattle.history.specs.Worlds.{HandleMap, HandleState, KeyMap}
 use Rattle.machine_model.specs.declared.operations.Operation.{Operation}
 use Rattle.machine_model.specs.declared.roots.Root.{Root}
 use Rattle.machine_model.specs.Calls.{handle_of, needs_writable, needs_read_only, opens_handle, is_close}
@@ -23,8 +23,9 @@ use Rattle.ctrie_map.specs.Beneath.map_worlds.proofs.Shown.{shows_roots}
 use Rattle.ctrie_map.specs.declared.errors.MapError.{MapError}
 use Rattle.ctrie_map.specs.declared.errors.MapError.TheVariants as error
 use Rattle.ctrie_map.specs.Beneath.proof_straight.specs.Resting.{IsOfRun}
-use Rattle.ctrie_map.specs.Cores.{Carries, core_denial, is_worn_out, the_actor}
+use Rattle.ctrie_map.specs.Cores.{core_denial, is_worn_out, the_actor}
 use Rattle.ctrie_map.specs.Denials.{denial_by, is_frozen}
+use Rattle.ctrie_map.specs.Drafts.{HasMap}
 use Rattle.ctrie_map.specs.Performing.{IsChange, of_refusal}
 
 -- ---- the machine's reasons, at rest
@@ -156,31 +157,42 @@ told_by writes opens o taken told e = elim (denied_with writes opens o taken tol
   | inr (inr is) ↦ subst IsDenial (sym is) tt
 ]
 
-told_so : (told : MapError) (before : State) (c : Call) → (told ≡ error.NoHandle) ⊎ ((told ≡ error.ReadOnly) ⊎ (told ≡ error.HandlesFull)) →
-    core_denial before c ≡ Some told → Carries (Err told) before c before
-told_so told before c (inl is) e = rw is (subst (λ t. core_denial before c ≡ Some t) is e, refl)
-told_so told before c (inr (inl is)) e = rw is (subst (λ t. core_denial before c ≡ Some t) is e, refl)
-told_so told before c (inr (inr is)) e = rw is (subst (λ t. core_denial before c ≡ Some t) is e, refl)
-
 -- a map whose core has taken all its steps is worn out
 worn_when_spent : (state : State) → is_spent state ≡ true → is_worn_out state ≡ true
 worn_when_spent state spent = grind (arith, spent)
 
-module _ (state : State) (run : IsOfRun state) (rest : is_busy state ≡ false) (one : state.limits.actors ≡ 1) (c : Call) (change : IsChange c) where
-  performs_by : (d : Option MapError) (why : Refusal) → core_denial state c ≡ d → Due d (is_spent state) (Some why) → Carries (Err (of_refusal why)) state c state
-  performs_by (Some told) why e due_so =
-      subst (λ t. Carries (Err t) state c state) (sym due_so)
-      (told_so told state c (denied_with (needs_writable c) (opens_handle c) (map.get (world_of state) (handle_of c)) (map.len (world_of state)) told e) e)
-  performs_by None why e due_so = rw due_so.0 (e, worn_when_spent state due_so.1, refl)
+-- so a call is begun that nothing denies in the map, where it isn't worn out
+pub is_begun : (state : State) → IsOfRun state → is_busy state ≡ false → state.limits.actors ≡ 1 →
+    (c : Call) → IsChange c → core_denial state c ≡ None → is_worn_out state ≡ false → begin_denial state the_actor c ≡ None
+is_begun state run rest one c change allowed life =
+    by_denial (begin_denial state the_actor c) refl (subst (λ d. Due d (is_spent state) (begin_denial state the_actor c)) allowed (due state run rest one c change))
+  where
+    by_denial : (d : Option Refusal) → begin_denial state the_actor c ≡ d → Due None (is_spent state) d → begin_denial state the_actor c ≡ None
+    by_denial None is due_so = is
+    by_denial (Some why) is due_so = absurd (false≢true (sym life ∙ worn_when_spent state due_so.1))
 
-  -- a call that is denied
-  pub denied : (why : Refusal) → begin_denial state the_actor c ≡ Some why → Carries (Err (of_refusal why)) state c state
-  denied why e = performs_by (core_denial state c) why refl (subst (Due (core_denial state c) (is_spent state)) e (due state run rest one c change))
+-- ---- what nothing denies
 
-  -- a call that isn't
-  pub not_denied : begin_denial state the_actor c ≡ None → core_denial state c ≡ None
-  not_denied e = none_by (core_denial state c) refl (subst (Due (core_denial state c) (is_spent state)) e (due state run rest one c change))
-    where
-      none_by : (d : Option MapError) → core_denial state c ≡ d → Due d (is_spent state) None → core_denial state c ≡ None
-      none_by None is due_so = is
-      none_by (Some told) is due_so = absurd due_so
+-- the close of an open handle
+pub close_allowed : (before : State) (handle : ℕ) → IsSome (map.get (world_of before) handle) → core_denial before (call.Close handle) ≡ None
+close_allowed before handle some = by_shown (map.get (world_of before) handle) some
+  where
+    by_shown : (o : Option HandleState) → IsSome o → denial_by false false o (map.len (world_of before)) ≡ None
+    by_shown None is = cc is
+    by_shown (Some shown) is = refl
+
+module _ (before : State) (handle : ℕ) (m : KeyMap) (has : HasMap (world_of before) handle m) where
+  abbrev world : HandleMap
+  world = world_of before
+
+  -- a change of a writable map
+  pub change_allowed : (c : Call) → handle_of c ≡ handle → needs_writable c ≡ true → opens_handle c ≡ false → core_denial before c ≡ None
+  change_allowed c on writes opens =
+      ap (λ b. denial_by (needs_writable c) b (map.get world (handle_of c)) (map.len world)) opens
+      ∙ ap (λ b. denial_by b false (map.get world (handle_of c)) (map.len world)) writes ∙ ap (λ o. denial_by true false o (map.len world)) (ap (map.get world) on ∙ has)
+
+  -- a copy of it, where not all handles are open
+  pub copy_allowed : map.len world < handle_limit → core_denial before (call.Snapshot handle) ≡ None
+  copy_allowed room =
+      let few : nat_le handle_limit (map.len world) ≡ false = grind (arith, room) in
+      ap (λ o. denial_by true true o (map.len world)) has ∙ ap (λ b. if b then Some error.HandlesFull else None) few

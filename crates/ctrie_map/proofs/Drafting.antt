@@ -1,7 +1,7 @@
 -- What becomes of the core where a copy is made that has no name.
-use Rattle.std.specs.Prelude.{◌≡◌, ◌<◌, ℕ, true, false, nat_le, if◌then◌else◌, Some, None, option_and_then, Result, Ok, Err, IfOk}
+use Rattle.std.specs.Prelude.{◌≡◌, ◌<◌, ℕ, false, option_and_then, Result, Ok, Err, IfOk}
 use Rattle.std.specs.FinMap as map
-use Rattle.std.proofs.Common.{refl, sym, ap, subst, arith, ◌∙◌}
+use Rattle.std.proofs.Common.{refl, sym, ap, subst, ◌∙◌}
 use Rattle.std.proofs.lemmas.Bool.{true≢false}
 use Rattle.std.proofs.lemmas.Option.{same_Some}
 use Rattle.history.specs.declared.calls.Access.TheVariants.{Writable}
@@ -13,9 +13,7 @@ use Rattle.history.specs.Worlds.{HandleMap}
 use Rattle.machine_model.specs.States.{State, handle_limit}
 use Rattle.ctrie_map.specs.Beneath.map_worlds.specs.Worlds.{world_of}
 use Rattle.ctrie_map.specs.declared.errors.MapError.{MapError}
-use Rattle.ctrie_map.specs.declared.errors.MapError.TheVariants as error
-use Rattle.ctrie_map.specs.Cores.{Carries, Leads, Replies, core_denial, is_worn_out}
-use Rattle.ctrie_map.specs.Denials.{denial_by}
+use Rattle.ctrie_map.specs.Cores.{Carries, Leads, Replies, is_worn_out}
 use Rattle.ctrie_map.specs.Drafts.{IsDraftOf, IsWritable, RefusesDraft}
 use Rattle.ctrie_map.specs.Telling.{opened_in}
 use Rattle.ctrie_map.proofs.Changing.{ComesTo}
@@ -26,13 +24,6 @@ module _ (before : State) (handle : ℕ) where
   world = world_of before
 
   module _ (writable : IsWritable world handle) (room : map.len world < handle_limit) (life : is_worn_out before ≡ false) (after : State) where
-    has_room : nat_le handle_limit (map.len world) ≡ false
-    has_room = grind (arith, room)
-
-    allowed : core_denial before (call.Snapshot handle) ≡ None
-    allowed =
-        ap (λ o. denial_by true true o (map.len world)) writable.1 ∙ ap (λ b. if b then Some error.HandlesFull else None) has_room
-
     abbrev Comes : Result ℕ MapError → Type 0
     Comes = ComesTo (λ draft. IsDraftOf handle before draft after) (RefusesDraft handle before after)
 
@@ -52,9 +43,8 @@ module _ (before : State) (handle : ℕ) where
 
     comes : (result : Result Reply MapError) → Carries result before (call.Snapshot handle) after → IfOk result (λ _. Leads before (call.Snapshot handle) after) →
         Comes (opened_in result)
-    comes (Ok answer) p leads = by_answer answer p.2 leads
-    comes (Err error.WornOut) p none = absurd (true≢false (sym p.1 ∙ life))
-    comes (Err why) p none = cc (sym allowed ∙ p.0)
+    comes (Ok answer) p leads = by_answer answer p.1 leads
+    comes (Err why) p none = absurd (true≢false (sym p.1 ∙ life))
 
     pub drafted : (result : Result Reply MapError) → Carries result before (call.Snapshot handle) after → IfOk result (λ _. Leads before (call.Snapshot handle) after) →
         (draft : ℕ) → opened_in result ≡ Ok draft → IsDraftOf handle before draft after

@@ -11,7 +11,6 @@ use Rattle.history.specs.Effects.{naming}
 use Rattle.history.specs.Worlds.{KeyMap}
 use Rattle.ctrie_map.specs.Changes.{Changes}
 use Rattle.ctrie_map.specs.Maps.{Becomes, MapState, handles_of}
-use Rattle.ctrie_map.specs.Popping.{key_in}
 use Rattle.ctrie_map.specs.Reading.{IsOneOf, Reads, read_of, reading, without}
 use Rattle.ctrie_map.proofs.Lookups.{same_told}
 
@@ -28,17 +27,15 @@ remove_none key =
     by_test true = refl
     by_test false = refl
 
-pub key_is : (first : Option (ℕ × ℕ)) → (unwrap_or first (0, 0)).0 ≡ key_in first
-key_is None = refl
-key_is (Some pair) = refl
+removed_is : (m : KeyMap) (first : Option (ℕ × ℕ)) (other : ℕ × ℕ) → IsOneOf m first → map.remove m (unwrap_or first other).0 ≡ without first m
+removed_is m None other none = ap (λ (n : KeyMap). map.remove n other.0) none ∙ remove_none other.0 ∙ sym none
+removed_is m (Some pair) other one = refl
 
-removed_is : (m : KeyMap) (first : Option (ℕ × ℕ)) → IsOneOf m first → map.remove m (key_in first) ≡ without first m
-removed_is m None none = ap (λ (n : KeyMap). map.remove n 0) none ∙ remove_none 0 ∙ sym none
-removed_is m (Some pair) one = refl
-
-pub popped : (before after : MapState) (h : ℕ) (first : Option (ℕ × ℕ)) (told : Option ℕ) → Reads before h IsOneOf (Ok first) →
-    Changes before h (λ m. told ≡ map.get m (key_in first)) (λ m. map.remove m (key_in first)) after → Changes before h (λ m. IsOneOf m first) (without first) after
-popped before after h first told (n, read, one) (m, at, value, becomes) =
+-- whichever key is asked for where there is none
+pub popped : (before after : MapState) (h : ℕ) (first : Option (ℕ × ℕ)) (other : ℕ × ℕ) (told : Option ℕ) → Reads before h IsOneOf (Ok first) →
+    Changes before h (λ m. told ≡ map.get m (unwrap_or first other).0) (λ m. map.remove m (unwrap_or first other).0) after →
+    Changes before h (λ m. IsOneOf m first) (without first) after
+popped before after h first other told (n, read, one) (m, at, value, becomes) =
     let same = same_told (reading before h (λ s. s)) n m read (ap (read_of (λ s. s)) at) in
     let here : IsOneOf m first = subst (λ k. IsOneOf k first) same one in
-    (m, at, here, subst (λ k. Becomes before (naming (handles_of before) h Writable k) after) (removed_is m first here) becomes)
+    (m, at, here, subst (λ k. Becomes before (naming (handles_of before) h Writable k) after) (removed_is m first other here) becomes)

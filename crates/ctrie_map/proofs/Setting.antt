@@ -16,17 +16,22 @@ use Rattle.ctrie_map.specs.Beneath.map_worlds.specs.Worlds.{world_of}
 use Rattle.ctrie_map.specs.declared.batches.Batch.{Batch}
 use Rattle.ctrie_map.specs.declared.batches.Batch.TheVariants.{Puts, Removes}
 use Rattle.ctrie_map.specs.declared.errors.MapError.{MapError}
-use Rattle.ctrie_map.specs.declared.errors.MapError.TheVariants as error
 use Rattle.ctrie_map.specs.Batches.{ChangesKey, RefusesKey, batch_call}
 use Rattle.ctrie_map.specs.Cores.{Carries, Leads, Replies, Turns, core_denial, is_worn_out}
-use Rattle.ctrie_map.specs.Denials.{denial_by}
 use Rattle.ctrie_map.specs.Drafts.{HasMap}
 use Rattle.ctrie_map.specs.Telling.{found_in}
 use Rattle.ctrie_map.proofs.Changing.{ComesTo, naming_same, says}
+use Rattle.ctrie_map.proofs.Denying.{change_allowed}
 
 -- a handle has one map
 pub one_map : (o : Option HandleState) (m n : KeyMap) → o ≡ Some (record { access = Writable; pairs = m }) → o ≡ Some (record { access = Writable; pairs = n }) → m ≡ n
 one_map o m n is other = ap (λ (s : HandleState). s.pairs) (same_Some (record { access = Writable; pairs = m }) (record { access = Writable; pairs = n }) (sym is ∙ other))
+
+-- nothing denies it
+pub allowed : (before : State) (handle : ℕ) (pair : ℕ × ℕ) (m : KeyMap) → HasMap (world_of before) handle m →
+    (batch : Batch) → core_denial before (batch_call batch handle pair) ≡ None
+allowed before handle pair m has Puts = change_allowed before handle m has (call.Put handle pair.0 pair.1) refl refl refl
+allowed before handle pair m has Removes = change_allowed before handle m has (call.Remove handle pair.0) refl refl refl
 
 module _ (before : State) (handle : ℕ) (pair : ℕ × ℕ) (m : KeyMap) (has : HasMap (world_of before) handle m) (life : is_worn_out before ≡ false) (after : State) where
   abbrev world : HandleMap
@@ -37,10 +42,6 @@ module _ (before : State) (handle : ℕ) (pair : ℕ × ℕ) (m : KeyMap) (has :
 
   abbrev Comes : Batch → Result (Option ℕ) MapError → Type 0
   Comes batch = ComesTo (λ _. ChangesKey batch handle pair before after) (RefusesKey batch handle pair before after)
-
-  allowed : (batch : Batch) → core_denial before (batch_call batch handle pair) ≡ None
-  allowed Puts = ap (λ o. denial_by true false o (map.len world)) has
-  allowed Removes = ap (λ o. denial_by true false o (map.len world)) has
 
   abbrev put_here : Bool → Reply × KeyMap
   put_here b = if b then (Crowded, m) else (Found (map.get m pair.0), map.insert m pair.0 pair.1)
@@ -77,9 +78,8 @@ module _ (before : State) (handle : ℕ) (pair : ℕ × ℕ) (m : KeyMap) (has :
   Said batch result = Carries result before (batch_call batch handle pair) after × IfOk result (λ _. Leads before (batch_call batch handle pair) after)
 
   comes : (batch : Batch) (result : Result Reply MapError) → Said batch result → Comes batch (found_in result)
-  comes batch (Ok answer) (p, leads) = by_answer batch answer p.2 leads
-  comes batch (Err error.WornOut) (p, none) = absurd (true≢false (sym p.1 ∙ life))
-  comes batch (Err why) (p, none) = cc (sym (allowed batch) ∙ p.0)
+  comes batch (Ok answer) (p, leads) = by_answer batch answer p.1 leads
+  comes batch (Err why) (p, none) = absurd (true≢false (sym p.1 ∙ life))
 
   pub changes_so : (batch : Batch) (result : Result Reply MapError) → Said batch result → (told : Option ℕ) → found_in result ≡ Ok told → ChangesKey batch handle pair before after
   changes_so batch result said told is = subst (Comes batch) is (comes batch result said)

@@ -1,5 +1,5 @@
 -- The core below a map, between two calls, and what a call of it comes to.
-use Rattle.std.specs.Prelude.{◌≡◌, ◌<◌, ◌≤◌, ◌+◌, ◌-◌, ◌*◌, ℕ, Bool, true, false, nat_le, [], length, Option, Some, None, Result, Ok, Err}
+use Rattle.std.specs.Prelude.{◌≡◌, ◌<◌, ◌≤◌, ◌+◌, ◌-◌, ◌*◌, ℕ, Bool, true, false, nat_le, [], length, Option, Result, Ok, Err}
 use Rattle.std.specs.FinMap as map
 use Rattle.ctrie_base.specs.Hashes.{hash_of}
 use Rattle.history.specs.declared.calls.Call.{Call}
@@ -66,8 +66,7 @@ abbrev pub Leads : State → Call → State → Type 0
 Leads before call after =
     (n swept : ℕ) × (answer : Reply) × (ended : State) × Comes before the_actor call n answer ended × Sweeps ended swept after × (after.limbo ≡ [])
 
--- what a call of the core comes to
+-- what a call of the core that nothing denies comes to
 abbrev pub Carries : Result Reply MapError → State → Call → State → Type 0
-Carries (Ok answer) before call after = (core_denial before call ≡ None) × (is_worn_out before ≡ false) × Replies before call answer after
-Carries (Err WornOut) before call after = (core_denial before call ≡ None) × (is_worn_out before ≡ true) × (after ≡ before)
-Carries (Err error) before call after = (core_denial before call ≡ Some error) × (after ≡ before)
+Carries (Ok answer) before call after = (is_worn_out before ≡ false) × Replies before call answer after
+Carries (Err error) before call after = (error ≡ WornOut) × (is_worn_out before ≡ true) × (after ≡ before)

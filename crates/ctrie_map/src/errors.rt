@@ -19,7 +19,7 @@ pub enum MapError {
     ReadOnly,
     /// A snapshot, a freeze, a `restore` from another handle, a `put_all` or a `retain` while 256 handles are open; and a
     /// `copy_under` where the number is open, or is none below 256.
-    #[error("no handle is free for the copy")]
+    #[error("no handle is free")]
     HandlesFull,
     /// The key has no value and is to get one, and 32 other keys have its hash.
     #[error("too many keys have this hash")]

@@ -24,9 +24,11 @@ use std::marker::Model;
 /// `MapError` holds of every call that names it: so `NoHandle` comes where a handle isn't open, `ReadOnly` where the map was
 /// to be changed by a read-only one, `WornOut` where no more steps are left than the call may take, `Full` where its last
 /// step before this answer was to make a node and no slot was free.
+#[repr(C)]
 pub struct Map {
-    pub(crate) core: Core,
+    /// In front, beside what a look-up reads first of the core: at the core's end stands what each change writes.
     pub(crate) names: Names,
+    pub(crate) core: Core,
 }
 
 /// It is written out, so that its proof is this crate's. That of a derived drop is made anew in each program, with those of

@@ -1,12 +1,12 @@
 //! One call of the core below a map, from its begin to its end, and the sweep behind it.
 
-ghost use Rattle.std.specs.Prelude.{◌≡◌, ◌<◌, ◌≤◌, ◌+◌, ℕ, IfOk, false, [], length};
+ghost use Rattle.std.specs.Prelude.{◌≡◌, ◌<◌, ◌≤◌, ◌+◌, ℕ, IfOk, None, false, [], length};
 ghost use Rattle.machine_model.specs.Machine.{is_busy};
 ghost use Rattle.proof_alone.specs.Calls.{CanCall};
 ghost use Rattle.ctrie_map.specs.Beneath.proof_obstruction_free.specs.Calls.{slots_of};
 ghost use Rattle.proof_alone.specs.Sweeps.{Sweeps, most_sweeps};
 ghost use Rattle.ctrie_map.specs.Beneath.proof_straight.specs.Running.{Comes};
-ghost use Rattle.ctrie_map.specs.Cores.{Carries, IsCalm, Leads, TakesUpTo, is_worn_out, life_left, the_actor};
+ghost use Rattle.ctrie_map.specs.Cores.{Carries, IsCalm, Leads, TakesUpTo, core_denial, is_worn_out, life_left, the_actor};
 ghost use Rattle.ctrie_map.specs.Costs.{work_of_call};
 ghost use Rattle.ctrie_map.specs.Drafts.{is_worn_out_by};
 ghost use Rattle.ctrie_map.specs.Performing.{IsChange};
@@ -14,7 +14,7 @@ ghost use Rattle.ctrie_map.specs.Performing.{IsChange};
 use crate::errors::MapError;
 use history::{Call, Reply};
 use machine_core::{Core, key_fits};
-use machine_model::{Bounds, Step};
+use machine_model::Bounds;
 
 /// The one actor of a map's core.
 pub(crate) const ACTOR: u8 = 1;
@@ -103,10 +103,11 @@ fn sweep(core: &mut Core)
     core.reclaim();
 }
 
-/// One call from its begin to its end, and the sweep of what it makes free.
+/// One call that nothing denies, from its begin to its end, and the sweep of what it makes free. Refused as `WornOut` alone.
 pub(crate) fn perform(core: &mut Core, call: Call) -> Result<Reply, MapError>
     requires calm { IsCalm core.old.state }
     requires change { IsChange call }
+    requires allowed { core_denial core.old.state call ≡ None }
     ensures calm { IsCalm core.new.state }
     ensures carries { Carries result core.old.state call core.new.state }
     ensures leads { IfOk result (λ _. Leads core.old.state call core.new.state) }
@@ -114,9 +115,6 @@ pub(crate) fn perform(core: &mut Core, call: Call) -> Result<Reply, MapError>
     ensures slots { length core.old.state.heap.free ≤ length core.new.state.heap.free + (slots_of call + 1) }
 {
     let _ = core.limits();
-    if let Some(refusal) = core.denial(Step::Begin { actor: ACTOR, call }) {
-        return Err(MapError::from(refusal));
-    }
     if is_worn_out(core) {
         return Err(MapError::WornOut);
     }

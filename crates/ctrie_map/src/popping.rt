@@ -12,7 +12,7 @@ use crate::map::Map;
 
 impl Map {
     /// Takes a key out, whichever is found first: the key with the value that it had, or none exactly where no key has a
-    /// value. It is refused as `remove` of that key is; where no key has a value, as `remove` of key 0 is.
+    /// value. It is refused as `remove` of such a key is; where no key has a value, as `remove` of key 0 is.
     pub fn pop(&mut self, handle: Handle) -> Result<Option<(u64, u64)>, MapError>
         ensures done { IfOk result (λ popped. HasLife self.old × Changes self.old handle (λ m. IsOneOf m popped) (without popped) self.new) }
         ensures refused { IfErr result (RefusesPop self.old handle self.new) }

@@ -4,7 +4,7 @@ use Rattle.std.proofs.Common.{refl, ap, ◌∙◌, inr, eq-eqb, append-nil, appe
 use Rattle.std.proofs.lemmas.List.{length-append}
 use Rattle.std.proofs.lemmas.List.Elements.{filter-append}
 use Rattle.gate.specs.declared.objects.Entry.{Entry}
-use Rattle.gate.specs.Logs.{Logged, entry, calls_of, GoesOn}
+use Rattle.gate.specs.Logs.{Logged, entry, calls_of, LogGoesOn}
 use Rattle.gate.specs.Seats.{Seated}
 use Rattle.gate.specs.Calls.{IsCalled}
 use Rattle.gate.specs.Laws.{CallsKeepALogLegal, ACallIsOneEntry, OthersLeaveOwnCalls, LogsGoOn, ToldCallsStandBefore}
@@ -34,7 +34,7 @@ module _ {O C A : Type 0} (answers : ℕ → O → C → A → O → Type 0) whe
       ∙ ap (λ es. calls_of before.number is.board.log ++ es) (one_own before.number call answer)
       ∙ ap (λ es. es ++ one) (others_leave_own_calls before.number before.seen is.board is.followed)
 
-  goes_further : (first middle last : Logged O C A) → GoesOn first middle → GoesOn middle last → GoesOn first last
+  goes_further : (first middle last : Logged O C A) → LogGoesOn first middle → LogGoesOn middle last → LogGoesOn first last
   goes_further first middle last one two = (one.0 ++ two.0, two.1 ∙ ap (λ es. es ++ two.0) one.1 ∙ append_assoc first.log one.0 two.0)
 
   pub logs_go_on : LogsGoOn answers
@@ -50,7 +50,7 @@ module _ {O C A : Type 0} (answers : ℕ → O → C → A → O → Type 0) whe
   one_longer before after call answer is = ap (λ es. length es) is.called.log ∙ length-append is.board.log (entry before.number call answer ∷ [])
 
   -- and stands where the seat found the log's end
-  stands_at : (before after : Seated O C A) (call : C) (answer : A) (is : IsCalled answers before call answer after) (last : Logged O C A) → GoesOn after.seen last →
+  stands_at : (before after : Seated O C A) (call : C) (answer : A) (is : IsCalled answers before call answer after) (last : Logged O C A) → LogGoesOn after.seen last →
       slice_get last.log (length after.seen.log - 1) ≡ Some (entry before.number call answer)
   stands_at before after call answer is last on =
       let place : length after.seen.log - 1 ≡ length is.board.log = omega (arith, one_longer before after call answer is) in

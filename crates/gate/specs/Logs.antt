@@ -24,8 +24,8 @@ abbrev pub fresh : {O C A : Type 0} → O → Logged O C A
 fresh object = record { first = object; object = object; log = [] }
 
 -- the log has those calls, in their places, and maybe more behind them
-abbrev pub GoesOn : {O C A : Type 0} → Logged O C A → Logged O C A → Type 0
-GoesOn {O} {C} {A} seen last = (rest : List (Entry C A)) × (last.log ≡ seen.log ++ rest)
+abbrev pub LogGoesOn : {O C A : Type 0} → Logged O C A → Logged O C A → Type 0
+LogGoesOn {O} {C} {A} seen last = (rest : List (Entry C A)) × (last.log ≡ seen.log ++ rest)
 
 module _ {O C A : Type 0} (answers : ℕ → O → C → A → O → Type 0) where
   -- these calls, in this order, lead from the one object to the other

@@ -7,7 +7,7 @@ use Rattle.std.proofs.lemmas.List.Elements.{filter-append}
 use mathlib.Core.Option.{some-injective}
 use lib.ListN.{get_elem?}
 use Rattle.gate.specs.declared.objects.Entry.{Entry}
-use Rattle.gate.specs.Logs.{Logged, entry, GoesOn}
+use Rattle.gate.specs.Logs.{Logged, entry, LogGoesOn}
 use Rattle.gate.specs.Seats.{Seated}
 use Rattle.gate.specs.Calls.{IsCalled}
 use Rattle.gate.proofs.Placing.{told_calls_stand_before}
@@ -29,7 +29,7 @@ module _ {O C A : Type 0} (answers : ℕ → List O → C → A → List O → T
   knows_all : (shards shard : ℕ) (one told : Seated (List O) C A) (call : C) (answer : A) (other later : Seated (List O) C A) (next : C) (reply : A) (last : Logged (List O) C A) →
       (is : IsCalled answers one call answer told) → is_about (about shards call) shard ≡ true →
       length (calls_about (about shards) shard told.seen.log) ≤ length (calls_about (about shards) shard other.seen.log) → (then : IsCalled answers other next reply later) →
-      GoesOn told.seen last → GoesOn later.seen last → length told.seen.log ≤ length other.seen.log
+      LogGoesOn told.seen last → LogGoesOn later.seen last → length told.seen.log ≤ length other.seen.log
   knows_all shards shard one told call answer other later next reply last is yes_about knows then on more = elim (cases_lt (length other.seen.log) (length told.seen.log)) [
     | inr high ↦ high
     | inl low ↦

@@ -8,15 +8,22 @@ use ctrie_base::Trace;
 use gate::Entry;
 use std::marker::Model;
 
-/// A shard, and the log of the calls about it, which takes no bytes but those of their number.
+/// Two lines of the cache, which processors fetch together.
+type Gap = [u64; 16];
+
+/// A shard, and the log of the calls about it, which takes no bytes but those of their number. Each call about the shard writes
+/// this number, and no other word need be in its lines: neither of the shard nor of the next one, which lies behind this one.
 #[derive(Drop)]
+#[repr(C)]
 pub struct Shard<O, C, A> {
     object: O,
     log: Trace<Entry<C, A>>,
+    before: Gap,
     calls: u64,
+    behind: Gap,
 }
 
-const _: () = prove!(size_of::<Shard<u64, u64, u64>>() == 16);
+const _: () = prove!(size_of::<Shard<u64, u64, u64>>() == 272);
 
 impl<O, C, A> Model for Shard<O, C, A> {
     ghost use Rattle.std.specs.Prelude.{◌≡◌, length};
@@ -38,7 +45,9 @@ impl<O, C, A> Shard<O, C, A> {
         Shard {
             object,
             log: Trace::new(),
+            before: [0; 16],
             calls: 0,
+            behind: [0; 16],
         }
     }
 
@@ -74,22 +83,26 @@ impl<O, C: Drop, A: Drop> Shard<O, C, A> {
         let Shard {
             object,
             log: _,
+            before: _,
             calls: _,
+            behind: _,
         } = self;
         object
     }
 }
 
 impl<O: Sharded<C, A>, C: Copy, A: Drop> Shard<O, C, A> {
-    /// Has the call of this seat performed, which is about this shard alone, and adds its entry to the log.
+    /// Has the call of this seat performed, which is about this shard alone, and adds its entry to the log. It is counted first:
+    /// another processor may have the number's line, which then comes over while the object is at work.
     #[inline(always)]
     pub(crate) fn call(&mut self, seat: u8, call: C) -> A
         ensures answered { AnswersAlone O.answers O.about seat self.old.object call result self.new.object }
         ensures log { self.new.log ≡ self.old.log ++ entry seat call result ∷ [] }
     {
+        self.calls = self.calls.saturating_add(1);
         let answer = self.object.perform(seat, call);
         let entry = Entry { seat, call, answer };
-        self.note(&entry);
+        self.log = self.log.with_last(&entry);
         let Entry {
             seat: _,
             call: _,

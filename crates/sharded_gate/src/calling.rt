@@ -153,7 +153,8 @@ impl<O: Sharded<C, A> + Drop, C: Copy, A: Drop> ShardedGate<O, C, A> {
 
     /// Tells whether the shard is there, and so many calls about it stand in the log that it finds, as `ShardedSeat::last`
     /// numbers them. All that it found stands before what the seat calls next, so who is told the number of a call, and is
-    /// answered `true`, comes behind it. Where the shard isn't there the answer is `false`, whatever number is asked for.
+    /// answered `true`, comes behind it. Where the shard isn't there it waits for the first one and looks there, and the answer
+    /// is `false`, whatever number is asked for.
     pub fn hear<R: Wait>(&self, rt: &R, seat: &mut ShardedSeat<O, C, A>, count: ShardCount) -> bool
         requires { IsSeatOf self.now seat.old.seat }
         ensures heard { HasHeard O.answers seat.old.seat seat.new.seat }
@@ -171,7 +172,8 @@ impl<O: Sharded<C, A> + Drop, C: Copy, A: Drop> ShardedGate<O, C, A> {
         unreachable!()
     }
 
-    /// The same if the shard is not taken. With `None` another seat had it, and the seat has seen what it had.
+    /// The same if the shard, or the first one where it isn't there, is not taken. With `None` another seat had that, and the
+    /// seat has seen what it had.
     pub fn try_hear(&self, seat: &mut ShardedSeat<O, C, A>, count: ShardCount) -> Option<bool>
         requires { IsSeatOf self.now seat.old.seat }
         ensures heard { IfSome result (λ heard. HasHeard O.answers seat.old.seat seat.new.seat) }

@@ -11,7 +11,8 @@ use gate::{Mark, View};
 use std::collections::LinkedList;
 
 /// How many words a shard has, of which the first one tells who has it. The others keep the words of two shards in lines of
-/// the cache of their own, which processors fetch by twos, so that no call slows down those about other shards.
+/// the cache of their own, which processors fetch by twos, as the slots keep what is in them (`Shard`): so calls about different
+/// shards write into no line together.
 pub(crate) const SPACING: usize = 16;
 
 /// What the table is told when it is made.

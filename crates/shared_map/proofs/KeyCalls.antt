@@ -80,7 +80,7 @@ module _ (hash : HashKind) (before : List MapState) (are : AreShards hash before
     pub there : world_of_all next ≡ last
     pub shards_are : AreNext
 
-  module _ (h : ℕ) (f : KeyMap → Reply × KeyMap) (alike : ActsAlike f) (limits : t.core.limits ≡ s.core.limits) (last : t.names.last ≡ s.names.last) where
+  module _ (h : ℕ) (f : KeyMap → Reply × KeyMap) (alike : ActsAlike f) (limits : t.core.limits ≡ s.core.limits) where
     module _ (m : KeyMap) (there : maps.get mine h ≡ Some (shown_as m Writable)) (is : handles_of t ≡ naming mine h Writable (f m).1) where
       value_is : (q : ℕ) → value_at mine h q ≡ maps.get m q
       value_is q = ap (value_of q) there
@@ -131,7 +131,7 @@ module _ (hash : HashKind) (before : List MapState) (are : AreShards hash before
             (f (all_at h)).1 kind_at
             (united_set place (shards.worlds hash before are) are.own (shards.within hash before are) i (shards.low hash before are i s at) (handles_of t) own_stays h
             (f (all_at h)).1 (λ q e. acts.follows.same q e ∙ sym (ap (value_of q) now_at)) (λ q apart. acts.follows.others_stay q apart));
-        shards_are = shards.shards_after hash before are i s at t limits last kinds_stay own_stays;
+        shards_are = shards.shards_after hash before are i s at t limits kinds_stay own_stays;
       }
 
     -- of a change that has an effect in the shard
@@ -178,13 +178,13 @@ module _ (hash : HashKind) (before : List MapState) (are : AreShards hash before
           shards.world_stays hash before are i s at t p.1.2,
         ),
       ),
-      shards.shards_stay hash before are i s at t p.1.0 p.1.1 p.1.2,
+      shards.shards_stay hash before are i s at t p.1.0 p.1.2,
     )
     by_reply (reply.Opened copy) b (number, (last, e, has)) =
         let (m, there, told, to) = says mine h f (reply.Opened copy) last (sym (does mine (Some copy)) ∙ effect_here (Some copy) (reply.Opened copy) last e) in
         absurd (opens m copy (sym told))
     by_reply answer b p =
-        let turns = turned_by h f alike p.3.0 p.3.1 answer p.1 (sym (does mine p.0) ∙ effect_here p.0 answer p.1 p.2) p.3.2 in (
+        let turns = turned_by h f alike p.3.0 answer p.1 (sym (does mine p.0) ∙ effect_here p.0 answer p.1 p.2) p.3.2 in (
           (
             begun b.0 b.1,
             subst (IsNoneTight c) (sym concerns) tt,

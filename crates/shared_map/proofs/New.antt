@@ -1,6 +1,6 @@
 -- New maps are the shards of one.
 use Rattle.std.proofs.Common.{◌≡◌, inl, inr, ℕ, suc, ◌+◌, ◌≤◌, Bool, true, false, cond, List, []}
-use Rattle.std.proofs.Common.{◌∷◌, ◌++◌, length, Some, None, is_some, nat_cmp, refl, sym, ap, subst, ◌∙◌, arith}
+use Rattle.std.proofs.Common.{◌∷◌, ◌++◌, length, Some, None, is_some, nat_cmp, refl, sym, ap, ◌∙◌, arith}
 use Rattle.std.specs.Cmp.{nat_cmp_total}
 use Rattle.std.specs.Ordering.{eq_by_cmp}
 use Rattle.std.specs.FinMap as maps
@@ -12,7 +12,7 @@ use Rattle.ctrie_map.specs.Maps.{IsNew, MapState, RefusesSizes}
 use Rattle.ctrie_map.specs.declared.errors.MapError.{MapError}
 use Rattle.shared_map.specs.Asks.{place_of}
 use Rattle.shared_map.specs.Opening.{AreNew, AreNewMaps, AreShardNumbers, RefusesNew}
-use Rattle.shared_map.specs.Shards.{AreHashed, AreNumbered, AreShards, last_given, worlds_of}
+use Rattle.shared_map.specs.Shards.{AreHashed, AreShards, worlds_of}
 use Rattle.shared_map.specs.Uniting.{AreOfKinds, AreOwnFrom, kind_of, value_at, value_of}
 use Rattle.shared_map.proofs.United.{shown_as}
 
@@ -35,14 +35,6 @@ module _ (slots : ℕ) (hash : HashKind) where
   hashed [] new = tt
   hashed (m ∷ ms) new = (ap (λ (l : _). l.hash) new.0.0, hashed ms new.1)
 
-  numbered : (ms : List MapState) → AreNew slots hash ms → AreNumbered 0 ms
-  numbered [] new = tt
-  numbered (m ∷ ms) new = (new.0.1, numbered ms new.1)
-
-  first_last : (ms : List MapState) → AreNew slots hash ms → last_given ms ≡ 0
-  first_last [] new = refl
-  first_last (m ∷ ms) new = new.0.1
-
   alike : (ms : List MapState) → AreNew slots hash ms → AreOfKinds (λ h. kind_of (maps.get first_world h)) (worlds_of ms)
   alike [] new = tt
   alike (m ∷ ms) new = ((λ h. ap (λ w. kind_of (maps.get w h)) new.0.2), alike ms new.1)
@@ -61,7 +53,6 @@ module _ (slots : ℕ) (hash : HashKind) where
     few = omega (arith, few, new.1);
     hashed = hashed ms new.0;
     alike = alike ms new.0;
-    numbered = subst (λ n. AreNumbered n ms) (sym (first_last ms new.0)) (numbered ms new.0);
     own = own (place_of hash (length ms)) 0 ms new.0;
   }
 

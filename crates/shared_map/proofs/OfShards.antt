@@ -14,7 +14,7 @@ use Rattle.ctrie_map.specs.Maps.{MapState, handles_of}
 use Rattle.ctrie_map.specs.Reading.{read_of}
 use Rattle.shared_map.specs.Answering.{WorkUpTo}
 use Rattle.shared_map.specs.Asks.{place_of}
-use Rattle.shared_map.specs.Shards.{AreHashed, AreNumbered, AreShards, last_given, world_of_all, worlds_of}
+use Rattle.shared_map.specs.Shards.{AreHashed, AreShards, last_given, world_of_all, worlds_of}
 use Rattle.shared_map.specs.Uniting.{AreOfKinds, AreOwnFrom, kind_of, united, united_at, value_at}
 use Rattle.shared_map.proofs.Places.{map_set, set_found}
 use Rattle.shared_map.proofs.Turned.{kind_at, kinds_set, own_at, own_set, united_shows}
@@ -39,20 +39,10 @@ hashed_set hash [] i t are is = tt
 hashed_set hash (x ∷ ss) zero t are is = (is, are.1)
 hashed_set hash (x ∷ ss) (suc i) t are is = (are.0, hashed_set hash ss i t are.1 is)
 
-numbered_at : (last : ℕ) (ss : List MapState) (i : ℕ) (s : MapState) → AreNumbered last ss → slice_get ss i ≡ Some s → s.names.last ≡ last
-numbered_at last [] i s are at = cc
-numbered_at last (x ∷ ss) zero s are at = ap (λ (s : MapState). s.names.last) (sym (same_Some x s at)) ∙ are.0
-numbered_at last (x ∷ ss) (suc i) s are at = numbered_at last ss i s are.1 at
-
-numbered_set : (last : ℕ) (ss : List MapState) (i : ℕ) (t : MapState) → AreNumbered last ss → t.names.last ≡ last → AreNumbered last (slice_set ss i t)
-numbered_set last [] i t are is = tt
-numbered_set last (x ∷ ss) zero t are is = (is, are.1)
-numbered_set last (x ∷ ss) (suc i) t are is = (are.0, numbered_set last ss i t are.1 is)
-
-last_set : (ss : List MapState) (i : ℕ) (t : MapState) → t.names.last ≡ last_given ss → last_given (slice_set ss i t) ≡ last_given ss
-last_set [] i t is = refl
-last_set (x ∷ ss) zero t is = is
-last_set (x ∷ ss) (suc i) t is = refl
+last_set : (ss : List MapState) (i : ℕ) (s t : MapState) → slice_get ss i ≡ Some s → t.names.last ≡ s.names.last → last_given (slice_set ss i t) ≡ last_given ss
+last_set [] i s t at same = refl
+last_set (x ∷ ss) zero s t at same = same ∙ ap (λ (s : MapState). s.names.last) (sym (same_Some x s at))
+last_set (x ∷ ss) (suc i) s t at same = refl
 
 -- a call that opens no handle is denied by the kind of its handle alone
 pub denied_alike : (writes : Bool) (one other : ℕ) (m : KeyMap) (o : Option HandleState) →
@@ -96,9 +86,6 @@ module _ (hash : HashKind) (before : List MapState) (are : AreShards hash before
     pub hash_is : s.core.limits.hash ≡ hash
     hash_is = hashed_at hash before i s are.hashed at
 
-    pub last_is : s.names.last ≡ last_given before
-    last_is = numbered_at (last_given before) before i s are.numbered at
-
     pub kind_is : (h : ℕ) → kind_of (maps.get (handles_of s) h) ≡ are.kinds h
     kind_is h = kind_at are.kinds worlds i (handles_of s) are.alike world_at h
 
@@ -139,18 +126,17 @@ module _ (hash : HashKind) (before : List MapState) (are : AreShards hash before
 
       -- it has given no number
       pub last_after : t.names.last ≡ s.names.last → last_given after ≡ last_given before
-      last_after same = last_set before i t (same ∙ last_is)
+      last_after same = last_set before i s t at same
 
       -- the kinds of its handles are as before, and its keys are its own
-      pub shards_after : t.core.limits ≡ s.core.limits → t.names.last ≡ s.names.last → ((h : ℕ) → kind_of (maps.get (handles_of t) h) ≡ are.kinds h) →
+      pub shards_after : t.core.limits ≡ s.core.limits → ((h : ℕ) → kind_of (maps.get (handles_of t) h) ≡ are.kinds h) →
           ((h k : ℕ) → IsSome (value_at (handles_of t) h k) → place k ≡ i) → AreShards hash after
-      shards_after limits last kinds own = record {
+      shards_after limits kinds own = record {
         kinds = are.kinds;
         some = (let e = length_set before i t in omega (arith, e, are.some));
         few = (let e = length_set before i t in omega (arith, e, are.few));
         hashed = hashed_set hash before i t are.hashed (ap (λ (l : _). l.hash) limits ∙ hash_is);
         alike = subst (AreOfKinds are.kinds) (sym worlds_after) (kinds_set are.kinds worlds i (handles_of t) are.alike kinds);
-        numbered = subst (λ n. AreNumbered n after) (sym (last_after last)) (numbered_set (last_given before) before i t are.numbered (last ∙ last_is));
         own = subst (λ n. AreOwnFrom (place_of hash n) 0 (worlds_of after)) (sym (length_set before i t))
             (subst (AreOwnFrom place 0) (sym worlds_after)
             (own_set place 0 worlds i (handles_of t) are.own (λ h k some. let e = own h k some in omega (arith, e))));
@@ -170,9 +156,9 @@ module _ (hash : HashKind) (before : List MapState) (are : AreShards hash before
       world_stays same =
           ap united (worlds_after ∙ ap (slice_set worlds i) same ∙ set_found worlds i (handles_of s) world_at)
 
-      pub shards_stay : t.core.limits ≡ s.core.limits → t.names.last ≡ s.names.last → handles_of t ≡ handles_of s → AreShards hash after
-      shards_stay limits last same =
-          shards_after limits last (λ h. ap (λ w. kind_of (maps.get w h)) same ∙ kind_is h)
+      pub shards_stay : t.core.limits ≡ s.core.limits → handles_of t ≡ handles_of s → AreShards hash after
+      shards_stay limits same =
+          shards_after limits (λ h. ap (λ w. kind_of (maps.get w h)) same ∙ kind_is h)
           (λ h k some. own_here h k (subst (λ w. IsSome (value_at w h k)) same some))
 
       pub works_after : (most : ℕ) → WorksUpTo most s t → WorkUpTo most before after

@@ -35,7 +35,6 @@ one_is s = record {
   few = omega arith;
   hashed = (refl, tt);
   alike = ((λ h. refl), tt);
-  numbered = (refl, tt);
   own = ((λ h k some. only_place s.core.limits.hash k), tt);
 }
 

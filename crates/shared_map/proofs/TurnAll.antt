@@ -19,7 +19,7 @@ use Rattle.ctrie_map.specs.Performing.{copy_call, effect_among}
 use Rattle.ctrie_map.proofs.Named.{at_other, at_same, gone_other, gone_same}
 use Rattle.shared_map.specs.Answering.{WorkUpTo}
 use Rattle.shared_map.specs.Asks.{place_of}
-use Rattle.shared_map.specs.Shards.{AreHashed, AreNumbered, AreShards, last_given, world_of_all, worlds_of}
+use Rattle.shared_map.specs.Shards.{AreHashed, AreShards, last_given, world_of_all, worlds_of}
 use Rattle.shared_map.specs.Turning.{HaveBecome, HaveTurned, call_of, last_by, map_shown, reply_of, turned}
 use Rattle.shared_map.specs.Uniting.{AreOfKinds, AreOwnFrom, kind_of, pairs_of, united, united_at, value_at, value_of}
 use Rattle.shared_map.specs.declared.turning.Turn.{Turn}
@@ -54,12 +54,6 @@ module _ (f : HandleMap → HandleMap) (gives : ℕ → ℕ) (most : ℕ) where
   become_hashed hash [] (y ∷ ts) have are = absurd have
   become_hashed hash (x ∷ ss) [] have are = absurd have
   become_hashed hash (x ∷ ss) (y ∷ ts) have are = (ap (λ (l : _). l.hash) have.0.limits ∙ are.0, become_hashed hash ss ts have.1 are.1)
-
-  become_numbered : (last : ℕ) (ss ts : List MapState) → HaveBecome f gives most ss ts → AreNumbered last ss → AreNumbered (gives last) ts
-  become_numbered last [] [] have are = tt
-  become_numbered last [] (y ∷ ts) have are = absurd have
-  become_numbered last (x ∷ ss) [] have are = absurd have
-  become_numbered last (x ∷ ss) (y ∷ ts) have are = (have.0.last ∙ ap gives are.0, become_numbered last ss ts have.1 are.1)
 
   pub become_last : (ss ts : List MapState) → 1 ≤ length ss → HaveBecome f gives most ss ts → last_given ts ≡ gives (last_given ss)
   become_last [] ts some have = absurd (omega (arith, some))
@@ -134,8 +128,6 @@ module _ (hash : HashKind) (before after : List MapState) (are : AreShards hash 
           few = omega (arith, long, are.few);
           hashed = become_hashed f gives most hash before after have are.hashed;
           alike = subst (AreOfKinds later) (sym vs_are) kinds_later;
-          numbered = subst (λ n. AreNumbered n after) (sym (become_last f gives most before after are.some have))
-              (become_numbered f gives most (last_given before) before after have are.numbered);
           own = subst (λ n. AreOwnFrom (place_of hash n) 0 (worlds_of after)) (sym long) (subst (AreOwnFrom place 0) (sym vs_are) own_later);
         }
 

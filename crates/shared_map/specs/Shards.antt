@@ -30,20 +30,13 @@ abbrev pub last_given : List MapState → ℕ
 last_given [] = 0
 last_given (s ∷ ss) = s.names.last
 
--- each has given this one last
-abbrev pub AreNumbered : ℕ → List MapState → Type 0
-AreNumbered last [] = Unit {0}
-AreNumbered last (s ∷ ss) = (s.names.last ≡ last) × AreNumbered last ss
-
--- These are the shards of one map: they have this hash, the same handles are open in all, the same number was given last, and a key has its values in the shard of its
--- place alone.
+-- These are the shards of one map: they have this hash, the same handles are open in all, and a key has its values in the shard of its place alone.
 pub record AreShards (hash : HashKind) (shards : List MapState) : Type 0 where
   pub kinds : ℕ → Option Access
   pub some : 1 ≤ length shards
   pub few : length shards ≤ 64
   pub hashed : AreHashed hash shards
   pub alike : AreOfKinds kinds (worlds_of shards)
-  pub numbered : AreNumbered (last_given shards) shards
   pub own : AreOwnFrom (place_of hash (length shards)) 0 (worlds_of shards)
 
 -- ---- the shards that a call is about

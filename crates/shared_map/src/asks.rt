@@ -44,8 +44,9 @@ pub enum Ask {
     },
     /// The handle, which is writable, is to have the copy's map from now on, in all shards or in none: each is asked before
     /// one is changed. `NoHandle` where one of the two isn't open; `ReadOnly`, `HandlesFull` and `WornOut` as of
-    /// `Map::restore` in any shard; `Full` just where some of several shards has fewer free slots than a copy may take, and as
-    /// of `Map::restore` where there is one. All maps stay then.
+    /// `Map::restore` in any shard. A restore from another handle that nothing else refuses is `Full` just where some of
+    /// several shards has fewer free slots than a copy may take, and as of `Map::restore` where there is one. All maps stay
+    /// where it is refused.
     Restore {
         handle: u16,
         copy: u16,

@@ -15,9 +15,9 @@ use history::Call;
 use sharded_gate::ShardCount;
 use std::sync::Wait;
 
-/// The calls of a seat on its map `M`. Each answers what the call of `Map` answers, on the map as the calls before it in the
-/// log left it, and stands in the log with its answer, also where it is refused. One on a key holds the key's shard alone,
-/// `scan` and `hear` the shard that they are of, any other one all shards. It may wait for others.
+/// The calls of a seat on its map `M`. Each but `hear` answers what the call of `Map` answers, on the map as the calls before it
+/// in the log left it, and stands in the log with its answer, also where it is refused. One on a key holds the key's shard
+/// alone, `scan` and `hear` the shard that they are of, any other one all shards. It may wait for others.
 pub trait MapCalls<M> {
     ghost use Rattle.shared_map.specs.Seats.{IsSeatOf, MapRoom, MapSeat};
 

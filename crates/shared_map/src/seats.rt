@@ -37,8 +37,9 @@ impl SharedMap {
     }
 
     /// Tells whether so many calls about a shard stand in the log that it finds, as `last` of a seat numbers them; of a shard
-    /// that isn't there it tells `false`. All that it found stands before what the seat calls next, so who is told the number
-    /// of a call, and hears `true` of it, comes behind it. It may find no more than the seat had seen before.
+    /// that isn't there it tells `false`, once it has looked at the first one. All that it found stands before what the seat
+    /// calls next, so who is told the number of a call, and hears `true` of it, comes behind it. It may find no more than the
+    /// seat had seen before.
     pub fn hear<R: Wait>(&self, rt: &R, seat: &mut MapSeat, count: ShardCount) -> bool
         requires { IsSeatOf self.now seat.old }
         ensures { HasHeardOf self.now seat.old count result seat.new }
@@ -46,7 +47,8 @@ impl SharedMap {
         self.gate.hear(rt, seat, count)
     }
 
-    /// The same if the shard is not taken. With `None` another seat had it, and the seat has seen what it had.
+    /// The same if the shard, or the first one where it isn't there, is not taken. With `None` another seat had that, and the
+    /// seat has seen what it had.
     pub fn try_hear(&self, seat: &mut MapSeat, count: ShardCount) -> Option<bool>
         requires { IsSeatOf self.now seat.old }
         ensures heard { IfSome result (λ heard. HasHeardOf self.now seat.old count heard seat.new) }

@@ -1,8 +1,13 @@
-use Rattle.std.proofs.Common.{IfOk, subst, sym, ◌∙◌}
+use Rattle.std.proofs.Common.{◌≡◌, IfOk, None, subst, sym, ◌∙◌}
 use Rattle.std.proofs.lemmas.Result.{err_from_is_err_and}
-use Rattle.ctrie_map.specs.Cores.{Carries, Leads}
-use Rattle.ctrie_map.proofs.Setting.{changes_so, refuses_so}
+use Rattle.ctrie_map.specs.Cores.{Carries, Leads, core_denial}
+use Rattle.ctrie_map.proofs.Setting.{allowed, changes_so, refuses_so}
 use Rattle.ctrie_map.proofs.batches.change_key.Goals as goal
+
+pub perform-told-requires-clause-allowed : goal.perform-told-requires-clause-allowed
+perform-told-requires-clause-allowed c =
+    subst (λ k. core_denial c.args.core.now.state k ≡ None) (sym c.key_call.ensures.call)
+    (allowed c.args.core.now.state c.args.handle c.args.pair c.requires.writable.0 c.requires.writable.1 c.args.batch)
 
 pub returns-in_err-found-clause-refused : goal.returns-in_err-found-clause-refused
 returns-in_err-found-clause-refused c =

@@ -1,6 +1,6 @@
-use Rattle.std.proofs.Common.{sym, subst, ◌∙◌}
-use Rattle.ctrie_map.specs.Cores.{Carries}
-use Rattle.ctrie_map.proofs.ByName.{changed, frozen, not_open}
+use Rattle.std.proofs.Common.{◌≡◌, None, sym, subst, ◌∙◌}
+use Rattle.ctrie_map.specs.Cores.{Carries, core_denial}
+use Rattle.ctrie_map.proofs.ByName.{changed, core_changes, frozen, not_open}
 use Rattle.ctrie_map.proofs.named_calls.change.Goals as goal
 
 pub returns-in_default-clause-performs : goal.returns-in_default-clause-performs
@@ -11,6 +11,12 @@ pub returns-in-ReadOnly-clause-performs : goal.returns-in-ReadOnly-clause-perfor
 returns-in-ReadOnly-clause-performs c =
     frozen c.args.core.now.state c.args.names.now c.requires.whole c.handle.result c.in-Some.name (sym c.find.ensures ∙ c.in-Some.is) c.args.call c.requires.on_map
     (sym c.handle.ensures) c.in-ReadOnly.is
+
+pub perform-requires-clause-allowed : goal.perform-requires-clause-allowed
+perform-requires-clause-allowed c =
+    subst (λ k. core_denial c.args.core.now.state k ≡ None) (sym c.on_handle.ensures)
+    (core_changes c.args.core.now.state c.args.names.now c.requires.whole c.handle.result c.in-Some.name (sym c.find.ensures ∙ c.in-Some.is) c.args.call c.requires.on_map
+    (sym c.handle.ensures) c.in-Writable.is)
 
 pub returns-in-Writable-clause-whole : goal.returns-in-Writable-clause-whole
 returns-in-Writable-clause-whole c = record {

@@ -2,12 +2,16 @@ use Rattle.std.proofs.Common.{Ok, refl, sym, subst, ◌∙◌}
 use Rattle.std.proofs.lemmas.Result.{err_from_is_err_and}
 use Rattle.history.specs.declared.calls.Call.TheVariants.{Close}
 use Rattle.ctrie_map.specs.Cores.{Carries}
-use Rattle.ctrie_map.proofs.ByName.{close_refused, closed, not_open}
+use Rattle.ctrie_map.proofs.ByName.{close_refused, closed, core_closes, not_open}
 use Rattle.ctrie_map.proofs.named_calls.close.Goals as goal
 
 pub returns-in_default-clause-performs : goal.returns-in_default-clause-performs
 returns-in_default-clause-performs c =
     not_open c.args.core.now.state c.args.names.now c.requires.whole c.args.handle (Close c.args.handle) refl (sym c.find.ensures ∙ c.in_default.is)
+
+pub perform-requires-clause-allowed : goal.perform-requires-clause-allowed
+perform-requires-clause-allowed c =
+    core_closes c.args.core.now.state c.args.names.now c.requires.whole c.args.handle c.in-Some.name (sym c.find.ensures ∙ c.in-Some.is)
 
 pub returns-in_err-reply-clause-performs : goal.returns-in_err-reply-clause-performs
 returns-in_err-reply-clause-performs c =
