@@ -24,9 +24,8 @@ use Rattle.ctrie_commands.specs.Beneath.script_text.specs.declared.thread_lines.
 use Rattle.ctrie_commands.specs.Beneath.script_text.specs.declared.thread_lines.ThreadLine.TheVariants.{Do, Sweep}
 use Rattle.ctrie_commands.specs.Beneath.script_text.specs.Threads.Reading.{Reading, thread_dialect, thread_script_of}
 use Rattle.ctrie_commands.specs.Beneath.script_text.proofs.Few.{few_lines}
-use Rattle.ctrie_commands.specs.Beneath.script_text.proofs.Threads.Found.{script_found}
 use Rattle.ctrie_commands.specs.Working.{calls_in, calls_of, names_sweep, sweep_lines, Performed, None, Answered, Denied, answered_calls}
-use Rattle.ctrie_commands.specs.Threads.{IsPerformedBy, IsSweptBy, IsCarriedOut, thread_report, IsReportOf, IsThreadReport}
+use Rattle.ctrie_commands.specs.Threads.{IsPerformedBy, IsSweptBy, IsCarriedOut, thread_report, IsReportOf, SaysThreadScript, IsThreadReport}
 use Rattle.script_commands.specs.Legality.{told_in, AppendsJudged}
 use Rattle.script_commands.proofs.Legal.{judged_legal}
 use Rattle.ctrie_commands.proofs.ThreadReports.{thread_report_counted}
@@ -130,16 +129,16 @@ module _ (script : Reading) (board : Taken) (denials : List (List Refusal)) (don
 
 -- ---- what is written
 
-pub is_thread_report : (text : List ℕ) (script : Reading) (bytes : List ℕ) → thread_script_of text ≡ Ok script → IsReportOf script bytes → IsThreadReport text bytes
+pub is_thread_report : (text : List ℕ) (script : Reading) (bytes : List ℕ) → SaysThreadScript text script → IsReportOf script bytes → IsThreadReport text bytes
 unfolding thread_script_of
-is_thread_report text script bytes read is =
-    let short = short_report script is.board is.denials is.done script.limits.hash (script_found text script read).1.0 (few_lines thread_dialect text script read) in
-    (script, read, is, judged_legal bytes (told_in script.limits.hash (past_of is.board)) is.legal (subst IsShort (sym is.whole) short))
+is_thread_report text script bytes says is =
+    let short = short_report script is.board is.denials is.done script.limits.hash says.0.1.0 (few_lines thread_dialect text script says.1) in
+    (script, says, is, judged_legal bytes (told_in script.limits.hash (past_of is.board)) is.legal (subst IsShort (sym is.whole) short))
 
-pub each_report : {T : Type 0} (bytes_of : T → List ℕ) (text : List ℕ) (script : Reading) (result : Result T Fault) → thread_script_of text ≡ Ok script →
+pub each_report : {T : Type 0} (bytes_of : T → List ℕ) (text : List ℕ) (script : Reading) (result : Result T Fault) → SaysThreadScript text script →
     IfOk result (λ report. IsReportOf script (bytes_of report)) → IfOk result (λ report. IsThreadReport text (bytes_of report))
-each_report bytes_of text script (Ok report) read is = is_thread_report text script (bytes_of report) read is
-each_report bytes_of text script (Err fault) read is = tt
+each_report bytes_of text script (Ok report) says is = is_thread_report text script (bytes_of report) says is
+each_report bytes_of text script (Err fault) says is = tt
 
 pub appends_judged : (old new : Option (List ℕ)) (text bytes : List ℕ) → IsThreadReport text bytes → Appends old new bytes → AppendsJudged old new
-appends_judged old new text bytes (script, read, is, judged) grown = (bytes, told_in script.limits.hash (past_of is.board), is.legal, judged, grown)
+appends_judged old new text bytes (script, says, is, judged) grown = (bytes, told_in script.limits.hash (past_of is.board), is.legal, judged, grown)

@@ -4,13 +4,17 @@ use Rattle.std.specs.Prelude.{◌≡◌, ℕ, ◌+◌, ◌<◌, ◌⊎◌, true,
 use Rattle.ctrie_base.specs.declared.refusals.Refusal.{Refusal}
 use Rattle.ctrie_base.specs.declared.refusals.Refusal.TheVariants.{Spent}
 use Rattle.ctrie_base.specs.declared.hashes.HashKind.{HashKind}
-use Rattle.ctrie_commands.specs.Beneath.history_commands.specs.Faults.{IsFault}
+use Rattle.ctrie_commands.specs.Beneath.history_commands.specs.declared.faults.Fault.{Fault}
+use Rattle.ctrie_commands.specs.Beneath.history_commands.specs.declared.faults.Fault.TheVariants.{Line}
+use Rattle.ctrie_commands.specs.Beneath.history_commands.specs.Faults.{IsFault, IsOf}
 use Rattle.ctrie_commands.specs.Beneath.history_commands.specs.Written.{AppendsSuch, AppendsPartOf}
 use Rattle.ctrie_commands.specs.Beneath.machine_model.specs.declared.steps.Limits.{Limits}
 use Rattle.ctrie_commands.specs.Beneath.proof_runs.specs.Machines.{Taken, past_of, AreTaken}
 use Rattle.lock_runner.specs.declared.accounts.Answer.{Answer}
 use Rattle.lock_runner.specs.ActorHistory.Answers.{AreAnswersOf}
 use Rattle.lock_runner.specs.Boards.{sweeps_in}
+use Rattle.ctrie_commands.specs.Beneath.script_text.specs.Grammar.{IsShort}
+use Rattle.ctrie_commands.specs.Beneath.script_text.specs.Threads.Grammar.{IsThreadSpelling}
 use Rattle.ctrie_commands.specs.Beneath.script_text.specs.Threads.Reading.{Reading, thread_script_of}
 use Rattle.script_commands.specs.Recorded.{Recorded, recorded_in}
 use Rattle.script_commands.specs.Reports.{line, hash_text, event_lines, last_lines, denied_lines}
@@ -66,13 +70,26 @@ pub record IsReportOf (script : Reading) (bytes : List ℕ) : Type 0 where
   pub whole : bytes ≡ thread_report script.limits.hash (recorded_in board) denials
   pub legal : IsLegalText bytes (told_in script.limits.hash (past_of board))
 
+-- the text spells this script for threads by the grammar, and is read so
+abbrev pub SaysThreadScript : List ℕ → Reading → Type 0
+SaysThreadScript text script = IsThreadSpelling text script × (thread_script_of text ≡ Ok script)
+
 -- the text is a script for threads without a fault, and the bytes are such a report, of which a check answers true
 abbrev pub IsThreadReport : List ℕ → List ℕ → Type 0
-IsThreadReport text bytes = (script : Reading) × (thread_script_of text ≡ Ok script) × IsReportOf script bytes × IsVerdict bytes true
+IsThreadReport text bytes = (script : Reading) × SaysThreadScript text script × IsReportOf script bytes × IsVerdict bytes true
 
--- the text's first line with a fault is this one, with this fault
+-- the text spells no script for threads by the grammar, unless in too many lines
+abbrev pub SpellsNoThreadScript : List ℕ → Type 0
+SpellsNoThreadScript text = (script : Reading) → IsThreadSpelling text script → ¬ IsShort text
+
+-- the text spells no script for threads, unless in too many lines, and its first line with a fault is this one, with this fault
 abbrev pub HasThreadFault : List ℕ → ℕ → Refusal → Type 0
-HasThreadFault text number refusal = IsFault (thread_script_of text) number refusal
+HasThreadFault text number refusal = SpellsNoThreadScript text × IsFault (thread_script_of text) number refusal
+
+-- the fault is want of memory, or that of the text's line
+abbrev pub IsOfThreadScript : List ℕ → Fault → Type 0
+IsOfThreadScript text (Line number refusal) = HasThreadFault text number refusal
+IsOfThreadScript text fault = IsOf (thread_script_of text) fault
 
 -- known bytes grow by such a report, and by a beginning of one
 abbrev pub AppendsThreadReport : Option (List ℕ) → Option (List ℕ) → List ℕ → Type 0

@@ -86,7 +86,8 @@ abbrev pub DeniesSweep : Refusal → Taken → Type 0
 DeniesSweep refusal board = next (state_of board) step.Sweep ≡ Err refusal
 
 -- The actor's calls were performed on the way to this board, one after the other: these of them were answered, and the others were denied, for these
--- reasons, each where just the calls before it that were answered had been, and none of the actor's ran but a call that was denied in its midst.
+-- reasons, each where just the calls before it that were answered had been, and no other call of the actor's ran, unless an earlier one was told that the
+-- machine has taken all its steps.
 pub data Performed (actor : ℕ) (board : Taken) : List Call → List Call → List Refusal → Type 0 where
   None : Performed actor board [] [] []
   Answered : (calls answered : List Call) (denied : List Refusal) (call : Call) → Performed actor board calls answered denied →

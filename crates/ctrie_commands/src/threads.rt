@@ -7,11 +7,9 @@ ghost use Rattle.counted_io.specs.Counts.{inner_of, failures};
 ghost use Rattle.lock_runner.specs.Seats.{AreSeatsOf};
 ghost use Rattle.lock_runner.specs.Opening.{IsMade};
 ghost use Rattle.ctrie_commands.specs.Beneath.script_text.specs.Views.{read};
-ghost use Rattle.ctrie_commands.specs.Beneath.script_text.specs.Threads.Reading.{thread_script_of};
-ghost use Rattle.ctrie_commands.specs.Beneath.history_commands.specs.Faults.{IsOf};
 ghost use Rattle.script_commands.specs.Legality.{AppendsJudged};
 ghost use Rattle.ctrie_commands.specs.Working.{AreGathered};
-ghost use Rattle.ctrie_commands.specs.Threads.{with_sweeper, IsReportOf, IsThreadReport, HasThreadFault, AppendsThreadReport, AppendsThreadReportPart};
+ghost use Rattle.ctrie_commands.specs.Threads.{with_sweeper, IsReportOf, IsThreadReport, HasThreadFault, IsOfThreadScript, AppendsThreadReport, AppendsThreadReportPart};
 
 use crate::groups::work_all;
 use crate::working::Worker;
@@ -83,7 +81,7 @@ fn carried_out<R: Threads + Wait + Sync, B: Between + Sync>(
     between: &B,
 ) -> Result<String, Fault>
     ensures report { IfOk result (λ report. IsThreadReport text.now (string_bytes report)) }
-    ensures faults { IfErr result (IsOf (thread_script_of text.now)) }
+    ensures faults { IfErr result (IsOfThreadScript text.now) }
 {
     let script = read_thread_script(alloc, text)?;
     reported(rt, alloc, &script, between)

@@ -18,7 +18,7 @@ pub fn change(content: &mut Content, call: &Call, hash: HashKind) -> Result<Opti
         (λ reply. (reply, content.new)
         ≡ reply_or_same content.old (change_in (hash_of hash) call.now content.old)) }
     ensures none { change_in (hash_of hash) call.now content.old ≡ None → result ≡ Ok None }
-    ensures few { TakesNone call.now → IsOk result }
+    ensures no_memory { TakesNone call.now → IsOk result }
     ensures err { OnErr result (content.new ≡ content.old) }
     ensures only_memory { IsOkUnless result Refusal.Memory }
 {

@@ -60,7 +60,7 @@ impl Handle {
             ≡ reply_or_same self.old
             (changed_handle (hash_of hash) call.now self.old.access self.old.pairs)) }
         ensures none { changed_handle (hash_of hash) call.now self.old.access self.old.pairs ≡ None → result ≡ Ok None }
-        ensures few { TakesNone call.now → IsOk result }
+        ensures no_memory { TakesNone call.now → IsOk result }
         ensures err { OnErr result (self.new ≡ self.old) }
         ensures only_memory { IsOkUnless result Refusal.Memory }
     {

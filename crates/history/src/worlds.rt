@@ -127,7 +127,7 @@ impl World {
             (λ reply. (reply, self.new)
             ≡ answer_in self.old (changed_world (hash_of hash) call.now self.old handle)) }
         ensures none { changed_world (hash_of hash) call.now self.old handle ≡ None → result ≡ Ok None }
-        ensures few { TakesNone call.now → IsOk result }
+        ensures no_memory { TakesNone call.now → IsOk result }
         ensures err { OnErr result (self.new ≡ self.old) }
         ensures only_memory { IsOkUnless result Refusal.Memory }
     {
@@ -192,7 +192,7 @@ pub fn reply_of(
         (λ reply. (reply, world.new)
         ≡ answer_in world.old (effect (hash_of hash) world.old call.now opens)) }
     ensures none { effect (hash_of hash) world.old call.now opens ≡ None → result ≡ Ok None }
-    ensures few { TakesNone call.now → IsOk result }
+    ensures no_memory { TakesNone call.now → IsOk result }
     ensures err { OnErr result (world.new ≡ world.old) }
     ensures only_memory { IsOkUnless result Refusal.Memory }
 {

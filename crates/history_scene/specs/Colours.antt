@@ -15,7 +15,7 @@ names (WrongEvent place) id = false
 names (NotBegun one) id = one == id
 names (StandsTwice one) id = one == id
 names (WasRefused one) id = one == id
-names (StandsBehind late other) id = (late == id) || (other == id)
+names (StandsBehind one other) id = (one == id) || (other == id)
 names (NoEffect one obstacle) id = one == id
 names (OtherReply one call recorded given) id = one == id
 names (Missing one) id = one == id

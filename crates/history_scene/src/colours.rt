@@ -39,7 +39,7 @@ fn names(fault: &OrderFault, id: u64) -> bool
 {
     match fault {
         OrderFault::WrongEvent { .. } => false,
-        OrderFault::StandsBehind { id: late, other } => *late == id || *other == id,
+        OrderFault::StandsBehind { id: one, other } => *one == id || *other == id,
         OrderFault::NotBegun { id: one }
         | OrderFault::StandsTwice { id: one }
         | OrderFault::WasRefused { id: one }

@@ -20,10 +20,10 @@ use Rattle.script_commands.specs.Beneath.proof_runs.specs.Machines.{Taken, past_
 use Rattle.script_commands.specs.Beneath.proof_runs.specs.Legality.{IsLegalFor}
 use Rattle.script_commands.specs.Beneath.proof_obstruction_free.specs.Closes.{ClosesEnd}
 use Rattle.script_commands.specs.Beneath.proof_obstruction_free.specs.Laws.{AloneItEnds}
-use Rattle.script_text.specs.Reading.{Reading as Script, script_of}
+use Rattle.script_text.specs.Reading.{Reading as Script}
 use Rattle.script_text.specs.Steps.{all_steps}
 use Rattle.script_commands.specs.Reports.{last_of, report}
-use Rattle.script_commands.specs.Scripts.{IsReport}
+use Rattle.script_commands.specs.Scripts.{SaysScript, IsReport}
 use Rattle.history_commands.specs.Verdicts.{IsVerdict}
 use Rattle.script_commands.specs.Legality.{told_in, IsLegalText, AppendsJudged}
 use Rattle.script_commands.proofs.Endings.{each_line_ends}
@@ -83,15 +83,15 @@ report_legal script machine text is fit legal same =
 
 -- ---- what is written
 
-pub is_report : AloneItEnds → ClosesEnd → (text : List ℕ) (script : Script) (bytes : List ℕ) → script_of text ≡ Ok script → bytes ≡ report script →
+pub is_report : AloneItEnds → ClosesEnd → (text : List ℕ) (script : Script) (bytes : List ℕ) → SaysScript text script → bytes ≡ report script →
     IsLegalText bytes (told_in script.limits.hash (last_of script).past) → IsReport text bytes
-is_report law closes text script bytes is whole right = record {
+is_report law closes text script bytes says whole right = record {
   script = script;
-  read = is;
+  says = says;
   whole = whole;
   legal = right;
-  judged = judged_legal bytes (told_in script.limits.hash (last_of script).past) right (subst IsShort (sym whole) (report_short text script is));
-  ends = each_line_ends law closes text script is;
+  judged = judged_legal bytes (told_in script.limits.hash (last_of script).past) right (subst IsShort (sym whole) (report_short text script says.1));
+  ends = each_line_ends law closes text script says.1;
 }
 
 pub appends_judged : (old new : Option (List ℕ)) (text bytes : List ℕ) → IsReport text bytes → Appends old new bytes → AppendsJudged old new

@@ -4,10 +4,8 @@ ghost use Rattle.std.specs.Prelude.{◌≡◌, ◌≢◌, ◌<◌, ◌^◌, ℕ,
 ghost use Rattle.std.specs.Io.KnownBytes.{Keeps, IsAtEnd};
 ghost use Rattle.std.specs.String.{string_bytes};
 ghost use Rattle.counted_io.specs.Counts.{inner_of, failures};
-ghost use Rattle.script_text.specs.Reading.{script_of};
-ghost use Rattle.history_commands.specs.Faults.{IsOf};
 ghost use Rattle.script_commands.specs.Legality.{AppendsJudged};
-ghost use Rattle.script_commands.specs.Scripts.{IsReport, HasScriptFault, AppendsReport, AppendsReportPart};
+ghost use Rattle.script_commands.specs.Scripts.{IsReport, HasScriptFault, IsOfScript, AppendsReport, AppendsReportPart};
 
 use crate::reports::report_of;
 use counted_io::{Counted, read_all, write_all};
@@ -19,7 +17,7 @@ use std::io::{Read, Write};
 /// The report of the script that the text is.
 fn carried_out(alloc: Global, text: &[u8]) -> Result<String, Fault>
     ensures report { IfOk result (λ report. IsReport text.now (string_bytes report)) }
-    ensures faults { IfErr result (IsOf (script_of text.now)) }
+    ensures faults { IfErr result (IsOfScript text.now) }
 {
     step_machine::alone_it_ends();
     step_machine::closes_end();

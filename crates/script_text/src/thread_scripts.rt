@@ -1,11 +1,11 @@
 //! Reading a script for threads: whole calls and steps of the sweep alone.
 
-ghost use Rattle.std.specs.Prelude.{◌≡◌, IfOk, Ok};
+ghost use Rattle.std.specs.Prelude.{IfOk, Ok};
 ghost use Rattle.text_lines.specs.Words.{nows};
 ghost use Rattle.text_lines.specs.Views.{Reads};
-ghost use Rattle.script_text.specs.Reading.{script_of};
+ghost use Rattle.script_text.specs.Grammar.{IsShort};
 ghost use Rattle.script_text.specs.Views.{read};
-ghost use Rattle.script_text.specs.Threads.Grammar.{as_script, FitsThreads};
+ghost use Rattle.script_text.specs.Threads.Grammar.{IsThreadSpelling};
 ghost use Rattle.script_text.specs.Threads.Reading.{Reading, thread_dialect, thread_script_of};
 
 use crate::reading::{Progress, Script, ScriptLine};
@@ -33,10 +33,11 @@ impl ScriptLine for ThreadLine {
 /// lines `do A CALL` and `sweep N`.
 #[tactic(auto, unfolding(crate::specs::Threads::Reading::thread_script_of))]
 pub fn read_thread_script(alloc: Global, text: &[u8]) -> Result<Script<ThreadLine>, Told>
-    // What is read is a script as any other, with one actor to spare and with lines for threads alone.
-    ensures found { IfOk result (λ script. (script_of text.now ≡ Ok (as_script (read script))) × FitsThreads (read script)) }
-    // Each such script is read, unless memory runs out.
-    ensures only { (script : Reading) → script_of text.now ≡ Ok (as_script script) → FitsThreads script
+    // The lines that aren't ignored spell what is read, as any other script; it has one actor to spare and
+    // lines for threads alone.
+    ensures found { IfOk result (λ script. IsThreadSpelling text.now (read script)) }
+    // What is spelled so, in at most 100,000 lines, is read, unless memory runs out.
+    ensures only { (script : Reading) → IsThreadSpelling text.now script → IsShort text.now
         → Reads read result (Ok script) }
     // What is read, or which fault is told at which line.
     ensures exact { Reads read result (thread_script_of text.now) }

@@ -181,46 +181,72 @@ fn moves_one_byte_a_call(rt: HostRuntime) {
     }
 }
 
-/// Each read fails in turn, the last at the end: nothing is written. One that was interrupted is made again, and all is.
+/// Each read fails so in turn, the last at the end: this is told, and just what is wanted is written.
+fn fail_each_read<R: Abort + AllocGlobal + Threads + Wait + Sync>(
+    rt: &R,
+    case: Case,
+    kind: ErrorKind,
+    told: Result<(), Fault>,
+    wanted: &[u8],
+) {
+    for call in 1..=case.text.len() as u64 + 1 {
+        let mut sink = Sink::new(Vec::new(rt.alloc()), 0);
+        let source = Source::new(case.text, call, kind);
+        let found = carried_out(rt, case, source, &mut sink);
+        assert!(rt; found == (told, 1, 0), "{:?} {call}", case.command);
+        assert!(rt; sink.taken.as_slice() == wanted);
+    }
+}
+
+/// Nothing is written behind a failed read. One that was interrupted is made again, and all is.
 #[test]
 fn tells_each_failed_read(rt: HostRuntime) {
     for case in CASES {
         let written = written(&rt, case);
-        for (kind, result, wanted) in [
-            (ErrorKind::Other, Err(Fault::Read), [].as_slice()),
-            (ErrorKind::Interrupted, Ok(()), written.as_slice()),
-        ] {
-            for call in 1..=case.text.len() as u64 + 1 {
-                let mut sink = Sink::new(Vec::new(rt.alloc()), 0);
-                let source = Source::new(case.text, call, kind);
-                let found = carried_out(&rt, case, source, &mut sink);
-                assert!(rt; found == (result, 1, 0), "{:?} {call}", case.command);
-                assert!(rt; sink.taken.as_slice() == wanted);
-            }
+        fail_each_read(&rt, case, ErrorKind::Other, Err(Fault::Read), &[]);
+        fail_each_read(
+            &rt,
+            case,
+            ErrorKind::Interrupted,
+            Ok(()),
+            written.as_slice(),
+        );
+    }
+}
+
+/// This write fails: a beginning of what is written else was written.
+fn fail_write<R: Abort + AllocGlobal + Threads + Wait + Sync>(
+    rt: &R,
+    case: Case,
+    call: u64,
+    written: &[u8],
+) {
+    let mut sink = Sink::new(Vec::new(rt.alloc()), call);
+    let source = Source::new(case.text, 0, ErrorKind::Other);
+    let found = carried_out(rt, case, source, &mut sink);
+    assert!(rt;
+        found == (Err(Fault::Write), 0, 1),
+        "{:?} {call}",
+        case.command
+    );
+    assert!(rt; sink.taken.len() as u64 + 1 == call);
+    assert!(rt; written.starts_with(sink.taken.as_slice()));
+}
+
+/// Each write fails in turn, the last a flush. Of the many of a picture one in 64 does, and the last.
+fn fail_each_write<R: Abort + AllocGlobal + Threads + Wait + Sync>(rt: &R, case: Case) {
+    let written = written(rt, case);
+    let calls = written.len() as u64 + 1;
+    for call in 1..=calls {
+        if !case.is_picture() || call % 64 == 0 || call == calls {
+            fail_write(rt, case, call, written.as_slice());
         }
     }
 }
 
-/// Each write fails in turn, the last a flush: a beginning was written. Of the many of a picture one in 64 does.
 #[test]
 fn tells_each_failed_write(rt: HostRuntime) {
     for case in CASES {
-        let written = written(&rt, case);
-        let calls = written.len() as u64 + 1;
-        for call in 1..=calls {
-            if case.is_picture() && call % 64 != 0 && call != calls {
-                continue;
-            }
-            let mut sink = Sink::new(Vec::new(rt.alloc()), call);
-            let source = Source::new(case.text, 0, ErrorKind::Other);
-            let found = carried_out(&rt, case, source, &mut sink);
-            assert!(rt;
-                found == (Err(Fault::Write), 0, 1),
-                "{:?} {call}",
-                case.command
-            );
-            assert!(rt; sink.taken.len() as u64 + 1 == call);
-            assert!(rt; written.starts_with(sink.taken.as_slice()));
-        }
+        fail_each_write(&rt, case);
     }
 }

@@ -19,14 +19,16 @@ use Rattle.script_text.specs.Headers.{slots_of, actors_of}
 use Rattle.script_text.specs.Commands.{command_of}
 use Rattle.script_text.specs.Reading as script
 use Rattle.script_text.specs.Reading.{command_dialect, script_format, script_of}
+use Rattle.script_text.specs.Grammar.{IsShort}
 use Rattle.script_text.proofs.FoundCommands.{command_found, first_is}
+use Rattle.script_text.proofs.Only.{read_again}
 use Rattle.script_text.specs.declared.thread_lines.ThreadLine.{ThreadLine}
 use Rattle.script_text.specs.declared.thread_lines.ThreadLine.TheVariants.{Do, Sweep}
 use Rattle.script_text.specs.declared.reading.Script.{Script}
 use Rattle.script_text.specs.Threads.Lines.{at_most_63, thread_actors_of, is_for_threads, thread_line_from, thread_line_of}
 use Rattle.script_text.specs.Scripts.{Progress, Start, Sized, Hashed, InLines, words_after, all_read}
 use Rattle.script_text.specs.Threads.Reading.{Reading, thread_dialect, thread_format, thread_script_of}
-use Rattle.script_text.specs.Threads.Grammar.{command_from, as_script, LineFits, FitsThreads}
+use Rattle.script_text.specs.Threads.Grammar.{command_from, as_script, LineFits, FitsThreads, IsThreadSpelling}
 use Rattle.script_text.specs.Views.{read}
 use Rattle.script_text.proofs.Threads.Found.{as_progress}
 use Rattle.text_lines.proofs.Whole.{at_ok}
@@ -189,7 +191,7 @@ lines_again (line ∷ more) n p e reading is done fits =
     let rest = lines_again more (n + 1) next.0 e reading (subst (λ (s : Progress Command). read_lines script_format (n + 1) s more ≡ Ok e) (sym next.2) b.2) done fits in
     (rest.0, rw next.1 rest.1, rest.2)
 
-pub script_again : (text : List ℕ) (reading : Reading) → script_of text ≡ Ok (as_script reading) → FitsThreads reading → thread_script_of text ≡ Ok reading
+script_again : (text : List ℕ) (reading : Reading) → script_of text ≡ Ok (as_script reading) → FitsThreads reading → thread_script_of text ≡ Ok reading
 unfolding thread_script_of script_of text_of
 script_again text reading e fits =
     let lines = lines_of text in
@@ -197,6 +199,6 @@ script_again text reading e fits =
     let last = lines_again lines 1 Start b.0 reading b.1 (at_ok (length lines + 1) (all_read b.0) (as_script reading) b.2) fits in
     rw (last.1, last.2) refl
 
-pub only_so : (text : List ℕ) (r : Result (Script ThreadLine) Told) → Reads read r (thread_script_of text) → (reading : Reading) → script_of text ≡ Ok (as_script reading) → FitsThreads reading →
+pub only_so : (text : List ℕ) (r : Result (Script ThreadLine) Told) → Reads read r (thread_script_of text) → (reading : Reading) → IsThreadSpelling text reading → IsShort text →
     Reads read r (Ok reading)
-only_so text r reads reading e fits = subst (λ wanted. Reads read r wanted) (script_again text reading e fits) reads
+only_so text r reads reading (spelling, fits) short = subst (λ wanted. Reads read r wanted) (script_again text reading (read_again text (as_script reading) spelling short) fits) reads

@@ -25,8 +25,9 @@ use Rattle.script_text.specs.declared.reading.Script.{Script}
 use Rattle.script_text.specs.Threads.Lines.{at_most_63, thread_actors_of, is_for_threads, thread_line_from, thread_line_of}
 use Rattle.script_text.specs.Scripts.{Progress, Start, Sized, Hashed, InLines, words_after, all_read}
 use Rattle.script_text.specs.Threads.Reading.{Reading, thread_dialect, thread_format, thread_script_of}
-use Rattle.script_text.specs.Threads.Grammar.{command_from, as_script, LineFits, FitsThreads}
+use Rattle.script_text.specs.Threads.Grammar.{command_from, as_script, LineFits, FitsThreads, IsThreadSpelling}
 use Rattle.script_text.specs.Views.{read}
+use Rattle.script_text.proofs.Found.{spelled}
 use Rattle.text_lines.proofs.Whole.{at_ok}
 
 -- what the lines so far have said, as those of any script
@@ -157,7 +158,6 @@ script_found text reading e =
     let found = lines_found lines 1 Start b.0 b.1 tt in
     let last = end_found b.0 (length lines + 1) reading b.2 found.1 in (rw found.0 last.0, last.1)
 
-pub is_found : (text : List ℕ) (r : Result (Script ThreadLine) Told) → Reads read r (thread_script_of text) →
-    IfOk r (λ script. (script_of text ≡ Ok (as_script (read script))) × FitsThreads (read script))
-is_found text (Ok script) e = script_found text (read script) e
+pub is_found : (text : List ℕ) (r : Result (Script ThreadLine) Told) → Reads read r (thread_script_of text) → IfOk r (λ script. IsThreadSpelling text (read script))
+is_found text (Ok script) e = let found = script_found text (read script) e in (spelled text (as_script (read script)) found.0, found.1)
 is_found text (Err f) e = tt

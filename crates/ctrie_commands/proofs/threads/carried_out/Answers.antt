@@ -5,4 +5,4 @@ use Rattle.ctrie_commands.proofs.threads.carried_out.Goals as goal
 
 pub returns-clause-report : goal.returns-clause-report
 returns-clause-report g c =
-    each_report string_bytes c.args.text.now (read c.in_ok-script.script) c.reported.result c.in_ok-script.ensures.exact c.reported.ensures.report
+    each_report string_bytes c.args.text.now (read c.in_ok-script.script) c.reported.result (c.in_ok-script.ensures.found, c.in_ok-script.ensures.exact) c.reported.ensures.report
