@@ -70,7 +70,7 @@ fn work<R: Wait>(rt: &R, runner: &Runner, seat: &mut Seat, calls: u64)
     }
 }
 
-/// The same through the gate.
+/// The steps of the sweep behind a call, through the gate.
 fn sweep_through<R: Wait>(rt: &R, runner: &Runner, seat: &mut Seat)
     requires { IsSeatOf runner.now seat.old }
     ensures { IsSeatOf runner.now seat.new }
