@@ -2,7 +2,7 @@
 use Rattle.std.proofs.Common.{◌≡◌, ℕ, zero, suc, ◌<◌, List, [], ◌∷◌, length, replicate, get_or}
 use Rattle.std.proofs.Common.{set, Option, Some, None, IsSome, is_some, refl, sym, ap, ◌∙◌, subst, inl, inr, arith}
 use Rattle.std.proofs.lemmas.Bool.{cases_eq, false≢true}
-use Rattle.std.proofs.lemmas.List.{get_or-set_same, get_or-set_other, length-replicate, length-set}
+use Rattle.std.proofs.lemmas.List.{get_or-set_same, get_or-set_other, length-replicate, length-set, set-get_or}
 use Rattle.std.specs.Prelude.{option_map}
 use Rattle.slot_arena.specs.declared.refs.Ref.{Ref}
 use Rattle.slot_arena.specs.declared.nodes.Node.{Node}
@@ -114,15 +114,15 @@ cleared (b ∷ bs) (n ∷ ns) [] (suc k) = refl
 cleared (b ∷ bs) (n ∷ ns) (p ∷ ps) zero = refl
 cleared (b ∷ bs) (n ∷ ns) (p ∷ ps) (suc k) = ap (λ s. slot_from b n p ∷ s) (cleared bs ns ps k)
 
-pub filled : (bs : List ℕ) (ns : List (Option Node)) (ps : List Prev) (k birth : ℕ) (node : Node) →
-    slots_from (set bs k birth) (set ns k (Some node)) (set ps k prev.None) ≡ set (slots_from bs ns ps) k (Some (record { birth = birth; node = node; prev = prev.None }))
-filled [] ns ps k birth node = refl
-filled (b ∷ bs) [] ps zero birth node = refl
-filled (b ∷ bs) [] ps (suc k) birth node = refl
-filled (b ∷ bs) (n ∷ ns) [] zero birth node = refl
-filled (b ∷ bs) (n ∷ ns) [] (suc k) birth node = refl
-filled (b ∷ bs) (n ∷ ns) (p ∷ ps) zero birth node = refl
-filled (b ∷ bs) (n ∷ ns) (p ∷ ps) (suc k) birth node = ap (λ s. slot_from b n p ∷ s) (filled bs ns ps k birth node)
+pub filled : (bs : List ℕ) (ns : List (Option Node)) (ps : List Prev) (k birth : ℕ) (node : Node) → get_or ps k prev.None ≡ prev.None →
+    slots_from (set bs k birth) (set ns k (Some node)) ps ≡ set (slots_from bs ns ps) k (Some (record { birth = birth; node = node; prev = prev.None }))
+filled [] ns ps k birth node none = refl
+filled (b ∷ bs) [] ps zero birth node none = refl
+filled (b ∷ bs) [] ps (suc k) birth node none = refl
+filled (b ∷ bs) (n ∷ ns) [] zero birth node none = refl
+filled (b ∷ bs) (n ∷ ns) [] (suc k) birth node none = refl
+filled (b ∷ bs) (n ∷ ns) (p ∷ ps) zero birth node none = ap (λ q. slot_from birth (Some node) q ∷ slots_from bs ns ps) none
+filled (b ∷ bs) (n ∷ ns) (p ∷ ps) (suc k) birth node none = ap (λ s. slot_from b n p ∷ s) (filled bs ns ps k birth node none)
 
 main_in : (b : ℕ) (n : Option Node) (p : Prev) (m : Ref) → slot_from b (option_map (with_main_word m) n) p ≡ option_map (main_changed m) (slot_from b n p)
 main_in b None p m = refl
@@ -180,6 +180,11 @@ module _ (bs : List ℕ) (ns : List (Option Node)) (ps : List Prev) (are : ArePa
           (get_or-set_other ps k slot p prev.None other) (are.each slot)
     ];
   }
+
+  -- all but its prev word are
+  pub parts_filled : (b : ℕ) (node : Node) → 0 < b → AreParts (set bs k b) (set ns k (Some node)) ps
+  parts_filled b node born =
+      subst (λ qs. AreParts (set bs k b) (set ns k (Some node)) qs) (set-get_or ps k prev.None) (parts_set b (Some node) (get_or ps k prev.None) born)
 
   -- a main word is
   pub parts_main : (m : Ref) → AreParts bs (set ns k (option_map (with_main_word m) (get_or ns k None))) ps

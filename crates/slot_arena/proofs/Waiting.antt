@@ -94,7 +94,7 @@ module _
 
       -- but for a slot that comes into use or goes out of it
       pub notes_but : (one : ℕ) → ((k : ℕ) → (k ≡ one → ⊥) → born (get_or a.heap.slots k None) ≡ born (get_or b.heap.slots k None)) → NotesWaitingBut one a b
-      notes_but one same k other none = let step = zeros k none in (step.0, by_birth k (same k other) step.1)
+      notes_but one same k none = let step = zeros k none in (step.0, λ other. by_birth k (same k other) step.1)
 
 -- what is live and unreferred waits
 pub zero_waits : (arena : Contents) (r : Ref) → IsLive arena.heap r → (count_of arena.heap arena.outside r == 0) ≡ true → waiting arena (slot_of r) ≡ Some r

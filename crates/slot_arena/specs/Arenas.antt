@@ -15,7 +15,7 @@ pub record Contents : Type 0 where
   pub heap : Heap
   -- the references that are held from outside the slots
   pub outside : List Ref
-  -- the slots that are noted: those in use whose count reached or left zero
+  -- the slots that are noted: their count reached or left zero while they were in use
   pub noted : List ℕ
   -- how often a link of the free slots, a count or a note was looked at
   pub ticks : ℕ
@@ -64,9 +64,9 @@ waiting arena slot = waiting_in arena.heap arena.outside slot (slice_index_or ar
 abbrev pub NotesWaiting : Contents → Contents → Type 0
 NotesWaiting before after = (slot : ℕ) → times slot after.noted ≡ 0 → (times slot before.noted ≡ 0) × (waiting before slot ≡ waiting after slot)
 
--- the same of every slot but this one
+-- a slot that isn't noted now wasn't before, and waits now where it did, unless it is this one
 abbrev pub NotesWaitingBut : ℕ → Contents → Contents → Type 0
-NotesWaitingBut one before after = (slot : ℕ) → (slot ≡ one → ⊥) → times slot after.noted ≡ 0 → (times slot before.noted ≡ 0) × (waiting before slot ≡ waiting after slot)
+NotesWaitingBut one before after = (slot : ℕ) → times slot after.noted ≡ 0 → (times slot before.noted ≡ 0) × ((slot ≡ one → ⊥) → waiting before slot ≡ waiting after slot)
 
 -- as many slots as an arena may have
 abbrev pub AreSlots : ℕ → Type 0

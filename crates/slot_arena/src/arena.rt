@@ -1,8 +1,8 @@
 //! The arena: slots, counts of references, free slots.
 
 ghost use Rattle.std.specs.Prelude.{◌≡◌, ◌+◌, ◌<◌, ◌≤◌, ◌^◌, ◌==◌, ◌∷◌, ◌++◌, [], length, true, false, IsTrue, option_map, MatchOption, ◌↔◌, IfSome, IfOk, IfErr, ◌⊎◌, if◌then◌else◌};
-ghost use Rattle.slot_arena.specs.Refs.{slot_of, most_slots, birth_limit};
-ghost use Rattle.slot_arena.specs.Heaps.{node_at, prev_at, main_at, refs_of_node, refs_of_prev, refs_of_option, stored, next_ref, in_use, taken, with_main, with_prev, freed};
+ghost use Rattle.slot_arena.specs.Refs.{slot_of, birth_limit};
+ghost use Rattle.slot_arena.specs.Heaps.{node_at, prev_at, main_at, refs_of_node, refs_of_prev, refs_of_option, stored, next_ref, taken, with_main, with_prev, freed};
 ghost use Rattle.slot_arena.specs.Counts.{count_of};
 ghost use Rattle.slot_arena.specs.Times.{times, without};
 ghost use Rattle.slot_arena.specs.Ticking.{TakesUpTo};
@@ -19,7 +19,7 @@ use crate::lists::TakenOut;
 use crate::nodes::{Node, NodeRef, Prev, refs_in, refs_of, refs_of_prev};
 use crate::refs::{MOST_SLOTS, Ref};
 use crate::word_swaps::WordSwap;
-use ctrie_base::{Refusal, Ticks, Trace};
+use ctrie_base::{Refusal, Trace};
 use std::alloc::Global;
 use std::marker::Model;
 use std::slice::from_ref;
@@ -105,7 +105,8 @@ impl Arena {
         Some(made)
     }
 
-    /// The same for a branch of this bitmap whose entries are what a node refers to, with one of them changed.
+    /// Takes the first free slot for a branch under a new birth, and holds it: it has this bitmap, and for its entries what a
+    /// node refers to, with one of them changed. None where no slot is free.
     #[inline(always)]
     pub fn make_changed(&mut self, from: Ref, bitmap: u32, change: EntryChange) -> Option<Ref>
         requires births { self.old.heap.births + 1 < birth_limit }

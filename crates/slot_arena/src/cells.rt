@@ -116,10 +116,9 @@ impl Cells {
     {
         self.births[slot as usize] = birth;
         self.nodes.put(slot, node);
-        self.prevs[slot as usize] = Prev::None;
     }
 
-    /// The same of a branch, whose entries are what a change makes of these references.
+    /// Puts a branch into a slot that isn't in use, under a birth: its entries are what a change makes of these references.
     #[inline(always)]
     pub(crate) fn fill_changed(
         &mut self,
@@ -139,7 +138,6 @@ impl Cells {
     {
         self.births[slot as usize] = birth;
         self.nodes.put_changed(slot, bitmap, refs, change);
-        self.prevs[slot as usize] = Prev::None;
     }
 
     /// Changes the main word of an indirection.

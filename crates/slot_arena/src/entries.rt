@@ -1,6 +1,6 @@
 //! The entries of a branch, and changes of them.
 
-ghost use Rattle.std.specs.Prelude.{◌≡◌, ℕ, ◌+◌, ◌<◌, ◌≤◌, ◌++◌, length, remove};
+ghost use Rattle.std.specs.Prelude.{◌≡◌, ℕ, ◌+◌, ◌≤◌, ◌++◌, [], length, remove};
 ghost use Rattle.slot_arena.specs.Tallies.{naming};
 ghost use Rattle.slot_arena.specs.Heaps.{entries_from};
 ghost use Rattle.slot_arena.specs.Entries.{Fits, coming, entries_after};
@@ -77,9 +77,7 @@ pub(crate) fn put_changed(entries: &mut Entries, refs: &[Ref], change: &EntryCha
 {
     let (front, back) = change.staying(refs);
     entries.clear();
-    let _ = entries.try_extend_from_slice(front);
-    let _ = entries.try_extend_from_slice(change.coming());
-    let _ = entries.try_extend_from_slice(back);
+    append(entries, front, change.coming(), back);
 }
 
 /// The references of three slices, one behind the other, as entries.
@@ -90,8 +88,18 @@ pub fn joined(front: &[Ref], middle: &[Ref], back: &[Ref]) -> Entries
     ensures all { result.items ≡ front.now ++ middle.now ++ back.now }
 {
     let mut entries = ArrayVec::new();
+    append(&mut entries, front, middle, back);
+    entries
+}
+
+/// Puts three slices, one behind the other, into entries that were none.
+#[inline(always)]
+fn append(entries: &mut Entries, front: &[Ref], middle: &[Ref], back: &[Ref])
+    requires none { entries.old.items ≡ [] }
+    requires room { length front.now + length middle.now + length back.now ≤ 32 }
+    ensures { entries.new.items ≡ front.now ++ middle.now ++ back.now }
+{
     let _ = entries.try_extend_from_slice(front);
     let _ = entries.try_extend_from_slice(middle);
     let _ = entries.try_extend_from_slice(back);
-    entries
 }

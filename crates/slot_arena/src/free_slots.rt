@@ -1,6 +1,6 @@
 //! The free slots, as a chain through them.
 
-ghost use Rattle.std.specs.Prelude.{◌≡◌, ℕ, ◌+◌, ◌<◌, ◌≤◌, [], ◌∷◌, IfOk, MatchOption};
+ghost use Rattle.std.specs.Prelude.{◌≡◌, ◌+◌, ◌<◌, ◌≤◌, [], ◌∷◌, IfOk, MatchOption};
 ghost use Rattle.std.specs.List.{range_with_len};
 ghost use Rattle.slot_arena.specs.Times.{times};
 ghost use Rattle.slot_arena.specs.Ticking.{TakesUpTo};
@@ -21,7 +21,7 @@ pub(crate) struct FreeSlots {
 }
 
 impl Model for FreeSlots {
-    ghost use Rattle.std.specs.Prelude.{◌≡◌, ◌+◌, ◌≤◌, ℕ, length};
+    ghost use Rattle.std.specs.Prelude.{◌≡◌, ◌+◌, ◌≤◌, length};
     ghost use Rattle.slot_arena.specs.Chains.{Chain, LeadsTo};
     ghost use Rattle.slot_arena.specs.Refs.{most_slots};
 

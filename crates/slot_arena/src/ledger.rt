@@ -177,8 +177,8 @@ impl Ledger {
         }
     }
 
-    /// The same for what a node refers to that goes: where it is the lender, the loan is over, and only what wasn't lent
-    /// is counted less.
+    /// Counts one reference less to each slot to which a node refers that goes: where it is the lender, the loan is over, and
+    /// only what wasn't lent is counted less.
     #[inline(always)]
     pub(crate) fn lower_node(&mut self, at: Ref, refs: &[Ref])
         requires within { All (λ r. slot_of r < length self.old.tally.counts) refs.now }

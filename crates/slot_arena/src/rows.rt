@@ -5,7 +5,7 @@ ghost use Rattle.slot_arena.specs.Entries.{Fits, entries_after};
 ghost use Rattle.slot_arena.specs.Heaps.{entries_from};
 ghost use Rattle.slot_arena.specs.Pools.{CanPut, IsPut, row_at};
 
-use crate::entries::{EntryChange, put_changed};
+use crate::entries::{EntryChange, joined, put_changed};
 use crate::refs::Ref;
 use arrayvec::ArrayVec;
 use std::alloc::{AllocError, Global};
@@ -71,11 +71,7 @@ impl Rows {
                 self.rows[row as usize] = entries;
                 row
             }
-            None => {
-                let row = self.rows.len() as u32;
-                self.rows.push_reserved(entries);
-                row
-            }
+            None => self.add(entries),
         }
     }
 
@@ -96,7 +92,8 @@ impl Rows {
         }
     }
 
-    /// The same in a row behind all others, where none is spare. It isn't inlined, so that no call blanks a row which it doesn't need.
+    /// Adds a row of what a change makes of these references, where none is spare. It isn't inlined, so that no call blanks a
+    /// row which it doesn't need.
     #[inline(never)]
     fn add_changed(&mut self, refs: &[Ref], change: &EntryChange) -> u32
         requires none { self.old.spare ≡ [] }
@@ -105,8 +102,17 @@ impl Rows {
         requires few { length refs.now ≤ 32 }
         ensures { IsPut self.old (entries_from (entries_after change.now refs.now)) result self.new }
     {
-        let mut entries = ArrayVec::new();
-        put_changed(&mut entries, refs, change);
+        let (front, back) = change.staying(refs);
+        self.add(joined(front, change.coming(), back))
+    }
+
+    /// Adds a row of these entries behind all others, where none is spare.
+    #[inline(always)]
+    fn add(&mut self, entries: ArrayVec<Ref, 32>) -> u32
+        requires none { self.old.spare ≡ [] }
+        requires room { CanPut self.old }
+        ensures { IsPut self.old entries result self.new }
+    {
         let row = self.rows.len() as u32;
         self.rows.push_reserved(entries);
         row

@@ -93,7 +93,7 @@ impl StoredNodes {
         self.cells[slot as usize] = place(&mut self.rows, node);
     }
 
-    /// The same of a branch, whose entries are what a change makes of these references.
+    /// Puts a branch into a slot that isn't in use: its entries are what a change makes of these references.
     #[inline(always)]
     pub(crate) fn put_changed(&mut self, slot: u32, bitmap: u32, refs: &[Ref], change: &EntryChange)
         requires within { slot < length self.old }

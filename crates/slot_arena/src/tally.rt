@@ -33,7 +33,7 @@ impl Drop for Tally {
 }
 
 impl Model for Tally {
-    ghost use Rattle.std.specs.Prelude.{◌≡◌, ◌≤◌, ℕ, List, length, vec_capacity};
+    ghost use Rattle.std.specs.Prelude.{◌≡◌, ◌≤◌, length, vec_capacity};
     ghost use Rattle.slot_arena.specs.Tallies.{Tally as Tallied, AreMarks};
 
     ghost Value = { Tallied };
@@ -194,7 +194,7 @@ impl Tally {
         }
     }
 
-    /// The same of references to slots that have some, and were looked at before: no tick.
+    /// Counts one reference more for each of these, to slots that have some and were looked at before: no tick.
     pub(crate) fn restore_all(&mut self, refs: &[Ref])
         requires within { All (λ r. slot_of r < length self.old.counts) refs.now }
         requires room { (slot : ℕ) → slice_index self.old.counts slot + naming slot refs.now < 2 ^ 32 }

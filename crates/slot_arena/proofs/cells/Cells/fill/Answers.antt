@@ -3,8 +3,9 @@ use Rattle.std.specs.Prelude.{option_map}
 use Rattle.slot_arena.specs.declared.nodes.Node.{Node}
 use Rattle.slot_arena.specs.declared.nodes.Slot.{Slot}
 use Rattle.slot_arena.specs.declared.nodes.Prev.TheVariants as prev
+use Rattle.slot_arena.specs.Heaps.{prev_of}
 use Rattle.slot_arena.specs.Cells.{AreParts, slots_from}
-use Rattle.slot_arena.proofs.Parts.{within, filled, node_read, parts_set}
+use Rattle.slot_arena.proofs.Parts.{within, filled, node_read, prev_read, parts_filled}
 use Rattle.slot_arena.proofs.cells.Cells.fill.Goals as goal
 
 pub index_mut-requires : goal.index_mut-requires
@@ -20,18 +21,17 @@ put-requires-clause-free c =
     node_read c.self.inside.births.items c.self.inside.nodes c.self.inside.prevs.items c.self.invariant c.args.slot
     ∙ ap (λ (s : List (Option Slot)). option_map (λ (o : Slot). o.node) (get_or s c.args.slot None)) c.self.view_is ∙ ap (option_map (λ (o : Slot). o.node)) c.requires.free
 
-pub index_mut-requires-2 : goal.index_mut-requires-2
-index_mut-requires-2 c = let parts = within c.self.inside.births.items c.self.inside.nodes c.self.inside.prevs.items c.args.slot (omega (arith, ap length c.self.view_is)) in omega arith
-
 pub invariant_of-self : goal.invariant_of-self
 invariant_of-self c =
     let parts = within c.self.inside.births.items c.self.inside.nodes c.self.inside.prevs.items c.args.slot (omega (arith, ap length c.self.view_is)) in
-    subst (λ (ns : List (Option Node)). AreParts (set c.self.inside.births.items c.args.slot c.args.birth) ns (set c.self.inside.prevs.items c.args.slot prev.None)) (sym c.put.ensures)
-    (parts_set c.self.inside.births.items c.self.inside.nodes c.self.inside.prevs.items c.self.invariant c.args.slot parts.0 c.args.birth (Some (c.args.node)) prev.None c.requires.born)
+    subst (λ (ns : List (Option Node)). AreParts (set c.self.inside.births.items c.args.slot c.args.birth) ns c.self.inside.prevs.items) (sym c.put.ensures)
+    (parts_filled c.self.inside.births.items c.self.inside.nodes c.self.inside.prevs.items c.self.invariant c.args.slot parts.0 c.args.birth c.args.node c.requires.born)
 
 pub returns : goal.returns
 returns c =
     let node : Node = c.args.node in
-    ap (λ (ns : List (Option Node)). slots_from (set c.self.inside.births.items c.args.slot c.args.birth) ns (set c.self.inside.prevs.items c.args.slot prev.None)) c.put.ensures
-    ∙ filled c.self.inside.births.items c.self.inside.nodes c.self.inside.prevs.items c.args.slot c.args.birth node
+    let none = prev_read c.self.inside.births.items c.self.inside.nodes c.self.inside.prevs.items c.self.invariant c.args.slot
+    ∙ ap (λ (s : List (Option Slot)). prev_of (get_or s c.args.slot None)) c.self.view_is ∙ ap prev_of c.requires.free in
+    ap (λ (ns : List (Option Node)). slots_from (set c.self.inside.births.items c.args.slot c.args.birth) ns c.self.inside.prevs.items) c.put.ensures
+    ∙ filled c.self.inside.births.items c.self.inside.nodes c.self.inside.prevs.items c.args.slot c.args.birth node none
     ∙ ap (λ (s : List (Option Slot)). set s c.args.slot (Some (record { birth = c.args.birth; node = node; prev = prev.None }))) c.self.view_is

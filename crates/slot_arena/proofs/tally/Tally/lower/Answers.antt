@@ -1,4 +1,4 @@
-use Rattle.std.proofs.Common.{◌≡◌, ℕ, ◌-◌, ◌<◌, length, set, inl, sym, ap, ◌∙◌, arith}
+use Rattle.std.proofs.Common.{◌≡◌, ℕ, ◌-◌, length, set, inl, sym, ap, ◌∙◌, arith}
 use Rattle.slot_arena.specs.Times.{times}
 use Rattle.slot_arena.specs.Tallies.{Tally}
 use Rattle.slot_arena.proofs.Marks.{zeros_written}
