@@ -137,10 +137,10 @@ lists_freed a b bags at lists some heap stay notes = record {
   single = λ j. subst (λ rs. naming j rs ≤ 1) left (omega (arith, naming_others j (slot_of at) (all_of bags), lists.single j));
   waits = λ r h none.
       let found = others_times (slot_of at) r (all_of bags) (subst (λ rs. 0 < times r rs) (sym left) h) in
-      let step = notes (slot_of r) found.1 none in sym step.1 ∙ lists.waits r found.0 step.0;
+      let step = notes (slot_of r) none in sym (step.1 found.1) ∙ lists.waits r found.0 step.0;
   listed = λ r is none.
       let apart : slot_of r ≡ slot_of at → ⊥ = λ same. none-some r (sym (ap (waiting b) same ∙ gone) ∙ is) in
-      let step = notes (slot_of r) apart none in subst (λ rs. 0 < times r rs) left (others_there (slot_of at) r (all_of bags) apart (lists.listed r (step.1 ∙ is) step.0));
+      let step = notes (slot_of r) none in subst (λ rs. 0 < times r rs) left (others_there (slot_of at) r (all_of bags) apart (lists.listed r (step.1 apart ∙ is) step.0));
 }
   where
     left : other_slots (slot_of at) (all_of bags) ≡ all_of (bags_after None (slot_of at) bags)

@@ -1,13 +1,13 @@
 //! The arena with limbo, epochs and the sweep.
 
-ghost use Rattle.std.specs.Prelude.{◌≡◌, ◌+◌, ◌-◌, ◌*◌, ◌<◌, ◌≤◌, ◌^◌, ◌==◌, ◌∷◌, ◌++◌, [], length, take, drop, option_map, All, slice_index, true};
+ghost use Rattle.std.specs.Prelude.{◌≡◌, ◌+◌, ◌-◌, ◌<◌, ◌≤◌, ◌^◌, ◌==◌, ◌∷◌, ◌++◌, [], length, take, drop, option_map, All, true};
 ghost use Rattle.std.specs.Prelude.{false, IsTrue, ◌↔◌, IfSome, Some, None, slice_set, IfOk, IfErr, ◌⊎◌, if◌then◌else◌};
 ghost use Rattle.slot_arena.specs.Entries.{Fits, changed_branch, coming};
 ghost use Rattle.slot_arena.specs.Heaps.{node_at, prev_at, main_at, refs_of_node, refs_of_prev, refs_of_option, stored, next_ref, in_use, taken, with_main, with_prev};
 ghost use Rattle.slot_arena.specs.Counts.{count_of};
 ghost use Rattle.slot_arena.specs.Times.{times, without};
 ghost use Rattle.slot_arena.specs.Ticking.{TakesUpTo};
-ghost use Rattle.slot_arena.specs.Refs.{slot_of, birth_limit};
+ghost use Rattle.slot_arena.specs.Refs.{birth_limit};
 ghost use Rattle.slot_arena.specs.Views.{viewed};
 ghost use Rattle.slot_arena.specs.Arenas.{IsLive, AreLive, is_live, is_indirection, is_main_node};
 ghost use Rattle.epochs.specs.Sweeping.{swept_once, IsOlder};
@@ -118,7 +118,8 @@ impl Heap {
         made
     }
 
-    /// The same for a branch of this bitmap whose entries are what a node refers to, with one of them changed.
+    /// Takes the first free slot for a branch under a new birth, and holds it: it has this bitmap, and for its entries what a
+    /// node refers to, with one of them changed. None where no slot is free.
     #[inline(always)]
     pub fn make_changed(&mut self, from: Ref, bitmap: u32, change: EntryChange) -> Option<Ref>
         requires births { self.old.heap.births + 1 < birth_limit }
