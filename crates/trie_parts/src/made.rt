@@ -52,7 +52,7 @@ pub fn make_changed(heap: &mut Heap, main: Ref, flag: u32, change: Change) -> Op
     make_whole(heap, main, flag, change)
 }
 
-/// The same of a main node that is built whole first. It isn't inlined, so that a branch needs no place for a node.
+/// Makes that main node, built whole first, and holds it. It isn't inlined, so that a branch needs no place for a node.
 #[inline(never)]
 fn make_whole(heap: &mut Heap, main: Ref, flag: u32, change: Change) -> Option<Ref>
     requires flag { 0 < flag }
