@@ -1,6 +1,7 @@
 -- What is found of a key.
 use Rattle.std.specs.Prelude.{ℕ, Option}
 use Rattle.ctrie_base.specs.Hashes.{hash_of}
+use Rattle.slot_arena.specs.declared.refs.Ref.{Ref}
 use Rattle.slot_arena.specs.Heaps.{node_at, logical_main}
 use Rattle.machine_model.specs.Contents.{most_levels}
 use Rattle.machine_model.specs.States.{State, root_of, word_at}
@@ -14,6 +15,10 @@ meant Absent = looking.Absent
 meant (Has value) = looking.Has value
 meant (Below indirection) = looking.Below indirection
 
--- the value that is found from a handle's root along the key's hash, through the logical main nodes
+-- the value that is found from a root along the key's hash, through the logical main nodes
+abbrev pub found_from : State → Ref → ℕ → Option ℕ
+found_from state root key = looking.find_at (node_at state.heap) (logical_main state.heap) (hash_of state.limits.hash) key most_levels 0 root
+
+-- and from the root of a handle
 abbrev pub found_along : State → ℕ → ℕ → Option ℕ
-found_along state handle key = looking.find_at (node_at state.heap) (logical_main state.heap) (hash_of state.limits.hash) key most_levels 0 (root_of (word_at state handle))
+found_along state handle key = found_from state (root_of (word_at state handle)) key

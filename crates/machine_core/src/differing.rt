@@ -13,6 +13,7 @@ ghost use Rattle.machine_core.specs.Seen.{seen};
 
 use crate::comparing::keys_apart;
 use crate::finding::value_along;
+use crate::mains::root_of;
 use crate::parts::Parts;
 use std::alloc::AllocError;
 
@@ -65,8 +66,8 @@ fn add_difference(
 ) -> Result<(), AllocError>
     ensures { OnOk result (differences.new.items ≡ differences.old.items ++ difference_of key (found_along (seen parts.now) older key) (found_along (seen parts.now) newer key)) }
 {
-    let before = value_along(parts, older, key);
-    let after = value_along(parts, newer, key);
+    let before = value_along(parts, root_of(parts.word(older)), key);
+    let after = value_along(parts, root_of(parts.word(newer)), key);
     if before != after {
         differences.push(Difference { key, before, after })?;
     }

@@ -3,11 +3,11 @@
 ghost use Rattle.std.specs.Prelude.{◌≡◌};
 ghost use Rattle.slot_arena.specs.Heaps.{node_at};
 ghost use Rattle.machine_core.specs.Beneath.proof_contents.specs.Nodes.Looking.{look_at, look_among, look_in};
-ghost use Rattle.machine_core.specs.Finding.{found_along, meant};
+ghost use Rattle.machine_core.specs.Finding.{found_from, meant};
 ghost use Rattle.machine_core.specs.Seen.{seen};
 
 use crate::contents::MOST_LEVELS;
-use crate::mains::{logical_main, position_of, root_of};
+use crate::mains::{logical_main, position_of};
 use crate::parts::Parts;
 use epochs::Heap;
 use nodes::has_flag;
@@ -24,12 +24,12 @@ pub enum Found {
     Below(Ref),
 }
 
-/// The value of the key in the handle's map.
-pub fn value_along(parts: &Parts, handle: u16, key: u64) -> Option<u64>
-    ensures { result ≡ found_along (seen parts.now) handle key }
+/// The value of the key in the map of this root.
+pub fn value_along(parts: &Parts, root: Ref, key: u64) -> Option<u64>
+    ensures { result ≡ found_from (seen parts.now) root key }
 {
     let hash = parts.key_hash(key);
-    let mut at = root_of(parts.word(handle));
+    let mut at = root;
     for depth in 0..MOST_LEVELS {
         let main = logical_main(&parts.heap, at);
         match look_in(&parts.heap, flag_of(hash, depth as usize), key, main) {

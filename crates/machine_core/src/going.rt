@@ -5,7 +5,6 @@ ghost use Rattle.machine_model.specs.declared.operations.Operation.{Operation};
 ghost use Rattle.machine_model.specs.States.{State, operation_of};
 ghost use Rattle.machine_model.specs.Operations.{action_of, kind_of};
 ghost use Rattle.machine_model.specs.Machine.{go_denial, next_kind, went};
-ghost use Rattle.machine_model.specs.Tellings.{published_by};
 ghost use Rattle.machine_core.specs.Beneath.rdcss_root.specs.Tables.{Table};
 ghost use Rattle.running.specs.Carried.{carried_of};
 ghost use Rattle.running.specs.Steps.{scene};

@@ -23,6 +23,7 @@ use crate::denials::{begin_denial, denial_of, go_denial, is_access, spent_denial
 use crate::finding::value_along;
 use crate::going::{goes_on, published};
 use crate::handles::runs_on;
+use crate::mains::root_of;
 use crate::parts::Parts;
 use crate::starting::{are_bounds, first_parts};
 use crate::stepping::{take_begin, take_end, take_go};
@@ -223,10 +224,10 @@ impl Core {
         ensures open { OnOk result (IsSome (root_at self.now.state handle)) }
         ensures refused { IfErr result (λ refusal. (root_at self.now.state handle ≡ None) × (refusal ≡ Refusal.NoHandle)) }
     {
-        if self.parts.table.root(handle).is_none() {
-            return Err(Refusal::NoHandle);
+        match self.parts.table.root(handle) {
+            None => Err(Refusal::NoHandle),
+            Some(root) => Ok(value_along(&self.parts, root_of(root.word), key)),
         }
-        Ok(value_along(&self.parts, handle, key))
     }
 
     /// The kind of the next step of the actor's operation, if it runs one.

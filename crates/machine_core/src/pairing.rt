@@ -1,6 +1,6 @@
 //! A key is put in where the single of another key stands: both get a main node, so many levels below, and a way down to it.
 
-ghost use Rattle.std.specs.Prelude.{◌≡◌, ◌+◌, ◌-◌, ◌*◌, ◌<◌, ◌≤◌, ◌++◌, ◌∷◌, ℕ, []};
+ghost use Rattle.std.specs.Prelude.{◌≡◌, ◌+◌, ◌-◌, ◌*◌, ◌<◌, ◌≤◌, ℕ};
 ghost use Rattle.ctrie_base.specs.Hashes.{hash_of};
 ghost use Rattle.slot_arena.specs.Arenas.{AreLive, IsLive};
 ghost use Rattle.slot_arena.specs.Heaps.{entry_at, generation_at, node_at, refs_of_node};

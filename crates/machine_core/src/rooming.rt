@@ -1,6 +1,6 @@
 //! Room for what the next step of a walk puts into its lists: all that a step wants of memory.
 
-ghost use Rattle.std.specs.Prelude.{◌≡◌, ◌-◌, true, slice_get, IfErr, OnErr, OnOk, Some, None};
+ghost use Rattle.std.specs.Prelude.{◌≡◌, ◌-◌, slice_get, IfErr, OnErr, OnOk, Some, None};
 ghost use Rattle.machine_model.specs.Machine.{go_denial};
 ghost use Rattle.machine_model.specs.States.{operation_of};
 ghost use Rattle.proof_core.specs.Bounds.{Walks};

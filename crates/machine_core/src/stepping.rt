@@ -1,6 +1,6 @@
 //! Steps that aren't denied: what each does, and then what every step does at its end.
 
-ghost use Rattle.std.specs.Prelude.{◌≡◌, false, true, slice_get, Ok, None, IfErr, IfOk, OnErr, OnOk};
+ghost use Rattle.std.specs.Prelude.{◌≡◌, false, true, Ok, None, IfErr, IfOk, OnErr, OnOk};
 ghost use Rattle.machine_model.specs.declared.steps.Step.TheVariants as steps;
 ghost use Rattle.machine_model.specs.Machine.{begin_denial, go_denial, next, next_kind};
 ghost use Rattle.machine_model.specs.States.{operation_of};

@@ -2,7 +2,6 @@ use Rattle.std.proofs.Common.{◌≡◌, ◌-◌}
 use Rattle.ctrie_base.specs.Hashes.{hash_of}
 use Rattle.slot_arena.specs.Heaps.{node_at, logical_main}
 use Rattle.machine_model.specs.Contents.{most_levels}
-use Rattle.machine_model.specs.States.{root_of, word_at}
 use Rattle.machine_core.specs.Beneath.proof_contents.specs.Nodes.Looking.{find_at}
 use Rattle.machine_core.specs.Seen.{seen}
 use Rattle.machine_core.proofs.finding.value_along.Given as goal
@@ -11,4 +10,4 @@ use Rattle.machine_core.proofs.finding.value_along.Given as goal
 abbrev pub invariant-loop-depth : goal.invariant-loop-depth
 invariant-loop-depth l =
     find_at (node_at (seen l.parts).heap) (logical_main (seen l.parts).heap) (hash_of (seen l.parts).limits.hash) l.key (most_levels - l.depth) l.depth l.at
-    ≡ find_at (node_at (seen l.parts).heap) (logical_main (seen l.parts).heap) (hash_of (seen l.parts).limits.hash) l.key most_levels 0 (root_of (word_at (seen l.parts) l.handle))
+    ≡ find_at (node_at (seen l.parts).heap) (logical_main (seen l.parts).heap) (hash_of (seen l.parts).limits.hash) l.key most_levels 0 l.fn.root
