@@ -1,6 +1,6 @@
 //! The record of a machine.
 
-ghost use Rattle.std.specs.Prelude.{◌≡◌, ◌+◌, ◌<◌, ◌≤◌, ◌++◌, ◌∷◌, [], IfOk, IfSome, OnOk, IsOkUnless, length, None, Some, option_to_list};
+ghost use Rattle.std.specs.Prelude.{◌≡◌, ◌+◌, ◌<◌, ◌≤◌, ◌++◌, ◌∷◌, IfOk, IfSome, OnOk, IsOkUnless, length, None, Some, option_to_list};
 ghost use Rattle.ctrie_base.specs.declared.refusals.Refusal.TheVariants.{Memory};
 ghost use Rattle.history.specs.declared.replies.Reply.TheVariants.{Closed};
 ghost use Rattle.machine_model.specs.declared.steps.Bounds.{Bounds};
@@ -8,7 +8,6 @@ ghost use Rattle.machine_model.specs.Records.{closed_by, closing_for, commits_af
 ghost use Rattle.machine_model.specs.Records.{first_record, noted_begin, noted_end, noted_progress, order_of};
 ghost use Rattle.history.specs.Histories.{begun};
 ghost use Rattle.chronicle.specs.Chronicled.{CanBegin, CanClose, CanCommit, CanEnd, CanGo, CanPublish, HasBegun, IsActor};
-ghost use Rattle.chronicle.specs.Committed.{IsNewestCommitted};
 ghost use Rattle.chronicle.specs.Published.{IsNewestPublished};
 
 use crate::closings::Closings;
@@ -84,8 +83,6 @@ impl Chronicle {
     pub fn new(alloc: Global, slots: u32, actors: u8) -> Result<Chronicle, Refusal>
         ensures past { IfOk result (λ made. (limits : Bounds) → limits.actors ≡ actors → made.past ≡ first_record limits) }
         ensures slots { IfOk result (λ made. made.slots ≡ slots) }
-        ensures generations { IfOk result (λ made. made.generations ≡ 0) }
-        ensures room { IfOk result (λ made. made.room ≡ 0) }
         ensures only_memory { IsOkUnless result Memory }
     {
         Ok(Chronicle {

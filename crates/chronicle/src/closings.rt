@@ -1,6 +1,6 @@
 //! The steps in which generations were closed.
 
-ghost use Rattle.std.specs.Prelude.{◌≡◌, ℕ, ◌+◌, ◌<◌, ◌≤◌, ◌++◌, ◌∷◌, [], None, Some, OnOk, MatchOption, length, slice_index_or, slice_set, vec_len, vec_capacity};
+ghost use Rattle.std.specs.Prelude.{◌≡◌, ℕ, ◌<◌, ◌≤◌, ◌++◌, ◌∷◌, [], None, Some, OnOk, MatchOption, length, slice_index_or, slice_set, vec_len, vec_capacity};
 ghost use Rattle.chronicle.specs.Closed.{closing_step};
 
 use ctrie_base::Trace;

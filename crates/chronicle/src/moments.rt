@@ -1,7 +1,7 @@
 //! What is known of the READs of running operations.
 
-ghost use Rattle.std.specs.Prelude.{◌≡◌, ◌<◌, ◌≤◌, ◌-◌, IfSome, slice_set, vec_len, length};
-ghost use Rattle.machine_model.specs.Records.{Record, commit_step, moment_after, moment_at, no_moment, with_moment};
+ghost use Rattle.std.specs.Prelude.{◌≡◌, ◌<◌, ◌≤◌, ◌-◌, IfSome, vec_len, length};
+ghost use Rattle.machine_model.specs.Records.{Record, commit_step, moment_after, moment_at, with_moment};
 ghost use Rattle.chronicle.specs.Committed.{IsNewestCommitted};
 
 use crate::commits::Commits;
