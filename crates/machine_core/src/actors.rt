@@ -1,13 +1,13 @@
 //! Actors, and what they run.
 
-ghost use Rattle.std.specs.Prelude.{◌≡◌, is_some, option_and_then, option_map, Some, IfOk, IsOkUnless};
+ghost use Rattle.std.specs.Prelude.{◌≡◌, true, is_some, option_and_then, option_map, Some, IfOk, OnErr, IsOkUnless};
 ghost use Rattle.ctrie_base.specs.declared.refusals.Refusal.TheVariants.{Memory};
 ghost use Rattle.std.specs.List.{list_any};
 ghost use Rattle.machine_model.specs.Machine.{is_actor, is_busy, next_kind};
 ghost use Rattle.machine_model.specs.Operations.{action_of, kind_of};
 ghost use Rattle.machine_model.specs.States.{State};
 ghost use Rattle.machine_core.specs.Beneath.rdcss_root.specs.Tables.{Table};
-ghost use Rattle.running.specs.Places.{IsSound};
+ghost use Rattle.running.specs.Places.{are_pairs, IsSound};
 ghost use Rattle.machine_core.specs.declared.parts.UnderWay.{UnderWay as AnUnderWay};
 ghost use Rattle.machine_core.specs.Keeping.{AreSeated};
 ghost use Rattle.machine_core.specs.Seen.{operation_seen, seen};
@@ -49,10 +49,12 @@ fn kind_for(actor: &Actor) -> Option<Kind>
     }
 }
 
-/// A copy of the reply with which the actor's operation ends by its next step, if it does. `Memory` is the only refusal.
+/// A copy of the reply with which the actor's operation ends by its next step, if it does. `Memory` is the only refusal, and
+/// comes only where the reply is a list of pairs.
 pub fn copied_reply(parts: &Parts, actor: u8) -> Result<Option<Reply>, Refusal>
     ensures reply { IfOk result (λ reply. reply ≡ reply_in (seen parts.now) actor) }
     ensures only_memory { IsOkUnless result Memory }
+    ensures only_pairs { OnErr result (are_pairs (reply_in (seen parts.now) actor) ≡ true) }
 {
     match parts.actor(actor) {
         None => Ok(None),
@@ -62,7 +64,8 @@ pub fn copied_reply(parts: &Parts, actor: u8) -> Result<Option<Reply>, Refusal>
 
 /// A copy of the reply with which this actor's operation ends by its next step, if it does.
 fn copied_of(actor: &Actor) -> Result<Option<Reply>, AllocError>
-    ensures { (table : Table) → IfOk result (λ reply. reply ≡ option_and_then (λ operation. answer_of operation.line) (operation_seen table actor.now)) }
+    ensures reply { (table : Table) → IfOk result (λ reply. reply ≡ option_and_then (λ operation. answer_of operation.line) (operation_seen table actor.now)) }
+    ensures only_pairs { (table : Table) → OnErr result (are_pairs (option_and_then (λ operation. answer_of operation.line) (operation_seen table actor.now)) ≡ true) }
 {
     match actor.under_way {
         None => Ok(None),

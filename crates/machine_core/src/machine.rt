@@ -15,6 +15,7 @@ ghost use Rattle.machine_core.specs.Sweeping.{Reclaims};
 ghost use Rattle.machine_core.specs.Work.{ticks_of_a_start};
 ghost use Rattle.machine_core.specs.Told.{began, ended, published_in, reply_in, stepped, TellsBegin, TellsEnd, TellsStep};
 ghost use Rattle.proof_core.specs.Going.{goes_on};
+ghost use Rattle.running.specs.Places.{are_pairs};
 ghost use Rattle.proof_core.specs.Work.{WorksLittle};
 
 use crate::actors::{copied_reply, is_busy, next_kind};
@@ -237,10 +238,12 @@ impl Core {
         next_kind(&self.parts, actor)
     }
 
-    /// A copy of the reply with which the actor's operation ends by its next step, if it does. `Memory` is the only refusal.
+    /// A copy of the reply with which the actor's operation ends by its next step, if it does. `Memory` is the only refusal,
+    /// and comes only where the reply is a list of pairs.
     pub fn copy_reply(&self, actor: u8) -> Result<Option<Reply>, Refusal>
         ensures reply { IfOk result (λ reply. reply ≡ reply_in self.now.state actor) }
         ensures only_memory { IsOkUnless result Refusal.Memory }
+        ensures only_pairs { OnErr result (are_pairs (reply_in self.now.state actor) ≡ true) }
     {
         copied_reply(&self.parts, actor)
     }

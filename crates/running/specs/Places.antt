@@ -1,7 +1,8 @@
 -- Where an operation of the code stands, as the definition's line.
-use Rattle.std.specs.Prelude.{◌≡◌, ℕ, slice_index_or, false, Option, Some, None}
+use Rattle.std.specs.Prelude.{◌≡◌, ℕ, slice_index_or, Bool, true, false, Option, Some, None}
 use Rattle.running.specs.Beneath.history.specs.declared.calls.Call.{Call}
 use Rattle.running.specs.Beneath.history.specs.declared.calls.Call.TheVariants as calls
+use Rattle.running.specs.Beneath.history.specs.declared.replies.Reply.{Reply}
 use Rattle.running.specs.Beneath.history.specs.declared.replies.Reply.TheVariants as reply
 use Rattle.running.specs.Beneath.machine_model.specs.declared.lines.Line.{Line}
 use Rattle.running.specs.Beneath.machine_model.specs.declared.lines.Line.TheVariants as line
@@ -93,6 +94,12 @@ asking_line p program at (Told generation) = program_line_at p (Some generation)
 -- the definition's line of an operation with this program
 abbrev pub line_for : Program → Programs → Line
 line_for program p = asking_line p program p.at p.asking
+
+-- the reply, if there is one, is a list of pairs
+abbrev pub are_pairs : Option Reply → Bool
+are_pairs None = false
+are_pairs (Some (reply.Pairs pairs)) = true
+are_pairs (Some other) = false
 
 -- only where a READ asks something is known for it
 abbrev pub IsWaiting : Asking → Line → Type 0

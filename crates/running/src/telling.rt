@@ -1,6 +1,6 @@
 //! What the programs of an operation tell of it.
 
-ghost use Rattle.std.specs.Prelude.{◌≡◌, ℕ, IfOk, Option, is_some};
+ghost use Rattle.std.specs.Prelude.{◌≡◌, ℕ, true, IfOk, OnErr, Option, is_some};
 ghost use Rattle.running.specs.Beneath.key_finding.specs.Replies.{reply_of as key_reply};
 ghost use Rattle.operate.specs.Places.{answer_of};
 ghost use Rattle.snapshot.specs.Tasks.{reply_of};
@@ -9,7 +9,7 @@ ghost use Rattle.running.specs.Beneath.machine_model.specs.States.{State};
 ghost use Rattle.running.specs.Beneath.machine_model.specs.Tellings.{published_by};
 ghost use Rattle.running.specs.Beneath.machine_model.specs.declared.operations.Operation.{Operation};
 ghost use Rattle.running.specs.Beneath.rdcss_root.specs.Tables.{Table};
-ghost use Rattle.running.specs.Places.{asking_line, generation_in, line_for, operation_for, program_line, IsSound, IsWaiting};
+ghost use Rattle.running.specs.Places.{are_pairs, asking_line, generation_in, line_for, operation_for, program_line, IsSound, IsWaiting};
 
 use crate::job::{Job, Program};
 use crate::programs::{ProgramAt, Programs};
@@ -38,9 +38,10 @@ impl Programs {
         }
     }
 
-    /// A copy of that reply, while the operation goes on. Only memory may be lacking.
+    /// A copy of that reply, while the operation goes on. Only memory may be lacking, and only for a list of pairs.
     pub fn copy_reply(&self, program: Program) -> Result<Option<Reply>, AllocError>
-        ensures { IfOk result (λ reply. reply ≡ answer_of (line_for program self.now)) }
+        ensures reply { IfOk result (λ reply. reply ≡ answer_of (line_for program self.now)) }
+        ensures only_pairs { OnErr result (are_pairs (answer_of (line_for program self.now)) ≡ true) }
     {
         Ok(match &self.at {
             ProgramAt::Runs => self.reply_at_end(program),

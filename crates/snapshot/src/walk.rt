@@ -1,6 +1,6 @@
 //! WALK: goes through all pairs, by depth first in the order of entries.
 
-ghost use Rattle.std.specs.Prelude.{◌≡◌, ◌<◌, ◌≤◌, ℕ, None, IfErr, IfOk, OnOk};
+ghost use Rattle.std.specs.Prelude.{◌≡◌, ◌<◌, ◌≤◌, ℕ, None, IfErr, IfOk, OnErr, OnOk};
 ghost use Rattle.snapshot.specs.Beneath.slot_arena.specs.Heaps.{Heap as Store};
 ghost use Rattle.history.specs.declared.calls.Call.{Call};
 ghost use Rattle.snapshot.specs.Beneath.machine_model.specs.declared.lines.Line.TheVariants as line;
@@ -141,9 +141,10 @@ impl Walk {
         }
     }
 
-    /// The same reply, of copied pairs. Only memory may be lacking.
+    /// A copy of that reply, while the operation goes on. Only memory may be lacking, and only for pairs.
     pub fn copy_reply(&self, call: WalkCall) -> Result<Reply, AllocError>
-        ensures { (handle : ℕ) → IfOk result (λ reply. reply ≡ walked_reply (call_of handle call) self.now.pairs.items) }
+        ensures reply { (handle : ℕ) → IfOk result (λ reply. reply ≡ walked_reply (call_of handle call) self.now.pairs.items) }
+        ensures only_entries { OnErr result (call ≡ WalkCall.Entries) }
     {
         match call {
             WalkCall::Entries => Ok(Reply::Pairs(self.pairs.copy_by_key()?)),
