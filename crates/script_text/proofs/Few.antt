@@ -1,15 +1,18 @@
--- A script of any kind has at most as many lines behind its header as its text may have.
-use Rattle.std.proofs.Common.{◌≡◌, ℕ, ◌+◌, ◌≤◌, Bool, true, false, cond, List, [], ◌∷◌, ◌++◌, length, refl, ap, length-append, Ok, Err, arith}
-use Rattle.std.specs.Prelude.{nat_lt}
+-- A text that is read is short, and a script of any kind has at most as many lines behind its header as its text may have.
+use Rattle.std.proofs.Common.{◌≡◌, ℕ, ◌+◌, ◌≤◌, Bool, true, false, cond, List, [], ◌∷◌, ◌++◌, length, refl, ap, length-append, Result, Ok, Err, arith}
+use Rattle.std.specs.Prelude.{nat_lt, OnOk}
 use borrow.Author.Tests.{ltb-false}
 use Rattle.ctrie_base.specs.declared.refusals.Refusal.TheVariants.{TooLong}
+use Rattle.text_lines.specs.declared.faults.Told.{Told}
 use Rattle.text_lines.specs.Words.{words_of}
 use Rattle.text_lines.specs.Texts.{lines_of, is_ignored}
 use Rattle.text_lines.specs.Reading.{line_after, read_lines, at_line, text_of}
+use Rattle.text_lines.specs.Views.{Reads}
 use Rattle.text_lines.proofs.Parts.{made_ok, bind_ok, ok_is}
 use Rattle.text_lines.proofs.Whole.{at_ok}
 use Rattle.history_text.specs.Lines.{header_of}
 use Rattle.script_text.specs.Headers.{slots_of}
+use Rattle.script_text.specs.Grammar.{IsShort}
 use Rattle.script_text.specs.Scripts.{Dialect, ScriptOf, Progress, Start, Sized, Hashed, InLines, words_after, all_read, format_of}
 
 module _ {L : Type 0} (dialect : Dialect L) where
@@ -38,13 +41,14 @@ module _ {L : Type 0} (dialect : Dialect L) where
   unfolding line_after
   line_adds n p r line e = let so = step_adds (nat_lt 100000 n) (is_ignored line) p r (words_of line) e in (ltb-false 100000 n so.0, so.1)
 
-  lines_add : (lines : List (List ℕ)) (n : ℕ) (p q : Progress L) → read_lines (format_of dialect) n p lines ≡ Ok q → lines_in p + 1 ≤ n → n ≤ 100001 → lines_in q ≤ 100000
+  lines_add : (lines : List (List ℕ)) (n : ℕ) (p q : Progress L) → read_lines (format_of dialect) n p lines ≡ Ok q → lines_in p + 1 ≤ n → n ≤ 100001 →
+      (lines_in q ≤ 100000) × (n + length lines ≤ 100001)
   unfolding read_lines
-  lines_add [] n p q e few low = omega (arith, few, low, ap lines_in (ok_is (Ok p) p q refl e))
+  lines_add [] n p q e few low = (omega (arith, few, low, ap lines_in (ok_is (Ok p) p q refl e)), omega (arith, low))
   lines_add (line ∷ more) n p q e few low =
       let b = bind_ok (at_line n (line_after (format_of dialect) n p line)) (λ next. read_lines (format_of dialect) (n + 1) next more) q e in
       let so = line_adds n p b.0 line (at_ok n (line_after (format_of dialect) n p line) b.0 b.1) in
-      lines_add more (n + 1) b.0 q b.2 (omega (arith, few, so.1)) (omega (arith, so.0))
+      let rest = lines_add more (n + 1) b.0 q b.2 (omega (arith, few, so.1)) (omega (arith, so.0)) in (rest.0, omega (arith, rest.1))
 
   end_adds : (p : Progress L) (n : ℕ) (script : ScriptOf L) → at_line n (all_read p) ≡ Ok script → length script.lines ≡ lines_in p
   end_adds (InLines limits lines) n script e =
@@ -54,9 +58,17 @@ module _ {L : Type 0} (dialect : Dialect L) where
   end_adds (Sized slots) n script e = absurd cc
   end_adds (Hashed slots hash) n script e = absurd cc
 
-  pub few_lines : (text : List ℕ) (script : ScriptOf L) → text_of (format_of dialect) text ≡ Ok script → length script.lines ≤ 100000
+  from_start : (text : List ℕ) (script : ScriptOf L) → text_of (format_of dialect) text ≡ Ok script → (length script.lines ≤ 100000) × IsShort text
   unfolding text_of
-  few_lines text script e =
+  from_start text script e =
       let lines = lines_of text in
       let b = bind_ok (read_lines (format_of dialect) 1 Start lines) (λ end. at_line (length lines + 1) (all_read end)) script e in
-      omega (arith, lines_add lines 1 Start b.0 b.1 (omega arith) (omega arith), end_adds b.0 (length lines + 1) script b.2)
+      let added = lines_add lines 1 Start b.0 b.1 (omega arith) (omega arith) in
+      (omega (arith, added.0, end_adds b.0 (length lines + 1) script b.2), omega (arith, added.1))
+
+  pub few_lines : (text : List ℕ) (script : ScriptOf L) → text_of (format_of dialect) text ≡ Ok script → length script.lines ≤ 100000
+  few_lines text script e = (from_start text script e).0
+
+  pub is_short : {G : Type 0} (seen : G → ScriptOf L) (text : List ℕ) (r : Result G Told) → Reads seen r (text_of (format_of dialect) text) → OnOk r (IsShort text)
+  is_short seen text (Ok given) e = (from_start text (seen given) e).1
+  is_short seen text (Err f) e = tt

@@ -1,6 +1,6 @@
 //! Reading a script of any kind from its lines.
 
-ghost use Rattle.std.specs.Prelude.{◌≡◌, ◌≢◌, ◌++◌, ◌∷◌, [], IfOk, Ok};
+ghost use Rattle.std.specs.Prelude.{◌≡◌, ◌≢◌, ◌++◌, ◌∷◌, [], IfOk, OnOk, Ok};
 ghost use Rattle.text_lines.specs.Words.{nows, made};
 ghost use Rattle.text_lines.specs.Views.{Reads};
 ghost use Rattle.script_text.specs.Scripts.{Dialect, ScriptOf, Progress, InLines, format_of};
@@ -138,6 +138,8 @@ pub fn read_script(alloc: Global, text: &[u8]) -> Result<Script<Command>, Told>
     // The lines that aren't ignored spell what is read: the three of the header, and a line for each
     // command.
     ensures found { IfOk result (λ script. IsSpelling text.now (read script)) }
+    // No longer text is read.
+    ensures short { OnOk result (IsShort text.now) }
     // What is spelled so, in at most 100,000 lines, is read, unless memory runs out.
     ensures only { (script : Reading) → IsSpelling text.now script → IsShort text.now
         → Reads read result (Ok script) }

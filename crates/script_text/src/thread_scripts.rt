@@ -1,6 +1,6 @@
 //! Reading a script for threads: whole calls and steps of the sweep alone.
 
-ghost use Rattle.std.specs.Prelude.{IfOk, Ok};
+ghost use Rattle.std.specs.Prelude.{IfOk, OnOk, Ok};
 ghost use Rattle.text_lines.specs.Words.{nows};
 ghost use Rattle.text_lines.specs.Views.{Reads};
 ghost use Rattle.script_text.specs.Grammar.{IsShort};
@@ -36,6 +36,8 @@ pub fn read_thread_script(alloc: Global, text: &[u8]) -> Result<Script<ThreadLin
     // The lines that aren't ignored spell what is read, as any other script; it has one actor to spare and
     // lines for threads alone.
     ensures found { IfOk result (λ script. IsThreadSpelling text.now (read script)) }
+    // No longer text is read.
+    ensures short { OnOk result (IsShort text.now) }
     // What is spelled so, in at most 100,000 lines, is read, unless memory runs out.
     ensures only { (script : Reading) → IsThreadSpelling text.now script → IsShort text.now
         → Reads read result (Ok script) }
