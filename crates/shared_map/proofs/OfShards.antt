@@ -1,7 +1,7 @@
 -- One of the shards of a map, and the world of the whole.
-use Rattle.std.proofs.Common.{◌≡◌, ℕ, zero, suc, ◌*◌, ◌/◌, ◌%◌, ◌^◌, ◌<◌, ◌≤◌, Bool}
+use Rattle.std.proofs.Common.{◌≡◌, ℕ, zero, suc, ◌<◌, ◌≤◌, Bool}
 use Rattle.std.proofs.Common.{false, List, [], ◌∷◌, length, map, Option, Some, None, IsSome}
-use Rattle.std.proofs.Common.{option_map, Ok, refl, sym, ap, subst, ◌∙◌, arith, slice_get, slice_set, mod-lt}
+use Rattle.std.proofs.Common.{option_map, Ok, refl, sym, ap, subst, ◌∙◌, arith, slice_get, slice_set}
 use Rattle.std.specs.FinMap as maps
 use Rattle.std.proofs.lemmas.List.Sums.{sum_by-set}
 use Rattle.std.proofs.lemmas.Option.{get_or_from_slice_get, same_Some, slice_get-map, slice_get_within}
@@ -16,6 +16,7 @@ use Rattle.shared_map.specs.Answering.{WorkUpTo}
 use Rattle.shared_map.specs.Asks.{place_of}
 use Rattle.shared_map.specs.Shards.{AreHashed, AreShards, last_given, world_of_all, worlds_of}
 use Rattle.shared_map.specs.Uniting.{AreOfKinds, AreOwnFrom, kind_of, united, united_at, value_at}
+use Rattle.shared_map.proofs.OnePlace.{shard_within}
 use Rattle.shared_map.proofs.Places.{map_set, set_found}
 use Rattle.shared_map.proofs.Turned.{kind_at, kinds_set, own_at, own_set, united_shows}
 use Rattle.shared_map.proofs.United.{has_at, length_mapped, shown_as, shown_kind}
@@ -65,7 +66,7 @@ module _ (hash : HashKind) (before : List MapState) (are : AreShards hash before
 
   pub within : (k : ℕ) → place k < length worlds
   within k =
-      let lt : place k < length before = mod-lt (hash_of hash k * 11400714819323198485 % 2 ^ 64 / 2 ^ 58) (omega (arith, are.some)) in omega (arith, many, lt)
+      let lt : place k < length before = shard_within (length before) (hash_of hash k) (omega (arith, are.some)) in omega (arith, many, lt)
 
   pub shown_in_all : (h : ℕ) → maps.get (world_of_all before) h ≡ option_map (shown_as (united_at worlds h)) (are.kinds h)
   shown_in_all h = united_shows are.kinds worlds any are.alike h

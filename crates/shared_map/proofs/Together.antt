@@ -1,6 +1,6 @@
 -- What is listed of each shard is together the whole map.
-use Rattle.std.proofs.Common.{◌≡◌, ℕ, zero, suc, ◌+◌, ◌*◌, ◌/◌, ◌%◌, ◌^◌, ◌<◌, ◌≤◌, ◌==◌, ◌&&◌, Bool, true, false, cond, nat_le, [], ◌∷◌, count_by}
-use Rattle.std.proofs.Common.{refl, sym, ap, ap₂, ◌∙◌, arith, mod-lt}
+use Rattle.std.proofs.Common.{◌≡◌, ℕ, zero, suc, ◌+◌, ◌<◌, ◌≤◌, ◌==◌, ◌&&◌, Bool, true, false, cond, nat_le, [], ◌∷◌, count_by}
+use Rattle.std.proofs.Common.{refl, sym, ap, ap₂, ◌∙◌, arith}
 use Rattle.std.specs.FinMap as maps
 use Rattle.std.specs.List.{filter, flat_map, range_with_len}
 use Rattle.std.proofs.lemmas.Bool.Decides.{nat_tests}
@@ -14,6 +14,7 @@ use Rattle.shared_map.specs.Beneath.machine_core.proofs.Sorting.{pairs_order}
 use Rattle.shared_map.specs.Beneath.proof_contents.proofs.Pairs.Lists.{Pairs}
 use Rattle.shared_map.specs.PartsLaws.{ShardsListTheMap}
 use Rattle.shared_map.proofs.Finding.{entries_by_key}
+use Rattle.shared_map.proofs.OnePlace.{shard_within}
 
 -- how many pass two tests, one after the other
 counted_both : (test t : ℕ × ℕ → Bool) (ps : Pairs) → count_by t (filter test ps) ≡ count_by (λ p. test p && t p) ps
@@ -90,7 +91,7 @@ shards_list_the_map hash shards m listed some each =
     place = place_of hash shards
 
     within : (k : ℕ) → place_of hash shards k < shards
-    within k = mod-lt (hash_of hash k * 11400714819323198485 % 2 ^ 64 / 2 ^ 58) (omega (arith, some))
+    within k = shard_within shards (hash_of hash k) (omega (arith, some))
 
     counted : (t : ℕ × ℕ → Bool) (i : ℕ) → 0 ≤ i → i < 0 + shards → count_by t (listed i) ≡ at_place (place_of hash shards) t i (maps.entries m)
     counted t i le lt =

@@ -66,10 +66,10 @@ handle_asked (IsWritable h) = h
 handle_asked (Restore h copy) = h
 handle_asked ask = 0
 
--- The shard of a hash, of so many: by the six top bits of its product with 2^64 over the golden ratio. All bits of the hash bear on these, so each shard has its
--- share of each branch of the trie, whose levels go by the hash's own bits.
+-- The shard of a hash, of so many: in which of as many equal parts of the numbers below 2^64 its product with 2^64 over the golden ratio lies. All bits of the
+-- hash bear on it, so each shard has its share of each branch of the trie, whose levels go by the hash's own bits.
 abbrev pub shard_of : ℕ → ℕ → ℕ
-shard_of shards hash = hash * 11400714819323198485 % 2 ^ 64 / 2 ^ 58 % shards
+shard_of shards hash = hash * 11400714819323198485 % 2 ^ 64 * shards / 2 ^ 64
 
 -- the shard of a key
 abbrev pub place_of : HashKind → ℕ → ℕ → ℕ

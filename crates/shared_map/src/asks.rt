@@ -143,12 +143,14 @@ pub(crate) fn told_writable(writable: Result<bool, MapError>) -> Told
 const SPREAD: u64 = 11_400_714_819_323_198_485;
 
 /// The shard of a hash, of so many.
+#[tactic(auto, using(crate::proofs::OnePlace::shard_within))]
 fn shard_of(hash: u64, shards: usize) -> usize
     requires { 0 < shards }
     ensures value { result ≡ shard_of shards hash }
     ensures within { result < shards }
 {
-    (hash.wrapping_mul(SPREAD) >> 58) as usize % shards
+    let product = hash.wrapping_mul(SPREAD);
+    ((u128::from(product) * shards as u128) >> 64) as usize
 }
 
 /// The shard of a key, of so many. Where there is one, nothing is worked out.

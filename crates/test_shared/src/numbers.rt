@@ -17,8 +17,8 @@ fn call_twice<R: Wait>(rt: &R, map: &SharedMap, seat: &mut MapSeat) -> bool
     requires { IsSeatOf map.now seat.old }
     ensures { IsSeatOf map.now seat.new }
 {
-    seat.put(rt, map, Handle::first(), 5, 50) == Ok(None)
-        && seat.get(rt, map, Handle::new(9), 5) == Err(MapError::NoHandle)
+    seat.put(rt, map, Handle::first(), 6, 60) == Ok(None)
+        && seat.get(rt, map, Handle::new(9), 6) == Err(MapError::NoHandle)
 }
 
 /// Whether the seat hears of so many calls about a shard, and not of one more.
@@ -44,8 +44,8 @@ fn tell<R: Wait>(rt: &R, map: &SharedMap, seat: &MapSeat, other: &mut MapSeat) -
     other.hear(rt, map, seat.last())
 }
 
-/// The key 5 is in the shard 5 of 8. All calls about it count, those that are refused too; a seat knows of those that stood
-/// there when it called or heard last.
+/// The key 6 is in the shard 5 of 8: 6 over the golden ratio is 3.708.., and 0.708.. lies between 5/8 and 6/8. All calls about
+/// it count, those that are refused too; a seat knows of those that stood there when it called or heard last.
 #[test]
 fn calls_have_numbers(rt: HostRuntime) -> Result<(), Fail> {
     let (map, mut seats) = SharedMap::new(rt.alloc(), 64, HashKind::Fold, 2, 8)?;
@@ -62,7 +62,7 @@ fn calls_have_numbers(rt: HostRuntime) -> Result<(), Fail> {
     assert!(rt; hears_of(&rt, &map, &mut two, second));
     assert!(rt; tell(&rt, &map, &one, &mut two));
     assert!(rt; !two.hear(&rt, &map, ShardCount { shard: 8, calls: 0 }));
-    assert_eq!(rt; two.get(&rt, &map, Handle::first(), 5), Ok(Some(50)));
+    assert_eq!(rt; two.get(&rt, &map, Handle::first(), 6), Ok(Some(60)));
     assert_eq!(rt;
         (one.last(), two.last()),
         (second, ShardCount { shard: 5, calls: 3 })
