@@ -1,7 +1,9 @@
 //! Seats at a shared map, each with a share of it.
 
-ghost use Rattle.std.specs.Prelude.{◌≡◌, ◌≢◌, [], IfSome, IfNone, IfOk, OnErr};
+ghost use Rattle.std.specs.Prelude.{◌≡◌, ◌≢◌, [], IfSome, IfNone, IfOk, IfErr, OnErr};
+ghost use Rattle.std.specs.Arc.{arc_value};
 ghost use Rattle.ctrie_c.specs.Sharing.{Asks, HasHandedOut, Hears};
+ghost use Rattle.shared_map.specs.Seats.{IsSeatOf};
 
 use shared_map::{Ask, MapSeat, ShardCount, SharedMap, Told};
 use std::alloc::{AllocError, Global};
@@ -60,23 +62,35 @@ impl SharingSeat {
         let Some(seat) = self.spare.pop() else {
             return Ok(None);
         };
-        let Ok(map) = Arc::try_clone(&self.map) else {
-            let _ = self.spare.push(seat);
-            return Err(AllocError);
-        };
-        let spare = Vec::new(alloc);
-        match Box::new(alloc, SharingSeat { map, seat, spare }) {
+        match sharing(alloc, &self.map, seat) {
             Ok(other) => Ok(Some(other)),
-            Err(failed) => {
-                let returned = failed.value;
-                let SharingSeat {
-                    map: _,
-                    seat,
-                    spare: _,
-                } = returned;
-                let _ = self.spare.push(seat);
+            Err(seat) => {
+                self.spare.push_reserved(seat);
                 Err(AllocError)
             }
+        }
+    }
+}
+
+/// The seat with a share of its map, and none to hand out. Where memory runs out the seat comes back.
+fn sharing(
+    alloc: Global,
+    map: &Arc<SharedMap, Global>,
+    seat: MapSeat,
+) -> Result<Box<SharingSeat>, MapSeat>
+    requires { IsSeatOf (arc_value map.now) seat }
+    ensures shares { IfOk result (λ other. other.value ≡ record { map = arc_value map.now; seat = seat; spare = [] }) }
+    ensures returned { IfErr result (λ back. back ≡ seat) }
+{
+    let Ok(map) = Arc::try_clone(map) else {
+        return Err(seat);
+    };
+    let spare = Vec::new(alloc);
+    match Box::new(alloc, SharingSeat { map, seat, spare }) {
+        Ok(other) => Ok(other),
+        Err(failed) => {
+            let SharingSeat { seat, .. } = failed.value;
+            Err(seat)
         }
     }
 }
