@@ -11,7 +11,7 @@ use Rattle.history.specs.declared.calls.Call.TheVariants.{Clear, Close, Freeze, 
 use Rattle.history.specs.Effects.{has_value}
 use Rattle.history.specs.Worlds.{KeyMap}
 use Rattle.shared_map.specs.Beneath.ctrie_map.specs.Beneath.proof_alone.specs.Beneath.machine_model.specs.States.{handle_limit}
-use Rattle.shared_map.specs.Beneath.proof_obstruction_free.specs.Sweeping.{UsesReached}
+use Rattle.shared_map.specs.Beneath.proof_memory.specs.Sweeping.{UsesReached}
 use Rattle.shared_map.specs.Beneath.slot_arena.specs.Heaps.{in_use}
 use Rattle.shared_map.specs.Beneath.slot_arena.specs.Refs.{most_slots}
 use Rattle.shared_map.specs.Beneath.ctrie_map.specs.declared.errors.MapError.{MapError}

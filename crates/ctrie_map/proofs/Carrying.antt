@@ -12,7 +12,7 @@ use Rattle.ctrie_map.specs.Beneath.proof_obstruction_free.specs.Laws.{most_steps
 use Rattle.proof_alone.specs.Calls.{Acts, CallsDo, CanCall, Does, EnoughSlotsForCalls, RefusedIfOut, RunsOut, steps_of}
 use Rattle.ctrie_map.specs.Beneath.proof_obstruction_free.specs.Calls.{IsNoWalk, slots_of}
 use Rattle.proof_alone.specs.Sweeps.{Sweeps, SweepsLeave, Swept, most_sweeps}
-use Rattle.ctrie_map.specs.Beneath.proof_obstruction_free.specs.Sweeping.{steps_for_a_slot}
+use Rattle.ctrie_map.specs.Beneath.proof_memory.specs.Sweeping.{steps_for_a_slot}
 use Rattle.ctrie_map.specs.Beneath.proof_straight.specs.Resting.{IsOfRun}
 use Rattle.ctrie_map.specs.Beneath.proof_straight.specs.Running.{Comes}
 use Rattle.ctrie_map.specs.Beneath.map_worlds.specs.Worlds.{world_of}

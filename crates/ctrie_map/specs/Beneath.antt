@@ -1,6 +1,7 @@
 -- What lies below this crate, named through the nearest crates alone: crates.txt lists only these, since the toolchain goes along each of its paths.
 pub use Rattle.proof_alone as proof_alone
 pub use Rattle.proof_alone.specs.Beneath.proof_obstruction_free as proof_obstruction_free
+pub use Rattle.proof_alone.specs.Beneath.proof_memory as proof_memory
 pub use Rattle.proof_alone.specs.Beneath.proof_order as proof_order
 pub use Rattle.proof_alone.specs.Beneath.proof_shape as proof_shape
 pub use Rattle.machine_core.specs.Beneath.proof_contents as proof_contents

@@ -4,7 +4,7 @@ ghost use Rattle.std.specs.Prelude.{◌≡◌, ◌≤◌, ◌+◌, length, nat_e
 ghost use Rattle.std.specs.FinMap as map;
 ghost use Rattle.machine_model.specs.Machine.{longest_life};
 ghost use Rattle.machine_model.specs.States.{handle_limit};
-ghost use Rattle.ctrie_map.specs.Beneath.proof_obstruction_free.specs.Sweeping.{UsesReached};
+ghost use Rattle.ctrie_map.specs.Beneath.proof_memory.specs.Sweeping.{UsesReached};
 ghost use Rattle.ctrie_map.specs.Beneath.slot_arena.specs.Heaps.{in_use};
 ghost use Rattle.ctrie_map.specs.Cores.{is_worn_out, life_left};
 ghost use Rattle.ctrie_map.specs.Maps.{free_of, handles_of};

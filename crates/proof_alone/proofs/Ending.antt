@@ -28,7 +28,7 @@ use Rattle.proof_obstruction_free.proofs.Ends.Bounds.{copies_end_first}
 use Rattle.proof_obstruction_free.proofs.Ends.Closes.{closes_end}
 use Rattle.proof_obstruction_free.proofs.Ends.Lists.{none_more}
 use Rattle.proof_obstruction_free.proofs.Inherited.EndsAll.{each_step_leads_to_its_end}
-use Rattle.proof_obstruction_free.proofs.Resting.{of_no_walk}
+use Rattle.proof_obstruction_free.proofs.NoWalks.{of_no_walk}
 use Rattle.proof_obstruction_free.proofs.Slots.AtBegin.{tries_first}
 use Rattle.proof_straight.specs.Running.{Comes, GoesOn, starts}
 use Rattle.proof_alone.specs.Calls.{CallsBegin, CallsEnd, CallsGoOn, CanCall, IsOnItsWay, LeadsOn, steps_of}

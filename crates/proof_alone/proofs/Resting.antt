@@ -7,7 +7,7 @@ use Rattle.proof_alone.specs.Beneath.machine_model.specs.declared.steps.Outcome.
 use Rattle.proof_alone.specs.Beneath.machine_model.specs.declared.steps.Step.TheVariants.{Begin, Go}
 use Rattle.proof_alone.specs.Beneath.machine_model.specs.Machine.{is_busy}
 use Rattle.proof_alone.specs.Beneath.machine_model.specs.States.{State}
-use Rattle.proof_obstruction_free.proofs.Resting.{OnlyRuns, idle_behind, only_at_rest, rest_if_idle, still_only}
+use Rattle.proof_alone.specs.Beneath.proof_commits.proofs.Resting.{OnlyRuns, idle_behind, only_at_rest, rest_if_idle, still_only}
 use Rattle.proof_straight.specs.Running.{Comes, GoesOn, starts, walks}
 
 goes_alone : (state : State) (actor : ℕ) (call : Call) → is_busy state ≡ false → (n : ℕ) (now : State) → GoesOn state actor call n now → OnlyRuns actor now

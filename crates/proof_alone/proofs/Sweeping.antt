@@ -30,7 +30,7 @@ use Rattle.map_worlds.specs.Worlds.{named_at, world_of}
 use Rattle.map_worlds.proofs.Shown.{shows_roots}
 use Rattle.proof_straight.specs.Resting.{IsOfRun}
 use Rattle.proof_alone.specs.Sweeps.{CleanIsReached, Sweeps, SweepsLeave, most_sweeps, sweeps, unswept}
-use Rattle.proof_obstruction_free.specs.Sweeping.{UsesReached, steps_for_a_slot}
+use Rattle.proof_alone.specs.Beneath.proof_memory.specs.Sweeping.{UsesReached, steps_for_a_slot}
 use Rattle.proof_alone.proofs.Freeing.{IsSwept, is_swept, step_nears, until, until_at_most}
 use Rattle.proof_alone.specs.Beneath.proof_memory.proofs.Limbo.Nearing.{Nears, frees, nears, until_ripe}
 use Rattle.proof_alone.proofs.Runs.{by_run, of_run_behind}

@@ -6,7 +6,7 @@ use Rattle.proof_alone.specs.Beneath.machine_model.specs.declared.steps.Step.The
 use Rattle.proof_alone.specs.Beneath.machine_model.specs.Machine.{is_busy, next}
 use Rattle.proof_alone.specs.Beneath.machine_model.specs.States.{State}
 use Rattle.map_worlds.specs.Worlds.{world_of}
-use Rattle.proof_obstruction_free.specs.Sweeping.{UsesReached, steps_for_a_slot}
+use Rattle.proof_alone.specs.Beneath.proof_memory.specs.Sweeping.{UsesReached, steps_for_a_slot}
 use Rattle.proof_straight.specs.Resting.{IsOfRun}
 
 -- so many steps of the sweep lead from one state to the other, and limbo isn't empty before any of them

@@ -11,9 +11,12 @@
 -- READ gives and from when on that was so; how a SWAP comes out: Course.Swaps. In the machine's own heap: `logical_standing` (Known.MainsInUse) and the laws
 -- for lists of steps (Course.OfLists).
 --
+-- Rest, the one actor that takes steps from there, and the end of its operation: Resting.
+--
 -- Which lines read, and on which one ends: Lines.Reads (`only_end`, `read_counts`), Lines.Stages, `reads_stage` (Lines.Swap); `line_turn` (Lines.Turns) is the
 -- turn that a line's step is.
 pub mod Words
 pub mod Known
 pub mod Course
 pub mod Lines
+pub mod Resting

@@ -16,9 +16,9 @@ use Rattle.machine_model.specs.declared.steps.Step.TheVariants.{Sweep}
 use Rattle.machine_model.specs.Calls.{handle_of}
 use Rattle.machine_model.specs.States.{State, root_at, operation_of}
 use Rattle.machine_model.specs.Counting.{outside, refs_of_root}
-use Rattle.machine_model.specs.Contents.{IsReached, content_at, held}
+use Rattle.machine_model.specs.Contents.{content_at, held}
 use Rattle.machine_model.specs.Operations.{action_of}
-use Rattle.machine_model.specs.Machine.{AreBounds, is_busy, run, next_state}
+use Rattle.machine_model.specs.Machine.{AreBounds, run, next_state}
 use Rattle.machine_model.specs.Grown.{standing}
 use Rattle.machine_model.specs.Records.{next_record, record_of}
 use Rattle.proof_memory.specs.Wants.{AllHold, is_formed, node_wants, prev_wants, word_wants, action_wants, line_wants}
@@ -144,9 +144,3 @@ SweepLeaves =
     ((handle : ℕ) (root : Root) → root_at (run limits steps) handle ≡ Some root →
     (root_at (next_state (run limits steps) Sweep) handle ≡ Some root) × (content_at (next_state (run limits steps) Sweep) handle ≡ content_at (run limits steps) handle))
     × (next_record (run limits steps) (record_of limits steps) Sweep ≡ record_of limits steps)
-
--- at rest, with limbo empty, the slots in use are exactly the reachable ones
-abbrev pub Reclaimed : Type 0
-Reclaimed =
-    (limits : Bounds) (steps : List Step) (r : Ref) → AreBounds limits → is_busy (run limits steps) ≡ false → (run limits steps).limbo ≡ [] →
-    (IsInUse (run limits steps).heap r → IsReached (run limits steps) r) × (IsReached (run limits steps) r → IsInUse (run limits steps).heap r)

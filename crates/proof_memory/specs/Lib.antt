@@ -1,6 +1,7 @@
 pub mod Beneath
 pub mod Wants
 pub mod Laws
+pub mod Sweeping
 pub mod Levels
 pub mod Making
 pub mod Holding

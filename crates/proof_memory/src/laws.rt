@@ -2,7 +2,8 @@
 
 ghost use Rattle.proof_memory.specs.Holding.{LinesLive, PrivatesOnce, SizesStay};
 ghost use Rattle.proof_memory.specs.Laws.{HeldInUse, StandingInUse, DrawnOnce, OneNodeForEver, LinesFind, NodesFind, RootsFind, NeverImpossible, LimboIsExact, LimboIsRecent};
-ghost use Rattle.proof_memory.specs.Laws.{FreedLate, SweepLeaves, Reclaimed};
+ghost use Rattle.proof_memory.specs.Laws.{FreedLate, SweepLeaves};
+ghost use Rattle.proof_memory.specs.Sweeping.{Reclaimed};
 
 /// A law: each reference that a running operation has got since its begin (`held`), or that stands in a root
 /// word, a private list or a slot in use (`standing`), names a slot in use, under that very birth.

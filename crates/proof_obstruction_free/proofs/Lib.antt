@@ -1,4 +1,4 @@
--- What to cite from above: the laws, and what Resting has of rest, of the one actor that takes steps from there and of the end of its operation.
+-- What to cite from above: the laws, and `of_no_walk` (NoWalks), that calls which walk over no pairs are those of the laws.
 --
 -- Where to begin: Lone and Stands (specs/Alone) say what an operation alone is and on which line it stands, Within (specs/Alone, Step.Within) that something
 -- holds after so many steps at most. Stepping (specs/Stepping, shown by Step.Step) is what one step of it leaves; Machines (specs/Machines, shown by
@@ -24,4 +24,4 @@ pub mod Inherited
 pub mod Slots
 pub mod Making
 pub mod Programs
-pub mod Resting
+pub mod NoWalks

@@ -15,6 +15,5 @@ pub mod SwapEnds
 pub mod Inherited
 pub mod Slots
 pub mod Calls
-pub mod Sweeping
 pub mod Closes
 pub mod ProgramEnds

@@ -35,7 +35,8 @@ use Rattle.proof_obstruction_free.specs.Closes.{ClosesEnd}
 use Rattle.proof_obstruction_free.specs.Copies.{IsCopying}
 use Rattle.proof_obstruction_free.specs.Laws.{EachStepLeadsToItsEnd, EndsAt, GoesOnAt, IsOnKeyOrRoot, RunsAlone, alone_after, most_steps_alone}
 use Rattle.proof_obstruction_free.specs.Slots.{EnoughForCopies, EnoughForTries}
-use Rattle.proof_obstruction_free.proofs.Resting.{idle_behind, of_no_walk}
+use Rattle.proof_runs.specs.Beneath.proof_commits.proofs.Resting.{idle_behind}
+use Rattle.proof_obstruction_free.proofs.NoWalks.{of_no_walk}
 use Rattle.proof_obstruction_free.proofs.Slots.AtBegin.{tries_first}
 use Rattle.proof_runs.specs.Beneath.machine_model.specs.Lines.{new_try}
 use Rattle.proof_runs.specs.Machines.{Taken, past_of, state_of, with_step, Applied, IsTaken}

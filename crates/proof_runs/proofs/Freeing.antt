@@ -16,7 +16,7 @@ use Rattle.proof_memory.proofs.Safety.AtEachTime.{safe_along}
 use Rattle.proof_runs.specs.Callers.{AreNeeded, HasLimbo, Reclaims, ReclaimsUnless, SweepsUntil, swept}
 use Rattle.proof_runs.specs.Machines.{IsTaken, Taken, state_of, with_step}
 use Rattle.proof_runs.specs.Reclaiming.{SweepsFew, SweepsUpTo}
-use Rattle.proof_obstruction_free.specs.Sweeping.{steps_for_a_slot}
+use Rattle.proof_memory.specs.Sweeping.{steps_for_a_slot}
 use Rattle.proof_runs.proofs.Sweeping.{nearer, step_by}
 use Rattle.proof_memory.proofs.Limbo.Nearing.{Nears, counts_along, frees, move_nears, nears, ripe_most, until_ripe}
 

@@ -40,7 +40,7 @@ use Rattle.proof_obstruction_free.specs.Calls.{slots_of}
 use Rattle.proof_obstruction_free.specs.Closes.{ClosesEnd}
 use Rattle.proof_obstruction_free.specs.Laws.{EachStepLeadsToItsEnd, most_steps_alone}
 use Rattle.proof_runs.proofs.Resting.{leads_to_rest, unanswered_at_rest}
-use Rattle.proof_obstruction_free.proofs.Resting.{OnlyRuns, only_at_rest, still_only}
+use Rattle.proof_runs.specs.Beneath.proof_commits.proofs.Resting.{OnlyRuns, only_at_rest, still_only}
 use Rattle.proof_runs.proofs.Telling.{Tells, stepped, tells}
 
 module _ (machine : Taken) (explained : IsExplained (bounded machine.limits) (state_of machine) (past_of machine)) where

@@ -12,14 +12,14 @@ use Rattle.proof_runs.specs.Beneath.machine_model.proofs.Along.{run_push}
 use Rattle.proof_runs.specs.Beneath.machine_model.proofs.Moves.{moves}
 use Rattle.proof_runs.specs.Beneath.machine_model.specs.Moves.{Sweeps}
 use Rattle.proof_runs.specs.Beneath.machine_model.specs.Moves.{MovesIfTaken}
-use Rattle.proof_memory.specs.Laws.{SweepLeaves, Reclaimed}
+use Rattle.proof_memory.specs.Laws.{SweepLeaves}
 use Rattle.proof_runs.specs.Beneath.machine_model.proofs.Recorded.{record_push}
 use Rattle.proof_runs.specs.Beneath.machine_model.specs.Contents.{content_at}
 use Rattle.proof_runs.specs.Beneath.machine_model.specs.Records.{first_record, order_of}
 use Rattle.proof_runs.specs.Machines.{Taken, past_of, state_of, with_step}
 use Rattle.proof_runs.specs.Callers.{swept, Reclaims, ReclaimsUnless}
 use Rattle.proof_runs.specs.Reclaiming.{LooksSame}
-use Rattle.proof_obstruction_free.specs.Sweeping.{UsesReached}
+use Rattle.proof_memory.specs.Sweeping.{UsesReached, Reclaimed}
 
 pub same_looks : (machine : Taken) → LooksSame machine machine
 same_looks machine = record { events = refl; order = refl; roots = λ handle. refl; contents = λ handle root e. refl }
@@ -81,7 +81,7 @@ module _ (leaves : SweepLeaves) where
       let on = steps_on n before ok in
       let rest : is_busy (state_of after) ≡ false = subst (λ m. is_busy (state_of m) ≡ false) (sym is) (on.1 ∙ idle) in
       let sizes : AreBounds (bounded after.limits) = subst (λ m. AreBounds (bounded m.limits)) (sym is) (subst (λ l. AreBounds (bounded l)) (sym on.2) ok) in
-      λ r. law (bounded after.limits) after.steps r sizes rest empty
+      law (bounded after.limits) after.steps sizes rest empty
 
   uses_reached : (before after : Taken) → Reclaimed → AreBounds (bounded before.limits) → Reclaims (Ok tt) before after → UsesReached (state_of after)
   uses_reached before after law ok r = clean_by (is_busy (state_of before)) before after law ok refl r

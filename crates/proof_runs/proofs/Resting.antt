@@ -12,7 +12,7 @@ use Rattle.proof_runs.specs.Beneath.machine_model.specs.Machine.{Answer, next, g
 use Rattle.proof_runs.specs.Beneath.machine_model.specs.States.{State, operation_of}
 use Rattle.proof_runs.specs.Machines.{Taken, state_of, with_step}
 use Rattle.proof_runs.specs.Callers.{after_go, after_outcome, going_on}
-use Rattle.proof_obstruction_free.proofs.Resting.{OnlyRuns, idle_behind, none_at, rest_if_idle, still_only}
+use Rattle.proof_runs.specs.Beneath.proof_commits.proofs.Resting.{OnlyRuns, idle_behind, none_at, rest_if_idle, still_only}
 use Rattle.proof_runs.proofs.Telling.{answered_parts, denied_parts, stepped, unanswered}
 
 -- ---- at rest

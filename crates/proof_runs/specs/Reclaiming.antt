@@ -5,7 +5,7 @@ use Rattle.proof_runs.specs.Beneath.machine_model.specs.declared.roots.Root.{Roo
 use Rattle.proof_runs.specs.Beneath.machine_model.specs.States.{root_at}
 use Rattle.proof_runs.specs.Beneath.machine_model.specs.Records.{order_of}
 use Rattle.proof_runs.specs.Beneath.machine_model.specs.Contents.{content_at}
-use Rattle.proof_obstruction_free.specs.Sweeping.{steps_for_a_slot}
+use Rattle.proof_memory.specs.Sweeping.{steps_for_a_slot}
 use Rattle.proof_runs.specs.Machines.{Taken, past_of, state_of}
 
 -- history and order are the same, and so are the handles and the content of each open one

@@ -31,7 +31,7 @@ use Rattle.script_commands.specs.Beneath.proof_obstruction_free.specs.Laws.{Alon
 use Rattle.script_commands.specs.Beneath.proof_runs.specs.Ending.{IsSure}
 use Rattle.script_commands.specs.Beneath.proof_runs.specs.Machines.{Taken, past_of, state_of}
 use Rattle.script_commands.specs.Beneath.proof_runs.proofs.Ending.{begun_runs_on, sure_behind}
-use Rattle.script_commands.specs.Beneath.proof_obstruction_free.proofs.Resting.{of_no_walk}
+use Rattle.script_commands.specs.Beneath.proof_obstruction_free.proofs.NoWalks.{of_no_walk}
 use Rattle.script_text.specs.declared.commands.Command.{Command}
 use Rattle.script_text.specs.declared.commands.Command.TheVariants.{Begin, Go, Until, Finish, Do, Sweep}
 use Rattle.script_text.specs.Grammar.{CommandFits}

@@ -2,6 +2,7 @@
 pub use Rattle.machine_model as machine_model
 pub use Rattle.epochs as epochs
 pub use Rattle.proof_runs as proof_runs
+pub use Rattle.proof_runs.specs.Beneath.proof_memory as proof_memory
 pub use Rattle.proof_runs.specs.Beneath.slot_arena as slot_arena
 pub use Rattle.proof_runs.specs.Beneath.proof_contents as proof_contents
 pub use Rattle.proof_runs.specs.Beneath.proof_generations as proof_generations

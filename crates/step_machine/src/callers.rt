@@ -12,7 +12,7 @@ ghost use Rattle.machine_core.specs.Told.{published_in};
 ghost use Rattle.proof_runs.specs.Callers.{Stepped, Replies, Resumes, Completes, Reclaims};
 ghost use Rattle.machine_model.specs.Machine.{is_busy, next_kind};
 ghost use Rattle.proof_runs.specs.Reclaiming.{LooksSame, SweepsFew};
-ghost use Rattle.step_machine.specs.Beneath.proof_obstruction_free.specs.Sweeping.{UsesReached};
+ghost use Rattle.step_machine.specs.Beneath.proof_memory.specs.Sweeping.{UsesReached};
 ghost use Rattle.proof_runs.specs.Legality.{ActedAlone, RestsIfAnswered, WentAlone};
 ghost use Rattle.proof_runs.specs.Ending.{CompletesIfSure, IsSpared, ResumesIfSure};
 

@@ -1,35 +1,23 @@
 -- An actor whose operation ended runs nothing, and from rest one actor alone takes steps.
-use Rattle.std.specs.Prelude.{◌≡◌, ◌⊎◌, ℕ, zero, suc, true, false, is_some, List, [], ◌∷◌, Option, Some, None, Ok}
+use Rattle.std.specs.Prelude.{◌≡◌, ℕ, zero, suc, false, is_some, List, [], ◌∷◌, Option, Some, None, Ok}
 use Rattle.std.specs.List.{list_any}
-use Rattle.std.proofs.Common.{inl, inr, refl, sym, ap, subst, ◌∙◌, get_or}
+use Rattle.std.proofs.Common.{refl, sym, ap, subst, ◌∙◌, get_or}
 use Rattle.std.proofs.lemmas.Bool.{false≢true}
 use Rattle.std.proofs.lemmas.Option.{none-some}
-use Rattle.proof_obstruction_free.specs.Beneath.history.specs.declared.calls.Call.{Call}
-use Rattle.proof_obstruction_free.specs.Beneath.history.specs.declared.calls.Call.TheVariants.{Close, Entries, Count}
-use Rattle.proof_obstruction_free.specs.Beneath.history.specs.declared.replies.Reply.{Reply}
-use Rattle.proof_obstruction_free.specs.Beneath.machine_model.specs.declared.operations.Operation.{Operation}
-use Rattle.proof_obstruction_free.specs.Beneath.machine_model.specs.declared.steps.Outcome.{Outcome}
-use Rattle.proof_obstruction_free.specs.Beneath.machine_model.specs.declared.steps.Outcome.TheVariants.{Ended}
-use Rattle.proof_obstruction_free.specs.Beneath.machine_model.specs.declared.steps.Step.{Step}
-use Rattle.proof_obstruction_free.specs.Beneath.machine_model.specs.declared.steps.Step.TheVariants.{Begin, Go, Sweep}
-use Rattle.proof_obstruction_free.specs.Beneath.machine_model.specs.Acting.{ended}
-use Rattle.proof_obstruction_free.specs.Beneath.machine_model.specs.Calls.{is_close}
-use Rattle.proof_obstruction_free.specs.Beneath.machine_model.specs.Counting.{settled}
-use Rattle.proof_obstruction_free.specs.Beneath.machine_model.specs.Machine.{is_busy, next}
-use Rattle.proof_obstruction_free.specs.Beneath.machine_model.specs.Moves.{Moves, Begins, Goes, Ends, Sweeps}
-use Rattle.proof_obstruction_free.specs.Beneath.machine_model.specs.States.{State, operation_of}
-use Rattle.proof_obstruction_free.specs.Beneath.machine_model.proofs.Actors.{IsOf, is_of, of_others}
-use Rattle.proof_obstruction_free.specs.Beneath.machine_model.proofs.Moves.{moved}
-use Rattle.proof_obstruction_free.specs.Beneath.proof_commits.proofs.Known.StepsAt.{end_own}
-use Rattle.proof_obstruction_free.specs.Calls.{IsNoWalk}
-use Rattle.proof_obstruction_free.specs.Laws.{IsOnKeyOrRoot}
-
--- any call that walks over no pairs is on one key or on a root, or it is a close
-pub of_no_walk : (call : Call) → IsNoWalk call → IsOnKeyOrRoot call ⊎ (is_close call ≡ true)
-of_no_walk (Close h) short = inr refl
-of_no_walk (Entries h) short = absurd short
-of_no_walk (Count h) short = absurd short
-of_no_walk call short = inl tt
+use Rattle.proof_commits.specs.Beneath.history.specs.declared.replies.Reply.{Reply}
+use Rattle.proof_commits.specs.Beneath.machine_model.specs.declared.operations.Operation.{Operation}
+use Rattle.proof_commits.specs.Beneath.machine_model.specs.declared.steps.Outcome.{Outcome}
+use Rattle.proof_commits.specs.Beneath.machine_model.specs.declared.steps.Outcome.TheVariants.{Ended}
+use Rattle.proof_commits.specs.Beneath.machine_model.specs.declared.steps.Step.{Step}
+use Rattle.proof_commits.specs.Beneath.machine_model.specs.declared.steps.Step.TheVariants.{Begin, Go, Sweep}
+use Rattle.proof_commits.specs.Beneath.machine_model.specs.Acting.{ended}
+use Rattle.proof_commits.specs.Beneath.machine_model.specs.Counting.{settled}
+use Rattle.proof_commits.specs.Beneath.machine_model.specs.Machine.{is_busy, next}
+use Rattle.proof_commits.specs.Beneath.machine_model.specs.Moves.{Moves, Begins, Goes, Ends, Sweeps}
+use Rattle.proof_commits.specs.Beneath.machine_model.specs.States.{State, operation_of}
+use Rattle.proof_commits.specs.Beneath.machine_model.proofs.Actors.{IsOf, is_of, of_others}
+use Rattle.proof_commits.specs.Beneath.machine_model.proofs.Moves.{moved}
+use Rattle.proof_commits.proofs.Known.StepsAt.{end_own}
 
 -- ---- the end of an operation
 
