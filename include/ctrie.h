@@ -82,17 +82,18 @@ enum ctrie_code {
     CTRIE_NO_MAP = 11,      /* no map is held, or no seat at a shared one */
     CTRIE_HAS_MAP = 12,     /* ctrie_new where a map is held already, which stays; ctrie_shared_open, _new, _split where a
                                seat is */
-    CTRIE_BAD_HASH = 13     /* of these but _split: another number than those of enum ctrie_hash */
+    CTRIE_BAD_HASH = 13     /* ctrie_new, ctrie_shared_open, _new: the number is none of enum ctrie_hash */
 };
 
 /* Whether a code tells of a refusal. */
 #define CTRIE_REFUSED(code) ((code) > CTRIE_YES)
 
+/* How keys are hashed. At most 32 keys of a map have one hash: a key more is CROWDED. */
 enum ctrie_hash {
     CTRIE_LOW = 0,  /* the key modulo 2^32 */
-    CTRIE_FOLD = 1, /* the key's low half xor its high half */
-    CTRIE_WIDE = 2, /* the key itself */
-    CTRIE_BLOCK = 3 /* the key divided by 64 */
+    CTRIE_FOLD = 1, /* the key's low half xor its high half: not for two small numbers packed into a key */
+    CTRIE_WIDE = 2, /* the key itself: no key is ever crowded */
+    CTRIE_BLOCK = 3 /* the key divided by 64: of each 64 keys in a row 32 at most */
 };
 
 /* A key with its value. */
@@ -147,8 +148,9 @@ static inline const char *ctrie_error(uint32_t code) {
 
 /* ---- a map */
 
-/* Makes a map with the given number of slots for nodes, from 2 to 1,048,576, and hash of keys. DONE, BAD_SIZES, MEMORY,
-   HAS_MAP, BAD_HASH. */
+/* Makes a map with the given number of slots for nodes, from 2 to 1,048,576, and hash of keys. Random keys take
+   some 1.7 each, and copies more for what changes behind them: take twice as many as keys, and CTRIE_SLOTS_FOR_A_CALL.
+   DONE, BAD_SIZES, MEMORY, HAS_MAP, BAD_HASH. */
 CTRIE_MUST_USE
 uint32_t ctrie_new(struct ctrie *map, uint32_t slots, uint32_t hash);
 

@@ -112,13 +112,14 @@ uint32_t ctrie_shared_try_close(struct ctrie_seat *seat, uint16_t handle);
 /* ---- a shared map and its seats: these don't wait */
 
 /* Makes a shared map in so many shards, from 1 to 64, each as ctrie_new makes a map with so many slots; and so many
-   seats at it, from 1 to 255. The struct holds one, which hands out the others. DONE; BAD_HASH, before all others; HAS_MAP
+   seats at it, from 1 to 255. The struct holds one, which hands out the others. Keys spread over the shards, some of which
+   get more than their share: a call is FULL where its key's shard is, whatever the others have. DONE; BAD_HASH, before all others; HAS_MAP
    where it holds one already; BAD_SIZES where the number of slots or of shards is out of range; MEMORY; NO_SEATS where
    there are to be none. */
 CTRIE_MUST_USE
 uint32_t ctrie_shared_open(struct ctrie_seat *seat, uint32_t slots, uint32_t hash, uint8_t seats, uint8_t shards);
 
-/* Hands out one of the seats that the first struct has yet, to the second. DONE; HAS_MAP where the second holds one,
+/* Hands out one of the seats that the first struct still has, to the second. DONE; HAS_MAP where the second holds one,
    before all others; NO_MAP where the first holds none; NO_SEATS where none is left; MEMORY. */
 CTRIE_MUST_USE
 uint32_t ctrie_shared_split(struct ctrie_seat *seat, struct ctrie_seat *other);
@@ -288,7 +289,7 @@ static inline uint32_t ctrie_shared_has_room(struct ctrie_seat *seat) {
 /* YES where so many calls about the shard have been made, as far as the seat sees then; else NO, and NO of a shard that
    isn't there, for which it looks at the first one. Who was told the number of another seat's call, by ctrie_shared_last,
    and hears YES of it, calls behind it from then on, whichever shards these calls are about. That YES comes of each call
-   that was made is promised as little as that a try comes in. */
+   that was made isn't promised, nor that a try comes in. */
 CTRIE_MUST_USE
 static inline uint32_t ctrie_shared_hear(struct ctrie_seat *seat, struct ctrie_count count) {
     CTRIE_SHARED_WAIT(ctrie_shared_try_hear(seat, &count));

@@ -101,12 +101,12 @@ class WrongThread(Error):
 
 
 class Hash(enum.IntEnum):
-    """How a map hashes its keys. At most 32 keys have one hash."""
+    """How a map hashes its keys. At most 32 keys of a map have one hash: a key more is `Crowded`."""
 
     LOW = 0  # the key modulo 2^32
-    FOLD = 1  # the key's low half xor its high half
-    WIDE = 2  # the key itself
-    BLOCK = 3  # the key divided by 64
+    FOLD = 1  # the key's low half xor its high half: not for two small numbers packed into a key
+    WIDE = 2  # the key itself: no key is ever crowded
+    BLOCK = 3  # the key divided by 64: of each 64 keys in a row 32 at most
 
 
 class _Held(Structure):
@@ -513,7 +513,7 @@ class Copy(_Handle):
 
 
 class Map(_Handle):
-    """A map with the given number of slots for nodes, from 2 to 1,048,576, some 1.6 for each key.
+    """A map with the given number of slots for nodes, from 2 to 1,048,576: some 1.7 for each key, and more for what copies keep.
 
     It is open until it is closed, by close(), by the end of a `with` or as nothing refers to it or to a copy of it any more; or until its
     thread ends. Closed, it and its copies raise `Closed`. Where another thread was the last that referred to it, its memory is given back
