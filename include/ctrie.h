@@ -76,7 +76,7 @@ enum ctrie_code {
                                restore, or 24 and 571 a pair where it is a put_all */
     CTRIE_BAD_SIZES = 7,    /* the number of slots isn't from 2 to 1,048,576, or that of a shared map's shards isn't from
                                1 to 64 */
-    CTRIE_WORN_OUT = 8,     /* less work is left than a call may take, of 2^45 - 2^21 steps; the map can be read */
+    CTRIE_WORN_OUT = 8,     /* no more work is left than a call may take, of 2^45 - 2^21 steps; the map can be read */
     CTRIE_MEMORY = 9,       /* malloc refused: only of ctrie_new, ctrie_entries, ctrie_scan, ctrie_diff, ctrie_put_all, and of
                                ctrie_shared_open, _new, _split, _entries and _scan */
     CTRIE_NO_MAP = 11,      /* no map is held, or no seat at a shared one */

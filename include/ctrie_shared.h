@@ -169,8 +169,8 @@ static inline const char *ctrie_shared_error(uint32_t code) {
 }
 
 /* ---- the calls that wait: as those of ctrie.h, with the same codes; NO_MAP where no seat is held. In several shards a
-   clear, snapshot, freeze or restore is FULL already where one of them has fewer than 23 free slots, and these and a
-   close are WORN_OUT where one of them is */
+   clear, snapshot, freeze or restore from another handle that nothing else refuses is FULL already where one of them has
+   fewer than 23 free slots, and these and a close are WORN_OUT where one of them is */
 
 /* How a seat waits between two tries: first by pauses, since a shard is soon given back, then by leaving the processor
    to others, who may have it. */

@@ -28,7 +28,7 @@ IsVerdict text legal =
 abbrev pub SpellsNone : List ℕ → Type 0
 SpellsNone text = (reading : Reading) → IsSpelling text reading → ¬ IsShort text
 
--- the text spells no history, and its first line with a fault is this one, with this fault
+-- the text spells no history, unless in too many lines, and its first line with a fault is this one, with this fault
 abbrev pub HasLineFault : List ℕ → ℕ → Refusal → Type 0
 HasLineFault text number refusal = SpellsNone text × IsFault (history_of text) number refusal
 
