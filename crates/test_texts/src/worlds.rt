@@ -40,7 +40,11 @@ fn calls_have_effects(rt: HostRuntime) -> Result<(), Fail> {
     for (call, opens, wanted) in [
         (get(now), None, "Some(Found(None))"),
         (put(now, 90), None, "Some(Found(None))"),
-        (Call::Freeze { handle: now }, Some(frozen), "Some(Opened(1))"),
+        (
+            Call::Freeze { handle: now },
+            Some(frozen),
+            "Some(Opened(1))",
+        ),
         (put(now, 91), None, "Some(Found(Some(90)))"),
         (put(frozen, 92), None, "None"),
         (get(frozen), None, "Some(Found(Some(90)))"),
