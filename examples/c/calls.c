@@ -69,6 +69,7 @@ static void sets_several(uint16_t frozen) {
     TELL("put all", ctrie_put_all(&map, 0, three, 3), 0);
     TELL("put all", ctrie_put_all(&map, 0, many, 64), 0);
     TELL("put all", ctrie_put_all(&map, 0, NULL, 0), 0);
+    TELL("put all of NULL", ctrie_put_all(&map, 0, NULL, 5), 0);
     TELL("put all of a frozen one", ctrie_put_all(&map, frozen, three, 3), 0);
     TELL("remove", ctrie_remove(&map, 0, 2, &value), value);
     compares(frozen, 0, 4);

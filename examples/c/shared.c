@@ -115,7 +115,7 @@ int main(void) {
     struct ctrie_count last;
     uint64_t i, value, wrong = 0;
 
-    check(ctrie_shared_new(seats, WORKERS + 1, 1024, CTRIE_FOLD, 8), "new");
+    check(ctrie_shared_new(seats, WORKERS + 1, 1024, CTRIE_WIDE, 8), "new");
     for (i = 0; i < WORKERS; i++) {
         workers[i].seat = &seats[i];
         workers[i].number = i;

@@ -110,7 +110,7 @@ int main(void) {
     uint64_t i, count;
     uint16_t plan;
 
-    check(ctrie_shared_new(seats, WORKERS + 1, 2048, CTRIE_FOLD, 8), "new");
+    check(ctrie_shared_new(seats, WORKERS + 1, 2048, CTRIE_WIDE, 8), "new");
     for (i = 0; i < PLANNED; i++) check(ctrie_shared_put(mine, 0, i, 1, NULL), "put");
     check(ctrie_shared_freeze(mine, 0, &plan), "freeze");
     print_plan(mine, plan);
@@ -131,7 +131,7 @@ int main(void) {
     printf("as it was planned once: %s\n", answer(ctrie_shared_restore(mine, 0, plan)));
 
     /* No call finds CTRIE_SLOTS_FOR_A_CALL slots in 64, of which a new map takes two. */
-    check(ctrie_shared_new(&small, 1, 64, CTRIE_FOLD, 1), "new");
+    check(ctrie_shared_new(&small, 1, 64, CTRIE_WIDE, 1), "new");
     printf("room for any call in a small map: %s", answer(ctrie_shared_has_room(&small)));
     check(ctrie_shared_free_slots(&small, &count), "free_slots");
     printf(", free slots: %" PRIu64 "\n", count);
