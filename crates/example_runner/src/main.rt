@@ -33,7 +33,12 @@ fn main(rt: HostRuntime) -> ExitCode {
     let Ok((runner, mut seats)) = Runner::new(rt.alloc(), limits, 4) else {
         return ExitCode::FAILURE;
     };
-    thread::for_each_mut(&rt, seats.as_mut_slice(), 4, &|_, seat| work(&rt, &runner, seat));
+    thread::for_each_mut(
+        &rt,
+        seats.as_mut_slice(),
+        4,
+        &|_, seat| work(&rt, &runner, seat),
+    );
     let Ok(record) = runner.finish(seats) else {
         return ExitCode::FAILURE;
     };

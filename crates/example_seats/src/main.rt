@@ -18,7 +18,12 @@ fn work<R: Wait>(rt: &R, map: &SharedMap, seat: &mut MapSeat)
 
 fn main(rt: HostRuntime) -> Result<(), MapError> {
     let (map, mut seats) = SharedMap::new(rt.alloc(), 1_024, HashKind::Wide, 4, 8)?;
-    thread::for_each_mut(&rt, seats.as_mut_slice(), 4, &|_, seat| work(&rt, &map, seat));
+    thread::for_each_mut(
+        &rt,
+        seats.as_mut_slice(),
+        4,
+        &|_, seat| work(&rt, &map, seat),
+    );
     let Ok(shards) = map.finish(seats) else {
         // It never comes to this: all seats are there.
         return Err(MapError::Memory);
