@@ -43,7 +43,7 @@ static uint32_t steps_from(struct cache *cache, uint64_t number, uint64_t *steps
     return CTRIE_REFUSED(code) ? code : CTRIE_DONE;
 }
 
-/* Asks a cache of so many slots for 40 numbers three times, and for 27 after each. */
+/* Asks a cache of this size for 40 numbers three times, and for 27 after each. */
 static uint32_t ask(struct cache *cache, uint32_t slots) {
     uint64_t most = 0, known;
     uint32_t code = ctrie_new(&cache->map, slots, CTRIE_WIDE);

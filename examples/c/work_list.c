@@ -1,6 +1,6 @@
 /*
  * A list of work that threads share. Who is free takes any one task: it finds one by ctrie_shared_first and removes it by
- * ctrie_shared_remove_if, which tells YES to one alone of those that found it. So each task is done once, whoever does it,
+ * ctrie_shared_remove_if, which answers YES to one alone of those that found it. So each task is done once, whoever does it,
  * and a task may add others. The list was frozen before the work began, and in the end all is as planned again. Another list
  * is drafted in a copy.
  *

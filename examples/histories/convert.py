@@ -8,16 +8,16 @@ It reads
 - the same as JSON: `{"process": 0, "type": "invoke", "f": "read", "value": null}`, one event a line or all in an array.
 
 A register is a key of the map, which has no value at first (nil, and in a log ""). Numbers from 0 to 2^64 - 1 stand for themselves,
-if all keys or all values are such numbers; else they are numbered in the order in which they come first, and comment lines tell which
+if all keys or all values are such numbers; else they are numbered in the order in which they come first, and comment lines say which
 is which. An operation without an end, or whose end is :info, stays open: it may have had its effect or not. One that ended with :fail
 is left out: it had none. A process is a number or a name. Events of the process :nemesis are passed over, and standard error says how
 many.
 
 `check` judges an order, and such a history has none. So this program looks for one, and gives up after a million steps, or N. The
-order also says what the history doesn't: the value before, which a put is answered, and what a key has after an append, which is told
-as a put of that.
+order also says what the history doesn't: the value before, which a put is answered, and what a key has after an append, which becomes
+a put of that.
 
-Status 0: the order explains all answers. 1: the history can't be told, or has no operation; standard error says in which line and why.
+Status 0: the order explains all answers. 1: the history can't be converted, or has no operation; standard error says in which line and why.
 2: the words are no call, the file can't be read, or the steps didn't suffice. Nothing is written then. 3: no order explains the answers; one that goes
 as far as any is written, and `ctrie explain` says where it breaks off.
 """
