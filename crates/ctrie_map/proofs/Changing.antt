@@ -5,19 +5,12 @@ use Rattle.std.specs.FinMap as map
 use Rattle.std.specs.FinMap.{get-insert, same_map, nat_cmp-IsAntisymmetric}
 use Rattle.std.proofs.Common.{refl, sym, ap, subst, inl, inr, eqb, eqb-true, ◌∙◌}
 use Rattle.std.proofs.lemmas.Option.{same_Some}
-use Rattle.ctrie_base.specs.Hashes.{hash_of}
-use Rattle.history.specs.declared.calls.Access.{Access}
-use Rattle.history.specs.declared.calls.Access.TheVariants.{Writable, ReadOnly}
-use Rattle.history.specs.declared.calls.Call.{Call}
-use Rattle.history.specs.declared.replies.Reply.{Reply}
-use Rattle.history.specs.declared.replies.Reply.TheVariants.{Crowded, NoSlots, Opened}
-use Rattle.history.specs.Effects.{changing, naming, with_access}
-use Rattle.history.specs.Worlds.{HandleMap, HandleState, KeyMap}
+use Rattle.ctrie_map.specs.Vocabulary.{hash_of, Access, Writable, ReadOnly, Call, Reply, Crowded, NoSlots, Opened, changing, naming, with_access, HandleMap, HandleState, KeyMap, handle_of}
+use Rattle.ctrie_map.specs.Vocabulary.{opens_handle}
 use Rattle.ctrie_map.specs.declared.errors.MapError.{MapError}
 use Rattle.ctrie_map.specs.declared.errors.MapError.TheVariants as error
 use Rattle.ctrie_map.specs.Changes.{Changes, HasLife, LacksSlots, Refuses, changes_map, denial_in}
 use Rattle.ctrie_map.specs.Maps.{MapState, Becomes, Stays, handles_of}
-use Rattle.machine_model.specs.Calls.{handle_of, opens_handle}
 use Rattle.ctrie_map.specs.Performing.{Answers, IsBegun, Performs, effect_among}
 use Rattle.ctrie_map.proofs.Denying.{IsDenial, told_by}
 

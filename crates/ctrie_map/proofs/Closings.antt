@@ -4,9 +4,7 @@ use Rattle.std.specs.FinMap as map
 use Rattle.std.proofs.Common.{refl, sym, ap, subst}
 use Rattle.std.proofs.lemmas.Option.{same_Some}
 use Rattle.history.specs.declared.calls.Call.TheVariants as call
-use Rattle.history.specs.declared.replies.Reply.{Reply}
-use Rattle.history.specs.declared.replies.Reply.TheVariants.{Closed, NoSlots, Opened}
-use Rattle.history.specs.Worlds.{HandleMap, HandleState}
+use Rattle.ctrie_map.specs.Vocabulary.{Reply, Closed, NoSlots, Opened, HandleMap, HandleState}
 use Rattle.ctrie_map.specs.declared.errors.MapError.{MapError}
 use Rattle.ctrie_map.specs.declared.errors.MapError.TheVariants as error
 use Rattle.ctrie_map.specs.Changes.{Closes, HasLife, LacksSlots, Refuses}

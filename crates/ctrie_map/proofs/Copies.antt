@@ -3,15 +3,8 @@ use Rattle.std.specs.Prelude.{◌≡◌, ℕ, Option, Some, None, option_and_the
 use Rattle.std.specs.FinMap as map
 use Rattle.std.proofs.Common.{refl, sym, ap, subst, ◌∙◌}
 use Rattle.std.proofs.lemmas.Option.{same_Some}
-use Rattle.ctrie_base.specs.Hashes.{hash_of}
-use Rattle.history.specs.declared.calls.Access.{Access}
-use Rattle.history.specs.declared.calls.Access.TheVariants.{Writable, ReadOnly}
-use Rattle.history.specs.declared.calls.Call.{Call}
+use Rattle.ctrie_map.specs.Vocabulary.{hash_of, Access, Writable, ReadOnly, Call, Reply, Opened, NoSlots, map_of, naming, HandleMap, HandleState}
 use Rattle.history.specs.declared.calls.Call.TheVariants as call
-use Rattle.history.specs.declared.replies.Reply.{Reply}
-use Rattle.history.specs.declared.replies.Reply.TheVariants.{Opened, NoSlots}
-use Rattle.history.specs.Effects.{map_of, naming}
-use Rattle.history.specs.Worlds.{HandleMap, HandleState}
 use Rattle.ctrie_map.specs.declared.errors.MapError.{MapError}
 use Rattle.ctrie_map.specs.declared.errors.MapError.TheVariants as error
 use Rattle.ctrie_map.specs.Changes.{Copies, HasLife, LacksSlots, Refuses}

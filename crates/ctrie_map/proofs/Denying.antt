@@ -5,18 +5,10 @@ use Rattle.std.specs.List.{list_any}
 use Rattle.std.proofs.Common.{refl, sym, ap, subst, arith, inl, inr, get_or, ◌∙◌}
 use Rattle.std.proofs.lemmas.Bool.{false≢true}
 use Rattle.std.proofs.lemmas.Option.{same_Some}
-use Rattle.ctrie_base.specs.declared.refusals.Refusal.{Refusal}
+use Rattle.ctrie_map.specs.Vocabulary.{Refusal, Access, Writable, ReadOnly, Call, HandleMap, HandleState, KeyMap, Operation, Root, handle_of, needs_writable, needs_read_only, opens_handle, is_close}
+use Rattle.ctrie_map.specs.Vocabulary.{access_of, begin_denial, first_reason, handles_taken, is_access, is_actor, is_busy, is_running, is_spent, names, runs_on, State, handle_limit, root_at}
 use Rattle.ctrie_base.specs.declared.refusals.Refusal.TheVariants as refuse
-use Rattle.history.specs.declared.calls.Access.{Access}
-use Rattle.history.specs.declared.calls.Access.TheVariants.{Writable, ReadOnly}
-use Rattle.history.specs.declared.calls.Call.{Call}
 use Rattle.history.specs.declared.calls.Call.TheVariants as call
-use Rattle.history.specs.Worlds.{HandleMap, HandleState, KeyMap}
-use Rattle.machine_model.specs.declared.operations.Operation.{Operation}
-use Rattle.machine_model.specs.declared.roots.Root.{Root}
-use Rattle.machine_model.specs.Calls.{handle_of, needs_writable, needs_read_only, opens_handle, is_close}
-use Rattle.machine_model.specs.Machine.{access_of, begin_denial, first_reason, handles_taken, is_access, is_actor, is_busy, is_running, is_spent, names, runs_on}
-use Rattle.machine_model.specs.States.{State, handle_limit, root_at}
 use Rattle.ctrie_map.specs.Beneath.map_worlds.specs.Worlds.{named_at, world_of}
 use Rattle.ctrie_map.specs.Beneath.map_worlds.proofs.Counted.{handles_at_rest}
 use Rattle.ctrie_map.specs.Beneath.map_worlds.proofs.Shown.{shows_roots}

@@ -4,13 +4,8 @@ use Rattle.std.specs.FinMap as map
 use Rattle.std.proofs.Common.{refl, sym, ap, subst, ◌∙◌}
 use Rattle.std.proofs.lemmas.Bool.{true≢false}
 use Rattle.std.proofs.lemmas.Option.{same_Some}
-use Rattle.history.specs.declared.calls.Access.TheVariants.{Writable}
+use Rattle.ctrie_map.specs.Vocabulary.{Writable, Reply, NoSlots, naming, with_access, writable_map_of, HandleMap, State, handle_limit}
 use Rattle.history.specs.declared.calls.Call.TheVariants as call
-use Rattle.history.specs.declared.replies.Reply.{Reply}
-use Rattle.history.specs.declared.replies.Reply.TheVariants.{NoSlots}
-use Rattle.history.specs.Effects.{naming, with_access, writable_map_of}
-use Rattle.history.specs.Worlds.{HandleMap}
-use Rattle.machine_model.specs.States.{State, handle_limit}
 use Rattle.ctrie_map.specs.Beneath.map_worlds.specs.Worlds.{world_of}
 use Rattle.ctrie_map.specs.declared.errors.MapError.{MapError}
 use Rattle.ctrie_map.specs.Cores.{Carries, Leads, Replies, is_worn_out}

@@ -7,10 +7,7 @@ use Rattle.std.specs.List.{filter}
 use Rattle.std.specs.Ordering.{nat_cmp}
 use Rattle.std.proofs.lemmas.Bool.Decides.{nat_tests}
 use Rattle.std.proofs.lemmas.List.{take-append-drop, take_all}
-use Rattle.ctrie_base.specs.Hashes.{hash_of}
-use Rattle.ctrie_base.specs.Sorting.{put_by, sorted_by}
-use Rattle.ctrie_base.specs.declared.hashes.HashKind.{HashKind}
-use Rattle.machine_model.specs.Pairs.{comes_before}
+use Rattle.ctrie_map.specs.Vocabulary.{hash_of, put_by, sorted_by, HashKind, comes_before, list_depth}
 use Rattle.ctrie_map.specs.Beneath.proof_core.specs.Scanning.{by_indices, is_behind, scan_order, scanned}
 use Rattle.ctrie_map.specs.Beneath.proof_core.proofs.Firsts.{length_sorted}
 use Rattle.ctrie_map.specs.Beneath.proof_core.proofs.Found.{there_found}
@@ -18,7 +15,6 @@ use Rattle.ctrie_map.specs.Beneath.proof_core.proofs.Scanning.Order.{scan_is_ord
 use Rattle.ctrie_map.specs.Beneath.proof_core.proofs.Sorted.{into_sorted}
 use Rattle.ctrie_map.specs.Beneath.proof_core.proofs.Taking.{filter_all}
 use Rattle.ctrie_map.specs.Beneath.proof_contents.proofs.Pairs.Lists.{AreApart, EachKey, Pairs, each-weaker}
-use Rattle.machine_core.specs.Beneath.nodes.specs.Levels.{list_depth}
 use Rattle.ctrie_map.specs.Listings.{AllAreListed, PartsJoin}
 
 -- ---- lists of pairs

@@ -3,19 +3,13 @@ use Rattle.std.specs.Prelude.{◌≡◌, ℕ, length, List, Option, Some, None, 
 use Rattle.std.specs.FinMap as map
 use Rattle.std.specs.Ordering.{nat_cmp}
 use Rattle.std.proofs.Common.{refl, sym, ap, subst, inl, inr, ◌∙◌}
-use Rattle.ctrie_base.specs.declared.refusals.Refusal.{Refusal}
-use Rattle.history.specs.Worlds.{HandleState, KeyMap}
-use Rattle.machine_model.specs.declared.roots.Root.{Root}
-use Rattle.machine_model.specs.Contents.{content_at}
-use Rattle.machine_model.specs.Refusing.{RefusesContent}
-use Rattle.machine_model.specs.States.{State, root_at}
+use Rattle.ctrie_map.specs.Vocabulary.{Refusal, HandleState, KeyMap, Root, content_at, RefusesContent, State, root_at, Reply}
 use Rattle.ctrie_map.specs.Beneath.map_worlds.proofs.Shown.{states_show}
 use Rattle.machine_core.proofs.Found.{found_along_is}
 use Rattle.machine_core.specs.Finding.{found_along}
 use Rattle.ctrie_map.specs.Beneath.map_worlds.specs.Worlds.{world_of}
 use Rattle.ctrie_map.specs.Beneath.proof_straight.specs.Resting.{IsOfRun}
 use Rattle.ctrie_map.specs.Beneath.proof_order.specs.Laws.Orders.{Names}
-use Rattle.history.specs.declared.replies.Reply.{Reply}
 use Rattle.ctrie_map.specs.declared.errors.MapError.{MapError}
 use Rattle.ctrie_map.specs.declared.errors.MapError.TheVariants as error
 use Rattle.ctrie_map.specs.Calling.{IsRead}

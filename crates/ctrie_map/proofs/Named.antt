@@ -7,9 +7,7 @@ use Rattle.std.specs.FinMap.{get-empty, get-insert, get-remove, len-empty, len-i
 use Rattle.std.specs.List.{count_by}
 use Rattle.std.proofs.lemmas.Bool.{true≢false}
 use Rattle.std.proofs.lemmas.List.Sums.{sum_by-cons}
-use Rattle.history.specs.declared.calls.Access.{Access}
-use Rattle.history.specs.Effects.{naming}
-use Rattle.history.specs.Worlds.{HandleMap, HandleState, KeyMap}
+use Rattle.ctrie_map.specs.Vocabulary.{Access, naming, HandleMap, HandleState, KeyMap}
 use Rattle.ctrie_map.specs.declared.names.Name.{Name}
 use Rattle.ctrie_map.specs.Names.{AreNamesOf, NameTable, handles_under, name_at, named_from, shown_by, with_shown}
 

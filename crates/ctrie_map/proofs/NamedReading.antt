@@ -2,13 +2,11 @@
 use Rattle.std.specs.Prelude.{◌≡◌, ◌≢◌, ℕ, not, true, false, is_some, Option, Some, None, option_map, Ok, Err}
 use Rattle.std.specs.FinMap as map
 use Rattle.std.proofs.Common.{refl, sym, ap, ◌∙◌}
-use Rattle.history.specs.Worlds.{HandleState, KeyMap}
+use Rattle.ctrie_map.specs.Vocabulary.{HandleState, KeyMap, Access, Writable, ReadOnly}
 use Rattle.ctrie_map.specs.Beneath.map_worlds.specs.Worlds.{world_of}
 use Rattle.ctrie_map.specs.declared.errors.MapError.{MapError}
 use Rattle.ctrie_map.specs.declared.errors.MapError.TheVariants.{NoHandle}
 use Rattle.ctrie_map.specs.declared.names.Name.{Name}
-use Rattle.history.specs.declared.calls.Access.{Access}
-use Rattle.history.specs.declared.calls.Access.TheVariants.{Writable, ReadOnly}
 use Rattle.ctrie_map.specs.Denials.{is_frozen}
 use Rattle.ctrie_map.specs.Maps.{IsWhole, MapState, handles_of}
 use Rattle.ctrie_map.specs.Names.{name_at, shown_by}

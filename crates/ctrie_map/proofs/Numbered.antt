@@ -6,7 +6,7 @@ use Rattle.std.specs.FinMap as map
 use Rattle.std.specs.FinMap.{entries-insert, len-empty, len-entries, put}
 use Rattle.std.proofs.Common.{Less, refl, sym, ap, arith, get_or, ◌∙◌}
 use Rattle.std.proofs.lemmas.List.{nil_from_length}
-use Rattle.history.specs.Worlds.{HandleMap, HandleState}
+use Rattle.ctrie_map.specs.Vocabulary.{HandleMap, HandleState}
 use Rattle.ctrie_map.specs.declared.names.Name.{Name}
 use Rattle.ctrie_map.specs.Names.{AreNamesOf, NameTable, handles_under, name_at, named_from, numbers_from, shown_by, with_shown}
 use Rattle.ctrie_map.proofs.Named.{stands_so}

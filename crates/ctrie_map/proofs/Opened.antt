@@ -3,11 +3,7 @@ use Rattle.std.specs.Prelude.{◌≡◌, ℕ, Bool, true, false, is_some, if◌t
 use Rattle.std.specs.FinMap as map
 use Rattle.std.proofs.Common.{refl, sym, ap}
 use Rattle.std.proofs.lemmas.Option.{same_Some}
-use Rattle.history.specs.declared.calls.Access.{Access}
-use Rattle.history.specs.declared.replies.Reply.{Reply}
-use Rattle.history.specs.declared.replies.Reply.TheVariants.{Opened}
-use Rattle.history.specs.Effects.{naming}
-use Rattle.history.specs.Worlds.{HandleMap, HandleState, KeyMap}
+use Rattle.ctrie_map.specs.Vocabulary.{Access, Reply, Opened, naming, HandleMap, HandleState, KeyMap}
 
 module _ (world : HandleMap) (opens : Option ℕ) (access : Access) where
   abbrev opened : KeyMap → ℕ → Bool → Option (Reply × HandleMap)

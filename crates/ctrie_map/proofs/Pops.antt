@@ -6,9 +6,7 @@ use Rattle.std.specs.FinMap.{same_map, nat_cmp-IsAntisymmetric}
 use Rattle.std.specs.Ordering.{eq_by_cmp, nat_cmp}
 use Rattle.std.specs.Option.{unwrap_or}
 use Rattle.std.proofs.Common.{refl, sym, ap, subst, ◌∙◌}
-use Rattle.history.specs.declared.calls.Access.TheVariants.{Writable}
-use Rattle.history.specs.Effects.{naming}
-use Rattle.history.specs.Worlds.{KeyMap}
+use Rattle.ctrie_map.specs.Vocabulary.{Writable, naming, KeyMap}
 use Rattle.ctrie_map.specs.Changes.{Changes}
 use Rattle.ctrie_map.specs.Maps.{Becomes, MapState, handles_of}
 use Rattle.ctrie_map.specs.Reading.{IsOneOf, Reads, read_of, reading, without}

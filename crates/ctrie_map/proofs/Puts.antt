@@ -2,12 +2,9 @@
 use Rattle.std.specs.Prelude.{◌≡◌, ◌⊎◌, ℕ, Bool, true, false, not, ◌&&◌, ◌==◌, if◌then◌else◌, Option, Result, Ok, IfOk, IfErr}
 use Rattle.std.specs.FinMap as map
 use Rattle.std.proofs.Common.{refl, sym, ap, inl, inr, ◌∙◌}
-use Rattle.ctrie_base.specs.Hashes.{hash_of}
+use Rattle.ctrie_map.specs.Vocabulary.{hash_of, Reply, Found, Crowded, is_crowded, others, put_if_absent_in, KeyMap}
 use Rattle.history.specs.declared.calls.Call.TheVariants as call
-use Rattle.history.specs.declared.replies.Reply.{Reply}
-use Rattle.history.specs.declared.replies.Reply.TheVariants.{Found, Crowded}
-use Rattle.history.specs.Effects.{is_crowded, others, put_in, put_if_absent_in}
-use Rattle.history.specs.Worlds.{KeyMap}
+use Rattle.history.specs.Effects.{put_in}
 use Rattle.ctrie_map.specs.declared.errors.MapError.{MapError}
 use Rattle.ctrie_map.specs.Changes.{Changes, HasLife, HasRoom, IsCrowdedAt, Refuses, set_if_absent}
 use Rattle.ctrie_map.specs.Maps.{MapState, handles_of}

@@ -6,10 +6,7 @@ use Rattle.std.proofs.lemmas.Bool.{cases_eq, cases_lt, true≢false}
 use Rattle.std.proofs.lemmas.List.{get_or_past, get_or-set_same, get_or-set_other}
 use Rattle.std.proofs.lemmas.List.Sums.{sum_by-set}
 use Rattle.std.proofs.lemmas.Option.{same_Some}
-use Rattle.history.specs.declared.calls.Access.TheVariants.{Writable}
-use Rattle.history.specs.Effects.{naming}
-use Rattle.history.specs.Worlds.{HandleMap, HandleState, KeyMap}
-use Rattle.machine_model.specs.States.{handle_limit}
+use Rattle.ctrie_map.specs.Vocabulary.{Writable, naming, HandleMap, HandleState, KeyMap, handle_limit}
 use Rattle.ctrie_map.specs.declared.names.Name.{Name}
 use Rattle.ctrie_map.specs.Names.{AreNamesOf, NameTable, handles_under, how_many, name_at, with_given, with_name}
 use Rattle.ctrie_map.proofs.Named.{at_other, at_same, gone_other, gone_same, len_gone, len_new, len_there, moved_away, moved_to, state_of}

@@ -3,8 +3,7 @@ use Rattle.std.specs.Prelude.{◌≡◌, ℕ, Bool, Option, Result, IfOk, IfErr}
 use Rattle.std.specs.FinMap as map
 use Rattle.std.proofs.Common.{refl, inr}
 use Rattle.history.specs.declared.calls.Call.TheVariants as call
-use Rattle.history.specs.declared.replies.Reply.{Reply}
-use Rattle.history.specs.Effects.{has_value, replace_in, replace_if_in}
+use Rattle.ctrie_map.specs.Vocabulary.{Reply, has_value, replace_in, replace_if_in}
 use Rattle.ctrie_map.specs.declared.errors.MapError.{MapError}
 use Rattle.ctrie_map.specs.Changes.{Changes, HasLife, Refuses, set_if_it_has, set_if_there}
 use Rattle.ctrie_map.specs.Maps.{MapState}

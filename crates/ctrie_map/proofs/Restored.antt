@@ -2,11 +2,7 @@
 use Rattle.std.specs.Prelude.{◌≡◌, ◌≢◌, ◌<◌, ◌≤◌, ℕ, Bool, true, false, not, ◌&&◌, nat_eq, nat_le, if◌then◌else◌, Option, Some, None, Result, Ok, Err, IfOk, IfErr}
 use Rattle.std.specs.FinMap as map
 use Rattle.std.proofs.Common.{refl, sym, ap, subst, arith, ne_eqb, ◌∙◌}
-use Rattle.history.specs.declared.calls.Access.{Access}
-use Rattle.history.specs.declared.calls.Access.TheVariants.{Writable, ReadOnly}
-use Rattle.history.specs.declared.calls.Call.TheVariants.{Snapshot}
-use Rattle.history.specs.Worlds.{KeyMap}
-use Rattle.machine_model.specs.States.{State, handle_limit}
+use Rattle.ctrie_map.specs.Vocabulary.{Access, Writable, ReadOnly, Snapshot, KeyMap, State, handle_limit}
 use Rattle.proof_alone.specs.Calls.{RunsOut}
 use Rattle.ctrie_map.specs.Beneath.map_worlds.specs.Worlds.{world_of}
 use Rattle.ctrie_map.specs.declared.errors.MapError.{MapError}

@@ -4,14 +4,9 @@ use Rattle.std.specs.FinMap as map
 use Rattle.std.proofs.Common.{refl, sym, ap, subst, ◌∙◌}
 use Rattle.std.proofs.lemmas.Bool.{true≢false}
 use Rattle.std.proofs.lemmas.Option.{same_Some}
-use Rattle.ctrie_base.specs.Hashes.{hash_of}
-use Rattle.history.specs.declared.calls.Access.TheVariants.{Writable}
+use Rattle.ctrie_map.specs.Vocabulary.{hash_of, Writable, Reply, Crowded, Found, NoSlots, is_crowded, naming, remove_in, HandleMap, HandleState, KeyMap, State}
 use Rattle.history.specs.declared.calls.Call.TheVariants as call
-use Rattle.history.specs.declared.replies.Reply.{Reply}
-use Rattle.history.specs.declared.replies.Reply.TheVariants.{Crowded, Found, NoSlots}
-use Rattle.history.specs.Effects.{is_crowded, naming, put_in, remove_in}
-use Rattle.history.specs.Worlds.{HandleMap, HandleState, KeyMap}
-use Rattle.machine_model.specs.States.{State}
+use Rattle.history.specs.Effects.{put_in}
 use Rattle.ctrie_map.specs.Beneath.map_worlds.specs.Worlds.{world_of}
 use Rattle.ctrie_map.specs.declared.batches.Batch.{Batch}
 use Rattle.ctrie_map.specs.declared.batches.Batch.TheVariants.{Puts, Removes}

@@ -9,7 +9,7 @@ use Rattle.std.specs.declared.cmp.Ordering.{Ordering}
 use Rattle.std.specs.declared.cmp.Ordering.TheVariants.{Less, Equal, Greater}
 use Rattle.std.proofs.Common.{refl, sym, ap, subst, arith, drop, take, get_or, eqb, eqb-true, ◌∙◌}
 use Rattle.std.proofs.lemmas.List.{append-nil, append_assoc, drop_all, drop_more, drop-set-lt, take_more_set}
-use Rattle.history.specs.Worlds.{KeyMap}
+use Rattle.ctrie_map.specs.Vocabulary.{KeyMap}
 use Rattle.ctrie_map.specs.declared.batches.Batch.TheVariants.{Removes}
 use Rattle.ctrie_map.specs.Batches.{changed_all}
 use Rattle.ctrie_map.specs.Retaining.{CanBeAsked, Sifts}

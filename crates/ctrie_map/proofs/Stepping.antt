@@ -1,18 +1,9 @@
 -- A call of the core that goes on to its end, and the sweep behind it: no step of either is refused.
 use Rattle.std.specs.Prelude.{◌≡◌, ◌+◌, ◌-◌, ◌<◌, ℕ, zero, suc, true, false, Some, Result, Ok, Err}
 use Rattle.std.proofs.Common.{sym, ap, subst, inl, inr, arith, ◌∙◌}
-use Rattle.ctrie_base.specs.declared.kinds.Kind.{Kind}
-use Rattle.ctrie_base.specs.declared.refusals.Refusal.{Refusal}
-use Rattle.history.specs.declared.calls.Call.{Call}
+use Rattle.ctrie_map.specs.Vocabulary.{Kind, Refusal, Call, Reply, Operation, Outcome, Began, Went, Ended, Go, needs_read_only, Answer, is_busy, is_spent, next, State, operation_of}
 use Rattle.history.specs.declared.calls.Call.TheVariants as call
-use Rattle.history.specs.declared.replies.Reply.{Reply}
-use Rattle.machine_model.specs.declared.operations.Operation.{Operation}
-use Rattle.machine_model.specs.declared.steps.Outcome.{Outcome}
-use Rattle.machine_model.specs.declared.steps.Outcome.TheVariants.{Began, Went, Ended}
-use Rattle.machine_model.specs.declared.steps.Step.TheVariants.{Begin, Go}
-use Rattle.machine_model.specs.Calls.{needs_read_only}
-use Rattle.machine_model.specs.Machine.{Answer, is_busy, is_spent, next}
-use Rattle.machine_model.specs.States.{State, operation_of}
+use Rattle.machine_model.specs.declared.steps.Step.TheVariants.{Begin}
 use Rattle.ctrie_map.specs.Beneath.proof_core.specs.Bounds.{Answers, Applies, Walks}
 use Rattle.machine_core.specs.Sweeping.{Reclaims, at_first, one_more}
 use Rattle.ctrie_map.specs.Beneath.proof_core.specs.Work.{Worked}

@@ -5,9 +5,7 @@ use Rattle.std.specs.FinMap as map
 use Rattle.std.specs.List.{count_by}
 use Rattle.std.proofs.lemmas.Bool.{true≢false}
 use Rattle.std.proofs.lemmas.List.Sums.{count_by-le-length, sum_by-cons}
-use Rattle.history.specs.declared.replies.Reply.{Reply}
-use Rattle.history.specs.Worlds.{HandleMap}
-use Rattle.machine_model.specs.States.{handle_limit}
+use Rattle.ctrie_map.specs.Vocabulary.{Reply, HandleMap, handle_limit}
 use Rattle.ctrie_map.specs.declared.errors.MapError.{MapError}
 use Rattle.ctrie_map.specs.declared.errors.MapError.TheVariants.{HandlesFull, WornOut}
 use Rattle.ctrie_map.specs.declared.names.Name.{Name}

@@ -4,11 +4,7 @@ use Rattle.std.specs.Cmp.{nat_cmp_total, unsigned_tied}
 use Rattle.std.specs.FinMap as map
 use Rattle.std.specs.FinMap.{get-insert, get-remove, same_map, nat_cmp-IsAntisymmetric}
 use Rattle.std.proofs.Common.{refl, sym, ap, subst, inl, inr, eqb, eqb-true, ◌∙◌}
-use Rattle.history.specs.declared.calls.Access.{Access}
-use Rattle.history.specs.declared.calls.Access.TheVariants.{Writable, ReadOnly as Frozen}
-use Rattle.history.specs.declared.calls.Call.TheVariants.{Put}
-use Rattle.history.specs.Effects.{naming}
-use Rattle.history.specs.Worlds.{HandleState, KeyMap}
+use Rattle.ctrie_map.specs.Vocabulary.{Access, Writable, ReadOnly as Frozen, Put, naming, HandleState, KeyMap}
 use Rattle.ctrie_map.specs.declared.errors.MapError.{MapError}
 use Rattle.ctrie_map.specs.Changes.{Changes, HasLife, HasRoom, IsCrowdedAt, Refuses, set_if_absent}
 use Rattle.ctrie_map.specs.Denials.{is_frozen}

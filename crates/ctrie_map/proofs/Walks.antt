@@ -5,12 +5,7 @@ use Rattle.std.specs.List.{filter}
 use Rattle.std.specs.Ordering.{nat_cmp}
 use Rattle.std.proofs.lemmas.List.{length-take}
 use Rattle.std.proofs.Common.{refl, sym, ap, subst, inl, inr, eq-eqb, eqb-true, arith, ◌∙◌}
-use Rattle.ctrie_base.specs.Sorting.{sorted_by}
-use Rattle.ctrie_base.specs.declared.hashes.HashKind.{HashKind}
-use Rattle.ctrie_base.specs.declared.refusals.Refusal.{Refusal}
-use Rattle.history.specs.Worlds.{HandleState, KeyMap}
-use Rattle.machine_model.specs.Contents.{content_at}
-use Rattle.machine_model.specs.States.{State, root_at}
+use Rattle.ctrie_map.specs.Vocabulary.{sorted_by, HashKind, Refusal, HandleState, KeyMap, content_at, State, root_at}
 use Rattle.machine_core.specs.Comparing.{AreDifferences, RefusesEither}
 use Rattle.machine_core.specs.declared.differing.Difference.{Difference}
 use Rattle.machine_core.specs.Finding.{found_along}

@@ -1,13 +1,7 @@
 -- Several keys of a map that are changed together, all or none.
 use Rattle.std.specs.Prelude.{◌≡◌, ◌⊎◌, ◌+◌, ◌*◌, ◌<◌, ◌≤◌, ℕ, Bool, true, false, List, [], ◌∷◌, length, Option, Some, None}
 use Rattle.std.specs.FinMap as map
-use Rattle.ctrie_base.specs.Hashes.{hash_of}
-use Rattle.history.specs.declared.calls.Access.TheVariants.{Writable, ReadOnly as Frozen}
-use Rattle.history.specs.declared.calls.Call.{Call}
-use Rattle.history.specs.declared.calls.Call.TheVariants.{Put, Remove, Snapshot}
-use Rattle.history.specs.Effects.{is_crowded, naming}
-use Rattle.history.specs.Worlds.{KeyMap}
-use Rattle.machine_model.specs.States.{State, handle_limit}
+use Rattle.ctrie_map.specs.Vocabulary.{hash_of, Writable, ReadOnly as Frozen, Call, Put, Remove, Snapshot, is_crowded, naming, KeyMap, State, handle_limit}
 use Rattle.ctrie_map.specs.Beneath.map_worlds.specs.Worlds.{world_of}
 use Rattle.ctrie_map.specs.Beneath.proof_obstruction_free.specs.Slots.{most_makes_alone, most_steps_of_copies}
 use Rattle.proof_alone.specs.Calls.{RunsOut}

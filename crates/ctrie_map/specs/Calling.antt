@@ -1,9 +1,7 @@
 -- What any call comes to, for what keeps calls and replies as values.
 use Rattle.std.specs.Prelude.{◌≡◌, ◌⊎◌, Result, Err, IsOk}
 use Rattle.std.specs.FinMap as map
-use Rattle.history.specs.declared.calls.Call.{Call}
-use Rattle.history.specs.declared.calls.Call.TheVariants.{Get, Entries, Count}
-use Rattle.history.specs.declared.replies.Reply.{Reply}
+use Rattle.ctrie_map.specs.Vocabulary.{Call, Get, Entries, Count, Reply}
 use Rattle.history.specs.declared.replies.Reply.TheVariants as reply
 use Rattle.ctrie_map.specs.declared.errors.MapError.{MapError}
 use Rattle.ctrie_map.specs.declared.errors.MapError.TheVariants.{Memory}

@@ -1,15 +1,7 @@
 -- The core below a map, between two calls, and what a call of it comes to.
 use Rattle.std.specs.Prelude.{◌≡◌, ◌<◌, ◌≤◌, ◌+◌, ◌-◌, ◌*◌, ℕ, Bool, true, false, nat_le, [], length, Option, Result, Ok, Err}
 use Rattle.std.specs.FinMap as map
-use Rattle.ctrie_base.specs.Hashes.{hash_of}
-use Rattle.history.specs.declared.calls.Call.{Call}
-use Rattle.history.specs.declared.replies.Reply.{Reply}
-use Rattle.history.specs.declared.replies.Reply.TheVariants.{NoSlots}
-use Rattle.history.specs.Effects.{Effect}
-use Rattle.history.specs.Worlds.{HandleMap}
-use Rattle.machine_model.specs.Calls.{handle_of, needs_writable, opens_handle}
-use Rattle.machine_model.specs.Machine.{is_busy, longest_life}
-use Rattle.machine_model.specs.States.{State}
+use Rattle.ctrie_map.specs.Vocabulary.{hash_of, Call, Reply, NoSlots, Effect, HandleMap, handle_of, needs_writable, opens_handle, is_busy, longest_life, State}
 use Rattle.ctrie_map.specs.Beneath.map_worlds.specs.Worlds.{world_of}
 use Rattle.ctrie_map.specs.Beneath.proof_obstruction_free.specs.Laws.{most_steps_alone}
 use Rattle.proof_alone.specs.Calls.{RunsOut}

@@ -1,6 +1,6 @@
 -- How much work a call does, in steps.
 use Rattle.std.specs.Prelude.{◌+◌, ◌*◌, ℕ}
-use Rattle.history.specs.declared.calls.Call.{Call}
+use Rattle.ctrie_map.specs.Vocabulary.{Call}
 use Rattle.ctrie_map.specs.Beneath.proof_obstruction_free.specs.Laws.{most_steps_alone}
 use Rattle.ctrie_map.specs.Beneath.proof_obstruction_free.specs.Slots.{most_makes_alone, most_steps_of_copies}
 use Rattle.proof_alone.specs.Calls.{steps_of}

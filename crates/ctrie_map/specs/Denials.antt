@@ -1,9 +1,6 @@
 -- Why a call isn't even begun.
 use Rattle.std.specs.Prelude.{ℕ, Bool, true, false, ◌&&◌, nat_le, Option, Some, None, if◌then◌else◌}
-use Rattle.history.specs.declared.calls.Access.{Access}
-use Rattle.history.specs.declared.calls.Access.TheVariants.{Writable, ReadOnly as Frozen}
-use Rattle.history.specs.Worlds.{HandleState}
-use Rattle.machine_model.specs.States.{handle_limit}
+use Rattle.ctrie_map.specs.Vocabulary.{Access, Writable, ReadOnly as Frozen, HandleState, handle_limit}
 use Rattle.ctrie_map.specs.declared.errors.MapError.{MapError}
 use Rattle.ctrie_map.specs.declared.errors.MapError.TheVariants.{NoHandle, ReadOnly, HandlesFull}
 

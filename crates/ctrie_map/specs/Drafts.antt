@@ -1,11 +1,7 @@
 -- Copies in the core that have no name yet.
 use Rattle.std.specs.Prelude.{◌≡◌, ◌+◌, ◌-◌, ◌*◌, ℕ, length, Bool, nat_le, Some, None}
 use Rattle.std.specs.FinMap as map
-use Rattle.history.specs.declared.calls.Access.TheVariants.{Writable}
-use Rattle.history.specs.declared.calls.Call.TheVariants.{Snapshot}
-use Rattle.history.specs.Effects.{naming}
-use Rattle.history.specs.Worlds.{HandleMap, KeyMap}
-use Rattle.machine_model.specs.States.{State}
+use Rattle.ctrie_map.specs.Vocabulary.{Writable, Snapshot, naming, HandleMap, KeyMap, State}
 use Rattle.ctrie_map.specs.Beneath.map_worlds.specs.Worlds.{world_of}
 use Rattle.ctrie_map.specs.Beneath.proof_obstruction_free.specs.Laws.{most_steps_alone}
 use Rattle.proof_alone.specs.Calls.{RunsOut}

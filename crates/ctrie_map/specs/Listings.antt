@@ -1,8 +1,7 @@
 -- What parts of a scan come to, one behind another.
 use Rattle.std.specs.Prelude.{◌≡◌, ℕ, ◌+◌, ◌≤◌, ◌++◌, List, [], ◌∷◌, length, Contains, Option, Some, None}
 use Rattle.std.specs.FinMap as map
-use Rattle.ctrie_base.specs.declared.hashes.HashKind.{HashKind}
-use Rattle.history.specs.Worlds.{KeyMap}
+use Rattle.ctrie_map.specs.Vocabulary.{HashKind, KeyMap}
 use Rattle.ctrie_map.specs.Beneath.proof_core.specs.Scanning.{scanned}
 
 -- a part of a map and the one behind its last key are one part of it

@@ -2,9 +2,7 @@
 use Rattle.std.specs.Prelude.{◌≡◌, ◌⊎◌, ◌<◌, ◌≤◌, ℕ, suc, Option, Some, None, List, [], ◌∷◌, IsSome, is_some, length, option_map, replicate, slice_index_or, slice_set}
 use Rattle.std.specs.List.{count_by}
 use Rattle.std.specs.FinMap as map
-use Rattle.history.specs.declared.calls.Access.TheVariants.{Writable}
-use Rattle.history.specs.Worlds.{HandleMap, HandleState}
-use Rattle.machine_model.specs.States.{handle_limit}
+use Rattle.ctrie_map.specs.Vocabulary.{Writable, HandleMap, HandleState, handle_limit}
 use Rattle.ctrie_map.specs.declared.names.Name.{Name}
 
 -- by a handle's number its name, if it is open; and the number that was given last

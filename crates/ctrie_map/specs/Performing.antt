@@ -1,17 +1,9 @@
 -- What a call comes to, seen in the map.
 use Rattle.std.specs.Prelude.{◌≡◌, ℕ, true, Option, Some, None, option_and_then, Result, Ok, Err, if◌then◌else◌}
 use Rattle.std.specs.FinMap as map
-use Rattle.ctrie_base.specs.Hashes.{hash_of}
-use Rattle.ctrie_base.specs.declared.refusals.Refusal.{Refusal}
+use Rattle.ctrie_map.specs.Vocabulary.{hash_of, Refusal, Access, Writable, ReadOnly as Frozen, Call, Get, Put, PutIfAbsent, Replace, ReplaceIf, Remove, RemoveIf, Clear, Snapshot, Freeze, Entries}
+use Rattle.ctrie_map.specs.Vocabulary.{Count, Reply, NoSlots, Opened, effect, map_of, naming, HandleMap}
 use Rattle.ctrie_base.specs.declared.refusals.Refusal.TheVariants as refuse
-use Rattle.history.specs.declared.calls.Access.{Access}
-use Rattle.history.specs.declared.calls.Access.TheVariants.{Writable, ReadOnly as Frozen}
-use Rattle.history.specs.declared.calls.Call.{Call}
-use Rattle.history.specs.declared.calls.Call.TheVariants.{Get, Put, PutIfAbsent, Replace, ReplaceIf, Remove, RemoveIf, Clear, Snapshot, Freeze, Entries, Count}
-use Rattle.history.specs.declared.replies.Reply.{Reply}
-use Rattle.history.specs.declared.replies.Reply.TheVariants.{NoSlots, Opened}
-use Rattle.history.specs.Effects.{effect, map_of, naming}
-use Rattle.history.specs.Worlds.{HandleMap}
 use Rattle.ctrie_map.specs.declared.errors.MapError.{MapError}
 use Rattle.ctrie_map.specs.declared.errors.MapError.TheVariants.{NoHandle, ReadOnly, HandlesFull, BadSizes, WornOut, Memory}
 use Rattle.ctrie_map.specs.Changes.{HasLife, LacksSlots, denial_in}

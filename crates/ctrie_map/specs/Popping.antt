@@ -1,7 +1,7 @@
 -- Why no key is taken out.
 use Rattle.std.specs.Prelude.{◌≡◌, ℕ, Option, Some, None, Ok}
 use Rattle.std.specs.FinMap as map
-use Rattle.history.specs.declared.calls.Call.TheVariants.{Remove}
+use Rattle.ctrie_map.specs.Vocabulary.{Remove}
 use Rattle.ctrie_map.specs.declared.errors.MapError.{MapError}
 use Rattle.ctrie_map.specs.declared.errors.MapError.TheVariants.{NoHandle}
 use Rattle.ctrie_map.specs.Changes.{Refuses}

@@ -1,10 +1,9 @@
 -- What calls answer that change nothing.
 use Rattle.std.specs.Prelude.{◌≡◌, ◌⊎◌, ℕ, Bool, not, List, Option, Some, None, Result, Ok, Err, IsOk}
 use Rattle.std.specs.FinMap as map
-use Rattle.history.specs.Worlds.{HandleState, KeyMap}
+use Rattle.ctrie_map.specs.Vocabulary.{HandleState, KeyMap, State}
 use Rattle.machine_core.specs.Comparing.{AreDifferences}
 use Rattle.machine_core.specs.declared.differing.Difference.{Difference}
-use Rattle.machine_model.specs.States.{State}
 use Rattle.ctrie_map.specs.Beneath.map_worlds.specs.Worlds.{world_of}
 use Rattle.ctrie_map.specs.declared.errors.MapError.{MapError}
 use Rattle.ctrie_map.specs.declared.errors.MapError.TheVariants.{NoHandle, Memory}

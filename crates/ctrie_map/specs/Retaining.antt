@@ -2,9 +2,7 @@
 use Rattle.std.specs.Prelude.{◌≡◌, ◌≢◌, ◌+◌, ℕ, Bool, true, List, [], ◌∷◌, ◌++◌, length, Some, None, if◌then◌else◌}
 use Rattle.std.specs.FinMap as map
 use Rattle.std.specs.List.{FoldsTo}
-use Rattle.history.specs.declared.calls.Access.TheVariants.{Writable}
-use Rattle.history.specs.Effects.{naming}
-use Rattle.history.specs.Worlds.{KeyMap}
+use Rattle.ctrie_map.specs.Vocabulary.{Writable, naming, KeyMap}
 use Rattle.ctrie_map.specs.declared.batches.Batch.TheVariants.{Removes}
 use Rattle.ctrie_map.specs.declared.errors.MapError.{MapError}
 use Rattle.ctrie_map.specs.declared.errors.MapError.TheVariants.{Full, WornOut, Memory}

@@ -1,7 +1,6 @@
 -- What a map does as one shard of several, which all have the same handles.
 use Rattle.std.specs.Prelude.{◌≡◌, ◌≢◌, ℕ, Result, Err}
-use Rattle.history.specs.declared.calls.Access.{Access}
-use Rattle.history.specs.declared.replies.Reply.{Reply}
+use Rattle.ctrie_map.specs.Vocabulary.{Access, Reply}
 use Rattle.ctrie_map.specs.declared.errors.MapError.{MapError}
 use Rattle.ctrie_map.specs.declared.errors.MapError.TheVariants.{HandlesFull}
 use Rattle.ctrie_map.specs.Maps.{MapState}

@@ -1,7 +1,6 @@
 -- What the methods tell of a reply.
 use Rattle.std.specs.Prelude.{ℕ, Bool, Option, Result, Ok, Err}
-use Rattle.history.specs.declared.replies.Reply.{Reply}
-use Rattle.history.specs.declared.replies.Reply.TheVariants.{Found, Truth, Crowded as IsCrowded, Opened, Closed, Cleared}
+use Rattle.ctrie_map.specs.Vocabulary.{Reply, Found, Truth, Crowded as IsCrowded, Opened, Closed, Cleared}
 use Rattle.ctrie_map.specs.declared.errors.MapError.{MapError}
 use Rattle.ctrie_map.specs.declared.errors.MapError.TheVariants.{Crowded, Full}
 

@@ -1,9 +1,7 @@
 -- A change of a key by what a closure answers.
 use Rattle.std.specs.Prelude.{◌≡◌, ◌≢◌, ◌⊎◌, ℕ, Option, Some, None}
 use Rattle.std.specs.FinMap as map
-use Rattle.history.specs.declared.calls.Call.{Call}
-use Rattle.history.specs.declared.calls.Call.TheVariants.{Put, Remove}
-use Rattle.history.specs.Worlds.{KeyMap}
+use Rattle.ctrie_map.specs.Vocabulary.{Call, Put, Remove, KeyMap}
 use Rattle.ctrie_map.specs.declared.errors.MapError.{MapError}
 use Rattle.ctrie_map.specs.Changes.{HasLife, HasRoom, IsCrowdedAt, Refuses, denial_in}
 use Rattle.ctrie_map.specs.Drafts.{HasMap}

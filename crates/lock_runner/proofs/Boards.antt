@@ -3,12 +3,8 @@ use Rattle.std.specs.Prelude.{◌≡◌, ◌⊎◌, ℕ, ◌+◌, List, [], ◌�
 use Rattle.std.proofs.Common.{refl, sym, ap, ◌∙◌, inl, inr, append_assoc, append-nil, arith}
 use Rattle.std.proofs.lemmas.List.Sums.{sum_by-append}
 use Rattle.std.proofs.lemmas.List.Elements.{All-nil, All-cons, All-head, All-tail, All-append}
-use Rattle.lock_runner.specs.Beneath.machine_model.specs.declared.steps.Bounds.{Bounds}
-use Rattle.lock_runner.specs.Beneath.machine_model.specs.declared.steps.Step.{Step}
+use Rattle.lock_runner.specs.Vocabulary.{Bounds, Step, bounded, Answer, next, run, Record, record_of}
 use Rattle.lock_runner.specs.Beneath.machine_model.specs.declared.steps.Step.TheVariants as step
-use Rattle.lock_runner.specs.Beneath.machine_model.specs.Limits.{bounded}
-use Rattle.lock_runner.specs.Beneath.machine_model.specs.Machine.{Answer, next, run}
-use Rattle.lock_runner.specs.Beneath.machine_model.specs.Records.{Record, record_of}
 use Rattle.lock_runner.specs.Beneath.proof_runs.specs.Machines.{Taken, with_step}
 use Rattle.lock_runner.specs.ActorHistory.{account_of}
 use Rattle.lock_runner.specs.ActorHistory.Laws.{IsStepOf}

@@ -1,16 +1,10 @@
 -- Steps are counted, and no event is taken back.
 use Rattle.std.specs.Prelude.{◌≡◌, ℕ, ◌+◌, ◌≤◌, List, [], ◌∷◌, length, Ok}
 use Rattle.std.proofs.Common.{sym, ap, subst, ◌∙◌, length-append, arith}
-use Rattle.history.specs.declared.events.Event.TheVariants.{Begin, End}
-use Rattle.lock_runner.specs.Beneath.machine_model.specs.declared.steps.Step.{Step}
-use Rattle.lock_runner.specs.Beneath.machine_model.specs.declared.steps.Outcome.{Outcome}
-use Rattle.lock_runner.specs.Beneath.machine_model.specs.States.{State, first_state}
-use Rattle.lock_runner.specs.Beneath.machine_model.specs.Limits.{bounded}
-use Rattle.lock_runner.specs.Beneath.machine_model.specs.Machine.{next, next_state, run_from, run}
-use Rattle.lock_runner.specs.Beneath.machine_model.specs.Records.{Record, first_record, next_record, noted, record_from, record_of}
-use Rattle.lock_runner.specs.Beneath.machine_model.specs.declared.records.Told.{Told}
+use Rattle.lock_runner.specs.Vocabulary.{End, Step, Outcome, State, first_state, bounded, next, next_state, run_from, run, Record, first_record, next_record, noted, record_from, record_of, Told}
+use Rattle.lock_runner.specs.Vocabulary.{told_in}
+use Rattle.history.specs.declared.events.Event.TheVariants.{Begin}
 use Rattle.lock_runner.specs.Beneath.machine_model.specs.declared.records.Told.TheVariants as told
-use Rattle.lock_runner.specs.Beneath.machine_model.specs.Tellings.{told_in}
 use Rattle.lock_runner.specs.Beneath.machine_model.proofs.Moves.{moved}
 use Rattle.lock_runner.specs.Beneath.machine_model.proofs.Recorded.{record-append, kept_by_notes}
 use Rattle.lock_runner.specs.Beneath.machine_model.proofs.Along.{run-append, kept_by_moves}

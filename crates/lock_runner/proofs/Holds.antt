@@ -2,7 +2,7 @@
 use Rattle.std.specs.Prelude.{◌≡◌, ℕ, ◌+◌, List, [], ◌∷◌, ◌++◌, Ok, Err, sum_by, length}
 use Rattle.std.proofs.Common.{refl, sym, ap, subst, ◌∙◌, inr, eq-eqb, ne_eqb, arith}
 use Rattle.std.proofs.lemmas.List.Sums.{sum_by-append, sum_by-cons}
-use Rattle.lock_runner.specs.Beneath.machine_model.specs.declared.steps.Step.{Step}
+use Rattle.lock_runner.specs.Vocabulary.{Step}
 use Rattle.lock_runner.specs.Beneath.proof_runs.specs.Machines.{Taken, with_step}
 use Rattle.gate.specs.Logs.{Leads, calls_of, entry}
 use Rattle.gate.specs.Calls.{IsCalled}

@@ -2,17 +2,11 @@
 use Rattle.std.specs.Prelude.{◌≡◌, ℕ, ◌≤◌, ◌↔◌, Bool, true, false, not, is_some, MatchOption, [], ◌∷◌, Option, Some, None, Err}
 use Rattle.std.proofs.Common.{refl, sym, ap, ◌∙◌, arith}
 use Rattle.std.proofs.lemmas.Option.{none-some}
-use Rattle.ctrie_base.specs.declared.refusals.Refusal.{Refusal}
+use Rattle.lock_runner.specs.Vocabulary.{Refusal, Call, Operation, Outcome, State, operation_of, action_of, bounded, next, begin_denial, begin_unless, go_unless, go_on, first_reason, is_actor}
+use Rattle.lock_runner.specs.Vocabulary.{is_running, is_spent, settled_after, went}
 use Rattle.ctrie_base.specs.declared.refusals.Refusal.TheVariants as refuse
-use Rattle.history.specs.declared.calls.Call.{Call}
 use Rattle.history.proofs.Places.{option_untested}
-use Rattle.lock_runner.specs.Beneath.machine_model.specs.declared.operations.Operation.{Operation}
 use Rattle.lock_runner.specs.Beneath.machine_model.specs.declared.steps.Step.TheVariants as step
-use Rattle.lock_runner.specs.Beneath.machine_model.specs.declared.steps.Outcome.{Outcome}
-use Rattle.lock_runner.specs.Beneath.machine_model.specs.States.{State, operation_of}
-use Rattle.lock_runner.specs.Beneath.machine_model.specs.Operations.{action_of}
-use Rattle.lock_runner.specs.Beneath.machine_model.specs.Limits.{bounded}
-use Rattle.lock_runner.specs.Beneath.machine_model.specs.Machine.{next, begin_denial, begin_unless, go_unless, go_on, first_reason, is_actor, is_running, is_spent, settled_after, went}
 use Rattle.lock_runner.specs.Beneath.proof_runs.specs.Machines.{Taken, state_of}
 use Rattle.lock_runner.specs.declared.accounts.Running.{Running}
 use Rattle.lock_runner.proofs.ActorHistory.Turns.{shown}

@@ -3,9 +3,7 @@ use Rattle.std.specs.Prelude.{◌≡◌, ℕ, zero, suc, ◌+◌, ◌≤◌, All
 use Rattle.std.proofs.Common.{refl, sym, ap, subst, ◌∙◌, arith}
 use Rattle.std.proofs.lemmas.List.{map-append}
 use Rattle.std.proofs.lemmas.List.Elements.{All-nil, All-cons}
-use Rattle.lock_runner.specs.Beneath.machine_model.specs.declared.steps.Limits.{Limits}
-use Rattle.lock_runner.specs.Beneath.machine_model.specs.States.{first_state}
-use Rattle.lock_runner.specs.Beneath.machine_model.specs.Records.{record_from}
+use Rattle.lock_runner.specs.Vocabulary.{Limits, first_state, record_from}
 use Rattle.atomic_table.specs.Seated.{TableId}
 use Rattle.lock_runner.specs.Beneath.proof_runs.specs.Machines.{Taken, fresh}
 use Rattle.gate.specs.Logs.{calls_of}

@@ -1,11 +1,8 @@
 -- What a seat keeps after one hold of the gate.
 use Rattle.std.specs.Prelude.{◌≡◌, ℕ, ◌+◌, ◌<◌, ◌≤◌, ◌^◌, List, Option, Ok}
 use Rattle.std.proofs.Common.{sym, ap, subst, ◌∙◌, arith}
-use Rattle.lock_runner.specs.Beneath.machine_model.specs.declared.steps.Step.{Step}
+use Rattle.lock_runner.specs.Vocabulary.{Step, Outcome, bounded, next}
 use Rattle.lock_runner.specs.Beneath.machine_model.specs.declared.steps.Step.TheVariants as step
-use Rattle.lock_runner.specs.Beneath.machine_model.specs.declared.steps.Outcome.{Outcome}
-use Rattle.lock_runner.specs.Beneath.machine_model.specs.Limits.{bounded}
-use Rattle.lock_runner.specs.Beneath.machine_model.specs.Machine.{next}
 use Rattle.lock_runner.specs.Beneath.proof_runs.specs.Machines.{Taken, past_of, state_of, with_step, fresh}
 use Rattle.lock_runner.specs.Beneath.proof_runs.proofs.Sweeping.{nearer}
 use Rattle.lock_runner.specs.declared.accounts.Answer.{Answer}

@@ -1,8 +1,7 @@
 -- What the seats ask of the machine behind the gate, and what they are told.
 use Rattle.std.specs.Prelude.{ℕ, Result, Ok, Err}
-use Rattle.lock_runner.specs.Beneath.machine_model.specs.declared.steps.Step.{Step}
+use Rattle.lock_runner.specs.Vocabulary.{Step, Outcome}
 use Rattle.lock_runner.specs.Beneath.machine_model.specs.declared.steps.Step.TheVariants as step
-use Rattle.lock_runner.specs.Beneath.machine_model.specs.declared.steps.Outcome.{Outcome}
 use Rattle.gate.specs.declared.objects.Entry.{Entry}
 use Rattle.gate.specs.Seats as gate
 use Rattle.lock_runner.specs.declared.seats.Stop.{Stop}

@@ -1,6 +1,6 @@
 -- Boards: the machine that all seats share, as one of them sees it.
 use Rattle.std.specs.Prelude.{◌≡◌, ℕ, Bool, true, false, List, ◌++◌, All, count_by}
-use Rattle.lock_runner.specs.Beneath.machine_model.specs.declared.steps.Step.{Step}
+use Rattle.lock_runner.specs.Vocabulary.{Step}
 use Rattle.lock_runner.specs.Beneath.machine_model.specs.declared.steps.Step.TheVariants as step
 use Rattle.lock_runner.specs.Beneath.proof_runs.specs.Machines.{Taken, past_of}
 use Rattle.lock_runner.specs.ActorHistory.{Account, account_of}

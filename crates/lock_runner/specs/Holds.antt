@@ -1,8 +1,6 @@
 -- One hold of the gate.
 use Rattle.std.specs.Prelude.{◌≡◌, ℕ, ◌<◌, ◌≤◌, length, None, Result, Ok, Err}
-use Rattle.lock_runner.specs.Beneath.machine_model.specs.declared.steps.Step.{Step}
-use Rattle.lock_runner.specs.Beneath.machine_model.specs.declared.steps.Outcome.{Outcome}
-use Rattle.lock_runner.specs.Beneath.machine_model.specs.Machine.{next, denial_of}
+use Rattle.lock_runner.specs.Vocabulary.{Step, Outcome, next, denial_of}
 use Rattle.lock_runner.specs.Beneath.proof_runs.specs.Machines.{Taken, past_of, state_of, with_step}
 use Rattle.lock_runner.specs.declared.seats.Stop.{Stop}
 use Rattle.lock_runner.specs.declared.seats.Stop.TheVariants.{Denied, Memory, Ahead}

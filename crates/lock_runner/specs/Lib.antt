@@ -1,4 +1,5 @@
 pub mod Beneath
+pub mod Vocabulary
 pub mod ActorHistory
 pub mod Boards
 pub mod Asks

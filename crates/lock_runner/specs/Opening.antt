@@ -1,9 +1,7 @@
 -- A new runner and its seats.
 use Rattle.std.specs.Prelude.{◌≡◌, ℕ, zero, suc, ◌+◌, ◌≤◌, ◌⊎◌, List, [], ◌∷◌, None}
-use Rattle.ctrie_base.specs.declared.refusals.Refusal.{Refusal}
-use Rattle.ctrie_base.specs.declared.refusals.Refusal.TheVariants.{BadLimits, Memory}
-use Rattle.lock_runner.specs.Beneath.machine_model.specs.declared.steps.Limits.{Limits}
-use Rattle.lock_runner.specs.Beneath.machine_model.specs.Limits.{AreLimits}
+use Rattle.lock_runner.specs.Vocabulary.{Refusal, BadLimits, Limits, AreLimits}
+use Rattle.ctrie_base.specs.declared.refusals.Refusal.TheVariants.{Memory}
 use Rattle.atomic_table.specs.Seated.{TableId}
 use Rattle.lock_runner.specs.Beneath.proof_runs.specs.Machines.{fresh}
 use Rattle.gate.specs.Logs as log

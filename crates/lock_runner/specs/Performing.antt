@@ -1,8 +1,7 @@
 -- What the calls of a runner promise.
 use Rattle.std.specs.Prelude.{◌≡◌, ◌⊎◌, [], ◌∷◌, ◌++◌, Some, Result, Ok, Err}
 use denote.Ref.{Bor}
-use Rattle.history.specs.declared.calls.Call.{Call}
-use Rattle.history.specs.declared.replies.Reply.{Reply}
+use Rattle.lock_runner.specs.Vocabulary.{Call, Reply}
 use Rattle.lock_runner.specs.declared.accounts.Answer.{Answer}
 use Rattle.lock_runner.specs.declared.accounts.Running.{Running}
 use Rattle.lock_runner.specs.declared.seats.Stop.{Stop}

@@ -1,6 +1,6 @@
 -- What contracts see of a runner and of a seat.
 use Rattle.std.specs.Prelude.{◌≡◌, ℕ, ◌≤◌, List, Option, None, All, sum_by}
-use Rattle.lock_runner.specs.Beneath.machine_model.specs.declared.steps.Limits.{Limits}
+use Rattle.lock_runner.specs.Vocabulary.{Limits}
 use Rattle.atomic_table.specs.Seated.{TableId}
 use Rattle.lock_runner.specs.Beneath.proof_runs.specs.Machines.{Taken, fresh, state_of}
 use Rattle.lock_runner.specs.declared.accounts.Answer.{Answer}

@@ -1,15 +1,8 @@
 -- What one step makes of a seat.
 use Rattle.std.specs.Prelude.{◌≡◌, ℕ, ◌+◌, ◌<◌, ◌≤◌, Bool, true, false, MatchOption, [], ◌∷◌, ◌++◌, Some, None, Result, Ok, Err}
-use Rattle.ctrie_base.specs.declared.kinds.Kind.{Kind}
-use Rattle.ctrie_base.specs.declared.refusals.Refusal.{Refusal}
-use Rattle.ctrie_base.specs.declared.refusals.Refusal.TheVariants.{ActorBusy, Idle, Spent}
-use Rattle.history.specs.declared.calls.Call.{Call}
-use Rattle.lock_runner.specs.Beneath.machine_model.specs.declared.steps.Step.{Step}
+use Rattle.lock_runner.specs.Vocabulary.{Kind, Refusal, ActorBusy, Idle, Spent, Call, Step, Swept, Outcome, next, denial_of}
 use Rattle.lock_runner.specs.Beneath.machine_model.specs.declared.steps.Step.TheVariants as step
-use Rattle.lock_runner.specs.Beneath.epochs.specs.declared.limbo.Swept.{Swept}
-use Rattle.lock_runner.specs.Beneath.machine_model.specs.declared.steps.Outcome.{Outcome}
 use Rattle.lock_runner.specs.Beneath.machine_model.specs.declared.steps.Outcome.TheVariants as outcome
-use Rattle.lock_runner.specs.Beneath.machine_model.specs.Machine.{next, denial_of}
 use Rattle.lock_runner.specs.Beneath.proof_runs.specs.Machines.{Taken, state_of, with_step}
 use Rattle.lock_runner.specs.declared.accounts.Answer.{Answer}
 use Rattle.lock_runner.specs.declared.accounts.Running.{Running}

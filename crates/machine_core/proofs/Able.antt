@@ -1,17 +1,8 @@
 -- An operation's programs can take its next step.
 use Rattle.std.proofs.Common.{arith, length, ◌≡◌, ℕ, ◌+◌, ◌-◌, ◌<◌, ◌^◌, Some, None, sym, ap, subst, ◌∙◌}
-use Rattle.history.specs.declared.calls.Call.{Call}
-use Rattle.slot_arena.specs.Arenas.{IsLive}
+use Rattle.machine_core.specs.Vocabulary.{Call, IsLive, Action, Line, Operation, Descriptor, ReadLine, handle_of, action_of, line_action, State, birth_limit}
 use Rattle.epochs.specs.Memories.{Memory}
-use Rattle.machine_model.specs.declared.actions.Action.{Action}
-use Rattle.machine_model.specs.declared.lines.Line.{Line}
-use Rattle.machine_model.specs.declared.operations.Operation.{Operation}
-use Rattle.machine_model.specs.declared.roots.Descriptor.{Descriptor}
-use Rattle.machine_model.specs.declared.reading.ReadLine.{ReadLine}
 use Rattle.machine_model.specs.declared.reading.ReadLine.TheVariants as read
-use Rattle.machine_model.specs.Calls.{handle_of}
-use Rattle.machine_model.specs.Operations.{action_of, line_action}
-use Rattle.machine_model.specs.States.{State}
 use Rattle.machine_core.specs.Beneath.proof_memory.specs.Wants.{action_wants, line_wants}
 use Rattle.machine_core.specs.Beneath.gcas.specs.declared.read.ReadAt.{ReadAt}
 use Rattle.machine_core.specs.Beneath.gcas.specs.Reads.{line_of}
@@ -43,7 +34,6 @@ use Rattle.machine_core.specs.Beneath.proof_operations.specs.Laws.{LineHasRoom, 
 use Rattle.machine_core.specs.Beneath.proof_memory.proofs.Claims.Reads.{read_claims}
 use Rattle.proof_core.proofs.Claims.{Lives, root_live}
 use Rattle.machine_core.proofs.Conditions.{Finds, IsLineOf, can_key, can_copy, can_walk, met, told}
-use Rattle.slot_arena.specs.Refs.{birth_limit}
 
 -- ---- the line of a program that runs
 

@@ -2,14 +2,8 @@
 use Rattle.std.proofs.Common.{arith, ◌≡◌, ℕ, ◌-◌, ◌<◌, length, Option, Some, sym, ap, subst, ◌∙◌}
 use Rattle.std.specs.Prelude.{option_and_then, slice_get}
 use Rattle.std.proofs.lemmas.Option.{same_Some}
-use Rattle.ctrie_base.specs.declared.hashes.HashKind.{HashKind}
-use Rattle.slot_arena.specs.Arenas.{IsLive}
-use Rattle.slot_arena.specs.Heaps.{node_at}
-use Rattle.machine_model.specs.declared.operations.Operation.{Operation}
-use Rattle.machine_model.specs.Machine.{run}
+use Rattle.machine_core.specs.Vocabulary.{HashKind, IsLive, node_at, Operation, run, action_of, State, operation_of}
 use Rattle.machine_model.proofs.Along.{limits_along}
-use Rattle.machine_model.specs.Operations.{action_of}
-use Rattle.machine_model.specs.States.{State, operation_of}
 use Rattle.machine_core.specs.Beneath.proof_memory.specs.Laws.{IsInUse}
 use Rattle.machine_core.specs.Beneath.proof_memory.specs.Wants.{action_wants, line_wants}
 use Rattle.machine_core.specs.Beneath.proof_memory.proofs.Claims.Uses.{all_carried, same_node}

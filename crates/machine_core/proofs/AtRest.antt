@@ -1,14 +1,6 @@
 -- What a call finds that begins in a state of a run in which nothing runs.
 use Rattle.std.proofs.Common.{arith, ◌≡◌, ℕ, ◌+◌, ◌*◌, ◌<◌, ◌≤◌, false, length, None, refl, sym, subst}
-use Rattle.history.specs.declared.calls.Call.{Call}
-use Rattle.slot_arena.specs.declared.refs.Ref.{Ref}
-use Rattle.slot_arena.specs.Arenas.{IsLive}
-use Rattle.slot_arena.specs.Heaps.{main_at}
-use Rattle.machine_model.specs.declared.roots.RootWord.TheVariants.{Plain}
-use Rattle.machine_model.specs.Calls.{handle_of}
-use Rattle.machine_model.specs.Contents.{most_levels}
-use Rattle.machine_model.specs.Machine.{begin_denial, is_busy}
-use Rattle.machine_model.specs.States.{State, word_at}
+use Rattle.machine_core.specs.Vocabulary.{Call, Ref, IsLive, main_at, Plain, handle_of, most_levels, begin_denial, is_busy, State, word_at}
 use Rattle.machine_core.specs.Beneath.proof_memory.specs.Laws.{IsInUse}
 use Rattle.machine_core.specs.Beneath.proof_memory.specs.Wants.{AMain, Holds, Is, is}
 use Rattle.machine_core.specs.Beneath.proof_memory.proofs.Claims.Nodes.{main_read}

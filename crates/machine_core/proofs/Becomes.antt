@@ -1,18 +1,9 @@
 -- The state after a step of an operation that isn't its end, put together from its parts.
 use Rattle.std.specs.Prelude.{◌≡◌, ◌-◌, ℕ, zero, suc, Bool, false, List, [], ◌∷◌, slice_index_or, slice_set, Option, Some, option_map, refl}
 use Rattle.std.proofs.Common.{sym, ap, ◌∙◌, get_or, set}
-use Rattle.ctrie_base.specs.declared.hashes.HashKind.TheVariants.{Low}
-use Rattle.history.specs.declared.calls.Access.{Access}
-use Rattle.slot_arena.specs.declared.refs.Ref.{Ref}
-use Rattle.machine_model.specs.declared.actions.Action.{Action}
+use Rattle.machine_core.specs.Vocabulary.{Low, Access, Ref, Action, Line, Operation, Descriptor, acted, attempt_after, gone, mark_after, operation_after, private_after, handle_of, action_of}
+use Rattle.machine_core.specs.Vocabulary.{generation_from, State, with_operation, word_at}
 use Rattle.machine_model.specs.declared.actions.Action.TheVariants as act
-use Rattle.machine_model.specs.declared.lines.Line.{Line}
-use Rattle.machine_model.specs.declared.operations.Operation.{Operation}
-use Rattle.machine_model.specs.declared.roots.Descriptor.{Descriptor}
-use Rattle.machine_model.specs.Acting.{acted, attempt_after, gone, mark_after, operation_after, private_after}
-use Rattle.machine_model.specs.Calls.{handle_of}
-use Rattle.machine_model.specs.Operations.{action_of, generation_from}
-use Rattle.machine_model.specs.States.{State, with_operation, word_at}
 use Rattle.machine_model.proofs.Actors.{after_marks}
 use Rattle.machine_core.specs.Beneath.operate.specs.Beneath.gcas.specs.Acted.{acted_heap}
 use Rattle.machine_core.specs.Beneath.rdcss_root.specs.Tables.{Table, acted_table}

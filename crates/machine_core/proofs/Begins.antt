@@ -3,23 +3,10 @@ use Rattle.std.proofs.Common.{◌≡◌, ℕ, ◌+◌, ◌-◌, Bool, false, Lis
 use Rattle.std.specs.Prelude.{option_and_then, option_map, unwrap_or, if◌then◌else◌, ◌⊎◌}
 use Rattle.std.proofs.lemmas.List.{get_or-set_other, length-set}
 use Rattle.std.proofs.lemmas.Option.{none-some, same_Some}
-use Rattle.ctrie_base.specs.declared.hashes.HashKind.{HashKind}
+use Rattle.machine_core.specs.Vocabulary.{HashKind, Access, Writable, Call, Ref, times, Line, Operation, Descriptor, Offer, handle_of, opens_handle, access_of, begin_denial, handle_closed}
+use Rattle.machine_core.specs.Vocabulary.{least_free, with_begin, begun_operation, first_line, State, operation_of, root_at, with_operation, word_of}
 use Rattle.handle_table.specs.Numbers.{Numbers}
-use Rattle.history.specs.declared.calls.Access.{Access}
-use Rattle.history.specs.declared.calls.Access.TheVariants.{Writable}
-use Rattle.history.specs.declared.calls.Call.{Call}
-use Rattle.slot_arena.specs.declared.refs.Ref.{Ref}
-use Rattle.slot_arena.specs.Times.{times}
 use Rattle.epochs.specs.Memories.{Memory}
-use Rattle.machine_model.specs.declared.lines.Line.{Line}
-use Rattle.machine_model.specs.declared.operations.Operation.{Operation}
-use Rattle.machine_model.specs.declared.roots.Descriptor.{Descriptor}
-use Rattle.machine_model.specs.declared.roots.RootWord.TheVariants.{Offer}
-use Rattle.machine_model.specs.Calls.{handle_of, opens_handle}
-use Rattle.machine_model.specs.Machine.{access_of, begin_denial, handle_closed, least_free, with_begin}
-use Rattle.machine_model.specs.Moves.{begun_operation}
-use Rattle.machine_model.specs.Operations.{first_line}
-use Rattle.machine_model.specs.States.{State, operation_of, root_at, with_operation, word_of}
 use Rattle.machine_core.specs.Beneath.rdcss_root.specs.Holding.{Moves, root_refs}
 use Rattle.machine_core.specs.Beneath.rdcss_root.specs.Tables.{Table, word_in}
 use Rattle.running.specs.Places.{IsSound, call_for}

@@ -1,22 +1,10 @@
 -- A call that is carried out at once comes to what its steps come to.
 use Rattle.std.proofs.Common.{arith, ◌≡◌, ℕ, ◌+◌, ◌*◌, ◌<◌, ◌≤◌, ◌^◌, true, Option, List, [], Some, None, Ok, refl, sym, ap, ◌∙◌, subst}
-use Rattle.history.specs.declared.calls.Call.{Call}
-use Rattle.history.specs.declared.replies.Reply.{Reply}
-use Rattle.slot_arena.specs.declared.refs.Ref.{Ref}
-use Rattle.slot_arena.specs.Arenas.{IsLive}
-use Rattle.slot_arena.specs.Heaps.{entry_at, main_at, node_at}
-use Rattle.history.specs.declared.calls.Access.TheVariants.{Writable}
-use Rattle.slot_arena.specs.Times.{times}
+use Rattle.machine_core.specs.Vocabulary.{Call, Reply, Ref, IsLive, entry_at, main_at, node_at, Writable, times, changed_reply, inserts, key_of, when_found, Removes, outside, FitsKey, Ended}
+use Rattle.machine_core.specs.Vocabulary.{first_record, State, key_hash, flag_of}
 use Rattle.slot_arena.proofs.Times.{times-append}
 use Rattle.epochs.specs.Memories.{Memory}
 use Rattle.machine_model.specs.declared.steps.Step.TheVariants as step
-use Rattle.machine_model.specs.Calls.{changed_reply, inserts, key_of, when_found}
-use Rattle.machine_model.specs.declared.finding.WhenFound.TheVariants.{Removes}
-use Rattle.machine_model.specs.Counting.{outside}
-use Rattle.machine_model.specs.Keys.{FitsKey}
-use Rattle.machine_model.specs.declared.steps.Outcome.TheVariants.{Ended}
-use Rattle.machine_model.specs.Records.{first_record}
-use Rattle.machine_model.specs.States.{State, key_hash}
 use Rattle.machine_core.specs.Beneath.proof_straight.specs.Changes.{parts_at, with_change, with_pair, with_single}
 use Rattle.machine_core.specs.Beneath.proof_straight.specs.Drafts.{Draft, after_call, first_draft, held_with}
 use Rattle.machine_core.specs.Beneath.proof_straight.specs.Places.{Finds, HasRoom, Leaves, Misses, beside_other, in_branch, no_entry, steps_down}
@@ -33,7 +21,6 @@ use Rattle.machine_core.specs.declared.descending.Entry.{Entry}
 use Rattle.machine_core.specs.declared.descending.Entry.TheVariants.{Vacant, Own, Other}
 use Rattle.machine_core.specs.declared.descending.Place.{Place}
 use Rattle.machine_core.specs.declared.parts.Parts.{Parts}
-use Rattle.machine_core.specs.Beneath.nodes.specs.Levels.{flag_of}
 use Rattle.machine_core.specs.Changing.{IsAnswer, IsPut, IsRemoval, looks_at, putting, value_in}
 use Rattle.machine_core.specs.Descending.{EndsAt, IsHere}
 use Rattle.proof_core.specs.Drafting.{CanSwap, IsDraft, KeepsRecords}

@@ -1,21 +1,12 @@
 -- The branch that a change of a key makes.
 use Rattle.std.proofs.Common.{◌≡◌, ℕ, ◌-◌, ◌≤◌, true, length, List, refl, sym, ap, ◌∙◌, subst}
 use Rattle.arrayvec.specs.ArrayVec.{ArrayVec}
-use Rattle.history.specs.declared.calls.Call.{Call}
-use Rattle.slot_arena.specs.declared.nodes.Node.{Node}
-use Rattle.slot_arena.specs.declared.nodes.Node.TheVariants.{Branch, Indirection, Single}
-use Rattle.slot_arena.specs.declared.refs.Ref.{Ref}
-use Rattle.slot_arena.specs.Arenas.{AreLive, IsLive, is_main_node}
-use Rattle.slot_arena.specs.Heaps.{Heap, entries_of, entry_at, main_at, node_at, refs_of_node}
+use Rattle.machine_core.specs.Vocabulary.{Call, Node, Branch, Indirection, Single, Ref, AreLive, IsLive, is_main_node, Heap, entries_of, entry_at, main_at, node_at, refs_of_node, Change, changed}
+use Rattle.machine_core.specs.Vocabulary.{key_of, value_of, State, key_hash, flag_of}
 use Rattle.epochs.specs.Memories.{Memory}
-use Rattle.machine_model.specs.declared.building.Change.{Change}
 use Rattle.machine_model.specs.declared.building.Change.TheVariants as change
-use Rattle.machine_model.specs.Building.{changed}
-use Rattle.machine_model.specs.Calls.{key_of, value_of}
-use Rattle.machine_model.specs.States.{State, key_hash}
 use Rattle.machine_core.specs.Beneath.proof_straight.specs.Changes.{changed_main, with_change, with_single}
 use Rattle.machine_core.specs.Beneath.proof_straight.specs.Drafts.{Draft, first_draft, swapped_in, with_made}
-use Rattle.machine_core.specs.Beneath.nodes.specs.Levels.{flag_of}
 use Rattle.machine_core.specs.Beneath.proof_generations.proofs.Falling.MadeNodes.{ChangeFits, changed_entries}
 use Rattle.machine_core.specs.declared.descending.Entry.{Entry}
 use Rattle.machine_core.specs.declared.descending.Entry.TheVariants.{Vacant, Own, Other}

@@ -1,26 +1,11 @@
 -- What a step of an operation's programs asks is what its line takes its references for.
 use Rattle.std.proofs.Common.{◌≡◌, ℕ, ◌+◌, ◌<◌, List, length, Option, Some, None, refl, sym, ap, subst, ◌∙◌}
-use Rattle.history.specs.declared.calls.Access.{Access}
-use Rattle.history.specs.declared.calls.Access.TheVariants.{Writable, ReadOnly}
-use Rattle.slot_arena.specs.declared.refs.Ref.{Ref}
-use Rattle.slot_arena.specs.declared.nodes.Node.{Node}
-use Rattle.slot_arena.specs.declared.nodes.Node.TheVariants.{Indirection}
-use Rattle.slot_arena.specs.Heaps.{Heap, empty_branch}
+use Rattle.machine_core.specs.Vocabulary.{Access, Writable, ReadOnly, Ref, Node, Indirection, Heap, empty_branch, Action, Line, Operation, Read as Defined, ReadLine, Climb, Descriptor}
+use Rattle.machine_core.specs.Vocabulary.{completing_read, line_action, read_of, rooting_read, swapping_read, above, State, action_at, complete_action_at, root_action, birth_limit}
 use Rattle.epochs.specs.Memories.{Memory}
-use Rattle.machine_model.specs.declared.actions.Action.{Action}
 use Rattle.machine_model.specs.declared.actions.Action.TheVariants as act
-use Rattle.machine_model.specs.declared.lines.Line.{Line}
 use Rattle.machine_model.specs.declared.lines.Line.TheVariants as line
-use Rattle.machine_model.specs.declared.operations.Operation.{Operation}
-use Rattle.machine_model.specs.declared.reading.Read.{Read as Defined}
-use Rattle.machine_model.specs.declared.reading.ReadLine.{ReadLine}
 use Rattle.machine_model.specs.declared.reading.ReadLine.TheVariants as read
-use Rattle.machine_model.specs.declared.repairs.Climb.{Climb}
-use Rattle.machine_model.specs.declared.roots.Descriptor.{Descriptor}
-use Rattle.machine_model.specs.Operations.{completing_read, line_action, read_of, rooting_read, swapping_read}
-use Rattle.machine_model.specs.Paths.{above}
-use Rattle.machine_model.specs.States.{State}
-use Rattle.machine_model.specs.Swapping.{action_at, complete_action_at, root_action}
 use Rattle.machine_core.specs.Beneath.proof_memory.specs.Wants.{action_wants, read_wants}
 use Rattle.machine_core.specs.Beneath.proof_memory.proofs.Claims.Uses.{meets_of, safe_of}
 use Rattle.machine_core.specs.Beneath.operate.specs.Beneath.gcas.specs.declared.read.Read.{Read}
@@ -73,7 +58,6 @@ use Rattle.machine_core.specs.Beneath.snapshot.specs.Walks.{CanWalkAt, walk_line
 use Rattle.machine_core.specs.Beneath.trie_parts.specs.declared.work.Work.{Work}
 use Rattle.machine_core.specs.Beneath.proof_operations.specs.Laws.{LineHasRoom, MakesNode}
 use Rattle.proof_core.proofs.Claims.{Lives, node_live, offer_live}
-use Rattle.slot_arena.specs.Refs.{birth_limit}
 
 -- ---- a READ
 

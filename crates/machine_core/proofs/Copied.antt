@@ -7,28 +7,14 @@ use Rattle.std.proofs.lemmas.Bool.{cases_eq, false≢true}
 use Rattle.std.specs.Prelude.{◌⊎◌}
 use Rattle.std.proofs.Common.{inl, inr}
 use Rattle.handle_table.specs.Numbers.{Numbers, is_taken_in}
-use Rattle.history.specs.declared.calls.Access.TheVariants.{Writable}
-use Rattle.history.specs.declared.calls.Call.{Call}
-use Rattle.history.specs.declared.replies.Reply.{Reply}
-use Rattle.slot_arena.specs.declared.refs.Ref.{Ref}
-use Rattle.slot_arena.specs.Arenas.{AreLive, IsLive}
-use Rattle.slot_arena.specs.Refs.{birth_limit}
-use Rattle.slot_arena.specs.Heaps.{Heap, empty_branch, main_at, main_of, prev_at, taken}
+use Rattle.machine_core.specs.Vocabulary.{Writable, Call, Reply, Ref, AreLive, IsLive, birth_limit, Heap, empty_branch, main_at, main_of, prev_at, taken, Node, Branch, times, Descriptor, Root}
+use Rattle.machine_core.specs.Vocabulary.{Plain, handle_of, needs_writable, FitsKey, access_of, begin_denial, is_busy, is_number, State, root_at, with_root, with_word, word_at, word_of, least_free}
+use Rattle.machine_core.specs.Vocabulary.{first_record}
 use Rattle.arrayvec.specs.ArrayVec.{ArrayVec}
-use Rattle.slot_arena.specs.declared.nodes.Node.{Node}
-use Rattle.slot_arena.specs.declared.nodes.Node.TheVariants.{Branch}
 use Rattle.slot_arena.specs.declared.nodes.Prev.TheVariants as prev
-use Rattle.slot_arena.specs.Times.{times}
 use Rattle.slot_arena.proofs.Times.{times_le}
 use Rattle.epochs.specs.Memories.{Memory}
-use Rattle.machine_model.specs.declared.roots.Descriptor.{Descriptor}
-use Rattle.machine_model.specs.declared.roots.Root.{Root}
-use Rattle.machine_model.specs.declared.roots.RootWord.TheVariants.{Plain}
 use Rattle.machine_model.specs.declared.steps.Step.TheVariants as step
-use Rattle.machine_model.specs.Calls.{handle_of, needs_writable}
-use Rattle.machine_model.specs.Keys.{FitsKey}
-use Rattle.machine_model.specs.Machine.{access_of, begin_denial, is_busy, is_number}
-use Rattle.machine_model.specs.States.{State, root_at, with_root, with_word, word_at, word_of}
 use Rattle.machine_core.specs.Beneath.proof_straight.specs.Copies.{Course, IsSettled, first_course, with_offer}
 use Rattle.machine_core.specs.Beneath.proof_straight.specs.Drafts.{Draft, after_call}
 use Rattle.machine_core.specs.Beneath.proof_straight.specs.Running.{Comes, HasEmptySlots}
@@ -52,8 +38,6 @@ use Rattle.proof_core.proofs.Reserved.{given_other, given_own, given_running, gi
 use Rattle.machine_core.proofs.Rooted.{course_counted, opened_is, some_closed, some_opened}
 use Rattle.history.specs.declared.calls.Call.TheVariants as call
 use Rattle.history.specs.declared.replies.Reply.TheVariants as reply
-use Rattle.machine_model.specs.Machine.{least_free}
-use Rattle.machine_model.specs.Records.{first_record}
 use Rattle.machine_core.specs.Beneath.proof_straight.specs.Copies.{cleared, closed, frozen, snapshotted}
 use Rattle.machine_core.specs.Beneath.proof_straight.specs.Resting.{IsOfRun}
 use Rattle.machine_core.specs.Beneath.proof_straight.proofs.Roots.Copying.{clears_straight, freezes_straight, snapshots_straight}

@@ -1,13 +1,7 @@
 -- The way down along a key's hash, level by level.
 use Rattle.std.proofs.Common.{◌≡◌, ℕ, suc, ◌+◌, true, nat_eq, Some, refl, ap, sym, ◌∙◌, subst, eq-eqb, arith}
 use Rattle.std.specs.Option.{option_eq}
-use Rattle.history.specs.declared.calls.Access.{Access}
-use Rattle.history.specs.declared.calls.Access.TheVariants.{Writable, ReadOnly}
-use Rattle.slot_arena.specs.declared.nodes.Node.TheVariants.{Indirection}
-use Rattle.slot_arena.specs.declared.refs.Ref.{Ref}
-use Rattle.slot_arena.specs.Heaps.{Heap, node_at, main_at, generation_at}
-use Rattle.machine_model.specs.Finding.{passes}
-use Rattle.machine_core.specs.Beneath.nodes.specs.Levels.{flag_of}
+use Rattle.machine_core.specs.Vocabulary.{Access, Writable, ReadOnly, Indirection, Ref, Heap, node_at, main_at, generation_at, passes, flag_of}
 use Rattle.machine_core.specs.Beneath.proof_straight.specs.Places.{Leads, to_root, below}
 use Rattle.machine_core.specs.Descending.{IsBelow}
 

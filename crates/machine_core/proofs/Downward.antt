@@ -3,21 +3,9 @@ use Rattle.std.proofs.Common.{arith, ◌≡◌, ℕ, suc, ◌+◌, ◌-◌, ◌*
 use Rattle.std.specs.Option.{option_eq}
 use Rattle.std.proofs.lemmas.Bool.{false≢true, true≢false}
 use Rattle.arrayvec.specs.ArrayVec.{ArrayVec}
-use Rattle.ctrie_base.specs.Paths.{index_at, position_of}
-use Rattle.history.specs.declared.calls.Access.{Access}
-use Rattle.history.specs.declared.calls.Access.TheVariants.{ReadOnly, Writable}
-use Rattle.history.specs.declared.calls.Call.{Call}
-use Rattle.slot_arena.specs.declared.nodes.Node.{Node}
-use Rattle.slot_arena.specs.declared.refs.Ref.{Ref}
-use Rattle.slot_arena.specs.Arenas.{IsLive, is_indirection}
-use Rattle.slot_arena.specs.Heaps.{Heap, bitmap_of, entries_of, entry_at, generation_at, main_at, main_of, no_ref, node_at}
-use Rattle.slot_arena.specs.Refs.{birth_limit}
+use Rattle.machine_core.specs.Vocabulary.{index_at, position_of, Access, ReadOnly, Writable, Call, Node, Ref, IsLive, is_indirection, Heap, bitmap_of, entries_of, entry_at, generation_at, main_at}
+use Rattle.machine_core.specs.Vocabulary.{main_of, no_ref, node_at, birth_limit, handle_of, key_of, passes, begun_operation, State, key_hash, root_at, word_at, flag_of}
 use Rattle.epochs.specs.Memories.{Memory}
-use Rattle.machine_model.specs.Calls.{handle_of, key_of}
-use Rattle.machine_model.specs.Finding.{passes}
-use Rattle.machine_model.specs.Machine.{begun_operation}
-use Rattle.machine_model.specs.States.{State, key_hash, root_at, word_at}
-use Rattle.machine_core.specs.Beneath.nodes.specs.Levels.{flag_of}
 use Rattle.machine_core.specs.Beneath.proof_memory.specs.Laws.{IsInUse}
 use Rattle.machine_core.specs.Beneath.proof_memory.specs.Wants.{AnEntry}
 use Rattle.machine_core.specs.Beneath.proof_memory.proofs.Claims.Uses.{Meets, meets_of, safe_of}

@@ -4,11 +4,7 @@ use Rattle.std.proofs.Common.{refl, sym, ap, subst, ◌∙◌}
 use Rattle.std.specs.FinMap.{find}
 use Rattle.std.specs.Ordering.{nat_cmp}
 use Rattle.std.specs.Option.{IsSome}
-use Rattle.ctrie_base.specs.Hashes.{hash_of}
-use Rattle.slot_arena.specs.Heaps.{logical_main, node_at}
-use Rattle.machine_model.specs.declared.roots.Root.{Root}
-use Rattle.machine_model.specs.Contents.{content_at, most_levels}
-use Rattle.machine_model.specs.States.{State, root_at, root_of, word_of}
+use Rattle.machine_core.specs.Vocabulary.{hash_of, logical_main, node_at, Root, content_at, most_levels, State, root_at, root_of, word_of}
 use Rattle.machine_core.specs.Beneath.proof_straight.specs.Resting.{IsOfRun}
 use Rattle.machine_core.specs.Beneath.proof_contents.specs.Nodes.Looking.{find_at}
 use Rattle.machine_core.specs.Beneath.proof_shape.proofs.Shaped.Looking.{looking_finds}

@@ -1,13 +1,7 @@
 -- What a step of an operation comes to is what the definition says.
 use Rattle.std.proofs.Common.{arith, ◌≡◌, ℕ, ◌-◌, ◌<◌, List, length, Option, Some, None, refl, sym, ap, subst, ◌∙◌}
 use Rattle.std.specs.Prelude.{option_map, slice_index_or, slice_set}
-use Rattle.machine_model.specs.declared.actions.Action.{Action}
-use Rattle.machine_model.specs.declared.operations.Operation.{Operation}
-use Rattle.machine_model.specs.declared.roots.Descriptor.{Descriptor}
-use Rattle.machine_model.specs.Acting.{gone, operation_after}
-use Rattle.machine_model.specs.Calls.{handle_of}
-use Rattle.machine_model.specs.Operations.{action_of}
-use Rattle.machine_model.specs.States.{State}
+use Rattle.machine_core.specs.Vocabulary.{Action, Operation, Descriptor, gone, operation_after, handle_of, action_of, State}
 use Rattle.machine_model.proofs.Actors.{after_marks}
 use Rattle.machine_core.specs.Beneath.rdcss_root.specs.Tables.{Table, acted_table, word_in}
 use Rattle.running.specs.Carried.{carried_offer}

@@ -1,21 +1,13 @@
 -- Steps of the sweep that pass each actor and let the epoch grow.
 use Rattle.std.proofs.Common.{arith, ◌≡◌, ◌≢◌, ℕ, zero, suc, ◌+◌, ◌<◌, ◌≤◌, true, false, [], length, map, Ok, refl, sym, ap, ◌∙◌, subst}
 use Rattle.std.proofs.lemmas.List.{length-map}
-use Rattle.slot_arena.specs.Ticking.{TakesUpTo}
-use Rattle.slot_arena.specs.Times.{times}
-use Rattle.epochs.specs.declared.limbo.Swept.{Swept}
+use Rattle.machine_core.specs.Vocabulary.{TakesUpTo, times, Swept, limbo_after, Reclaimer, passes_all, reclaimer_of as what_it_works_on, Sweep, outside, is_spent, next, pin_of, reclaimer_of}
+use Rattle.machine_core.specs.Vocabulary.{settled_after, swept_with, State}
 use Rattle.epochs.specs.declared.limbo.Swept.TheVariants as swept
-use Rattle.epochs.specs.Limbo.{limbo_after}
-use Rattle.epochs.specs.Sweeping.{Reclaimer, passes_all}
 use Rattle.epochs.proofs.Growing.{from_first, grows_last, passes_next}
 use Rattle.epochs.specs.Memories.{Memory}
-use Rattle.epochs.specs.Memories.{reclaimer_of as what_it_works_on}
 use Rattle.epochs.proofs.Forgetting.{counts_alone}
 use Rattle.machine_model.specs.declared.steps.Outcome.TheVariants as outcome
-use Rattle.machine_model.specs.declared.steps.Step.TheVariants.{Sweep}
-use Rattle.machine_model.specs.Counting.{outside}
-use Rattle.machine_model.specs.Machine.{is_spent, next, pin_of, reclaimer_of, settled_after, swept_with}
-use Rattle.machine_model.specs.States.{State}
 use Rattle.proof_core.proofs.Given.{sizes}
 use Rattle.proof_core.specs.Work.{Worked}
 use Rattle.proof_core.proofs.Bounded.{taken_run}

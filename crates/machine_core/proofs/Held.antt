@@ -1,11 +1,7 @@
 -- How often references are held in a state of a run.
 use Rattle.std.proofs.Common.{◌≡◌, suc, ◌<◌, ◌≤◌, ◌^◌, get_or, Option, Some, None, refl, arith}
-use Rattle.slot_arena.specs.declared.refs.Ref.{Ref}
-use Rattle.slot_arena.specs.Times.{times}
+use Rattle.machine_core.specs.Vocabulary.{Ref, times, Operation, State, refs_of_root, refs_of_operation}
 use Rattle.epochs.specs.Memories.{Memory}
-use Rattle.machine_model.specs.declared.operations.Operation.{Operation}
-use Rattle.machine_model.specs.States.{State}
-use Rattle.machine_model.specs.Counting.{refs_of_root, refs_of_operation}
 use Rattle.machine_core.specs.Beneath.proof_straight.specs.Resting.{IsOfRun}
 use Rattle.machine_core.specs.Beneath.rdcss_root.specs.Holding.{IsReady}
 use Rattle.machine_core.specs.Ties.{IsTied}

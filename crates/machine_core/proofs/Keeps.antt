@@ -5,14 +5,8 @@ use Rattle.std.proofs.lemmas.List.{length-set, map-set}
 use Rattle.std.proofs.lemmas.List.Concat.{flat_map-cons}
 use Rattle.std.proofs.lemmas.Option.{none-some, same_Some}
 use Rattle.std.proofs.Math.Seq.{map-set_same}
-use Rattle.slot_arena.specs.Times.{times}
-use Rattle.machine_model.specs.declared.actions.Action.{Action}
+use Rattle.machine_core.specs.Vocabulary.{times, Action, Operation, Descriptor, refs_of_operation, pin_of, action_of}
 use Rattle.machine_model.specs.declared.actions.Action.TheVariants as act
-use Rattle.machine_model.specs.declared.operations.Operation.{Operation}
-use Rattle.machine_model.specs.declared.roots.Descriptor.{Descriptor}
-use Rattle.machine_model.specs.Counting.{refs_of_operation}
-use Rattle.machine_model.specs.Machine.{pin_of}
-use Rattle.machine_model.specs.Operations.{action_of}
 use Rattle.machine_core.specs.Beneath.rdcss_root.specs.Tables.{Table, word_in}
 use Rattle.running.specs.Carried.{carried_offer}
 use Rattle.running.proofs.Offers.{marked_at, marks_by, unmarked}

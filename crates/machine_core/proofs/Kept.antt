@@ -2,14 +2,9 @@
 use Rattle.std.proofs.Common.{◌≡◌, ◌≢◌, length, ℕ, zero, suc, ◌-◌, ◌<◌, ◌≤◌, ◌⊎◌, inl, inr, List, set, get_or, map, Option, Some, None, refl, sym, ap, ◌∙◌, subst, arith}
 use Rattle.std.specs.Prelude.{false, is_some, option_and_then, option_map, slice_get}
 use Rattle.std.proofs.lemmas.Option.{none-some, slice_get-get_or}
-use Rattle.ctrie_base.specs.declared.hashes.HashKind.{HashKind}
+use Rattle.machine_core.specs.Vocabulary.{HashKind, Ref, times, Offer, is_running, pin_of, operation_of}
 use Rattle.handle_table.specs.Numbers.{Numbers}
 use Rattle.history.proofs.Places.{at_set_cases}
-use Rattle.slot_arena.specs.declared.refs.Ref.{Ref}
-use Rattle.slot_arena.specs.Times.{times}
-use Rattle.machine_model.specs.declared.roots.RootWord.TheVariants.{Offer}
-use Rattle.machine_model.specs.Machine.{is_running, pin_of}
-use Rattle.machine_model.specs.States.{operation_of}
 use Rattle.machine_core.specs.Beneath.rdcss_root.specs.Holding.{root_refs}
 use Rattle.machine_core.specs.Beneath.rdcss_root.specs.Tables.{Table, word_in}
 use Rattle.running.specs.declared.programs.Programs.{Programs}

@@ -3,12 +3,7 @@ use Rattle.std.proofs.Common.{◌≡◌, ℕ, zero, suc, ◌<◌, ◌⊎◌, inl
 use Rattle.std.proofs.lemmas.Bool.{cases_eq}
 use Rattle.std.proofs.lemmas.List.{get_or-set_other}
 use Rattle.std.proofs.lemmas.Option.{none-some}
-use Rattle.machine_model.specs.declared.operations.Operation.{Operation}
-use Rattle.machine_model.specs.declared.roots.Descriptor.{Descriptor}
-use Rattle.machine_model.specs.declared.roots.Root.{Root}
-use Rattle.machine_model.specs.declared.roots.RootWord.TheVariants.{Offer}
-use Rattle.machine_model.specs.States.{State, operation_of, word_at, word_of}
-use Rattle.machine_model.specs.Machine.{run}
+use Rattle.machine_core.specs.Vocabulary.{Operation, Descriptor, Root, Offer, State, operation_of, word_at, word_of, run}
 use Rattle.machine_model.proofs.Found.{found_elsewhere, found_here}
 use Rattle.machine_core.specs.Beneath.proof_generations.proofs.Roots.OfLists.{has_handles_along}
 use Rattle.machine_core.specs.Beneath.proof_generations.proofs.Offers.Standing.{own_numbers}

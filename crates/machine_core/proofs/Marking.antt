@@ -4,14 +4,8 @@ use Rattle.std.specs.Prelude.{Option, Some, None, option_map, refl, if◌then◌
 use Rattle.std.proofs.Common.{arith, sym, ap, subst, ◌∙◌, get_or, set}
 use Rattle.std.proofs.lemmas.Bool.{eqb-true, false≢true}
 use Rattle.std.proofs.lemmas.List.{get_or-set_same, get_or-set_other}
-use Rattle.ctrie_base.specs.declared.hashes.HashKind.{HashKind}
-use Rattle.machine_model.specs.declared.actions.Action.{Action}
+use Rattle.machine_core.specs.Vocabulary.{HashKind, Action, Operation, Descriptor, marked, State, word_at, is_carried_out}
 use Rattle.machine_model.specs.declared.actions.Action.TheVariants as act
-use Rattle.machine_model.specs.declared.operations.Operation.{Operation}
-use Rattle.machine_model.specs.declared.roots.Descriptor.{Descriptor}
-use Rattle.machine_model.specs.Acting.{marked}
-use Rattle.machine_model.specs.States.{State, word_at}
-use Rattle.machine_model.specs.Swapping.{is_carried_out}
 use Rattle.machine_model.proofs.Actors.{after_marks, marks_of}
 use Rattle.machine_core.specs.Beneath.rdcss_root.specs.Tables.{Table}
 use Rattle.running.specs.Carried.{carried_offer}

@@ -5,19 +5,10 @@ use Rattle.std.proofs.lemmas.Bool.{cases_eq, cases_lt, false≢true}
 use Rattle.std.proofs.lemmas.List.{get_or_past, get_or-set_other, get_or-set_same, length-set}
 use Rattle.std.proofs.lemmas.Option.{none-some, same_Some}
 use Rattle.history.proofs.Places.{at_set_cases}
-use Rattle.machine_model.specs.declared.actions.Action.{Action}
+use Rattle.machine_core.specs.Vocabulary.{Action, Operation, Descriptor, Root, Plain, Offer, if_changed, run, action_of, State, operation_of, rewritten, word_of, is_plain, stands_in}
 use Rattle.machine_model.specs.declared.actions.Action.TheVariants as act
 use Rattle.machine_model.specs.declared.lines.Line.TheVariants as line
 use Rattle.machine_model.specs.declared.copying.CopyLine.TheVariants as copy
-use Rattle.machine_model.specs.declared.operations.Operation.{Operation}
-use Rattle.machine_model.specs.declared.roots.Descriptor.{Descriptor}
-use Rattle.machine_model.specs.declared.roots.Root.{Root}
-use Rattle.machine_model.specs.declared.roots.RootWord.TheVariants.{Plain, Offer}
-use Rattle.machine_model.specs.Acting.{if_changed}
-use Rattle.machine_model.specs.Machine.{run}
-use Rattle.machine_model.specs.Operations.{action_of}
-use Rattle.machine_model.specs.States.{State, operation_of, rewritten, word_of}
-use Rattle.machine_model.specs.Swapping.{is_plain, stands_in}
 use Rattle.machine_model.proofs.Basics.{not_offer}
 use Rattle.machine_core.specs.Beneath.proof_generations.proofs.Lines.Copy.{LineFits}
 use Rattle.machine_core.specs.Beneath.proof_generations.proofs.Offers.Standing.{OfferFrom, offer_from, offer_line, put, stood}

@@ -4,16 +4,8 @@ use Rattle.std.specs.Prelude.{option_map, slice_get, slice_index_or, if◌then�
 use Rattle.std.proofs.lemmas.Bool.{false≢true}
 use Rattle.std.proofs.lemmas.Option.{none-some, same_Some}
 use Rattle.history.proofs.Places.{at_set_cases}
-use Rattle.slot_arena.specs.declared.refs.Ref.{Ref}
-use Rattle.machine_model.specs.declared.actions.Action.{Action}
+use Rattle.machine_core.specs.Vocabulary.{Ref, Action, Operation, Descriptor, RootWord, Plain, Offer, run, State, operation_of, word_at, is_carried_out}
 use Rattle.machine_model.specs.declared.actions.Action.TheVariants as act
-use Rattle.machine_model.specs.declared.operations.Operation.{Operation}
-use Rattle.machine_model.specs.declared.roots.Descriptor.{Descriptor}
-use Rattle.machine_model.specs.declared.roots.RootWord.{RootWord}
-use Rattle.machine_model.specs.declared.roots.RootWord.TheVariants.{Plain, Offer}
-use Rattle.machine_model.specs.Machine.{run}
-use Rattle.machine_model.specs.States.{State, operation_of, word_at}
-use Rattle.machine_model.specs.Swapping.{is_carried_out}
 use Rattle.machine_core.specs.Beneath.proof_generations.proofs.Roots.OfLists.{has_handles_along}
 use Rattle.machine_core.specs.Beneath.proof_generations.proofs.Offers.Standing.{own_numbers}
 use Rattle.machine_core.specs.Beneath.rdcss_root.specs.Tables.{word_in}

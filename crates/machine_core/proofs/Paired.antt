@@ -2,21 +2,9 @@
 use Rattle.std.proofs.Common.{arith, ◌≡◌, ℕ, suc, ◌+◌, ◌-◌, ◌*◌, ◌≤◌, ◌==◌, List, [], ◌∷◌, ◌++◌, length, length-append, sym, ap, ◌∙◌, subst}
 use Rattle.std.proofs.lemmas.Bool.{cond_both}
 use Rattle.std.proofs.lemmas.List.Elements.{All-take, All-weaker}
-use Rattle.ctrie_base.specs.declared.hashes.HashKind.{HashKind}
-use Rattle.ctrie_base.specs.Hashes.{hash_of}
-use Rattle.history.specs.declared.calls.Call.{Call}
-use Rattle.slot_arena.specs.declared.nodes.Node.{Node}
-use Rattle.slot_arena.specs.declared.nodes.Node.TheVariants.{Indirection, Single}
-use Rattle.slot_arena.specs.declared.refs.Ref.{Ref}
-use Rattle.slot_arena.specs.Arenas.{AreLive, IsLive, is_indirection}
-use Rattle.slot_arena.specs.Heaps.{Heap, entry_at, generation_at, main_at, main_of, node_at, refs_of_node, taken}
-use Rattle.slot_arena.specs.Times.{times}
-use Rattle.nodes.specs.Builders.{by_index, pair, rung}
-use Rattle.nodes.specs.Levels.{index_in, list_depth, parting}
+use Rattle.machine_core.specs.Vocabulary.{HashKind, hash_of, Call, Node, Indirection, Single, Ref, AreLive, IsLive, is_indirection, Heap, entry_at, generation_at, main_at, main_of, node_at}
+use Rattle.machine_core.specs.Vocabulary.{refs_of_node, taken, times, by_index, pair, rung, index_in, list_depth, parting, key_in, old_hash, key_of, value_of, State, key_hash}
 use Rattle.epochs.specs.Memories.{Memory}
-use Rattle.machine_model.specs.Building.{key_in, old_hash}
-use Rattle.machine_model.specs.Calls.{key_of, value_of}
-use Rattle.machine_model.specs.States.{State, key_hash}
 use Rattle.machine_core.specs.Beneath.proof_operations.proofs.MostHeld.{pair_within}
 use Rattle.machine_core.specs.Beneath.proof_straight.specs.Changes.{parts_at, with_link, with_links, with_single}
 use Rattle.machine_core.specs.Beneath.proof_straight.specs.Drafts.{Draft, first_draft, next_made, with_made}

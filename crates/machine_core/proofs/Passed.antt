@@ -4,18 +4,9 @@ use Rattle.std.proofs.Math.Seq.{get_or-append_seam}
 use Rattle.std.proofs.lemmas.Bool.{cases_eq, false≢true}
 use Rattle.std.proofs.lemmas.List.{append_assoc, length-append}
 use Rattle.arrayvec.specs.ArrayVec.{ArrayVec}
-use Rattle.ctrie_base.specs.Paths.{index_at, position_of}
-use Rattle.slot_arena.specs.declared.nodes.Node.{Node}
-use Rattle.slot_arena.specs.declared.nodes.Node.TheVariants.{Branch, Indirection, Single, Tomb, List as Listed}
-use Rattle.slot_arena.specs.declared.nodes.Slot.{Slot}
-use Rattle.slot_arena.specs.declared.refs.Ref.{Ref}
-use Rattle.slot_arena.specs.Arenas.{IsLive, is_indirection}
-use Rattle.slot_arena.specs.Heaps.{Heap, entries_of, entry_at, main_at, main_of, node_at, node_of, no_ref, prev_at, stored}
-use Rattle.slot_arena.specs.Refs.{slot_of}
-use Rattle.machine_model.specs.Contents.{most_levels}
-use Rattle.machine_model.specs.States.{State}
+use Rattle.machine_core.specs.Vocabulary.{index_at, position_of, Node, Branch, Indirection, Single, Tomb, List as Listed, Slot, Ref, IsLive, is_indirection, Heap, entries_of, entry_at, main_at}
+use Rattle.machine_core.specs.Vocabulary.{main_of, node_at, node_of, no_ref, prev_at, stored, slot_of, most_levels, State, flag_of}
 use Rattle.machine_model.proofs.Grown.{standing_parts}
-use Rattle.machine_core.specs.Beneath.nodes.specs.Levels.{flag_of}
 use Rattle.machine_core.specs.Beneath.proof_memory.specs.Laws.{IsInUse}
 use Rattle.machine_core.specs.Beneath.proof_memory.specs.Wants.{AnEntry, is as held}
 use Rattle.machine_core.specs.Beneath.proof_memory.proofs.Claims.Nodes.{main_read}

@@ -4,14 +4,8 @@ use Rattle.std.proofs.Math.Seq.{drop-cons}
 use Rattle.std.proofs.lemmas.List.{drop_all, length-append}
 use Rattle.std.proofs.lemmas.List.Elements.{All-nil, All-push, All-weaker}
 use Rattle.arrayvec.specs.ArrayVec.{ArrayVec}
-use Rattle.slot_arena.specs.declared.nodes.Node.{Node}
-use Rattle.slot_arena.specs.declared.nodes.Node.TheVariants.{Branch, Indirection}
-use Rattle.slot_arena.specs.declared.refs.Ref.{Ref}
-use Rattle.slot_arena.specs.Arenas.{AreLive, IsLive}
-use Rattle.slot_arena.specs.Heaps.{Heap, entries_of, entry_at, generation_at, main_at, main_of, node_at, no_ref, refs_of_node}
-use Rattle.nodes.specs.Builders.{renewed}
+use Rattle.machine_core.specs.Vocabulary.{Node, Branch, Indirection, Ref, AreLive, IsLive, Heap, entries_of, entry_at, generation_at, main_at, main_of, node_at, no_ref, refs_of_node, renewed, State}
 use Rattle.epochs.specs.Memories.{Memory}
-use Rattle.machine_model.specs.States.{State}
 use Rattle.machine_core.specs.Beneath.proof_straight.specs.Drafts.{Draft, first_draft, swapped_in, with_made}
 use Rattle.machine_core.specs.Beneath.proof_straight.specs.Renewals.{Renewal, is_of_other, is_old, renewal_of, renewed_entries, renewed_entry}
 use Rattle.machine_core.specs.Beneath.proof_straight.proofs.Renewal.NewEntries.{all_private, steps_by_slots}

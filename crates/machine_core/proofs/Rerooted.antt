@@ -4,19 +4,10 @@ use Rattle.std.proofs.Common.{refl, sym, ap, ◌∙◌, subst}
 use Rattle.std.specs.List.{count_by, list_any}
 use Rattle.std.proofs.lemmas.Bool.{true≢false}
 use Rattle.std.proofs.lemmas.Option.{none-some}
-use Rattle.ctrie_base.specs.declared.hashes.HashKind.{HashKind}
+use Rattle.machine_core.specs.Vocabulary.{HashKind, Call, Reply, Ref, times, Root, outside, FitsKey, is_busy, is_taken, names, pin_of, State, operation_of}
 use Rattle.handle_table.specs.Numbers.{Numbers, is_taken_in}
-use Rattle.history.specs.declared.calls.Call.{Call}
-use Rattle.history.specs.declared.replies.Reply.{Reply}
-use Rattle.slot_arena.specs.declared.refs.Ref.{Ref}
-use Rattle.slot_arena.specs.Times.{times}
 use Rattle.slot_arena.proofs.Times.{times-append}
-use Rattle.machine_model.specs.declared.roots.Root.{Root}
 use Rattle.machine_model.specs.declared.steps.Step.TheVariants as step
-use Rattle.machine_model.specs.Counting.{outside}
-use Rattle.machine_model.specs.Keys.{FitsKey}
-use Rattle.machine_model.specs.Machine.{is_busy, is_taken, names, pin_of}
-use Rattle.machine_model.specs.States.{State, operation_of}
 use Rattle.machine_core.specs.Beneath.proof_operations.proofs.Numbers.{reserves}
 use Rattle.machine_core.specs.Beneath.proof_straight.specs.Copies.{Course}
 use Rattle.machine_core.specs.Beneath.proof_straight.specs.Drafts.{Draft, after_call, held_with}

@@ -4,20 +4,10 @@ use Rattle.std.proofs.Common.{refl, sym, ap, ◌∙◌, subst, eq-eqb, ne_eqb, l
 use Rattle.std.proofs.lemmas.Bool.{cases_eq}
 use Rattle.std.proofs.lemmas.List.Elements.{All-head, All-tail}
 use Rattle.std.proofs.lemmas.List.{get_or-set_other, get_or-set_same, set-set}
-use Rattle.slot_arena.specs.declared.refs.Ref.{Ref}
-use Rattle.slot_arena.specs.Arenas.{AreLive, IsLive}
-use Rattle.slot_arena.specs.Heaps.{Heap}
-use Rattle.slot_arena.specs.Times.{times}
+use Rattle.machine_core.specs.Vocabulary.{Ref, AreLive, IsLive, Heap, times, Descriptor, Root, RootWord, Offer, Plain, opened, opened_root, outside, refs_of_operation, is_number, State, rewritten}
+use Rattle.machine_core.specs.Vocabulary.{root_at, with_root, with_word}
 use Rattle.slot_arena.proofs.Times.{times-append}
 use Rattle.epochs.specs.Memories.{Memory}
-use Rattle.machine_model.specs.declared.roots.Descriptor.{Descriptor}
-use Rattle.machine_model.specs.declared.roots.Root.{Root}
-use Rattle.machine_model.specs.declared.roots.RootWord.{RootWord}
-use Rattle.machine_model.specs.declared.roots.RootWord.TheVariants.{Offer, Plain}
-use Rattle.machine_model.specs.Acting.{opened, opened_root}
-use Rattle.machine_model.specs.Counting.{outside, refs_of_operation}
-use Rattle.machine_model.specs.Machine.{is_number}
-use Rattle.machine_model.specs.States.{State, rewritten, root_at, with_root, with_word}
 use Rattle.machine_core.specs.Beneath.proof_straight.specs.Copies.{Course, with_offer}
 use Rattle.machine_core.specs.Beneath.proof_straight.specs.Drafts.{Draft, held_with, redrafted}
 use Rattle.machine_core.specs.Beneath.rdcss_root.specs.Holding.{Moves, root_refs}

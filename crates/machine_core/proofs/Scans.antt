@@ -5,20 +5,10 @@ use Rattle.std.specs.List.{filter, flat_map}
 use Rattle.std.specs.Option.{IsSome}
 use Rattle.std.proofs.lemmas.List.{get_or-drop, length-drop}
 use Rattle.arrayvec.specs.ArrayVec.{ArrayVec}
-use Rattle.ctrie_base.specs.Hashes.{hash_of}
-use Rattle.ctrie_base.specs.Paths.{position_of}
-use Rattle.ctrie_base.specs.declared.hashes.HashKind.{HashKind}
-use Rattle.slot_arena.specs.declared.nodes.Node.{Node}
-use Rattle.slot_arena.specs.declared.nodes.Node.TheVariants.{Branch, Indirection, Single, Tomb, List as Listed}
-use Rattle.slot_arena.specs.declared.refs.Ref.{Ref}
-use Rattle.slot_arena.specs.Heaps.{Heap, bitmap_of, entries_of, logical_main, node_at}
-use Rattle.machine_core.specs.Beneath.nodes.specs.Levels.{flag_of, has_flag}
+use Rattle.machine_core.specs.Vocabulary.{hash_of, position_of, HashKind, Node, Branch, Indirection, Single, Tomb, List as Listed, Ref, Heap, bitmap_of, entries_of, logical_main, node_at, flag_of}
+use Rattle.machine_core.specs.Vocabulary.{has_flag, Root, content_at, most_levels, pairs_below, by_key, State, root_at, root_of, word_at, word_of}
 use Rattle.machine_core.specs.Beneath.proof_memory.specs.Wants.{is_branch}
 use Rattle.machine_core.specs.Beneath.proof_straight.specs.Resting.{IsOfRun}
-use Rattle.machine_model.specs.declared.roots.Root.{Root}
-use Rattle.machine_model.specs.Contents.{content_at, most_levels, pairs_below}
-use Rattle.machine_model.specs.Pairs.{by_key}
-use Rattle.machine_model.specs.States.{State, root_at, root_of, word_at, word_of}
 use Rattle.proof_core.specs.Reading.{is_after, next_of}
 use Rattle.proof_core.specs.Scanning.{IsEntryPlaced, IsMainPlaced, IsPlaced, is_behind, scanned, walked, walked_in}
 use Rattle.proof_core.proofs.Gathering.{gather_more, gather_none}

@@ -8,7 +8,7 @@ use Rattle.std.specs.declared.cmp.Ordering.TheVariants.{Less, Equal, Greater}
 use Rattle.std.proofs.lemmas.Bool.{not-true, not-false}
 use Rattle.std.proofs.lemmas.List.{take_all}
 use Rattle.std.proofs.lemmas.List.Sorted.{length_permutation}
-use Rattle.machine_model.specs.Pairs.{by_key, comes_before}
+use Rattle.machine_core.specs.Vocabulary.{by_key, comes_before}
 use Rattle.ctrie_base.proofs.Sorting.{Alike, permuted_alike, count_more, sorted_same}
 use Rattle.machine_core.proofs.Sorting.{Pair, compared, pairs_order, same_test}
 use Rattle.proof_core.proofs.Firsts.{greatest_left, length_sorted}

@@ -6,25 +6,12 @@ use Rattle.std.proofs.lemmas.List.{length-append, length-replicate}
 use Rattle.std.proofs.lemmas.List.Concat.{flat_map-cons}
 use Rattle.std.proofs.lemmas.List.Elements.{All-get_or, All-head, All-push, All-tail}
 use Rattle.std.proofs.lemmas.Option.{get_or_from_slice_get, none-some, slice_get_within}
-use Rattle.ctrie_base.specs.declared.hashes.HashKind.{HashKind}
+use Rattle.machine_core.specs.Vocabulary.{HashKind, Writable, Ref, Slot, ref_to, Heap, taken, empty_branch, next_ref, named_from, in_use, heap_refs, refs_of_slot, count_of, times, without, Settles}
+use Rattle.machine_core.specs.Vocabulary.{is_zero, is_in, limbo_after, by_birth, Operation, Root, Plain, Bounds, refs_of_root, refs_of_operation, pin_of, State, empty_heap, first_heap, first_state}
+use Rattle.machine_core.specs.Vocabulary.{operation_of}
 use Rattle.handle_table.specs.Numbers.{Numbers, no_numbers, with_taken}
-use Rattle.history.specs.declared.calls.Access.TheVariants.{Writable}
-use Rattle.slot_arena.specs.declared.refs.Ref.{Ref}
-use Rattle.slot_arena.specs.declared.nodes.Slot.{Slot}
-use Rattle.slot_arena.specs.Refs.{ref_to}
-use Rattle.slot_arena.specs.Heaps.{Heap, taken, empty_branch, next_ref, named_from, in_use, heap_refs, refs_of_slot}
-use Rattle.slot_arena.specs.Counts.{count_of}
-use Rattle.slot_arena.specs.Times.{times, without}
 use Rattle.slot_arena.proofs.Times.{once_same, times-cons, times-without, times_le}
-use Rattle.epochs.specs.Memories.{Memory, Settles}
-use Rattle.epochs.specs.Limbo.{is_zero, is_in, limbo_after, by_birth}
-use Rattle.machine_model.specs.declared.operations.Operation.{Operation}
-use Rattle.machine_model.specs.declared.roots.Root.{Root}
-use Rattle.machine_model.specs.declared.roots.RootWord.TheVariants.{Plain}
-use Rattle.machine_model.specs.declared.steps.Bounds.{Bounds}
-use Rattle.machine_model.specs.Counting.{refs_of_root, refs_of_operation}
-use Rattle.machine_model.specs.Machine.{pin_of}
-use Rattle.machine_model.specs.States.{State, empty_heap, first_heap, first_state, operation_of}
+use Rattle.epochs.specs.Memories.{Memory}
 use Rattle.machine_core.specs.Beneath.rdcss_root.specs.Holding.{IsReady, Moves, root_refs}
 use Rattle.machine_core.specs.Beneath.rdcss_root.specs.Tables.{Table, new_table, with_root_in}
 use Rattle.machine_core.specs.declared.parts.Actor.{Actor}

@@ -2,14 +2,8 @@
 use Rattle.std.proofs.Common.{◌≡◌, ℕ, zero, suc, ◌+◌, ◌-◌, ◌≤◌, List, [], length, set, get_or, Option, Some, None, refl, sym, ap, ◌∙◌, arith}
 use Rattle.std.proofs.lemmas.List.{map-set, length-map}
 use Rattle.std.proofs.lemmas.Option.{none-some}
-use Rattle.slot_arena.specs.declared.refs.Ref.{Ref}
-use Rattle.slot_arena.specs.Times.{times}
+use Rattle.machine_core.specs.Vocabulary.{Ref, times, Operation, Root, State, operation_of, refs_of_operation, pin_of}
 use Rattle.epochs.specs.Memories.{Memory}
-use Rattle.machine_model.specs.declared.operations.Operation.{Operation}
-use Rattle.machine_model.specs.declared.roots.Root.{Root}
-use Rattle.machine_model.specs.States.{State, operation_of}
-use Rattle.machine_model.specs.Counting.{refs_of_operation}
-use Rattle.machine_model.specs.Machine.{pin_of}
 use Rattle.machine_model.proofs.Found.{found_within}
 use Rattle.machine_core.specs.Beneath.rdcss_root.specs.Holding.{root_refs}
 use Rattle.machine_core.specs.Ties.{IsTied}

@@ -1,11 +1,8 @@
 -- How often references stand in root words and private lists, when one of them changes.
 use Rattle.std.proofs.Common.{◌≡◌, ℕ, zero, suc, ◌+◌, ◌*◌, ◌<◌, ◌≤◌, List, [], ◌∷◌, length, get_or, flat_map, Option, ap, arith}
 use Rattle.std.proofs.lemmas.List.Concat.{flat_map-cons}
-use Rattle.slot_arena.specs.declared.refs.Ref.{Ref}
-use Rattle.slot_arena.specs.Times.{times}
+use Rattle.machine_core.specs.Vocabulary.{Ref, times, Root, refs_of_root}
 use Rattle.slot_arena.proofs.Times.{times-append, times_le}
-use Rattle.machine_model.specs.declared.roots.Root.{Root}
-use Rattle.machine_model.specs.Counting.{refs_of_root}
 use Rattle.machine_core.specs.Beneath.rdcss_root.proofs.Rewriting.{few_of_root, times_set}
 
 -- ---- lists of lists

@@ -4,10 +4,7 @@ use Rattle.std.specs.Prelude.{is_some, option_map}
 use Rattle.std.proofs.lemmas.List.{length-map}
 use Rattle.std.proofs.lemmas.Option.{slice_get_within}
 use Rattle.ctrie_base.specs.declared.refusals.Refusal.TheVariants as refuse
-use Rattle.machine_model.specs.Machine.{first_reason, go_denial, is_actor, is_running, is_spent, next_kind}
-use Rattle.machine_model.specs.Operations.{action_of, kind_of}
-use Rattle.machine_model.specs.States.{operation_of}
-use Rattle.machine_model.specs.declared.operations.Operation.{Operation}
+use Rattle.machine_core.specs.Vocabulary.{first_reason, go_denial, is_actor, is_running, is_spent, next_kind, action_of, kind_of, operation_of, Operation}
 use Rattle.machine_model.proofs.Actors.{actor_by}
 use Rattle.machine_core.specs.declared.parts.Parts.{Parts}
 use Rattle.machine_core.specs.Beneath.proof_straight.specs.Resting.{IsOfRun}

@@ -2,9 +2,7 @@
 use Rattle.std.proofs.Common.{arith, ◌≡◌, ℕ, ◌-◌, ◌<◌, Option, Some, None, length, refl, sym, ap, ◌∙◌}
 use Rattle.std.specs.Prelude.{true, false, not, is_some, IsSome, option_and_then, option_map, slice_get}
 use Rattle.std.proofs.lemmas.Option.{none-some, same_Some, slice_get_within}
-use Rattle.history.specs.declared.replies.Reply.{Reply}
-use Rattle.machine_model.specs.Machine.{go_denial, next_kind}
-use Rattle.machine_model.specs.declared.operations.Operation.{Operation}
+use Rattle.machine_core.specs.Vocabulary.{Reply, go_denial, next_kind, Operation}
 use Rattle.running.specs.Places.{line_for}
 use Rattle.running.specs.Steps.{CanStep, scene}
 use Rattle.machine_core.specs.declared.parts.Actor.{Actor}

@@ -1,21 +1,10 @@
 -- One level further down on the parts of a core, and both ends of the way.
 use Rattle.std.proofs.Common.{arith, ◌≡◌, ℕ, ◌+◌, ◌*◌, ◌<◌, ◌≤◌, ◌==◌, true, false, not, length, None, refl, sym, ap, ◌∙◌, subst}
 use Rattle.std.proofs.lemmas.Bool.{false≢true}
-use Rattle.ctrie_base.specs.Paths.{position_of}
-use Rattle.history.specs.declared.calls.Access.TheVariants.{Writable}
-use Rattle.history.specs.declared.calls.Call.{Call}
-use Rattle.slot_arena.specs.declared.nodes.Node.{Node}
-use Rattle.slot_arena.specs.declared.nodes.Node.TheVariants.{Indirection}
-use Rattle.slot_arena.specs.declared.refs.Ref.{Ref}
-use Rattle.slot_arena.specs.Arenas.{is_indirection}
-use Rattle.slot_arena.specs.Heaps.{Heap, bitmap_of, entries_of, entry_at, generation_at, main_at, node_at}
+use Rattle.machine_core.specs.Vocabulary.{position_of, Writable, Call, Node, Indirection, Ref, is_indirection, Heap, bitmap_of, entries_of, entry_at, generation_at, main_at, node_at, key_of}
+use Rattle.machine_core.specs.Vocabulary.{needs_writable, FitsKey, begin_denial, is_busy, State, key_hash, flag_of}
 use Rattle.epochs.specs.Memories.{Memory}
 use Rattle.machine_model.specs.declared.steps.Step.TheVariants as step
-use Rattle.machine_model.specs.Calls.{key_of, needs_writable}
-use Rattle.machine_model.specs.Keys.{FitsKey}
-use Rattle.machine_model.specs.Machine.{begin_denial, is_busy}
-use Rattle.machine_model.specs.States.{State, key_hash}
-use Rattle.machine_core.specs.Beneath.nodes.specs.Levels.{flag_of}
 use Rattle.machine_core.specs.Beneath.proof_straight.specs.Places.{Leads, Leaves, not_two, to_root}
 use Rattle.machine_core.specs.Beneath.proof_straight.specs.Renewals.{is_of_other, with_renewal}
 use Rattle.machine_core.specs.Beneath.proof_straight.specs.Running.{IsKeyed}

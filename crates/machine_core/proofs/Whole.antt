@@ -2,25 +2,13 @@
 use Rattle.std.proofs.Common.{arith, ◌≡◌, ℕ, ◌+◌, ◌-◌, Some, None, refl, sym, ap, subst, ◌∙◌}
 use Rattle.std.specs.Prelude.{option_map}
 use Rattle.std.proofs.lemmas.Option.{none-some, same_Some}
-use Rattle.ctrie_base.specs.declared.kinds.Kind.{Kind}
+use Rattle.machine_core.specs.Vocabulary.{Kind, Reply, Action, Line, Operation, Entrant, Bounds, ended, gone, handle_of, go_denial, went, GoesOn, action_of, kind_of, line_action, State}
+use Rattle.machine_core.specs.Vocabulary.{operation_of, word_at, entrant_of, progress_of, published_by, told_by, told_of, RootWord}
 use Rattle.handle_table.specs.Numbers.{Numbers}
-use Rattle.history.specs.declared.replies.Reply.{Reply}
-use Rattle.machine_model.specs.declared.actions.Action.{Action}
 use Rattle.machine_model.specs.declared.actions.Action.TheVariants as act
-use Rattle.machine_model.specs.declared.lines.Line.{Line}
 use Rattle.machine_model.specs.declared.lines.Line.TheVariants as line
-use Rattle.machine_model.specs.declared.operations.Operation.{Operation}
-use Rattle.machine_model.specs.declared.records.Entrant.{Entrant}
 use Rattle.machine_model.specs.declared.records.Told.TheVariants as told
-use Rattle.machine_model.specs.declared.steps.Bounds.{Bounds}
 use Rattle.machine_model.specs.declared.steps.Outcome.TheVariants as outcome
-use Rattle.machine_model.specs.Acting.{ended, gone}
-use Rattle.machine_model.specs.Calls.{handle_of}
-use Rattle.machine_model.specs.Machine.{go_denial, went}
-use Rattle.machine_model.specs.Moves.{GoesOn}
-use Rattle.machine_model.specs.Operations.{action_of, kind_of, line_action}
-use Rattle.machine_model.specs.States.{State, operation_of, word_at}
-use Rattle.machine_model.specs.Tellings.{entrant_of, progress_of, published_by, told_by, told_of}
 use Rattle.machine_core.specs.Beneath.operate.specs.Places.{answer_of}
 use Rattle.machine_core.specs.Beneath.rdcss_root.specs.Tables.{Table}
 use Rattle.running.specs.Carried.{carried_of, carried_offer}
@@ -28,7 +16,6 @@ use Rattle.running.specs.Places.{line_for}
 use Rattle.running.specs.Taking.{Taken}
 use Rattle.running.proofs.Progress.{progress_is}
 use Rattle.running.specs.Steps.{scene}
-use Rattle.machine_model.specs.declared.roots.RootWord.{RootWord}
 use Rattle.machine_core.specs.Going.{CarriesUnless}
 use Rattle.machine_core.proofs.Allowed.{there_is}
 use Rattle.machine_core.specs.declared.parts.Parts.{Parts}

@@ -2,16 +2,10 @@
 use Rattle.std.proofs.Common.{arith, ◌≡◌, ℕ, ◌+◌, ◌-◌, ◌*◌, ◌≤◌, List, [], length, drop, Option, Some, None, refl, sym, ap, subst, ◌∙◌}
 use Rattle.std.specs.Prelude.{slice_get}
 use Rattle.std.proofs.lemmas.Option.{same_Some}
-use Rattle.slot_arena.specs.Ticking.{TakesUpTo}
-use Rattle.epochs.specs.declared.limbo.Swept.{Swept}
+use Rattle.machine_core.specs.Vocabulary.{TakesUpTo, Swept, Zeroed, limbo_after, newly_zero, freed_by, reclaimer_of, staying, swept_once, Operation, refs_of_operation, State, operation_of}
+use Rattle.machine_core.specs.Vocabulary.{most_slots}
 use Rattle.epochs.specs.declared.limbo.Swept.TheVariants as swept
-use Rattle.epochs.specs.declared.limbo.Zeroed.{Zeroed}
-use Rattle.epochs.specs.Limbo.{limbo_after, newly_zero}
-use Rattle.epochs.specs.Memories.{Memory, freed_by, reclaimer_of, staying}
-use Rattle.epochs.specs.Sweeping.{swept_once}
-use Rattle.machine_model.specs.declared.operations.Operation.{Operation}
-use Rattle.machine_model.specs.Counting.{refs_of_operation}
-use Rattle.machine_model.specs.States.{State, operation_of}
+use Rattle.epochs.specs.Memories.{Memory}
 use Rattle.machine_core.specs.Beneath.proof_operations.proofs.Privates.{privates_short}
 use Rattle.running.specs.Taking.{Taken}
 use Rattle.machine_core.specs.declared.parts.Actor.{Actor}
@@ -27,7 +21,6 @@ use Rattle.proof_core.specs.Work.{NotesUpTo, WorksLittle, WorksUpTo, crossing, h
 use Rattle.proof_core.proofs.Crossing.{sweeping_pays}
 use Rattle.machine_core.proofs.Ends.{left}
 use Rattle.machine_core.proofs.Kept.{operation_there, seat_of}
-use Rattle.slot_arena.specs.Refs.{most_slots}
 
 -- ---- parts of a step
 

@@ -1,7 +1,6 @@
 -- How an actor's operation begins and ends.
 use Rattle.std.specs.Prelude.{◌≡◌, ℕ, [], length, Some, None}
-use Rattle.history.specs.declared.calls.Access.{Access}
-use Rattle.machine_model.specs.Operations.{first_line}
+use Rattle.machine_core.specs.Vocabulary.{Access, first_line}
 use Rattle.epochs.specs.Memories.{Memory}
 use Rattle.machine_core.specs.Beneath.trie_parts.specs.Holding.{KeepsOthers}
 use Rattle.running.specs.Places.{IsSound, call_for, generation_in, line_for}

@@ -1,12 +1,7 @@
 -- How a key is changed where the way down ends.
 use Rattle.std.specs.Prelude.{◌≡◌, ℕ, true, false, Option, Some, None}
-use Rattle.history.specs.declared.calls.Call.{Call}
-use Rattle.history.specs.declared.replies.Reply.{Reply}
-use Rattle.slot_arena.specs.declared.refs.Ref.{Ref}
-use Rattle.machine_model.specs.declared.building.Change.{Change}
-use Rattle.machine_model.specs.declared.building.Change.TheVariants.{Insert, Update}
-use Rattle.machine_model.specs.declared.finding.WhenFound.TheVariants.{Answers, Removes, Sets}
-use Rattle.machine_model.specs.Calls.{absent_reply, inserts, when_found}
+use Rattle.machine_core.specs.Vocabulary.{Call, Reply, Ref, Change, Update, Answers, Removes, Sets, absent_reply, inserts, when_found}
+use Rattle.machine_model.specs.declared.building.Change.TheVariants.{Insert}
 use Rattle.machine_core.specs.declared.changing.Deed.{Deed}
 use Rattle.machine_core.specs.declared.changing.Deed.TheVariants as deed
 use Rattle.machine_core.specs.declared.descending.Entry.{Entry}

@@ -2,9 +2,8 @@
 use Rattle.std.specs.Prelude.{◌≡◌, ◌≢◌, ◌⊎◌, ◌==◌, ℕ, List, [], ◌∷◌, map, All, Contains, Option, Some, None, IsSome, if◌then◌else◌}
 use Rattle.std.specs.List.Sorted.{IsStrictlySortedBy}
 use Rattle.std.specs.Ordering.{nat_cmp}
-use Rattle.ctrie_base.specs.declared.refusals.Refusal.{Refusal}
+use Rattle.machine_core.specs.Vocabulary.{Refusal, State, root_at}
 use Rattle.ctrie_base.specs.declared.refusals.Refusal.TheVariants as refuse
-use Rattle.machine_model.specs.States.{State, root_at}
 use Rattle.machine_core.specs.declared.differing.Difference.{Difference}
 
 -- the difference in one key, which has these values, if they differ

@@ -1,14 +1,8 @@
 -- Where the way down along a key's hash ends, through indirections of the root's generation over decided branches.
 use Rattle.std.specs.Prelude.{◌≡◌, ℕ, ◌<◌, ◌==◌, true, false}
 use Rattle.arrayvec.specs.ArrayVec.{ArrayVec}
-use Rattle.ctrie_base.specs.Paths.{position_of}
-use Rattle.history.specs.declared.calls.Access.{Access}
-use Rattle.slot_arena.specs.declared.nodes.Node.TheVariants.{Branch, Indirection, Single}
+use Rattle.machine_core.specs.Vocabulary.{position_of, Access, Branch, Indirection, Single, Ref, Heap, node_at, main_at, prev_at, entry_at, most_levels, flag_of, has_flag}
 use Rattle.slot_arena.specs.declared.nodes.Prev.TheVariants as prev
-use Rattle.slot_arena.specs.declared.refs.Ref.{Ref}
-use Rattle.slot_arena.specs.Heaps.{Heap, node_at, main_at, prev_at, entry_at}
-use Rattle.machine_model.specs.Contents.{most_levels}
-use Rattle.machine_core.specs.Beneath.nodes.specs.Levels.{flag_of, has_flag}
 use Rattle.machine_core.specs.Beneath.proof_straight.specs.Places.{Leads}
 use Rattle.machine_core.specs.declared.descending.Entry.{Entry}
 use Rattle.machine_core.specs.declared.descending.Entry.TheVariants.{Vacant, Own, Other}

@@ -1,10 +1,6 @@
 -- What is found of a key.
 use Rattle.std.specs.Prelude.{ℕ, Option}
-use Rattle.ctrie_base.specs.Hashes.{hash_of}
-use Rattle.slot_arena.specs.declared.refs.Ref.{Ref}
-use Rattle.slot_arena.specs.Heaps.{node_at, logical_main}
-use Rattle.machine_model.specs.Contents.{most_levels}
-use Rattle.machine_model.specs.States.{State, root_of, word_at}
+use Rattle.machine_core.specs.Vocabulary.{hash_of, Ref, node_at, logical_main, most_levels, State, root_of, word_at}
 use Rattle.machine_core.specs.Beneath.proof_contents.specs.Nodes.Looking as looking
 use Rattle.machine_core.specs.declared.finding.Found.{Found}
 use Rattle.machine_core.specs.declared.finding.Found.TheVariants.{Absent, Has, Below}

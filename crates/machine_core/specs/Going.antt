@@ -1,6 +1,6 @@
 -- A step of an operation in place: what its programs did.
 use Rattle.std.specs.Prelude.{◌≡◌, ℕ, ◌-◌, None}
-use Rattle.ctrie_base.specs.declared.kinds.Kind.{Kind}
+use Rattle.machine_core.specs.Vocabulary.{Kind}
 use Rattle.ctrie_base.specs.declared.kinds.Kind.TheVariants as kind
 use Rattle.epochs.specs.Memories.{Memory}
 use Rattle.machine_core.specs.Beneath.rdcss_root.specs.Tables.{Table}

@@ -1,10 +1,6 @@
 -- What the parts of a machine keep, beside the state that they hold, between steps and in the midst of one.
 use Rattle.std.specs.Prelude.{◌≡◌, ℕ, ◌+◌, List, [], length, slice_get, slice_set, slice_index_or, Some, None}
-use Rattle.ctrie_base.specs.declared.hashes.HashKind.{HashKind}
-use Rattle.machine_model.specs.declared.operations.Operation.{Operation}
-use Rattle.machine_model.specs.declared.roots.Descriptor.{Descriptor}
-use Rattle.machine_model.specs.declared.roots.RootWord.TheVariants.{Offer}
-use Rattle.machine_model.specs.States.{State, handle_limit, operation_of}
+use Rattle.machine_core.specs.Vocabulary.{HashKind, Operation, Descriptor, Offer, State, handle_limit, operation_of}
 use Rattle.machine_core.specs.Beneath.rdcss_root.specs.Tables.{Table, word_in}
 use Rattle.running.specs.Places.{IsSound}
 use Rattle.machine_core.specs.declared.parts.Actor.{Actor}

@@ -1,5 +1,6 @@
 pub mod Beginnings
 pub mod Beneath
+pub mod Vocabulary
 pub mod Changing
 pub mod Comparing
 pub mod Descending

@@ -1,13 +1,8 @@
 -- Two keys whose ways part below: how the way down to both is made.
 use Rattle.std.specs.Prelude.{◌≡◌, ℕ, ◌+◌, ◌<◌, ◌≤◌, List, length}
-use Rattle.history.specs.declared.calls.Call.{Call}
-use Rattle.slot_arena.specs.declared.refs.Ref.{Ref}
-use Rattle.slot_arena.specs.Arenas.{IsLive}
-use Rattle.slot_arena.specs.Heaps.{node_at}
-use Rattle.slot_arena.specs.Refs.{birth_limit}
+use Rattle.machine_core.specs.Vocabulary.{Call, Ref, IsLive, node_at, birth_limit, State}
 use Rattle.epochs.specs.Memories.{Memory}
 use Rattle.machine_model.specs.declared.building.Change.TheVariants as change
-use Rattle.machine_model.specs.States.{State}
 use Rattle.machine_core.specs.Beneath.proof_straight.specs.Changes.{parts_at, with_change, with_pair}
 use Rattle.machine_core.specs.Beneath.proof_straight.specs.Drafts.{Draft}
 use Rattle.machine_core.specs.Beneath.proof_straight.specs.Running.{HasEmptySlots}

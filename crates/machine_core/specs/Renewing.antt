@@ -1,26 +1,15 @@
 -- The way down to a key past indirections of any generation, and what is renewed on it.
 use Rattle.std.specs.Prelude.{◌≡◌, ℕ, suc, ◌+◌, ◌<◌, ◌≤◌, true, List, [], drop, length}
 use Rattle.arrayvec.specs.ArrayVec.{ArrayVec}
-use Rattle.ctrie_base.specs.Paths.{position_of}
-use Rattle.history.specs.declared.calls.Access.TheVariants.{Writable}
-use Rattle.history.specs.declared.calls.Call.{Call}
-use Rattle.slot_arena.specs.declared.nodes.Node.{Node}
-use Rattle.slot_arena.specs.declared.nodes.Node.TheVariants.{Branch, Indirection, Single}
+use Rattle.machine_core.specs.Vocabulary.{position_of, Writable, Call, Node, Branch, Indirection, Single, Ref, AreLive, IsLive, Heap, entries_of, entry_at, generation_at, main_at, node_at, prev_at}
+use Rattle.machine_core.specs.Vocabulary.{key_of, needs_writable, most_levels, FitsKey, State, key_hash, flag_of, has_flag}
 use Rattle.slot_arena.specs.declared.nodes.Prev.TheVariants as prev
-use Rattle.slot_arena.specs.declared.refs.Ref.{Ref}
-use Rattle.slot_arena.specs.Arenas.{AreLive, IsLive}
-use Rattle.slot_arena.specs.Heaps.{Heap, entries_of, entry_at, generation_at, main_at, node_at, prev_at}
 use Rattle.epochs.specs.Memories.{Memory}
-use Rattle.machine_model.specs.Calls.{key_of, needs_writable}
-use Rattle.machine_model.specs.Contents.{most_levels}
-use Rattle.machine_model.specs.Keys.{FitsKey}
 use Rattle.machine_model.specs.declared.steps.Step.TheVariants as step
-use Rattle.machine_model.specs.States.{State, key_hash}
 use Rattle.machine_core.specs.Beneath.proof_straight.specs.Drafts.{first_draft}
 use Rattle.machine_core.specs.Beneath.proof_straight.specs.Places.{Leads}
 use Rattle.machine_core.specs.Beneath.proof_straight.specs.Renewals.{Renewal, renewal_of, renewed_entries, steps_of_renewal, with_renewal}
 use Rattle.machine_core.specs.Beneath.proof_straight.specs.Running.{IsKeyed}
-use Rattle.machine_core.specs.Beneath.nodes.specs.Levels.{flag_of, has_flag}
 use Rattle.machine_core.specs.declared.descending.Onward.{Onward}
 use Rattle.machine_core.specs.declared.descending.Onward.TheVariants.{Below, Here, Barred}
 use Rattle.machine_core.specs.declared.descending.Place.{Place}

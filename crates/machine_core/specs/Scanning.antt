@@ -1,11 +1,7 @@
 -- How far a scan has come, and where its cursor leads.
 use Rattle.std.specs.Prelude.{◌≡◌, ℕ, ◌-◌, ◌*◌, ◌%◌, ◌^◌, ◌++◌, List, length, take, Option, Some, None, ⊤}
 use Rattle.std.specs.List.{filter}
-use Rattle.ctrie_base.specs.Hashes.{hash_of}
-use Rattle.ctrie_base.specs.declared.hashes.HashKind.{HashKind}
-use Rattle.slot_arena.specs.declared.nodes.Node.{Node}
-use Rattle.slot_arena.specs.declared.refs.Ref.{Ref}
-use Rattle.slot_arena.specs.Heaps.{Heap}
+use Rattle.machine_core.specs.Vocabulary.{hash_of, HashKind, Node, Ref, Heap}
 use Rattle.proof_core.specs.Scanning.{IsMainPlaced, IsPlaced, is_behind}
 
 -- what was taken, and then the first of these pairs that are behind the cursor, until there are so many

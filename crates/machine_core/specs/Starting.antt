@@ -1,6 +1,6 @@
 -- Actors of a machine that has taken no step.
 use Rattle.std.specs.Prelude.{◌≡◌, ℕ, List, [], All, length, None}
-use Rattle.ctrie_base.specs.declared.hashes.HashKind.{HashKind}
+use Rattle.machine_core.specs.Vocabulary.{HashKind}
 use Rattle.machine_core.specs.declared.parts.Actor.{Actor}
 
 -- the actor runs nothing

@@ -1,13 +1,6 @@
 -- Calls that are carried out at once.
 use Rattle.std.specs.Prelude.{◌≡◌, ℕ, ◌+◌, ◌*◌, ◌<◌, ◌≤◌, [], length}
-use Rattle.history.specs.declared.calls.Call.{Call}
-use Rattle.history.specs.declared.replies.Reply.{Reply}
-use Rattle.slot_arena.specs.declared.refs.Ref.{Ref}
-use Rattle.slot_arena.specs.Refs.{birth_limit}
-use Rattle.machine_model.specs.declared.roots.RootWord.TheVariants.{Plain}
-use Rattle.machine_model.specs.Calls.{handle_of}
-use Rattle.machine_model.specs.Machine.{longest_life}
-use Rattle.machine_model.specs.States.{State, word_at}
+use Rattle.machine_core.specs.Vocabulary.{Call, Reply, Ref, birth_limit, Plain, handle_of, longest_life, State, word_at}
 use Rattle.machine_core.specs.Beneath.proof_straight.specs.Passing.{Passes}
 use Rattle.machine_core.specs.Beneath.proof_straight.specs.Resting.{IsOfRun}
 use Rattle.machine_core.specs.Beneath.proof_straight.specs.Running.{Comes, IsReady}

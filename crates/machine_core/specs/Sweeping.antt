@@ -1,8 +1,6 @@
 -- The sweep, step by step, as long as something stands in limbo.
 use Rattle.std.specs.Prelude.{◌≡◌, ◌≢◌, ℕ, zero, suc, [], Ok}
-use Rattle.machine_model.specs.declared.steps.Outcome.{Outcome}
-use Rattle.machine_model.specs.declared.steps.Step.TheVariants.{Sweep}
-use Rattle.machine_model.specs.Machine.{next}
+use Rattle.machine_core.specs.Vocabulary.{Outcome, Sweep, next}
 use Rattle.proof_core.specs.Work.{Worked, WorksLittle}
 
 -- so many steps of the sweep lead from one state to the other, each of little work, and limbo isn't empty before any of them

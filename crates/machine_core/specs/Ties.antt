@@ -1,12 +1,7 @@
 -- How the references that the heap counts from outside are tied to root words and private lists.
 use Rattle.std.specs.Prelude.{◌≡◌, ◌+◌, List, flat_map, map, Option}
-use Rattle.slot_arena.specs.declared.refs.Ref.{Ref}
-use Rattle.slot_arena.specs.Times.{times}
+use Rattle.machine_core.specs.Vocabulary.{Ref, times, Operation, Root, refs_of_operation, pin_of}
 use Rattle.epochs.specs.Memories.{Memory}
-use Rattle.machine_model.specs.declared.operations.Operation.{Operation}
-use Rattle.machine_model.specs.declared.roots.Root.{Root}
-use Rattle.machine_model.specs.Counting.{refs_of_operation}
-use Rattle.machine_model.specs.Machine.{pin_of}
 use Rattle.machine_core.specs.Beneath.rdcss_root.specs.Holding.{root_refs}
 
 -- the references in the private lists of running operations

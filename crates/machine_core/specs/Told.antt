@@ -1,17 +1,10 @@
 -- What the steps of a core tell: their outcome, and what the definition tells of them beside it.
 use Rattle.std.specs.Prelude.{◌≡◌, ℕ, Option, option_and_then, Result, Ok, Err}
-use Rattle.ctrie_base.specs.declared.refusals.Refusal.{Refusal}
-use Rattle.history.specs.declared.calls.Call.{Call}
-use Rattle.machine_model.specs.declared.operations.Operation.{Operation}
-use Rattle.machine_model.specs.declared.records.Publication.{Publication}
+use Rattle.machine_core.specs.Vocabulary.{Refusal, Call, Operation, Publication, Outcome, Reply, State, operation_of, published_by, told_in}
 use Rattle.machine_model.specs.declared.records.Told.TheVariants as told
-use Rattle.machine_model.specs.declared.steps.Outcome.{Outcome}
 use Rattle.machine_model.specs.declared.steps.Outcome.TheVariants as outcome
 use Rattle.machine_model.specs.declared.steps.Step.TheVariants as step
-use Rattle.history.specs.declared.replies.Reply.{Reply}
-use Rattle.machine_model.specs.States.{State, operation_of}
 use Rattle.machine_core.specs.Beneath.operate.specs.Places.{answer_of}
-use Rattle.machine_model.specs.Tellings.{published_by, told_in}
 use Rattle.machine_core.specs.declared.telling.Begun.{Begun}
 use Rattle.machine_core.specs.declared.telling.Ended.{Ended}
 use Rattle.machine_core.specs.declared.telling.Stepped.{Stepped}

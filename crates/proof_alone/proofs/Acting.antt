@@ -2,23 +2,9 @@
 use Rattle.std.specs.Prelude.{◌≡◌, ◌≢◌, ◌≤◌, ◌+◌, ℕ, suc, true, List, [], ◌∷◌, ◌++◌, length, replicate, Option}
 use Rattle.std.proofs.Common.{refl, sym, ap, subst, arith, ◌∙◌}
 use Rattle.std.proofs.lemmas.List.{append_assoc}
-use Rattle.proof_alone.specs.Beneath.ctrie_base.specs.Hashes.{hash_of}
-use Rattle.proof_alone.specs.Beneath.history.specs.declared.calls.Call.{Call}
-use Rattle.proof_alone.specs.Beneath.history.specs.declared.calls.Call.TheVariants.{Clear, Close, Count, Entries, Freeze, Snapshot}
-use Rattle.proof_alone.specs.Beneath.history.specs.declared.replies.Reply.{Reply}
-use Rattle.proof_alone.specs.Beneath.history.specs.declared.replies.Reply.TheVariants.{Closed, NoSlots}
-use Rattle.proof_alone.specs.Beneath.history.specs.Effects.{Effect}
-use Rattle.proof_alone.specs.Beneath.history.specs.Worlds.{HandleMap}
-use Rattle.proof_alone.specs.Beneath.slot_arena.specs.Heaps.{Heap}
-use Rattle.proof_alone.specs.Beneath.machine_model.specs.declared.steps.Bounds.{Bounds}
-use Rattle.proof_alone.specs.Beneath.machine_model.specs.declared.steps.Outcome.TheVariants.{Ended}
-use Rattle.proof_alone.specs.Beneath.machine_model.specs.declared.steps.Step.{Step}
-use Rattle.proof_alone.specs.Beneath.machine_model.specs.declared.steps.Step.TheVariants.{Begin, Go}
-use Rattle.proof_alone.specs.Beneath.machine_model.specs.Calls.{is_close}
-use Rattle.proof_alone.specs.Beneath.machine_model.specs.Keys.{KeysFit}
-use Rattle.proof_alone.specs.Beneath.machine_model.specs.Machine.{AreBounds, next, run}
-use Rattle.proof_alone.specs.Beneath.machine_model.specs.Records.{Record, record_of}
-use Rattle.proof_alone.specs.Beneath.machine_model.specs.States.{State}
+use Rattle.proof_alone.specs.Vocabulary.{hash_of, Call, Clear, Close, Count, Entries, Freeze, Snapshot, Reply, Closed, NoSlots, Effect, HandleMap, Heap, Bounds, Ended, Step, Go, is_close, KeysFit}
+use Rattle.proof_alone.specs.Vocabulary.{AreBounds, next, run, Record, record_of, State}
+use Rattle.proof_alone.specs.Beneath.machine_model.specs.declared.steps.Step.TheVariants.{Begin}
 use Rattle.proof_alone.specs.Beneath.machine_model.proofs.Along.{limits_along}
 use Rattle.proof_alone.specs.Beneath.machine_model.proofs.Frames.{steps_counted}
 use Rattle.proof_alone.specs.Beneath.machine_model.proofs.Moves.{moved}

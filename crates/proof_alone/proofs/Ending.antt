@@ -3,22 +3,11 @@ use Rattle.std.specs.Prelude.{◌≡◌, ◌⊎◌, ◌<◌, ◌≤◌, ◌+◌,
 use Rattle.std.proofs.Common.{inl, inr, refl, sym, ap, subst, arith, ◌∙◌}
 use Rattle.std.proofs.lemmas.Bool.{cases_lt}
 use Rattle.std.proofs.lemmas.List.Elements.{All-push}
-use Rattle.proof_alone.specs.Beneath.history.specs.declared.calls.Call.{Call}
-use Rattle.proof_alone.specs.Beneath.history.specs.declared.calls.Call.TheVariants.{Clear, Close, Freeze, Snapshot}
-use Rattle.proof_alone.specs.Beneath.history.specs.declared.replies.Reply.{Reply}
-use Rattle.proof_alone.specs.Beneath.history.specs.declared.replies.Reply.TheVariants.{Closed}
-use Rattle.proof_alone.specs.Beneath.machine_model.specs.declared.operations.Operation.{Operation}
-use Rattle.proof_alone.specs.Beneath.machine_model.specs.declared.steps.Bounds.{Bounds}
-use Rattle.proof_alone.specs.Beneath.machine_model.specs.declared.steps.Outcome.TheVariants.{Began, Ended, Went}
-use Rattle.proof_alone.specs.Beneath.machine_model.specs.declared.steps.Step.{Step}
-use Rattle.proof_alone.specs.Beneath.machine_model.specs.declared.steps.Step.TheVariants.{Begin, Go}
-use Rattle.proof_alone.specs.Beneath.machine_model.specs.Calls.{is_close}
-use Rattle.proof_alone.specs.Beneath.machine_model.specs.Keys.{FitsKey, KeysFit}
-use Rattle.proof_alone.specs.Beneath.machine_model.specs.Machine.{AreBounds, begun_operation, next, run}
-use Rattle.proof_alone.specs.Beneath.machine_model.specs.States.{State, operation_of}
+use Rattle.proof_alone.specs.Vocabulary.{Call, Clear, Close, Freeze, Snapshot, Reply, Closed, Operation, Bounds, Began, Ended, Went, Step, Go, is_close, FitsKey, KeysFit, AreBounds, begun_operation}
+use Rattle.proof_alone.specs.Vocabulary.{next, run, State, operation_of, Heap}
+use Rattle.proof_alone.specs.Beneath.machine_model.specs.declared.steps.Step.TheVariants.{Begin}
 use Rattle.proof_alone.specs.Beneath.machine_model.proofs.Along.{limits_along}
 use Rattle.proof_alone.specs.Beneath.machine_model.proofs.HeapMoves.{begin_heap}
-use Rattle.proof_alone.specs.Beneath.slot_arena.specs.Heaps.{Heap}
 use Rattle.proof_alone.specs.Beneath.proof_memory.proofs.Holding.Sizes.{sizes_stay}
 use Rattle.proof_alone.specs.Beneath.proof_order.specs.Running.{IsSame}
 use Rattle.proof_obstruction_free.specs.Copies.{IsCopying}

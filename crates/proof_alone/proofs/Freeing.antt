@@ -2,11 +2,8 @@
 use Rattle.std.specs.Prelude.{◌≡◌, ◌≢◌, ◌≤◌, ◌+◌, ◌*◌, ℕ, false, [], length}
 use Rattle.std.specs.Prelude.{Ok}
 use Rattle.std.proofs.Common.{sym, ap, ◌∙◌}
-use Rattle.proof_alone.specs.Beneath.machine_model.specs.declared.steps.Bounds.{Bounds}
-use Rattle.proof_alone.specs.Beneath.machine_model.specs.declared.steps.Outcome.{Outcome}
+use Rattle.proof_alone.specs.Vocabulary.{Bounds, Outcome, is_busy, next, State}
 use Rattle.proof_alone.specs.Beneath.machine_model.specs.declared.steps.Step.TheVariants as step
-use Rattle.proof_alone.specs.Beneath.machine_model.specs.Machine.{is_busy, next}
-use Rattle.proof_alone.specs.Beneath.machine_model.specs.States.{State}
 use Rattle.proof_alone.specs.Beneath.machine_model.proofs.Along.{limits_along}
 use Rattle.proof_alone.specs.Beneath.machine_model.proofs.Moves.{moved}
 use Rattle.proof_alone.specs.Beneath.proof_memory.proofs.Holding.Sizes.{sizes_stay}

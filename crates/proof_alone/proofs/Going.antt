@@ -2,17 +2,8 @@
 use Rattle.std.specs.Prelude.{◌≡◌, ◌⊎◌, ◌<◌, ◌≤◌, ◌+◌, ℕ, zero, suc, List, [], ◌∷◌, ◌++◌, Some, Ok}
 use Rattle.std.proofs.Common.{inl, inr, refl, sym, ap, subst, arith, ◌∙◌}
 use Rattle.std.proofs.lemmas.Bool.{cases_lt}
-use Rattle.proof_alone.specs.Beneath.ctrie_base.specs.declared.kinds.Kind.{Kind}
-use Rattle.proof_alone.specs.Beneath.history.specs.declared.calls.Call.{Call}
-use Rattle.proof_alone.specs.Beneath.history.specs.declared.replies.Reply.{Reply}
-use Rattle.proof_alone.specs.Beneath.machine_model.specs.declared.operations.Operation.{Operation}
-use Rattle.proof_alone.specs.Beneath.machine_model.specs.declared.steps.Bounds.{Bounds}
-use Rattle.proof_alone.specs.Beneath.machine_model.specs.declared.steps.Outcome.TheVariants.{Began, Ended, Went}
-use Rattle.proof_alone.specs.Beneath.machine_model.specs.declared.steps.Step.{Step}
-use Rattle.proof_alone.specs.Beneath.machine_model.specs.declared.steps.Step.TheVariants.{Begin, Go}
-use Rattle.proof_alone.specs.Beneath.machine_model.specs.Keys.{FitsKey}
-use Rattle.proof_alone.specs.Beneath.machine_model.specs.Machine.{next, next_state, run, state_after}
-use Rattle.proof_alone.specs.Beneath.machine_model.specs.States.{State, operation_of}
+use Rattle.proof_alone.specs.Vocabulary.{Kind, Call, Reply, Operation, Bounds, Began, Ended, Went, Step, Go, FitsKey, next, next_state, run, state_after, State, operation_of}
+use Rattle.proof_alone.specs.Beneath.machine_model.specs.declared.steps.Step.TheVariants.{Begin}
 use Rattle.proof_alone.specs.Beneath.machine_model.proofs.Frames.{steps_counted}
 use Rattle.proof_alone.specs.Beneath.machine_model.proofs.Moves.{moved}
 use Rattle.proof_alone.specs.Beneath.proof_order.specs.Running.{IsSame}

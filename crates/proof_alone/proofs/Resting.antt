@@ -1,12 +1,8 @@
 -- From rest one actor alone takes steps, and the end of its operation leaves rest.
 use Rattle.std.specs.Prelude.{◌≡◌, ℕ, false}
 use Rattle.std.proofs.Common.{refl}
-use Rattle.proof_alone.specs.Beneath.history.specs.declared.calls.Call.{Call}
-use Rattle.proof_alone.specs.Beneath.history.specs.declared.replies.Reply.{Reply}
-use Rattle.proof_alone.specs.Beneath.machine_model.specs.declared.steps.Outcome.TheVariants.{Ended}
-use Rattle.proof_alone.specs.Beneath.machine_model.specs.declared.steps.Step.TheVariants.{Begin, Go}
-use Rattle.proof_alone.specs.Beneath.machine_model.specs.Machine.{is_busy}
-use Rattle.proof_alone.specs.Beneath.machine_model.specs.States.{State}
+use Rattle.proof_alone.specs.Vocabulary.{Call, Reply, Ended, Go, is_busy, State}
+use Rattle.proof_alone.specs.Beneath.machine_model.specs.declared.steps.Step.TheVariants.{Begin}
 use Rattle.proof_alone.specs.Beneath.proof_commits.proofs.Resting.{OnlyRuns, idle_behind, only_at_rest, rest_if_idle, still_only}
 use Rattle.proof_straight.specs.Running.{Comes, GoesOn, starts, walks}
 

@@ -2,14 +2,7 @@
 use Rattle.std.specs.Prelude.{◌≡◌, List, [], ◌∷◌, ◌++◌, Ok}
 use Rattle.std.proofs.Common.{cond, sym, ap, subst, ◌∙◌}
 use Rattle.std.proofs.lemmas.List.Elements.{All-push}
-use Rattle.proof_alone.specs.Beneath.machine_model.specs.declared.steps.Bounds.{Bounds}
-use Rattle.proof_alone.specs.Beneath.machine_model.specs.declared.steps.Outcome.{Outcome}
-use Rattle.proof_alone.specs.Beneath.machine_model.specs.declared.steps.Step.{Step}
-use Rattle.proof_alone.specs.Beneath.machine_model.specs.Keys.{FitsKey, KeysFit}
-use Rattle.proof_alone.specs.Beneath.machine_model.specs.Machine.{AreBounds, is_taken_step, next, run, state_after}
-use Rattle.proof_alone.specs.Beneath.machine_model.specs.Records.{first_record, noted, record_of}
-use Rattle.proof_alone.specs.Beneath.machine_model.specs.States.{State, first_state}
-use Rattle.proof_alone.specs.Beneath.machine_model.specs.Tellings.{told_in}
+use Rattle.proof_alone.specs.Vocabulary.{Bounds, Outcome, Step, FitsKey, KeysFit, AreBounds, is_taken_step, next, run, state_after, first_record, noted, record_of, State, first_state, told_in}
 use Rattle.proof_alone.specs.Beneath.machine_model.proofs.Along.{limits_along, run_push}
 use Rattle.proof_alone.specs.Beneath.machine_model.proofs.Recorded.{record_push}
 use Rattle.proof_straight.specs.Resting.{IsOfRun}

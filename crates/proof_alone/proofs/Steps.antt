@@ -4,20 +4,10 @@ use Rattle.std.proofs.Common.{get_or, set, refl, sym, ap, subst, arith, ◌∙�
 use Rattle.std.proofs.lemmas.Bool.{true≢false}
 use Rattle.std.proofs.lemmas.List.{get_or-set_same}
 use Rattle.std.proofs.lemmas.Option.{none-some, same_Some}
-use Rattle.proof_alone.specs.Beneath.ctrie_base.specs.declared.kinds.Kind.{Kind}
-use Rattle.proof_alone.specs.Beneath.history.specs.declared.calls.Call.{Call}
-use Rattle.proof_alone.specs.Beneath.history.specs.declared.replies.Reply.{Reply}
-use Rattle.proof_alone.specs.Beneath.history.specs.declared.replies.Reply.TheVariants.{Closed}
-use Rattle.proof_alone.specs.Beneath.machine_model.specs.declared.operations.Operation.{Operation}
-use Rattle.proof_alone.specs.Beneath.machine_model.specs.declared.steps.Outcome.{Outcome}
-use Rattle.proof_alone.specs.Beneath.machine_model.specs.declared.steps.Outcome.TheVariants.{Began, Ended, Went}
-use Rattle.proof_alone.specs.Beneath.machine_model.specs.declared.steps.Step.{Step}
-use Rattle.proof_alone.specs.Beneath.machine_model.specs.declared.steps.Step.TheVariants.{Begin, Go}
-use Rattle.proof_alone.specs.Beneath.machine_model.specs.Acting.{gone, operation_after}
-use Rattle.proof_alone.specs.Beneath.machine_model.specs.Counting.{settled}
-use Rattle.proof_alone.specs.Beneath.machine_model.specs.Machine.{Answer, begin_denial, begin_unless, begun_operation, next, state_after, with_begin}
-use Rattle.proof_alone.specs.Beneath.machine_model.specs.Moves.{Begins, Ends, Goes, Moves, Sweeps}
-use Rattle.proof_alone.specs.Beneath.machine_model.specs.States.{State, operation_of}
+use Rattle.proof_alone.specs.Vocabulary.{Kind, Call, Reply, Closed, Operation, Outcome, Began, Ended, Went, Step, Go, gone, operation_after, settled, Answer, begin_denial, begin_unless}
+use Rattle.proof_alone.specs.Vocabulary.{begun_operation, next, state_after, with_begin, Begins, Ends, Moves, Sweeps, State, operation_of}
+use Rattle.proof_alone.specs.Beneath.machine_model.specs.declared.steps.Step.TheVariants.{Begin}
+use Rattle.proof_alone.specs.Beneath.machine_model.specs.Moves.{Goes}
 use Rattle.proof_alone.specs.Beneath.machine_model.proofs.Actors.{begin_actor, begin_actors, begin_counts, mark_one, marks_by}
 use Rattle.proof_alone.specs.Beneath.machine_model.proofs.Moves.{moved}
 use Rattle.proof_alone.specs.Beneath.proof_commits.proofs.Known.StepsAt.{after_mark, go_own}

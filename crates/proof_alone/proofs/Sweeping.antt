@@ -5,17 +5,7 @@ use Rattle.std.specs.FinMap as map
 use Rattle.std.specs.FinMap.{same_map, nat_cmp-IsAntisymmetric}
 use Rattle.std.proofs.Common.{refl, sym, ap, subst, arith, ◌∙◌}
 use Rattle.std.proofs.Math.Nat.{mul-le-mul_left, mul-suc}
-use Rattle.proof_alone.specs.Beneath.slot_arena.specs.Heaps.{in_use}
-use Rattle.proof_alone.specs.Beneath.machine_model.specs.declared.roots.Root.{Root}
-use Rattle.proof_alone.specs.Beneath.machine_model.specs.declared.steps.Bounds.{Bounds}
-use Rattle.proof_alone.specs.Beneath.machine_model.specs.declared.steps.Outcome.{Outcome}
-use Rattle.proof_alone.specs.Beneath.machine_model.specs.declared.steps.Step.{Step}
-use Rattle.proof_alone.specs.Beneath.machine_model.specs.declared.steps.Step.TheVariants.{Sweep}
-use Rattle.proof_alone.specs.Beneath.machine_model.specs.Contents.{content_at}
-use Rattle.proof_alone.specs.Beneath.machine_model.specs.Machine.{is_busy, next, next_state, run, state_after}
-use Rattle.proof_alone.specs.Beneath.machine_model.specs.Moves.{Ends, Moves}
-use Rattle.proof_alone.specs.Beneath.machine_model.specs.Moves.{Sweeps as SweepsOnce}
-use Rattle.proof_alone.specs.Beneath.machine_model.specs.States.{State, root_at}
+use Rattle.proof_alone.specs.Vocabulary.{in_use, Root, Bounds, Outcome, Step, Sweep, content_at, is_busy, next, next_state, run, state_after, Ends, Moves, Sweeps as SweepsOnce, State, root_at}
 use Rattle.proof_alone.specs.Beneath.machine_model.proofs.Frames.{limits_kept, steps_counted}
 use Rattle.proof_alone.specs.Beneath.machine_model.proofs.Moves.{moved}
 use Rattle.proof_alone.specs.Beneath.machine_model.proofs.Slots.{add_up}

@@ -2,21 +2,11 @@
 use Rattle.std.specs.Prelude.{◌≡◌, ◌<◌, ℕ, zero, suc, List, [], ◌∷◌, ◌++◌, Option, Ok}
 use Rattle.std.proofs.Common.{cond, refl, ap, arith, ◌∙◌}
 use Rattle.std.proofs.lemmas.List.{append-nil, append_assoc}
-use Rattle.proof_alone.specs.Beneath.ctrie_base.specs.declared.kinds.Kind.{Kind}
-use Rattle.proof_alone.specs.Beneath.history.specs.declared.calls.Call.{Call}
-use Rattle.proof_alone.specs.Beneath.history.specs.declared.events.Event.{Event}
+use Rattle.proof_alone.specs.Vocabulary.{Kind, Call, Event, Reply, Bounds, Outcome, Began, Ended, Went, Step, Go, begun_operation, is_taken_step, next, run, Begins, Ends, Moves, Sweeps, Record}
+use Rattle.proof_alone.specs.Vocabulary.{next_record, noted, record_of, State, told_in}
 use Rattle.proof_alone.specs.Beneath.history.specs.declared.events.Event.TheVariants as event
-use Rattle.proof_alone.specs.Beneath.history.specs.declared.replies.Reply.{Reply}
-use Rattle.proof_alone.specs.Beneath.machine_model.specs.declared.steps.Bounds.{Bounds}
-use Rattle.proof_alone.specs.Beneath.machine_model.specs.declared.steps.Outcome.{Outcome}
-use Rattle.proof_alone.specs.Beneath.machine_model.specs.declared.steps.Outcome.TheVariants.{Began, Ended, Went}
-use Rattle.proof_alone.specs.Beneath.machine_model.specs.declared.steps.Step.{Step}
-use Rattle.proof_alone.specs.Beneath.machine_model.specs.declared.steps.Step.TheVariants.{Begin, Go}
-use Rattle.proof_alone.specs.Beneath.machine_model.specs.Machine.{begun_operation, is_taken_step, next, run}
-use Rattle.proof_alone.specs.Beneath.machine_model.specs.Moves.{Begins, Ends, Goes, Moves, Sweeps}
-use Rattle.proof_alone.specs.Beneath.machine_model.specs.Records.{Record, next_record, noted, record_of}
-use Rattle.proof_alone.specs.Beneath.machine_model.specs.States.{State}
-use Rattle.proof_alone.specs.Beneath.machine_model.specs.Tellings.{told_in}
+use Rattle.proof_alone.specs.Beneath.machine_model.specs.declared.steps.Step.TheVariants.{Begin}
+use Rattle.proof_alone.specs.Beneath.machine_model.specs.Moves.{Goes}
 use Rattle.proof_alone.specs.Beneath.machine_model.proofs.Moves.{moved}
 use Rattle.proof_alone.specs.Beneath.machine_model.proofs.Notes.{noted_going}
 use Rattle.proof_alone.specs.Beneath.proof_order.proofs.History.Recalling.{end_event}

@@ -4,20 +4,8 @@ use Rattle.std.proofs.Common.{refl, sym, ap, subst, arith, ◌∙◌}
 use Rattle.std.proofs.lemmas.List.{append_assoc, replicate-append-replicate}
 use Rattle.std.proofs.lemmas.List.Elements.{Contains-push}
 use Rattle.std.proofs.lemmas.Option.{same_Some}
-use Rattle.proof_alone.specs.Beneath.history.specs.declared.calls.Call.{Call}
-use Rattle.proof_alone.specs.Beneath.history.specs.declared.calls.Call.TheVariants.{Clear, Close, Count, Entries, Freeze, Snapshot}
-use Rattle.proof_alone.specs.Beneath.history.specs.declared.replies.Reply.{Reply}
-use Rattle.proof_alone.specs.Beneath.history.specs.declared.replies.Reply.TheVariants.{Closed, NoSlots}
-use Rattle.proof_alone.specs.Beneath.machine_model.specs.declared.operations.Operation.{Operation}
-use Rattle.proof_alone.specs.Beneath.machine_model.specs.declared.steps.Bounds.{Bounds}
-use Rattle.proof_alone.specs.Beneath.machine_model.specs.declared.steps.Outcome.TheVariants.{Ended}
-use Rattle.proof_alone.specs.Beneath.machine_model.specs.declared.steps.Step.{Step}
-use Rattle.proof_alone.specs.Beneath.machine_model.specs.declared.steps.Step.TheVariants.{Go}
-use Rattle.proof_alone.specs.Beneath.machine_model.specs.Calls.{is_close}
-use Rattle.proof_alone.specs.Beneath.machine_model.specs.Keys.{KeysFit}
-use Rattle.proof_alone.specs.Beneath.machine_model.specs.Laws.{FindsNoSlot}
-use Rattle.proof_alone.specs.Beneath.machine_model.specs.Machine.{AreBounds, next, run}
-use Rattle.proof_alone.specs.Beneath.machine_model.specs.States.{State}
+use Rattle.proof_alone.specs.Vocabulary.{Call, Clear, Close, Count, Entries, Freeze, Snapshot, Reply, Closed, NoSlots, Operation, Bounds, Ended, Step, Go, is_close, KeysFit, FindsNoSlot, AreBounds}
+use Rattle.proof_alone.specs.Vocabulary.{next, run, State}
 use Rattle.proof_alone.specs.Beneath.machine_model.proofs.Moves.{ending, moved}
 use Rattle.proof_alone.specs.Beneath.machine_model.proofs.Refusals.{IsRefusal, end_line, first_refusal}
 use Rattle.proof_alone.specs.Beneath.machine_model.proofs.Refused.{refused_alone}

@@ -1,19 +1,7 @@
 -- A call that runs alone from rest, and what it comes to.
 use Rattle.std.specs.Prelude.{◌≡◌, ◌≢◌, ◌⊎◌, ℕ, suc, ◌+◌, ◌<◌, ◌≤◌, ◌^◌, false, length, Option, Some, None, Ok}
-use Rattle.proof_alone.specs.Beneath.ctrie_base.specs.Hashes.{hash_of}
-use Rattle.proof_alone.specs.Beneath.ctrie_base.specs.declared.kinds.Kind.{Kind}
-use Rattle.proof_alone.specs.Beneath.history.specs.declared.calls.Call.{Call}
-use Rattle.proof_alone.specs.Beneath.history.specs.declared.calls.Call.TheVariants.{Clear, Snapshot, Freeze, Close}
-use Rattle.proof_alone.specs.Beneath.history.specs.declared.replies.Reply.{Reply}
-use Rattle.proof_alone.specs.Beneath.history.specs.declared.replies.Reply.TheVariants.{NoSlots}
-use Rattle.proof_alone.specs.Beneath.history.specs.Effects.{Effect}
-use Rattle.proof_alone.specs.Beneath.machine_model.specs.declared.operations.Operation.{Operation}
-use Rattle.proof_alone.specs.Beneath.machine_model.specs.declared.steps.Outcome.TheVariants.{Went, Ended}
-use Rattle.proof_alone.specs.Beneath.machine_model.specs.declared.steps.Step.TheVariants.{Go}
-use Rattle.proof_alone.specs.Beneath.machine_model.specs.Calls.{key_of}
-use Rattle.proof_alone.specs.Beneath.machine_model.specs.Laws.{FindsNoSlot}
-use Rattle.proof_alone.specs.Beneath.machine_model.specs.Machine.{begin_denial, is_busy, next}
-use Rattle.proof_alone.specs.Beneath.machine_model.specs.States.{State, operation_of}
+use Rattle.proof_alone.specs.Vocabulary.{hash_of, Kind, Call, Clear, Snapshot, Freeze, Close, Reply, NoSlots, Effect, Operation, Went, Ended, Go, key_of, FindsNoSlot, begin_denial, is_busy, next}
+use Rattle.proof_alone.specs.Vocabulary.{State, operation_of}
 use Rattle.map_worlds.specs.Worlds.{world_of}
 use Rattle.proof_obstruction_free.specs.Calls.{IsNoWalk, slots_of}
 use Rattle.proof_obstruction_free.specs.Laws.{most_steps_alone}

@@ -1,3 +1,4 @@
 pub mod Beneath
+pub mod Vocabulary
 pub mod Calls
 pub mod Sweeps

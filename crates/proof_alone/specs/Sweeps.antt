@@ -1,10 +1,6 @@
 -- The sweep while nothing runs.
 use Rattle.std.specs.Prelude.{◌≡◌, ◌≢◌, ℕ, zero, suc, ◌+◌, ◌*◌, ◌≤◌, false, [], length, Ok}
-use Rattle.proof_alone.specs.Beneath.slot_arena.specs.Heaps.{in_use}
-use Rattle.proof_alone.specs.Beneath.machine_model.specs.declared.steps.Outcome.{Outcome}
-use Rattle.proof_alone.specs.Beneath.machine_model.specs.declared.steps.Step.TheVariants.{Sweep}
-use Rattle.proof_alone.specs.Beneath.machine_model.specs.Machine.{is_busy, next}
-use Rattle.proof_alone.specs.Beneath.machine_model.specs.States.{State}
+use Rattle.proof_alone.specs.Vocabulary.{in_use, Outcome, Sweep, is_busy, next, State}
 use Rattle.map_worlds.specs.Worlds.{world_of}
 use Rattle.proof_alone.specs.Beneath.proof_memory.specs.Sweeping.{UsesReached, steps_for_a_slot}
 use Rattle.proof_straight.specs.Resting.{IsOfRun}

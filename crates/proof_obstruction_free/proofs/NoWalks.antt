@@ -1,9 +1,7 @@
 -- Calls that walk over no pairs.
 use Rattle.std.specs.Prelude.{◌≡◌, ◌⊎◌, true}
 use Rattle.std.proofs.Common.{inl, inr, refl}
-use Rattle.proof_obstruction_free.specs.Beneath.history.specs.declared.calls.Call.{Call}
-use Rattle.proof_obstruction_free.specs.Beneath.history.specs.declared.calls.Call.TheVariants.{Close, Entries, Count}
-use Rattle.proof_obstruction_free.specs.Beneath.machine_model.specs.Calls.{is_close}
+use Rattle.proof_obstruction_free.specs.Vocabulary.{Call, Close, Entries, Count, is_close}
 use Rattle.proof_obstruction_free.specs.Calls.{IsNoWalk}
 use Rattle.proof_obstruction_free.specs.Laws.{IsOnKeyOrRoot}
 

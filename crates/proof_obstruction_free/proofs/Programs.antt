@@ -1,17 +1,9 @@
 -- COMPLETE, RENEW, CLEAN and CLIMB of an actor that is alone, in steps alone.
 use Rattle.std.proofs.Common.{ℕ, suc, ◌+◌, ◌<◌, ◌≤◌, ◌⊎◌, ◌||◌, Bool, true, false, cond, Option, Some, inl, inr, refl, arith}
 use Rattle.std.proofs.lemmas.Bool.{cases_lt}
-use Rattle.proof_obstruction_free.specs.Beneath.history.specs.declared.replies.Reply.{Reply}
-use Rattle.proof_obstruction_free.specs.Beneath.slot_arena.specs.declared.refs.Ref.{Ref}
+use Rattle.proof_obstruction_free.specs.Vocabulary.{Reply, Ref, Descriptor, handle_of, copied_reply, new_try, current, word_at, is_carried_out}
 use Rattle.proof_obstruction_free.specs.Beneath.machine_model.specs.declared.lines.Line.TheVariants as line
 use Rattle.proof_obstruction_free.specs.Beneath.machine_model.specs.declared.lines.Purpose.TheVariants as purpose
-use Rattle.proof_obstruction_free.specs.Beneath.machine_model.specs.declared.roots.Descriptor.{Descriptor}
-use Rattle.proof_obstruction_free.specs.Beneath.machine_model.specs.Calls.{handle_of}
-use Rattle.proof_obstruction_free.specs.Beneath.machine_model.specs.Copying.{copied_reply}
-use Rattle.proof_obstruction_free.specs.Beneath.machine_model.specs.Lines.{new_try}
-use Rattle.proof_obstruction_free.specs.Beneath.machine_model.specs.Paths.{current}
-use Rattle.proof_obstruction_free.specs.Beneath.machine_model.specs.States.{word_at}
-use Rattle.proof_obstruction_free.specs.Beneath.machine_model.specs.Swapping.{is_carried_out}
 use Rattle.proof_obstruction_free.specs.Beneath.proof_generations.specs.Falling.{renew_path}
 use Rattle.proof_obstruction_free.specs.Alone.{Lone, Stands, word}
 use Rattle.proof_obstruction_free.specs.Machines.{Machines}

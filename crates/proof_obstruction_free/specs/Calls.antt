@@ -1,7 +1,6 @@
 -- Calls that are sure to end where their actor alone takes steps, and the slots that they take.
 use Rattle.std.specs.Prelude.{ℕ}
-use Rattle.proof_obstruction_free.specs.Beneath.history.specs.declared.calls.Call.{Call}
-use Rattle.proof_obstruction_free.specs.Beneath.history.specs.declared.calls.Call.TheVariants.{Clear, Snapshot, Freeze, Close, Entries, Count}
+use Rattle.proof_obstruction_free.specs.Vocabulary.{Call, Clear, Snapshot, Freeze, Close, Entries, Count}
 use Rattle.proof_obstruction_free.specs.Slots.{most_makes_alone, most_steps_of_copies}
 
 -- any call but entries and count, which walk over all pairs

@@ -1,14 +1,6 @@
 -- A close ends with the step after its begin.
 use Rattle.std.specs.Prelude.{◌≡◌, ℕ, ◌<◌, true, List, Some, Ok}
-use Rattle.proof_obstruction_free.specs.Beneath.history.specs.declared.replies.Reply.TheVariants.{Closed}
-use Rattle.proof_obstruction_free.specs.Beneath.machine_model.specs.declared.operations.Operation.{Operation}
-use Rattle.proof_obstruction_free.specs.Beneath.machine_model.specs.declared.steps.Bounds.{Bounds}
-use Rattle.proof_obstruction_free.specs.Beneath.machine_model.specs.declared.steps.Outcome.TheVariants.{Ended}
-use Rattle.proof_obstruction_free.specs.Beneath.machine_model.specs.declared.steps.Step.{Step}
-use Rattle.proof_obstruction_free.specs.Beneath.machine_model.specs.declared.steps.Step.TheVariants.{Go}
-use Rattle.proof_obstruction_free.specs.Beneath.machine_model.specs.Calls.{is_close}
-use Rattle.proof_obstruction_free.specs.Beneath.machine_model.specs.Machine.{next, run}
-use Rattle.proof_obstruction_free.specs.Beneath.machine_model.specs.States.{operation_of}
+use Rattle.proof_obstruction_free.specs.Vocabulary.{Closed, Operation, Bounds, Ended, Step, Go, is_close, next, run, operation_of}
 use Rattle.proof_obstruction_free.specs.Laws.{HasEnded, alone_after, history_after}
 
 -- wherever a close runs, the next step of its actor ends it

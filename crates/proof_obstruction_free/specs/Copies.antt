@@ -1,11 +1,6 @@
 -- A snapshot, a freeze or a clear whose actor alone takes steps.
 use Rattle.std.specs.Prelude.{◌≡◌, ℕ, List}
-use Rattle.proof_obstruction_free.specs.Beneath.history.specs.declared.calls.Call.{Call}
-use Rattle.proof_obstruction_free.specs.Beneath.history.specs.declared.calls.Call.TheVariants.{Clear, Snapshot, Freeze}
-use Rattle.proof_obstruction_free.specs.Beneath.machine_model.specs.declared.operations.Operation.{Operation}
-use Rattle.proof_obstruction_free.specs.Beneath.machine_model.specs.declared.steps.Bounds.{Bounds}
-use Rattle.proof_obstruction_free.specs.Beneath.machine_model.specs.declared.steps.Step.{Step}
-use Rattle.proof_obstruction_free.specs.Beneath.machine_model.specs.Lines.{new_try}
+use Rattle.proof_obstruction_free.specs.Vocabulary.{Call, Clear, Snapshot, Freeze, Operation, Bounds, Step, new_try}
 use Rattle.proof_obstruction_free.specs.Laws.{HasEnded, RunsAlone, alone_after, history_after}
 
 -- a call that offers to swap the root

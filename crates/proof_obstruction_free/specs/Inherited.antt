@@ -1,12 +1,8 @@
 -- A call on one key, where one actor alone takes steps: what the pass that was under way as it was left alone spares the first fresh pass.
 use Rattle.std.specs.Prelude.{◌≡◌, ℕ, suc, ◌+◌, ◌-◌, ◌*◌, ◌<◌, ◌≤◌, List, length, slice_index_or, Some}
-use Rattle.proof_obstruction_free.specs.Beneath.history.specs.declared.calls.Access.TheVariants.{Writable}
-use Rattle.proof_obstruction_free.specs.Beneath.slot_arena.specs.declared.refs.Ref.{Ref}
-use Rattle.proof_obstruction_free.specs.Beneath.slot_arena.specs.Heaps.{no_ref}
+use Rattle.proof_obstruction_free.specs.Vocabulary.{Writable, Ref, no_ref, new_try, current, depth_of}
 use Rattle.proof_obstruction_free.specs.Beneath.machine_model.specs.declared.finding.KeyLine.TheVariants as key
 use Rattle.proof_obstruction_free.specs.Beneath.machine_model.specs.declared.lines.Line.TheVariants as line
-use Rattle.proof_obstruction_free.specs.Beneath.machine_model.specs.Lines.{new_try}
-use Rattle.proof_obstruction_free.specs.Beneath.machine_model.specs.Paths.{current, depth_of}
 use Rattle.proof_obstruction_free.specs.Alone.{Lone, Stands, Has, Keeps, IsCurrent, Within}
 use Rattle.proof_obstruction_free.specs.Bounds.{level_most, tombs_most}
 use Rattle.proof_obstruction_free.specs.Keys.{Chain, IsBottom, IsOf, Leads}

@@ -1,32 +1,14 @@
 -- The programs of a call on one key on a writable handle, where one actor alone takes steps: how many steps each part takes, and what it leaves.
 use Rattle.std.specs.Prelude.{◌≡◌, ℕ, suc, ◌+◌, ◌-◌, ◌*◌, ◌<◌, ◌≤◌, ◌⊎◌, ◌&&◌, Bool, true, false, List, ◌∷◌, ◌++◌, length, slice_index_or, Option, Some, []}
 use Rattle.arrayvec.specs.ArrayVec.{ArrayVec}
-use Rattle.proof_obstruction_free.specs.Beneath.ctrie_base.specs.Hashes.{hash_of}
-use Rattle.proof_obstruction_free.specs.Beneath.ctrie_base.specs.Paths.{position_of}
-use Rattle.proof_obstruction_free.specs.Beneath.history.specs.declared.calls.Call.{Call}
-use Rattle.proof_obstruction_free.specs.Beneath.history.specs.declared.calls.Call.TheVariants.{Clear, Snapshot, Freeze, Close, Entries, Count}
-use Rattle.proof_obstruction_free.specs.Beneath.slot_arena.specs.declared.refs.Ref.{Ref}
-use Rattle.proof_obstruction_free.specs.Beneath.slot_arena.specs.declared.nodes.Node.{Node}
-use Rattle.proof_obstruction_free.specs.Beneath.slot_arena.specs.declared.nodes.Node.TheVariants.{Indirection, Branch, Single, Tomb}
-use Rattle.proof_obstruction_free.specs.Beneath.slot_arena.specs.Heaps.{no_ref, entries_of, bitmap_of}
-use Rattle.proof_obstruction_free.specs.Beneath.nodes.specs.Levels.{has_flag, flag_of}
-use Rattle.proof_obstruction_free.specs.Beneath.machine_model.specs.declared.building.BuildLine.{BuildLine}
+use Rattle.proof_obstruction_free.specs.Vocabulary.{hash_of, position_of, Call, Clear, Snapshot, Freeze, Close, Entries, Count, Ref, Node, Indirection, Branch, Single, Tomb, no_ref, entries_of}
+use Rattle.proof_obstruction_free.specs.Vocabulary.{bitmap_of, has_flag, flag_of, BuildLine, ClimbLine, CleanLine, RenewLine, key_of, going_down, new_try, is_single, current, depth_of}
+use Rattle.proof_obstruction_free.specs.Vocabulary.{is_below_root, reading, swapping, renewed, contracted}
 use Rattle.proof_obstruction_free.specs.Beneath.machine_model.specs.declared.finding.KeyLine.TheVariants as key
 use Rattle.proof_obstruction_free.specs.Beneath.machine_model.specs.declared.lines.Line.TheVariants as line
 use Rattle.proof_obstruction_free.specs.Beneath.machine_model.specs.declared.lines.Purpose.TheVariants as purpose
-use Rattle.proof_obstruction_free.specs.Beneath.machine_model.specs.declared.repairs.ClimbLine.{ClimbLine}
-use Rattle.proof_obstruction_free.specs.Beneath.machine_model.specs.declared.repairs.CleanLine.{CleanLine}
 use Rattle.proof_obstruction_free.specs.Beneath.machine_model.specs.declared.repairs.CleanLine.TheVariants as clean
-use Rattle.proof_obstruction_free.specs.Beneath.machine_model.specs.declared.repairs.RenewLine.{RenewLine}
 use Rattle.proof_obstruction_free.specs.Beneath.machine_model.specs.declared.repairs.RenewLine.TheVariants as renew
-use Rattle.proof_obstruction_free.specs.Beneath.machine_model.specs.Calls.{key_of}
-use Rattle.proof_obstruction_free.specs.Beneath.machine_model.specs.Finding.{going_down}
-use Rattle.proof_obstruction_free.specs.Beneath.machine_model.specs.Lines.{new_try}
-use Rattle.proof_obstruction_free.specs.Beneath.machine_model.specs.Cleaning.{is_single}
-use Rattle.proof_obstruction_free.specs.Beneath.machine_model.specs.Paths.{current, depth_of, is_below_root}
-use Rattle.proof_obstruction_free.specs.Beneath.machine_model.specs.Reading.{reading}
-use Rattle.proof_obstruction_free.specs.Beneath.machine_model.specs.Swapping.{swapping}
-use Rattle.proof_obstruction_free.specs.Beneath.nodes.specs.Builders.{renewed, contracted}
 use Rattle.proof_obstruction_free.specs.Beneath.proof_contents.specs.Lines.Changes.{build_path, main_of_build}
 use Rattle.proof_obstruction_free.specs.Beneath.proof_generations.specs.Falling.{renew_path}
 use Rattle.proof_obstruction_free.specs.Alone.{Lone, Stands, Has, Keeps, WordStays, IsCurrent, Within, node}

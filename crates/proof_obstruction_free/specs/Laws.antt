@@ -1,20 +1,7 @@
 -- Laws of an operation that alone takes steps.
 use Rattle.std.specs.Prelude.{◌≡◌, ℕ, suc, ◌+◌, ◌<◌, ◌≤◌, List, ◌++◌, Contains, replicate, Some, None, Ok}
-use Rattle.proof_obstruction_free.specs.Beneath.ctrie_base.specs.declared.kinds.Kind.{Kind}
-use Rattle.proof_obstruction_free.specs.Beneath.history.specs.declared.calls.Call.{Call}
-use Rattle.proof_obstruction_free.specs.Beneath.history.specs.declared.calls.Call.TheVariants.{Close, Entries, Count}
-use Rattle.proof_obstruction_free.specs.Beneath.history.specs.declared.events.Event.{Event}
-use Rattle.proof_obstruction_free.specs.Beneath.history.specs.declared.events.Event.TheVariants.{End}
-use Rattle.proof_obstruction_free.specs.Beneath.history.specs.declared.replies.Reply.{Reply}
-use Rattle.proof_obstruction_free.specs.Beneath.machine_model.specs.declared.operations.Operation.{Operation}
-use Rattle.proof_obstruction_free.specs.Beneath.machine_model.specs.declared.steps.Bounds.{Bounds}
-use Rattle.proof_obstruction_free.specs.Beneath.machine_model.specs.declared.steps.Outcome.TheVariants.{Went, Ended}
-use Rattle.proof_obstruction_free.specs.Beneath.machine_model.specs.declared.steps.Step.{Step}
-use Rattle.proof_obstruction_free.specs.Beneath.machine_model.specs.declared.steps.Step.TheVariants.{Go}
-use Rattle.proof_obstruction_free.specs.Beneath.machine_model.specs.Keys.{KeysFit}
-use Rattle.proof_obstruction_free.specs.Beneath.machine_model.specs.Machine.{AreBounds, next, run}
-use Rattle.proof_obstruction_free.specs.Beneath.machine_model.specs.Records.{record_of}
-use Rattle.proof_obstruction_free.specs.Beneath.machine_model.specs.States.{State, operation_of}
+use Rattle.proof_obstruction_free.specs.Vocabulary.{Kind, Call, Close, Entries, Count, Event, End, Reply, Operation, Bounds, Went, Ended, Step, Go, KeysFit, AreBounds, next, run, record_of, State}
+use Rattle.proof_obstruction_free.specs.Vocabulary.{operation_of}
 
 -- a call on one key, a snapshot, a freeze or a clear
 abbrev pub IsOnKeyOrRoot : Call → Type 0

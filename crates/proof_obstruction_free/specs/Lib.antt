@@ -1,4 +1,5 @@
 pub mod Beneath
+pub mod Vocabulary
 pub mod Alone
 pub mod Stepping
 pub mod Machines

@@ -1,27 +1,15 @@
 -- The small machines, where one actor alone takes steps: how many steps each takes, and what it leaves.
 use Rattle.std.specs.Prelude.{◌≡◌, ℕ, ◌+◌, ◌*◌, Bool, true, false, Option, Some, nat_eq, if◌then◌else◌}
 use Rattle.std.specs.Option.{option_eq}
-use Rattle.proof_obstruction_free.specs.Beneath.slot_arena.specs.declared.refs.Ref.{Ref}
-use Rattle.proof_obstruction_free.specs.Beneath.machine_model.specs.declared.lines.Line.{Line}
+use Rattle.proof_obstruction_free.specs.Vocabulary.{Ref, Line, Purpose, Operation, After, Gives, ReadLine, Swap, Climb, RootLine, handle_of, climbing, climbed, line_after, generation_from, swapped}
+use Rattle.proof_obstruction_free.specs.Vocabulary.{EmbedsRead, read_after, State, word_at, swapping}
 use Rattle.proof_obstruction_free.specs.Beneath.machine_model.specs.declared.lines.Line.TheVariants as line
-use Rattle.proof_obstruction_free.specs.Beneath.machine_model.specs.declared.lines.Purpose.{Purpose}
-use Rattle.proof_obstruction_free.specs.Beneath.machine_model.specs.declared.operations.Operation.{Operation}
-use Rattle.proof_obstruction_free.specs.Beneath.machine_model.specs.declared.reading.After.{After}
-use Rattle.proof_obstruction_free.specs.Beneath.machine_model.specs.declared.reading.After.TheVariants.{Goes, Gives}
-use Rattle.proof_obstruction_free.specs.Beneath.machine_model.specs.declared.reading.ReadLine.{ReadLine}
+use Rattle.proof_obstruction_free.specs.Beneath.machine_model.specs.declared.reading.After.TheVariants.{Goes}
 use Rattle.proof_obstruction_free.specs.Beneath.machine_model.specs.declared.reading.ReadLine.TheVariants as read
-use Rattle.proof_obstruction_free.specs.Beneath.machine_model.specs.declared.reading.Swap.{Swap}
 use Rattle.proof_obstruction_free.specs.Beneath.machine_model.specs.declared.reading.SwapLine.TheVariants as swap
-use Rattle.proof_obstruction_free.specs.Beneath.machine_model.specs.declared.repairs.Climb.{Climb}
 use Rattle.proof_obstruction_free.specs.Beneath.machine_model.specs.declared.repairs.ClimbLine.TheVariants as climb
-use Rattle.proof_obstruction_free.specs.Beneath.machine_model.specs.declared.roots.RootLine.{RootLine}
 use Rattle.proof_obstruction_free.specs.Beneath.machine_model.specs.declared.roots.RootLine.TheVariants as root
-use Rattle.proof_obstruction_free.specs.Beneath.machine_model.specs.Calls.{handle_of}
-use Rattle.proof_obstruction_free.specs.Beneath.machine_model.specs.Climbing.{climbing, climbed}
-use Rattle.proof_obstruction_free.specs.Beneath.machine_model.specs.Operations.{line_after, generation_from, from_root, swapped, EmbedsRead}
-use Rattle.proof_obstruction_free.specs.Beneath.machine_model.specs.Reading.{read_after}
-use Rattle.proof_obstruction_free.specs.Beneath.machine_model.specs.States.{State, word_at}
-use Rattle.proof_obstruction_free.specs.Beneath.machine_model.specs.Swapping.{swapping}
+use Rattle.proof_obstruction_free.specs.Beneath.machine_model.specs.Operations.{from_root}
 use Rattle.proof_obstruction_free.specs.Alone.{Lone, Stands, Has, Keeps, KeepsBut, WordStays, IsPlain, IsCurrent, Within, node, generation}
 
 -- ---- lines that hold a READ

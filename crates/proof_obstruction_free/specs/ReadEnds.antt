@@ -1,8 +1,6 @@
 -- READ, where one actor alone takes steps, in steps alone.
 use Rattle.std.specs.Prelude.{ℕ, ◌+◌, ◌≤◌, Option}
-use Rattle.proof_obstruction_free.specs.Beneath.slot_arena.specs.declared.refs.Ref.{Ref}
-use Rattle.proof_obstruction_free.specs.Beneath.machine_model.specs.declared.lines.Line.{Line}
-use Rattle.proof_obstruction_free.specs.Beneath.machine_model.specs.declared.reading.ReadLine.{ReadLine}
+use Rattle.proof_obstruction_free.specs.Vocabulary.{Ref, Line, ReadLine}
 use Rattle.proof_obstruction_free.specs.Beneath.machine_model.specs.declared.reading.ReadLine.TheVariants as read
 use Rattle.proof_obstruction_free.specs.Alone.{Lone, Stands, Has}
 use Rattle.proof_obstruction_free.specs.Machines.{HoldsRead}

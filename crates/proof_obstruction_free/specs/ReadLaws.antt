@@ -1,13 +1,7 @@
 -- Laws of a READ of an operation that alone takes steps.
 use Rattle.std.specs.Prelude.{◌≡◌, ℕ, ◌≤◌, List, Some}
-use Rattle.proof_obstruction_free.specs.Beneath.slot_arena.specs.declared.refs.Ref.{Ref}
-use Rattle.proof_obstruction_free.specs.Beneath.machine_model.specs.declared.operations.Operation.{Operation}
-use Rattle.proof_obstruction_free.specs.Beneath.machine_model.specs.declared.reading.Read.{Read}
+use Rattle.proof_obstruction_free.specs.Vocabulary.{Ref, Operation, Read, Bounds, Step, read_of, State, operation_of}
 use Rattle.proof_obstruction_free.specs.Beneath.machine_model.specs.declared.reading.ReadLine.TheVariants as read
-use Rattle.proof_obstruction_free.specs.Beneath.machine_model.specs.declared.steps.Bounds.{Bounds}
-use Rattle.proof_obstruction_free.specs.Beneath.machine_model.specs.declared.steps.Step.{Step}
-use Rattle.proof_obstruction_free.specs.Beneath.machine_model.specs.Operations.{read_of}
-use Rattle.proof_obstruction_free.specs.Beneath.machine_model.specs.States.{State, operation_of}
 use Rattle.proof_obstruction_free.specs.Laws.{RunsAlone, alone_after}
 use Rattle.proof_obstruction_free.specs.ReadEnds.{read_steps, read_steps_left}
 

@@ -1,9 +1,6 @@
 -- A call on one key on a read-only handle, whose actor alone takes steps.
 use Rattle.std.specs.Prelude.{◌≡◌, ℕ, List}
-use Rattle.proof_obstruction_free.specs.Beneath.history.specs.declared.calls.Access.TheVariants.{ReadOnly}
-use Rattle.proof_obstruction_free.specs.Beneath.machine_model.specs.declared.operations.Operation.{Operation}
-use Rattle.proof_obstruction_free.specs.Beneath.machine_model.specs.declared.steps.Bounds.{Bounds}
-use Rattle.proof_obstruction_free.specs.Beneath.machine_model.specs.declared.steps.Step.{Step}
+use Rattle.proof_obstruction_free.specs.Vocabulary.{ReadOnly, Operation, Bounds, Step}
 use Rattle.proof_obstruction_free.specs.Keys.{IsOnKey}
 use Rattle.proof_obstruction_free.specs.Laws.{HasEnded, RunsAlone, alone_after, history_after}
 

@@ -1,16 +1,9 @@
 -- The lines of a change of one key in a pass that was under way when its actor was left alone: each comes to a new try, or the operation ends.
 use Rattle.std.specs.Prelude.{ℕ, ◌+◌, ◌*◌, List, Option, slice_index_or}
-use Rattle.proof_obstruction_free.specs.Beneath.slot_arena.specs.declared.refs.Ref.{Ref}
-use Rattle.proof_obstruction_free.specs.Beneath.slot_arena.specs.Heaps.{no_ref, entries_of}
-use Rattle.proof_obstruction_free.specs.Beneath.machine_model.specs.declared.building.BuildLine.{BuildLine}
+use Rattle.proof_obstruction_free.specs.Vocabulary.{Ref, no_ref, entries_of, BuildLine, Operation, Swap, Climb, absent, new_try}
 use Rattle.proof_obstruction_free.specs.Beneath.machine_model.specs.declared.finding.KeyLine.TheVariants as key
 use Rattle.proof_obstruction_free.specs.Beneath.machine_model.specs.declared.lines.Line.TheVariants as line
 use Rattle.proof_obstruction_free.specs.Beneath.machine_model.specs.declared.lines.Purpose.TheVariants as purpose
-use Rattle.proof_obstruction_free.specs.Beneath.machine_model.specs.declared.operations.Operation.{Operation}
-use Rattle.proof_obstruction_free.specs.Beneath.machine_model.specs.declared.reading.Swap.{Swap}
-use Rattle.proof_obstruction_free.specs.Beneath.machine_model.specs.declared.repairs.Climb.{Climb}
-use Rattle.proof_obstruction_free.specs.Beneath.machine_model.specs.Finding.{absent}
-use Rattle.proof_obstruction_free.specs.Beneath.machine_model.specs.Lines.{new_try}
 use Rattle.proof_obstruction_free.specs.Alone.{Lone, Stands, Within, node}
 use Rattle.proof_obstruction_free.specs.Keys.{IsOf}
 

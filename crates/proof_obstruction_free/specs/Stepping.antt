@@ -1,15 +1,8 @@
 -- One step of an actor that is alone: what it leaves, and what it finds.
 use Rattle.std.specs.Prelude.{◌≡◌, ℕ, suc, ◌<◌, ◌≤◌, false, Option, Some}
-use Rattle.proof_obstruction_free.specs.Beneath.history.specs.declared.replies.Reply.{Reply}
-use Rattle.proof_obstruction_free.specs.Beneath.slot_arena.specs.declared.refs.Ref.{Ref}
-use Rattle.proof_obstruction_free.specs.Beneath.slot_arena.specs.declared.nodes.Node.{Node}
-use Rattle.proof_obstruction_free.specs.Beneath.slot_arena.specs.declared.nodes.Node.TheVariants.{Indirection}
-use Rattle.proof_obstruction_free.specs.Beneath.slot_arena.specs.Heaps.{node_at, next_ref}
-use Rattle.proof_obstruction_free.specs.Beneath.machine_model.specs.declared.actions.Action.{Action}
+use Rattle.proof_obstruction_free.specs.Vocabulary.{Reply, Ref, Node, Indirection, node_at, next_ref, Action, Line, line_action, line_after, generation_from}
 use Rattle.proof_obstruction_free.specs.Beneath.machine_model.specs.declared.actions.Action.TheVariants as act
-use Rattle.proof_obstruction_free.specs.Beneath.machine_model.specs.declared.lines.Line.{Line}
 use Rattle.proof_obstruction_free.specs.Beneath.machine_model.specs.declared.lines.Line.TheVariants as line
-use Rattle.proof_obstruction_free.specs.Beneath.machine_model.specs.Operations.{line_action, line_after, generation_from}
 use Rattle.proof_obstruction_free.specs.Beneath.proof_memory.specs.Laws.{IsInUse}
 use Rattle.proof_obstruction_free.specs.Beneath.proof_memory.specs.Wants.{AllHold, is_indirection, line_wants}
 use Rattle.proof_obstruction_free.specs.Alone.{Lone, Stands, Keeps, IsQuiet, word, node}

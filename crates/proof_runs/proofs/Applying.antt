@@ -1,16 +1,7 @@
 -- What the laws say of a step that was asked for, be it taken or refused.
 use Rattle.std.proofs.Common.{◌≡◌, ◌⊎◌, ◌+◌, ◌≤◌, List, ◌++◌, Result, Ok, Err, OnOk, sym, ap, subst, inl, inr, arith}
-use Rattle.proof_runs.specs.Beneath.ctrie_base.specs.declared.refusals.Refusal.{Refusal}
+use Rattle.proof_runs.specs.Vocabulary.{Refusal, birth_of, Ref, Bounds, Outcome, Step, KeysFit, bounded, AreBounds, next, run, state_after, State, first_state}
 use Rattle.proof_runs.specs.Beneath.ctrie_base.specs.declared.refusals.Refusal.TheVariants as refuse
-use Rattle.proof_runs.specs.Beneath.slot_arena.specs.Refs.{birth_of}
-use Rattle.proof_runs.specs.Beneath.slot_arena.specs.declared.refs.Ref.{Ref}
-use Rattle.proof_runs.specs.Beneath.machine_model.specs.declared.steps.Bounds.{Bounds}
-use Rattle.proof_runs.specs.Beneath.machine_model.specs.declared.steps.Outcome.{Outcome}
-use Rattle.proof_runs.specs.Beneath.machine_model.specs.declared.steps.Step.{Step}
-use Rattle.proof_runs.specs.Beneath.machine_model.specs.Keys.{KeysFit}
-use Rattle.proof_runs.specs.Beneath.machine_model.specs.Limits.{bounded}
-use Rattle.proof_runs.specs.Beneath.machine_model.specs.Machine.{AreBounds, next, run, state_after}
-use Rattle.proof_runs.specs.Beneath.machine_model.specs.States.{State, first_state}
 use Rattle.proof_runs.specs.Beneath.machine_model.proofs.Along.{run-append}
 use Rattle.proof_runs.specs.Beneath.machine_model.proofs.Moves.{moved}
 use Rattle.proof_memory.specs.Laws.{IsInUse, HeldInUse, StandingInUse, FreedLate}

@@ -1,13 +1,9 @@
 -- A call that begins and goes on.
 use Rattle.std.specs.Prelude.{◌≡◌, ℕ, Option, Some, None, Result, Ok, Err}
 use Rattle.std.proofs.Common.{refl, subst, arith, inl, inr}
-use Rattle.proof_runs.specs.Beneath.ctrie_base.specs.declared.refusals.Refusal.{Refusal}
+use Rattle.proof_runs.specs.Vocabulary.{Refusal, Call, Reply, State, next, begin_denial, begin_unless}
 use Rattle.proof_runs.specs.Beneath.ctrie_base.specs.declared.refusals.Refusal.TheVariants as refuse
-use Rattle.proof_runs.specs.Beneath.history.specs.declared.calls.Call.{Call}
-use Rattle.proof_runs.specs.Beneath.history.specs.declared.replies.Reply.{Reply}
 use Rattle.proof_runs.specs.Beneath.machine_model.specs.declared.steps.Step.TheVariants.{Begin}
-use Rattle.proof_runs.specs.Beneath.machine_model.specs.States.{State}
-use Rattle.proof_runs.specs.Beneath.machine_model.specs.Machine.{next, begin_denial, begin_unless}
 use Rattle.proof_runs.specs.Machines.{Taken, state_of, Applied}
 use Rattle.proof_runs.specs.Callers.{Stepped, Resumes, Completes}
 

@@ -3,27 +3,11 @@ use Rattle.std.specs.Prelude.{◌≢◌, ◌⊎◌, true, length}
 use Rattle.std.proofs.Common.{◌≡◌, ℕ, zero, suc, ◌+◌, ◌<◌, ◌≤◌, List, ◌∷◌, [], ◌++◌, replicate, Option, Some, None, Result, Ok, Err, OnOk, inl, inr, refl, sym, ap, subst, ◌∙◌, append_assoc, arith}
 use Rattle.std.proofs.lemmas.Bool.{cases_lt}
 use Rattle.std.proofs.lemmas.List.{append-nil, replicate-append-replicate}
-use Rattle.proof_runs.specs.Beneath.ctrie_base.specs.declared.refusals.Refusal.{Refusal}
+use Rattle.proof_runs.specs.Vocabulary.{Refusal, Call, Clear, Snapshot, Freeze, Close, Reply, Closed, NoSlots, is_close, Operation, Bounds, Step, Outcome, FitsKey, KeysFit, begun_operation, settled}
+use Rattle.proof_runs.specs.Vocabulary.{go_limit, AreLimits, bounded, Answer, next, begin_denial, begin_unless, run, with_begin, Record, State, operation_of, new_try}
 use Rattle.proof_runs.specs.Beneath.ctrie_base.specs.declared.refusals.Refusal.TheVariants as refuse
-use Rattle.proof_runs.specs.Beneath.history.specs.declared.calls.Call.{Call}
-use Rattle.proof_runs.specs.Beneath.history.specs.declared.calls.Call.TheVariants.{Clear, Snapshot, Freeze, Close}
-use Rattle.proof_runs.specs.Beneath.history.specs.declared.replies.Reply.{Reply}
-use Rattle.proof_runs.specs.Beneath.history.specs.declared.replies.Reply.TheVariants.{Closed, NoSlots}
-use Rattle.proof_runs.specs.Beneath.machine_model.specs.Calls.{is_close}
-use Rattle.proof_runs.specs.Beneath.machine_model.specs.declared.operations.Operation.{Operation}
-use Rattle.proof_runs.specs.Beneath.machine_model.specs.declared.steps.Bounds.{Bounds}
-use Rattle.proof_runs.specs.Beneath.machine_model.specs.declared.steps.Step.{Step}
 use Rattle.proof_runs.specs.Beneath.machine_model.specs.declared.steps.Step.TheVariants as step
-use Rattle.proof_runs.specs.Beneath.machine_model.specs.declared.steps.Outcome.{Outcome}
 use Rattle.proof_runs.specs.Beneath.machine_model.specs.declared.steps.Outcome.TheVariants as outcome
-use Rattle.proof_runs.specs.Beneath.machine_model.specs.Keys.{FitsKey, KeysFit}
-use Rattle.proof_runs.specs.Beneath.machine_model.specs.Moves.{begun_operation}
-use Rattle.proof_runs.specs.Beneath.machine_model.specs.Counting.{settled}
-use Rattle.proof_runs.specs.Beneath.machine_model.specs.Going.{go_limit}
-use Rattle.proof_runs.specs.Beneath.machine_model.specs.Limits.{AreLimits, bounded}
-use Rattle.proof_runs.specs.Beneath.machine_model.specs.Machine.{Answer, next, begin_denial, begin_unless, run, with_begin}
-use Rattle.proof_runs.specs.Beneath.machine_model.specs.Records.{Record}
-use Rattle.proof_runs.specs.Beneath.machine_model.specs.States.{State, operation_of}
 use Rattle.proof_runs.specs.Beneath.proof_commits.proofs.Known.StepsAt.{begin_own}
 use Rattle.proof_runs.specs.Beneath.machine_model.proofs.Along.{limits_along}
 use Rattle.proof_runs.specs.Beneath.machine_model.proofs.HeapMoves.{begin_heap}
@@ -38,7 +22,6 @@ use Rattle.proof_obstruction_free.specs.Slots.{EnoughForCopies, EnoughForTries}
 use Rattle.proof_runs.specs.Beneath.proof_commits.proofs.Resting.{idle_behind}
 use Rattle.proof_obstruction_free.proofs.NoWalks.{of_no_walk}
 use Rattle.proof_obstruction_free.proofs.Slots.AtBegin.{tries_first}
-use Rattle.proof_runs.specs.Beneath.machine_model.specs.Lines.{new_try}
 use Rattle.proof_runs.specs.Machines.{Taken, past_of, state_of, with_step, Applied, IsTaken}
 use Rattle.proof_runs.specs.Callers.{after_go, going_on, Resumes, Completes, CompletesUnless}
 use Rattle.proof_runs.specs.Ending.{EndsIfSure, EndsIn, IsAnswer, IsNearer, IsSure}

@@ -3,12 +3,8 @@ use Rattle.std.specs.Prelude.{◌≡◌, ◌≤◌, ◌+◌, ◌*◌, ℕ, zero,
 use Rattle.std.specs.Prelude.{Result, Ok, Err}
 use Rattle.std.proofs.Common.{refl, sym, ap, subst, arith, ◌∙◌}
 use Rattle.std.proofs.Math.Nat.{mul-suc}
-use Rattle.proof_runs.specs.Beneath.ctrie_base.specs.declared.refusals.Refusal.{Refusal}
-use Rattle.proof_runs.specs.Beneath.machine_model.specs.declared.steps.Limits.{Limits}
+use Rattle.proof_runs.specs.Vocabulary.{Refusal, Limits, bounded, AreBounds, is_busy, next, State}
 use Rattle.proof_runs.specs.Beneath.machine_model.specs.declared.steps.Step.TheVariants as step
-use Rattle.proof_runs.specs.Beneath.machine_model.specs.Limits.{bounded}
-use Rattle.proof_runs.specs.Beneath.machine_model.specs.Machine.{AreBounds, is_busy, next}
-use Rattle.proof_runs.specs.Beneath.machine_model.specs.States.{State}
 use Rattle.proof_runs.specs.Beneath.machine_model.proofs.Moves.{moved}
 use Rattle.proof_memory.proofs.Holding.Sizes.{sizes_stay}
 use Rattle.proof_memory.proofs.Limbo.Epochs.{limbo_lies}

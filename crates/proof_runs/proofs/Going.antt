@@ -1,16 +1,10 @@
 -- Steps of an operation, one after the other.
 use Rattle.std.specs.Prelude.{◌≡◌, ◌<◌, ◌≤◌, ◌+◌, ◌-◌, ℕ, zero, suc, List, [], ◌∷◌, ◌++◌, Option, Some, None, Result, Ok, Err}
 use Rattle.std.proofs.Common.{refl, sym, ap, subst, append-nil, append_assoc, arith, zero-add, ◌∙◌}
-use Rattle.proof_runs.specs.Beneath.ctrie_base.specs.declared.refusals.Refusal.{Refusal}
+use Rattle.proof_runs.specs.Vocabulary.{Refusal, Reply, Step, Go, Outcome, Answer, next, denial_of, go_limit}
 use Rattle.proof_runs.specs.Beneath.ctrie_base.specs.declared.refusals.Refusal.TheVariants as refuse
-use Rattle.proof_runs.specs.Beneath.history.specs.declared.replies.Reply.{Reply}
-use Rattle.proof_runs.specs.Beneath.machine_model.specs.declared.steps.Step.{Step}
-use Rattle.proof_runs.specs.Beneath.machine_model.specs.declared.steps.Step.TheVariants.{Go}
-use Rattle.proof_runs.specs.Beneath.machine_model.specs.declared.steps.Outcome.{Outcome}
 use Rattle.proof_runs.specs.Beneath.machine_model.specs.declared.steps.Outcome.TheVariants as outcome
-use Rattle.proof_runs.specs.Beneath.machine_model.specs.Machine.{Answer, next, denial_of}
 use Rattle.proof_runs.specs.Machines.{Taken, state_of, with_step, Applied}
-use Rattle.proof_runs.specs.Beneath.machine_model.specs.Going.{go_limit}
 use Rattle.proof_runs.specs.Callers.{Going, after_outcome, after_go, going_on, Replies, Resumes}
 
 -- what goes on after this outcome leads on

@@ -6,26 +6,10 @@ use Rattle.std.proofs.Common.{refl, sym, ap, subst, ◌∙◌, inl, inr, arith}
 use Rattle.std.proofs.lemmas.List.Elements.{All-contains, Contains-push}
 use Rattle.std.proofs.lemmas.Option.{same_Some}
 use Rattle.std.specs.declared.alloc.Global.{Global}
-use Rattle.proof_runs.specs.Beneath.ctrie_base.specs.declared.refusals.Refusal.{Refusal}
-use Rattle.proof_runs.specs.Beneath.ctrie_base.specs.declared.refusals.Refusal.TheVariants.{NoHandle}
-use Rattle.proof_runs.specs.Beneath.history.specs.declared.calls.Access.TheVariants.{Writable}
-use Rattle.proof_runs.specs.Beneath.history.specs.declared.calls.Call.{Call}
-use Rattle.proof_runs.specs.Beneath.history.specs.declared.replies.Reply.{Reply}
-use Rattle.proof_runs.specs.Beneath.history.specs.declared.replies.Reply.TheVariants.{NoSlots}
-use Rattle.proof_runs.specs.Beneath.history.specs.Worlds.{HandleState}
-use Rattle.proof_runs.specs.Beneath.machine_model.specs.declared.roots.Root.{Root}
-use Rattle.proof_runs.specs.Beneath.machine_model.specs.declared.steps.Limits.{Limits}
-use Rattle.proof_runs.specs.Beneath.machine_model.specs.declared.steps.Outcome.{Outcome}
+use Rattle.proof_runs.specs.Vocabulary.{Refusal, NoHandle, Writable, Call, Reply, NoSlots, HandleState, Root, Limits, Outcome, State, first_state, root_at, order_of, content_at, FitsKey, KeysFit}
+use Rattle.proof_runs.specs.Vocabulary.{AreLimits, bounded, next, access_of, begin_denial, begin_unless, is_access, is_busy, state_after, go_limit, RefusesContent}
 use Rattle.proof_runs.specs.Beneath.machine_model.specs.declared.steps.Step.TheVariants as step
-use Rattle.proof_runs.specs.Beneath.machine_model.specs.States.{State, first_state, root_at}
-use Rattle.proof_runs.specs.Beneath.machine_model.specs.Records.{order_of}
-use Rattle.proof_runs.specs.Beneath.machine_model.specs.Contents.{content_at}
-use Rattle.proof_runs.specs.Beneath.machine_model.specs.Keys.{FitsKey, KeysFit}
-use Rattle.proof_runs.specs.Beneath.machine_model.specs.Limits.{AreLimits, bounded}
-use Rattle.proof_runs.specs.Beneath.machine_model.specs.Machine.{next, access_of, begin_denial, begin_unless, is_access, is_busy, state_after}
-use Rattle.proof_runs.specs.Beneath.machine_model.specs.Going.{go_limit}
 use Rattle.proof_runs.specs.Beneath.machine_model.proofs.Along.{run_push}
-use Rattle.proof_runs.specs.Beneath.machine_model.specs.Refusing.{RefusesContent}
 use Rattle.proof_runs.specs.Beneath.proof_order.specs.Laws.Orders.{Names, IsExplained}
 use Rattle.proof_linearizable.proofs.Legal.{fit_in_front}
 use Rattle.proof_linearizable.specs.Laws.{AloneItActs, RanAlone}

@@ -2,20 +2,12 @@
 use Rattle.std.specs.Prelude.{◌≡◌, ℕ, zero, suc, Bool, true, false, is_some, Result, Ok, Err, OnOk}
 use Rattle.std.specs.List.{list_any}
 use Rattle.std.proofs.Common.{refl, sym, ap, subst, ◌∙◌}
-use Rattle.proof_runs.specs.Beneath.ctrie_base.specs.declared.refusals.Refusal.{Refusal}
-use Rattle.proof_runs.specs.Beneath.ctrie_base.specs.declared.refusals.Refusal.TheVariants.{Busy}
-use Rattle.proof_runs.specs.Beneath.machine_model.specs.declared.steps.Step.TheVariants.{Sweep}
-use Rattle.proof_runs.specs.Beneath.machine_model.specs.States.{State, first_state, root_at}
-use Rattle.proof_runs.specs.Beneath.machine_model.specs.Limits.{bounded}
-use Rattle.proof_runs.specs.Beneath.machine_model.specs.Machine.{AreBounds, Answer, next, next_state, state_after, is_busy}
+use Rattle.proof_runs.specs.Vocabulary.{Refusal, Busy, Sweep, State, first_state, root_at, bounded, AreBounds, Answer, next, next_state, state_after, is_busy, Sweeps, MovesIfTaken, content_at}
+use Rattle.proof_runs.specs.Vocabulary.{first_record, order_of}
 use Rattle.proof_runs.specs.Beneath.machine_model.proofs.Along.{run_push}
 use Rattle.proof_runs.specs.Beneath.machine_model.proofs.Moves.{moves}
-use Rattle.proof_runs.specs.Beneath.machine_model.specs.Moves.{Sweeps}
-use Rattle.proof_runs.specs.Beneath.machine_model.specs.Moves.{MovesIfTaken}
 use Rattle.proof_memory.specs.Laws.{SweepLeaves}
 use Rattle.proof_runs.specs.Beneath.machine_model.proofs.Recorded.{record_push}
-use Rattle.proof_runs.specs.Beneath.machine_model.specs.Contents.{content_at}
-use Rattle.proof_runs.specs.Beneath.machine_model.specs.Records.{first_record, order_of}
 use Rattle.proof_runs.specs.Machines.{Taken, past_of, state_of, with_step}
 use Rattle.proof_runs.specs.Callers.{swept, Reclaims, ReclaimsUnless}
 use Rattle.proof_runs.specs.Reclaiming.{LooksSame}

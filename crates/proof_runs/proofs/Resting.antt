@@ -1,15 +1,10 @@
 -- A machine at rest, and one in which a single actor takes steps from there.
 use Rattle.std.specs.Prelude.{◌≡◌, ℕ, zero, suc, false, Option, Some, None, Ok, Err}
 use Rattle.std.proofs.Common.{refl, sym, ap, subst, ◌∙◌}
-use Rattle.proof_runs.specs.Beneath.ctrie_base.specs.declared.refusals.Refusal.{Refusal}
+use Rattle.proof_runs.specs.Vocabulary.{Refusal, Reply, Operation, Outcome, Answer, next, go_denial, go_on, go_unless, is_busy, State, operation_of}
 use Rattle.proof_runs.specs.Beneath.ctrie_base.specs.declared.refusals.Refusal.TheVariants as refuse
-use Rattle.proof_runs.specs.Beneath.history.specs.declared.replies.Reply.{Reply}
-use Rattle.proof_runs.specs.Beneath.machine_model.specs.declared.operations.Operation.{Operation}
-use Rattle.proof_runs.specs.Beneath.machine_model.specs.declared.steps.Outcome.{Outcome}
 use Rattle.proof_runs.specs.Beneath.machine_model.specs.declared.steps.Outcome.TheVariants as outcome
 use Rattle.proof_runs.specs.Beneath.machine_model.specs.declared.steps.Step.TheVariants as step
-use Rattle.proof_runs.specs.Beneath.machine_model.specs.Machine.{Answer, next, go_denial, go_on, go_unless, is_busy}
-use Rattle.proof_runs.specs.Beneath.machine_model.specs.States.{State, operation_of}
 use Rattle.proof_runs.specs.Machines.{Taken, state_of, with_step}
 use Rattle.proof_runs.specs.Callers.{after_go, after_outcome, going_on}
 use Rattle.proof_runs.specs.Beneath.proof_commits.proofs.Resting.{OnlyRuns, idle_behind, none_at, rest_if_idle, still_only}

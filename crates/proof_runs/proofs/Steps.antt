@@ -2,15 +2,8 @@
 use Rattle.std.specs.Prelude.{◌≡◌, List, [], ◌∷◌, ◌++◌, Ok}
 use Rattle.std.proofs.lemmas.List.Elements.{All-push}
 use Rattle.std.proofs.Common.{refl, sym, ap, subst}
-use Rattle.proof_runs.specs.Beneath.machine_model.specs.declared.steps.Bounds.{Bounds}
-use Rattle.proof_runs.specs.Beneath.machine_model.specs.declared.steps.Limits.{Limits}
-use Rattle.proof_runs.specs.Beneath.machine_model.specs.declared.steps.Step.{Step}
-use Rattle.proof_runs.specs.Beneath.machine_model.specs.declared.steps.Outcome.{Outcome}
-use Rattle.proof_runs.specs.Beneath.machine_model.specs.States.{State, first_state}
-use Rattle.proof_runs.specs.Beneath.machine_model.specs.Limits.{bounded}
-use Rattle.proof_runs.specs.Beneath.machine_model.specs.Machine.{next, run}
+use Rattle.proof_runs.specs.Vocabulary.{Bounds, Limits, Step, Outcome, State, first_state, bounded, next, run, FitsKey, KeysFit}
 use Rattle.proof_runs.specs.Beneath.machine_model.proofs.Along.{run_push}
-use Rattle.proof_runs.specs.Beneath.machine_model.specs.Keys.{FitsKey, KeysFit}
 use Rattle.proof_runs.specs.Machines.{IsTaken, AreTaken}
 
 -- the run with the step leads to the state after it

@@ -3,14 +3,8 @@ use Rattle.std.specs.Prelude.{◌≡◌, ◌<◌, ◌+◌, ◌^◌, ℕ, zero, s
 use Rattle.std.proofs.Common.{refl, sym, ap, subst, arith, ◌∙◌}
 use Rattle.std.proofs.lemmas.Bool.{false≢true}
 use borrow.Author.Count.{below_more}
-use Rattle.proof_runs.specs.Beneath.ctrie_base.specs.declared.refusals.Refusal.{Refusal}
+use Rattle.proof_runs.specs.Vocabulary.{Refusal, Sweep, Outcome, Bounds, bounded, State, Answer, next, denial_of, is_busy, is_spent, is_taken_step}
 use Rattle.proof_runs.specs.Beneath.ctrie_base.specs.declared.refusals.Refusal.TheVariants as refuse
-use Rattle.proof_runs.specs.Beneath.machine_model.specs.declared.steps.Step.TheVariants.{Sweep}
-use Rattle.proof_runs.specs.Beneath.machine_model.specs.declared.steps.Outcome.{Outcome}
-use Rattle.proof_runs.specs.Beneath.machine_model.specs.declared.steps.Bounds.{Bounds}
-use Rattle.proof_runs.specs.Beneath.machine_model.specs.Limits.{bounded}
-use Rattle.proof_runs.specs.Beneath.machine_model.specs.States.{State}
-use Rattle.proof_runs.specs.Beneath.machine_model.specs.Machine.{Answer, next, denial_of, is_busy, is_spent, is_taken_step}
 use Rattle.proof_runs.specs.Beneath.machine_model.proofs.Along.{limits_along}
 use Rattle.proof_runs.specs.Beneath.machine_model.proofs.Moves.{moved}
 use Rattle.proof_runs.specs.Beneath.machine_model.proofs.Frames.{steps_counted}

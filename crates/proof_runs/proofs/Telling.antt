@@ -3,29 +3,15 @@ use Rattle.std.specs.Prelude.{◌≡◌, ℕ, zero, suc, List, [], ◌∷◌, �
 use Rattle.std.proofs.Common.{cond, refl, sym, ap, subst, ◌∙◌, inl, inr, append-nil, arith}
 use Rattle.std.proofs.lemmas.List.{append_assoc}
 use Rattle.std.proofs.lemmas.Option.{same_Some}
-use Rattle.proof_runs.specs.Beneath.ctrie_base.specs.declared.refusals.Refusal.{Refusal}
-use Rattle.proof_runs.specs.Beneath.history.specs.declared.calls.Call.{Call}
-use Rattle.proof_runs.specs.Beneath.history.specs.declared.events.Event.{Event}
-use Rattle.proof_runs.specs.Beneath.history.specs.declared.events.Event.TheVariants.{Begin, End}
-use Rattle.proof_runs.specs.Beneath.history.specs.declared.replies.Reply.{Reply}
-use Rattle.proof_runs.specs.Beneath.history.specs.Histories.{BeginsAt, HasEnded}
-use Rattle.proof_runs.specs.Beneath.machine_model.specs.declared.operations.Operation.{Operation}
-use Rattle.proof_runs.specs.Beneath.machine_model.specs.declared.steps.Step.{Step}
+use Rattle.proof_runs.specs.Vocabulary.{Refusal, Call, Event, End, Reply, BeginsAt, HasEnded, Operation, Step, Outcome, State, first_state, operation_of, gone, settled, bounded, Answer}
+use Rattle.proof_runs.specs.Vocabulary.{is_taken_step, next, state_after, Record, first_record, noted, told_in, Begins, Ends, Sweeps, Moves, begun_operation}
+use Rattle.proof_runs.specs.Beneath.history.specs.declared.events.Event.TheVariants.{Begin}
 use Rattle.proof_runs.specs.Beneath.machine_model.specs.declared.steps.Step.TheVariants as step
-use Rattle.proof_runs.specs.Beneath.machine_model.specs.declared.steps.Outcome.{Outcome}
-use Rattle.proof_runs.specs.Beneath.machine_model.specs.States.{State, first_state, operation_of}
-use Rattle.proof_runs.specs.Beneath.machine_model.specs.Acting.{gone}
-use Rattle.proof_runs.specs.Beneath.machine_model.specs.Counting.{settled}
-use Rattle.proof_runs.specs.Beneath.machine_model.specs.Limits.{bounded}
-use Rattle.proof_runs.specs.Beneath.machine_model.specs.Machine.{Answer, is_taken_step, next, state_after}
-use Rattle.proof_runs.specs.Beneath.machine_model.specs.Records.{Record, first_record, noted}
-use Rattle.proof_runs.specs.Beneath.machine_model.specs.Tellings.{told_in}
 use Rattle.proof_runs.specs.Beneath.machine_model.proofs.Along.{run_push}
 use Rattle.proof_runs.specs.Beneath.machine_model.proofs.Notes.{noted_going}
 use Rattle.proof_runs.specs.Beneath.machine_model.proofs.Recorded.{record_push}
 use Rattle.proof_runs.specs.Beneath.machine_model.proofs.Moves.{moved}
-use Rattle.proof_runs.specs.Beneath.machine_model.specs.Moves.{Begins, Goes, Ends, Sweeps}
-use Rattle.proof_runs.specs.Beneath.machine_model.specs.Moves.{Moves, begun_operation}
+use Rattle.proof_runs.specs.Beneath.machine_model.specs.Moves.{Goes}
 use Rattle.proof_runs.specs.Beneath.proof_generations.proofs.Handles.Running.{place_of_actor}
 use Rattle.proof_runs.specs.Beneath.proof_order.proofs.History.Running.{runs_on}
 use Rattle.proof_runs.specs.Beneath.proof_order.proofs.History.Books.{Books, ended_below}

@@ -1,15 +1,8 @@
 -- Calls that take many steps.
 use Rattle.std.specs.Prelude.{◌≡◌, ◌<◌, ◌⊎◌, ℕ, zero, suc, [], true, Bool, false, Option, Some, None, Result, Ok, Err}
-use Rattle.proof_runs.specs.Beneath.ctrie_base.specs.declared.refusals.Refusal.{Refusal}
-use Rattle.proof_runs.specs.Beneath.ctrie_base.specs.declared.refusals.Refusal.TheVariants.{Memory, Busy, Spent}
-use Rattle.proof_runs.specs.Beneath.history.specs.declared.calls.Call.{Call}
-use Rattle.proof_runs.specs.Beneath.history.specs.declared.replies.Reply.{Reply}
-use Rattle.proof_runs.specs.Beneath.machine_model.specs.declared.steps.Step.{Step}
-use Rattle.proof_runs.specs.Beneath.machine_model.specs.declared.steps.Step.TheVariants.{Begin, Go, Sweep}
-use Rattle.proof_runs.specs.Beneath.machine_model.specs.declared.steps.Outcome.{Outcome}
-use Rattle.proof_runs.specs.Beneath.machine_model.specs.declared.steps.Outcome.TheVariants.{Ended}
-use Rattle.proof_runs.specs.Beneath.machine_model.specs.Going.{go_limit}
-use Rattle.proof_runs.specs.Beneath.machine_model.specs.Machine.{Answer, next, denial_of, is_busy, is_spent}
+use Rattle.proof_runs.specs.Vocabulary.{Refusal, Busy, Spent, Call, Reply, Step, Go, Sweep, Outcome, Ended, go_limit, Answer, next, denial_of, is_busy, is_spent}
+use Rattle.proof_runs.specs.Beneath.ctrie_base.specs.declared.refusals.Refusal.TheVariants.{Memory}
+use Rattle.proof_runs.specs.Beneath.machine_model.specs.declared.steps.Step.TheVariants.{Begin}
 use Rattle.proof_runs.specs.Machines.{Taken, state_of, with_step, IsTaken, Applied}
 
 -- the same as of a step of which just the refusal is told

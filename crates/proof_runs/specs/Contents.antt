@@ -1,6 +1,5 @@
 -- What a step does to the contents of the open handles.
-use Rattle.proof_runs.specs.Beneath.machine_model.specs.declared.steps.Step.{Step}
-use Rattle.proof_runs.specs.Beneath.machine_model.specs.Limits.{bounded}
+use Rattle.proof_runs.specs.Vocabulary.{Step, bounded}
 use Rattle.proof_runs.specs.Beneath.proof_updates.specs.Laws.Handles.{UntouchedStay, UpdatesChange, RepairsStay, ClearsEmpty, ClosesTake, OpenedCopy}
 use Rattle.proof_runs.specs.Machines.{Taken, state_of}
 

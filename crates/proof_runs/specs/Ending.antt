@@ -1,15 +1,7 @@
 -- Operations and calls that are sure to end where their actor alone takes steps.
 use Rattle.std.specs.Prelude.{◌≡◌, ◌≢◌, ℕ, zero, suc, ◌+◌, ◌≤◌, ◌⊎◌, length, Option, Some, None, Result, Ok, Err}
-use Rattle.proof_runs.specs.Beneath.ctrie_base.specs.declared.refusals.Refusal.{Refusal}
+use Rattle.proof_runs.specs.Vocabulary.{Refusal, Call, Reply, NoSlots, Operation, Step, Go, begin_denial, State, operation_of}
 use Rattle.proof_runs.specs.Beneath.ctrie_base.specs.declared.refusals.Refusal.TheVariants.{Memory}
-use Rattle.proof_runs.specs.Beneath.history.specs.declared.calls.Call.{Call}
-use Rattle.proof_runs.specs.Beneath.history.specs.declared.replies.Reply.{Reply}
-use Rattle.proof_runs.specs.Beneath.history.specs.declared.replies.Reply.TheVariants.{NoSlots}
-use Rattle.proof_runs.specs.Beneath.machine_model.specs.declared.operations.Operation.{Operation}
-use Rattle.proof_runs.specs.Beneath.machine_model.specs.declared.steps.Step.{Step}
-use Rattle.proof_runs.specs.Beneath.machine_model.specs.declared.steps.Step.TheVariants.{Go}
-use Rattle.proof_runs.specs.Beneath.machine_model.specs.Machine.{begin_denial}
-use Rattle.proof_runs.specs.Beneath.machine_model.specs.States.{State, operation_of}
 use Rattle.proof_obstruction_free.specs.Calls.{IsNoWalk, slots_of}
 use Rattle.proof_obstruction_free.specs.Laws.{most_steps_alone}
 use Rattle.proof_runs.specs.Machines.{Taken, state_of, with_step, IsTaken}

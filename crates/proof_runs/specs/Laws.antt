@@ -1,11 +1,6 @@
 -- What the steps of a machine add to its record, for every list of steps.
 use Rattle.std.specs.Prelude.{◌≡◌, ◌+◌, ◌≤◌, List, All, length, ◌++◌, ◌∷◌, []}
-use Rattle.proof_runs.specs.Beneath.slot_arena.specs.declared.refs.Ref.{Ref}
-use Rattle.proof_runs.specs.Beneath.slot_arena.specs.Refs.{slot_of}
-use Rattle.proof_runs.specs.Beneath.machine_model.specs.declared.steps.Bounds.{Bounds}
-use Rattle.proof_runs.specs.Beneath.machine_model.specs.declared.steps.Step.{Step}
-use Rattle.proof_runs.specs.Beneath.machine_model.specs.Machine.{AreBounds, run}
-use Rattle.proof_runs.specs.Beneath.machine_model.specs.Records.{record_of}
+use Rattle.proof_runs.specs.Vocabulary.{Ref, slot_of, Bounds, Step, AreBounds, run, record_of}
 use Rattle.proof_memory.specs.Laws.{IsInUse}
 
 -- a step adds at most one place

@@ -1,16 +1,7 @@
 -- What contracts see of a machine, and what a step does to it.
 use Rattle.std.specs.Prelude.{◌≡◌, ℕ, true, List, [], ◌∷◌, ◌++◌, Contains, None, Result, Ok, Err}
-use Rattle.proof_runs.specs.Beneath.ctrie_base.specs.declared.refusals.Refusal.{Refusal}
+use Rattle.proof_runs.specs.Vocabulary.{Refusal, Limits, Step, Go, Outcome, State, bounded, next, denial_of, is_taken_step, run, Record, record_of, FindsNoSlot}
 use Rattle.proof_runs.specs.Beneath.ctrie_base.specs.declared.refusals.Refusal.TheVariants.{Memory}
-use Rattle.proof_runs.specs.Beneath.machine_model.specs.declared.steps.Limits.{Limits}
-use Rattle.proof_runs.specs.Beneath.machine_model.specs.declared.steps.Step.{Step}
-use Rattle.proof_runs.specs.Beneath.machine_model.specs.declared.steps.Step.TheVariants.{Go}
-use Rattle.proof_runs.specs.Beneath.machine_model.specs.declared.steps.Outcome.{Outcome}
-use Rattle.proof_runs.specs.Beneath.machine_model.specs.States.{State}
-use Rattle.proof_runs.specs.Beneath.machine_model.specs.Limits.{bounded}
-use Rattle.proof_runs.specs.Beneath.machine_model.specs.Machine.{next, denial_of, is_taken_step, run}
-use Rattle.proof_runs.specs.Beneath.machine_model.specs.Records.{Record, record_of}
-use Rattle.proof_runs.specs.Beneath.machine_model.specs.Laws.{FindsNoSlot}
 
 -- a machine: its limits, and the steps that it has taken
 pub record Taken : Type 0 where

@@ -1,15 +1,6 @@
 -- What a machine's memory is like, and what a step does to it.
 use Rattle.std.specs.Prelude.{◌≡◌, ℕ, ◌+◌, ◌≤◌, List, ◌++◌, Contains, Some}
-use Rattle.proof_runs.specs.Beneath.slot_arena.specs.declared.refs.Ref.{Ref}
-use Rattle.proof_runs.specs.Beneath.slot_arena.specs.Heaps.{stored, refs_of_slot}
-use Rattle.proof_runs.specs.Beneath.machine_model.specs.declared.operations.Operation.{Operation}
-use Rattle.proof_runs.specs.Beneath.machine_model.specs.declared.steps.Step.{Step}
-use Rattle.proof_runs.specs.Beneath.machine_model.specs.declared.steps.Step.TheVariants.{Sweep}
-use Rattle.proof_runs.specs.Beneath.machine_model.specs.Contents.{held}
-use Rattle.proof_runs.specs.Beneath.machine_model.specs.Counting.{refs_of_root}
-use Rattle.proof_runs.specs.Beneath.machine_model.specs.Limits.{bounded}
-use Rattle.proof_runs.specs.Beneath.machine_model.specs.Machine.{run}
-use Rattle.proof_runs.specs.Beneath.machine_model.specs.States.{root_at, operation_of}
+use Rattle.proof_runs.specs.Vocabulary.{Ref, stored, refs_of_slot, Operation, Step, Sweep, held, refs_of_root, bounded, run, root_at, operation_of}
 use Rattle.proof_memory.specs.Laws.{IsInUse, IsZero}
 use Rattle.proof_runs.specs.Machines.{Taken, state_of}
 

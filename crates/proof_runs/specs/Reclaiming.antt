@@ -1,10 +1,6 @@
 -- What the sweep leaves.
 use Rattle.std.specs.Prelude.{◌≡◌, ◌≤◌, ◌+◌, ◌*◌, ℕ, length, Some, Result, Ok, Err}
-use Rattle.proof_runs.specs.Beneath.ctrie_base.specs.declared.refusals.Refusal.{Refusal}
-use Rattle.proof_runs.specs.Beneath.machine_model.specs.declared.roots.Root.{Root}
-use Rattle.proof_runs.specs.Beneath.machine_model.specs.States.{root_at}
-use Rattle.proof_runs.specs.Beneath.machine_model.specs.Records.{order_of}
-use Rattle.proof_runs.specs.Beneath.machine_model.specs.Contents.{content_at}
+use Rattle.proof_runs.specs.Vocabulary.{Refusal, Root, root_at, order_of, content_at}
 use Rattle.proof_memory.specs.Sweeping.{steps_for_a_slot}
 use Rattle.proof_runs.specs.Machines.{Taken, past_of, state_of}
 

@@ -1,12 +1,6 @@
 -- What the steps of a run tell is what its record asks for.
 use Rattle.std.specs.Prelude.{◌≡◌, ℕ, ◌≤◌, true, List, Some}
-use Rattle.proof_runs.specs.Beneath.machine_model.specs.declared.operations.Operation.{Operation}
-use Rattle.proof_runs.specs.Beneath.machine_model.specs.declared.steps.Bounds.{Bounds}
-use Rattle.proof_runs.specs.Beneath.machine_model.specs.declared.steps.Step.{Step}
-use Rattle.proof_runs.specs.Beneath.machine_model.specs.Machine.{AreBounds, is_actor, run}
-use Rattle.proof_runs.specs.Beneath.machine_model.specs.Records.{record_of}
-use Rattle.proof_runs.specs.Beneath.machine_model.specs.States.{State, operation_of}
-use Rattle.proof_runs.specs.Beneath.machine_model.specs.Tellings.{progress_of}
+use Rattle.proof_runs.specs.Vocabulary.{Operation, Bounds, Step, AreBounds, is_actor, run, record_of, State, operation_of, progress_of}
 use Rattle.chronicle.specs.Chronicled.{Chronicled, CanBegin, CanEnd, CanGo}
 
 -- what is kept is the record of the run on these steps, with room for each of its slots and generations

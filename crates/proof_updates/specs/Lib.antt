@@ -1,4 +1,5 @@
 pub mod Beneath
+pub mod Vocabulary
 pub mod Paths
 pub mod Updates
 pub mod Laws

@@ -1,15 +1,9 @@
 -- What actions do to root words, case by case.
 use Rattle.std.specs.Prelude.{◌≡◌, ◌==◌, ℕ, Bool, true, false, Option, Some, None, slice_set, slice_index_or, if◌then◌else◌}
 use Rattle.std.proofs.Common.{arith, refl, sym, ap, ◌∙◌}
-use Rattle.rdcss_root.specs.Beneath.slot_arena.specs.declared.refs.Ref.{Ref}
+use Rattle.rdcss_root.specs.Vocabulary.{Ref, Descriptor, RootWord, Plain, Offer, State, word_at, word_of, rewritten, with_word, stands_in, is_plain, if_changed, carried_out, opened, opened_root}
+use Rattle.rdcss_root.specs.Vocabulary.{new_root_taken, next_ref}
 use Rattle.rdcss_root.specs.Beneath.machine_model.specs.declared.actions.Action.TheVariants as act
-use Rattle.rdcss_root.specs.Beneath.machine_model.specs.declared.roots.Descriptor.{Descriptor}
-use Rattle.rdcss_root.specs.Beneath.machine_model.specs.declared.roots.RootWord.{RootWord}
-use Rattle.rdcss_root.specs.Beneath.machine_model.specs.declared.roots.RootWord.TheVariants.{Plain, Offer}
-use Rattle.rdcss_root.specs.Beneath.machine_model.specs.States.{State, word_at, word_of, rewritten, with_word}
-use Rattle.rdcss_root.specs.Beneath.machine_model.specs.Swapping.{stands_in, is_plain}
-use Rattle.rdcss_root.specs.Beneath.machine_model.specs.Acting.{if_changed, carried_out, opened, opened_root, new_root_taken}
-use Rattle.rdcss_root.specs.Beneath.slot_arena.specs.Heaps.{next_ref}
 use Rattle.rdcss_root.specs.Tables.{Table, ActsOnTable, word_in, with_word_in, opened_in, carried_out_in}
 
 either : (b c : Bool) (s t : State) (u v : Table) → b ≡ c → s.roots ≡ u.roots → t.roots ≡ v.roots → (if_changed b s t).roots ≡ (if_changed c u v).roots

@@ -1,16 +1,9 @@
 -- A READ inside of COMPLETE.
 use Rattle.std.specs.Prelude.{◌≡◌, Some, None}
 use Rattle.std.proofs.Common.{arith, refl, sym, ap, subst, ◌∙◌}
-use Rattle.rdcss_root.specs.Beneath.ctrie_base.specs.declared.kinds.Kind.{Kind}
-use Rattle.rdcss_root.specs.Beneath.history.specs.declared.calls.Access.{Access}
-use Rattle.rdcss_root.specs.Beneath.slot_arena.specs.declared.refs.Ref.{Ref}
-use Rattle.rdcss_root.specs.Beneath.slot_arena.specs.Heaps.{Heap}
+use Rattle.rdcss_root.specs.Vocabulary.{Kind, Access, Ref, Heap, ReadLine, Descriptor, RootWord, of_offer, after_reading}
 use Rattle.rdcss_root.specs.Beneath.machine_model.specs.declared.reading.After.TheVariants.{Goes}
-use Rattle.rdcss_root.specs.Beneath.machine_model.specs.declared.reading.ReadLine.{ReadLine}
 use Rattle.rdcss_root.specs.Beneath.machine_model.specs.declared.roots.CompleteLine.TheVariants as complete
-use Rattle.rdcss_root.specs.Beneath.machine_model.specs.declared.roots.Descriptor.{Descriptor}
-use Rattle.rdcss_root.specs.Beneath.machine_model.specs.declared.roots.RootWord.{RootWord}
-use Rattle.rdcss_root.specs.Beneath.machine_model.specs.Swapping.{of_offer, after_reading}
 use Rattle.rdcss_root.specs.Beneath.gcas.specs.declared.next.Next.{Next}
 use Rattle.rdcss_root.specs.Beneath.gcas.specs.declared.next.Next.TheVariants.{More, Done}
 use Rattle.rdcss_root.specs.Beneath.gcas.specs.declared.read.Read.{Read}

@@ -2,9 +2,7 @@
 use Rattle.std.specs.Prelude.{◌≡◌, ℕ, ◌+◌, ◌<◌, ◌≤◌, List, length}
 use Rattle.std.proofs.Common.{arith, ◌∙◌, refl, ap, get_or}
 use Rattle.std.proofs.lemmas.List.Elements.{All-get_or}
-use Rattle.rdcss_root.specs.Beneath.slot_arena.specs.declared.refs.Ref.{Ref}
-use Rattle.rdcss_root.specs.Beneath.slot_arena.specs.Heaps.{Heap}
-use Rattle.rdcss_root.specs.Beneath.slot_arena.specs.Arenas.{is_live, IsLive, AreLive}
+use Rattle.rdcss_root.specs.Vocabulary.{Ref, Heap, is_live, IsLive, AreLive}
 use Rattle.rdcss_root.specs.Beneath.epochs.specs.Memories.{Memory}
 use Rattle.rdcss_root.specs.Holding.{KeepsMemory}
 

@@ -5,17 +5,9 @@ use Rattle.std.proofs.Common.{arith, rules, ◌∙◌, refl, sym, ap, subst}
 use Rattle.std.proofs.lemmas.List.{set_past}
 use Rattle.std.proofs.lemmas.List.Concat.{flat_map-cons}
 use Rattle.std.proofs.lemmas.List.Sums.{sum_by-set, sum_by-cons}
-use Rattle.rdcss_root.specs.Beneath.slot_arena.specs.declared.refs.Ref.{Ref}
-use Rattle.rdcss_root.specs.Beneath.slot_arena.specs.Times.{times}
+use Rattle.rdcss_root.specs.Vocabulary.{Ref, times, Heap, refs_of_option, AreLive, Root, RootWord, Plain, Offer, refs_of_root, refs_of_word, rewritten}
 use Rattle.rdcss_root.specs.Beneath.slot_arena.proofs.Times.{times-append, times_le}
-use Rattle.rdcss_root.specs.Beneath.slot_arena.specs.Heaps.{Heap, refs_of_option}
-use Rattle.rdcss_root.specs.Beneath.slot_arena.specs.Arenas.{AreLive}
 use Rattle.rdcss_root.specs.Beneath.epochs.specs.Memories.{Memory}
-use Rattle.rdcss_root.specs.Beneath.machine_model.specs.declared.roots.Root.{Root}
-use Rattle.rdcss_root.specs.Beneath.machine_model.specs.declared.roots.RootWord.{RootWord}
-use Rattle.rdcss_root.specs.Beneath.machine_model.specs.declared.roots.RootWord.TheVariants.{Plain, Offer}
-use Rattle.rdcss_root.specs.Beneath.machine_model.specs.Counting.{refs_of_root, refs_of_word}
-use Rattle.rdcss_root.specs.Beneath.machine_model.specs.States.{rewritten}
 use Rattle.trie_parts.specs.Holding.{AreHeld}
 use Rattle.rdcss_root.specs.Holding.{HoldsMore, Releases, IsReady, Moves}
 use Rattle.rdcss_root.proofs.Keeping.{kept, kept_on}

@@ -1,17 +1,9 @@
 -- What a step does to the private list and to the root words together, where it leaves one of them alone.
 use Rattle.std.specs.Prelude.{◌≡◌, List, Option, refl}
 use Rattle.std.proofs.Common.{arith, ap, ◌∙◌}
-use Rattle.rdcss_root.specs.Beneath.ctrie_base.specs.declared.hashes.HashKind.TheVariants.{Low}
-use Rattle.rdcss_root.specs.Beneath.slot_arena.specs.declared.refs.Ref.{Ref}
-use Rattle.rdcss_root.specs.Beneath.slot_arena.specs.Arenas.{is_live}
-use Rattle.rdcss_root.specs.Beneath.slot_arena.specs.Times.{times}
+use Rattle.rdcss_root.specs.Vocabulary.{Low, Ref, is_live, times, Action, ReadLine, Descriptor, Root, read_action}
 use Rattle.rdcss_root.specs.Beneath.epochs.specs.Memories.{Memory}
-use Rattle.rdcss_root.specs.Beneath.machine_model.specs.declared.actions.Action.{Action}
 use Rattle.rdcss_root.specs.Beneath.machine_model.specs.declared.actions.Action.TheVariants as act
-use Rattle.rdcss_root.specs.Beneath.machine_model.specs.declared.reading.ReadLine.{ReadLine}
-use Rattle.rdcss_root.specs.Beneath.machine_model.specs.declared.roots.Descriptor.{Descriptor}
-use Rattle.rdcss_root.specs.Beneath.machine_model.specs.declared.roots.Root.{Root}
-use Rattle.rdcss_root.specs.Beneath.machine_model.specs.Reading.{read_action}
 use Rattle.rdcss_root.specs.Beneath.gcas.specs.Acted.{acted_heap}
 use Rattle.rdcss_root.specs.Beneath.gcas.specs.Kept.{KeepsBeside}
 use Rattle.trie_parts.specs.Here.{at_heap, no_state}

@@ -1,14 +1,7 @@
 -- What a step does to the heap, to a private list and to the root words together.
 use Rattle.std.specs.Prelude.{◌≡◌, ◌+◌, ◌≤◌, List, length, Option}
-use Rattle.rdcss_root.specs.Beneath.ctrie_base.specs.declared.hashes.HashKind.TheVariants.{Low}
-use Rattle.rdcss_root.specs.Beneath.slot_arena.specs.declared.refs.Ref.{Ref}
-use Rattle.rdcss_root.specs.Beneath.slot_arena.specs.Arenas.{IsLive}
-use Rattle.rdcss_root.specs.Beneath.slot_arena.specs.Ticking.{TakesUpTo}
-use Rattle.rdcss_root.specs.Beneath.slot_arena.specs.Times.{times}
-use Rattle.rdcss_root.specs.Beneath.epochs.specs.Memories.{Memory, KeepsEpochs}
-use Rattle.rdcss_root.specs.Beneath.machine_model.specs.declared.actions.Action.{Action}
-use Rattle.rdcss_root.specs.Beneath.machine_model.specs.declared.roots.Root.{Root}
-use Rattle.rdcss_root.specs.Beneath.machine_model.specs.Acting.{private_after}
+use Rattle.rdcss_root.specs.Vocabulary.{Low, Ref, IsLive, TakesUpTo, times, KeepsEpochs, Action, Root, private_after}
+use Rattle.rdcss_root.specs.Beneath.epochs.specs.Memories.{Memory}
 use Rattle.rdcss_root.specs.Beneath.gcas.specs.Acted.{acted_heap}
 use Rattle.trie_parts.specs.Here.{at_heap, no_state}
 use Rattle.rdcss_root.specs.Holding.{root_refs}

@@ -1,11 +1,7 @@
 -- Holding and releasing references, and what root words hold.
 use Rattle.std.specs.Prelude.{◌≡◌, ℕ, ◌+◌, ◌*◌, ◌<◌, ◌≤◌, ◌^◌, List, length, flat_map, Option}
-use Rattle.rdcss_root.specs.Beneath.slot_arena.specs.declared.refs.Ref.{Ref}
-use Rattle.rdcss_root.specs.Beneath.slot_arena.specs.Times.{times}
-use Rattle.rdcss_root.specs.Beneath.slot_arena.specs.Ticking.{TakesUpTo}
-use Rattle.rdcss_root.specs.Beneath.epochs.specs.Memories.{Memory, KeepsEpochs}
-use Rattle.rdcss_root.specs.Beneath.machine_model.specs.declared.roots.Root.{Root}
-use Rattle.rdcss_root.specs.Beneath.machine_model.specs.Counting.{refs_of_root}
+use Rattle.rdcss_root.specs.Vocabulary.{Ref, times, TakesUpTo, KeepsEpochs, Root, refs_of_root}
+use Rattle.rdcss_root.specs.Beneath.epochs.specs.Memories.{Memory}
 
 -- all but the references from outside, the notes and the ticks is as before, and at most so many were noted and looked at
 pub record KeepsMemory (before after : Memory) (most : ℕ) : Type 0 where

@@ -1,4 +1,5 @@
 pub mod Beneath
+pub mod Vocabulary
 pub mod Acts
 pub mod Holding
 pub mod Tables

@@ -1,26 +1,13 @@
 -- COMPLETE, ROOT and ABORT of the code as the definition's, and what a step of them comes to.
 use Rattle.std.specs.Prelude.{◌≡◌, ℕ, Bool, [], ◌∷◌, List, Option, Some, None}
-use Rattle.rdcss_root.specs.Beneath.history.specs.declared.calls.Access.TheVariants.{Writable}
-use Rattle.rdcss_root.specs.Beneath.slot_arena.specs.declared.refs.Ref.{Ref}
-use Rattle.rdcss_root.specs.Beneath.slot_arena.specs.Heaps.{Heap}
-use Rattle.rdcss_root.specs.Beneath.slot_arena.specs.Arenas.{AreLive}
+use Rattle.rdcss_root.specs.Vocabulary.{Writable, Ref, Heap, AreLive, Gives, ReadLine, Descriptor, Root, RootWord, Complete as DefinedComplete, CompleteLine, RootLine, refs_of_word, read_action}
+use Rattle.rdcss_root.specs.Vocabulary.{read_after, complete_action, complete_after, root_action, root_after, kind_of, completing_read, rooting_read}
 use Rattle.rdcss_root.specs.Beneath.epochs.specs.Memories.{Memory}
-use Rattle.rdcss_root.specs.Beneath.machine_model.specs.declared.reading.After.TheVariants.{Goes, Gives}
-use Rattle.rdcss_root.specs.Beneath.machine_model.specs.declared.reading.ReadLine.{ReadLine}
+use Rattle.rdcss_root.specs.Beneath.machine_model.specs.declared.reading.After.TheVariants.{Goes}
 use Rattle.rdcss_root.specs.Beneath.machine_model.specs.declared.reading.ReadLine.TheVariants as read
-use Rattle.rdcss_root.specs.Beneath.machine_model.specs.declared.roots.Descriptor.{Descriptor}
-use Rattle.rdcss_root.specs.Beneath.machine_model.specs.declared.roots.Root.{Root}
-use Rattle.rdcss_root.specs.Beneath.machine_model.specs.declared.roots.RootWord.{RootWord}
 use Rattle.rdcss_root.specs.Beneath.machine_model.specs.declared.roots.RootWord.TheVariants as word
-use Rattle.rdcss_root.specs.Beneath.machine_model.specs.declared.roots.Complete.{Complete as DefinedComplete}
-use Rattle.rdcss_root.specs.Beneath.machine_model.specs.declared.roots.CompleteLine.{CompleteLine}
 use Rattle.rdcss_root.specs.Beneath.machine_model.specs.declared.roots.CompleteLine.TheVariants as complete
-use Rattle.rdcss_root.specs.Beneath.machine_model.specs.declared.roots.RootLine.{RootLine}
 use Rattle.rdcss_root.specs.Beneath.machine_model.specs.declared.roots.RootLine.TheVariants as root
-use Rattle.rdcss_root.specs.Beneath.machine_model.specs.Counting.{refs_of_word}
-use Rattle.rdcss_root.specs.Beneath.machine_model.specs.Reading.{read_action, read_after}
-use Rattle.rdcss_root.specs.Beneath.machine_model.specs.Swapping.{complete_action, complete_after, root_action, root_after}
-use Rattle.rdcss_root.specs.Beneath.machine_model.specs.Operations.{kind_of, completing_read, rooting_read}
 use Rattle.rdcss_root.specs.Beneath.gcas.specs.declared.next.Next.{Next}
 use Rattle.rdcss_root.specs.Beneath.gcas.specs.declared.next.Next.TheVariants.{More, AskRoot, Done}
 use Rattle.rdcss_root.specs.Beneath.gcas.specs.declared.read.Read.{Read}

@@ -1,15 +1,7 @@
 -- The table of root words, and what the actions on root words make of it.
 use Rattle.std.specs.Prelude.{◌≡◌, ℕ, ◌+◌, ◌==◌, Bool, true, false, List, replicate, slice_index_or, slice_set, Option, Some, None, if◌then◌else◌}
-use Rattle.rdcss_root.specs.Beneath.slot_arena.specs.declared.refs.Ref.{Ref}
-use Rattle.rdcss_root.specs.Beneath.machine_model.specs.declared.roots.Root.{Root}
-use Rattle.rdcss_root.specs.Beneath.machine_model.specs.declared.roots.RootWord.{RootWord}
-use Rattle.rdcss_root.specs.Beneath.machine_model.specs.declared.roots.RootWord.TheVariants.{Plain, Offer}
-use Rattle.rdcss_root.specs.Beneath.machine_model.specs.declared.roots.Descriptor.{Descriptor}
-use Rattle.rdcss_root.specs.Beneath.machine_model.specs.declared.actions.Action.{Action}
+use Rattle.rdcss_root.specs.Vocabulary.{Ref, Root, RootWord, Plain, Offer, Descriptor, Action, State, handle_limit, word_of, rewritten, stands_in, is_plain, acted, if_changed, opened_root}
 use Rattle.rdcss_root.specs.Beneath.machine_model.specs.declared.actions.Action.TheVariants as act
-use Rattle.rdcss_root.specs.Beneath.machine_model.specs.States.{State, handle_limit, word_of, rewritten}
-use Rattle.rdcss_root.specs.Beneath.machine_model.specs.Swapping.{stands_in, is_plain}
-use Rattle.rdcss_root.specs.Beneath.machine_model.specs.Acting.{acted, if_changed, opened_root}
 
 pub record Table : Type 0 where
   -- each handle number, if it is open

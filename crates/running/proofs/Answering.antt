@@ -1,11 +1,8 @@
 -- Where an operation ends next.
 use Rattle.std.specs.Prelude.{◌≡◌, ℕ, List, Option, Some, None, refl}
 use Rattle.std.proofs.Common.{◌∙◌}
-use Rattle.running.specs.Beneath.history.specs.declared.replies.Reply.{Reply}
-use Rattle.running.specs.Beneath.slot_arena.specs.declared.refs.Ref.{Ref}
-use Rattle.running.specs.Beneath.machine_model.specs.declared.lines.Line.{Line}
+use Rattle.running.specs.Vocabulary.{Reply, Ref, Line, ReadLine}
 use Rattle.running.specs.Beneath.machine_model.specs.declared.lines.Line.TheVariants as line
-use Rattle.running.specs.Beneath.machine_model.specs.declared.reading.ReadLine.{ReadLine}
 use Rattle.running.specs.Beneath.gcas.specs.declared.read.Read.{Read}
 use Rattle.running.specs.Beneath.root_asking.specs.declared.asking.Asking.{Asking}
 use Rattle.running.specs.Beneath.root_asking.specs.declared.asking.Asking.TheVariants.{Unasked, Met, Told}

@@ -2,32 +2,14 @@
 use Rattle.std.specs.Prelude.{◌≡◌, ℕ, false, Option, Some, None, refl}
 use Rattle.std.proofs.Common.{sym, ap, subst, ◌∙◌}
 use Rattle.std.proofs.lemmas.Option.{none-some, same_Some}
-use Rattle.ctrie_base.specs.declared.kinds.Kind.{Kind}
+use Rattle.running.specs.Vocabulary.{Kind, Access, Writable, ReadOnly, Ref, Heap, Action, Line, Operation, Read, ReadLine, CompleteLine, Descriptor, RootWord, Plain, Offer, attempt_after, handle_of}
+use Rattle.running.specs.Vocabulary.{generation_from, given_root, kind_of, line_action, line_after, read_of, rooting_read, State, word_at, committed_in, counts_from, given_in, root_after}
 use Rattle.ctrie_base.specs.declared.kinds.Kind.TheVariants as kind
-use Rattle.running.specs.Beneath.history.specs.declared.calls.Access.{Access}
-use Rattle.running.specs.Beneath.history.specs.declared.calls.Access.TheVariants.{Writable, ReadOnly}
-use Rattle.running.specs.Beneath.slot_arena.specs.declared.refs.Ref.{Ref}
-use Rattle.running.specs.Beneath.slot_arena.specs.Heaps.{Heap}
 use Rattle.running.specs.Beneath.epochs.specs.Memories.{Memory}
-use Rattle.running.specs.Beneath.machine_model.specs.declared.actions.Action.{Action}
-use Rattle.running.specs.Beneath.machine_model.specs.declared.lines.Line.{Line}
 use Rattle.running.specs.Beneath.machine_model.specs.declared.lines.Line.TheVariants as line
-use Rattle.running.specs.Beneath.machine_model.specs.declared.operations.Operation.{Operation}
-use Rattle.running.specs.Beneath.machine_model.specs.declared.reading.Read.{Read}
-use Rattle.running.specs.Beneath.machine_model.specs.declared.reading.ReadLine.{ReadLine}
 use Rattle.running.specs.Beneath.machine_model.specs.declared.reading.ReadLine.TheVariants as read
-use Rattle.running.specs.Beneath.machine_model.specs.declared.roots.CompleteLine.{CompleteLine}
 use Rattle.running.specs.Beneath.machine_model.specs.declared.roots.CompleteLine.TheVariants as complete
-use Rattle.running.specs.Beneath.machine_model.specs.declared.roots.Descriptor.{Descriptor}
 use Rattle.running.specs.Beneath.machine_model.specs.declared.roots.RootLine.TheVariants as root
-use Rattle.running.specs.Beneath.machine_model.specs.declared.roots.RootWord.{RootWord}
-use Rattle.running.specs.Beneath.machine_model.specs.declared.roots.RootWord.TheVariants.{Plain, Offer}
-use Rattle.running.specs.Beneath.machine_model.specs.Acting.{attempt_after}
-use Rattle.running.specs.Beneath.machine_model.specs.Calls.{handle_of}
-use Rattle.running.specs.Beneath.machine_model.specs.Operations.{generation_from, given_root, kind_of, line_action, line_after, read_of, rooting_read}
-use Rattle.running.specs.Beneath.machine_model.specs.States.{State, word_at}
-use Rattle.running.specs.Beneath.machine_model.specs.Tellings.{committed_in, counts_from, given_in}
-use Rattle.running.specs.Beneath.machine_model.specs.Swapping.{root_after}
 use Rattle.running.specs.Beneath.gcas.specs.declared.read.Read.{Read as Running}
 use Rattle.running.specs.Beneath.gcas.specs.declared.read.ReadAt.{ReadAt}
 use Rattle.running.specs.Beneath.gcas.specs.declared.read.ReadAt.TheVariants as at

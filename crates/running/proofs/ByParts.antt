@@ -1,8 +1,6 @@
 -- The state after a step of an operation that isn't its end, part by part.
 use Rattle.std.specs.Prelude.{◌≡◌, ℕ}
-use Rattle.running.specs.Beneath.machine_model.specs.declared.actions.Action.{Action}
-use Rattle.running.specs.Beneath.machine_model.specs.Acting.{acted}
-use Rattle.running.specs.Beneath.machine_model.specs.States.{State}
+use Rattle.running.specs.Vocabulary.{Action, acted, State}
 use Rattle.running.specs.Beneath.machine_model.proofs.Actors.{acted_actors, after_marks, marks_of}
 use Rattle.running.specs.Beneath.machine_model.proofs.Frames.{IsFramed, acted_framed}
 use Rattle.running.specs.Beneath.gcas.specs.Acted.{acted_heap}

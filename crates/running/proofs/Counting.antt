@@ -2,33 +2,21 @@
 use Rattle.std.specs.Prelude.{◌≡◌, false, Some, None, refl}
 use Rattle.std.proofs.Common.{sym}
 use Rattle.std.proofs.lemmas.Option.{none-some}
-use Rattle.ctrie_base.specs.declared.kinds.Kind.{Kind}
+use Rattle.running.specs.Vocabulary.{Kind, Ref, BuildLine, Line, Operation, ReadLine, SwapLine, CompleteLine, Descriptor, completing_read, kind_of, line_action, read_of, swapping_read, read_action}
+use Rattle.running.specs.Vocabulary.{State, action_at, complete_action_at, counts_from}
 use Rattle.ctrie_base.specs.declared.kinds.Kind.TheVariants as kind
-use Rattle.running.specs.Beneath.slot_arena.specs.declared.refs.Ref.{Ref}
-use Rattle.running.specs.Beneath.machine_model.specs.declared.building.BuildLine.{BuildLine}
 use Rattle.running.specs.Beneath.machine_model.specs.declared.building.BuildLine.TheVariants as build
 use Rattle.running.specs.Beneath.machine_model.specs.declared.copying.CopyLine.TheVariants as copy
 use Rattle.running.specs.Beneath.machine_model.specs.declared.finding.KeyLine.TheVariants as key
-use Rattle.running.specs.Beneath.machine_model.specs.declared.lines.Line.{Line}
 use Rattle.running.specs.Beneath.machine_model.specs.declared.lines.Line.TheVariants as line
-use Rattle.running.specs.Beneath.machine_model.specs.declared.operations.Operation.{Operation}
-use Rattle.running.specs.Beneath.machine_model.specs.declared.reading.ReadLine.{ReadLine}
 use Rattle.running.specs.Beneath.machine_model.specs.declared.reading.ReadLine.TheVariants as read
-use Rattle.running.specs.Beneath.machine_model.specs.declared.reading.SwapLine.{SwapLine}
 use Rattle.running.specs.Beneath.machine_model.specs.declared.reading.SwapLine.TheVariants as swap
 use Rattle.running.specs.Beneath.machine_model.specs.declared.repairs.CleanLine.TheVariants as clean
 use Rattle.running.specs.Beneath.machine_model.specs.declared.repairs.ClimbLine.TheVariants as climb
 use Rattle.running.specs.Beneath.machine_model.specs.declared.repairs.RenewLine.TheVariants as renew
-use Rattle.running.specs.Beneath.machine_model.specs.declared.roots.CompleteLine.{CompleteLine}
 use Rattle.running.specs.Beneath.machine_model.specs.declared.roots.CompleteLine.TheVariants as complete
-use Rattle.running.specs.Beneath.machine_model.specs.declared.roots.Descriptor.{Descriptor}
 use Rattle.running.specs.Beneath.machine_model.specs.declared.roots.RootLine.TheVariants as root
 use Rattle.running.specs.Beneath.machine_model.specs.declared.walking.WalkLine.TheVariants as walk
-use Rattle.running.specs.Beneath.machine_model.specs.Operations.{completing_read, kind_of, line_action, read_of, swapping_read}
-use Rattle.running.specs.Beneath.machine_model.specs.Reading.{read_action}
-use Rattle.running.specs.Beneath.machine_model.specs.States.{State}
-use Rattle.running.specs.Beneath.machine_model.specs.Swapping.{action_at, complete_action_at}
-use Rattle.running.specs.Beneath.machine_model.specs.Tellings.{counts_from}
 use Rattle.running.specs.Taking.{counts_if, given_if}
 
 -- ---- in a READ

@@ -1,18 +1,10 @@
 -- Steps of an operation whose program has come to its end.
 use Rattle.std.specs.Prelude.{◌≡◌, ℕ, false, Option, Some, None, refl}
 use Rattle.std.proofs.Common.{arith, sym, ap, subst, ◌∙◌}
-use Rattle.ctrie_base.specs.declared.kinds.Kind.{Kind}
+use Rattle.running.specs.Vocabulary.{Kind, Reply, Action, Line, Operation, ReadLine, generation_from, kind_of, line_action, line_after, read_of, State, committed_in, counts_from, given_in}
 use Rattle.ctrie_base.specs.declared.kinds.Kind.TheVariants as kind
-use Rattle.running.specs.Beneath.history.specs.declared.replies.Reply.{Reply}
-use Rattle.running.specs.Beneath.machine_model.specs.declared.actions.Action.{Action}
 use Rattle.running.specs.Beneath.machine_model.specs.declared.actions.Action.TheVariants as act
-use Rattle.running.specs.Beneath.machine_model.specs.declared.lines.Line.{Line}
 use Rattle.running.specs.Beneath.machine_model.specs.declared.lines.Line.TheVariants as line
-use Rattle.running.specs.Beneath.machine_model.specs.declared.operations.Operation.{Operation}
-use Rattle.running.specs.Beneath.machine_model.specs.declared.reading.ReadLine.{ReadLine}
-use Rattle.running.specs.Beneath.machine_model.specs.Operations.{generation_from, kind_of, line_action, line_after, read_of}
-use Rattle.running.specs.Beneath.machine_model.specs.States.{State}
-use Rattle.running.specs.Beneath.machine_model.specs.Tellings.{committed_in, counts_from, given_in}
 use Rattle.running.specs.Beneath.root_asking.specs.declared.asking.Asking.{Asking}
 use Rattle.running.specs.Beneath.root_asking.specs.declared.asking.Asking.TheVariants.{Unasked, Met, Told}
 use Rattle.running.specs.Beneath.root_asking.specs.Inside.{with_read}

@@ -2,30 +2,15 @@
 use Rattle.std.specs.Prelude.{◌≡◌, Bool, ◌&&◌, is_some, Option, Some, None, refl}
 use Rattle.std.proofs.Common.{sym, ap, ◌∙◌}
 use Rattle.std.proofs.lemmas.Option.{none-some}
-use Rattle.ctrie_base.specs.declared.kinds.Kind.{Kind}
+use Rattle.running.specs.Vocabulary.{Kind, Access, Ref, Heap, no_ref, Line, Operation, Read, ReadLine, CompleteLine, Descriptor, RootWord, Plain, Offer, handle_of, kind_of, line_action, read_of}
+use Rattle.running.specs.Vocabulary.{after_ask, at_indirection, read_action, read_after, State, word_at, committed_in, counts_from, given_by, given_in}
 use Rattle.ctrie_base.specs.declared.kinds.Kind.TheVariants as kind
-use Rattle.running.specs.Beneath.history.specs.declared.calls.Access.{Access}
-use Rattle.running.specs.Beneath.slot_arena.specs.declared.refs.Ref.{Ref}
-use Rattle.running.specs.Beneath.slot_arena.specs.Heaps.{Heap, no_ref}
 use Rattle.running.specs.Beneath.machine_model.specs.declared.copying.CopyLine.TheVariants as copy
-use Rattle.running.specs.Beneath.machine_model.specs.declared.lines.Line.{Line}
 use Rattle.running.specs.Beneath.machine_model.specs.declared.lines.Line.TheVariants as line
-use Rattle.running.specs.Beneath.machine_model.specs.declared.operations.Operation.{Operation}
-use Rattle.running.specs.Beneath.machine_model.specs.declared.reading.Read.{Read}
-use Rattle.running.specs.Beneath.machine_model.specs.declared.reading.ReadLine.{ReadLine}
 use Rattle.running.specs.Beneath.machine_model.specs.declared.reading.ReadLine.TheVariants as read
-use Rattle.running.specs.Beneath.machine_model.specs.declared.roots.CompleteLine.{CompleteLine}
 use Rattle.running.specs.Beneath.machine_model.specs.declared.roots.CompleteLine.TheVariants as complete
-use Rattle.running.specs.Beneath.machine_model.specs.declared.roots.Descriptor.{Descriptor}
 use Rattle.running.specs.Beneath.machine_model.specs.declared.roots.RootLine.TheVariants as root
-use Rattle.running.specs.Beneath.machine_model.specs.declared.roots.RootWord.{RootWord}
-use Rattle.running.specs.Beneath.machine_model.specs.declared.roots.RootWord.TheVariants.{Plain, Offer}
 use Rattle.running.specs.Beneath.machine_model.specs.declared.walking.WalkLine.TheVariants as walk
-use Rattle.running.specs.Beneath.machine_model.specs.Calls.{handle_of}
-use Rattle.running.specs.Beneath.machine_model.specs.Operations.{kind_of, line_action, read_of}
-use Rattle.running.specs.Beneath.machine_model.specs.Reading.{after_ask, at_indirection, read_action, read_after}
-use Rattle.running.specs.Beneath.machine_model.specs.States.{State, word_at}
-use Rattle.running.specs.Beneath.machine_model.specs.Tellings.{committed_in, counts_from, given_by, given_in}
 use Rattle.running.specs.Beneath.gcas.specs.declared.read.ReadAt.{ReadAt}
 use Rattle.running.specs.Beneath.gcas.specs.declared.read.ReadAt.TheVariants as at
 use Rattle.running.specs.Beneath.gcas.specs.Reads.{ReadsAlong, come_to, committed_so, given_so}

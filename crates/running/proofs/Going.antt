@@ -1,24 +1,10 @@
 -- Steps of the programs, with all that they do.
 use Rattle.std.specs.Prelude.{◌≡◌, ℕ, Bool, is_some, List, [], ◌∷◌, Option, Some, None, refl}
 use Rattle.std.proofs.Common.{sym, ap, subst, ◌∙◌}
-use Rattle.ctrie_base.specs.declared.kinds.Kind.{Kind}
-use Rattle.running.specs.Beneath.history.specs.declared.calls.Call.{Call}
-use Rattle.running.specs.Beneath.history.specs.declared.calls.Access.{Access}
-use Rattle.running.specs.Beneath.history.specs.declared.calls.Access.TheVariants.{Writable, ReadOnly}
-use Rattle.running.specs.Beneath.slot_arena.specs.declared.refs.Ref.{Ref}
-use Rattle.running.specs.Beneath.slot_arena.specs.Heaps.{Heap}
+use Rattle.running.specs.Vocabulary.{Kind, Call, Access, Writable, ReadOnly, Ref, Heap, Action, Line, Operation, RootWord, attempt_after, handle_of, generation_from, line_action, read_of}
+use Rattle.running.specs.Vocabulary.{read_action, State, word_at, walked_reply}
 use Rattle.running.specs.Beneath.epochs.specs.Memories.{Memory}
-use Rattle.running.specs.Beneath.machine_model.specs.declared.actions.Action.{Action}
 use Rattle.running.specs.Beneath.machine_model.specs.declared.actions.Action.TheVariants as act
-use Rattle.running.specs.Beneath.machine_model.specs.declared.lines.Line.{Line}
-use Rattle.running.specs.Beneath.machine_model.specs.declared.operations.Operation.{Operation}
-use Rattle.running.specs.Beneath.machine_model.specs.declared.roots.RootWord.{RootWord}
-use Rattle.running.specs.Beneath.machine_model.specs.Acting.{attempt_after}
-use Rattle.running.specs.Beneath.machine_model.specs.Calls.{handle_of}
-use Rattle.running.specs.Beneath.machine_model.specs.Operations.{generation_from, line_action, read_of}
-use Rattle.running.specs.Beneath.machine_model.specs.Reading.{read_action}
-use Rattle.running.specs.Beneath.machine_model.specs.States.{State, word_at}
-use Rattle.running.specs.Beneath.machine_model.specs.Walking.{walked_reply}
 use Rattle.running.specs.Beneath.gcas.specs.declared.read.Read.{Read}
 use Rattle.running.specs.Beneath.gcas.specs.declared.read.ReadAt.{ReadAt}
 use Rattle.running.specs.Beneath.gcas.specs.declared.read.ReadAt.TheVariants as read

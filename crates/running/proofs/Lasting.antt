@@ -1,7 +1,6 @@
 -- Lines of the programs: what is told comes to them by their READ alone, and they swap no main node of their own.
 use Rattle.std.specs.Prelude.{◌≡◌, ℕ, List, Option, Some, None, refl}
-use Rattle.running.specs.Beneath.slot_arena.specs.declared.refs.Ref.{Ref}
-use Rattle.running.specs.Beneath.machine_model.specs.declared.roots.Descriptor.{Descriptor}
+use Rattle.running.specs.Vocabulary.{Ref, Descriptor}
 use Rattle.running.specs.Beneath.gcas.specs.declared.read.Read.{Read}
 use Rattle.running.specs.Beneath.gcas.specs.Reads.{line_of}
 use Rattle.running.specs.Beneath.trie_parts.specs.Steps.{IsAskingLine}

@@ -1,13 +1,7 @@
 -- What an action makes of the offers in the table of root words, and of marks.
 use Rattle.std.specs.Prelude.{◌≡◌, ◌==◌, ◌&&◌, ℕ, Bool, true, false, List, Option, Some, None, option_map, refl, slice_index_or, slice_set, if◌then◌else◌}
-use Rattle.running.specs.Beneath.machine_model.specs.declared.actions.Action.{Action}
+use Rattle.running.specs.Vocabulary.{Action, Descriptor, Plain, if_changed, State, word_at, is_carried_out, is_plain, stands_in, carried_by}
 use Rattle.running.specs.Beneath.machine_model.specs.declared.actions.Action.TheVariants as act
-use Rattle.running.specs.Beneath.machine_model.specs.declared.roots.Descriptor.{Descriptor}
-use Rattle.running.specs.Beneath.machine_model.specs.declared.roots.RootWord.TheVariants.{Plain}
-use Rattle.running.specs.Beneath.machine_model.specs.Acting.{if_changed}
-use Rattle.running.specs.Beneath.machine_model.specs.States.{State, word_at}
-use Rattle.running.specs.Beneath.machine_model.specs.Swapping.{is_carried_out, is_plain, stands_in}
-use Rattle.running.specs.Beneath.machine_model.specs.Tellings.{carried_by}
 use Rattle.running.specs.Beneath.rdcss_root.specs.Tables.{Table, acted_table, carried_out_in, with_word_in, word_in}
 use Rattle.running.specs.Carried.{carried_of, carried_offer}
 

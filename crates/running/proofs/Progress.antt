@@ -2,17 +2,8 @@
 use Rattle.std.specs.Prelude.{◌≡◌, ℕ, Option, Some, None, option_map, refl}
 use Rattle.std.proofs.Common.{sym, ap, ◌∙◌}
 use Rattle.std.proofs.lemmas.Option.{none-some}
-use Rattle.running.specs.Beneath.slot_arena.specs.Heaps.{Heap}
-use Rattle.running.specs.Beneath.machine_model.specs.declared.actions.Action.{Action}
+use Rattle.running.specs.Vocabulary.{Heap, Action, Operation, Progress, Descriptor, RootWord, handle_of, action_of, State, word_at, carried_by, progress_of, published_by}
 use Rattle.running.specs.Beneath.machine_model.specs.declared.actions.Action.TheVariants as act
-use Rattle.running.specs.Beneath.machine_model.specs.declared.operations.Operation.{Operation}
-use Rattle.running.specs.Beneath.machine_model.specs.declared.records.Progress.{Progress}
-use Rattle.running.specs.Beneath.machine_model.specs.declared.roots.Descriptor.{Descriptor}
-use Rattle.running.specs.Beneath.machine_model.specs.declared.roots.RootWord.{RootWord}
-use Rattle.running.specs.Beneath.machine_model.specs.Calls.{handle_of}
-use Rattle.running.specs.Beneath.machine_model.specs.Operations.{action_of}
-use Rattle.running.specs.Beneath.machine_model.specs.States.{State, word_at}
-use Rattle.running.specs.Beneath.machine_model.specs.Tellings.{carried_by, progress_of, published_by}
 use Rattle.running.specs.Beneath.gcas.specs.Acted.{acted_heap}
 use Rattle.running.specs.Beneath.rdcss_root.specs.Tables.{word_in}
 use Rattle.snapshot.specs.Tasks.{with_generation}

@@ -1,6 +1,6 @@
 -- What commits nothing and gives nothing.
 use Rattle.std.specs.Prelude.{◌≡◌, None, refl}
-use Rattle.ctrie_base.specs.declared.kinds.Kind.{Kind}
+use Rattle.running.specs.Vocabulary.{Kind}
 use Rattle.ctrie_base.specs.declared.kinds.Kind.TheVariants as kind
 use Rattle.running.specs.Taking.{committed_if, given_if}
 

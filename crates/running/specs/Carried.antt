@@ -1,12 +1,7 @@
 -- The offer that an action carries out.
 use Rattle.std.specs.Prelude.{Option, Some, None, if◌then◌else◌}
-use Rattle.running.specs.Beneath.slot_arena.specs.Heaps.{Heap, generation_at}
-use Rattle.running.specs.Beneath.machine_model.specs.declared.actions.Action.{Action}
+use Rattle.running.specs.Vocabulary.{Heap, generation_at, Action, Carried, Descriptor, RootWord, is_carried_out}
 use Rattle.running.specs.Beneath.machine_model.specs.declared.actions.Action.TheVariants as act
-use Rattle.running.specs.Beneath.machine_model.specs.declared.records.Carried.{Carried}
-use Rattle.running.specs.Beneath.machine_model.specs.declared.roots.Descriptor.{Descriptor}
-use Rattle.running.specs.Beneath.machine_model.specs.declared.roots.RootWord.{RootWord}
-use Rattle.running.specs.Beneath.machine_model.specs.Swapping.{is_carried_out}
 
 -- the offer that the action carries out on a handle with this root word, if it does
 abbrev pub carried_offer : RootWord → Action → Option Descriptor

@@ -1,4 +1,5 @@
 pub mod Beneath
+pub mod Vocabulary
 pub mod Carried
 pub mod Places
 pub mod Steps

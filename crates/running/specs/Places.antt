@@ -1,17 +1,10 @@
 -- Where an operation of the code stands, as the definition's line.
 use Rattle.std.specs.Prelude.{◌≡◌, ℕ, slice_index_or, Bool, true, false, Option, Some, None}
-use Rattle.running.specs.Beneath.history.specs.declared.calls.Call.{Call}
+use Rattle.running.specs.Vocabulary.{Call, Reply, Line, Operation, ReadLine, Descriptor, impossible, walked_reply}
 use Rattle.running.specs.Beneath.history.specs.declared.calls.Call.TheVariants as calls
-use Rattle.running.specs.Beneath.history.specs.declared.replies.Reply.{Reply}
 use Rattle.running.specs.Beneath.history.specs.declared.replies.Reply.TheVariants as reply
-use Rattle.running.specs.Beneath.machine_model.specs.declared.lines.Line.{Line}
 use Rattle.running.specs.Beneath.machine_model.specs.declared.lines.Line.TheVariants as line
-use Rattle.running.specs.Beneath.machine_model.specs.declared.operations.Operation.{Operation}
-use Rattle.running.specs.Beneath.machine_model.specs.declared.reading.ReadLine.{ReadLine}
 use Rattle.running.specs.Beneath.machine_model.specs.declared.reading.ReadLine.TheVariants as read
-use Rattle.running.specs.Beneath.machine_model.specs.declared.roots.Descriptor.{Descriptor}
-use Rattle.running.specs.Beneath.machine_model.specs.Lines.{impossible}
-use Rattle.running.specs.Beneath.machine_model.specs.Walking.{walked_reply}
 use Rattle.running.specs.Beneath.gcas.specs.declared.read.ReadAt.{ReadAt}
 use Rattle.running.specs.Beneath.gcas.specs.declared.read.ReadAt.TheVariants as at
 use Rattle.running.specs.Beneath.trie_parts.specs.Steps.{IsAskingLine}

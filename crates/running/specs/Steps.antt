@@ -1,14 +1,7 @@
 -- What a step of an operation comes to, does and asks.
 use Rattle.std.specs.Prelude.{◌≡◌, ℕ, Bool, false, ◌&&◌, ◌<◌, ◌-◌, ◌^◌, None}
-use Rattle.ctrie_base.specs.declared.kinds.Kind.{Kind}
+use Rattle.running.specs.Vocabulary.{Kind, Action, Line, Operation, attempt_after, kind_of, line_action, line_after, read_of, generation_from, State, committed_in, counts_from, given_in}
 use Rattle.running.specs.Beneath.epochs.specs.Memories.{Memory}
-use Rattle.running.specs.Beneath.machine_model.specs.declared.actions.Action.{Action}
-use Rattle.running.specs.Beneath.machine_model.specs.declared.lines.Line.{Line}
-use Rattle.running.specs.Beneath.machine_model.specs.declared.operations.Operation.{Operation}
-use Rattle.running.specs.Beneath.machine_model.specs.Acting.{attempt_after}
-use Rattle.running.specs.Beneath.machine_model.specs.Operations.{kind_of, line_action, line_after, read_of, generation_from}
-use Rattle.running.specs.Beneath.machine_model.specs.States.{State}
-use Rattle.running.specs.Beneath.machine_model.specs.Tellings.{committed_in, counts_from, given_in}
 use Rattle.running.specs.Beneath.gcas.specs.declared.read.ReadAt.{ReadAt}
 use Rattle.running.specs.Beneath.gcas.specs.Reads.{given_so}
 use Rattle.running.specs.Beneath.rdcss_root.specs.Acts.{ActsInAll}

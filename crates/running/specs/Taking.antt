@@ -1,8 +1,7 @@
 -- What is told of a step that was taken.
 use Rattle.std.specs.Prelude.{Bool, true, false, ◌&&◌, Option, Some, None}
-use Rattle.ctrie_base.specs.declared.kinds.Kind.{Kind}
+use Rattle.running.specs.Vocabulary.{Kind, Ref}
 use Rattle.ctrie_base.specs.declared.kinds.Kind.TheVariants as kind
-use Rattle.running.specs.Beneath.slot_arena.specs.declared.refs.Ref.{Ref}
 
 -- what a caller sees: its kind, the main node that it committed and the one that the operation's READ gave by it, if it did, and whether
 -- the operation's READ counts from it on

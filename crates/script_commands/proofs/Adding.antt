@@ -1,25 +1,14 @@
 -- A line of a script adds two events at most.
 use Rattle.std.proofs.Common.{◌≡◌, ℕ, zero, suc, ◌+◌, ◌≤◌, Bool, true, false, cond, ◌⊎◌, inl, inr, List, [], ◌∷◌, ◌++◌, length, Option, Some, None, Ok, Err, refl, sym, ap, ◌∙◌, length-append, arith}
 use Rattle.std.specs.Prelude.{replicate, option_map}
-use Rattle.ctrie_base.specs.declared.kinds.Kind.{Kind}
-use Rattle.ctrie_base.specs.declared.refusals.Refusal.{Refusal}
-use Rattle.history.specs.declared.events.Event.{Event}
+use Rattle.script_commands.specs.Vocabulary.{Kind, Refusal, Event, Operation, Outcome, Step, State, operation_of, action_of, kind_of, Answer, next, run_from, next_kind, begin_denial, Begins, Ends}
+use Rattle.script_commands.specs.Vocabulary.{Sweeps, Moves, MovesIfTaken, go_limit, Record, noted, record_from, told_in}
 use Rattle.history.proofs.Places.{option_unfound}
-use Rattle.script_commands.specs.Beneath.machine_model.specs.declared.operations.Operation.{Operation}
-use Rattle.script_commands.specs.Beneath.machine_model.specs.declared.steps.Outcome.{Outcome}
-use Rattle.script_commands.specs.Beneath.machine_model.specs.declared.steps.Step.{Step}
 use Rattle.script_commands.specs.Beneath.machine_model.specs.declared.steps.Step.TheVariants as step
-use Rattle.script_commands.specs.Beneath.machine_model.specs.States.{State, operation_of}
-use Rattle.script_commands.specs.Beneath.machine_model.specs.Operations.{action_of, kind_of}
-use Rattle.script_commands.specs.Beneath.machine_model.specs.Machine.{Answer, next, run_from, next_kind, begin_denial}
 use Rattle.script_commands.specs.Beneath.machine_model.proofs.Moves.{moves}
-use Rattle.script_commands.specs.Beneath.machine_model.specs.Moves.{Begins, Goes, Ends, Sweeps}
-use Rattle.script_commands.specs.Beneath.machine_model.specs.Moves.{Moves, MovesIfTaken}
-use Rattle.script_commands.specs.Beneath.machine_model.specs.Going.{go_limit}
+use Rattle.script_commands.specs.Beneath.machine_model.specs.Moves.{Goes}
 use Rattle.script_commands.specs.Beneath.machine_model.proofs.Actors.{of_end}
 use Rattle.script_commands.specs.Beneath.proof_generations.proofs.Handles.Running.{place_of_actor}
-use Rattle.script_commands.specs.Beneath.machine_model.specs.Records.{Record, noted, record_from}
-use Rattle.script_commands.specs.Beneath.machine_model.specs.Tellings.{told_in}
 use Rattle.script_commands.specs.Beneath.machine_model.proofs.Notes.{noted_going}
 use Rattle.script_commands.specs.Beneath.proof_order.proofs.History.Recalling.{end_event}
 use Rattle.script_commands.specs.Recorded.{Recorded, after_line, recorded_from, recorded_next}

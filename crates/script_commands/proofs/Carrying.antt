@@ -1,20 +1,13 @@
 -- What the steps of a command come to.
 use Rattle.std.proofs.Common.{◌≡◌, ℕ, zero, suc, List, [], ◌∷◌, ◌++◌, Option, Some, None, refl, ap, ◌+◌, ◌∙◌, add-one, true, false}
 use Rattle.std.specs.Prelude.{replicate}
-use Rattle.ctrie_base.specs.declared.kinds.Kind.{Kind}
-use Rattle.ctrie_base.specs.declared.refusals.Refusal.{Refusal}
-use Rattle.history.specs.declared.calls.Call.{Call}
-use Rattle.script_commands.specs.Beneath.machine_model.specs.declared.steps.Step.{Step}
-use Rattle.script_commands.specs.Beneath.machine_model.specs.declared.steps.Step.TheVariants.{Begin, Go, Sweep}
-use Rattle.script_commands.specs.Beneath.machine_model.specs.Limits.{bounded}
-use Rattle.script_commands.specs.Beneath.machine_model.specs.Records.{first_record, record_from}
-use Rattle.script_commands.specs.Beneath.machine_model.specs.States.{State, first_state}
+use Rattle.script_commands.specs.Vocabulary.{Kind, Refusal, Call, Step, Go, Sweep, bounded, first_record, record_from, State, first_state, next_kind, next, next_state, run_from, begin_denial}
+use Rattle.script_commands.specs.Vocabulary.{begin_unless, go_limit}
+use Rattle.script_commands.specs.Beneath.machine_model.specs.declared.steps.Step.TheVariants.{Begin}
 use Rattle.script_commands.specs.Beneath.machine_model.proofs.Along.{run-append, run_push}
 use Rattle.script_commands.specs.Beneath.machine_model.proofs.Recorded.{record-append, record_push}
 use Rattle.script_commands.specs.Beneath.proof_runs.specs.Machines.{Taken, past_of, state_of, with_step}
 use Rattle.script_commands.specs.Recorded.{Recorded, recorded_from, recorded_in, recorded_next}
-use Rattle.script_commands.specs.Beneath.machine_model.specs.Machine.{next_kind, next, next_state, run_from, begin_denial, begin_unless}
-use Rattle.script_commands.specs.Beneath.machine_model.specs.Going.{go_limit}
 use Rattle.script_text.specs.Steps.{stops, going, doing}
 use Rattle.script_commands.specs.Denials.{denial_in}
 

@@ -4,28 +4,16 @@ use Rattle.std.specs.Prelude.{replicate}
 use Rattle.std.specs.List.{AllByRecursion}
 use Rattle.std.proofs.lemmas.List.{replicate-append-replicate}
 use Rattle.std.proofs.lemmas.List.Elements.{All-nil, All-cons, All-push, All-append, All-replicate}
-use Rattle.ctrie_base.specs.declared.kinds.Kind.{Kind}
-use Rattle.ctrie_base.specs.declared.refusals.Refusal.{Refusal}
-use Rattle.history.specs.Histories.{begun}
-use Rattle.history.specs.declared.calls.Call.{Call}
-use Rattle.history.specs.declared.calls.Call.TheVariants.{Get, Put, PutIfAbsent, Replace, ReplaceIf, Remove, RemoveIf}
+use Rattle.script_commands.specs.Vocabulary.{Kind, Refusal, begun, Call, Get, Put, PutIfAbsent, Replace, ReplaceIf, Remove, RemoveIf, Operation, Step, go_limit, FitsKey, KeysFit, AreBounds}
+use Rattle.script_commands.specs.Vocabulary.{begin_denial, go_denial, go_on, go_unless, next, next_kind, next_state, run, run_from, Bounds, AreLimits, bounded, first_record, record_from, record_of}
+use Rattle.script_commands.specs.Vocabulary.{State, first_state, operation_of, begun_operation}
 use Rattle.history_text.specs.Grammar.{CallFits}
-use Rattle.script_commands.specs.Beneath.machine_model.specs.declared.operations.Operation.{Operation}
-use Rattle.script_commands.specs.Beneath.machine_model.specs.declared.steps.Step.{Step}
 use Rattle.script_commands.specs.Beneath.machine_model.specs.declared.steps.Step.TheVariants as step
-use Rattle.script_commands.specs.Beneath.machine_model.specs.Going.{go_limit}
-use Rattle.script_commands.specs.Beneath.machine_model.specs.Keys.{FitsKey, KeysFit}
-use Rattle.script_commands.specs.Beneath.machine_model.specs.Machine.{AreBounds, begin_denial, go_denial, go_on, go_unless, next, next_kind, next_state, run, run_from}
-use Rattle.script_commands.specs.Beneath.machine_model.specs.declared.steps.Bounds.{Bounds}
-use Rattle.script_commands.specs.Beneath.machine_model.specs.Limits.{AreLimits, bounded}
-use Rattle.script_commands.specs.Beneath.machine_model.specs.Records.{first_record, record_from, record_of}
 use Rattle.script_commands.specs.Beneath.machine_model.proofs.Alike.{alike_along}
 use Rattle.script_commands.specs.Beneath.proof_runs.proofs.Bounds.{in_bounds}
 use Rattle.script_commands.specs.Recorded.{Recorded, after_line, recorded_from, recorded_in, recorded_next}
 use Rattle.script_commands.proofs.Growing.{denied_step}
-use Rattle.script_commands.specs.Beneath.machine_model.specs.States.{State, first_state, operation_of}
 use Rattle.script_commands.specs.Beneath.machine_model.proofs.Along.{limits_along}
-use Rattle.script_commands.specs.Beneath.machine_model.specs.Moves.{begun_operation}
 use Rattle.script_commands.specs.Beneath.proof_obstruction_free.specs.Closes.{ClosesEnd}
 use Rattle.script_commands.specs.Beneath.proof_obstruction_free.specs.Laws.{AloneItEnds, HasEnded, alone_after, history_after, most_steps_alone}
 use Rattle.script_commands.specs.Beneath.proof_runs.specs.Ending.{IsSure}

@@ -1,22 +1,14 @@
 -- What the steps of a script's line do to the history: it only grows, and a line that is denied adds nothing.
 use Rattle.std.proofs.Common.{◌≡◌, ℕ, zero, suc, Bool, true, false, cond, List, [], ◌∷◌, ◌++◌, length, drop, Option, Some, None, Ok, Err, refl, sym, ap, ◌∙◌, append_assoc}
 use Rattle.std.proofs.lemmas.List.{drop_at}
-use Rattle.ctrie_base.specs.declared.kinds.Kind.{Kind}
-use Rattle.ctrie_base.specs.declared.refusals.Refusal.{Refusal}
-use Rattle.history.specs.declared.calls.Call.{Call}
-use Rattle.history.specs.declared.events.Event.{Event}
-use Rattle.script_commands.specs.Beneath.machine_model.specs.declared.steps.Step.{Step}
+use Rattle.script_commands.specs.Vocabulary.{Kind, Refusal, Call, Event, Step, State, Answer, next, run_from, next_kind, begin_denial, begin_unless, go_denial, go_unless, MovesIfTaken, record_from}
 use Rattle.script_commands.specs.Beneath.machine_model.specs.declared.steps.Step.TheVariants as step
-use Rattle.script_commands.specs.Beneath.machine_model.specs.States.{State}
-use Rattle.script_commands.specs.Beneath.machine_model.specs.Machine.{Answer, next, run_from, next_kind, begin_denial, begin_unless, go_denial, go_unless}
 use Rattle.script_commands.specs.Beneath.machine_model.proofs.Moves.{moves}
-use Rattle.script_commands.specs.Beneath.machine_model.specs.Moves.{MovesIfTaken}
 use Rattle.script_commands.specs.Beneath.proof_order.proofs.History.Growing.{Grows, grows_same, grows_trans, events_grow}
 use Rattle.script_text.specs.declared.commands.Command.{Command}
 use Rattle.script_text.specs.declared.commands.Command.TheVariants.{Begin, Go, Until, Finish, Do, Sweep}
 use Rattle.script_text.specs.Steps.{stops, going, doing, steps_of, denial_of}
 use Rattle.script_commands.specs.Recorded.{Recorded, after_line, recorded_from, recorded_next}
-use Rattle.script_commands.specs.Beneath.machine_model.specs.Records.{record_from}
 
 -- ---- steps
 

@@ -5,17 +5,11 @@ use Rattle.std.specs.Io.KnownBytes.{Appends}
 use Rattle.std.specs.List.{AllByRecursion}
 use Rattle.std.proofs.lemmas.List.Elements.{recursion_from_All}
 use Rattle.std.proofs.lemmas.Option.{none-some, same_Some}
-use Rattle.ctrie_base.specs.Hashes.{hash_of}
-use Rattle.ctrie_base.specs.declared.hashes.HashKind.{HashKind}
-use Rattle.history.specs.declared.events.Event.{Event}
-use Rattle.history.specs.Orders.{IsLegal}
+use Rattle.script_commands.specs.Vocabulary.{hash_of, HashKind, Event, IsLegal, Bounds, bounded, order_of}
 use Rattle.text_lines.specs.Texts.{said_lines}
 use Rattle.history_text.specs.Reading.{Reading}
 use Rattle.history_text.specs.Grammar.{IsNumber, EventFits, Spell, IsShort}
 use Rattle.history_text.proofs.Only.{read_again}
-use Rattle.script_commands.specs.Beneath.machine_model.specs.declared.steps.Bounds.{Bounds}
-use Rattle.script_commands.specs.Beneath.machine_model.specs.Limits.{bounded}
-use Rattle.script_commands.specs.Beneath.machine_model.specs.Records.{order_of}
 use Rattle.script_commands.specs.Beneath.proof_runs.specs.Machines.{Taken, past_of}
 use Rattle.script_commands.specs.Beneath.proof_runs.specs.Legality.{IsLegalFor}
 use Rattle.script_commands.specs.Beneath.proof_obstruction_free.specs.Closes.{ClosesEnd}

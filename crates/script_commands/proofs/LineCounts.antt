@@ -2,15 +2,12 @@
 use Rattle.std.proofs.Common.{◌≡◌, ℕ, suc, ◌+◌, List, [], ◌∷◌, ◌++◌, length, refl, sym, ap, ◌∙◌, append_assoc, append-nil, arith}
 use Rattle.std.specs.Prelude.{codes}
 use Rattle.std.proofs.lemmas.List.Concat.{flat_map-cons}
-use Rattle.ctrie_base.specs.declared.refusals.Refusal.{Refusal}
-use Rattle.history.specs.declared.events.Event.{Event}
+use Rattle.script_commands.specs.Vocabulary.{Refusal, Event, in_use, order_of}
 use Rattle.text_lines.specs.Texts.{lines_of}
 use Rattle.text_lines.specs.Words.{spaced}
 use Rattle.text_lines.proofs.FirstLine.{no_lines}
 use Rattle.history_text.specs.Texts.{event_text, order_text}
 use Rattle.history_text.proofs.Feeds.{HasNoFeed, no_feed, no_feed_append, first_line, event_line_none, order_line_none}
-use Rattle.script_commands.specs.Beneath.slot_arena.specs.Heaps.{in_use}
-use Rattle.script_commands.specs.Beneath.machine_model.specs.Records.{order_of}
 use Rattle.script_commands.specs.Reports.{line, denied_text, slots_text, event_lines, last_lines}
 use Rattle.script_commands.proofs.Spelled.{denied_words, slots_words, denied_none, slots_none}
 use Rattle.script_commands.specs.Recorded.{Recorded}

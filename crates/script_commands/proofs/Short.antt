@@ -1,7 +1,7 @@
 -- The report of a script's run is never too long to be read: a script has at most 100,000 lines, and each tells two at most.
 use Rattle.std.proofs.Common.{◌≡◌, ℕ, ◌+◌, ◌*◌, ◌≤◌, List, [], ◌∷◌, ◌++◌, length, Option, Some, None, Ok, ap, append_assoc, arith}
 use Rattle.std.proofs.lemmas.List.{length-drop}
-use Rattle.ctrie_base.specs.declared.refusals.Refusal.{Refusal}
+use Rattle.script_commands.specs.Vocabulary.{Refusal}
 use Rattle.text_lines.specs.Texts.{lines_of}
 use Rattle.history_text.specs.Grammar.{IsShort}
 use Rattle.history_text.proofs.Spelled.{hash_none}

@@ -4,19 +4,16 @@ use Rattle.std.specs.List.{AllByRecursion}
 use Rattle.std.specs.Fmt.{decimal}
 use Rattle.std.proofs.lemmas.List.{drop_all}
 use Rattle.std.specs.Prelude.{codes}
-use Rattle.ctrie_base.specs.declared.refusals.Refusal.{Refusal}
-use Rattle.ctrie_base.specs.declared.refusals.Refusal.TheVariants.{NoHandle, ReadOnly, NotReadOnly, HandlesFull, Busy, ActorBusy, NoActor, Idle, Spent, NoSlots}
-use Rattle.ctrie_base.specs.declared.refusals.Refusal.TheVariants.{Memory, BadLimits, BadLine, BadNumber, BadHeader, TooLong, BadOrder}
-use Rattle.ctrie_base.specs.Refusals.{number_of, name_of}
-use Rattle.history.specs.declared.events.Event.{Event}
+use Rattle.script_commands.specs.Vocabulary.{Refusal, NoHandle, NotReadOnly, HandlesFull, Busy, ActorBusy, NoActor, Idle, Spent, BadLimits, BadLine, BadNumber, BadHeader, TooLong, BadOrder}
+use Rattle.script_commands.specs.Vocabulary.{number_of, Event, in_use, order_of, run_from, record_from}
+use Rattle.ctrie_base.specs.declared.refusals.Refusal.TheVariants.{ReadOnly, NoSlots}
+use Rattle.ctrie_base.specs.declared.refusals.Refusal.TheVariants.{Memory}
+use Rattle.ctrie_base.specs.Refusals.{name_of}
 use Rattle.text_lines.specs.Words.{spaced}
 use Rattle.text_lines.specs.Texts.{said_lines}
 use Rattle.history_text.specs.Grammar.{IsNumber, EventFits, SpellEvents, Spell}
 use Rattle.history_text.proofs.Feeds.{HasNoFeed, no_feed, no_feed_decimal, no_feed_spaced}
 use Rattle.history_text.proofs.Spelled.{end_spelled, denied_spelled, events_spelled, whole_spelled}
-use Rattle.script_commands.specs.Beneath.slot_arena.specs.Heaps.{in_use}
-use Rattle.script_commands.specs.Beneath.machine_model.specs.Records.{order_of}
-use Rattle.script_commands.specs.Beneath.machine_model.specs.Machine.{run_from}
 use Rattle.script_commands.proofs.Carrying.{recorded_append}
 use Rattle.script_text.specs.declared.commands.Command.{Command}
 use Rattle.script_text.specs.Reading.{Reading}
@@ -25,7 +22,6 @@ use Rattle.script_commands.specs.Reports.{line, denied_text, actor_of, told_by, 
 use Rattle.script_commands.specs.Legality.{told_in}
 use Rattle.script_commands.proofs.Growing.{all_grow, added_split, denied_changes_nothing}
 use Rattle.script_commands.specs.Recorded.{Recorded, after_line, first_recorded, recorded_from}
-use Rattle.script_commands.specs.Beneath.machine_model.specs.Records.{record_from}
 
 -- ---- the words of the lines that are no events
 

@@ -1,8 +1,7 @@
 -- What lines of a script tell, one after the other.
 use Rattle.std.proofs.Common.{◌≡◌, ℕ, ◌+◌, ◌<◌, List, [], ◌∷◌, ◌++◌, length, get_or, drop, refl, sym, ap, ◌∙◌, append_assoc, append-nil}
 use Rattle.std.proofs.lemmas.List.{drop_more}
-use Rattle.script_commands.specs.Beneath.machine_model.specs.declared.steps.Limits.{Limits}
-use Rattle.script_commands.specs.Beneath.machine_model.specs.Machine.{run_from}
+use Rattle.script_commands.specs.Vocabulary.{Limits, run_from, record_from}
 use Rattle.script_commands.proofs.Carrying.{recorded_append}
 use Rattle.script_text.specs.declared.commands.Command.{Command}
 use Rattle.script_text.specs.Reading.{Reading}
@@ -10,7 +9,6 @@ use Rattle.script_text.specs.Steps.{steps_of, all_steps}
 use Rattle.script_commands.specs.Beneath.proof_runs.specs.Machines.{fresh}
 use Rattle.script_commands.specs.Reports.{line, hash_text, told, all_told, last_lines, last_of, report}
 use Rattle.script_commands.specs.Recorded.{recorded_in, Recorded, after_line, first_recorded, recorded_from}
-use Rattle.script_commands.specs.Beneath.machine_model.specs.Records.{record_from}
 
 -- the steps of a line, and those of the lines behind it
 steps_on : (state : Recorded) (command : Command) (more : List Command) →

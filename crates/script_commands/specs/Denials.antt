@@ -1,7 +1,6 @@
 -- Why a step is denied.
 use Rattle.std.specs.Prelude.{Option, Some, None, Ok, Err}
-use Rattle.ctrie_base.specs.declared.refusals.Refusal.{Refusal}
-use Rattle.script_commands.specs.Beneath.machine_model.specs.Machine.{Answer}
+use Rattle.script_commands.specs.Vocabulary.{Refusal, Answer}
 
 abbrev pub denial_in : Answer → Option Refusal
 denial_in (Ok done) = None

@@ -1,10 +1,6 @@
 -- Lines of a script that are sure to end an operation.
 use Rattle.std.specs.Prelude.{◌≡◌, ℕ, ◌+◌, List, ◌∷◌, ◌++◌, Some, None}
-use Rattle.history.specs.Histories.{begun}
-use Rattle.history.specs.declared.calls.Call.{Call}
-use Rattle.script_commands.specs.Beneath.machine_model.specs.declared.operations.Operation.{Operation}
-use Rattle.script_commands.specs.Beneath.machine_model.specs.Machine.{begin_denial}
-use Rattle.script_commands.specs.Beneath.machine_model.specs.States.{operation_of}
+use Rattle.script_commands.specs.Vocabulary.{begun, Call, Operation, begin_denial, operation_of}
 use Rattle.script_commands.specs.Beneath.proof_obstruction_free.specs.Laws.{HasEnded, most_steps_alone}
 use Rattle.script_commands.specs.Beneath.proof_runs.specs.Ending.{IsSure}
 use Rattle.script_text.specs.declared.commands.Command.{Command}

@@ -1,12 +1,9 @@
 -- What a report says: a history, and an order that is legal for it.
 use Rattle.std.specs.Prelude.{ℕ, true, List, Option}
 use Rattle.std.specs.Io.KnownBytes.{Appends}
-use Rattle.ctrie_base.specs.Hashes.{hash_of}
-use Rattle.ctrie_base.specs.declared.hashes.HashKind.{HashKind}
-use Rattle.history.specs.Orders.{IsLegal}
+use Rattle.script_commands.specs.Vocabulary.{hash_of, HashKind, IsLegal, Record, order_of}
 use Rattle.history_text.specs.Reading.{Reading}
 use Rattle.history_text.specs.Grammar.{IsSpelling}
-use Rattle.script_commands.specs.Beneath.machine_model.specs.Records.{Record, order_of}
 use Rattle.history_commands.specs.Verdicts.{IsVerdict}
 
 -- what a machine has to tell: which hash it uses, its history and its order

@@ -1,4 +1,5 @@
 pub mod Beneath
+pub mod Vocabulary
 pub mod Legality
 pub mod Denials
 pub mod Recorded

@@ -1,11 +1,6 @@
 -- A state with what is recorded of the run that led to it.
 use Rattle.std.specs.Prelude.{List}
-use Rattle.script_commands.specs.Beneath.machine_model.specs.declared.steps.Limits.{Limits}
-use Rattle.script_commands.specs.Beneath.machine_model.specs.declared.steps.Step.{Step}
-use Rattle.script_commands.specs.Beneath.machine_model.specs.Limits.{bounded}
-use Rattle.script_commands.specs.Beneath.machine_model.specs.Machine.{next_state, run_from}
-use Rattle.script_commands.specs.Beneath.machine_model.specs.Records.{Record, first_record, next_record, record_from}
-use Rattle.script_commands.specs.Beneath.machine_model.specs.States.{State, first_state}
+use Rattle.script_commands.specs.Vocabulary.{Limits, Step, bounded, next_state, run_from, Record, first_record, next_record, record_from, State, first_state}
 use Rattle.script_commands.specs.Beneath.proof_runs.specs.Machines.{Taken, past_of, state_of}
 use Rattle.script_text.specs.declared.commands.Command.{Command}
 use Rattle.script_text.specs.Steps.{steps_of}

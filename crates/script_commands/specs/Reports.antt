@@ -2,15 +2,11 @@
 use Rattle.std.specs.Prelude.{ℕ, List, [], ◌∷◌, ◌++◌, length, drop, Option, Some, None, codes}
 use Rattle.std.specs.List.{flat_map}
 use Rattle.std.specs.Fmt.{decimal}
-use Rattle.ctrie_base.specs.declared.refusals.Refusal.{Refusal}
-use Rattle.ctrie_base.specs.declared.hashes.HashKind.{HashKind}
-use Rattle.ctrie_base.specs.Refusals.{number_of, name_of}
+use Rattle.script_commands.specs.Vocabulary.{Refusal, HashKind, number_of, Event, in_use, order_of}
+use Rattle.ctrie_base.specs.Refusals.{name_of}
 use Rattle.ctrie_base.specs.Hashes as hashes
-use Rattle.history.specs.declared.events.Event.{Event}
 use Rattle.text_lines.specs.Words.{spaced}
 use Rattle.history_text.specs.Texts.{event_text, order_text}
-use Rattle.script_commands.specs.Beneath.slot_arena.specs.Heaps.{in_use}
-use Rattle.script_commands.specs.Beneath.machine_model.specs.Records.{order_of}
 use Rattle.step_machine.specs.declared.records.Record.{Record}
 use Rattle.script_text.specs.declared.commands.Command.{Command}
 use Rattle.script_text.specs.declared.commands.Command.TheVariants.{Begin, Go, Until, Finish, Do, Sweep}

@@ -1,6 +1,6 @@
 -- What a run of a script answers and writes.
 use Rattle.std.specs.Prelude.{◌≡◌, ℕ, true, List, Option, Ok}
-use Rattle.ctrie_base.specs.declared.refusals.Refusal.{Refusal}
+use Rattle.script_commands.specs.Vocabulary.{Refusal}
 use Rattle.script_text.specs.Reading.{Reading, script_of}
 use Rattle.script_text.specs.Grammar.{IsSpelling, IsShort}
 use Rattle.script_commands.specs.Endings.{EachLineEnds}

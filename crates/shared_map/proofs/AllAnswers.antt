@@ -5,17 +5,9 @@ use Rattle.std.proofs.Common.{refl, sym, ap, ap₂, subst, ◌∙◌, arith, sli
 use Rattle.std.specs.FinMap as maps
 use Rattle.std.proofs.lemmas.Bool.{true≢false}
 use Rattle.std.proofs.lemmas.Option.{same_Some}
-use Rattle.ctrie_base.specs.declared.hashes.HashKind.{HashKind}
-use Rattle.history.specs.declared.calls.Access.{Access}
-use Rattle.history.specs.declared.calls.Access.TheVariants.{Writable, ReadOnly}
-use Rattle.history.specs.declared.calls.Call.{Call}
+use Rattle.shared_map.specs.Vocabulary.{HashKind, Access, Writable, ReadOnly, Call, Reply, HandleMap, HandleState, KeyMap, handle_of, opens_handle, by_key, handle_limit}
 use Rattle.history.specs.declared.calls.Call.TheVariants as call
-use Rattle.history.specs.declared.replies.Reply.{Reply}
 use Rattle.history.specs.declared.replies.Reply.TheVariants as reply
-use Rattle.history.specs.Worlds.{HandleMap, HandleState, KeyMap}
-use Rattle.machine_model.specs.Calls.{handle_of, opens_handle}
-use Rattle.machine_model.specs.Pairs.{by_key}
-use Rattle.machine_model.specs.States.{handle_limit}
 use Rattle.ctrie_map.specs.Changes.{changes_map, denial_among}
 use Rattle.ctrie_map.specs.Costs.{work_of_call}
 use Rattle.ctrie_map.specs.Denials.{denial_by, is_frozen}

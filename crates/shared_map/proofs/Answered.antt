@@ -1,9 +1,7 @@
 -- What is told of a request about all shards.
 use Rattle.std.proofs.Common.{◌≡◌, ◌≢◌, ℕ, ◌≤◌, List, length, Option, Some, None, Ok, Err, option_map, refl, sym, ap, subst, ◌∙◌, arith, Bool}
-use Rattle.ctrie_base.specs.declared.hashes.HashKind.{HashKind}
-use Rattle.history.specs.declared.calls.Call.{Call}
+use Rattle.shared_map.specs.Vocabulary.{HashKind, Call, handle_of}
 use Rattle.history.specs.declared.replies.Reply.TheVariants as reply
-use Rattle.machine_model.specs.Calls.{handle_of}
 use Rattle.ctrie_map.specs.declared.errors.MapError.TheVariants.{Memory}
 use Rattle.ctrie_map.specs.Maps.{MapState}
 use Rattle.shared_map.specs.Answering.{AnswersAll, MapAnswers}

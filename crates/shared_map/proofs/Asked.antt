@@ -1,9 +1,7 @@
 -- What all shards answer to what changes nothing is answered by the whole.
 use Rattle.std.proofs.Common.{◌≡◌, inl, inr, ℕ, Bool, List, Option, Some, None, Ok, Err, IsOk, IsSome, option_map, refl, sym, ap, subst, ◌∙◌}
 use Rattle.std.specs.FinMap as maps
-use Rattle.ctrie_base.specs.declared.hashes.HashKind.{HashKind}
-use Rattle.history.specs.Worlds.{HandleState, KeyMap}
-use Rattle.machine_model.specs.Pairs.{by_key}
+use Rattle.shared_map.specs.Vocabulary.{HashKind, HandleState, KeyMap, by_key}
 use Rattle.ctrie_map.specs.declared.errors.MapError.{MapError}
 use Rattle.ctrie_map.specs.declared.errors.MapError.TheVariants as error
 use Rattle.ctrie_map.specs.Maps.{MapState, handles_of}

@@ -7,10 +7,8 @@ use Rattle.std.specs.List.{filter}
 use Rattle.std.specs.Ordering.{nat_cmp}
 use Rattle.std.proofs.lemmas.Bool.Decides.{nat_tests}
 use Rattle.std.proofs.lemmas.List.{append_cancel_left, take-append-drop, take_all}
-use Rattle.ctrie_base.specs.declared.hashes.HashKind.{HashKind}
-use Rattle.ctrie_base.specs.Sorting.{sorted_by}
+use Rattle.shared_map.specs.Vocabulary.{HashKind, sorted_by, KeyMap}
 use Rattle.ctrie_map.proofs.Listings.{parts_join}
-use Rattle.history.specs.Worlds.{KeyMap}
 use Rattle.shared_map.specs.Beneath.proof_contents.proofs.Pairs.Lists.{EachKey, Pairs, each-weaker}
 use Rattle.shared_map.specs.Beneath.proof_core.specs.Reading.{is_after}
 use Rattle.shared_map.specs.Beneath.proof_core.specs.Scanning.{is_behind, scan_order}

@@ -1,15 +1,9 @@
 -- What each branch of a call about all shards comes to.
 use Rattle.std.proofs.Common.{◌≡◌, ℕ, ◌<◌, ◌≤◌, Bool, true, false, List, [], ◌∷◌}
 use Rattle.std.proofs.Common.{length, Some, None, Result, Ok, Err, refl, sym, ap, subst, ◌∙◌}
-use Rattle.history.specs.declared.calls.Access.{Access}
-use Rattle.history.specs.declared.calls.Access.TheVariants.{Writable, ReadOnly}
-use Rattle.history.specs.declared.calls.Call.{Call}
+use Rattle.shared_map.specs.Vocabulary.{Access, Writable, ReadOnly, Call, Reply, handle_of, opens_handle, by_key, handle_limit}
 use Rattle.history.specs.declared.calls.Call.TheVariants as call
-use Rattle.history.specs.declared.replies.Reply.{Reply}
 use Rattle.history.specs.declared.replies.Reply.TheVariants as reply
-use Rattle.machine_model.specs.Calls.{handle_of, opens_handle}
-use Rattle.machine_model.specs.Pairs.{by_key}
-use Rattle.machine_model.specs.States.{handle_limit}
 use Rattle.ctrie_map.specs.Changes.{changes_map}
 use Rattle.ctrie_map.specs.declared.errors.MapError.{MapError}
 use Rattle.ctrie_map.specs.declared.errors.MapError.TheVariants as error

@@ -1,7 +1,6 @@
 -- An export is of the moment of its freeze.
 use Rattle.std.proofs.Common.{ℕ, ◌++◌, List, [], ◌∷◌, length, refl, subst}
-use Rattle.ctrie_base.specs.declared.hashes.HashKind.{HashKind}
-use Rattle.history.specs.Worlds.{HandleMap}
+use Rattle.shared_map.specs.Vocabulary.{HashKind, HandleMap}
 use Rattle.shared_map.specs.Asks.{MapEntry}
 use Rattle.shared_map.specs.Parts.{freezing}
 use Rattle.shared_map.specs.PartsLaws.{ExportsAreOfTheFreeze}

@@ -9,9 +9,7 @@ use Rattle.std.specs.FinMap.{nat_cmp-IsAntisymmetric}
 use Rattle.std.specs.FinMap.Entries.{below_all, where_key, find-where_key, is_sorted-where_key, same_entries}
 use Rattle.std.proofs.lemmas.Bool.{true≢false}
 use Rattle.std.proofs.lemmas.List.Sums.{length-filter, sum_by-cons}
-use Rattle.history.specs.Effects.{others}
-use Rattle.history.specs.Worlds.{KeyMap}
-use Rattle.machine_model.specs.Pairs.{by_key}
+use Rattle.shared_map.specs.Vocabulary.{others, KeyMap, by_key}
 use Rattle.shared_map.specs.Beneath.proof_contents.proofs.Pairs.Lists.{AreApart, EachKey, Pairs, entries_are, found_in}
 
 -- the first, or where it has none the other

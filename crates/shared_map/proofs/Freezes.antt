@@ -3,12 +3,8 @@ use Rattle.std.proofs.Common.{◌≡◌, ℕ, cond, Some, Ok, Err, refl, sym, ap
 use Rattle.std.specs.Cmp.{nat_cmp_total, unsigned_tied}
 use Rattle.std.specs.FinMap as maps
 use Rattle.ctrie_map.proofs.Opened.{is_opened}
-use Rattle.history.specs.declared.calls.Access.TheVariants.{ReadOnly}
-use Rattle.history.specs.declared.calls.Call.TheVariants.{Freeze}
-use Rattle.history.specs.declared.replies.Reply.{Reply}
+use Rattle.shared_map.specs.Vocabulary.{ReadOnly, Freeze, Reply, map_of, HandleState}
 use Rattle.history.specs.declared.replies.Reply.TheVariants as reply
-use Rattle.history.specs.Effects.{map_of}
-use Rattle.history.specs.Worlds.{HandleState}
 use Rattle.shared_map.specs.declared.asks.Answer.TheVariants as answer
 use Rattle.shared_map.specs.Asks.{Replied, replied_in, told_as}
 use Rattle.shared_map.specs.PartsLaws.{FreezesCopyTheMap}

@@ -6,17 +6,12 @@ use Rattle.std.specs.Cmp.{nat_cmp_total, unsigned_tied}
 use Rattle.std.specs.FinMap as maps
 use Rattle.std.proofs.lemmas.List.Elements.{All-head, All-tail}
 use Rattle.std.proofs.lemmas.Option.{same_Some}
-use Rattle.ctrie_base.specs.Hashes.{hash_of}
-use Rattle.ctrie_base.specs.declared.hashes.HashKind.{HashKind}
+use Rattle.shared_map.specs.Vocabulary.{hash_of, HashKind, Access, Writable, ReadOnly, Call, Get, Put, PutIfAbsent, Replace, ReplaceIf, Remove, RemoveIf, Clear, Snapshot, Freeze, Close, Entries}
+use Rattle.shared_map.specs.Vocabulary.{Count, Reply, changing, map_of, naming, put_if_absent_in, read_only_map_of, remove_if_in, remove_in, replace_if_in, replace_in, with_access, writable_map_of}
+use Rattle.shared_map.specs.Vocabulary.{HandleMap, HandleState, KeyMap}
 use Rattle.gate.specs.Logs.{entry}
-use Rattle.history.specs.declared.calls.Access.{Access}
-use Rattle.history.specs.declared.calls.Access.TheVariants.{Writable, ReadOnly}
-use Rattle.history.specs.declared.calls.Call.{Call}
-use Rattle.history.specs.declared.calls.Call.TheVariants.{Get, Put, PutIfAbsent, Replace, ReplaceIf, Remove, RemoveIf, Clear, Snapshot, Freeze, Close, Entries, Count}
-use Rattle.history.specs.declared.replies.Reply.{Reply}
 use Rattle.history.specs.declared.replies.Reply.TheVariants as reply
-use Rattle.history.specs.Effects.{changing, map_of, naming, put_if_absent_in, put_in, read_only_map_of, remove_if_in, remove_in, replace_if_in, replace_in, with_access, writable_map_of}
-use Rattle.history.specs.Worlds.{HandleMap, HandleState, KeyMap}
+use Rattle.history.specs.Effects.{put_in}
 use Rattle.ctrie_map.proofs.Opened.{is_opened}
 use Rattle.ctrie_map.specs.declared.errors.MapError.{MapError}
 use Rattle.ctrie_map.specs.declared.errors.MapError.TheVariants.{Full, WornOut}

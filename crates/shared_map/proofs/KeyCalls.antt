@@ -5,16 +5,11 @@ use Rattle.std.proofs.Common.{Ok, Err, refl, sym, ap, subst, ◌∙◌, slice_ge
 use Rattle.std.specs.FinMap as maps
 use Rattle.std.proofs.lemmas.Bool.{cases_eq}
 use Rattle.std.proofs.lemmas.Option.{same_Some}
-use Rattle.ctrie_base.specs.Hashes.{hash_of}
-use Rattle.ctrie_base.specs.declared.hashes.HashKind.{HashKind}
-use Rattle.history.specs.declared.calls.Access.TheVariants.{Writable}
-use Rattle.history.specs.declared.calls.Call.{Call}
+use Rattle.shared_map.specs.Vocabulary.{hash_of, HashKind, Writable, Call, Reply, changing, naming, put_if_absent_in, remove_if_in, remove_in, replace_if_in, replace_in, with_access, HandleMap}
+use Rattle.shared_map.specs.Vocabulary.{KeyMap, handle_of, opens_handle}
 use Rattle.history.specs.declared.calls.Call.TheVariants as call
-use Rattle.history.specs.declared.replies.Reply.{Reply}
 use Rattle.history.specs.declared.replies.Reply.TheVariants as reply
-use Rattle.history.specs.Effects.{changing, naming, put_if_absent_in, put_in, remove_if_in, remove_in, replace_if_in, replace_in, with_access}
-use Rattle.history.specs.Worlds.{HandleMap, KeyMap}
-use Rattle.machine_model.specs.Calls.{handle_of, opens_handle}
+use Rattle.history.specs.Effects.{put_in}
 use Rattle.ctrie_map.specs.Calling.{Calls}
 use Rattle.ctrie_map.specs.Changes.{changes_map, denial_among, denial_in}
 use Rattle.ctrie_map.specs.Cores.{is_worn_out}

@@ -5,10 +5,9 @@ use Rattle.std.specs.Cmp.{nat_cmp_total, unsigned_tied}
 use Rattle.std.specs.Option.{option_eq}
 use Rattle.std.specs.Ordering.{eq_by_cmp}
 use Rattle.std.specs.FinMap as map
-use Rattle.history.specs.declared.replies.Reply.{Reply}
+use Rattle.shared_map.specs.Vocabulary.{Reply, has_value, is_crowded, put_if_absent_in, remove_if_in, remove_in, replace_if_in, replace_in, KeyMap}
 use Rattle.history.specs.declared.replies.Reply.TheVariants as reply
-use Rattle.history.specs.Effects.{has_value, is_crowded, put_if_absent_in, put_in, remove_if_in, remove_in, replace_if_in, replace_in}
-use Rattle.history.specs.Worlds.{KeyMap}
+use Rattle.history.specs.Effects.{put_in}
 use Rattle.std.proofs.lemmas.Bool.{true≢false}
 use Rattle.shared_map.proofs.Finding.{same_others}
 

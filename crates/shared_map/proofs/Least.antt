@@ -7,8 +7,7 @@ use Rattle.std.proofs.lemmas.List.{take-take}
 use Rattle.std.proofs.lemmas.List.Elements.{filter-append}
 use Rattle.std.proofs.lemmas.List.Sums.{sum_by-append}
 use Rattle.ctrie_base.proofs.Sorting.{Rises, same_rising, sorted_alike, sorted_rises}
-use Rattle.history.specs.Worlds.{HandleMap, HandleState}
-use Rattle.machine_model.specs.Pairs.{by_key, comes_before}
+use Rattle.shared_map.specs.Vocabulary.{HandleMap, HandleState, by_key, comes_before}
 use Rattle.shared_map.specs.Beneath.proof_core.proofs.Filtered.{filter_sorted}
 use Rattle.shared_map.specs.Beneath.proof_core.proofs.Firsts.{take_sorted}
 use Rattle.shared_map.specs.Beneath.machine_core.proofs.Selected.{by_alike}

@@ -3,9 +3,7 @@ use Rattle.std.proofs.Common.{◌≡◌, ℕ, Bool, true, false, cond, List, [],
 use Rattle.std.proofs.Common.{sym, refl, ap, ap₂, ◌∙◌, arith}
 use Rattle.std.specs.Ordering.{eq_by_cmp}
 use Rattle.std.specs.FinMap as maps
-use Rattle.ctrie_base.specs.declared.hashes.HashKind.{HashKind}
-use Rattle.history.specs.declared.calls.Access.TheVariants.{Writable}
-use Rattle.history.specs.Worlds.{HandleState, KeyMap, first_world}
+use Rattle.shared_map.specs.Vocabulary.{HashKind, Writable, HandleState, KeyMap, first_world}
 use Rattle.ctrie_map.specs.Maps.{MapState, handles_of}
 use Rattle.shared_map.specs.Laws.{NewShardsAreEmpty, ShardsMakeTheMap}
 use Rattle.shared_map.specs.Opening.{AreNew}

@@ -6,14 +6,9 @@ use Rattle.std.specs.FinMap.Entries.{is_sorted, is_sorted-where_key}
 use Rattle.std.specs.Ordering.{nat_cmp}
 use Rattle.std.proofs.Math.Nat.{mod-eq_of_lt}
 use Rattle.ctrie_base.proofs.Sorting.{sorted_alike}
-use Rattle.ctrie_base.specs.declared.hashes.HashKind.{HashKind}
-use Rattle.ctrie_base.specs.Sorting.{sorted_by}
+use Rattle.shared_map.specs.Vocabulary.{HashKind, sorted_by, Access, ReadOnly, HandleState, KeyMap, by_key}
 use Rattle.ctrie_map.specs.declared.errors.MapError.{MapError}
 use Rattle.ctrie_map.specs.declared.errors.MapError.TheVariants.{Memory, NoHandle}
-use Rattle.history.specs.declared.calls.Access.{Access}
-use Rattle.history.specs.declared.calls.Access.TheVariants.{ReadOnly}
-use Rattle.history.specs.Worlds.{HandleState, KeyMap}
-use Rattle.machine_model.specs.Pairs.{by_key}
 use Rattle.shared_map.specs.Beneath.machine_core.proofs.Selected.{by_alike}
 use Rattle.shared_map.specs.Beneath.proof_contents.proofs.Pairs.Lists.{Pairs}
 use Rattle.shared_map.specs.Beneath.proof_core.proofs.Scanning.Order.{scan_is_order}

@@ -5,9 +5,7 @@ use Rattle.std.specs.Cmp.{nat_cmp_total}
 use Rattle.std.specs.Ordering.{eq_by_cmp}
 use Rattle.std.specs.FinMap as maps
 use Rattle.std.proofs.lemmas.Bool.{true≢false}
-use Rattle.ctrie_base.specs.declared.hashes.HashKind.{HashKind}
-use Rattle.history.specs.declared.calls.Access.TheVariants.{Writable}
-use Rattle.history.specs.Worlds.{HandleMap, first_world}
+use Rattle.shared_map.specs.Vocabulary.{HashKind, Writable, HandleMap, first_world}
 use Rattle.ctrie_map.specs.Maps.{IsNew, MapState, RefusesSizes}
 use Rattle.ctrie_map.specs.declared.errors.MapError.{MapError}
 use Rattle.shared_map.specs.Asks.{place_of}

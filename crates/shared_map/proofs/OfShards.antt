@@ -5,9 +5,7 @@ use Rattle.std.proofs.Common.{option_map, Ok, refl, sym, ap, subst, ◌∙◌, a
 use Rattle.std.specs.FinMap as maps
 use Rattle.std.proofs.lemmas.List.Sums.{sum_by-set}
 use Rattle.std.proofs.lemmas.Option.{get_or_from_slice_get, same_Some, slice_get-map, slice_get_within}
-use Rattle.ctrie_base.specs.Hashes.{hash_of}
-use Rattle.ctrie_base.specs.declared.hashes.HashKind.{HashKind}
-use Rattle.history.specs.Worlds.{HandleMap, HandleState, KeyMap}
+use Rattle.shared_map.specs.Vocabulary.{hash_of, HashKind, HandleMap, HandleState, KeyMap}
 use Rattle.ctrie_map.specs.Costs.{WorksUpTo}
 use Rattle.ctrie_map.specs.Denials.{denial_by}
 use Rattle.ctrie_map.specs.Maps.{MapState, handles_of}

@@ -4,13 +4,9 @@ use Rattle.std.proofs.Common.{Ok, Err, refl, sym, ap, subst, ◌∙◌, arith, o
 use Rattle.std.specs.FinMap as maps
 use Rattle.std.proofs.lemmas.List.Sums.{sum_by-cons}
 use Rattle.std.proofs.lemmas.Option.{same_Some}
-use Rattle.ctrie_base.specs.Hashes.{hash_of}
-use Rattle.ctrie_base.specs.declared.hashes.HashKind.{HashKind}
-use Rattle.history.specs.declared.calls.Call.{Call}
+use Rattle.shared_map.specs.Vocabulary.{hash_of, HashKind, Call, Reply, HandleMap}
 use Rattle.history.specs.declared.calls.Call.TheVariants as call
-use Rattle.history.specs.declared.replies.Reply.{Reply}
 use Rattle.history.specs.declared.replies.Reply.TheVariants as reply
-use Rattle.history.specs.Worlds.{HandleMap}
 use Rattle.ctrie_map.specs.Calling.{Calls, IsRead}
 use Rattle.ctrie_map.specs.Changes.{denial_among}
 use Rattle.ctrie_map.specs.Cores.{is_worn_out}

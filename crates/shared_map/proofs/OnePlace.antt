@@ -1,8 +1,7 @@
 -- Each key has its place in one of the shards.
 use Rattle.std.proofs.Common.{◌≡◌, ℕ, ◌*◌, ◌<◌, ◌%◌, ◌/◌, ◌^◌, sym, ap, ◌∙◌, arith, mod-lt}
 use Rattle.std.proofs.Math.Nat.{div-lt_iff_lt-mul, mul-lt-mul_of_pos_right}
-use Rattle.ctrie_base.specs.Hashes.{hash_of}
-use Rattle.ctrie_base.specs.declared.hashes.HashKind.{HashKind}
+use Rattle.shared_map.specs.Vocabulary.{hash_of, HashKind}
 use Rattle.shared_map.specs.Asks.{place_of, shard_of}
 
 part_within : (shards product : ℕ) → product < 2 ^ 64 → 0 < shards → product * shards / 2 ^ 64 < shards

@@ -1,7 +1,7 @@
 -- What one shard after another has found.
 use Rattle.std.proofs.Common.{◌≡◌, ℕ, suc, List, [], ◌∷◌, ◌++◌, Option, Some, None, Ok, Err, IsSome, refl, sym, ap, ap₂, subst, ◌∙◌}
 use Rattle.std.specs.FinMap as maps
-use Rattle.history.specs.Worlds.{HandleState, KeyMap}
+use Rattle.shared_map.specs.Vocabulary.{HandleState, KeyMap}
 use Rattle.ctrie_map.specs.declared.errors.MapError.{MapError}
 use Rattle.ctrie_map.specs.Maps.{MapState, handles_of}
 use Rattle.ctrie_map.specs.Reading.{IsOneOf, ReadsOf, read_of}

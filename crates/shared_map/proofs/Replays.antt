@@ -1,11 +1,6 @@
 -- A log of a map in shards replays on finite maps.
 use Rattle.std.proofs.Common.{ℕ, List, [], ◌∷◌, length, Some, Ok, Err, sym, ap, subst, ◌∙◌}
-use Rattle.ctrie_base.specs.Hashes.{hash_of}
-use Rattle.ctrie_base.specs.declared.hashes.HashKind.{HashKind}
-use Rattle.history.specs.declared.calls.Call.{Call}
-use Rattle.history.specs.declared.calls.Call.TheVariants.{Get, Entries, Count}
-use Rattle.history.specs.declared.replies.Reply.{Reply}
-use Rattle.history.specs.declared.replies.Reply.TheVariants.{NoSlots, Opened}
+use Rattle.shared_map.specs.Vocabulary.{hash_of, HashKind, Call, Get, Entries, Count, Reply, NoSlots, Opened}
 use Rattle.ctrie_map.specs.declared.errors.MapError.{MapError}
 use Rattle.ctrie_map.specs.declared.errors.MapError.TheVariants.{Full, WornOut}
 use Rattle.ctrie_map.specs.Maps.{MapState}

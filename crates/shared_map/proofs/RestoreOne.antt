@@ -1,9 +1,7 @@
 -- What a restore in one shard comes to.
 use Rattle.std.proofs.Common.{◌≡◌, ℕ, ◌≤◌, false, None, Result, Ok, Err, sym, ap, ◌∙◌, arith}
 use Rattle.std.proofs.lemmas.Bool.{true≢false}
-use Rattle.history.specs.declared.calls.Access.TheVariants.{Writable}
-use Rattle.history.specs.declared.calls.Call.TheVariants.{Snapshot}
-use Rattle.history.specs.Effects.{naming}
+use Rattle.shared_map.specs.Vocabulary.{Writable, Snapshot, naming}
 use Rattle.ctrie_map.specs.Costs.{WorksUpTo}
 use Rattle.ctrie_map.specs.declared.errors.MapError.{MapError}
 use Rattle.ctrie_map.specs.declared.errors.MapError.TheVariants.{Full, WornOut}

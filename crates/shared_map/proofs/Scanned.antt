@@ -6,8 +6,7 @@ use Rattle.std.specs.FinMap.{find, nat_cmp-IsAntisymmetric}
 use Rattle.std.specs.FinMap.Entries.{find-where_key, is_sorted-where_key, same_entries, where_key}
 use Rattle.std.specs.Ordering.{nat_cmp}
 use Rattle.std.proofs.lemmas.Bool.{true≢false}
-use Rattle.ctrie_base.specs.declared.hashes.HashKind.{HashKind}
-use Rattle.history.specs.Worlds.{HandleState}
+use Rattle.shared_map.specs.Vocabulary.{HashKind, HandleState}
 use Rattle.ctrie_map.specs.Maps.{MapState, handles_of}
 use Rattle.ctrie_map.specs.Reading.{read_of}
 use Rattle.shared_map.specs.Readings.{entries_in}

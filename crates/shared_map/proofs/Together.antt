@@ -6,8 +6,7 @@ use Rattle.std.specs.List.{filter, flat_map, range_with_len}
 use Rattle.std.proofs.lemmas.Bool.Decides.{nat_tests}
 use Rattle.std.proofs.lemmas.List.Sums.{sum_by-append}
 use Rattle.ctrie_base.proofs.Sorting.{Alike, count_more, sorted_alike}
-use Rattle.ctrie_base.specs.Hashes.{hash_of}
-use Rattle.machine_model.specs.Pairs.{comes_before}
+use Rattle.shared_map.specs.Vocabulary.{hash_of, comes_before}
 use Rattle.shared_map.specs.Asks.{place_of}
 use Rattle.shared_map.specs.Beneath.machine_core.proofs.Selected.{by_alike}
 use Rattle.shared_map.specs.Beneath.machine_core.proofs.Sorting.{pairs_order}

@@ -6,13 +6,8 @@ use Rattle.std.proofs.Common.{option_map, option_and_then, refl, sym, ap, ap₂,
 use Rattle.std.specs.FinMap as maps
 use Rattle.std.proofs.lemmas.Bool.{cases_eq, true≢false}
 use Rattle.std.proofs.lemmas.List.Sums.{sum_by-cons}
-use Rattle.ctrie_base.specs.Hashes.{hash_of}
-use Rattle.ctrie_base.specs.declared.hashes.HashKind.{HashKind}
-use Rattle.history.specs.declared.calls.Access.{Access}
-use Rattle.history.specs.declared.calls.Access.TheVariants.{Writable, ReadOnly}
+use Rattle.shared_map.specs.Vocabulary.{hash_of, HashKind, Access, Writable, ReadOnly, naming, with_access, HandleMap, HandleState, KeyMap}
 use Rattle.history.specs.declared.calls.Call.TheVariants as call
-use Rattle.history.specs.Effects.{naming, with_access}
-use Rattle.history.specs.Worlds.{HandleMap, HandleState, KeyMap}
 use Rattle.ctrie_map.specs.Costs.{work_of_call}
 use Rattle.ctrie_map.specs.Maps.{MapState}
 use Rattle.ctrie_map.specs.Performing.{copy_call, effect_among}

@@ -7,9 +7,7 @@ use Rattle.std.specs.FinMap as maps
 use Rattle.std.specs.FinMap.{nat_cmp-IsAntisymmetric}
 use Rattle.std.proofs.lemmas.Bool.{true≢false}
 use Rattle.std.proofs.lemmas.Option.{same_Some}
-use Rattle.history.specs.declared.calls.Access.{Access}
-use Rattle.history.specs.Effects.{naming}
-use Rattle.history.specs.Worlds.{HandleMap, KeyMap}
+use Rattle.shared_map.specs.Vocabulary.{Access, naming, HandleMap, KeyMap}
 use Rattle.shared_map.specs.Uniting.{AreOfKinds, AreOwnFrom, kind_of, pairs_at, pairs_of, united, united_at, value_at}
 use Rattle.shared_map.proofs.Places.{get_set_other, get_set_same, within_get}
 use Rattle.shared_map.proofs.United.{get_by_kind, has_at, same_world, shown_as}

@@ -8,9 +8,7 @@ use Rattle.std.specs.FinMap as maps
 use Rattle.std.specs.FinMap.{find, nat_cmp-IsAntisymmetric}
 use Rattle.std.specs.FinMap.Entries.{below_all}
 use Rattle.std.proofs.lemmas.Option.{same_Some}
-use Rattle.history.specs.declared.calls.Access.{Access}
-use Rattle.history.specs.Worlds.{HandleMap, HandleState, KeyMap}
-use Rattle.machine_model.specs.Pairs.{by_key}
+use Rattle.shared_map.specs.Vocabulary.{Access, HandleMap, HandleState, KeyMap, by_key}
 use Rattle.shared_map.specs.Beneath.proof_contents.proofs.Pairs.Lists.{AreApart, EachKey, Pairs, apart-append}
 use Rattle.shared_map.specs.Beneath.proof_contents.proofs.Pairs.Lists.{count_is, entries_are, found-first, found_in}
 use Rattle.shared_map.specs.Uniting.{AreOfKinds, AreOwnFrom, kind_of, pairs_at, pairs_of, united, united_at, value_at, value_of, with_pairs}

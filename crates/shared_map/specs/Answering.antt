@@ -1,13 +1,8 @@
 -- What a map in shards answers, seen in the world of the whole.
 use Rattle.std.specs.Prelude.{◌≡◌, ◌≢◌, ℕ, ◌+◌, ◌*◌, ◌≤◌, true, false, Option, Some, None, List, length, map, Ok, Err}
 use Rattle.std.specs.FinMap as map
-use Rattle.ctrie_base.specs.Hashes.{hash_of}
-use Rattle.ctrie_base.specs.declared.hashes.HashKind.{HashKind}
-use Rattle.history.specs.declared.calls.Call.{Call}
-use Rattle.history.specs.declared.calls.Call.TheVariants.{Get, Entries, Count, Snapshot}
-use Rattle.history.specs.declared.replies.Reply.{Reply}
+use Rattle.shared_map.specs.Vocabulary.{hash_of, HashKind, Call, Get, Entries, Count, Snapshot, Reply, HandleMap}
 use Rattle.history.specs.declared.replies.Reply.TheVariants as reply
-use Rattle.history.specs.Worlds.{HandleMap}
 use Rattle.ctrie_map.specs.Calling.{IsRead}
 use Rattle.ctrie_map.specs.Changes.{denial_among}
 use Rattle.ctrie_map.specs.Costs.{work_of_call}

@@ -1,7 +1,7 @@
 -- What shards are asked before all of them are changed.
 use Rattle.std.specs.Prelude.{◌≡◌, ◌&&◌, ◌||◌, ℕ, Bool, true, false, not, nat_le, nat_lt, if◌then◌else◌, Option, Some, None, Result, Ok, Err}
 use Rattle.std.specs.FinMap as map
-use Rattle.machine_model.specs.States.{handle_limit}
+use Rattle.shared_map.specs.Vocabulary.{handle_limit}
 use Rattle.ctrie_map.specs.Calling.{Calls}
 use Rattle.ctrie_map.specs.Cores.{is_worn_out}
 use Rattle.ctrie_map.specs.Costs.{WorksUpTo, work_of_call}

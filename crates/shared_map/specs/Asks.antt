@@ -1,11 +1,6 @@
 -- What is asked of a map in shards, what is told, and which shard a request is about.
 use Rattle.std.specs.Prelude.{ℕ, ◌*◌, ◌/◌, ◌%◌, ◌^◌, Option, Some, None, Result, Ok, Err, option_map}
-use Rattle.ctrie_base.specs.Hashes.{hash_of}
-use Rattle.ctrie_base.specs.declared.hashes.HashKind.{HashKind}
-use Rattle.history.specs.declared.calls.Call.{Call}
-use Rattle.history.specs.declared.calls.Call.TheVariants.{Get, Put, PutIfAbsent, Replace, ReplaceIf, Remove, RemoveIf}
-use Rattle.history.specs.declared.replies.Reply.{Reply}
-use Rattle.machine_model.specs.Calls.{handle_of}
+use Rattle.shared_map.specs.Vocabulary.{hash_of, HashKind, Call, Get, Put, PutIfAbsent, Replace, ReplaceIf, Remove, RemoveIf, Reply, handle_of}
 use Rattle.gate.specs.declared.objects.Entry.{Entry}
 use Rattle.ctrie_map.specs.declared.errors.MapError.{MapError}
 use Rattle.ctrie_map.specs.declared.errors.MapError.TheVariants.{Memory}

@@ -1,9 +1,7 @@
 -- What the log of a shared map comes to.
 use Rattle.std.specs.Prelude.{◌≡◌, ℕ, ◌≤◌, List, [], ◌∷◌, length, Some, slice_get}
 use Rattle.std.specs.FinMap as map
-use Rattle.ctrie_base.specs.declared.hashes.HashKind.{HashKind}
-use Rattle.history.specs.declared.calls.Call.{Call}
-use Rattle.history.specs.Worlds.{first_world}
+use Rattle.shared_map.specs.Vocabulary.{HashKind, Call, first_world}
 use Rattle.gate.specs.Logs.{Logged, IsLegal}
 use Rattle.ctrie_map.specs.Calling.{Calls}
 use Rattle.ctrie_map.specs.Costs.{WorksUpTo, work_of_call}

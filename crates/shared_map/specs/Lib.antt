@@ -1,4 +1,5 @@
 pub mod Beneath
+pub mod Vocabulary
 pub mod Uniting
 pub mod Visits
 pub mod Asks

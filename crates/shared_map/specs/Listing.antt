@@ -2,7 +2,7 @@
 use Rattle.std.specs.Prelude.{◌≡◌, ℕ, ◌++◌, false, List, [], Option, Some, None, flat_map}
 use Rattle.std.specs.Global.{Vec}
 use Rattle.std.specs.FinMap as map
-use Rattle.history.specs.Worlds.{HandleMap}
+use Rattle.shared_map.specs.Vocabulary.{HandleMap}
 use Rattle.ctrie_map.specs.Maps.{MapState, handles_of}
 use Rattle.shared_map.specs.Beneath.proof_core.specs.Reading.{next_of}
 use Rattle.shared_map.specs.declared.listing.Listed.{Listed}

@@ -2,13 +2,8 @@
 use Rattle.std.specs.Prelude.{◌≡◌, ◌<◌, ◌++◌, ℕ, List, [], ◌∷◌, length, flat_map, All, Contains, Option, Some, None, Ok}
 use Rattle.std.specs.List.{range_with_len}
 use Rattle.std.specs.FinMap as map
-use Rattle.ctrie_base.specs.declared.hashes.HashKind.{HashKind}
+use Rattle.shared_map.specs.Vocabulary.{HashKind, ReadOnly, Close, Freeze, Closed, Opened, HandleMap, KeyMap, by_key}
 use Rattle.gate.specs.Logs.{entry}
-use Rattle.history.specs.declared.calls.Access.TheVariants.{ReadOnly}
-use Rattle.history.specs.declared.calls.Call.TheVariants.{Close, Freeze}
-use Rattle.history.specs.declared.replies.Reply.TheVariants.{Closed, Opened}
-use Rattle.history.specs.Worlds.{HandleMap, KeyMap}
-use Rattle.machine_model.specs.Pairs.{by_key}
 use Rattle.shared_map.specs.declared.asks.Answer.TheVariants as answer
 use Rattle.shared_map.specs.declared.asks.Ask.TheVariants.{Do, From, Scan}
 use Rattle.shared_map.specs.declared.asks.Request.{Request}

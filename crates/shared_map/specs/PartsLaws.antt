@@ -2,13 +2,8 @@
 use Rattle.std.specs.Prelude.{◌≡◌, ◌+◌, ◌%◌, ◌<◌, ◌≤◌, ◌++◌, ℕ, List, ◌∷◌, length, flat_map, Option, Some, None, Ok}
 use Rattle.std.specs.FinMap as map
 use Rattle.std.specs.List.{range_with_len}
-use Rattle.ctrie_base.specs.declared.hashes.HashKind.{HashKind}
+use Rattle.shared_map.specs.Vocabulary.{HashKind, Freeze, Opened, map_of, HandleMap, HandleState, KeyMap, by_key}
 use Rattle.gate.specs.Logs.{IsLegal}
-use Rattle.history.specs.declared.calls.Call.TheVariants.{Freeze}
-use Rattle.history.specs.declared.replies.Reply.TheVariants.{Opened}
-use Rattle.history.specs.Effects.{map_of}
-use Rattle.history.specs.Worlds.{HandleMap, HandleState, KeyMap}
-use Rattle.machine_model.specs.Pairs.{by_key}
 use Rattle.shared_map.specs.declared.asks.Answer.TheVariants as answer
 use Rattle.shared_map.specs.declared.asks.Ask.TheVariants.{Do}
 use Rattle.shared_map.specs.Answering.{MapAnswers}

@@ -1,7 +1,7 @@
 -- Any one key of all shards with its value.
 use Rattle.std.specs.Prelude.{◌≡◌, ℕ, List, [], Option, Some, None, slice_get}
 use Rattle.std.specs.FinMap as map
-use Rattle.history.specs.Worlds.{KeyMap}
+use Rattle.shared_map.specs.Vocabulary.{KeyMap}
 use Rattle.ctrie_map.specs.Maps.{MapState, handles_of}
 use Rattle.ctrie_map.specs.Reading.{IsOneOf}
 use Rattle.shared_map.specs.declared.picking.Picking.{Picking}

@@ -1,12 +1,8 @@
 -- What a log says of the finite maps that handles name.
 use Rattle.std.specs.Prelude.{◌≡◌, ◌≢◌, ℕ, List, [], ◌∷◌, Option, Some, None, Ok, Err}
 use Rattle.std.specs.FinMap as map
-use Rattle.ctrie_base.specs.Hashes.{hash_of}
-use Rattle.ctrie_base.specs.declared.hashes.HashKind.{HashKind}
-use Rattle.history.specs.declared.calls.Call.{Call}
-use Rattle.history.specs.declared.calls.Call.TheVariants.{Get, Entries, Count}
+use Rattle.shared_map.specs.Vocabulary.{hash_of, HashKind, Call, Get, Entries, Count, HandleMap}
 use Rattle.history.specs.declared.replies.Reply.TheVariants as reply
-use Rattle.history.specs.Worlds.{HandleMap}
 use Rattle.ctrie_map.specs.declared.errors.MapError.TheVariants.{Full, Memory, WornOut}
 use Rattle.ctrie_map.specs.Calling.{IsRead}
 use Rattle.ctrie_map.specs.Changes.{denial_among}

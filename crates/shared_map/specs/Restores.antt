@@ -1,10 +1,7 @@
 -- What a restore makes of the handles, and why it isn't begun.
 use Rattle.std.specs.Prelude.{◌≡◌, ℕ, ◌+◌, ◌&&◌, not, nat_eq, nat_le, Option, Some}
 use Rattle.std.specs.FinMap as map
-use Rattle.history.specs.declared.calls.Access.TheVariants.{Writable}
-use Rattle.history.specs.Effects.{naming}
-use Rattle.history.specs.Worlds.{HandleMap, HandleState}
-use Rattle.machine_model.specs.States.{handle_limit}
+use Rattle.shared_map.specs.Vocabulary.{Writable, naming, HandleMap, HandleState, handle_limit}
 use Rattle.ctrie_map.specs.Costs.{work_of_a_close, work_of_a_copy}
 use Rattle.ctrie_map.specs.declared.errors.MapError.{MapError}
 use Rattle.ctrie_map.specs.Drafts.{IsWritable}

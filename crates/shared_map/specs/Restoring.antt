@@ -1,7 +1,6 @@
 -- What the parts of a restore in all shards come to.
 use Rattle.std.specs.Prelude.{◌≡◌, ◌≢◌, ℕ, Bool, true, false, not, List, [], ◌∷◌, Option, Some, None, Result, Ok, Err, IfOk, IfErr, if◌then◌else◌}
-use Rattle.history.specs.declared.calls.Access.TheVariants.{Writable}
-use Rattle.history.specs.declared.calls.Call.TheVariants.{Snapshot}
+use Rattle.shared_map.specs.Vocabulary.{Writable, Snapshot}
 use Rattle.ctrie_map.specs.Costs.{WorksUpTo}
 use Rattle.ctrie_map.specs.declared.errors.MapError.{MapError}
 use Rattle.ctrie_map.specs.declared.errors.MapError.TheVariants.{Full, HandlesFull, ReadOnly, WornOut}

@@ -1,7 +1,6 @@
 -- What contracts see of a shared map and of its seats.
 use Rattle.std.specs.Prelude.{◌≡◌, ◌<◌, List, [], All, length}
-use Rattle.ctrie_base.specs.declared.hashes.HashKind.{HashKind}
-use Rattle.ctrie_base.specs.declared.hashes.HashKind.TheVariants.{Fold}
+use Rattle.shared_map.specs.Vocabulary.{HashKind, Fold}
 use Rattle.ctrie_map.specs.Maps.{MapState}
 use Rattle.gate.specs.Naming.{no_gate}
 use Rattle.gate.specs.Seats as gates

@@ -1,6 +1,7 @@
 -- What the calls tell of an answer.
 use Rattle.std.specs.Prelude.{ℕ, Bool, false, List, Option, Result, Ok, Err, is_ok, is_some}
-use Rattle.history.specs.declared.replies.Reply.TheVariants.{Pairs, Count, Truth}
+use Rattle.shared_map.specs.Vocabulary.{Pairs, Truth}
+use Rattle.history.specs.declared.replies.Reply.TheVariants.{Count}
 use Rattle.ctrie_map.specs.declared.errors.MapError.{MapError}
 use Rattle.ctrie_map.specs.declared.errors.MapError.TheVariants.{Memory}
 use Rattle.ctrie_map.specs.Telling as map

@@ -1,15 +1,9 @@
 -- Changes of all shards, each of which is turned alike.
 use Rattle.std.specs.Prelude.{◌≡◌, ◌<◌, ◌≤◌, ℕ, false, Option, Some, None, List, [], ◌∷◌}
 use Rattle.std.specs.FinMap as map
-use Rattle.history.specs.declared.calls.Access.TheVariants.{Writable}
-use Rattle.history.specs.declared.calls.Call.{Call}
+use Rattle.shared_map.specs.Vocabulary.{Writable, Call, Reply, naming, HandleMap, HandleState, KeyMap, handle_of, handle_limit}
 use Rattle.history.specs.declared.calls.Call.TheVariants as call
-use Rattle.history.specs.declared.replies.Reply.{Reply}
 use Rattle.history.specs.declared.replies.Reply.TheVariants as reply
-use Rattle.history.specs.Effects.{naming}
-use Rattle.history.specs.Worlds.{HandleMap, HandleState, KeyMap}
-use Rattle.machine_model.specs.Calls.{handle_of}
-use Rattle.machine_model.specs.States.{handle_limit}
 use Rattle.ctrie_map.specs.Changes.{changes_map}
 use Rattle.ctrie_map.specs.Cores.{is_worn_out}
 use Rattle.ctrie_map.specs.Costs.{WorksUpTo, work_of_call}

@@ -1,8 +1,7 @@
 -- Several worlds as one: the handles of the first, each with the maps that it has in all of them together.
 use Rattle.std.specs.Prelude.{◌≡◌, ℕ, suc, List, [], ◌∷◌, IsSome, Option, Some, None, flat_map, map, option_and_then, option_map}
 use Rattle.std.specs.FinMap as maps
-use Rattle.history.specs.declared.calls.Access.{Access}
-use Rattle.history.specs.Worlds.{HandleMap, HandleState, KeyMap}
+use Rattle.shared_map.specs.Vocabulary.{Access, HandleMap, HandleState, KeyMap}
 
 abbrev pub pairs_of : Option HandleState → List (ℕ × ℕ)
 pairs_of None = []

@@ -1,9 +1,7 @@
 -- What the parts of a call about all shards come to.
 use Rattle.std.specs.Prelude.{◌≡◌, true, false, List, [], ◌∷◌, Some, None, Ok, Err, slice_get}
-use Rattle.ctrie_base.specs.declared.hashes.HashKind.{HashKind}
-use Rattle.history.specs.declared.calls.Call.{Call}
+use Rattle.shared_map.specs.Vocabulary.{HashKind, Call, handle_of}
 use Rattle.history.specs.declared.replies.Reply.TheVariants as reply
-use Rattle.machine_model.specs.Calls.{handle_of}
 use Rattle.ctrie_map.specs.Calling.{Calls}
 use Rattle.ctrie_map.specs.Costs.{WorksUpTo, work_of_call}
 use Rattle.ctrie_map.specs.declared.errors.MapError.TheVariants.{WornOut}

@@ -1,15 +1,9 @@
 -- What actions do to the heap and to the next generation, case by case.
 use Rattle.std.specs.Prelude.{◌≡◌, ◌==◌, ℕ, Bool, true, false, List, [], ◌∷◌, Option, Some, None, refl, if◌then◌else◌}
 use Rattle.std.proofs.Common.{ap, sym}
-use Rattle.snapshot.specs.Beneath.slot_arena.specs.declared.refs.Ref.{Ref}
-use Rattle.snapshot.specs.Beneath.slot_arena.specs.declared.nodes.Node.TheVariants.{Indirection}
-use Rattle.snapshot.specs.Beneath.slot_arena.specs.Heaps.{taken, take_from, next_ref, ref_in}
+use Rattle.snapshot.specs.Vocabulary.{Ref, Indirection, taken, take_from, next_ref, ref_in, Descriptor, Plain, State, word_at, with_word, stands_in, is_plain, if_changed, carried_out, opened}
+use Rattle.snapshot.specs.Vocabulary.{new_root_taken}
 use Rattle.snapshot.specs.Beneath.machine_model.specs.declared.actions.Action.TheVariants as act
-use Rattle.snapshot.specs.Beneath.machine_model.specs.declared.roots.Descriptor.{Descriptor}
-use Rattle.snapshot.specs.Beneath.machine_model.specs.declared.roots.RootWord.TheVariants.{Plain}
-use Rattle.snapshot.specs.Beneath.machine_model.specs.States.{State, word_at, with_word}
-use Rattle.snapshot.specs.Beneath.machine_model.specs.Swapping.{stands_in, is_plain}
-use Rattle.snapshot.specs.Beneath.machine_model.specs.Acting.{if_changed, carried_out, opened, new_root_taken}
 use Rattle.snapshot.specs.Beneath.gcas.proofs.Acting.{acts_on_heap}
 use Rattle.snapshot.specs.Tasks.{DrawsGenerations, drawn}
 

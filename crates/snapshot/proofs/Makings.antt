@@ -2,16 +2,11 @@
 use Rattle.std.specs.Prelude.{◌≡◌, ℕ, Some, refl}
 use Rattle.std.proofs.Common.{sym, ap, ◌∙◌}
 use Rattle.ctrie_base.specs.declared.kinds.Kind.TheVariants as kind
-use Rattle.snapshot.specs.Beneath.slot_arena.specs.declared.refs.Ref.{Ref}
-use Rattle.snapshot.specs.Beneath.slot_arena.specs.Heaps.{next_ref}
+use Rattle.snapshot.specs.Vocabulary.{Ref, next_ref, Line, Operation, copy_action, copy_if_made, copy_after_made, State}
 use Rattle.snapshot.specs.Beneath.gcas.specs.declared.read.ReadAt.{ReadAt}
 use Rattle.snapshot.specs.Beneath.machine_model.specs.declared.actions.Action.TheVariants as act
 use Rattle.snapshot.specs.Beneath.machine_model.specs.declared.copying.CopyLine.TheVariants as copy
-use Rattle.snapshot.specs.Beneath.machine_model.specs.declared.lines.Line.{Line}
 use Rattle.snapshot.specs.Beneath.machine_model.specs.declared.lines.Line.TheVariants as line
-use Rattle.snapshot.specs.Beneath.machine_model.specs.declared.operations.Operation.{Operation}
-use Rattle.snapshot.specs.Beneath.machine_model.specs.Copying.{copy_action, copy_if_made, copy_after_made}
-use Rattle.snapshot.specs.Beneath.machine_model.specs.States.{State}
 use Rattle.snapshot.specs.Beneath.trie_parts.specs.Steps.{Leads}
 use Rattle.snapshot.specs.declared.copy_op.Making.{Making}
 use Rattle.snapshot.specs.declared.copy_op.Making.TheVariants as making

@@ -1,13 +1,8 @@
 -- What a look leads to.
 use Rattle.std.specs.Prelude.{◌≡◌, Option, None}
 use Rattle.std.proofs.Common.{sym, ap, subst, ◌∙◌}
-use Rattle.ctrie_base.specs.declared.kinds.Kind.{Kind}
+use Rattle.snapshot.specs.Vocabulary.{Kind, Line, Operation, Read, kind_of, line_action, line_after, read_of, State}
 use Rattle.ctrie_base.specs.declared.kinds.Kind.TheVariants as kind
-use Rattle.snapshot.specs.Beneath.machine_model.specs.declared.lines.Line.{Line}
-use Rattle.snapshot.specs.Beneath.machine_model.specs.declared.operations.Operation.{Operation}
-use Rattle.snapshot.specs.Beneath.machine_model.specs.declared.reading.Read.{Read}
-use Rattle.snapshot.specs.Beneath.machine_model.specs.Operations.{kind_of, line_action, line_after, read_of}
-use Rattle.snapshot.specs.Beneath.machine_model.specs.States.{State}
 use Rattle.snapshot.specs.Beneath.gcas.specs.declared.next.Next.{Next}
 use Rattle.snapshot.specs.Beneath.gcas.specs.declared.next.Next.TheVariants.{More, AskRoot, Done}
 use Rattle.snapshot.specs.Beneath.gcas.specs.declared.read.ReadAt.{ReadAt}

@@ -1,13 +1,9 @@
 -- An offer, behind the giving up of what was made for it.
 use Rattle.std.specs.Prelude.{◌≡◌, ◌+◌, ◌≤◌, List, [], length, Option}
 use Rattle.std.proofs.Common.{arith, ap, ◌∙◌}
-use Rattle.snapshot.specs.Beneath.slot_arena.specs.declared.refs.Ref.{Ref}
-use Rattle.snapshot.specs.Beneath.slot_arena.specs.Arenas.{is_live}
-use Rattle.snapshot.specs.Beneath.slot_arena.specs.Times.{times}
-use Rattle.snapshot.specs.Beneath.epochs.specs.Memories.{Memory, KeepsEpochs}
+use Rattle.snapshot.specs.Vocabulary.{Ref, is_live, times, KeepsEpochs, Descriptor, Root}
+use Rattle.snapshot.specs.Beneath.epochs.specs.Memories.{Memory}
 use Rattle.snapshot.specs.Beneath.machine_model.specs.declared.actions.Action.TheVariants as act
-use Rattle.snapshot.specs.Beneath.machine_model.specs.declared.roots.Descriptor.{Descriptor}
-use Rattle.snapshot.specs.Beneath.machine_model.specs.declared.roots.Root.{Root}
 use Rattle.snapshot.specs.Beneath.trie_parts.specs.Holding.{KeepsOthers}
 use Rattle.snapshot.specs.Beneath.rdcss_root.specs.Acts.{ActsInAll}
 use Rattle.snapshot.specs.Beneath.rdcss_root.specs.Holding.{IsReady, Moves}

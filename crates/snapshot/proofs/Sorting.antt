@@ -5,7 +5,7 @@ use Rattle.std.proofs.Common.{arith}
 use Rattle.std.specs.List.Sorted.{IsSorted, IsPermutation}
 use Rattle.std.specs.Ordering.{nat_cmp, ordering_then, is_lt}
 use Rattle.ctrie_base.proofs.Sorting.{IsOrder, std_sorted}
-use Rattle.snapshot.specs.Beneath.machine_model.specs.Pairs.{comes_before, by_key}
+use Rattle.snapshot.specs.Vocabulary.{comes_before, by_key}
 
 abbrev pub Pair : Type 0
 Pair = ℕ × ℕ

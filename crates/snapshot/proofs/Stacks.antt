@@ -2,8 +2,7 @@
 use Rattle.std.specs.Prelude.{◌≡◌, ◌-◌, ◌++◌, List, [], ◌∷◌, reverse, length, slice_index_or, Option, Some, None, option_to_list, refl}
 use Rattle.std.proofs.Common.{arith, sym, ap, ◌∙◌, get_or}
 use Rattle.std.proofs.lemmas.List.{reverse-append, get_or-reverse}
-use Rattle.snapshot.specs.Beneath.slot_arena.specs.declared.refs.Ref.{Ref}
-use Rattle.snapshot.specs.Beneath.machine_model.specs.Walking.{first_of, rest_of}
+use Rattle.snapshot.specs.Vocabulary.{Ref, first_of, rest_of}
 
 first_or : (ys : List Ref) → get_or ys 0 0 ≡ first_of ys
 first_or [] = refl

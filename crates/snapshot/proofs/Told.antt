@@ -1,7 +1,6 @@
 -- What is told comes to a program by its READ, case by case.
 use Rattle.std.specs.Prelude.{◌≡◌, ℕ, List, Option, None, refl}
-use Rattle.snapshot.specs.Beneath.slot_arena.specs.declared.refs.Ref.{Ref}
-use Rattle.snapshot.specs.Beneath.machine_model.specs.declared.roots.Descriptor.{Descriptor}
+use Rattle.snapshot.specs.Vocabulary.{Ref, Descriptor}
 use Rattle.snapshot.specs.Beneath.gcas.specs.declared.read.Read.{Read}
 use Rattle.snapshot.specs.Beneath.gcas.specs.Reads.{line_of}
 use Rattle.snapshot.specs.Beneath.rdcss_root.specs.declared.complete.CompleteAt.{CompleteAt}

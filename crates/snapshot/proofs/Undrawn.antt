@@ -1,22 +1,12 @@
 -- Actions that draw no generation, with what they do to heap, private list and root words.
 use Rattle.std.specs.Prelude.{◌≡◌, ℕ, List, Option, refl}
 use Rattle.std.proofs.Common.{sym, subst}
-use Rattle.snapshot.specs.Beneath.slot_arena.specs.declared.refs.Ref.{Ref}
+use Rattle.snapshot.specs.Vocabulary.{Ref, Action, ReadLine, Complete, CompleteLine, Descriptor, Root, RootLine, copy_action, read_action, root_action, complete_action, complete_action_at}
 use Rattle.snapshot.specs.Beneath.epochs.specs.Memories.{Memory}
-use Rattle.snapshot.specs.Beneath.machine_model.specs.declared.actions.Action.{Action}
 use Rattle.snapshot.specs.Beneath.machine_model.specs.declared.actions.Action.TheVariants as act
-use Rattle.snapshot.specs.Beneath.machine_model.specs.declared.reading.ReadLine.{ReadLine}
 use Rattle.snapshot.specs.Beneath.machine_model.specs.declared.reading.ReadLine.TheVariants as read
-use Rattle.snapshot.specs.Beneath.machine_model.specs.declared.roots.Complete.{Complete}
-use Rattle.snapshot.specs.Beneath.machine_model.specs.declared.roots.CompleteLine.{CompleteLine}
 use Rattle.snapshot.specs.Beneath.machine_model.specs.declared.roots.CompleteLine.TheVariants as complete
-use Rattle.snapshot.specs.Beneath.machine_model.specs.declared.roots.Descriptor.{Descriptor}
-use Rattle.snapshot.specs.Beneath.machine_model.specs.declared.roots.Root.{Root}
-use Rattle.snapshot.specs.Beneath.machine_model.specs.declared.roots.RootLine.{RootLine}
 use Rattle.snapshot.specs.Beneath.machine_model.specs.declared.roots.RootLine.TheVariants as root
-use Rattle.snapshot.specs.Beneath.machine_model.specs.Copying.{copy_action}
-use Rattle.snapshot.specs.Beneath.machine_model.specs.Reading.{read_action}
-use Rattle.snapshot.specs.Beneath.machine_model.specs.Swapping.{root_action, complete_action, complete_action_at}
 use Rattle.snapshot.specs.Beneath.trie_parts.specs.Holding.{Acts}
 use Rattle.snapshot.specs.Beneath.rdcss_root.specs.Acts.{ActsInAll}
 use Rattle.snapshot.specs.Beneath.rdcss_root.proofs.Together.{by_parts}

@@ -1,23 +1,9 @@
 -- A COPY of the code as the definition's, and what a step of it comes to.
 use Rattle.std.specs.Prelude.{◌≡◌, ℕ, ◌+◌, ◌<◌, ◌≤◌, ◌^◌, List, Option}
-use Rattle.snapshot.specs.Beneath.slot_arena.specs.declared.refs.Ref.{Ref}
-use Rattle.snapshot.specs.Beneath.slot_arena.specs.declared.nodes.Node.{Node}
-use Rattle.snapshot.specs.Beneath.slot_arena.specs.declared.nodes.Node.TheVariants.{Indirection}
-use Rattle.snapshot.specs.Beneath.slot_arena.specs.Arenas.{AreLive}
-use Rattle.snapshot.specs.Beneath.slot_arena.specs.Heaps.{empty_branch}
-use Rattle.snapshot.specs.Beneath.slot_arena.specs.Times.{times}
+use Rattle.snapshot.specs.Vocabulary.{Ref, Node, Indirection, AreLive, empty_branch, times, Action, CopyLine, Line, Operation, Root, Offer, refs_of_word, line_action, generation_from, State}
 use Rattle.snapshot.specs.Beneath.epochs.specs.Memories.{Memory}
-use Rattle.snapshot.specs.Beneath.machine_model.specs.declared.actions.Action.{Action}
-use Rattle.snapshot.specs.Beneath.machine_model.specs.declared.copying.CopyLine.{CopyLine}
 use Rattle.snapshot.specs.Beneath.machine_model.specs.declared.copying.CopyLine.TheVariants as copy
-use Rattle.snapshot.specs.Beneath.machine_model.specs.declared.lines.Line.{Line}
 use Rattle.snapshot.specs.Beneath.machine_model.specs.declared.lines.Line.TheVariants as line
-use Rattle.snapshot.specs.Beneath.machine_model.specs.declared.operations.Operation.{Operation}
-use Rattle.snapshot.specs.Beneath.machine_model.specs.declared.roots.Root.{Root}
-use Rattle.snapshot.specs.Beneath.machine_model.specs.declared.roots.RootWord.TheVariants.{Offer}
-use Rattle.snapshot.specs.Beneath.machine_model.specs.Counting.{refs_of_word}
-use Rattle.snapshot.specs.Beneath.machine_model.specs.Operations.{line_action, generation_from}
-use Rattle.snapshot.specs.Beneath.machine_model.specs.States.{State}
 use Rattle.snapshot.specs.Beneath.gcas.specs.declared.next.Next.{Next}
 use Rattle.snapshot.specs.Beneath.gcas.specs.declared.next.Next.TheVariants.{More, AskRoot, Done}
 use Rattle.snapshot.specs.Beneath.gcas.specs.declared.read.Read.{Read}

@@ -1,4 +1,5 @@
 pub mod Beneath
+pub mod Vocabulary
 pub mod Copies
 pub mod Growing
 pub mod Tasks

@@ -1,18 +1,9 @@
 -- An operation that swaps the root, as the definition's, and the drawing of generations.
 use Rattle.std.specs.Prelude.{◌≡◌, ℕ, ◌+◌, Bool, false, slice_index_or, Option, Some, None}
-use Rattle.history.specs.declared.calls.Access.{Access}
-use Rattle.history.specs.declared.calls.Call.{Call}
+use Rattle.snapshot.specs.Vocabulary.{Access, Call, Reply, Ref, Indirection, Heap, next_ref, Action, Operation, acted, State}
 use Rattle.history.specs.declared.calls.Call.TheVariants as calls
-use Rattle.history.specs.declared.replies.Reply.{Reply}
 use Rattle.history.specs.declared.replies.Reply.TheVariants as reply
-use Rattle.snapshot.specs.Beneath.slot_arena.specs.declared.refs.Ref.{Ref}
-use Rattle.snapshot.specs.Beneath.slot_arena.specs.declared.nodes.Node.TheVariants.{Indirection}
-use Rattle.snapshot.specs.Beneath.slot_arena.specs.Heaps.{Heap, next_ref}
-use Rattle.snapshot.specs.Beneath.machine_model.specs.declared.actions.Action.{Action}
 use Rattle.snapshot.specs.Beneath.machine_model.specs.declared.actions.Action.TheVariants as act
-use Rattle.snapshot.specs.Beneath.machine_model.specs.declared.operations.Operation.{Operation}
-use Rattle.snapshot.specs.Beneath.machine_model.specs.Acting.{acted}
-use Rattle.snapshot.specs.Beneath.machine_model.specs.States.{State}
 use Rattle.snapshot.specs.Beneath.gcas.specs.Acted.{acted_heap}
 use Rattle.snapshot.specs.Beneath.rdcss_root.specs.Tables.{Table}
 use Rattle.snapshot.specs.declared.tasks.CopyCall.{CopyCall}

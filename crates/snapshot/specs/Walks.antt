@@ -1,17 +1,10 @@
 -- A WALK of the code as the definition's, and what a step of it comes to.
 use Rattle.std.specs.Prelude.{◌≡◌, ◌<◌, ◌≤◌, ℕ, Bool, true, false, List, [], ◌∷◌, Option}
 use Rattle.ctrie_base.specs.declared.kinds.Kind.TheVariants as kind
-use Rattle.history.specs.declared.calls.Access.{Access}
-use Rattle.history.specs.declared.calls.Call.{Call}
+use Rattle.snapshot.specs.Vocabulary.{Access, Call, Ref, Heap, Line, Operation, impossible, walked_reply}
 use Rattle.history.specs.declared.calls.Call.TheVariants as calls
-use Rattle.snapshot.specs.Beneath.slot_arena.specs.declared.refs.Ref.{Ref}
-use Rattle.snapshot.specs.Beneath.slot_arena.specs.Heaps.{Heap}
-use Rattle.snapshot.specs.Beneath.machine_model.specs.declared.lines.Line.{Line}
 use Rattle.snapshot.specs.Beneath.machine_model.specs.declared.lines.Line.TheVariants as line
-use Rattle.snapshot.specs.Beneath.machine_model.specs.declared.operations.Operation.{Operation}
 use Rattle.snapshot.specs.Beneath.machine_model.specs.declared.walking.WalkLine.TheVariants as walk
-use Rattle.snapshot.specs.Beneath.machine_model.specs.Lines.{impossible}
-use Rattle.snapshot.specs.Beneath.machine_model.specs.Walking.{walked_reply}
 use Rattle.snapshot.specs.Beneath.gcas.specs.declared.next.Next.{Next}
 use Rattle.snapshot.specs.Beneath.gcas.specs.declared.next.Next.TheVariants.{More, AskRoot, Done}
 use Rattle.snapshot.specs.Beneath.gcas.specs.declared.read.Read.{Read}

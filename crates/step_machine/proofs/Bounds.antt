@@ -1,12 +1,6 @@
 -- A core of a machine's bounds is refused for want of memory alone, and takes 2^40 steps at most.
 use Rattle.std.proofs.Common.{◌≡◌, ◌≤◌, ◌^◌, ℕ, List, ap, arith, sym, subst, inl, inr}
-use Rattle.ctrie_base.specs.declared.refusals.Refusal.{Refusal}
-use Rattle.machine_model.specs.declared.steps.Bounds.{Bounds}
-use Rattle.machine_model.specs.declared.steps.Limits.{Limits}
-use Rattle.machine_model.specs.declared.steps.Step.{Step}
-use Rattle.machine_model.specs.Limits.{AreLimits, bounded}
-use Rattle.machine_model.specs.Machine.{AreBounds, run}
-use Rattle.machine_model.specs.Refusing.{RefusesLimits}
+use Rattle.step_machine.specs.Vocabulary.{Refusal, Bounds, Limits, Step, AreLimits, bounded, AreBounds, run, RefusesLimits}
 use Rattle.machine_model.proofs.Along.{limits_along}
 use Rattle.step_machine.specs.Beneath.proof_core.specs.Bounds.{RefusesBounds}
 use Rattle.proof_runs.proofs.Bounds.{in_bounds}

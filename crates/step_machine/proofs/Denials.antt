@@ -1,14 +1,10 @@
 -- Denials.
 use Rattle.std.specs.Prelude.{◌≡◌, ◌⊎◌, ℕ, Bool, true, false, List, [], ◌∷◌, Option, Some, None, Err, cond, unwrap_or}
 use Rattle.std.proofs.Common.{refl, sym, subst, arith, inl, inr}
-use Rattle.ctrie_base.specs.declared.refusals.Refusal.{Refusal}
+use Rattle.step_machine.specs.Vocabulary.{Refusal, Call, Operation, Step, State, operation_of, next, denial_of, begin_denial, begin_unless, go_denial, go_unless, first_reason, is_spent}
+use Rattle.step_machine.specs.Vocabulary.{is_taken_step}
 use Rattle.ctrie_base.specs.declared.refusals.Refusal.TheVariants as refuse
-use Rattle.history.specs.declared.calls.Call.{Call}
-use Rattle.machine_model.specs.declared.operations.Operation.{Operation}
-use Rattle.machine_model.specs.declared.steps.Step.{Step}
 use Rattle.machine_model.specs.declared.steps.Step.TheVariants as step
-use Rattle.machine_model.specs.States.{State, operation_of}
-use Rattle.machine_model.specs.Machine.{next, denial_of, begin_denial, begin_unless, go_denial, go_unless, first_reason, is_spent, is_taken_step}
 use Rattle.proof_runs.specs.Machines.{Taken, state_of, Applied}
 use Rattle.machine_core.proofs.Steps.{denied}
 

@@ -1,27 +1,12 @@
 -- What a step tells may be told, and what is recorded then.
 use Rattle.std.proofs.Common.{arith, ◌≡◌, ◌⊎◌, inl, inr, ◌≤◌, ℕ, true, List, Option, Some, None, Result, Ok, Err, refl, sym, ap, subst, ◌∙◌}
 use Rattle.std.specs.Prelude.{unwrap_or}
-use Rattle.ctrie_base.specs.declared.refusals.Refusal.{Refusal}
+use Rattle.step_machine.specs.Vocabulary.{Refusal, Call, Reply, Action, Operation, Entrant, Progress, Told, Limits, Outcome, Step, bounded, begin_denial, denial_of, is_actor, is_taken_step, next}
+use Rattle.step_machine.specs.Vocabulary.{action_of, Record, next_record, noted, State, operation_of, entrant_of, progress_of, told_by, told_in, told_of}
 use Rattle.ctrie_base.specs.declared.refusals.Refusal.TheVariants as refuse
-use Rattle.history.specs.declared.calls.Call.{Call}
-use Rattle.history.specs.declared.replies.Reply.{Reply}
-use Rattle.machine_model.specs.declared.actions.Action.{Action}
 use Rattle.machine_model.specs.declared.actions.Action.TheVariants as act
-use Rattle.machine_model.specs.declared.operations.Operation.{Operation}
-use Rattle.machine_model.specs.declared.records.Entrant.{Entrant}
-use Rattle.machine_model.specs.declared.records.Progress.{Progress}
-use Rattle.machine_model.specs.declared.records.Told.{Told}
 use Rattle.machine_model.specs.declared.records.Told.TheVariants as told
-use Rattle.machine_model.specs.declared.steps.Limits.{Limits}
-use Rattle.machine_model.specs.declared.steps.Outcome.{Outcome}
-use Rattle.machine_model.specs.declared.steps.Step.{Step}
 use Rattle.machine_model.specs.declared.steps.Step.TheVariants as step
-use Rattle.machine_model.specs.Limits.{bounded}
-use Rattle.machine_model.specs.Machine.{begin_denial, denial_of, is_actor, is_taken_step, next}
-use Rattle.machine_model.specs.Operations.{action_of}
-use Rattle.machine_model.specs.Records.{Record, next_record, noted}
-use Rattle.machine_model.specs.States.{State, operation_of}
-use Rattle.machine_model.specs.Tellings.{entrant_of, progress_of, told_by, told_in, told_of}
 use Rattle.chronicle.specs.Chronicled.{CanBegin, CanEnd, CanGo, Chronicled}
 use Rattle.machine_core.specs.declared.telling.Begun.{Begun}
 use Rattle.machine_core.specs.declared.telling.Ended.{Ended}

@@ -3,20 +3,11 @@ use Rattle.std.specs.Prelude.{◌≡◌, ℕ, Option, Some, None, Result, Ok, Er
 use Rattle.std.specs.FinMap as map
 use Rattle.std.specs.Ordering.{nat_cmp}
 use Rattle.std.proofs.Common.{refl, sym, ap, ◌∙◌}
-use Rattle.ctrie_base.specs.Hashes.{hash_of}
-use Rattle.ctrie_base.specs.declared.refusals.Refusal.{Refusal}
-use Rattle.step_machine.specs.Beneath.slot_arena.specs.Heaps.{node_at, logical_main}
+use Rattle.step_machine.specs.Vocabulary.{hash_of, Refusal, node_at, logical_main, Root, content_at, most_levels, KeysFit, bounded, AreBounds, root_at, root_of, word_at, word_of, Bounds}
 use Rattle.step_machine.specs.Beneath.proof_contents.specs.Nodes.Looking.{find_at}
-use Rattle.machine_model.specs.declared.roots.Root.{Root}
-use Rattle.machine_model.specs.Contents.{content_at, most_levels}
-use Rattle.machine_model.specs.Keys.{KeysFit}
-use Rattle.machine_model.specs.Limits.{bounded}
-use Rattle.machine_model.specs.Machine.{AreBounds}
-use Rattle.machine_model.specs.States.{root_at, root_of, word_at, word_of}
 use Rattle.machine_core.specs.Finding.{found_along}
 use Rattle.step_machine.specs.Beneath.proof_shape.specs.Agreeing.{LookingFinds}
 use Rattle.proof_runs.specs.Machines.{Taken, state_of}
-use Rattle.machine_model.specs.declared.steps.Bounds.{Bounds}
 use Rattle.machine_model.proofs.Along.{limits_along}
 
 module _ (law : LookingFinds) (machine : Taken) (ok : AreBounds (bounded machine.limits)) (keys : KeysFit machine.steps) (handle key : ℕ) where

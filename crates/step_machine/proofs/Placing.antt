@@ -1,9 +1,6 @@
 -- A step adds at most one place to the order.
 use Rattle.std.proofs.Common.{◌+◌, ◌≤◌, length, Result, sym, subst, inl, inr, arith}
-use Rattle.ctrie_base.specs.declared.refusals.Refusal.{Refusal}
-use Rattle.machine_model.specs.declared.steps.Outcome.{Outcome}
-use Rattle.machine_model.specs.declared.steps.Step.{Step}
-use Rattle.machine_model.specs.Limits.{bounded}
+use Rattle.step_machine.specs.Vocabulary.{Refusal, Outcome, Step, bounded}
 use Rattle.proof_runs.specs.Laws.{OnePlaceAStep}
 use Rattle.proof_runs.specs.Machines.{Taken, past_of, Applied}
 use Rattle.proof_runs.proofs.Applying.{outcome_of}

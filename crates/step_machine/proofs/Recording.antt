@@ -1,21 +1,12 @@
 -- Runs that leave out what is denied, step by step, and their records.
 use Rattle.std.specs.Prelude.{◌≡◌, Bool, true, false, if◌then◌else◌, List, [], ◌∷◌, ◌++◌, Result, Ok, Err, IfOk}
 use Rattle.std.proofs.Common.{refl, sym, ap, subst, ◌∙◌}
-use Rattle.ctrie_base.specs.declared.refusals.Refusal.{Refusal}
+use Rattle.step_machine.specs.Vocabulary.{Refusal, Limits, Step, Outcome, in_use, first_record, order_of, record_of, bounded, State, first_state, next, next_state, run_from, run, is_taken_step}
+use Rattle.step_machine.specs.Vocabulary.{taken_from, hash_of, Explains}
 use Rattle.ctrie_base.specs.declared.refusals.Refusal.TheVariants as refuse
-use Rattle.machine_model.specs.declared.steps.Limits.{Limits}
-use Rattle.machine_model.specs.declared.steps.Step.{Step}
-use Rattle.machine_model.specs.declared.steps.Outcome.{Outcome}
 use Rattle.std.specs.Prelude.{length}
-use Rattle.step_machine.specs.Beneath.slot_arena.specs.Heaps.{in_use}
-use Rattle.machine_model.specs.Records.{first_record, order_of, record_of}
-use Rattle.machine_model.specs.Limits.{bounded}
-use Rattle.machine_model.specs.States.{State, first_state}
-use Rattle.machine_model.specs.Machine.{next, next_state, run_from, run, is_taken_step, taken_from}
 use Rattle.machine_model.proofs.Taken.{run-taken}
 use Rattle.machine_model.proofs.Recorded.{record-taken}
-use Rattle.ctrie_base.specs.Hashes.{hash_of}
-use Rattle.history.specs.Orders.{Explains}
 use Rattle.step_machine.specs.Beneath.proof_order.specs.Laws.Orders.{ShowsContents, IsExplained}
 use Rattle.proof_runs.specs.Machines.{Taken, fresh, past_of, state_of, with_step, Applied}
 use Rattle.step_machine.specs.declared.records.Record.{Record}

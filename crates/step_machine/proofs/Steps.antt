@@ -2,16 +2,8 @@
 use Rattle.std.specs.Prelude.{◌≡◌, List, [], ◌∷◌, ◌++◌, Ok}
 use Rattle.std.proofs.lemmas.List.Elements.{All-nil}
 use Rattle.std.proofs.Common.{refl, sym, ap, ◌∙◌, subst}
-use Rattle.machine_model.specs.declared.steps.Bounds.{Bounds}
-use Rattle.machine_model.specs.declared.steps.Limits.{Limits}
-use Rattle.machine_model.specs.declared.steps.Step.{Step}
-use Rattle.machine_model.specs.declared.steps.Outcome.{Outcome}
-use Rattle.machine_model.specs.States.{State, first_state}
-use Rattle.machine_model.specs.Limits.{AreLimits, bounded}
-use Rattle.machine_model.specs.Machine.{next, run, run_from}
-use Rattle.machine_model.specs.Records.{first_record, next_record, record_from, record_of}
+use Rattle.step_machine.specs.Vocabulary.{Bounds, Limits, Step, Outcome, State, first_state, AreLimits, bounded, next, run, run_from, first_record, next_record, record_from, record_of, FitsKey}
 use Rattle.machine_model.proofs.Recorded.{record_push}
-use Rattle.machine_model.specs.Keys.{FitsKey}
 use Rattle.chronicle.specs.Chronicled.{Chronicled}
 use Rattle.step_machine.specs.Taking.{HasTaken, TakesAndTells}
 use Rattle.proof_runs.proofs.Steps.{run_with, taken_push, keys_with}

@@ -1,3 +1,4 @@
 pub mod Beneath
+pub mod Vocabulary
 pub mod Records
 pub mod Taking

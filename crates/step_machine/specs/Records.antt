@@ -1,14 +1,6 @@
 -- What is kept of a run, and that its order is legal.
 use Rattle.std.specs.Prelude.{◌≡◌, List, length}
-use Rattle.ctrie_base.specs.Hashes.{hash_of}
-use Rattle.history.specs.Orders.{Explains}
-use Rattle.history.specs.Worlds.{HandleMap}
-use Rattle.machine_model.specs.declared.steps.Limits.{Limits}
-use Rattle.machine_model.specs.declared.steps.Step.{Step}
-use Rattle.step_machine.specs.Beneath.slot_arena.specs.Heaps.{in_use}
-use Rattle.machine_model.specs.Limits.{bounded}
-use Rattle.machine_model.specs.Machine.{run, taken_steps}
-use Rattle.machine_model.specs.Records.{order_of, record_of}
+use Rattle.step_machine.specs.Vocabulary.{hash_of, Explains, HandleMap, Limits, Step, in_use, bounded, run, taken_steps, order_of, record_of}
 use Rattle.step_machine.specs.Beneath.proof_order.specs.Laws.Orders.{ShowsContents}
 use Rattle.proof_runs.specs.Machines.{Taken, past_of, state_of}
 use Rattle.step_machine.specs.declared.records.Record.{Record}

@@ -1,17 +1,7 @@
 -- A machine's parts: the state that its steps lead to, and what is recorded of them.
 use Rattle.std.specs.Prelude.{◌≡◌, List, None, Result, Ok, Err}
-use Rattle.ctrie_base.specs.declared.kinds.Kind.{Kind}
-use Rattle.ctrie_base.specs.declared.refusals.Refusal.{Refusal}
+use Rattle.step_machine.specs.Vocabulary.{Kind, Refusal, Limits, Outcome, Went, Step, KeysFit, AreLimits, bounded, denial_of, next, run, next_record, record_of, State}
 use Rattle.ctrie_base.specs.declared.refusals.Refusal.TheVariants.{Memory}
-use Rattle.machine_model.specs.declared.steps.Limits.{Limits}
-use Rattle.machine_model.specs.declared.steps.Outcome.{Outcome}
-use Rattle.machine_model.specs.declared.steps.Outcome.TheVariants.{Went}
-use Rattle.machine_model.specs.declared.steps.Step.{Step}
-use Rattle.machine_model.specs.Keys.{KeysFit}
-use Rattle.machine_model.specs.Limits.{AreLimits, bounded}
-use Rattle.machine_model.specs.Machine.{denial_of, next, run}
-use Rattle.machine_model.specs.Records.{next_record, record_of}
-use Rattle.machine_model.specs.States.{State}
 use Rattle.chronicle.specs.Chronicled.{Chronicled}
 use Rattle.proof_runs.specs.Machines.{AreTaken}
 

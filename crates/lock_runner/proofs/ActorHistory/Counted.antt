@@ -5,15 +5,7 @@ use Rattle.std.proofs.lemmas.Bool.{cases_lt}
 use Rattle.std.proofs.lemmas.List.{get_or_past}
 use Rattle.std.proofs.lemmas.Option.{none-some, same_Some, slice_get_within}
 use Rattle.history.proofs.Places.{at_within}
-use Rattle.history.specs.declared.events.Event.{Event}
-use Rattle.lock_runner.specs.Beneath.machine_model.specs.declared.operations.Operation.{Operation}
-use Rattle.lock_runner.specs.Beneath.machine_model.specs.declared.steps.Bounds.{Bounds}
-use Rattle.lock_runner.specs.Beneath.machine_model.specs.declared.steps.Step.{Step}
-use Rattle.lock_runner.specs.Beneath.machine_model.specs.declared.steps.Outcome.{Outcome}
-use Rattle.lock_runner.specs.Beneath.machine_model.specs.States.{first_state}
-use Rattle.lock_runner.specs.Beneath.machine_model.specs.Machine.{run}
-use Rattle.lock_runner.specs.Beneath.machine_model.specs.Records.{first_record, noted, record_of}
-use Rattle.lock_runner.specs.Beneath.machine_model.specs.Tellings.{told_in}
+use Rattle.lock_runner.specs.Vocabulary.{Event, Operation, Bounds, Step, Outcome, first_state, run, first_record, noted, record_of, told_in}
 use Rattle.lock_runner.specs.Beneath.machine_model.proofs.Alike.{alike_along}
 use Rattle.lock_runner.specs.Beneath.machine_model.proofs.Recorded.{along_with}
 use Rattle.lock_runner.specs.Beneath.machine_model.proofs.Frames.{limits_kept}

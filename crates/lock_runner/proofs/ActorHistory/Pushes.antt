@@ -1,7 +1,7 @@
 -- An account after one event more.
 use Rattle.std.specs.Prelude.{◌≡◌, ℕ, ◌+◌, List, [], ◌∷◌, ◌++◌, length}
 use Rattle.std.proofs.Common.{ap, ◌∙◌, arith}
-use Rattle.history.specs.declared.events.Event.{Event}
+use Rattle.lock_runner.specs.Vocabulary.{Event}
 use Rattle.lock_runner.specs.ActorHistory.{Account, empty_account, account_after, account_from, account_of}
 
 -- the last event is told last

@@ -3,18 +3,10 @@ use Rattle.std.specs.Prelude.{◌≡◌, ℕ, suc, ◌⊎◌, List, [], ◌∷�
 use Rattle.std.proofs.Common.{refl, sym, ap, subst, ◌∙◌, inl, inr}
 use Rattle.std.proofs.lemmas.Bool.{cases_eq}
 use Rattle.std.proofs.lemmas.Option.{none-some, same_Some}
-use Rattle.history.specs.declared.calls.Call.{Call}
-use Rattle.history.specs.declared.replies.Reply.{Reply}
-use Rattle.history.specs.declared.events.Event.{Event}
-use Rattle.history.specs.declared.events.Event.TheVariants.{Begin, End}
-use Rattle.history.specs.Histories.{Operation, BeginsAt, EndsAt, HasEnded, IsRunning, begun}
+use Rattle.lock_runner.specs.Vocabulary.{Call, Reply, Event, End, BeginsAt, EndsAt, HasEnded, IsRunning, begun, Bounds, Step, Outcome, run, first_record, noted, record_of, told_in}
+use Rattle.history.specs.declared.events.Event.TheVariants.{Begin}
+use Rattle.history.specs.Histories.{Operation}
 use Rattle.history.proofs.Places.{at_cases, at_front, at_seam}
-use Rattle.lock_runner.specs.Beneath.machine_model.specs.declared.steps.Bounds.{Bounds}
-use Rattle.lock_runner.specs.Beneath.machine_model.specs.declared.steps.Step.{Step}
-use Rattle.lock_runner.specs.Beneath.machine_model.specs.declared.steps.Outcome.{Outcome}
-use Rattle.lock_runner.specs.Beneath.machine_model.specs.Machine.{run}
-use Rattle.lock_runner.specs.Beneath.machine_model.specs.Records.{first_record, noted, record_of}
-use Rattle.lock_runner.specs.Beneath.machine_model.specs.Tellings.{told_in}
 use Rattle.lock_runner.specs.Beneath.machine_model.proofs.Alike.{alike_along}
 use Rattle.lock_runner.specs.Beneath.machine_model.proofs.Recorded.{along_with}
 use Rattle.lock_runner.specs.declared.accounts.Running.{Running}

@@ -4,19 +4,8 @@ use Rattle.std.proofs.Common.{refl, sym, ap, subst, ◌∙◌, inl, inr, arith, 
 use Rattle.std.proofs.lemmas.Bool.{cases_eq}
 use Rattle.std.proofs.lemmas.List.{length-replicate}
 use Rattle.std.proofs.lemmas.Option.{none-some, same_Some}
-use Rattle.history.specs.declared.calls.Call.{Call}
-use Rattle.history.specs.declared.replies.Reply.{Reply}
-use Rattle.history.specs.declared.events.Event.{Event}
-use Rattle.history.specs.declared.events.Event.TheVariants.{Begin, End}
-use Rattle.history.specs.Histories.{begun}
-use Rattle.lock_runner.specs.Beneath.machine_model.specs.declared.steps.Bounds.{Bounds}
-use Rattle.lock_runner.specs.Beneath.machine_model.specs.declared.steps.Step.{Step}
-use Rattle.lock_runner.specs.Beneath.machine_model.specs.declared.steps.Outcome.{Outcome}
-use Rattle.lock_runner.specs.Beneath.machine_model.specs.States.{State, first_state, operation_of}
-use Rattle.lock_runner.specs.Beneath.machine_model.specs.Machine.{run}
-use Rattle.lock_runner.specs.Beneath.machine_model.specs.Records.{first_record, noted, record_of}
-use Rattle.lock_runner.specs.Beneath.machine_model.specs.Tellings.{told_in}
-use Rattle.lock_runner.specs.Beneath.machine_model.specs.Moves.{Moves}
+use Rattle.lock_runner.specs.Vocabulary.{Call, Reply, Event, End, begun, Bounds, Step, Outcome, State, first_state, operation_of, run, first_record, noted, record_of, told_in, Moves}
+use Rattle.history.specs.declared.events.Event.TheVariants.{Begin}
 use Rattle.lock_runner.specs.Beneath.machine_model.proofs.Frames.{limits_kept}
 use Rattle.lock_runner.specs.Beneath.machine_model.proofs.Alike.{alike_along}
 use Rattle.lock_runner.specs.Beneath.machine_model.proofs.Recorded.{along_with}

@@ -2,15 +2,7 @@
 use Rattle.std.specs.Prelude.{◌≡◌, ℕ, zero, suc, List, [], ◌∷◌, ◌++◌, length, Option, Some, None, Ok, Err}
 use Rattle.std.proofs.Common.{cond, refl, sym, ap, subst, ◌∙◌}
 use Rattle.std.proofs.lemmas.Option.{none-some}
-use Rattle.ctrie_base.specs.declared.refusals.Refusal.{Refusal}
-use Rattle.lock_runner.specs.Beneath.machine_model.specs.declared.operations.Operation.{Operation}
-use Rattle.lock_runner.specs.Beneath.machine_model.specs.declared.steps.Step.{Step}
-use Rattle.lock_runner.specs.Beneath.machine_model.specs.declared.steps.Outcome.{Outcome}
-use Rattle.lock_runner.specs.Beneath.machine_model.specs.States.{State, first_state, operation_of}
-use Rattle.lock_runner.specs.Beneath.machine_model.specs.declared.steps.Bounds.{Bounds}
-use Rattle.lock_runner.specs.Beneath.machine_model.specs.Machine.{is_taken_step, next, run}
-use Rattle.lock_runner.specs.Beneath.machine_model.specs.Records.{Record, first_record, noted, record_of}
-use Rattle.lock_runner.specs.Beneath.machine_model.specs.Tellings.{told_in}
+use Rattle.lock_runner.specs.Vocabulary.{Refusal, Operation, Step, Outcome, State, first_state, operation_of, Bounds, is_taken_step, next, run, Record, first_record, noted, record_of, told_in}
 use Rattle.lock_runner.specs.Beneath.machine_model.proofs.Alike.{alike_along}
 use Rattle.lock_runner.specs.Beneath.machine_model.proofs.Recorded.{record_push}
 use Rattle.lock_runner.specs.Beneath.machine_model.proofs.Moves.{moved}

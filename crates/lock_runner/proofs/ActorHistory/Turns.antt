@@ -5,29 +5,16 @@ use Rattle.std.proofs.Math.ListN.{get_or-map}
 use Rattle.std.proofs.lemmas.List.{get_or_past, get_or-set_same, get_or-set_other, length-set}
 use Rattle.std.proofs.lemmas.Bool.{cases_lt}
 use Rattle.std.proofs.Common.{inl, inr}
-use Rattle.history.specs.declared.calls.Call.{Call}
-use Rattle.history.specs.declared.replies.Reply.{Reply}
-use Rattle.history.specs.declared.events.Event.{Event}
-use Rattle.history.specs.declared.events.Event.TheVariants.{Begin, End}
-use Rattle.history.specs.Histories.{begun}
-use Rattle.lock_runner.specs.Beneath.machine_model.specs.declared.operations.Operation.{Operation}
-use Rattle.lock_runner.specs.Beneath.machine_model.specs.declared.steps.Step.{Step}
+use Rattle.lock_runner.specs.Vocabulary.{Call, Reply, Event, End, begun, Operation, Step, Outcome, State, operation_of, marked, operation_after, gone, ended, begin_denial, with_begin, swept, Begins}
+use Rattle.lock_runner.specs.Vocabulary.{Ends, Sweeps, Moves, begun_operation, Bounds, run, Record, noted, record_of, told_in}
+use Rattle.history.specs.declared.events.Event.TheVariants.{Begin}
 use Rattle.lock_runner.specs.Beneath.machine_model.specs.declared.steps.Step.TheVariants as step
-use Rattle.lock_runner.specs.Beneath.machine_model.specs.declared.steps.Outcome.{Outcome}
 use Rattle.lock_runner.specs.Beneath.machine_model.specs.declared.steps.Outcome.TheVariants as outcome
-use Rattle.lock_runner.specs.Beneath.machine_model.specs.States.{State, operation_of}
-use Rattle.lock_runner.specs.Beneath.machine_model.specs.Acting.{marked, operation_after, gone, ended}
 use Rattle.std.specs.Prelude.{◌+◌}
 use Rattle.std.proofs.Common.{leb-true}
 use Rattle.std.proofs.lemmas.Option.{none-some}
-use Rattle.lock_runner.specs.Beneath.machine_model.specs.Machine.{begin_denial, with_begin, swept}
-use Rattle.lock_runner.specs.Beneath.machine_model.specs.Moves.{Begins, Goes, Ends, Sweeps}
-use Rattle.lock_runner.specs.Beneath.machine_model.specs.Moves.{Moves, begun_operation}
+use Rattle.lock_runner.specs.Beneath.machine_model.specs.Moves.{Goes}
 use Rattle.lock_runner.specs.Beneath.machine_model.proofs.Actors.{after_marks, marks_by, gone_actors, begin_actors}
-use Rattle.lock_runner.specs.Beneath.machine_model.specs.declared.steps.Bounds.{Bounds}
-use Rattle.lock_runner.specs.Beneath.machine_model.specs.Machine.{run}
-use Rattle.lock_runner.specs.Beneath.machine_model.specs.Records.{Record, noted, record_of}
-use Rattle.lock_runner.specs.Beneath.machine_model.specs.Tellings.{told_in}
 use Rattle.lock_runner.specs.Beneath.machine_model.proofs.Notes.{noted_going}
 use Rattle.lock_runner.specs.Beneath.proof_order.proofs.History.Recalling.{end_event}
 

@@ -1,8 +1,6 @@
 -- An actor's answers and what it runs, as the history has them.
 use Rattle.std.specs.Prelude.{◌≡◌, ℕ, ◌<◌, List, Option, Some, slice_get}
-use Rattle.history.specs.declared.replies.Reply.{Reply}
-use Rattle.history.specs.declared.events.Event.{Event}
-use Rattle.history.specs.Histories.{BeginsAt, EndsAt, HasEnded, IsRunning}
+use Rattle.lock_runner.specs.Vocabulary.{Reply, Event, BeginsAt, EndsAt, HasEnded, IsRunning}
 use Rattle.lock_runner.specs.declared.accounts.Answer.{Answer}
 use Rattle.lock_runner.specs.declared.accounts.Running.{Running}
 

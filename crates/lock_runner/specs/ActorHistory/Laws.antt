@@ -1,15 +1,8 @@
 -- Laws of the machine's histories.
 use Rattle.std.specs.Prelude.{◌≡◌, ℕ, List, ◌∷◌, [], ◌++◌, length, Some, None, Ok}
-use Rattle.lock_runner.specs.Beneath.machine_model.specs.declared.operations.Operation.{Operation}
-use Rattle.history.specs.declared.events.Event.{Event}
-use Rattle.lock_runner.specs.Beneath.machine_model.specs.declared.steps.Bounds.{Bounds}
-use Rattle.lock_runner.specs.Beneath.machine_model.specs.declared.steps.Step.{Step}
+use Rattle.lock_runner.specs.Vocabulary.{Operation, Event, Bounds, Step, Outcome, State, operation_of, next, run, record_of}
 use Rattle.lock_runner.specs.Beneath.machine_model.specs.declared.steps.Step.TheVariants as step
-use Rattle.lock_runner.specs.Beneath.machine_model.specs.declared.steps.Outcome.{Outcome}
 use Rattle.lock_runner.specs.Beneath.machine_model.specs.declared.steps.Outcome.TheVariants as outcome
-use Rattle.lock_runner.specs.Beneath.machine_model.specs.States.{State, operation_of}
-use Rattle.lock_runner.specs.Beneath.machine_model.specs.Machine.{next, run}
-use Rattle.lock_runner.specs.Beneath.machine_model.specs.Records.{record_of}
 use Rattle.lock_runner.specs.declared.accounts.Running.{Running}
 use Rattle.lock_runner.specs.ActorHistory.{Account, account_of, begun_at, answered_at}
 use Rattle.lock_runner.specs.ActorHistory.Answers.{AreAnswersOf}

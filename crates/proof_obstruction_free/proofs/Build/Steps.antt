@@ -1,18 +1,10 @@
 -- Quiet steps of an actor that is alone, with all that they leave; and the depth of what is built.
 use Rattle.std.proofs.Common.{◌≡◌, ℕ, suc, ◌+◌, ◌≤◌, List, Option, Some, None, refl, subst, ◌∙◌, arith}
-use Rattle.proof_obstruction_free.specs.Beneath.slot_arena.specs.declared.refs.Ref.{Ref}
-use Rattle.proof_obstruction_free.specs.Beneath.slot_arena.specs.Heaps.{next_ref}
-use Rattle.proof_obstruction_free.specs.Beneath.nodes.specs.Levels.{list_depth}
+use Rattle.proof_obstruction_free.specs.Vocabulary.{Ref, next_ref, list_depth, BuildLine, Line, Operation, State, build_action, build_after_made, build_if_made, line_action, line_after}
+use Rattle.proof_obstruction_free.specs.Vocabulary.{generation_from, depth_of}
 use Rattle.proof_obstruction_free.specs.Beneath.history.specs.declared.replies.Reply.TheVariants as reply
-use Rattle.proof_obstruction_free.specs.Beneath.machine_model.specs.declared.building.BuildLine.{BuildLine}
 use Rattle.proof_obstruction_free.specs.Beneath.machine_model.specs.declared.building.BuildLine.TheVariants as build
-use Rattle.proof_obstruction_free.specs.Beneath.machine_model.specs.declared.lines.Line.{Line}
 use Rattle.proof_obstruction_free.specs.Beneath.machine_model.specs.declared.lines.Line.TheVariants as line
-use Rattle.proof_obstruction_free.specs.Beneath.machine_model.specs.declared.operations.Operation.{Operation}
-use Rattle.proof_obstruction_free.specs.Beneath.machine_model.specs.States.{State}
-use Rattle.proof_obstruction_free.specs.Beneath.machine_model.specs.Building.{build_action, build_after_made, build_if_made}
-use Rattle.proof_obstruction_free.specs.Beneath.machine_model.specs.Operations.{line_action, line_after, generation_from}
-use Rattle.proof_obstruction_free.specs.Beneath.machine_model.specs.Paths.{depth_of}
 use Rattle.proof_obstruction_free.specs.Beneath.proof_memory.specs.Wants.{AnIndirection}
 use Rattle.proof_obstruction_free.specs.Beneath.proof_memory.proofs.Safety.AtTimes.{kind_at}
 use Rattle.proof_obstruction_free.specs.Beneath.proof_memory.specs.Levels.{LineLevel}

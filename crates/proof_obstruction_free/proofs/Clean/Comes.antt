@@ -4,12 +4,9 @@ use Rattle.std.proofs.Common.{subst, ◌∙◌, arith, []}
 use Rattle.std.specs.Cmp.Lexicographic.{pointwise, same_text}
 use Rattle.std.proofs.lemmas.Bool.{cases_lt, lt-ltb, le-ltb}
 use Rattle.std.proofs.lemmas.List.{length-append, get_or_append_left, get_or_push}
-use Rattle.proof_obstruction_free.specs.Beneath.slot_arena.specs.declared.refs.Ref.{Ref}
-use Rattle.proof_obstruction_free.specs.Beneath.slot_arena.specs.Heaps.{entries_of, no_ref}
-use Rattle.proof_obstruction_free.specs.Beneath.machine_model.specs.declared.lines.Line.{Line}
+use Rattle.proof_obstruction_free.specs.Vocabulary.{Ref, entries_of, no_ref, Line, new_try}
 use Rattle.proof_obstruction_free.specs.Beneath.machine_model.specs.declared.lines.Line.TheVariants as line
 use Rattle.proof_obstruction_free.specs.Beneath.machine_model.specs.declared.repairs.CleanLine.TheVariants as clean
-use Rattle.proof_obstruction_free.specs.Beneath.machine_model.specs.Lines.{new_try}
 use Rattle.proof_obstruction_free.specs.Alone.{Lone, Stands, Within, IsWeight, node}
 use Rattle.proof_obstruction_free.specs.Keys.{IsCleaned, IsCleaning, IsContracted}
 use Rattle.proof_obstruction_free.specs.Machines.{Machines}

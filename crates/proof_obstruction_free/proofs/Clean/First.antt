@@ -1,16 +1,9 @@
 -- The first lines of CLEAN, where one actor alone takes steps: the current indirection is read, and its main node looked at.
 use Rattle.std.proofs.Common.{◌≡◌, ℕ, suc, ◌<◌, ◌⊎◌, inl, inr, true, List, [], Option, refl, sym, ap, subst, ◌∙◌}
-use Rattle.proof_obstruction_free.specs.Beneath.slot_arena.specs.declared.refs.Ref.{Ref}
-use Rattle.proof_obstruction_free.specs.Beneath.slot_arena.specs.declared.nodes.Node.{Node}
-use Rattle.proof_obstruction_free.specs.Beneath.slot_arena.specs.declared.nodes.Node.TheVariants.{Indirection, Branch, Single, Tomb, List as Listed}
-use Rattle.proof_obstruction_free.specs.Beneath.slot_arena.specs.Heaps.{node_at, entries_of}
-use Rattle.proof_obstruction_free.specs.Beneath.machine_model.specs.declared.lines.Line.{Line}
+use Rattle.proof_obstruction_free.specs.Vocabulary.{Ref, Node, Indirection, Branch, Single, Tomb, List as Listed, node_at, entries_of, Line, Operation, ReadLine, clean_after_read, clean_after_main}
+use Rattle.proof_obstruction_free.specs.Vocabulary.{new_try}
 use Rattle.proof_obstruction_free.specs.Beneath.machine_model.specs.declared.lines.Line.TheVariants as line
-use Rattle.proof_obstruction_free.specs.Beneath.machine_model.specs.declared.operations.Operation.{Operation}
-use Rattle.proof_obstruction_free.specs.Beneath.machine_model.specs.declared.reading.ReadLine.{ReadLine}
 use Rattle.proof_obstruction_free.specs.Beneath.machine_model.specs.declared.repairs.CleanLine.TheVariants as clean
-use Rattle.proof_obstruction_free.specs.Beneath.machine_model.specs.Cleaning.{clean_after_read, clean_after_main}
-use Rattle.proof_obstruction_free.specs.Beneath.machine_model.specs.Lines.{new_try}
 use Rattle.proof_obstruction_free.specs.Beneath.proof_memory.specs.Wants.{is_branch}
 use Rattle.proof_obstruction_free.specs.Alone.{Lone, Stands, Within, IsWeight, node}
 use Rattle.proof_obstruction_free.specs.Machines.{HoldsRead}

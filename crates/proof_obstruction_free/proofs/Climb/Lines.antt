@@ -1,22 +1,11 @@
 -- The lines of CLIMB, where one actor alone takes steps: what each leads to.
 use Rattle.std.proofs.Common.{◌≡◌, ℕ, suc, ◌+◌, ◌≤◌, Bool, true, false, Option, Some, None, if◌then◌else◌, refl, subst}
-use Rattle.proof_obstruction_free.specs.Beneath.slot_arena.specs.declared.refs.Ref.{Ref}
-use Rattle.proof_obstruction_free.specs.Beneath.slot_arena.specs.declared.nodes.Node.{Node}
-use Rattle.proof_obstruction_free.specs.Beneath.slot_arena.specs.declared.nodes.Node.TheVariants.{Indirection, Branch, Single, Tomb, List as Listed}
-use Rattle.proof_obstruction_free.specs.Beneath.slot_arena.specs.Heaps.{node_at, next_ref}
-use Rattle.proof_obstruction_free.specs.Beneath.machine_model.specs.declared.lines.Line.{Line}
+use Rattle.proof_obstruction_free.specs.Vocabulary.{Ref, Node, Indirection, Branch, Single, Tomb, List as Listed, node_at, next_ref, Line, ReadLine, Climb, Operation, changed_reply, climbing}
+use Rattle.proof_obstruction_free.specs.Vocabulary.{climbed, higher, holds_it, climb_after_read, climb_after_main, climb_after_contracted, climbed_on, current, above, is_below_root, reading}
+use Rattle.proof_obstruction_free.specs.Vocabulary.{swapping}
 use Rattle.proof_obstruction_free.specs.Beneath.machine_model.specs.declared.lines.Line.TheVariants as line
 use Rattle.proof_obstruction_free.specs.Beneath.machine_model.specs.declared.lines.Purpose.TheVariants as purpose
-use Rattle.proof_obstruction_free.specs.Beneath.machine_model.specs.declared.reading.ReadLine.{ReadLine}
-use Rattle.proof_obstruction_free.specs.Beneath.machine_model.specs.declared.repairs.Climb.{Climb}
 use Rattle.proof_obstruction_free.specs.Beneath.machine_model.specs.declared.repairs.ClimbLine.TheVariants as climb
-use Rattle.proof_obstruction_free.specs.Beneath.machine_model.specs.declared.operations.Operation.{Operation}
-use Rattle.proof_obstruction_free.specs.Beneath.machine_model.specs.Calls.{changed_reply}
-use Rattle.proof_obstruction_free.specs.Beneath.machine_model.specs.Climbing.{climbing, climbed, higher, holds_it, climb_after_read, climb_after_main, climb_after_contracted}
-use Rattle.proof_obstruction_free.specs.Beneath.machine_model.specs.Operations.{climbed_on}
-use Rattle.proof_obstruction_free.specs.Beneath.machine_model.specs.Paths.{current, above, is_below_root}
-use Rattle.proof_obstruction_free.specs.Beneath.machine_model.specs.Reading.{reading}
-use Rattle.proof_obstruction_free.specs.Beneath.machine_model.specs.Swapping.{swapping}
 use Rattle.proof_obstruction_free.specs.Alone.{Lone, Stands, Keeps, Within, IsWeight}
 use Rattle.proof_obstruction_free.specs.Machines.{HoldsRead}
 use Rattle.proof_obstruction_free.specs.Stepping.{Stepping}

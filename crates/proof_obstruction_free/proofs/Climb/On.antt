@@ -1,22 +1,12 @@
 -- CLIMB ends from any of its lines, its SWAP's too: the level under way may have to be climbed once more.
 use Rattle.std.proofs.Common.{◌≡◌, ℕ, suc, ◌+◌, ◌*◌, ◌≤◌, Bool, true, false, nat_eq, length, Option, Some, if◌then◌else◌, refl, sym, subst, ◌∙◌, arith}
 use Rattle.std.specs.Option.{option_eq}
-use Rattle.proof_obstruction_free.specs.Beneath.slot_arena.specs.declared.refs.Ref.{Ref}
-use Rattle.proof_obstruction_free.specs.Beneath.machine_model.specs.declared.lines.Line.{Line}
+use Rattle.proof_obstruction_free.specs.Vocabulary.{Ref, Line, Read, Swap, SwapLine, Climb, RootLine, climbing, climbed, higher, swapped, current, above, swapping}
 use Rattle.proof_obstruction_free.specs.Beneath.machine_model.specs.declared.lines.Line.TheVariants as line
 use Rattle.proof_obstruction_free.specs.Beneath.machine_model.specs.declared.lines.Purpose.TheVariants as purpose
-use Rattle.proof_obstruction_free.specs.Beneath.machine_model.specs.declared.reading.Read.{Read}
-use Rattle.proof_obstruction_free.specs.Beneath.machine_model.specs.declared.reading.Swap.{Swap}
-use Rattle.proof_obstruction_free.specs.Beneath.machine_model.specs.declared.reading.SwapLine.{SwapLine}
 use Rattle.proof_obstruction_free.specs.Beneath.machine_model.specs.declared.reading.SwapLine.TheVariants as swap
-use Rattle.proof_obstruction_free.specs.Beneath.machine_model.specs.declared.repairs.Climb.{Climb}
 use Rattle.proof_obstruction_free.specs.Beneath.machine_model.specs.declared.repairs.ClimbLine.TheVariants as climb
-use Rattle.proof_obstruction_free.specs.Beneath.machine_model.specs.declared.roots.RootLine.{RootLine}
 use Rattle.proof_obstruction_free.specs.Beneath.machine_model.specs.declared.roots.RootLine.TheVariants as root
-use Rattle.proof_obstruction_free.specs.Beneath.machine_model.specs.Climbing.{climbing, climbed, higher}
-use Rattle.proof_obstruction_free.specs.Beneath.machine_model.specs.Operations.{swapped}
-use Rattle.proof_obstruction_free.specs.Beneath.machine_model.specs.Paths.{current, above}
-use Rattle.proof_obstruction_free.specs.Beneath.machine_model.specs.Swapping.{swapping}
 use Rattle.proof_obstruction_free.specs.Beneath.proof_shape.specs.Sites.At.{way_of}
 use Rattle.proof_obstruction_free.specs.Beneath.proof_shape.proofs.Sites.At.{ways_have_sites}
 use Rattle.proof_obstruction_free.specs.Alone.{Lone, Stands, Within, IsWeight, node, generation}

@@ -1,29 +1,12 @@
 -- A snapshot, a freeze or a clear stands on the lines of ROOT and COPY alone.
 use Rattle.std.proofs.Common.{ℕ, ◌≤◌, ◌||◌, Bool, true, false, cond, Option, Some, None, sym, ◌∙◌, subst}
-use Rattle.proof_obstruction_free.specs.Beneath.history.specs.declared.calls.Call.{Call}
-use Rattle.proof_obstruction_free.specs.Beneath.history.specs.declared.calls.Call.TheVariants.{Clear, Snapshot, Freeze}
-use Rattle.proof_obstruction_free.specs.Beneath.slot_arena.specs.declared.refs.Ref.{Ref}
-use Rattle.proof_obstruction_free.specs.Beneath.slot_arena.specs.Heaps.{next_ref}
-use Rattle.proof_obstruction_free.specs.Beneath.machine_model.specs.declared.copying.CopyLine.{CopyLine}
+use Rattle.proof_obstruction_free.specs.Vocabulary.{Call, Clear, Snapshot, Freeze, Ref, next_ref, CopyLine, Line, Operation, After, Read, Gives, Complete, RootLine, Bounds, Step, handle_of}
+use Rattle.proof_obstruction_free.specs.Vocabulary.{after_offer, after_successor, copy_if_made, copy_after, copy_after_read, copy_after_complete, copied_reply, after_given, new_try, line_after}
+use Rattle.proof_obstruction_free.specs.Vocabulary.{first_line, after_root, operation_after, read_step, State, first_state, word_at, is_plain, root_after, complete_after}
 use Rattle.proof_obstruction_free.specs.Beneath.machine_model.specs.declared.copying.CopyLine.TheVariants as copy
-use Rattle.proof_obstruction_free.specs.Beneath.machine_model.specs.declared.lines.Line.{Line}
 use Rattle.proof_obstruction_free.specs.Beneath.machine_model.specs.declared.lines.Line.TheVariants as line
-use Rattle.proof_obstruction_free.specs.Beneath.machine_model.specs.declared.operations.Operation.{Operation}
-use Rattle.proof_obstruction_free.specs.Beneath.machine_model.specs.declared.reading.After.{After}
-use Rattle.proof_obstruction_free.specs.Beneath.machine_model.specs.declared.reading.Read.{Read}
-use Rattle.proof_obstruction_free.specs.Beneath.machine_model.specs.declared.reading.After.TheVariants.{Goes, Gives}
-use Rattle.proof_obstruction_free.specs.Beneath.machine_model.specs.declared.roots.Complete.{Complete}
-use Rattle.proof_obstruction_free.specs.Beneath.machine_model.specs.declared.roots.RootLine.{RootLine}
-use Rattle.proof_obstruction_free.specs.Beneath.machine_model.specs.declared.steps.Bounds.{Bounds}
-use Rattle.proof_obstruction_free.specs.Beneath.machine_model.specs.declared.steps.Step.{Step}
-use Rattle.proof_obstruction_free.specs.Beneath.machine_model.specs.Calls.{handle_of}
-use Rattle.proof_obstruction_free.specs.Beneath.machine_model.specs.Copying.{after_offer, after_successor, copy_if_made, copy_after, copy_after_read, copy_after_complete, copied_reply, after_given}
-use Rattle.proof_obstruction_free.specs.Beneath.machine_model.specs.Lines.{new_try}
-use Rattle.proof_obstruction_free.specs.Beneath.machine_model.specs.Operations.{line_after, first_line, after_root, from_root}
-use Rattle.proof_obstruction_free.specs.Beneath.machine_model.specs.Acting.{operation_after}
-use Rattle.proof_obstruction_free.specs.Beneath.machine_model.specs.Reading.{read_step}
-use Rattle.proof_obstruction_free.specs.Beneath.machine_model.specs.States.{State, first_state, word_at}
-use Rattle.proof_obstruction_free.specs.Beneath.machine_model.specs.Swapping.{is_plain, root_after, complete_after}
+use Rattle.proof_obstruction_free.specs.Beneath.machine_model.specs.declared.reading.After.TheVariants.{Goes}
+use Rattle.proof_obstruction_free.specs.Beneath.machine_model.specs.Operations.{from_root}
 use Rattle.proof_obstruction_free.specs.Beneath.machine_model.proofs.Actors.{mark_only, marks_in}
 use Rattle.proof_obstruction_free.specs.Beneath.machine_model.proofs.Found.{none_found}
 use Rattle.proof_obstruction_free.specs.Beneath.machine_model.proofs.Times.{at_each_time}

@@ -1,29 +1,15 @@
 -- A snapshot, a freeze or a clear whose actor alone takes steps ends.
 use Rattle.std.proofs.Common.{ap, ◌≡◌, ℕ, suc, ◌+◌, ◌≤◌, ◌||◌, Bool, true, false, cond, Option, refl, sym, ◌∙◌, subst, arith}
-use Rattle.proof_obstruction_free.specs.Beneath.history.specs.declared.calls.Call.{Call}
-use Rattle.proof_obstruction_free.specs.Beneath.history.specs.declared.calls.Call.TheVariants.{Clear, Snapshot, Freeze}
-use Rattle.proof_obstruction_free.specs.Beneath.slot_arena.specs.declared.refs.Ref.{Ref}
-use Rattle.proof_obstruction_free.specs.Beneath.machine_model.specs.declared.copying.CopyLine.{CopyLine}
+use Rattle.proof_obstruction_free.specs.Vocabulary.{Call, Clear, Snapshot, Freeze, Ref, CopyLine, Line, ReadLine, CompleteLine, Descriptor, Access, Writable, ReadOnly, handle_of, needs_writable}
+use Rattle.proof_obstruction_free.specs.Vocabulary.{after_given, after_offer, copied_reply, new_try, reading, word_at, is_plain, is_carried_out}
 use Rattle.proof_obstruction_free.specs.Beneath.machine_model.specs.declared.copying.CopyLine.TheVariants as copy
-use Rattle.proof_obstruction_free.specs.Beneath.machine_model.specs.declared.lines.Line.{Line}
 use Rattle.proof_obstruction_free.specs.Beneath.machine_model.specs.declared.lines.Line.TheVariants as line
-use Rattle.proof_obstruction_free.specs.Beneath.machine_model.specs.declared.reading.ReadLine.{ReadLine}
 use Rattle.proof_obstruction_free.specs.Beneath.machine_model.specs.declared.reading.ReadLine.TheVariants as read
-use Rattle.proof_obstruction_free.specs.Beneath.machine_model.specs.declared.roots.CompleteLine.{CompleteLine}
 use Rattle.proof_obstruction_free.specs.Beneath.machine_model.specs.declared.roots.CompleteLine.TheVariants as complete
-use Rattle.proof_obstruction_free.specs.Beneath.machine_model.specs.declared.roots.Descriptor.{Descriptor}
-use Rattle.proof_obstruction_free.specs.Beneath.history.specs.declared.calls.Access.{Access}
-use Rattle.proof_obstruction_free.specs.Beneath.history.specs.declared.calls.Access.TheVariants.{Writable, ReadOnly}
 use Rattle.std.proofs.lemmas.Bool.{true≢false}
 use Rattle.proof_obstruction_free.specs.Beneath.proof_memory.proofs.Safety.AtEachTime.{safe_at}
 use Rattle.proof_obstruction_free.specs.Beneath.proof_generations.proofs.Handles.Running.{place_of_actor}
-use Rattle.proof_obstruction_free.specs.Beneath.machine_model.specs.Calls.{handle_of, needs_writable}
-use Rattle.proof_obstruction_free.specs.Beneath.machine_model.specs.Copying.{after_given, after_offer, copied_reply}
-use Rattle.proof_obstruction_free.specs.Beneath.machine_model.specs.Lines.{new_try}
 use Rattle.proof_obstruction_free.specs.Beneath.machine_model.specs.Operations.{from_root}
-use Rattle.proof_obstruction_free.specs.Beneath.machine_model.specs.Reading.{reading}
-use Rattle.proof_obstruction_free.specs.Beneath.machine_model.specs.States.{word_at}
-use Rattle.proof_obstruction_free.specs.Beneath.machine_model.specs.Swapping.{is_plain, is_carried_out}
 use Rattle.proof_obstruction_free.specs.Alone.{word, Lone, Stands, Has, IsPlain, IsWeight, Within}
 use Rattle.proof_obstruction_free.specs.Copies.{IsCopying}
 use Rattle.proof_obstruction_free.specs.Machines.{Machines, IsRead, WasRead, IsRooted}

@@ -1,20 +1,11 @@
 -- The lines of COPY, where one actor alone takes steps: what each step leads to.
 use Rattle.std.proofs.Common.{◌≡◌, refl, ap, ◌∙◌}
-use Rattle.proof_obstruction_free.specs.Beneath.slot_arena.specs.declared.refs.Ref.{Ref}
+use Rattle.proof_obstruction_free.specs.Vocabulary.{Ref, Line, Operation, After, Gives, ReadLine, Descriptor, handle_of, after_given, copy_after_read, copy_after_complete, read_after}
+use Rattle.proof_obstruction_free.specs.Vocabulary.{at_indirection, State, word_at, after_reading, of_offer}
 use Rattle.proof_obstruction_free.specs.Beneath.machine_model.specs.declared.copying.CopyLine.TheVariants as copy
-use Rattle.proof_obstruction_free.specs.Beneath.machine_model.specs.declared.lines.Line.{Line}
 use Rattle.proof_obstruction_free.specs.Beneath.machine_model.specs.declared.lines.Line.TheVariants as line
-use Rattle.proof_obstruction_free.specs.Beneath.machine_model.specs.declared.operations.Operation.{Operation}
-use Rattle.proof_obstruction_free.specs.Beneath.machine_model.specs.declared.reading.After.{After}
-use Rattle.proof_obstruction_free.specs.Beneath.machine_model.specs.declared.reading.After.TheVariants.{Goes, Gives}
-use Rattle.proof_obstruction_free.specs.Beneath.machine_model.specs.declared.reading.ReadLine.{ReadLine}
+use Rattle.proof_obstruction_free.specs.Beneath.machine_model.specs.declared.reading.After.TheVariants.{Goes}
 use Rattle.proof_obstruction_free.specs.Beneath.machine_model.specs.declared.roots.CompleteLine.TheVariants as complete
-use Rattle.proof_obstruction_free.specs.Beneath.machine_model.specs.declared.roots.Descriptor.{Descriptor}
-use Rattle.proof_obstruction_free.specs.Beneath.machine_model.specs.Calls.{handle_of}
-use Rattle.proof_obstruction_free.specs.Beneath.machine_model.specs.Copying.{after_given, copy_after_read, copy_after_complete}
-use Rattle.proof_obstruction_free.specs.Beneath.machine_model.specs.Reading.{read_after, at_indirection}
-use Rattle.proof_obstruction_free.specs.Beneath.machine_model.specs.States.{State, word_at}
-use Rattle.proof_obstruction_free.specs.Beneath.machine_model.specs.Swapping.{after_reading, of_offer}
 use Rattle.proof_obstruction_free.specs.Machines.{HoldsRead, lead}
 
 -- what a READ's step comes to, by the call and the kind of the handle

@@ -1,16 +1,9 @@
 -- The slots that a snapshot, a freeze or a clear makes, where one actor alone takes steps: it comes to its offer.
 use Rattle.std.proofs.Common.{◌≡◌, ℕ, suc, ◌+◌, ◌<◌, ◌≤◌, Option, Some, None, refl, ap, ◌∙◌, arith}
-use Rattle.proof_obstruction_free.specs.Beneath.history.specs.declared.calls.Call.{Call}
-use Rattle.proof_obstruction_free.specs.Beneath.history.specs.declared.calls.Call.TheVariants.{Clear, Snapshot}
+use Rattle.proof_obstruction_free.specs.Vocabulary.{Call, Clear, Snapshot, Ref, next_ref, CopyLine, Descriptor, copy_action, after_given, after_successor, copy_if_made, copy_after_made, line_after}
 use Rattle.proof_obstruction_free.specs.Beneath.history.specs.declared.replies.Reply.TheVariants as reply
-use Rattle.proof_obstruction_free.specs.Beneath.slot_arena.specs.declared.refs.Ref.{Ref}
-use Rattle.proof_obstruction_free.specs.Beneath.slot_arena.specs.Heaps.{next_ref}
-use Rattle.proof_obstruction_free.specs.Beneath.machine_model.specs.declared.copying.CopyLine.{CopyLine}
 use Rattle.proof_obstruction_free.specs.Beneath.machine_model.specs.declared.copying.CopyLine.TheVariants as copy
 use Rattle.proof_obstruction_free.specs.Beneath.machine_model.specs.declared.lines.Line.TheVariants as line
-use Rattle.proof_obstruction_free.specs.Beneath.machine_model.specs.declared.roots.Descriptor.{Descriptor}
-use Rattle.proof_obstruction_free.specs.Beneath.machine_model.specs.Copying.{copy_action, after_given, after_successor, copy_if_made, copy_after_made}
-use Rattle.proof_obstruction_free.specs.Beneath.machine_model.specs.Operations.{line_after}
 use Rattle.proof_obstruction_free.specs.Alone.{Lone, Stands, Keeps, IsQuiet, IsWeight, Within, word}
 use Rattle.proof_obstruction_free.specs.Stepping.{Stepping, LeavesWords}
 use Rattle.proof_obstruction_free.proofs.Step.Within.{weaken, one, ended, keeps_on}

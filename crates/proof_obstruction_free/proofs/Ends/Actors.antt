@@ -1,11 +1,7 @@
 -- Who runs an operation is one of the machine's actors.
 use Rattle.std.proofs.Common.{◌≡◌, ℕ, suc, ◌&&◌, true, List, Some, sym, ap, ◌∙◌, subst}
 use Rattle.std.specs.Prelude.{nat_lt, nat_le}
-use Rattle.proof_obstruction_free.specs.Beneath.machine_model.specs.declared.operations.Operation.{Operation}
-use Rattle.proof_obstruction_free.specs.Beneath.machine_model.specs.declared.steps.Bounds.{Bounds}
-use Rattle.proof_obstruction_free.specs.Beneath.machine_model.specs.declared.steps.Step.{Step}
-use Rattle.proof_obstruction_free.specs.Beneath.machine_model.specs.Machine.{is_actor, run}
-use Rattle.proof_obstruction_free.specs.Beneath.machine_model.specs.States.{State, first_state, operation_of}
+use Rattle.proof_obstruction_free.specs.Vocabulary.{Operation, Bounds, Step, is_actor, run, State, first_state, operation_of}
 use Rattle.proof_obstruction_free.specs.Beneath.machine_model.proofs.Along.{along}
 use Rattle.proof_obstruction_free.specs.Beneath.machine_model.proofs.Found.{none_found}
 use Rattle.proof_obstruction_free.specs.Beneath.machine_model.proofs.Frames.{limits_kept}

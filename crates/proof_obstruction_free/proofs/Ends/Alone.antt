@@ -3,22 +3,13 @@ use Rattle.std.proofs.Common.{◌≡◌, ℕ, zero, suc, cond, ◌+◌, ◌-◌,
 use Rattle.std.specs.Prelude.{Contains}
 use Rattle.std.proofs.lemmas.Bool.{cases_lt}
 use Rattle.std.proofs.lemmas.List.Elements.{All-append, All-replicate}
-use Rattle.proof_obstruction_free.specs.Beneath.ctrie_base.specs.declared.refusals.Refusal.{Refusal}
-use Rattle.proof_obstruction_free.specs.Beneath.history.specs.declared.events.Event.TheVariants.{End}
-use Rattle.proof_obstruction_free.specs.Beneath.machine_model.specs.declared.operations.Operation.{Operation}
-use Rattle.proof_obstruction_free.specs.Beneath.machine_model.specs.declared.steps.Bounds.{Bounds}
-use Rattle.proof_obstruction_free.specs.Beneath.machine_model.specs.declared.steps.Outcome.TheVariants.{Went, Ended}
-use Rattle.proof_obstruction_free.specs.Beneath.machine_model.specs.declared.steps.Step.{Step}
+use Rattle.proof_obstruction_free.specs.Vocabulary.{Refusal, End, Operation, Bounds, Went, Ended, Step, FitsKey, KeysFit, go_denial, go_on, go_unless, is_taken_step, next, next_state, run}
+use Rattle.proof_obstruction_free.specs.Vocabulary.{state_after, Record, next_record, State, operation_of, last_of, states_of}
 use Rattle.proof_obstruction_free.specs.Beneath.machine_model.specs.declared.steps.Step.TheVariants as step
-use Rattle.proof_obstruction_free.specs.Beneath.machine_model.specs.Keys.{FitsKey, KeysFit}
-use Rattle.proof_obstruction_free.specs.Beneath.machine_model.specs.Machine.{go_denial, go_on, go_unless, is_taken_step, next, next_state, run, state_after}
-use Rattle.proof_obstruction_free.specs.Beneath.machine_model.specs.Records.{Record, next_record}
-use Rattle.proof_obstruction_free.specs.Beneath.machine_model.specs.States.{State, operation_of}
 use Rattle.proof_obstruction_free.specs.Beneath.machine_model.proofs.Along.{limits_along}
 use Rattle.proof_obstruction_free.specs.Beneath.machine_model.proofs.Frames.{steps_counted}
 use Rattle.proof_obstruction_free.specs.Beneath.machine_model.proofs.Moves.{moved}
 use Rattle.proof_obstruction_free.specs.Beneath.machine_model.proofs.Times.{run_is}
-use Rattle.proof_obstruction_free.specs.Beneath.machine_model.specs.Times.{last_of, states_of}
 use Rattle.proof_obstruction_free.specs.Beneath.proof_shape.specs.Sites.Nodes.{steps_of}
 use Rattle.proof_obstruction_free.specs.Beneath.proof_shape.proofs.Sites.Fixed.{keys_fit}
 use Rattle.proof_obstruction_free.specs.Beneath.proof_shape.proofs.Sites.Stepped.{takes_steps}

@@ -3,25 +3,12 @@ use Rattle.std.proofs.Common.{◌≡◌, ℕ, ◌<◌, true, List, Some, Ok, ref
 use Rattle.std.specs.Prelude.{Contains}
 use Rattle.std.proofs.lemmas.Bool.{false≢true}
 use Rattle.std.proofs.lemmas.Option.{same_Some}
-use Rattle.proof_obstruction_free.specs.Beneath.ctrie_base.specs.declared.kinds.Kind.{Kind}
-use Rattle.proof_obstruction_free.specs.Beneath.history.specs.declared.calls.Call.{Call}
-use Rattle.proof_obstruction_free.specs.Beneath.history.specs.declared.calls.Call.TheVariants.{Close}
-use Rattle.proof_obstruction_free.specs.Beneath.history.specs.declared.events.Event.TheVariants.{End}
-use Rattle.proof_obstruction_free.specs.Beneath.history.specs.declared.replies.Reply.{Reply}
-use Rattle.proof_obstruction_free.specs.Beneath.history.specs.declared.replies.Reply.TheVariants.{Closed}
+use Rattle.proof_obstruction_free.specs.Vocabulary.{Kind, Call, Close, End, Reply, Closed, Operation, Bounds, Ended, Went, Step, is_close, next, next_state, run, Moves, GoesOn, action_of}
+use Rattle.proof_obstruction_free.specs.Vocabulary.{first_line, line_action, State, operation_of, Record, next_record, record_of}
 use Rattle.proof_obstruction_free.specs.Beneath.machine_model.specs.declared.actions.Action.TheVariants as act
 use Rattle.proof_obstruction_free.specs.Beneath.machine_model.specs.declared.lines.Line.TheVariants as line
-use Rattle.proof_obstruction_free.specs.Beneath.machine_model.specs.declared.operations.Operation.{Operation}
-use Rattle.proof_obstruction_free.specs.Beneath.machine_model.specs.declared.steps.Bounds.{Bounds}
-use Rattle.proof_obstruction_free.specs.Beneath.machine_model.specs.declared.steps.Outcome.TheVariants.{Ended, Went}
-use Rattle.proof_obstruction_free.specs.Beneath.machine_model.specs.declared.steps.Step.{Step}
 use Rattle.proof_obstruction_free.specs.Beneath.machine_model.specs.declared.steps.Step.TheVariants as step
-use Rattle.proof_obstruction_free.specs.Beneath.machine_model.specs.Calls.{is_close}
-use Rattle.proof_obstruction_free.specs.Beneath.machine_model.specs.Machine.{next, next_state, run}
-use Rattle.proof_obstruction_free.specs.Beneath.machine_model.specs.Moves.{Moves, Goes, GoesOn}
-use Rattle.proof_obstruction_free.specs.Beneath.machine_model.specs.Operations.{action_of, first_line, line_action}
-use Rattle.proof_obstruction_free.specs.Beneath.machine_model.specs.States.{State, operation_of}
-use Rattle.proof_obstruction_free.specs.Beneath.machine_model.specs.Records.{Record, next_record, record_of}
+use Rattle.proof_obstruction_free.specs.Beneath.machine_model.specs.Moves.{Goes}
 use Rattle.proof_obstruction_free.specs.Beneath.machine_model.proofs.Along.{limits_along}
 use Rattle.proof_obstruction_free.specs.Beneath.machine_model.proofs.Actors.{mark_only}
 use Rattle.proof_obstruction_free.specs.Beneath.machine_model.proofs.EachOperation.{OfEach, of_each_along, of_running}

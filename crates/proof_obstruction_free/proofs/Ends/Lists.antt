@@ -1,16 +1,12 @@
 -- The run of a list of steps, and of steps of one actor behind it that are all taken.
 use Rattle.std.proofs.Common.{◌≡◌, ℕ, zero, suc, cond, ◌+◌, ◌-◌, ◌<◌, ◌≤◌, List, [], ◌∷◌, ◌++◌, length, get_or, replicate, true, refl, sym, ap, ap₂, ◌∙◌, append_assoc, arith}
 use Rattle.std.proofs.lemmas.List.{append-nil, length-append, length-replicate, replicate-append-replicate, get_or-append_right, get_or-replicate}
-use Rattle.proof_obstruction_free.specs.Beneath.machine_model.specs.declared.steps.Bounds.{Bounds}
-use Rattle.proof_obstruction_free.specs.Beneath.machine_model.specs.declared.steps.Step.{Step}
+use Rattle.proof_obstruction_free.specs.Vocabulary.{Bounds, Step, is_taken_step, next, next_state, run, taken_from, taken_steps, State, first_state, Record, first_record, next_record, record_of}
+use Rattle.proof_obstruction_free.specs.Vocabulary.{last_of, states_of}
 use Rattle.proof_obstruction_free.specs.Beneath.machine_model.specs.declared.steps.Step.TheVariants as step
-use Rattle.proof_obstruction_free.specs.Beneath.machine_model.specs.Machine.{is_taken_step, next, next_state, run, taken_from, taken_steps}
-use Rattle.proof_obstruction_free.specs.Beneath.machine_model.specs.States.{State, first_state}
-use Rattle.proof_obstruction_free.specs.Beneath.machine_model.specs.Records.{Record, first_record, next_record, record_of}
 use Rattle.proof_obstruction_free.specs.Beneath.machine_model.proofs.Along.{run_push}
 use Rattle.proof_obstruction_free.specs.Beneath.machine_model.proofs.Recorded.{record_push}
 use Rattle.proof_obstruction_free.specs.Beneath.machine_model.proofs.Times.{run_ends}
-use Rattle.proof_obstruction_free.specs.Beneath.machine_model.specs.Times.{last_of, states_of}
 use Rattle.proof_obstruction_free.specs.Beneath.proof_shape.specs.Sites.Nodes.{steps_of}
 use Rattle.proof_obstruction_free.specs.Beneath.proof_shape.proofs.Sites.Fixed.{taken-append, states_of-append}
 use Rattle.proof_obstruction_free.specs.Laws.{alone_after}

@@ -1,6 +1,6 @@
 -- Each time from its start on an operation that is alone stands on a line, and that isn't an end.
 use Rattle.std.proofs.Common.{ℕ, ◌<◌, ◌≤◌, Option, refl, arith, subst, ◌≡◌}
-use Rattle.proof_obstruction_free.specs.Beneath.machine_model.specs.declared.lines.Line.{Line}
+use Rattle.proof_obstruction_free.specs.Vocabulary.{Line}
 use Rattle.proof_obstruction_free.specs.Beneath.machine_model.specs.declared.lines.Line.TheVariants as line
 use Rattle.proof_obstruction_free.specs.Beneath.proof_commits.proofs.Course.Finals.{from_time}
 use Rattle.proof_obstruction_free.specs.Beneath.proof_shape.proofs.Runs.RunOf.{never_impossible}

@@ -5,29 +5,16 @@ use Rattle.std.proofs.lemmas.Bool.{lt-leb}
 use Rattle.std.proofs.lemmas.List.{get_or-set_same}
 use Rattle.std.proofs.lemmas.List.Elements.{Contains-append_right}
 use Rattle.std.proofs.lemmas.Option.{none-some}
-use Rattle.proof_obstruction_free.specs.Beneath.ctrie_base.specs.declared.kinds.Kind.{Kind}
+use Rattle.proof_obstruction_free.specs.Vocabulary.{Kind, End, Reply, Action, Operation, Outcome, Went, Ended, gone, ended, operation_after, settled, first_reason, go_denial, go_on, go_unless}
+use Rattle.proof_obstruction_free.specs.Vocabulary.{is_actor, is_running, is_spent, is_taken_step, next, next_state, state_after, step_by, action_of, kind_of, Record, next_record, noted, State}
+use Rattle.proof_obstruction_free.specs.Vocabulary.{operation_of, told_in, GoesOn}
 use Rattle.proof_obstruction_free.specs.Beneath.ctrie_base.specs.declared.refusals.Refusal.TheVariants as refuse
-use Rattle.proof_obstruction_free.specs.Beneath.history.specs.declared.events.Event.TheVariants.{End}
-use Rattle.proof_obstruction_free.specs.Beneath.history.specs.declared.replies.Reply.{Reply}
-use Rattle.proof_obstruction_free.specs.Beneath.machine_model.specs.declared.actions.Action.{Action}
 use Rattle.proof_obstruction_free.specs.Beneath.machine_model.specs.declared.actions.Action.TheVariants as act
-use Rattle.proof_obstruction_free.specs.Beneath.machine_model.specs.declared.operations.Operation.{Operation}
-use Rattle.proof_obstruction_free.specs.Beneath.machine_model.specs.declared.steps.Outcome.{Outcome}
-use Rattle.proof_obstruction_free.specs.Beneath.machine_model.specs.declared.steps.Outcome.TheVariants.{Went, Ended}
 use Rattle.proof_obstruction_free.specs.Beneath.machine_model.specs.declared.steps.Step.TheVariants as step
-use Rattle.proof_obstruction_free.specs.Beneath.machine_model.specs.Acting.{gone, ended, operation_after}
-use Rattle.proof_obstruction_free.specs.Beneath.machine_model.specs.Counting.{settled}
-use Rattle.proof_obstruction_free.specs.Beneath.machine_model.specs.Machine.{first_reason, go_denial, go_on, go_unless, is_actor, is_running, is_spent}
-use Rattle.proof_obstruction_free.specs.Beneath.machine_model.specs.Machine.{is_taken_step, next, next_state, state_after, step_by}
-use Rattle.proof_obstruction_free.specs.Beneath.machine_model.specs.Operations.{action_of, kind_of}
-use Rattle.proof_obstruction_free.specs.Beneath.machine_model.specs.Records.{Record, next_record, noted}
-use Rattle.proof_obstruction_free.specs.Beneath.machine_model.specs.States.{State, operation_of}
 use Rattle.proof_obstruction_free.specs.Beneath.machine_model.proofs.Actors.{mark_one, mark_only, marks_in}
 use Rattle.proof_obstruction_free.specs.Beneath.machine_model.proofs.Found.{found_within}
 use Rattle.proof_obstruction_free.specs.Beneath.machine_model.proofs.Moves.{moved}
 use Rattle.proof_obstruction_free.specs.Beneath.machine_model.proofs.Notes.{noted_ending}
-use Rattle.proof_obstruction_free.specs.Beneath.machine_model.specs.Tellings.{told_in}
-use Rattle.proof_obstruction_free.specs.Beneath.machine_model.specs.Moves.{GoesOn}
 use Rattle.proof_obstruction_free.specs.Beneath.proof_generations.proofs.Handles.Running.{Follows, follows, rests, steps, ends}
 use Rattle.proof_obstruction_free.specs.Beneath.proof_generations.specs.Running.{Runs}
 

@@ -1,9 +1,6 @@
 -- No run is long in which an operation on one key, a snapshot, a freeze or a clear alone takes steps and never ends: so each of them ends.
 use Rattle.std.proofs.Common.{◌≡◌, ◌+◌, ◌≤◌, refl, arith}
-use Rattle.proof_obstruction_free.specs.Beneath.history.specs.declared.calls.Access.{Access}
-use Rattle.proof_obstruction_free.specs.Beneath.history.specs.declared.calls.Access.TheVariants.{ReadOnly, Writable}
-use Rattle.proof_obstruction_free.specs.Beneath.history.specs.declared.calls.Call.{Call}
-use Rattle.proof_obstruction_free.specs.Beneath.history.specs.declared.calls.Call.TheVariants.{Clear, Freeze, Snapshot, Close, Entries, Count}
+use Rattle.proof_obstruction_free.specs.Vocabulary.{Access, ReadOnly, Writable, Call, Clear, Freeze, Snapshot, Close, Entries, Count}
 use Rattle.proof_obstruction_free.specs.Alone.{Lone}
 use Rattle.proof_obstruction_free.specs.Keys.{IsOnKey}
 use Rattle.proof_obstruction_free.specs.Laws.{AloneItEnds, EachStepLeadsToItsEnd, IsOnKeyOrRoot, most_steps_alone}

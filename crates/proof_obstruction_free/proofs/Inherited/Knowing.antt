@@ -2,15 +2,10 @@
 use Rattle.std.proofs.Common.{◌≡◌, ℕ, zero, suc, ◌+◌, ◌-◌, ◌*◌, ◌≤◌, ◌⊎◌, inl, inr, List, [], ◌∷◌, ◌++◌, length, Some, sym, ap, subst, ◌∙◌, arith}
 use Rattle.std.proofs.Math.Nat.{mul-le-mul_right, suc-mul}
 use Rattle.std.proofs.lemmas.List.{length-append}
-use Rattle.proof_obstruction_free.specs.Beneath.history.specs.declared.calls.Access.TheVariants.{Writable}
-use Rattle.proof_obstruction_free.specs.Beneath.slot_arena.specs.declared.refs.Ref.{Ref}
+use Rattle.proof_obstruction_free.specs.Vocabulary.{Writable, Ref, Plain, going_down, current, depth_of, reading}
 use Rattle.proof_obstruction_free.specs.Beneath.machine_model.specs.declared.finding.KeyLine.TheVariants as key
 use Rattle.proof_obstruction_free.specs.Beneath.machine_model.specs.declared.lines.Line.TheVariants as line
-use Rattle.proof_obstruction_free.specs.Beneath.machine_model.specs.declared.roots.RootWord.TheVariants.{Plain}
-use Rattle.proof_obstruction_free.specs.Beneath.machine_model.specs.Finding.{going_down}
 use Rattle.proof_obstruction_free.specs.Beneath.machine_model.specs.Operations.{from_root}
-use Rattle.proof_obstruction_free.specs.Beneath.machine_model.specs.Paths.{current, depth_of}
-use Rattle.proof_obstruction_free.specs.Beneath.machine_model.specs.Reading.{reading}
 use Rattle.proof_obstruction_free.specs.Alone.{IsCurrent, IsPlain, IsWeight, Keeps, Lone, Stands, Within, generation}
 use Rattle.proof_obstruction_free.specs.Keys.{Chain, IsBottom, IsEnd, IsOf, IsOnKey, PassEnds, RenewsFrom}
 use Rattle.proof_obstruction_free.specs.Machines.{IsRooted, Machines}

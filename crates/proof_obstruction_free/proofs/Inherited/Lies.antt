@@ -1,15 +1,8 @@
 -- Where one actor alone takes steps: its operation's path, and a chain from the root, lie on the key's path in the trie of the run.
 use Rattle.std.proofs.Common.{◌≡◌, ℕ, zero, suc, cond, ◌<◌, List, length, get_or, Some, refl, sym, ap, subst, ◌∙◌, arith}
-use Rattle.proof_obstruction_free.specs.Beneath.ctrie_base.specs.Paths.{position_of}
-use Rattle.proof_obstruction_free.specs.Beneath.history.specs.declared.calls.Access.TheVariants.{Writable}
-use Rattle.proof_obstruction_free.specs.Beneath.slot_arena.specs.declared.refs.Ref.{Ref}
-use Rattle.proof_obstruction_free.specs.Beneath.slot_arena.specs.Heaps.{generation_of, generation_at, logical, no_ref}
+use Rattle.proof_obstruction_free.specs.Vocabulary.{position_of, Writable, Ref, generation_of, generation_at, logical, no_ref, Plain, handle_of, key_of, root_of, word_of, prev_word}
 use Rattle.proof_obstruction_free.specs.Beneath.machine_model.specs.declared.finding.KeyLine.TheVariants as key
 use Rattle.proof_obstruction_free.specs.Beneath.machine_model.specs.declared.lines.Line.TheVariants as line
-use Rattle.proof_obstruction_free.specs.Beneath.machine_model.specs.declared.roots.RootWord.TheVariants.{Plain}
-use Rattle.proof_obstruction_free.specs.Beneath.machine_model.specs.Calls.{handle_of, key_of}
-use Rattle.proof_obstruction_free.specs.Beneath.machine_model.specs.States.{root_of, word_of}
-use Rattle.proof_obstruction_free.specs.Beneath.machine_model.specs.Grown.{prev_word}
 use Rattle.proof_obstruction_free.specs.Beneath.proof_contents.specs.Nodes.Looking.{Absent, Below, look_at, look_in}
 use Rattle.proof_obstruction_free.specs.Beneath.proof_contents.specs.Tries.{Trie, On, at_root, at_below, generation, says}
 use Rattle.proof_obstruction_free.specs.Beneath.proof_contents.specs.Steps.{IsTrie}

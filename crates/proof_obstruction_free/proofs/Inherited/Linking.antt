@@ -3,9 +3,7 @@ use Rattle.std.proofs.Common.{◌≡◌, ℕ, suc, ◌<◌, ◌≤◌, ◌⊎◌
 use Rattle.std.proofs.Math.Seq.{get_or-append_seam}
 use Rattle.std.proofs.lemmas.Bool.{cases_lt}
 use Rattle.std.proofs.lemmas.List.{get_or_append_left, length-append}
-use Rattle.proof_obstruction_free.specs.Beneath.slot_arena.specs.declared.refs.Ref.{Ref}
-use Rattle.proof_obstruction_free.specs.Beneath.slot_arena.specs.Heaps.{no_ref}
-use Rattle.proof_obstruction_free.specs.Beneath.machine_model.specs.Paths.{current, depth_of}
+use Rattle.proof_obstruction_free.specs.Vocabulary.{Ref, no_ref, current, depth_of}
 use Rattle.proof_obstruction_free.specs.Alone.{Has, Keeps, KeepsBut, Lone}
 use Rattle.proof_obstruction_free.specs.Keys.{IsOf, Leads}
 use Rattle.proof_obstruction_free.specs.Inherited.{IsLinked}

@@ -2,15 +2,9 @@
 use Rattle.std.proofs.Common.{◌≡◌, ℕ, zero, suc, ◌+◌, ◌-◌, ◌*◌, ◌≤◌, ◌⊎◌, ◌==◌, Bool, true, false, inl, inr, List, [], ◌∷◌, ◌++◌, length, Some, refl, sym, ap, subst, ◌∙◌, eqb-true, arith}
 use Rattle.std.proofs.Math.Nat.{mul-le-mul_right, suc-mul}
 use Rattle.std.proofs.lemmas.List.{length-append}
-use Rattle.proof_obstruction_free.specs.Beneath.history.specs.declared.calls.Access.TheVariants.{Writable}
-use Rattle.proof_obstruction_free.specs.Beneath.slot_arena.specs.declared.refs.Ref.{Ref}
-use Rattle.proof_obstruction_free.specs.Beneath.slot_arena.specs.declared.nodes.Node.TheVariants.{Tomb}
+use Rattle.proof_obstruction_free.specs.Vocabulary.{Writable, Ref, Tomb, Plain, current, depth_of, new_try, reading}
 use Rattle.proof_obstruction_free.specs.Beneath.machine_model.specs.declared.finding.KeyLine.TheVariants as key
 use Rattle.proof_obstruction_free.specs.Beneath.machine_model.specs.declared.lines.Line.TheVariants as line
-use Rattle.proof_obstruction_free.specs.Beneath.machine_model.specs.declared.roots.RootWord.TheVariants.{Plain}
-use Rattle.proof_obstruction_free.specs.Beneath.machine_model.specs.Paths.{current, depth_of}
-use Rattle.proof_obstruction_free.specs.Beneath.machine_model.specs.Lines.{new_try}
-use Rattle.proof_obstruction_free.specs.Beneath.machine_model.specs.Reading.{reading}
 use Rattle.proof_obstruction_free.specs.Alone.{Has, IsCurrent, IsWeight, Lone, Stands, Within, generation, node}
 use Rattle.proof_obstruction_free.specs.Bounds.{bottom_most, fresh_most, level_most, tombs_most}
 use Rattle.proof_obstruction_free.specs.Keys.{BottomEnds, IsEnd, IsNoTomb, IsOf, Leads, RenewsFrom}

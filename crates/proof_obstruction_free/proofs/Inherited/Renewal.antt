@@ -1,17 +1,11 @@
 -- RENEW of a level where one actor alone takes steps, whatever its operation's root: it leads to a new try, or from then on that root is the handle's.
 use Rattle.std.proofs.Common.{◌≡◌, ℕ, suc, ◌+◌, ◌*◌, ◌<◌, ◌≤◌, ◌⊎◌, ◌==◌, Bool, true, false, inl, inr, List, [], length, Some, refl, sym, subst, arith}
 use Rattle.std.proofs.Math.Nat.{mul-le-mul_right}
-use Rattle.proof_obstruction_free.specs.Beneath.ctrie_base.specs.Paths.{position_of}
-use Rattle.proof_obstruction_free.specs.Beneath.history.specs.declared.calls.Access.TheVariants.{Writable}
-use Rattle.proof_obstruction_free.specs.Beneath.slot_arena.specs.declared.refs.Ref.{Ref}
-use Rattle.proof_obstruction_free.specs.Beneath.slot_arena.specs.Heaps.{entries_of}
+use Rattle.proof_obstruction_free.specs.Vocabulary.{position_of, Writable, Ref, entries_of, new_try, swapped, current, depth_of}
 use Rattle.proof_obstruction_free.specs.Beneath.machine_model.specs.declared.finding.KeyLine.TheVariants as key
 use Rattle.proof_obstruction_free.specs.Beneath.machine_model.specs.declared.lines.Line.TheVariants as line
 use Rattle.proof_obstruction_free.specs.Beneath.machine_model.specs.declared.lines.Purpose.TheVariants as purpose
 use Rattle.proof_obstruction_free.specs.Beneath.machine_model.specs.declared.repairs.RenewLine.TheVariants as renew
-use Rattle.proof_obstruction_free.specs.Beneath.machine_model.specs.Lines.{new_try}
-use Rattle.proof_obstruction_free.specs.Beneath.machine_model.specs.Operations.{swapped}
-use Rattle.proof_obstruction_free.specs.Beneath.machine_model.specs.Paths.{current, depth_of}
 use Rattle.proof_obstruction_free.specs.Alone.{Has, IsCurrent, IsPlain, IsWeight, Keeps, KeepsBut, Lone, Stands, Within, WordStays, generation, node}
 use Rattle.proof_obstruction_free.specs.Keys.{IsNoTomb, IsOf, IsRenewing, Leads, RenewsFrom, flag_at}
 use Rattle.proof_obstruction_free.specs.Machines.{IsRead, IsSwapped, Machines}

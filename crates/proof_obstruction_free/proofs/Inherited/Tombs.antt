@@ -1,16 +1,9 @@
 -- Where the path of the pass that was under way ends in a tomb: CLEAN, and a fresh pass that renews nothing above.
 use Rattle.std.proofs.Common.{◌≡◌, ℕ, suc, ◌+◌, ◌*◌, ◌≤◌, List, length, get_or, Some, refl, ◌∙◌, arith}
-use Rattle.proof_obstruction_free.specs.Beneath.history.specs.declared.calls.Access.TheVariants.{Writable}
-use Rattle.proof_obstruction_free.specs.Beneath.slot_arena.specs.declared.refs.Ref.{Ref}
-use Rattle.proof_obstruction_free.specs.Beneath.slot_arena.specs.declared.nodes.Node.TheVariants.{Tomb}
-use Rattle.proof_obstruction_free.specs.Beneath.slot_arena.specs.Heaps.{no_ref}
+use Rattle.proof_obstruction_free.specs.Vocabulary.{Writable, Ref, Tomb, no_ref, Line, new_try, above, current, reading}
 use Rattle.proof_obstruction_free.specs.Beneath.machine_model.specs.declared.finding.KeyLine.TheVariants as key
-use Rattle.proof_obstruction_free.specs.Beneath.machine_model.specs.declared.lines.Line.{Line}
 use Rattle.proof_obstruction_free.specs.Beneath.machine_model.specs.declared.lines.Line.TheVariants as line
 use Rattle.proof_obstruction_free.specs.Beneath.machine_model.specs.declared.repairs.CleanLine.TheVariants as clean
-use Rattle.proof_obstruction_free.specs.Beneath.machine_model.specs.Lines.{new_try}
-use Rattle.proof_obstruction_free.specs.Beneath.machine_model.specs.Paths.{above, current}
-use Rattle.proof_obstruction_free.specs.Beneath.machine_model.specs.Reading.{reading}
 use Rattle.proof_obstruction_free.specs.Alone.{IsCurrent, IsWeight, Keeps, Lone, Stands, Within, WordStays, node}
 use Rattle.proof_obstruction_free.specs.Bounds.{fresh_most, tombs_most}
 use Rattle.proof_obstruction_free.specs.Keys.{IsBottom}

@@ -1,16 +1,9 @@
 -- A pass along a path that is known makes no node, where one actor alone takes steps.
 use Rattle.std.proofs.Common.{◌≡◌, ℕ, suc, ◌+◌, ◌≤◌, List, [], ◌∷◌, ◌++◌, get_or, length, Some, refl, sym, ap, subst, ◌∙◌, append-nil, append_assoc, arith}
 use Rattle.std.proofs.lemmas.List.{length-append}
-use Rattle.proof_obstruction_free.specs.Beneath.ctrie_base.specs.Paths.{position_of}
-use Rattle.proof_obstruction_free.specs.Beneath.history.specs.declared.calls.Access.TheVariants.{Writable}
-use Rattle.proof_obstruction_free.specs.Beneath.slot_arena.specs.declared.refs.Ref.{Ref}
-use Rattle.proof_obstruction_free.specs.Beneath.slot_arena.specs.Heaps.{no_ref}
+use Rattle.proof_obstruction_free.specs.Vocabulary.{position_of, Writable, Ref, no_ref, going_down, new_try, current, depth_of, reading}
 use Rattle.proof_obstruction_free.specs.Beneath.machine_model.specs.declared.finding.KeyLine.TheVariants as key
 use Rattle.proof_obstruction_free.specs.Beneath.machine_model.specs.declared.lines.Line.TheVariants as line
-use Rattle.proof_obstruction_free.specs.Beneath.machine_model.specs.Finding.{going_down}
-use Rattle.proof_obstruction_free.specs.Beneath.machine_model.specs.Lines.{new_try}
-use Rattle.proof_obstruction_free.specs.Beneath.machine_model.specs.Paths.{current, depth_of}
-use Rattle.proof_obstruction_free.specs.Beneath.machine_model.specs.Reading.{reading}
 use Rattle.proof_obstruction_free.specs.Alone.{Has, IsCurrent, IsPlain, Keeps, Lone, Stands, WordStays}
 use Rattle.proof_obstruction_free.specs.Keys.{Ended, IsOf, IsOnKey, Leads, flag_at}
 use Rattle.proof_obstruction_free.specs.Machines.{IsRead, IsRooted, Machines}

@@ -1,22 +1,12 @@
 -- CLIMB makes one node a level, where one actor alone takes steps.
 use Rattle.std.proofs.Common.{◌≡◌, ℕ, zero, suc, ◌+◌, ◌≤◌, Bool, true, false, nat_eq, length, List, Option, Some, None, if◌then◌else◌, refl, sym, ap, ◌∙◌, ltb-true, arith}
 use Rattle.std.specs.Option.{option_eq}
-use Rattle.proof_obstruction_free.specs.Beneath.slot_arena.specs.declared.refs.Ref.{Ref}
-use Rattle.proof_obstruction_free.specs.Beneath.slot_arena.specs.declared.nodes.Node.{Node}
-use Rattle.proof_obstruction_free.specs.Beneath.slot_arena.specs.declared.nodes.Node.TheVariants.{Indirection, Branch, Single, Tomb, List as Listed}
-use Rattle.proof_obstruction_free.specs.Beneath.slot_arena.specs.Heaps.{next_ref, node_at}
+use Rattle.proof_obstruction_free.specs.Vocabulary.{Ref, Node, Indirection, Branch, Single, Tomb, List as Listed, next_ref, node_at, Operation, Climb, changed_reply, climb_after_contracted}
+use Rattle.proof_obstruction_free.specs.Vocabulary.{climb_after_main, climbed, climbing, higher, holds_it, after_update, climbed_on, swapped, current, above, is_below_root, reading, swapping}
 use Rattle.proof_obstruction_free.specs.Beneath.machine_model.specs.declared.lines.Line.TheVariants as line
 use Rattle.proof_obstruction_free.specs.Beneath.machine_model.specs.declared.lines.Purpose.TheVariants as purpose
-use Rattle.proof_obstruction_free.specs.Beneath.machine_model.specs.declared.operations.Operation.{Operation}
-use Rattle.proof_obstruction_free.specs.Beneath.machine_model.specs.declared.repairs.Climb.{Climb}
 use Rattle.proof_obstruction_free.specs.Beneath.machine_model.specs.declared.repairs.ClimbLine.TheVariants as climb
 use Rattle.proof_obstruction_free.specs.Beneath.machine_model.specs.declared.roots.RootLine.TheVariants as root
-use Rattle.proof_obstruction_free.specs.Beneath.machine_model.specs.Calls.{changed_reply}
-use Rattle.proof_obstruction_free.specs.Beneath.machine_model.specs.Climbing.{climb_after_contracted, climb_after_main, climbed, climbing, higher, holds_it}
-use Rattle.proof_obstruction_free.specs.Beneath.machine_model.specs.Operations.{after_update, climbed_on, swapped}
-use Rattle.proof_obstruction_free.specs.Beneath.machine_model.specs.Paths.{current, above, is_below_root}
-use Rattle.proof_obstruction_free.specs.Beneath.machine_model.specs.Reading.{reading}
-use Rattle.proof_obstruction_free.specs.Beneath.machine_model.specs.Swapping.{swapping}
 use Rattle.proof_obstruction_free.specs.Beneath.proof_commits.proofs.Lines.Read.{licensed_so}
 use Rattle.proof_obstruction_free.specs.Alone.{Lone, Stands, Has, IsPlain, Keeps, generation, node}
 use Rattle.proof_obstruction_free.specs.Machines.{IsRead, IsRootedSo, IsSwapped}

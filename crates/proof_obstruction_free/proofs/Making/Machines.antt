@@ -1,20 +1,11 @@
 -- READ, SWAP and ROOT make no node, where one actor alone takes steps.
 use Rattle.std.proofs.Common.{◌≡◌, ℕ, suc, ◌+◌, ◌-◌, ◌*◌, ◌<◌, ◌≤◌, ◌⊎◌, inl, inr, Option, Some, refl, arith}
 use Rattle.std.proofs.lemmas.Bool.{cases_lt}
-use Rattle.proof_obstruction_free.specs.Beneath.slot_arena.specs.declared.refs.Ref.{Ref}
-use Rattle.proof_obstruction_free.specs.Beneath.machine_model.specs.declared.actions.Action.{Action}
-use Rattle.proof_obstruction_free.specs.Beneath.machine_model.specs.declared.lines.Line.{Line}
+use Rattle.proof_obstruction_free.specs.Vocabulary.{Ref, Action, Line, Purpose, ReadLine, Climb, action_of, Operation, operation_of, swapping}
 use Rattle.proof_obstruction_free.specs.Beneath.machine_model.specs.declared.lines.Line.TheVariants as line
-use Rattle.proof_obstruction_free.specs.Beneath.machine_model.specs.declared.lines.Purpose.{Purpose}
-use Rattle.proof_obstruction_free.specs.Beneath.machine_model.specs.declared.reading.ReadLine.{ReadLine}
 use Rattle.proof_obstruction_free.specs.Beneath.machine_model.specs.declared.reading.ReadLine.TheVariants as read
-use Rattle.proof_obstruction_free.specs.Beneath.machine_model.specs.declared.repairs.Climb.{Climb}
 use Rattle.proof_obstruction_free.specs.Beneath.machine_model.specs.declared.repairs.ClimbLine.TheVariants as climb
 use Rattle.proof_obstruction_free.specs.Beneath.machine_model.specs.declared.roots.RootLine.TheVariants as root
-use Rattle.proof_obstruction_free.specs.Beneath.machine_model.specs.Operations.{action_of}
-use Rattle.proof_obstruction_free.specs.Beneath.machine_model.specs.declared.operations.Operation.{Operation}
-use Rattle.proof_obstruction_free.specs.Beneath.machine_model.specs.States.{operation_of}
-use Rattle.proof_obstruction_free.specs.Beneath.machine_model.specs.Swapping.{swapping}
 use Rattle.proof_obstruction_free.specs.Alone.{Lone, Stands, Has, IsPlain, IsCurrent, IsStill, Within, word}
 use Rattle.proof_obstruction_free.specs.Machines.{HoldsRead, HasSwapped, IsRead, IsRooted, IsRootedSo, IsSwapped, Machines}
 use Rattle.proof_obstruction_free.specs.Weighing.{Acts, Weighing}

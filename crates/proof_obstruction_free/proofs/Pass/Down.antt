@@ -1,22 +1,12 @@
 -- A fresh pass goes down a level, or comes to the end of the key's path.
 use Rattle.std.proofs.Common.{◌≡◌, ℕ, suc, ◌+◌, ◌*◌, ◌<◌, ◌≤◌, ◌⊎◌, ◌==◌, Bool, true, false, inl, inr, List, [], length, slice_index_or, Option, Some, refl, sym, ap, subst, ◌∙◌, eqb-true, arith}
 use Rattle.std.proofs.Math.Nat.{mul-le-mul_right}
-use Rattle.proof_obstruction_free.specs.Beneath.ctrie_base.specs.Paths.{position_of}
+use Rattle.proof_obstruction_free.specs.Vocabulary.{position_of, Writable, Ref, Branch, bitmap_of, entries_of, no_ref, renewed, Line, line_action, current, depth_of, reading, swapping}
 use Rattle.arrayvec.specs.ArrayVec.{ArrayVec}
-use Rattle.proof_obstruction_free.specs.Beneath.history.specs.declared.calls.Access.TheVariants.{Writable}
-use Rattle.proof_obstruction_free.specs.Beneath.slot_arena.specs.declared.refs.Ref.{Ref}
-use Rattle.proof_obstruction_free.specs.Beneath.slot_arena.specs.declared.nodes.Node.TheVariants.{Branch}
-use Rattle.proof_obstruction_free.specs.Beneath.slot_arena.specs.Heaps.{bitmap_of, entries_of, no_ref}
-use Rattle.proof_obstruction_free.specs.Beneath.nodes.specs.Builders.{renewed}
 use Rattle.proof_obstruction_free.specs.Beneath.machine_model.specs.declared.finding.KeyLine.TheVariants as key
-use Rattle.proof_obstruction_free.specs.Beneath.machine_model.specs.declared.lines.Line.{Line}
 use Rattle.proof_obstruction_free.specs.Beneath.machine_model.specs.declared.lines.Line.TheVariants as line
 use Rattle.proof_obstruction_free.specs.Beneath.machine_model.specs.declared.lines.Purpose.TheVariants as purpose
 use Rattle.proof_obstruction_free.specs.Beneath.machine_model.specs.declared.repairs.RenewLine.TheVariants as renew
-use Rattle.proof_obstruction_free.specs.Beneath.machine_model.specs.Operations.{line_action}
-use Rattle.proof_obstruction_free.specs.Beneath.machine_model.specs.Paths.{current, depth_of}
-use Rattle.proof_obstruction_free.specs.Beneath.machine_model.specs.Reading.{reading}
-use Rattle.proof_obstruction_free.specs.Beneath.machine_model.specs.Swapping.{swapping}
 use Rattle.proof_obstruction_free.specs.Alone.{Has, IsCurrent, IsWeight, Keeps, Lone, Stands, Within, WordStays, node}
 use Rattle.proof_obstruction_free.specs.Keys.{Chain, GoesDown, IsBottom, IsDown, IsEnd, IsOf, IsRenewed, IsRenewing, Leads, RenewsFrom, flag_at}
 use Rattle.proof_obstruction_free.specs.Machines.{HasSwapped, IsRead, Machines}

@@ -2,13 +2,9 @@
 use Rattle.std.proofs.Common.{◌≡◌, ℕ, zero, suc, ◌+◌, ◌-◌, ◌*◌, ◌≤◌, ◌==◌, ◌⊎◌, inl, inr, Bool, true, false, List, length, Some, refl, ap, subst, ◌∙◌, eqb-true, arith}
 use Rattle.std.proofs.Math.Nat.{mul-le-mul_right, suc-mul}
 use Rattle.std.proofs.lemmas.Bool.{eqb-false}
-use Rattle.proof_obstruction_free.specs.Beneath.history.specs.declared.calls.Access.TheVariants.{Writable}
-use Rattle.proof_obstruction_free.specs.Beneath.slot_arena.specs.declared.refs.Ref.{Ref}
-use Rattle.proof_obstruction_free.specs.Beneath.slot_arena.specs.declared.nodes.Node.TheVariants.{Tomb}
+use Rattle.proof_obstruction_free.specs.Vocabulary.{Writable, Ref, Tomb, new_try, above, current}
 use Rattle.proof_obstruction_free.specs.Beneath.machine_model.specs.declared.finding.KeyLine.TheVariants as key
 use Rattle.proof_obstruction_free.specs.Beneath.machine_model.specs.declared.lines.Line.TheVariants as line
-use Rattle.proof_obstruction_free.specs.Beneath.machine_model.specs.Lines.{new_try}
-use Rattle.proof_obstruction_free.specs.Beneath.machine_model.specs.Paths.{above, current}
 use Rattle.proof_obstruction_free.specs.Alone.{IsCurrent, IsWeight, Lone, Stands, Within, node}
 use Rattle.proof_obstruction_free.specs.Bounds.{bottom_most, cleaning_most, tombs_most}
 use Rattle.proof_obstruction_free.specs.Keys.{BottomEnds, CleansCurrent, Ended, IsBottom, IsCleanedUp, IsNoTomb, PassAlong}

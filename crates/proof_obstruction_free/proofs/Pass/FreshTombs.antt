@@ -2,19 +2,11 @@
 use Rattle.std.proofs.Common.{◌≡◌, ℕ, suc, cond, ◌-◌, ◌<◌, ◌≤◌, ◌⊎◌, inl, inr, List, length, get_or, Option, refl, sym, ap, subst, ◌∙◌, ltb, arith}
 use Rattle.std.proofs.lemmas.Bool.{cases_lt, le-ltb, lt-ltb}
 use Rattle.std.proofs.lemmas.List.{get_or-take, length-take-le}
-use Rattle.proof_obstruction_free.specs.Beneath.history.specs.declared.calls.Access.TheVariants.{Writable}
-use Rattle.proof_obstruction_free.specs.Beneath.slot_arena.specs.declared.refs.Ref.{Ref}
-use Rattle.proof_obstruction_free.specs.Beneath.slot_arena.specs.declared.nodes.Node.{Node}
-use Rattle.proof_obstruction_free.specs.Beneath.slot_arena.specs.declared.nodes.Node.TheVariants.{Indirection, Branch, Single, Tomb, List as Listed}
-use Rattle.proof_obstruction_free.specs.Beneath.slot_arena.specs.Heaps.{no_ref}
+use Rattle.proof_obstruction_free.specs.Vocabulary.{Writable, Ref, Node, Indirection, Branch, Single, Tomb, List as Listed, no_ref, after_tomb, key_after_main, impossible, line_after, above}
+use Rattle.proof_obstruction_free.specs.Vocabulary.{current, depth_of, reading}
 use Rattle.proof_obstruction_free.specs.Beneath.machine_model.specs.declared.finding.KeyLine.TheVariants as key
 use Rattle.proof_obstruction_free.specs.Beneath.machine_model.specs.declared.lines.Line.TheVariants as line
 use Rattle.proof_obstruction_free.specs.Beneath.machine_model.specs.declared.repairs.CleanLine.TheVariants as clean
-use Rattle.proof_obstruction_free.specs.Beneath.machine_model.specs.Finding.{after_tomb, key_after_main}
-use Rattle.proof_obstruction_free.specs.Beneath.machine_model.specs.Lines.{impossible}
-use Rattle.proof_obstruction_free.specs.Beneath.machine_model.specs.Operations.{line_after}
-use Rattle.proof_obstruction_free.specs.Beneath.machine_model.specs.Paths.{above, current, depth_of}
-use Rattle.proof_obstruction_free.specs.Beneath.machine_model.specs.Reading.{reading}
 use Rattle.proof_obstruction_free.specs.Alone.{Has, Lone, Stands, node}
 use Rattle.proof_obstruction_free.specs.Keys.{Chain, IsNoTomb, IsOf, Leads}
 use Rattle.proof_obstruction_free.specs.Stepping.{Stepping}

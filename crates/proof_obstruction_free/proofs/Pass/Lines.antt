@@ -3,22 +3,11 @@ use Rattle.std.proofs.Common.{◌++◌, ◌∷◌, ◌≡◌, ℕ, suc, ◌-◌,
 use Rattle.std.proofs.Math.Seq.{get_or-append_seam}
 use Rattle.std.proofs.lemmas.Bool.{lt-ltb}
 use Rattle.std.proofs.lemmas.List.{length-append}
-use Rattle.proof_obstruction_free.specs.Beneath.ctrie_base.specs.Paths.{position_of}
-use Rattle.proof_obstruction_free.specs.Beneath.history.specs.declared.calls.Access.TheVariants.{Writable}
-use Rattle.proof_obstruction_free.specs.Beneath.slot_arena.specs.declared.refs.Ref.{Ref}
-use Rattle.proof_obstruction_free.specs.Beneath.slot_arena.specs.Heaps.{entries_of, no_ref, node_at}
-use Rattle.proof_obstruction_free.specs.Beneath.nodes.specs.Levels.{has_flag}
+use Rattle.proof_obstruction_free.specs.Vocabulary.{position_of, Writable, Ref, entries_of, no_ref, node_at, has_flag, Line, Operation, ReadLine, absent, going_down, is_passable, key_after_entry}
+use Rattle.proof_obstruction_free.specs.Vocabulary.{key_after_main, key_after_read, line_after, current, depth_of, flag_in, reading, renew_next}
 use Rattle.proof_obstruction_free.specs.Beneath.machine_model.specs.declared.finding.KeyLine.TheVariants as key
-use Rattle.proof_obstruction_free.specs.Beneath.machine_model.specs.declared.lines.Line.{Line}
 use Rattle.proof_obstruction_free.specs.Beneath.machine_model.specs.declared.lines.Line.TheVariants as line
-use Rattle.proof_obstruction_free.specs.Beneath.machine_model.specs.declared.operations.Operation.{Operation}
-use Rattle.proof_obstruction_free.specs.Beneath.machine_model.specs.declared.reading.ReadLine.{ReadLine}
 use Rattle.proof_obstruction_free.specs.Beneath.machine_model.specs.declared.repairs.RenewLine.TheVariants as renew
-use Rattle.proof_obstruction_free.specs.Beneath.machine_model.specs.Finding.{absent, going_down, is_passable, key_after_entry, key_after_main, key_after_read}
-use Rattle.proof_obstruction_free.specs.Beneath.machine_model.specs.Operations.{line_after}
-use Rattle.proof_obstruction_free.specs.Beneath.machine_model.specs.Paths.{current, depth_of, flag_in}
-use Rattle.proof_obstruction_free.specs.Beneath.machine_model.specs.Reading.{reading}
-use Rattle.proof_obstruction_free.specs.Beneath.machine_model.specs.Renewing.{renew_next}
 use Rattle.proof_obstruction_free.specs.Beneath.proof_memory.specs.Laws.{IsInUse}
 use Rattle.proof_obstruction_free.specs.Alone.{Lone, Stands, node}
 use Rattle.proof_obstruction_free.specs.Keys.{IsOf, Leads, flag_at}

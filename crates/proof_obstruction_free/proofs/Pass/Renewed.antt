@@ -1,11 +1,7 @@
 -- Where all entries of a branch were renewed, it leads on to indirections of the root's generation alone.
 use Rattle.std.proofs.Common.{◌≡◌, ℕ, ◌<◌, ◌≤◌, inl, inr, List, get_or, length, sym, ap, ap₂, subst, ◌∙◌, arith}
 use Rattle.std.proofs.lemmas.List.{take_all}
-use Rattle.proof_obstruction_free.specs.Beneath.ctrie_base.specs.Paths.{position_of}
-use Rattle.proof_obstruction_free.specs.Beneath.slot_arena.specs.declared.refs.Ref.{Ref}
-use Rattle.proof_obstruction_free.specs.Beneath.slot_arena.specs.declared.nodes.Node.TheVariants.{Branch}
-use Rattle.proof_obstruction_free.specs.Beneath.slot_arena.specs.Heaps.{bitmap_of, entries_from, entries_of, no_ref}
-use Rattle.proof_obstruction_free.specs.Beneath.nodes.specs.Builders.{renewed}
+use Rattle.proof_obstruction_free.specs.Vocabulary.{position_of, Ref, Branch, bitmap_of, entries_from, entries_of, no_ref, renewed}
 use Rattle.proof_obstruction_free.specs.Alone.{Lone, node}
 use Rattle.proof_obstruction_free.specs.Keys.{IsOf, IsRenewed, Leads, flag_at}
 use Rattle.proof_obstruction_free.proofs.Clean.Ends.{link_no_single}

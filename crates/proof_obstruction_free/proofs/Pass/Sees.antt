@@ -1,18 +1,9 @@
 -- What the lines of KEY see on the way down, where one actor alone takes steps.
 use Rattle.std.proofs.Common.{◌≡◌, ℕ, ◌<◌, ◌≤◌, false, List, Option, get_or, length, refl, sym, ap, ap₂, subst, ◌∙◌, ltb-true}
-use Rattle.proof_obstruction_free.specs.Beneath.ctrie_base.specs.Hashes.{hash_of}
-use Rattle.proof_obstruction_free.specs.Beneath.history.specs.declared.calls.Call.{Call}
-use Rattle.proof_obstruction_free.specs.Beneath.slot_arena.specs.declared.refs.Ref.{Ref}
-use Rattle.proof_obstruction_free.specs.Beneath.slot_arena.specs.declared.nodes.Node.{Node}
-use Rattle.proof_obstruction_free.specs.Beneath.slot_arena.specs.declared.nodes.Node.TheVariants.{Indirection, Branch, Single, Tomb, List as Listed}
-use Rattle.proof_obstruction_free.specs.Beneath.slot_arena.specs.Heaps.{entries_of, no_ref, node_at}
-use Rattle.proof_obstruction_free.specs.Beneath.nodes.specs.Levels.{flag_of}
+use Rattle.proof_obstruction_free.specs.Vocabulary.{hash_of, Call, Ref, Node, Indirection, Branch, Single, Tomb, List as Listed, entries_of, no_ref, node_at, flag_of, Line, Bounds, key_of, depth_of}
+use Rattle.proof_obstruction_free.specs.Vocabulary.{flag_in}
 use Rattle.proof_obstruction_free.specs.Beneath.machine_model.specs.declared.finding.KeyLine.TheVariants as key
-use Rattle.proof_obstruction_free.specs.Beneath.machine_model.specs.declared.lines.Line.{Line}
 use Rattle.proof_obstruction_free.specs.Beneath.machine_model.specs.declared.lines.Line.TheVariants as line
-use Rattle.proof_obstruction_free.specs.Beneath.machine_model.specs.declared.steps.Bounds.{Bounds}
-use Rattle.proof_obstruction_free.specs.Beneath.machine_model.specs.Calls.{key_of}
-use Rattle.proof_obstruction_free.specs.Beneath.machine_model.specs.Paths.{depth_of, flag_in}
 use Rattle.proof_obstruction_free.specs.Beneath.proof_memory.specs.Laws.{IsInUse}
 use Rattle.proof_obstruction_free.specs.Beneath.proof_memory.specs.Wants.{is_indirection}
 use Rattle.proof_obstruction_free.specs.Beneath.proof_memory.proofs.Safety.AtTimes.{limits_at}

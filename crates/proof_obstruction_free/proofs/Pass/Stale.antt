@@ -1,21 +1,11 @@
 -- A pass that was under way when its actor was left alone comes to a new try.
 use Rattle.std.proofs.Common.{◌≡◌, ℕ, suc, ◌+◌, ◌-◌, ◌*◌, Bool, true, false, if◌then◌else◌, List, length, get_or, Some, refl, sym, ap, subst, ◌∙◌, ltb, arith}
 use Rattle.arrayvec.specs.ArrayVec.{ArrayVec}
-use Rattle.proof_obstruction_free.specs.Beneath.ctrie_base.specs.Paths.{position_of}
-use Rattle.proof_obstruction_free.specs.Beneath.history.specs.declared.calls.Access.{Access}
-use Rattle.proof_obstruction_free.specs.Beneath.history.specs.declared.calls.Access.TheVariants.{Writable}
-use Rattle.proof_obstruction_free.specs.Beneath.slot_arena.specs.declared.refs.Ref.{Ref}
-use Rattle.proof_obstruction_free.specs.Beneath.slot_arena.specs.declared.nodes.Node.{Node}
-use Rattle.proof_obstruction_free.specs.Beneath.slot_arena.specs.declared.nodes.Node.TheVariants.{Indirection, Branch, Single, Tomb, List as Listed}
-use Rattle.proof_obstruction_free.specs.Beneath.slot_arena.specs.Heaps.{entries_of, no_ref, node_at}
-use Rattle.proof_obstruction_free.specs.Beneath.nodes.specs.Levels.{has_flag}
+use Rattle.proof_obstruction_free.specs.Vocabulary.{position_of, Access, Writable, Ref, Node, Indirection, Branch, Single, Tomb, List as Listed, entries_of, no_ref, node_at, has_flag, absent}
+use Rattle.proof_obstruction_free.specs.Vocabulary.{after_tomb, key_after_main, impossible, new_try, above, current, depth_of, flag_in, reading}
 use Rattle.proof_obstruction_free.specs.Beneath.machine_model.specs.declared.finding.KeyLine.TheVariants as key
 use Rattle.proof_obstruction_free.specs.Beneath.machine_model.specs.declared.lines.Line.TheVariants as line
 use Rattle.proof_obstruction_free.specs.Beneath.machine_model.specs.declared.repairs.CleanLine.TheVariants as clean
-use Rattle.proof_obstruction_free.specs.Beneath.machine_model.specs.Finding.{absent, after_tomb, key_after_main}
-use Rattle.proof_obstruction_free.specs.Beneath.machine_model.specs.Lines.{impossible, new_try}
-use Rattle.proof_obstruction_free.specs.Beneath.machine_model.specs.Paths.{above, current, depth_of, flag_in}
-use Rattle.proof_obstruction_free.specs.Beneath.machine_model.specs.Reading.{reading}
 use Rattle.proof_obstruction_free.specs.Alone.{IsWeight, Lone, Stands, Within, node}
 use Rattle.proof_obstruction_free.specs.Bounds.{stale_bottom_most}
 use Rattle.proof_obstruction_free.specs.Keys.{CleansOn, IsEnd, IsOf, RenewsFrom, flag_at}

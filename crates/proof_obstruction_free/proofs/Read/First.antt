@@ -1,19 +1,9 @@
 -- A READ from its first line, where one actor alone takes steps: it gives the main node that stands there, decided, at a cost of 2 or more.
 use Rattle.std.proofs.Common.{◌≡◌, ℕ, suc, ◌+◌, ◌-◌, ◌<◌, ◌≤◌, ◌==◌, Bool, true, false, Option, Some, None, is_some, refl, ap, ◌∙◌, subst, eq-eqb, arith}
-use Rattle.proof_obstruction_free.specs.Beneath.history.specs.declared.calls.Access.{Access}
-use Rattle.proof_obstruction_free.specs.Beneath.history.specs.declared.calls.Access.TheVariants.{Writable, ReadOnly}
-use Rattle.proof_obstruction_free.specs.Beneath.slot_arena.specs.declared.refs.Ref.{Ref}
-use Rattle.proof_obstruction_free.specs.Beneath.slot_arena.specs.declared.nodes.Prev.{Prev}
+use Rattle.proof_obstruction_free.specs.Vocabulary.{Access, Writable, ReadOnly, Ref, Prev, main_at, prev_at, generation_at, main_changed, Line, ReadLine, Descriptor, RootWord, Plain, Offer}
+use Rattle.proof_obstruction_free.specs.Vocabulary.{verdict_by, is_licensed, is_pending, after_prev, after_ask, after_decide, after_restore, grown, main_word, prev_word}
 use Rattle.proof_obstruction_free.specs.Beneath.slot_arena.specs.declared.nodes.Prev.TheVariants as prev
-use Rattle.proof_obstruction_free.specs.Beneath.slot_arena.specs.Heaps.{main_at, prev_at, generation_at, main_changed}
-use Rattle.proof_obstruction_free.specs.Beneath.machine_model.specs.declared.lines.Line.{Line}
-use Rattle.proof_obstruction_free.specs.Beneath.machine_model.specs.declared.reading.ReadLine.{ReadLine}
 use Rattle.proof_obstruction_free.specs.Beneath.machine_model.specs.declared.reading.ReadLine.TheVariants as read
-use Rattle.proof_obstruction_free.specs.Beneath.machine_model.specs.declared.roots.Descriptor.{Descriptor}
-use Rattle.proof_obstruction_free.specs.Beneath.machine_model.specs.declared.roots.RootWord.{RootWord}
-use Rattle.proof_obstruction_free.specs.Beneath.machine_model.specs.declared.roots.RootWord.TheVariants.{Plain, Offer}
-use Rattle.proof_obstruction_free.specs.Beneath.machine_model.specs.Reading.{verdict_by, is_licensed, is_pending, after_prev, after_ask, after_decide, after_restore}
-use Rattle.proof_obstruction_free.specs.Beneath.machine_model.specs.Grown.{grown, main_word, prev_word}
 use Rattle.proof_obstruction_free.specs.Beneath.proof_commits.proofs.Known.Given.{GrownStays, GrownChanges, Either, Decided}
 use Rattle.proof_obstruction_free.specs.Beneath.proof_commits.proofs.Words.OfRuns.{link_made}
 use Rattle.proof_obstruction_free.specs.Alone.{Lone, Stands, Within, IsPlain, word}

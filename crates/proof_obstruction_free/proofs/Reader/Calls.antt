@@ -1,32 +1,13 @@
 -- A call on one key on a read-only handle stands on the lines of ROOT and of KEY alone, and takes no root with an offer.
 use Rattle.std.proofs.Common.{◌≡◌, ℕ, suc, ◌≤◌, Option, List, sym, ap, ◌∙◌, subst, arith}
-use Rattle.proof_obstruction_free.specs.Beneath.history.specs.declared.calls.Access.TheVariants.{ReadOnly}
-use Rattle.proof_obstruction_free.specs.Beneath.history.specs.declared.calls.Call.{Call}
-use Rattle.proof_obstruction_free.specs.Beneath.history.specs.declared.calls.Call.TheVariants.{Close, Entries, Count}
-use Rattle.proof_obstruction_free.specs.Beneath.slot_arena.specs.declared.refs.Ref.{Ref}
-use Rattle.proof_obstruction_free.specs.Beneath.slot_arena.specs.Heaps.{node_at, entry_at}
+use Rattle.proof_obstruction_free.specs.Vocabulary.{ReadOnly, Call, Close, Entries, Count, Ref, node_at, entry_at, Line, Operation, After, Gives, Read, RootLine, Bounds, Step, handle_of}
+use Rattle.proof_obstruction_free.specs.Vocabulary.{key_after_read, line_after, first_line, after_root, operation_after, read_step, State, first_state, word_at, root_after, turns, IsRun, Turn}
 use Rattle.proof_obstruction_free.specs.Beneath.machine_model.specs.declared.finding.KeyLine.TheVariants as key
-use Rattle.proof_obstruction_free.specs.Beneath.machine_model.specs.declared.lines.Line.{Line}
 use Rattle.proof_obstruction_free.specs.Beneath.machine_model.specs.declared.lines.Line.TheVariants as line
-use Rattle.proof_obstruction_free.specs.Beneath.machine_model.specs.declared.operations.Operation.{Operation}
-use Rattle.proof_obstruction_free.specs.Beneath.machine_model.specs.declared.reading.After.{After}
-use Rattle.proof_obstruction_free.specs.Beneath.machine_model.specs.declared.reading.After.TheVariants.{Goes, Gives}
-use Rattle.proof_obstruction_free.specs.Beneath.machine_model.specs.declared.reading.Read.{Read}
-use Rattle.proof_obstruction_free.specs.Beneath.machine_model.specs.declared.roots.RootLine.{RootLine}
-use Rattle.proof_obstruction_free.specs.Beneath.machine_model.specs.declared.steps.Bounds.{Bounds}
-use Rattle.proof_obstruction_free.specs.Beneath.machine_model.specs.declared.steps.Step.{Step}
-use Rattle.proof_obstruction_free.specs.Beneath.machine_model.specs.Calls.{handle_of}
-use Rattle.proof_obstruction_free.specs.Beneath.machine_model.specs.Finding.{key_after_read}
-use Rattle.proof_obstruction_free.specs.Beneath.machine_model.specs.Operations.{line_after, first_line, after_root}
-use Rattle.proof_obstruction_free.specs.Beneath.machine_model.specs.Acting.{operation_after}
-use Rattle.proof_obstruction_free.specs.Beneath.machine_model.specs.Reading.{read_step}
-use Rattle.proof_obstruction_free.specs.Beneath.machine_model.specs.States.{State, first_state, word_at}
-use Rattle.proof_obstruction_free.specs.Beneath.machine_model.specs.Swapping.{root_after}
+use Rattle.proof_obstruction_free.specs.Beneath.machine_model.specs.declared.reading.After.TheVariants.{Goes}
 use Rattle.proof_obstruction_free.specs.Beneath.machine_model.proofs.Actors.{mark_only, marks_in}
 use Rattle.proof_obstruction_free.specs.Beneath.machine_model.proofs.Found.{none_found}
 use Rattle.proof_obstruction_free.specs.Beneath.machine_model.proofs.Times.{along_run}
-use Rattle.proof_obstruction_free.specs.Beneath.machine_model.specs.Times.{turns}
-use Rattle.proof_obstruction_free.specs.Beneath.machine_model.specs.Times.{IsRun, Turn}
 use Rattle.proof_obstruction_free.specs.Beneath.proof_memory.proofs.Safety.AtEachTime.{safe_at}
 use Rattle.proof_obstruction_free.specs.Beneath.proof_memory.proofs.Safety.States.{IsSafe}
 use Rattle.proof_obstruction_free.specs.Beneath.proof_generations.proofs.Handles.Running.{Comes, began, rested, went, comes, place_of_actor}

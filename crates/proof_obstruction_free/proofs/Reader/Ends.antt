@@ -2,24 +2,12 @@
 use Rattle.std.proofs.Common.{◌≡◌, ℕ, zero, suc, ◌+◌, ◌-◌, ◌*◌, ◌<◌, ◌≤◌, true, false, List, ◌∷◌, ◌++◌, length, Option, Some, None, refl, sym, ap, ◌∙◌, subst, ltb-true, arith, []}
 use Rattle.std.proofs.lemmas.Bool.{false≢true}
 use Rattle.std.proofs.lemmas.List.{length-append}
-use Rattle.proof_obstruction_free.specs.Beneath.history.specs.declared.calls.Access.TheVariants.{ReadOnly}
-use Rattle.proof_obstruction_free.specs.Beneath.slot_arena.specs.declared.refs.Ref.{Ref}
-use Rattle.proof_obstruction_free.specs.Beneath.slot_arena.specs.declared.nodes.Node.{Node}
-use Rattle.proof_obstruction_free.specs.Beneath.slot_arena.specs.declared.nodes.Node.TheVariants.{Indirection, Branch, Single, Tomb, List as Listed}
-use Rattle.proof_obstruction_free.specs.Beneath.slot_arena.specs.declared.nodes.Slot.{Slot}
-use Rattle.proof_obstruction_free.specs.Beneath.slot_arena.specs.Heaps.{node_at, node_of, entry_at, entries_of}
-use Rattle.proof_obstruction_free.specs.Beneath.machine_model.specs.declared.finding.KeyLine.{KeyLine}
+use Rattle.proof_obstruction_free.specs.Vocabulary.{ReadOnly, Ref, Node, Indirection, Branch, Single, Tomb, List as Listed, Slot, node_at, node_of, entry_at, entries_of, KeyLine, Line, ReadLine}
+use Rattle.proof_obstruction_free.specs.Vocabulary.{Complete, handle_of, going_down, root_of, word_of, grown, moment_at}
 use Rattle.proof_obstruction_free.specs.Beneath.machine_model.specs.declared.finding.KeyLine.TheVariants as key
-use Rattle.proof_obstruction_free.specs.Beneath.machine_model.specs.declared.lines.Line.{Line}
 use Rattle.proof_obstruction_free.specs.Beneath.machine_model.specs.declared.lines.Line.TheVariants as line
-use Rattle.proof_obstruction_free.specs.Beneath.machine_model.specs.declared.reading.ReadLine.{ReadLine}
 use Rattle.proof_obstruction_free.specs.Beneath.machine_model.specs.declared.reading.ReadLine.TheVariants as read
-use Rattle.proof_obstruction_free.specs.Beneath.machine_model.specs.declared.roots.Complete.{Complete}
 use Rattle.proof_obstruction_free.specs.Beneath.machine_model.specs.declared.roots.RootLine.TheVariants as root
-use Rattle.proof_obstruction_free.specs.Beneath.machine_model.specs.Calls.{handle_of}
-use Rattle.proof_obstruction_free.specs.Beneath.machine_model.specs.Finding.{going_down}
-use Rattle.proof_obstruction_free.specs.Beneath.machine_model.specs.States.{root_of, word_of}
-use Rattle.proof_obstruction_free.specs.Beneath.machine_model.specs.Grown.{grown}
 use Rattle.proof_obstruction_free.specs.Beneath.proof_memory.specs.Wants.{TombOrList, AMain, listed, meets, is_indirection}
 use Rattle.proof_obstruction_free.specs.Beneath.proof_memory.proofs.Safety.AtEachTime.{safe_at}
 use Rattle.proof_obstruction_free.specs.Beneath.proof_memory.proofs.Claims.Uses.{safe_of, meets_of, fact_of}
@@ -46,7 +34,6 @@ use Rattle.proof_obstruction_free.proofs.Step.Within.{weaken, bind, one, ended}
 use Rattle.proof_obstruction_free.proofs.Pass.Along.{key_begins}
 use Rattle.proof_obstruction_free.proofs.Pass.Lines.{key_read_of, key_gives, key_holds_read_of}
 use Rattle.proof_obstruction_free.proofs.Climb.On.{short_way}
-use Rattle.proof_obstruction_free.specs.Beneath.machine_model.specs.Records.{moment_at}
 
 list_plain : (n : Node) → meets TombOrList n ≡ true → is_indirection n ≡ false
 list_plain n e = grind arith

@@ -2,26 +2,12 @@
 use Rattle.std.proofs.Common.{◌≡◌, ℕ, ◌+◌, ◌<◌, ◌==◌, ◌&&◌, true, false, List, length, Some, refl, sym, ap, ◌∙◌, subst, ltb-true}
 use Rattle.std.specs.Prelude.{nat_lt, nat_le}
 use Rattle.std.proofs.lemmas.Bool.{true≢false, cond_both}
-use Rattle.proof_obstruction_free.specs.Beneath.history.specs.declared.calls.Access.TheVariants.{ReadOnly}
-use Rattle.proof_obstruction_free.specs.Beneath.history.specs.declared.calls.Call.{Call}
-use Rattle.proof_obstruction_free.specs.Beneath.history.specs.declared.calls.Call.TheVariants.{Get, Close, Entries, Count}
-use Rattle.proof_obstruction_free.specs.Beneath.history.specs.declared.replies.Reply.{Reply}
+use Rattle.proof_obstruction_free.specs.Vocabulary.{ReadOnly, Call, Get, Close, Entries, Count, Reply, has_flag, position_of, Ref, Node, Indirection, Branch, Single, Tomb, List as Listed, node_at}
+use Rattle.proof_obstruction_free.specs.Vocabulary.{entry_at, entries_of, Line, Operation, key_of, needs_writable, inserts, when_found, absent_reply, going_down, absent, absent_beside}
+use Rattle.proof_obstruction_free.specs.Vocabulary.{absent_listed, found, found_so, after_tomb, key_after_main, passes, is_passable, key_after_entry, after_listed, flag_in, is_start, State}
 use Rattle.proof_obstruction_free.specs.Beneath.history.specs.declared.replies.Reply.TheVariants as reply
-use Rattle.proof_obstruction_free.specs.Beneath.nodes.specs.Levels.{has_flag}
-use Rattle.proof_obstruction_free.specs.Beneath.ctrie_base.specs.Paths.{position_of}
-use Rattle.proof_obstruction_free.specs.Beneath.slot_arena.specs.declared.refs.Ref.{Ref}
-use Rattle.proof_obstruction_free.specs.Beneath.slot_arena.specs.declared.nodes.Node.{Node}
-use Rattle.proof_obstruction_free.specs.Beneath.slot_arena.specs.declared.nodes.Node.TheVariants.{Indirection, Branch, Single, Tomb, List as Listed}
-use Rattle.proof_obstruction_free.specs.Beneath.slot_arena.specs.Heaps.{node_at, entry_at, entries_of}
 use Rattle.proof_obstruction_free.specs.Beneath.machine_model.specs.declared.finding.KeyLine.TheVariants as key
-use Rattle.proof_obstruction_free.specs.Beneath.machine_model.specs.declared.lines.Line.{Line}
 use Rattle.proof_obstruction_free.specs.Beneath.machine_model.specs.declared.lines.Line.TheVariants as line
-use Rattle.proof_obstruction_free.specs.Beneath.machine_model.specs.declared.operations.Operation.{Operation}
-use Rattle.proof_obstruction_free.specs.Beneath.machine_model.specs.Calls.{key_of, needs_writable, inserts, when_found, absent_reply}
-use Rattle.proof_obstruction_free.specs.Beneath.machine_model.specs.Finding.{going_down, absent, absent_beside, absent_listed, found, found_so, after_tomb, key_after_main, passes}
-use Rattle.proof_obstruction_free.specs.Beneath.machine_model.specs.Finding.{is_passable, key_after_entry, after_listed}
-use Rattle.proof_obstruction_free.specs.Beneath.machine_model.specs.Paths.{flag_in, is_start}
-use Rattle.proof_obstruction_free.specs.Beneath.machine_model.specs.States.{State}
 use Rattle.proof_obstruction_free.specs.Keys.{IsOnKey}
 use Rattle.proof_obstruction_free.specs.Beneath.machine_model.proofs.Readers.{reader_inserts}
 

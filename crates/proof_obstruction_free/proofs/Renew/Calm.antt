@@ -1,7 +1,6 @@
 -- What stays while one actor alone reads and makes nodes.
 use Rattle.std.proofs.Common.{◌≡◌, ℕ, suc, ◌<◌, Option, subst, ◌∙◌}
-use Rattle.proof_obstruction_free.specs.Beneath.machine_model.specs.declared.lines.Line.{Line}
-use Rattle.proof_obstruction_free.specs.Beneath.machine_model.specs.Operations.{line_action, line_after, generation_from}
+use Rattle.proof_obstruction_free.specs.Vocabulary.{Line, line_action, line_after, generation_from}
 use Rattle.proof_obstruction_free.specs.Alone.{Lone, Stands, Keeps, WordStays, IsQuiet}
 use Rattle.proof_obstruction_free.specs.Stepping.{Stepping, IsNoEnd, LeavesWords}
 

@@ -2,16 +2,9 @@
 use Rattle.std.proofs.Common.{◌≡◌, ℕ, ◌<◌, ◌≤◌, true, false, List, All, length, Option, Some, None, refl, sym, ap, subst, ◌∙◌, ltb-true, leb-true, arith}
 use Rattle.std.proofs.lemmas.Bool.{false≢true}
 use Rattle.arrayvec.specs.ArrayVec.{ArrayVec}
-use Rattle.proof_obstruction_free.specs.Beneath.slot_arena.specs.declared.refs.Ref.{Ref}
-use Rattle.proof_obstruction_free.specs.Beneath.slot_arena.specs.declared.nodes.Node.{Node}
-use Rattle.proof_obstruction_free.specs.Beneath.slot_arena.specs.declared.nodes.Node.TheVariants.{Branch, Single, Tomb}
-use Rattle.proof_obstruction_free.specs.Beneath.slot_arena.specs.declared.nodes.Slot.{Slot}
-use Rattle.proof_obstruction_free.specs.Beneath.slot_arena.specs.Heaps.{node_at, node_of, entries_of}
+use Rattle.proof_obstruction_free.specs.Vocabulary.{Ref, Node, Branch, Single, Tomb, Slot, node_at, node_of, entries_of, Line, line_action, grown}
 use Rattle.proof_obstruction_free.specs.Beneath.proof_contents.proofs.Nodes.Branches.{standing-le}
 use Rattle.proof_obstruction_free.specs.Beneath.machine_model.specs.declared.actions.Action.TheVariants as act
-use Rattle.proof_obstruction_free.specs.Beneath.machine_model.specs.declared.lines.Line.{Line}
-use Rattle.proof_obstruction_free.specs.Beneath.machine_model.specs.Operations.{line_action}
-use Rattle.proof_obstruction_free.specs.Beneath.machine_model.specs.Grown.{grown}
 use Rattle.proof_obstruction_free.specs.Beneath.proof_memory.specs.Wants.{AMain, ABranch, AnEntry, meets, is_indirection, is_branch, Is, Holds, AllHold, action_wants, done_wants, all_done_wants}
 use Rattle.proof_obstruction_free.specs.Beneath.proof_memory.specs.Laws.{IsInUse}
 use Rattle.proof_obstruction_free.specs.Beneath.proof_memory.proofs.Safety.AtTimes.{action_at}

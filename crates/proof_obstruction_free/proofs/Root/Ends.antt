@@ -1,25 +1,13 @@
 -- ROOT, where one actor alone takes steps: it gives the root that stands in the handle's word, with no offer.
 use Rattle.std.proofs.Common.{◌≡◌, ℕ, suc, ◌+◌, ◌*◌, cond, Option, Some, nat_eq, refl, ap, ◌∙◌, arith}
 use Rattle.std.specs.Option.{option_eq}
-use Rattle.proof_obstruction_free.specs.Beneath.slot_arena.specs.declared.refs.Ref.{Ref}
-use Rattle.proof_obstruction_free.specs.Beneath.slot_arena.specs.Heaps.{generation_at}
-use Rattle.proof_obstruction_free.specs.Beneath.machine_model.specs.declared.lines.Line.{Line}
+use Rattle.proof_obstruction_free.specs.Vocabulary.{Ref, generation_at, Line, Operation, After, Gives, Climb, Complete, RootLine, Plain, handle_of, climbing, climbed, climb_after_root, after_root}
+use Rattle.proof_obstruction_free.specs.Vocabulary.{given_root, is_start, State, word_at, root_after, after_root_word}
 use Rattle.proof_obstruction_free.specs.Beneath.machine_model.specs.declared.lines.Line.TheVariants as line
-use Rattle.proof_obstruction_free.specs.Beneath.machine_model.specs.declared.operations.Operation.{Operation}
-use Rattle.proof_obstruction_free.specs.Beneath.machine_model.specs.declared.reading.After.{After}
-use Rattle.proof_obstruction_free.specs.Beneath.machine_model.specs.declared.reading.After.TheVariants.{Goes, Gives}
-use Rattle.proof_obstruction_free.specs.Beneath.machine_model.specs.declared.repairs.Climb.{Climb}
+use Rattle.proof_obstruction_free.specs.Beneath.machine_model.specs.declared.reading.After.TheVariants.{Goes}
 use Rattle.proof_obstruction_free.specs.Beneath.machine_model.specs.declared.repairs.ClimbLine.TheVariants as climb
-use Rattle.proof_obstruction_free.specs.Beneath.machine_model.specs.declared.roots.Complete.{Complete}
-use Rattle.proof_obstruction_free.specs.Beneath.machine_model.specs.declared.roots.RootLine.{RootLine}
 use Rattle.proof_obstruction_free.specs.Beneath.machine_model.specs.declared.roots.RootLine.TheVariants as root
-use Rattle.proof_obstruction_free.specs.Beneath.machine_model.specs.declared.roots.RootWord.TheVariants.{Plain}
-use Rattle.proof_obstruction_free.specs.Beneath.machine_model.specs.Calls.{handle_of}
-use Rattle.proof_obstruction_free.specs.Beneath.machine_model.specs.Climbing.{climbing, climbed, climb_after_root}
-use Rattle.proof_obstruction_free.specs.Beneath.machine_model.specs.Operations.{from_root, after_root, given_root}
-use Rattle.proof_obstruction_free.specs.Beneath.machine_model.specs.Paths.{is_start}
-use Rattle.proof_obstruction_free.specs.Beneath.machine_model.specs.States.{State, word_at}
-use Rattle.proof_obstruction_free.specs.Beneath.machine_model.specs.Swapping.{root_after, after_root_word}
+use Rattle.proof_obstruction_free.specs.Beneath.machine_model.specs.Operations.{from_root}
 use Rattle.proof_obstruction_free.specs.Alone.{Lone, Stands, IsPlain, IsStillWeight, Within, generation}
 use Rattle.proof_obstruction_free.specs.Machines.{IsRooted, IsRootedSo, RootsPlain, RootsFirst, RootsOn, ClimbRootsPlain, ClimbRootsOn, ReadsFirst, ReadsOn, climbed_or_on}
 use Rattle.proof_obstruction_free.specs.Stepping.{Stepping}

@@ -1,22 +1,10 @@
 -- The lines of a COMPLETE within a program, and of a ROOT: what they lead to, where one actor alone takes steps.
 use Rattle.std.proofs.Common.{◌≡◌, None, refl, ◌∙◌}
-use Rattle.proof_obstruction_free.specs.Beneath.slot_arena.specs.declared.refs.Ref.{Ref}
-use Rattle.proof_obstruction_free.specs.Beneath.machine_model.specs.declared.lines.Line.{Line}
-use Rattle.proof_obstruction_free.specs.Beneath.machine_model.specs.declared.operations.Operation.{Operation}
-use Rattle.proof_obstruction_free.specs.Beneath.machine_model.specs.declared.reading.After.{After}
-use Rattle.proof_obstruction_free.specs.Beneath.machine_model.specs.declared.reading.After.TheVariants.{Goes, Gives}
-use Rattle.proof_obstruction_free.specs.Beneath.machine_model.specs.declared.reading.ReadLine.{ReadLine}
-use Rattle.proof_obstruction_free.specs.Beneath.machine_model.specs.declared.roots.Complete.{Complete}
+use Rattle.proof_obstruction_free.specs.Vocabulary.{Ref, Line, Operation, After, Gives, ReadLine, Complete, Descriptor, RootLine, Offer, handle_of, line_action, line_after, generation_from, read_of}
+use Rattle.proof_obstruction_free.specs.Vocabulary.{rooting_read, read_after, State, word_at, root_action, root_after, after_reading, of_offer, after_completing}
+use Rattle.proof_obstruction_free.specs.Beneath.machine_model.specs.declared.reading.After.TheVariants.{Goes}
 use Rattle.proof_obstruction_free.specs.Beneath.machine_model.specs.declared.roots.CompleteLine.TheVariants as complete
-use Rattle.proof_obstruction_free.specs.Beneath.machine_model.specs.declared.roots.Descriptor.{Descriptor}
-use Rattle.proof_obstruction_free.specs.Beneath.machine_model.specs.declared.roots.RootLine.{RootLine}
 use Rattle.proof_obstruction_free.specs.Beneath.machine_model.specs.declared.roots.RootLine.TheVariants as root
-use Rattle.proof_obstruction_free.specs.Beneath.machine_model.specs.declared.roots.RootWord.TheVariants.{Offer}
-use Rattle.proof_obstruction_free.specs.Beneath.machine_model.specs.Calls.{handle_of}
-use Rattle.proof_obstruction_free.specs.Beneath.machine_model.specs.Operations.{line_action, line_after, generation_from, read_of, rooting_read}
-use Rattle.proof_obstruction_free.specs.Beneath.machine_model.specs.Reading.{read_after}
-use Rattle.proof_obstruction_free.specs.Beneath.machine_model.specs.States.{State, word_at}
-use Rattle.proof_obstruction_free.specs.Beneath.machine_model.specs.Swapping.{root_action, root_after, after_reading, of_offer, after_completing}
 use Rattle.proof_obstruction_free.specs.Beneath.proof_generations.proofs.Offers.Standing.{own_offer}
 use Rattle.proof_obstruction_free.specs.Machines.{HoldsRead, lead}
 

@@ -1,20 +1,9 @@
 -- The root word of an operation's handle over its own steps: an offer comes to stand there by an own offer alone, and goes where it is settled.
 use Rattle.std.proofs.Common.{◌≡◌, ℕ, suc, ◌<◌, ◌≤◌, ◌==◌, ◌⊎◌, true, cond, inl, inr, Option, Some, None, refl, sym, ap, ◌∙◌, subst, eq-eqb, arith}
 use Rattle.std.proofs.lemmas.Option.{none-some}
-use Rattle.proof_obstruction_free.specs.Beneath.slot_arena.specs.declared.refs.Ref.{Ref}
-use Rattle.proof_obstruction_free.specs.Beneath.machine_model.specs.declared.actions.Action.{Action}
+use Rattle.proof_obstruction_free.specs.Vocabulary.{Ref, Action, Line, Operation, Descriptor, RootWord, Plain, Offer, handle_of, State, root_at, word_of, word_at, rewritten, with_operation}
+use Rattle.proof_obstruction_free.specs.Vocabulary.{with_word, acted, carried_out, new_root_taken, if_changed, operation_after, action_of, line_action, is_plain, stands_in, Root}
 use Rattle.proof_obstruction_free.specs.Beneath.machine_model.specs.declared.actions.Action.TheVariants as act
-use Rattle.proof_obstruction_free.specs.Beneath.machine_model.specs.declared.lines.Line.{Line}
-use Rattle.proof_obstruction_free.specs.Beneath.machine_model.specs.declared.operations.Operation.{Operation}
-use Rattle.proof_obstruction_free.specs.Beneath.machine_model.specs.declared.roots.Descriptor.{Descriptor}
-use Rattle.proof_obstruction_free.specs.Beneath.machine_model.specs.declared.roots.RootWord.{RootWord}
-use Rattle.proof_obstruction_free.specs.Beneath.machine_model.specs.declared.roots.RootWord.TheVariants.{Plain, Offer}
-use Rattle.proof_obstruction_free.specs.Beneath.machine_model.specs.Calls.{handle_of}
-use Rattle.proof_obstruction_free.specs.Beneath.machine_model.specs.States.{State, root_at, word_of, word_at, rewritten, with_operation, with_word}
-use Rattle.proof_obstruction_free.specs.Beneath.machine_model.specs.Acting.{acted, carried_out, new_root_taken, if_changed, operation_after}
-use Rattle.proof_obstruction_free.specs.Beneath.machine_model.specs.Operations.{action_of, line_action}
-use Rattle.proof_obstruction_free.specs.Beneath.machine_model.specs.Swapping.{is_plain, stands_in}
-use Rattle.proof_obstruction_free.specs.Beneath.machine_model.specs.declared.roots.Root.{Root}
 use Rattle.proof_obstruction_free.specs.Beneath.machine_model.proofs.Found.{found_within}
 use Rattle.std.proofs.lemmas.List.{get_or-set_same}
 use Rattle.proof_obstruction_free.specs.Beneath.proof_commits.proofs.Course.Finals.{from_time}

@@ -1,20 +1,11 @@
 -- A call that begins where enough slots are free isn't refused for want of slots.
 use Rattle.std.proofs.Common.{◌≡◌, ℕ, zero, suc, List, [], ◌∷◌, ◌++◌, length, Some, None, Ok, Err, refl, sym, ap, subst, ◌∙◌, arith}
 use Rattle.std.proofs.lemmas.Option.{none-some}
-use Rattle.proof_obstruction_free.specs.Beneath.history.specs.declared.calls.Call.{Call}
-use Rattle.proof_obstruction_free.specs.Beneath.history.specs.declared.calls.Call.TheVariants.{Clear, Close, Count, Entries, Freeze, Snapshot}
+use Rattle.proof_obstruction_free.specs.Vocabulary.{Call, Clear, Close, Count, Entries, Freeze, Snapshot, Operation, Bounds, Outcome, Step, new_try, Answer, next, next_state, run, state_after}
+use Rattle.proof_obstruction_free.specs.Vocabulary.{Begins, Moves, MovesIfTaken, begun_operation, first_line, State, first_state, operation_of}
 use Rattle.proof_obstruction_free.specs.Beneath.machine_model.specs.declared.lines.Line.TheVariants as line
-use Rattle.proof_obstruction_free.specs.Beneath.machine_model.specs.declared.operations.Operation.{Operation}
-use Rattle.proof_obstruction_free.specs.Beneath.machine_model.specs.declared.steps.Bounds.{Bounds}
-use Rattle.proof_obstruction_free.specs.Beneath.machine_model.specs.declared.steps.Outcome.{Outcome}
-use Rattle.proof_obstruction_free.specs.Beneath.machine_model.specs.declared.steps.Step.{Step}
 use Rattle.proof_obstruction_free.specs.Beneath.machine_model.specs.declared.steps.Step.TheVariants as step
 use Rattle.proof_obstruction_free.specs.Beneath.history.specs.declared.replies.Reply.TheVariants as reply
-use Rattle.proof_obstruction_free.specs.Beneath.machine_model.specs.Lines.{new_try}
-use Rattle.proof_obstruction_free.specs.Beneath.machine_model.specs.Machine.{Answer, next, next_state, run, state_after}
-use Rattle.proof_obstruction_free.specs.Beneath.machine_model.specs.Moves.{Begins, Moves, MovesIfTaken, begun_operation}
-use Rattle.proof_obstruction_free.specs.Beneath.machine_model.specs.Operations.{first_line}
-use Rattle.proof_obstruction_free.specs.Beneath.machine_model.specs.States.{State, first_state, operation_of}
 use Rattle.proof_obstruction_free.specs.Beneath.machine_model.proofs.Actors.{of_begin}
 use Rattle.proof_obstruction_free.specs.Beneath.machine_model.proofs.Along.{run_push}
 use Rattle.proof_obstruction_free.specs.Beneath.machine_model.proofs.HeapMoves.{begin_heap}

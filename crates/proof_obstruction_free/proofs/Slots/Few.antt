@@ -2,15 +2,9 @@
 use Rattle.std.proofs.Common.{◌≡◌, ℕ, zero, suc, ◌+◌, ◌-◌, ◌≤◌, false, List, None, option_map, inl, inr, sym, subst, ap, ◌∙◌, arith}
 use Rattle.std.proofs.lemmas.Bool.{cases_lt}
 use Rattle.std.proofs.lemmas.Option.{same_Some}
-use Rattle.proof_obstruction_free.specs.Beneath.machine_model.specs.declared.operations.Operation.{Operation}
-use Rattle.proof_obstruction_free.specs.Beneath.machine_model.specs.declared.steps.Bounds.{Bounds}
-use Rattle.proof_obstruction_free.specs.Beneath.machine_model.specs.declared.steps.Step.{Step}
-use Rattle.proof_obstruction_free.specs.Beneath.machine_model.specs.Operations.{action_of, kind_of}
-use Rattle.proof_obstruction_free.specs.Beneath.machine_model.specs.States.{State, operation_of}
+use Rattle.proof_obstruction_free.specs.Vocabulary.{Operation, Bounds, Step, action_of, kind_of, State, operation_of, new_try, Line}
 use Rattle.proof_obstruction_free.specs.Laws.{RunsAlone, alone_after, most_steps_alone}
 use Rattle.proof_obstruction_free.specs.Slots.{CopiesMakeFew, EnoughForCopies, EnoughSlots, MakesAtMost, is_make, makes_next, most_steps_of_copies}
-use Rattle.proof_obstruction_free.specs.Beneath.machine_model.specs.Lines.{new_try}
-use Rattle.proof_obstruction_free.specs.Beneath.machine_model.specs.declared.lines.Line.{Line}
 use Rattle.proof_obstruction_free.specs.Beneath.machine_model.proofs.Refusals.{IsRefusal}
 use Rattle.proof_obstruction_free.proofs.Ends.Alone.{stays}
 use Rattle.proof_obstruction_free.proofs.Ends.Bounds.{copies_end_first}

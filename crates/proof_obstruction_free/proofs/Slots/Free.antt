@@ -4,21 +4,12 @@ use Rattle.std.specs.Prelude.{◌≢◌}
 use Rattle.std.proofs.lemmas.Bool.{cases_lt, false≢true}
 use Rattle.std.proofs.lemmas.Option.{none-some}
 use Rattle.proof_obstruction_free.specs.Beneath.ctrie_base.specs.declared.kinds.Kind.TheVariants as kind
-use Rattle.proof_obstruction_free.specs.Beneath.history.specs.declared.replies.Reply.{Reply}
+use Rattle.proof_obstruction_free.specs.Vocabulary.{Reply, Line, Operation, Bounds, Outcome, Ended, Step, operation_after, Answer, next, next_state, run, state_after, Moves, Ends, MovesIfTaken}
+use Rattle.proof_obstruction_free.specs.Vocabulary.{action_of, kind_of, State, operation_of}
 use Rattle.proof_obstruction_free.specs.Beneath.history.specs.declared.replies.Reply.TheVariants as reply
-use Rattle.proof_obstruction_free.specs.Beneath.machine_model.specs.declared.lines.Line.{Line}
 use Rattle.proof_obstruction_free.specs.Beneath.machine_model.specs.declared.lines.Line.TheVariants as line
-use Rattle.proof_obstruction_free.specs.Beneath.machine_model.specs.declared.operations.Operation.{Operation}
-use Rattle.proof_obstruction_free.specs.Beneath.machine_model.specs.declared.steps.Bounds.{Bounds}
-use Rattle.proof_obstruction_free.specs.Beneath.machine_model.specs.declared.steps.Outcome.{Outcome}
-use Rattle.proof_obstruction_free.specs.Beneath.machine_model.specs.declared.steps.Outcome.TheVariants.{Ended}
-use Rattle.proof_obstruction_free.specs.Beneath.machine_model.specs.declared.steps.Step.{Step}
 use Rattle.proof_obstruction_free.specs.Beneath.machine_model.specs.declared.steps.Step.TheVariants as step
-use Rattle.proof_obstruction_free.specs.Beneath.machine_model.specs.Acting.{operation_after}
-use Rattle.proof_obstruction_free.specs.Beneath.machine_model.specs.Machine.{Answer, next, next_state, run, state_after}
-use Rattle.proof_obstruction_free.specs.Beneath.machine_model.specs.Moves.{Moves, Goes, Ends, MovesIfTaken}
-use Rattle.proof_obstruction_free.specs.Beneath.machine_model.specs.Operations.{action_of, kind_of}
-use Rattle.proof_obstruction_free.specs.Beneath.machine_model.specs.States.{State, operation_of}
+use Rattle.proof_obstruction_free.specs.Beneath.machine_model.specs.Moves.{Goes}
 use Rattle.proof_obstruction_free.specs.Beneath.machine_model.proofs.Actors.{mark_only, marks_by, of_itself, of_end}
 use Rattle.proof_obstruction_free.specs.Beneath.machine_model.proofs.Moves.{moves, moved, ending}
 use Rattle.proof_obstruction_free.specs.Beneath.machine_model.proofs.Refusals.{IsRefusal, end_line, refusal}

@@ -1,16 +1,7 @@
 -- From where a try begins an operation on one key makes few nodes, where its actor alone takes steps.
 use Rattle.std.proofs.Common.{◌≡◌, ℕ, zero, suc, ◌+◌, ◌≤◌, ◌⊎◌, inl, inr, None, refl, sym, ap, subst, ◌∙◌, List, arith}
 use Rattle.std.proofs.lemmas.Option.{same_Some}
-use Rattle.proof_obstruction_free.specs.Beneath.history.specs.declared.calls.Access.{Access}
-use Rattle.proof_obstruction_free.specs.Beneath.history.specs.declared.calls.Access.TheVariants.{ReadOnly, Writable}
-use Rattle.proof_obstruction_free.specs.Beneath.history.specs.declared.calls.Call.{Call}
-use Rattle.proof_obstruction_free.specs.Beneath.history.specs.declared.calls.Call.TheVariants.{Clear, Freeze, Snapshot, Close, Entries, Count}
-use Rattle.proof_obstruction_free.specs.Beneath.machine_model.specs.declared.operations.Operation.{Operation}
-use Rattle.proof_obstruction_free.specs.Beneath.machine_model.specs.declared.steps.Bounds.{Bounds}
-use Rattle.proof_obstruction_free.specs.Beneath.machine_model.specs.declared.steps.Step.{Step}
-use Rattle.proof_obstruction_free.specs.Beneath.machine_model.specs.Lines.{new_try}
-use Rattle.proof_obstruction_free.specs.Beneath.machine_model.specs.States.{State, operation_of}
-use Rattle.proof_obstruction_free.specs.Beneath.machine_model.specs.Times.{last_of}
+use Rattle.proof_obstruction_free.specs.Vocabulary.{Access, ReadOnly, Writable, Call, Clear, Freeze, Snapshot, Close, Entries, Count, Operation, Bounds, Step, new_try, State, operation_of, last_of}
 use Rattle.proof_obstruction_free.specs.Alone.{Lone, Stands}
 use Rattle.proof_obstruction_free.specs.Copies.{IsCopying}
 use Rattle.proof_obstruction_free.specs.Keys.{IsOnKey}

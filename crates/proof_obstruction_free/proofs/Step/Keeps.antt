@@ -1,20 +1,9 @@
 -- A quiet step of an operation that is alone leaves decided main nodes where they stand; most steps leave the root word.
 use Rattle.std.proofs.Common.{◌≡◌, ℕ, suc, ◌<◌, inl, inr, Option, Some, None, is_some, refl, sym, ap, ◌∙◌, subst}
 use Rattle.std.proofs.lemmas.Bool.{cases_eq, false≢true}
-use Rattle.proof_obstruction_free.specs.Beneath.slot_arena.specs.declared.nodes.Node.{Node}
-use Rattle.proof_obstruction_free.specs.Beneath.slot_arena.specs.Heaps.{node_of, main_of, prev_of, next_ref}
-use Rattle.proof_obstruction_free.specs.Beneath.machine_model.specs.declared.actions.Action.{Action}
+use Rattle.proof_obstruction_free.specs.Vocabulary.{Node, node_of, main_of, prev_of, next_ref, Action, Line, acted, gone, new_root_taken, handle_of, settled, action_of, line_action, noted}
+use Rattle.proof_obstruction_free.specs.Vocabulary.{noted_progress, State, word_at, progress_of, told_in, grown, GoesOn}
 use Rattle.proof_obstruction_free.specs.Beneath.machine_model.specs.declared.actions.Action.TheVariants as act
-use Rattle.proof_obstruction_free.specs.Beneath.machine_model.specs.declared.lines.Line.{Line}
-use Rattle.proof_obstruction_free.specs.Beneath.machine_model.specs.Acting.{acted, gone, new_root_taken}
-use Rattle.proof_obstruction_free.specs.Beneath.machine_model.specs.Calls.{handle_of}
-use Rattle.proof_obstruction_free.specs.Beneath.machine_model.specs.Counting.{settled}
-use Rattle.proof_obstruction_free.specs.Beneath.machine_model.specs.Operations.{action_of, line_action}
-use Rattle.proof_obstruction_free.specs.Beneath.machine_model.specs.Records.{noted, noted_progress}
-use Rattle.proof_obstruction_free.specs.Beneath.machine_model.specs.States.{State, word_at}
-use Rattle.proof_obstruction_free.specs.Beneath.machine_model.specs.Tellings.{progress_of, told_in}
-use Rattle.proof_obstruction_free.specs.Beneath.machine_model.specs.Grown.{grown}
-use Rattle.proof_obstruction_free.specs.Beneath.machine_model.specs.Moves.{GoesOn}
 use Rattle.proof_obstruction_free.specs.Beneath.machine_model.proofs.Notes.{noted_going}
 use Rattle.proof_obstruction_free.specs.Beneath.proof_commits.proofs.Known.Given.{Known, ActsOn, GrownStays, GrownTakes, Taken}
 use Rattle.proof_obstruction_free.specs.Beneath.proof_generations.proofs.Falling.ReadsGive.{gone_is}

@@ -1,23 +1,13 @@
 -- The line on which an operation that is alone stands after its step; it doesn't end.
 use Rattle.std.proofs.Common.{◌≡◌, ℕ, zero, suc, ◌<◌, ◌≤◌, Option, Some, refl, sym, ap, ◌∙◌, subst, arith}
 use Rattle.std.proofs.lemmas.Option.{same_Some}
-use Rattle.proof_obstruction_free.specs.Beneath.history.specs.declared.replies.Reply.{Reply}
+use Rattle.proof_obstruction_free.specs.Vocabulary.{Reply, Line, Operation, Outcome, Step, operation_after, action_of, line_action, line_after, generation_from, Record, first_record, noted, State}
+use Rattle.proof_obstruction_free.specs.Vocabulary.{operation_of, told_in, IsRun, turns, Begins, Ends, Sweeps, Moves, GoesOn}
 use Rattle.proof_obstruction_free.specs.Beneath.machine_model.specs.declared.actions.Action.TheVariants as act
-use Rattle.proof_obstruction_free.specs.Beneath.machine_model.specs.declared.lines.Line.{Line}
 use Rattle.proof_obstruction_free.specs.Beneath.machine_model.specs.declared.lines.Line.TheVariants as line
-use Rattle.proof_obstruction_free.specs.Beneath.machine_model.specs.declared.operations.Operation.{Operation}
-use Rattle.proof_obstruction_free.specs.Beneath.machine_model.specs.declared.steps.Outcome.{Outcome}
-use Rattle.proof_obstruction_free.specs.Beneath.machine_model.specs.declared.steps.Step.{Step}
 use Rattle.proof_obstruction_free.specs.Beneath.machine_model.specs.declared.steps.Step.TheVariants as step
-use Rattle.proof_obstruction_free.specs.Beneath.machine_model.specs.Acting.{operation_after}
-use Rattle.proof_obstruction_free.specs.Beneath.machine_model.specs.Operations.{action_of, line_action, line_after, generation_from}
-use Rattle.proof_obstruction_free.specs.Beneath.machine_model.specs.Records.{Record, first_record, noted}
-use Rattle.proof_obstruction_free.specs.Beneath.machine_model.specs.States.{State, operation_of}
-use Rattle.proof_obstruction_free.specs.Beneath.machine_model.specs.Tellings.{told_in}
-use Rattle.proof_obstruction_free.specs.Beneath.machine_model.specs.Times.{IsRun, turns}
 use Rattle.proof_obstruction_free.specs.Beneath.machine_model.proofs.Actors.{mark_one, mark_only, marks_in, of_end}
-use Rattle.proof_obstruction_free.specs.Beneath.machine_model.specs.Moves.{Begins, Goes, Ends, Sweeps}
-use Rattle.proof_obstruction_free.specs.Beneath.machine_model.specs.Moves.{Moves, GoesOn}
+use Rattle.proof_obstruction_free.specs.Beneath.machine_model.specs.Moves.{Goes}
 use Rattle.proof_obstruction_free.specs.Beneath.proof_commits.proofs.Lines.Reads.{only_end}
 use Rattle.proof_obstruction_free.specs.Beneath.proof_generations.proofs.Handles.Running.{Follows, rests, steps, ends, follows, place_of_actor}
 use Rattle.proof_obstruction_free.specs.Beneath.proof_generations.specs.Running.{Runs}

@@ -1,12 +1,8 @@
 -- How it is put together that something comes within so many steps of an actor that is alone.
 use Rattle.std.proofs.Common.{◌≡◌, ℕ, suc, ◌+◌, ◌<◌, ◌≤◌, Option, sym, subst, ◌∙◌, arith}
-use Rattle.proof_obstruction_free.specs.Beneath.history.specs.declared.replies.Reply.{Reply}
-use Rattle.proof_obstruction_free.specs.Beneath.slot_arena.specs.declared.refs.Ref.{Ref}
-use Rattle.proof_obstruction_free.specs.Beneath.machine_model.specs.declared.actions.Action.{Action}
+use Rattle.proof_obstruction_free.specs.Vocabulary.{Reply, Ref, Action, Line, action_of, line_action, line_after, generation_from}
 use Rattle.proof_obstruction_free.specs.Beneath.machine_model.specs.declared.actions.Action.TheVariants as act
-use Rattle.proof_obstruction_free.specs.Beneath.machine_model.specs.declared.lines.Line.{Line}
 use Rattle.proof_obstruction_free.specs.Beneath.machine_model.specs.declared.lines.Line.TheVariants as line
-use Rattle.proof_obstruction_free.specs.Beneath.machine_model.specs.Operations.{action_of, line_action, line_after, generation_from}
 use Rattle.proof_obstruction_free.specs.Alone.{Lone, Stands, Keeps, KeepsBut, WordStays, Within, IsQuiet, IsStill, IsStillWeight, IsWeight, word}
 use Rattle.proof_obstruction_free.specs.Stepping.{Stepping, IsNoEnd}
 

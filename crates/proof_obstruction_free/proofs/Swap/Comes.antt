@@ -2,21 +2,14 @@
 use Rattle.std.proofs.Common.{◌≤◌, ◌≡◌, ℕ, suc, ◌+◌, ◌<◌, Bool, true, false, inl, inr, Option, Some, refl, sym, ap, ◌∙◌, subst, arith}
 use Rattle.std.proofs.lemmas.Bool.{cases_eq, eqb-false, true≢false}
 use Rattle.std.proofs.lemmas.Option.{same_Some}
-use Rattle.proof_obstruction_free.specs.Beneath.slot_arena.specs.declared.refs.Ref.{Ref}
+use Rattle.proof_obstruction_free.specs.Vocabulary.{Ref, main_at, Purpose, SwapLine, RootWord, Plain, Offer, prev_word, action_at}
 use Rattle.proof_obstruction_free.specs.Beneath.slot_arena.specs.declared.nodes.Prev.TheVariants as over
-use Rattle.proof_obstruction_free.specs.Beneath.slot_arena.specs.Heaps.{main_at}
-use Rattle.proof_obstruction_free.specs.Beneath.machine_model.specs.declared.lines.Purpose.{Purpose}
 use Rattle.proof_obstruction_free.specs.Beneath.machine_model.specs.declared.reading.ReadLine.TheVariants as read
-use Rattle.proof_obstruction_free.specs.Beneath.machine_model.specs.declared.reading.SwapLine.{SwapLine}
 use Rattle.proof_obstruction_free.specs.Beneath.machine_model.specs.declared.reading.SwapLine.TheVariants as swap
-use Rattle.proof_obstruction_free.specs.Beneath.machine_model.specs.declared.roots.RootWord.{RootWord}
-use Rattle.proof_obstruction_free.specs.Beneath.machine_model.specs.declared.roots.RootWord.TheVariants.{Plain, Offer}
-use Rattle.proof_obstruction_free.specs.Beneath.machine_model.specs.Grown.{prev_word}
 use Rattle.proof_obstruction_free.specs.Alone.{IsStill, Lone, Stands, Has, Keeps, WordStays, IsPlain, IsCurrent, Within, generation, word}
 use Rattle.proof_obstruction_free.specs.Machines.{HasSwapped, IsSwapped, WasSwapped, WasRead, SwapsCurrent, SwapsFirst, SwapsOn, ReadsOn}
 use Rattle.proof_obstruction_free.specs.Stepping.{Stepping}
 use Rattle.proof_obstruction_free.specs.Weighing.{Acts}
-use Rattle.proof_obstruction_free.specs.Beneath.machine_model.specs.Swapping.{action_at}
 use Rattle.proof_obstruction_free.specs.Beneath.proof_commits.proofs.Words.OfRuns.{link_made}
 use Rattle.proof_obstruction_free.proofs.Swap.Steps.{keeps_left}
 use Rattle.proof_obstruction_free.proofs.Swap.Lines.{swap_line, deciding, checking, swap_reads, is_decided, checks, publishes, Publishes}

@@ -1,14 +1,9 @@
 -- A SWAP's fresh node while it is decided, where one actor alone takes steps: what each step leaves.
 use Rattle.std.proofs.Common.{◌≡◌, ℕ, suc, true, Option, ap, ◌∙◌}
-use Rattle.proof_obstruction_free.specs.Beneath.slot_arena.specs.declared.refs.Ref.{Ref}
-use Rattle.proof_obstruction_free.specs.Beneath.slot_arena.specs.declared.nodes.Prev.{Prev}
+use Rattle.proof_obstruction_free.specs.Vocabulary.{Ref, Prev, After, Gives, ReadLine, Descriptor, main_word, prev_word}
 use Rattle.proof_obstruction_free.specs.Beneath.slot_arena.specs.declared.nodes.Prev.TheVariants as over
-use Rattle.proof_obstruction_free.specs.Beneath.machine_model.specs.declared.reading.After.{After}
-use Rattle.proof_obstruction_free.specs.Beneath.machine_model.specs.declared.reading.After.TheVariants.{Goes, Gives}
-use Rattle.proof_obstruction_free.specs.Beneath.machine_model.specs.declared.reading.ReadLine.{ReadLine}
+use Rattle.proof_obstruction_free.specs.Beneath.machine_model.specs.declared.reading.After.TheVariants.{Goes}
 use Rattle.proof_obstruction_free.specs.Beneath.machine_model.specs.declared.reading.ReadLine.TheVariants as read
-use Rattle.proof_obstruction_free.specs.Beneath.machine_model.specs.declared.roots.Descriptor.{Descriptor}
-use Rattle.proof_obstruction_free.specs.Beneath.machine_model.specs.Grown.{main_word, prev_word}
 use Rattle.proof_obstruction_free.specs.Beneath.proof_contents.specs.Runs.{is_made}
 use Rattle.proof_obstruction_free.specs.Beneath.proof_commits.specs.Protocol.{ReadTurn, Leaves, Kept, Written, MakesNothing, CommitsNode, FailsNode, PutsBack, ReadsMain}
 use Rattle.proof_obstruction_free.specs.Beneath.proof_commits.specs.Protocol.{FindsDecided, FindsFailed, FindsPending, DecidesAtOnce, Asks, FindsOffer, Aborts, Commits, Fails}

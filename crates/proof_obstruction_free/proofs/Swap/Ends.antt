@@ -1,24 +1,15 @@
 -- A SWAP from its first line on, where one actor alone takes steps: what it comes to, and within how many steps.
 use Rattle.std.proofs.Common.{ap, subst, ◌≡◌, ℕ, suc, ◌+◌, ◌<◌, ◌≤◌, false, Option, Some, sym, ◌∙◌, arith}
 use Rattle.std.proofs.lemmas.Option.{same_Some}
-use Rattle.proof_obstruction_free.specs.Beneath.slot_arena.specs.declared.refs.Ref.{Ref}
-use Rattle.proof_obstruction_free.specs.Beneath.slot_arena.specs.declared.nodes.Prev.{Prev}
+use Rattle.proof_obstruction_free.specs.Vocabulary.{Ref, Prev, Purpose, SwapLine, swapped, main_word, Descriptor, Offer, line_action, action_at}
 use Rattle.proof_obstruction_free.specs.Beneath.slot_arena.specs.declared.nodes.Prev.TheVariants as over
-use Rattle.proof_obstruction_free.specs.Beneath.machine_model.specs.declared.lines.Purpose.{Purpose}
 use Rattle.proof_obstruction_free.specs.Beneath.machine_model.specs.declared.reading.ReadLine.TheVariants as read
-use Rattle.proof_obstruction_free.specs.Beneath.machine_model.specs.declared.reading.SwapLine.{SwapLine}
 use Rattle.proof_obstruction_free.specs.Beneath.machine_model.specs.declared.reading.SwapLine.TheVariants as swap
-use Rattle.proof_obstruction_free.specs.Beneath.machine_model.specs.Operations.{swapped}
 use Rattle.proof_obstruction_free.specs.Alone.{IsStill, IsStillWeight, Lone, Stands, KeepsBut, WordStays, IsPlain, node, generation, word}
 use Rattle.proof_obstruction_free.specs.Machines.{HasSwapped}
 use Rattle.proof_obstruction_free.specs.Stepping.{Stepping}
-use Rattle.proof_obstruction_free.specs.Beneath.machine_model.specs.Grown.{main_word}
 use Rattle.proof_obstruction_free.specs.Beneath.machine_model.specs.declared.actions.Action.TheVariants as act
-use Rattle.proof_obstruction_free.specs.Beneath.machine_model.specs.declared.roots.Descriptor.{Descriptor}
-use Rattle.proof_obstruction_free.specs.Beneath.machine_model.specs.declared.roots.RootWord.TheVariants.{Offer}
 use Rattle.proof_obstruction_free.specs.Weighing.{Weighing, Acts, Sees}
-use Rattle.proof_obstruction_free.specs.Beneath.machine_model.specs.Operations.{line_action}
-use Rattle.proof_obstruction_free.specs.Beneath.machine_model.specs.Swapping.{action_at}
 use Rattle.proof_obstruction_free.proofs.Swap.Steps.{keeps_left}
 use Rattle.proof_obstruction_free.proofs.Swap.Lines.{swap_line, checks}
 use Rattle.proof_obstruction_free.proofs.Swap.Found.{swap_generation}

@@ -1,21 +1,10 @@
 -- What is known of a SWAP from the laws of a machine's runs: its handle, its generation, and that the fresh node stands nowhere before it is swapped in.
 use Rattle.std.proofs.Common.{◌≡◌, ℕ, ◌≤◌, Bool, true, false, Option, Some, is_some, refl, sym, ap, ◌∙◌, subst, arith}
 use Rattle.std.proofs.lemmas.Bool.{true≢false}
-use Rattle.proof_obstruction_free.specs.Beneath.history.specs.declared.calls.Access.TheVariants.{Writable}
-use Rattle.proof_obstruction_free.specs.Beneath.slot_arena.specs.declared.refs.Ref.{Ref}
-use Rattle.proof_obstruction_free.specs.Beneath.slot_arena.specs.declared.nodes.Node.{Node}
-use Rattle.proof_obstruction_free.specs.Beneath.slot_arena.specs.Heaps.{no_ref, node_of, generation_at, generation_of}
-use Rattle.proof_obstruction_free.specs.Beneath.machine_model.specs.declared.lines.Line.{Line}
-use Rattle.proof_obstruction_free.specs.Beneath.machine_model.specs.declared.lines.Purpose.{Purpose}
-use Rattle.proof_obstruction_free.specs.Beneath.machine_model.specs.declared.reading.SwapLine.{SwapLine}
+use Rattle.proof_obstruction_free.specs.Vocabulary.{Writable, Ref, Node, no_ref, node_of, generation_at, generation_of, Line, Purpose, SwapLine, Root, Plain, handle_of, root_at, word_of, ReadLine}
+use Rattle.proof_obstruction_free.specs.Vocabulary.{grown, node_under, prev_word}
 use Rattle.proof_obstruction_free.specs.Beneath.machine_model.specs.declared.reading.SwapLine.TheVariants as swap
-use Rattle.proof_obstruction_free.specs.Beneath.machine_model.specs.declared.roots.Root.{Root}
-use Rattle.proof_obstruction_free.specs.Beneath.machine_model.specs.declared.roots.RootWord.TheVariants.{Plain}
-use Rattle.proof_obstruction_free.specs.Beneath.machine_model.specs.Calls.{handle_of}
-use Rattle.proof_obstruction_free.specs.Beneath.machine_model.specs.States.{root_at, word_of}
 use Rattle.proof_obstruction_free.specs.Beneath.slot_arena.specs.declared.nodes.Prev.TheVariants as over
-use Rattle.proof_obstruction_free.specs.Beneath.machine_model.specs.declared.reading.ReadLine.{ReadLine}
-use Rattle.proof_obstruction_free.specs.Beneath.machine_model.specs.Grown.{grown, node_under, prev_word}
 use Rattle.proof_obstruction_free.specs.Beneath.proof_memory.specs.Wants.{AnIndirection, word_wants, meets, Is, Holds, AllHold, is_indirection}
 use Rattle.proof_obstruction_free.specs.Beneath.proof_memory.specs.Laws.{IsInUse, is_end}
 use Rattle.proof_obstruction_free.specs.Beneath.proof_memory.proofs.Safety.AtEachTime.{safe_at}

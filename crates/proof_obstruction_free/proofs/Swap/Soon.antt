@@ -1,10 +1,7 @@
 -- SWAP and ROOT of an actor that is alone, in steps alone.
 use Rattle.std.proofs.Common.{◌≡◌, ℕ, suc, ◌+◌, ◌<◌, ◌≤◌, Option, refl, arith}
-use Rattle.proof_obstruction_free.specs.Beneath.slot_arena.specs.declared.refs.Ref.{Ref}
-use Rattle.proof_obstruction_free.specs.Beneath.machine_model.specs.declared.lines.Purpose.{Purpose}
-use Rattle.proof_obstruction_free.specs.Beneath.machine_model.specs.declared.reading.SwapLine.{SwapLine}
+use Rattle.proof_obstruction_free.specs.Vocabulary.{Ref, Purpose, SwapLine, prev_word}
 use Rattle.proof_obstruction_free.specs.Beneath.machine_model.specs.declared.reading.SwapLine.TheVariants as swap
-use Rattle.proof_obstruction_free.specs.Beneath.machine_model.specs.Grown.{prev_word}
 use Rattle.proof_obstruction_free.specs.Alone.{Lone, Stands, word}
 use Rattle.proof_obstruction_free.specs.SwapEnds.{HasEnded, SwapEnds, SwapGoesToItsEnd, RootEnds, swap_steps_left}
 use Rattle.proof_obstruction_free.proofs.Read.Ends.{read_goes_to_its_end}

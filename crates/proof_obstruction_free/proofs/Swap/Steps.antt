@@ -1,16 +1,9 @@
 -- What a step of an actor that is alone finds and does, where it is one of a READ.
 use Rattle.std.proofs.Common.{◌≡◌, ℕ, suc, ◌<◌, ◌≤◌, Option, Some, None, sym, ap, ◌∙◌, subst}
 use Rattle.std.proofs.lemmas.Option.{none-some}
-use Rattle.proof_obstruction_free.specs.Beneath.slot_arena.specs.declared.refs.Ref.{Ref}
-use Rattle.proof_obstruction_free.specs.Beneath.machine_model.specs.declared.lines.Line.{Line}
+use Rattle.proof_obstruction_free.specs.Vocabulary.{Ref, Line, Read, ReadLine, Outcome, line_action, read_of, read_action, read_after, Moves, commits_after, committed_in}
 use Rattle.proof_obstruction_free.specs.Beneath.machine_model.specs.declared.lines.Line.TheVariants as line
-use Rattle.proof_obstruction_free.specs.Beneath.machine_model.specs.declared.reading.Read.{Read}
-use Rattle.proof_obstruction_free.specs.Beneath.machine_model.specs.declared.reading.ReadLine.{ReadLine}
-use Rattle.proof_obstruction_free.specs.Beneath.machine_model.specs.declared.steps.Outcome.{Outcome}
 use Rattle.proof_obstruction_free.specs.Beneath.machine_model.specs.declared.steps.Step.TheVariants as step
-use Rattle.proof_obstruction_free.specs.Beneath.machine_model.specs.Operations.{line_action, read_of}
-use Rattle.proof_obstruction_free.specs.Beneath.machine_model.specs.Reading.{read_action, read_after}
-use Rattle.proof_obstruction_free.specs.Beneath.machine_model.specs.Moves.{Moves}
 use Rattle.proof_obstruction_free.specs.Beneath.proof_commits.specs.Protocol.{Words, ReadTurn, Leaves}
 use Rattle.proof_obstruction_free.specs.Beneath.proof_commits.specs.Words.{words_of}
 use Rattle.proof_obstruction_free.specs.Beneath.proof_commits.proofs.Known.Given.{Known, ActsOn}
@@ -24,8 +17,6 @@ use Rattle.proof_obstruction_free.specs.Stepping.{IsNoEnd, LeavesWords}
 use Rattle.proof_obstruction_free.proofs.Step.Keeps.{noted_so, words}
 use Rattle.proof_obstruction_free.proofs.Ends.StandsAt.{stands_as}
 use Rattle.proof_obstruction_free.proofs.Step.Next.{next, own_run}
-use Rattle.proof_obstruction_free.specs.Beneath.machine_model.specs.Records.{commits_after}
-use Rattle.proof_obstruction_free.specs.Beneath.machine_model.specs.Tellings.{committed_in}
 
 -- a line with a READ is no end
 pub reads_no_end : (l : Line) (r : Read) → read_of l ≡ Some r → IsNoEnd l

@@ -1,11 +1,7 @@
 -- A main node that stands undecided weighs: who swapped it in has it.
 use Rattle.std.proofs.Common.{◌≡◌, ℕ, ◌≤◌, ◌==◌, Bool, true, false, refl, sym, ap, ◌∙◌, eq-eqb, arith}
-use Rattle.proof_obstruction_free.specs.Beneath.slot_arena.specs.declared.refs.Ref.{Ref}
-use Rattle.proof_obstruction_free.specs.Beneath.slot_arena.specs.declared.nodes.Prev.{Prev}
+use Rattle.proof_obstruction_free.specs.Vocabulary.{Ref, Prev, no_ref, prev_of, node_under, main_word, prev_word, ReadLine}
 use Rattle.proof_obstruction_free.specs.Beneath.slot_arena.specs.declared.nodes.Prev.TheVariants as prev
-use Rattle.proof_obstruction_free.specs.Beneath.slot_arena.specs.Heaps.{no_ref, prev_of}
-use Rattle.proof_obstruction_free.specs.Beneath.machine_model.specs.Grown.{node_under, main_word, prev_word}
-use Rattle.proof_obstruction_free.specs.Beneath.machine_model.specs.declared.reading.ReadLine.{ReadLine}
 use Rattle.proof_obstruction_free.specs.Beneath.proof_memory.specs.Wants.{is_indirection}
 use Rattle.proof_obstruction_free.specs.Beneath.proof_memory.proofs.Claims.Nodes.{no_main}
 use Rattle.proof_obstruction_free.specs.Beneath.proof_memory.proofs.Heap.NoRef.{nothing_stands}

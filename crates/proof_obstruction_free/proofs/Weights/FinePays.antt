@@ -1,6 +1,6 @@
 -- The fine weight, and how it changes in a step.
 use Rattle.std.proofs.Common.{◌≡◌, ℕ, suc, ◌+◌, ◌*◌, ◌≤◌, sym, ◌∙◌, subst, arith}
-use Rattle.proof_obstruction_free.specs.Beneath.machine_model.specs.declared.actions.Action.{Action}
+use Rattle.proof_obstruction_free.specs.Vocabulary.{Action}
 use Rattle.proof_obstruction_free.specs.Beneath.machine_model.proofs.Found.{found_within}
 use Rattle.proof_obstruction_free.specs.Beneath.proof_generations.proofs.Handles.Running.{place_of_actor}
 use Rattle.proof_obstruction_free.specs.Beneath.proof_commits.proofs.Known.Given.{ActsOn}

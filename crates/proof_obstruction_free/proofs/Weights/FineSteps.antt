@@ -2,11 +2,7 @@
 use Rattle.std.proofs.Common.{◌≡◌, ℕ, zero, suc, ◌<◌, ◌≤◌, length, Option, Some, None, refl, sym, ap, ◌∙◌, subst, arith}
 use native.Mathlib.Decide.{ℕ_discrete}
 use Rattle.std.proofs.lemmas.List.{length-replicate}
-use Rattle.proof_obstruction_free.specs.Beneath.slot_arena.specs.declared.refs.Ref.{Ref}
-use Rattle.proof_obstruction_free.specs.Beneath.machine_model.specs.declared.lines.Line.{Line}
-use Rattle.proof_obstruction_free.specs.Beneath.machine_model.specs.declared.operations.Operation.{Operation}
-use Rattle.proof_obstruction_free.specs.Beneath.machine_model.specs.States.{State, first_state, operation_of}
-use Rattle.proof_obstruction_free.specs.Beneath.machine_model.specs.Operations.{action_of, line_action, line_after}
+use Rattle.proof_obstruction_free.specs.Vocabulary.{Ref, Line, Operation, State, first_state, operation_of, action_of, line_action, line_after}
 use Rattle.proof_obstruction_free.specs.Beneath.machine_model.proofs.Actors.{marks_by}
 use Rattle.proof_obstruction_free.specs.Beneath.machine_model.proofs.Found.{found_within}
 use Rattle.proof_obstruction_free.specs.Beneath.machine_model.proofs.Times.{at_each_time}

@@ -1,11 +1,8 @@
 -- The flat weight, which counts offers alone, is such a weight: READ costs 7 with it.
 use Rattle.std.proofs.Common.{◌≡◌, ℕ, suc, ◌+◌, ◌≤◌, sym, ap, ◌∙◌, subst, arith}
 use Rattle.std.proofs.lemmas.Option.{same_Some}
-use Rattle.proof_obstruction_free.specs.Beneath.machine_model.specs.declared.actions.Action.{Action}
+use Rattle.proof_obstruction_free.specs.Vocabulary.{Action, Descriptor, Offer, action_of, line_action}
 use Rattle.proof_obstruction_free.specs.Beneath.machine_model.specs.declared.actions.Action.TheVariants as act
-use Rattle.proof_obstruction_free.specs.Beneath.machine_model.specs.declared.roots.Descriptor.{Descriptor}
-use Rattle.proof_obstruction_free.specs.Beneath.machine_model.specs.declared.roots.RootWord.TheVariants.{Offer}
-use Rattle.proof_obstruction_free.specs.Beneath.machine_model.specs.Operations.{action_of, line_action}
 use Rattle.proof_obstruction_free.specs.Alone.{Lone, word, offer_weight}
 use Rattle.proof_obstruction_free.specs.Machines.{ReadsFirst}
 use Rattle.proof_obstruction_free.specs.Stepping.{LeavesWords}

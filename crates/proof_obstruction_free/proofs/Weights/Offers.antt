@@ -1,13 +1,8 @@
 -- An offer in the root word weighs two steps: no quiet step adds weight, and to take the offer back takes it off.
 use Rattle.std.proofs.Common.{◌≡◌, ℕ, suc, ◌<◌, ◌≤◌, Option, refl, sym, ap, ◌∙◌, subst, arith, inl, inr}
 use Rattle.std.proofs.lemmas.Option.{same_Some}
-use Rattle.proof_obstruction_free.specs.Beneath.slot_arena.specs.declared.refs.Ref.{Ref}
+use Rattle.proof_obstruction_free.specs.Vocabulary.{Ref, Line, Descriptor, RootWord, Plain, Offer, action_of, line_action}
 use Rattle.proof_obstruction_free.specs.Beneath.machine_model.specs.declared.actions.Action.TheVariants as act
-use Rattle.proof_obstruction_free.specs.Beneath.machine_model.specs.declared.lines.Line.{Line}
-use Rattle.proof_obstruction_free.specs.Beneath.machine_model.specs.declared.roots.Descriptor.{Descriptor}
-use Rattle.proof_obstruction_free.specs.Beneath.machine_model.specs.declared.roots.RootWord.{RootWord}
-use Rattle.proof_obstruction_free.specs.Beneath.machine_model.specs.declared.roots.RootWord.TheVariants.{Plain, Offer}
-use Rattle.proof_obstruction_free.specs.Beneath.machine_model.specs.Operations.{action_of, line_action}
 use Rattle.proof_obstruction_free.specs.Beneath.proof_generations.specs.Laws.Roots.{settles}
 use Rattle.proof_obstruction_free.specs.Alone.{Lone, Stands, IsQuiet, IsWeight, WordStays, word, offer_weight}
 use Rattle.proof_obstruction_free.specs.Stepping.{IsNoEnd}

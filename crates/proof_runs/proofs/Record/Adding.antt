@@ -1,28 +1,14 @@
 -- How many places a step adds.
 use Rattle.std.proofs.Common.{◌≡◌, ℕ, ◌+◌, ◌≤◌, Bool, true, false, cond, List, [], ◌∷◌, ◌++◌, length, Option, Some, None, refl, sym, ap, subst, arith, append-nil}
 use Rattle.std.proofs.lemmas.List.{length-append}
-use Rattle.proof_runs.specs.Beneath.history.specs.declared.calls.Call.{Call}
-use Rattle.proof_runs.specs.Beneath.history.specs.declared.calls.Call.TheVariants.{Close}
-use Rattle.proof_runs.specs.Beneath.history.specs.declared.replies.Reply.{Reply}
+use Rattle.proof_runs.specs.Vocabulary.{Call, Close, Reply, Place, Ref, Action, Outcome, Step, handle_of, run, Moves, Begins, Ends, Sweeps, begun_operation, action_of, State, first_state}
+use Rattle.proof_runs.specs.Vocabulary.{committed_now, carried_by, told_in, entrant_of, is_placed, place_of, entered_at_begin, Record, placed_by, noted, record_of, entered_by, changer_of}
+use Rattle.proof_runs.specs.Vocabulary.{first_record, moment_at, entered_at_end, entered, Carried, Entrant}
 use Rattle.proof_runs.specs.Beneath.history.specs.declared.replies.Reply.TheVariants as reply
-use Rattle.proof_runs.specs.Beneath.places.specs.declared.place.Place.{Place}
-use Rattle.proof_runs.specs.Beneath.slot_arena.specs.declared.refs.Ref.{Ref}
-use Rattle.proof_runs.specs.Beneath.machine_model.specs.declared.actions.Action.{Action}
 use Rattle.proof_runs.specs.Beneath.machine_model.specs.declared.actions.Action.TheVariants as act
-use Rattle.proof_runs.specs.Beneath.machine_model.specs.declared.steps.Outcome.{Outcome}
-use Rattle.proof_runs.specs.Beneath.machine_model.specs.declared.steps.Step.{Step}
-use Rattle.proof_runs.specs.Beneath.machine_model.specs.Calls.{handle_of}
-use Rattle.proof_runs.specs.Beneath.machine_model.specs.Machine.{run}
-use Rattle.proof_runs.specs.Beneath.machine_model.specs.Moves.{Moves, Begins, Ends, Goes, Sweeps, begun_operation}
-use Rattle.proof_runs.specs.Beneath.machine_model.specs.Operations.{action_of}
-use Rattle.proof_runs.specs.Beneath.machine_model.specs.States.{State, first_state}
+use Rattle.proof_runs.specs.Beneath.machine_model.specs.Moves.{Goes}
 use Rattle.proof_runs.specs.Beneath.proof_order.proofs.Phases.Quiet.{NoComplete, commits_complete}
 use Rattle.proof_runs.specs.Laws.{OnePlaceAStep}
-use Rattle.proof_runs.specs.Beneath.machine_model.specs.Tellings.{committed_now, carried_by, told_in, entrant_of}
-use Rattle.proof_runs.specs.Beneath.machine_model.specs.Records.{is_placed, place_of, entered_at_begin, Record, placed_by, noted}
-use Rattle.proof_runs.specs.Beneath.machine_model.specs.Records.{record_of, entered_by, changer_of, first_record, moment_at, entered_at_end, entered}
-use Rattle.proof_runs.specs.Beneath.machine_model.specs.declared.records.Carried.{Carried}
-use Rattle.proof_runs.specs.Beneath.machine_model.specs.declared.records.Entrant.{Entrant}
 use Rattle.proof_runs.specs.Beneath.machine_model.proofs.Recorded.{record_push, kept_by_notes}
 use Rattle.proof_runs.specs.Beneath.machine_model.proofs.Notes.{noted_going, noted_ending}
 

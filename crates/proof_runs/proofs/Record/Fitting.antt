@@ -5,38 +5,15 @@ use Rattle.std.proofs.lemmas.Bool.{false≢true}
 use Rattle.std.proofs.lemmas.List.{length-replicate}
 use Rattle.std.proofs.lemmas.List.Elements.{All-weaker}
 use Rattle.std.proofs.lemmas.Option.{none-some, same_Some}
-use Rattle.proof_runs.specs.Beneath.history.specs.Histories.{begun}
-use Rattle.proof_runs.specs.Beneath.slot_arena.specs.declared.nodes.Slot.{Slot}
-use Rattle.proof_runs.specs.Beneath.slot_arena.specs.declared.refs.Ref.{Ref}
-use Rattle.proof_runs.specs.Beneath.slot_arena.specs.Heaps.{Heap, generation_at, generation_of, stored}
-use Rattle.proof_runs.specs.Beneath.slot_arena.specs.Refs.{birth_of, slot_of}
-use Rattle.proof_runs.specs.Beneath.machine_model.specs.declared.actions.Action.{Action}
+use Rattle.proof_runs.specs.Vocabulary.{begun, Slot, Ref, Heap, generation_at, generation_of, stored, birth_of, slot_of, Action, Line, Purpose, Operation, SwapLine, Carried, Entrant, Publication}
+use Rattle.proof_runs.specs.Vocabulary.{Descriptor, RootWord, Plain, Offer, Bounds, Outcome, Step, operation_after, handle_of, of_birth, AreBounds, is_actor, run, Begins, Ends, Moves, Sweeps}
+use Rattle.proof_runs.specs.Vocabulary.{action_of, State, first_state, operation_of, with_operation, word_at, is_carried_out, carried_by, changer_for, committed_now, given_now, published_at}
+use Rattle.proof_runs.specs.Vocabulary.{published_by, progress_of}
 use Rattle.proof_runs.specs.Beneath.machine_model.specs.declared.actions.Action.TheVariants as act
-use Rattle.proof_runs.specs.Beneath.machine_model.specs.declared.lines.Line.{Line}
 use Rattle.proof_runs.specs.Beneath.machine_model.specs.declared.lines.Line.TheVariants as line
-use Rattle.proof_runs.specs.Beneath.machine_model.specs.declared.lines.Purpose.{Purpose}
 use Rattle.proof_runs.specs.Beneath.machine_model.specs.declared.lines.Purpose.TheVariants as purpose
-use Rattle.proof_runs.specs.Beneath.machine_model.specs.declared.operations.Operation.{Operation}
-use Rattle.proof_runs.specs.Beneath.machine_model.specs.declared.reading.SwapLine.{SwapLine}
 use Rattle.proof_runs.specs.Beneath.machine_model.specs.declared.reading.SwapLine.TheVariants as swap
-use Rattle.proof_runs.specs.Beneath.machine_model.specs.declared.records.Carried.{Carried}
-use Rattle.proof_runs.specs.Beneath.machine_model.specs.declared.records.Entrant.{Entrant}
-use Rattle.proof_runs.specs.Beneath.machine_model.specs.declared.records.Publication.{Publication}
-use Rattle.proof_runs.specs.Beneath.machine_model.specs.declared.roots.Descriptor.{Descriptor}
-use Rattle.proof_runs.specs.Beneath.machine_model.specs.declared.roots.RootWord.{RootWord}
-use Rattle.proof_runs.specs.Beneath.machine_model.specs.declared.roots.RootWord.TheVariants.{Plain, Offer}
-use Rattle.proof_runs.specs.Beneath.machine_model.specs.declared.steps.Bounds.{Bounds}
-use Rattle.proof_runs.specs.Beneath.machine_model.specs.declared.steps.Outcome.{Outcome}
-use Rattle.proof_runs.specs.Beneath.machine_model.specs.declared.steps.Step.{Step}
-use Rattle.proof_runs.specs.Beneath.machine_model.specs.Acting.{operation_after}
-use Rattle.proof_runs.specs.Beneath.machine_model.specs.Calls.{handle_of}
-use Rattle.proof_runs.specs.Beneath.machine_model.specs.Grown.{of_birth}
-use Rattle.proof_runs.specs.Beneath.machine_model.specs.Machine.{AreBounds, is_actor, run}
-use Rattle.proof_runs.specs.Beneath.machine_model.specs.Moves.{Begins, Ends, Goes, Moves, Sweeps}
-use Rattle.proof_runs.specs.Beneath.machine_model.specs.Operations.{action_of}
-use Rattle.proof_runs.specs.Beneath.machine_model.specs.States.{State, first_state, operation_of, with_operation, word_at}
-use Rattle.proof_runs.specs.Beneath.machine_model.specs.Swapping.{is_carried_out}
-use Rattle.proof_runs.specs.Beneath.machine_model.specs.Tellings.{carried_by, changer_for, committed_now, given_now, published_at, published_by, progress_of}
+use Rattle.proof_runs.specs.Beneath.machine_model.specs.Moves.{Goes}
 use Rattle.proof_runs.specs.Beneath.machine_model.proofs.Along.{along}
 use Rattle.proof_runs.specs.Beneath.machine_model.proofs.Alike.{actor_within, alike_along}
 use Rattle.proof_runs.specs.Beneath.machine_model.proofs.Found.{found_within}

@@ -3,29 +3,14 @@ use Rattle.std.proofs.Common.{◌≡◌, ℕ, ◌+◌, ◌≤◌, inl, inr, List
 use Rattle.std.specs.Prelude.{option_to_list}
 use Rattle.std.proofs.lemmas.Option.{none-some}
 use Rattle.std.proofs.lemmas.List.Elements.{All-cons, All-nil, All-push, All-weaker}
-use Rattle.proof_runs.specs.Beneath.slot_arena.specs.declared.refs.Ref.{Ref}
-use Rattle.proof_runs.specs.Beneath.slot_arena.specs.Refs.{slot_of, birth_of}
-use Rattle.proof_runs.specs.Beneath.slot_arena.specs.Heaps.{Heap}
+use Rattle.proof_runs.specs.Vocabulary.{Ref, slot_of, birth_of, Heap, Line, Operation, SwapLine, Commit, Entrant, Publication, Bounds, Outcome, Step, State, first_state, operation_of, action_at}
+use Rattle.proof_runs.specs.Vocabulary.{action_of, line_action, AreBounds, run, Moves, Begins, Ends, Sweeps, Record, commits_after, noted, record_of, changer_for, committed_now, published_at}
+use Rattle.proof_runs.specs.Vocabulary.{published_by, told_in, Action}
 use Rattle.proof_runs.specs.Beneath.slot_arena.proofs.Live.{one_live}
 use Rattle.proof_runs.specs.Beneath.slot_arena.proofs.Reading.{live_seen}
-use Rattle.proof_runs.specs.Beneath.machine_model.specs.declared.lines.Line.{Line}
 use Rattle.proof_runs.specs.Beneath.machine_model.specs.declared.lines.Line.TheVariants as line
-use Rattle.proof_runs.specs.Beneath.machine_model.specs.declared.operations.Operation.{Operation}
-use Rattle.proof_runs.specs.Beneath.machine_model.specs.declared.reading.SwapLine.{SwapLine}
 use Rattle.proof_runs.specs.Beneath.machine_model.specs.declared.reading.SwapLine.TheVariants as swap
-use Rattle.proof_runs.specs.Beneath.machine_model.specs.declared.records.Commit.{Commit}
-use Rattle.proof_runs.specs.Beneath.machine_model.specs.declared.records.Entrant.{Entrant}
-use Rattle.proof_runs.specs.Beneath.machine_model.specs.declared.records.Publication.{Publication}
-use Rattle.proof_runs.specs.Beneath.machine_model.specs.declared.steps.Bounds.{Bounds}
-use Rattle.proof_runs.specs.Beneath.machine_model.specs.declared.steps.Outcome.{Outcome}
-use Rattle.proof_runs.specs.Beneath.machine_model.specs.declared.steps.Step.{Step}
-use Rattle.proof_runs.specs.Beneath.machine_model.specs.States.{State, first_state, operation_of}
-use Rattle.proof_runs.specs.Beneath.machine_model.specs.Swapping.{action_at}
-use Rattle.proof_runs.specs.Beneath.machine_model.specs.Operations.{action_of, line_action}
-use Rattle.proof_runs.specs.Beneath.machine_model.specs.Machine.{AreBounds, run}
-use Rattle.proof_runs.specs.Beneath.machine_model.specs.Moves.{Moves, Begins, Ends, Goes, Sweeps}
-use Rattle.proof_runs.specs.Beneath.machine_model.specs.Records.{Record, commits_after, noted, record_of}
-use Rattle.proof_runs.specs.Beneath.machine_model.specs.Tellings.{changer_for, committed_now, published_at, published_by, told_in}
+use Rattle.proof_runs.specs.Beneath.machine_model.specs.Moves.{Goes}
 use Rattle.proof_runs.specs.Beneath.machine_model.proofs.Notes.{noted_ending, noted_going}
 use Rattle.proof_runs.specs.Beneath.machine_model.proofs.Recorded.{along_with}
 use Rattle.proof_memory.specs.Laws.{IsInUse}
@@ -39,7 +24,6 @@ use Rattle.proof_memory.proofs.Safety.AtTimes.{action_finds}
 use Rattle.proof_runs.specs.Beneath.proof_order.proofs.Phases.Commits.{line_decides}
 use Rattle.proof_runs.specs.Laws.{CommittedAreNewest, PublishedAreNewest}
 use Rattle.proof_runs.specs.Beneath.proof_order.proofs.Phases.Commits.{Decides}
-use Rattle.proof_runs.specs.Beneath.machine_model.specs.declared.actions.Action.{Action}
 
 -- the node is no newer than the one in use that stands in its slot
 abbrev IsBehind : Ref → Ref → Type 0

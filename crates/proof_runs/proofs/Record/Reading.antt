@@ -1,42 +1,23 @@
 -- What a READ gives is in use.
 use Rattle.std.proofs.Common.{◌≡◌, ◌==◌, Bool, true, false, Option, Some, None, refl, sym, subst, ap, ◌∙◌}
 use Rattle.std.proofs.lemmas.Option.{none-some, same_Some}
-use Rattle.proof_runs.specs.Beneath.history.specs.declared.calls.Access.{Access}
-use Rattle.proof_runs.specs.Beneath.history.specs.declared.calls.Access.TheVariants.{Writable, ReadOnly}
-use Rattle.proof_runs.specs.Beneath.slot_arena.specs.declared.nodes.Prev.{Prev}
+use Rattle.proof_runs.specs.Vocabulary.{Access, Writable, ReadOnly, Prev, Ref, Heap, main_at, prev_at, Line, Operation, After, Gives, Read, ReadLine, SwapLine, CompleteLine, Descriptor, RootLine}
+use Rattle.proof_runs.specs.Vocabulary.{RootWord, Plain, Offer, handle_of, State, word_at, Verdict, Commits, Fails, Overtaken, after_ask, after_decide, after_prev, after_restore, at_indirection}
+use Rattle.proof_runs.specs.Vocabulary.{read_action, read_after, verdict, complete_action_at, root_action, action_at, action_of, line_action, read_of, completing_read, rooting_read, swapping_read}
+use Rattle.proof_runs.specs.Vocabulary.{given_by, given_in, given_now}
 use Rattle.proof_runs.specs.Beneath.slot_arena.specs.declared.nodes.Prev.TheVariants as prev
-use Rattle.proof_runs.specs.Beneath.slot_arena.specs.declared.refs.Ref.{Ref}
-use Rattle.proof_runs.specs.Beneath.slot_arena.specs.Heaps.{Heap, main_at, prev_at}
 use Rattle.proof_runs.specs.Beneath.machine_model.specs.declared.copying.CopyLine.TheVariants as copy
 use Rattle.proof_runs.specs.Beneath.machine_model.specs.declared.finding.KeyLine.TheVariants as key
-use Rattle.proof_runs.specs.Beneath.machine_model.specs.declared.lines.Line.{Line}
 use Rattle.proof_runs.specs.Beneath.machine_model.specs.declared.lines.Line.TheVariants as line
-use Rattle.proof_runs.specs.Beneath.machine_model.specs.declared.operations.Operation.{Operation}
-use Rattle.proof_runs.specs.Beneath.machine_model.specs.declared.reading.After.{After}
-use Rattle.proof_runs.specs.Beneath.machine_model.specs.declared.reading.After.TheVariants.{Goes, Gives}
-use Rattle.proof_runs.specs.Beneath.machine_model.specs.declared.reading.Read.{Read}
-use Rattle.proof_runs.specs.Beneath.machine_model.specs.declared.reading.ReadLine.{ReadLine}
+use Rattle.proof_runs.specs.Beneath.machine_model.specs.declared.reading.After.TheVariants.{Goes}
 use Rattle.proof_runs.specs.Beneath.machine_model.specs.declared.reading.ReadLine.TheVariants as read
-use Rattle.proof_runs.specs.Beneath.machine_model.specs.declared.reading.SwapLine.{SwapLine}
 use Rattle.proof_runs.specs.Beneath.machine_model.specs.declared.reading.SwapLine.TheVariants as swap
 use Rattle.proof_runs.specs.Beneath.machine_model.specs.declared.repairs.CleanLine.TheVariants as clean
 use Rattle.proof_runs.specs.Beneath.machine_model.specs.declared.repairs.ClimbLine.TheVariants as climb
 use Rattle.proof_runs.specs.Beneath.machine_model.specs.declared.repairs.RenewLine.TheVariants as renew
-use Rattle.proof_runs.specs.Beneath.machine_model.specs.declared.roots.CompleteLine.{CompleteLine}
 use Rattle.proof_runs.specs.Beneath.machine_model.specs.declared.roots.CompleteLine.TheVariants as complete
-use Rattle.proof_runs.specs.Beneath.machine_model.specs.declared.roots.Descriptor.{Descriptor}
-use Rattle.proof_runs.specs.Beneath.machine_model.specs.declared.roots.RootLine.{RootLine}
 use Rattle.proof_runs.specs.Beneath.machine_model.specs.declared.roots.RootLine.TheVariants as root
-use Rattle.proof_runs.specs.Beneath.machine_model.specs.declared.roots.RootWord.{RootWord}
-use Rattle.proof_runs.specs.Beneath.machine_model.specs.declared.roots.RootWord.TheVariants.{Plain, Offer}
 use Rattle.proof_runs.specs.Beneath.machine_model.specs.declared.walking.WalkLine.TheVariants as walk
-use Rattle.proof_runs.specs.Beneath.machine_model.specs.Calls.{handle_of}
-use Rattle.proof_runs.specs.Beneath.machine_model.specs.States.{State, word_at}
-use Rattle.proof_runs.specs.Beneath.machine_model.specs.Reading.{Verdict, Commits, Fails, Overtaken, after_ask, after_decide, after_prev, after_restore}
-use Rattle.proof_runs.specs.Beneath.machine_model.specs.Reading.{at_indirection, read_action, read_after, verdict}
-use Rattle.proof_runs.specs.Beneath.machine_model.specs.Swapping.{complete_action_at, root_action, action_at}
-use Rattle.proof_runs.specs.Beneath.machine_model.specs.Operations.{action_of, line_action, read_of, completing_read, rooting_read, swapping_read}
-use Rattle.proof_runs.specs.Beneath.machine_model.specs.Tellings.{given_by, given_in, given_now}
 use Rattle.proof_memory.specs.Laws.{IsInUse}
 use Rattle.proof_memory.specs.Wants.{AllHold, action_wants}
 use Rattle.proof_memory.proofs.Claims.Uses.{safe_of}

@@ -1,38 +1,14 @@
 -- What a running operation may be about to answer, at each time: own steps.
 use Rattle.std.proofs.Common.{◌≡◌, ℕ, suc, ◌<◌, ◌≤◌, ◌^◌, true, false, true≢false, List, Option, Some, None, refl, sym, ap, subst, ◌∙◌, arith}
 use Rattle.std.proofs.lemmas.Option.{same_Some}
-use Rattle.proof_updates.specs.Beneath.history.specs.declared.calls.Access.{Access}
-use Rattle.proof_updates.specs.Beneath.history.specs.declared.calls.Access.TheVariants.{Writable, ReadOnly}
-use Rattle.proof_updates.specs.Beneath.history.specs.declared.calls.Call.{Call}
-use Rattle.proof_updates.specs.Beneath.history.specs.declared.replies.Reply.{Reply}
-use Rattle.proof_updates.specs.Beneath.slot_arena.specs.declared.refs.Ref.{Ref}
-use Rattle.proof_updates.specs.Beneath.slot_arena.specs.Heaps.{generation_at}
-use Rattle.proof_updates.specs.Beneath.machine_model.specs.declared.finding.KeyLine.{KeyLine}
+use Rattle.proof_updates.specs.Vocabulary.{Access, Writable, ReadOnly, Call, Reply, Ref, generation_at, KeyLine, WalkLine, Line, Operation, After, Gives, Read, RootLine, Swap, Purpose, Bounds}
+use Rattle.proof_updates.specs.Vocabulary.{key_of, handle_of, is_close, needs_read_only, State, root_of, word_of, word_at, read_step, root_after, key_after_read, key_after, walk_after, line_action}
+use Rattle.proof_updates.specs.Vocabulary.{line_after, generation_from, generation_after, given_root, read_of, operation_after, GoesOn, IsRun, node_under, is_placed, Record, moment_at}
 use Rattle.proof_updates.specs.Beneath.machine_model.specs.declared.finding.KeyLine.TheVariants as key
-use Rattle.proof_updates.specs.Beneath.machine_model.specs.declared.walking.WalkLine.{WalkLine}
-use Rattle.proof_updates.specs.Beneath.machine_model.specs.declared.lines.Line.{Line}
 use Rattle.proof_updates.specs.Beneath.machine_model.specs.declared.lines.Line.TheVariants as line
-use Rattle.proof_updates.specs.Beneath.machine_model.specs.declared.operations.Operation.{Operation}
-use Rattle.proof_updates.specs.Beneath.machine_model.specs.declared.reading.After.{After}
-use Rattle.proof_updates.specs.Beneath.machine_model.specs.declared.reading.After.TheVariants.{Goes, Gives}
-use Rattle.proof_updates.specs.Beneath.machine_model.specs.declared.reading.Read.{Read}
-use Rattle.proof_updates.specs.Beneath.machine_model.specs.declared.roots.RootLine.{RootLine}
-use Rattle.proof_updates.specs.Beneath.machine_model.specs.declared.reading.Swap.{Swap}
-use Rattle.proof_updates.specs.Beneath.machine_model.specs.declared.lines.Purpose.{Purpose}
+use Rattle.proof_updates.specs.Beneath.machine_model.specs.declared.reading.After.TheVariants.{Goes}
 use Rattle.proof_updates.specs.Beneath.machine_model.specs.declared.lines.Purpose.TheVariants as purpose
-use Rattle.proof_updates.specs.Beneath.machine_model.specs.declared.steps.Bounds.{Bounds}
 use Rattle.proof_updates.specs.Beneath.machine_model.specs.declared.steps.Step.TheVariants as step
-use Rattle.proof_updates.specs.Beneath.machine_model.specs.Calls.{key_of, handle_of, is_close, needs_read_only}
-use Rattle.proof_updates.specs.Beneath.machine_model.specs.States.{State, root_of, word_of, word_at}
-use Rattle.proof_updates.specs.Beneath.machine_model.specs.Reading.{read_step}
-use Rattle.proof_updates.specs.Beneath.machine_model.specs.Swapping.{root_after}
-use Rattle.proof_updates.specs.Beneath.machine_model.specs.Finding.{key_after_read, key_after}
-use Rattle.proof_updates.specs.Beneath.machine_model.specs.Walking.{walk_after}
-use Rattle.proof_updates.specs.Beneath.machine_model.specs.Operations.{line_action, line_after, generation_from, generation_after, given_root, read_of}
-use Rattle.proof_updates.specs.Beneath.machine_model.specs.Acting.{operation_after}
-use Rattle.proof_updates.specs.Beneath.machine_model.specs.Moves.{GoesOn}
-use Rattle.proof_updates.specs.Beneath.machine_model.specs.Times.{IsRun}
-use Rattle.proof_updates.specs.Beneath.machine_model.specs.Grown.{node_under}
 use Rattle.proof_updates.specs.Beneath.proof_memory.specs.Laws.{is_end}
 use Rattle.proof_updates.specs.Beneath.proof_contents.specs.Tries.{Trie}
 use Rattle.proof_updates.specs.Beneath.proof_contents.specs.Steps.{IsTrie}
@@ -59,7 +35,6 @@ use Rattle.proof_updates.proofs.Routes.Known.{LineRoute}
 use Rattle.proof_updates.proofs.Placed.Swap.{swap_behind}
 use Rattle.proof_updates.proofs.Answers.Walk.{goes_at, Walks as Walks', walk_right}
 use Rattle.proof_updates.proofs.Answers.WalkSteps.{below, KnowsWalk}
-use Rattle.proof_updates.specs.Beneath.machine_model.specs.Records.{is_placed, Record, moment_at}
 use Rattle.proof_updates.proofs.Answers.Given.{moment_of, quiet_moment}
 use Rattle.proof_updates.proofs.Placed.Placing.{still}
 

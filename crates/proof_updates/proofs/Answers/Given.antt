@@ -1,17 +1,7 @@
 -- What a step of an operation's own READ gives, in the words of the trie: just behind the operation's moment it was the main node.
 use Rattle.std.proofs.Common.{◌≡◌, ℕ, suc, ◌<◌, ◌≤◌, true, is_some, ◌∙◌, arith, None, ap, sym, subst}
-use Rattle.proof_updates.specs.Beneath.slot_arena.specs.declared.refs.Ref.{Ref}
-use Rattle.proof_updates.specs.Beneath.machine_model.specs.declared.operations.Operation.{Operation}
-use Rattle.proof_updates.specs.Beneath.machine_model.specs.declared.reading.After.TheVariants.{Gives}
-use Rattle.proof_updates.specs.Beneath.machine_model.specs.declared.reading.ReadLine.{ReadLine}
-use Rattle.proof_updates.specs.Beneath.machine_model.specs.declared.steps.Bounds.{Bounds}
-use Rattle.proof_updates.specs.Beneath.machine_model.specs.Calls.{handle_of}
-use Rattle.proof_updates.specs.Beneath.machine_model.specs.States.{State, word_at}
-use Rattle.proof_updates.specs.Beneath.machine_model.specs.Reading.{read_after}
-use Rattle.proof_updates.specs.Beneath.machine_model.specs.Acting.{gone}
-use Rattle.proof_updates.specs.Beneath.machine_model.specs.Counting.{settled}
-use Rattle.proof_updates.specs.Beneath.machine_model.specs.Times.{IsRun}
-use Rattle.proof_updates.specs.Beneath.machine_model.specs.Grown.{grown}
+use Rattle.proof_updates.specs.Vocabulary.{Ref, Operation, Gives, ReadLine, Bounds, handle_of, State, word_at, read_after, gone, settled, IsRun, grown, read_at_after, moment_after, Record}
+use Rattle.proof_updates.specs.Vocabulary.{moment_at, moment_given, Moment, read_of, action_of, progress_of, counts_from, committed_now, given_in}
 use Rattle.proof_updates.specs.Beneath.proof_commits.specs.Protocol.{Reads, counts_at}
 use Rattle.proof_updates.specs.Beneath.proof_commits.proofs.Course.Finals.{link_stays}
 use Rattle.proof_updates.specs.Beneath.proof_commits.specs.Stages.{stage_of}
@@ -24,10 +14,6 @@ use Rattle.proof_updates.specs.Beneath.proof_contents.proofs.Values.Runs.{counti
 use Rattle.proof_updates.proofs.Tries.EachOperation.{OwnStep}
 use Rattle.proof_updates.specs.Beneath.proof_commits.proofs.Words.OfRuns.{link_made}
 use Rattle.proof_updates.specs.Beneath.proof_generations.proofs.Falling.ReadsGive.{gone_is}
-use Rattle.proof_updates.specs.Beneath.machine_model.specs.Records.{read_at_after, moment_after, Record, moment_at, moment_given}
-use Rattle.proof_updates.specs.Beneath.machine_model.specs.declared.records.Moment.{Moment}
-use Rattle.proof_updates.specs.Beneath.machine_model.specs.Operations.{read_of, action_of}
-use Rattle.proof_updates.specs.Beneath.machine_model.specs.Tellings.{progress_of, counts_from, committed_now, given_in}
 use Rattle.proof_updates.specs.Beneath.machine_model.proofs.Alike.{moment_goes, alike, go_actor, not_denied}
 use Rattle.proof_updates.specs.Beneath.proof_commits.specs.Moments.{IsMoment}
 use Rattle.proof_updates.specs.Beneath.proof_commits.specs.Words.{words_of}

@@ -1,32 +1,13 @@
 -- Where a line of KEY ends its operation, the answer is right: of the content just behind the moment, on a read-only handle of that in the end.
 use Rattle.std.proofs.Common.{◌≡◌, ◌≢◌, ℕ, suc, Bool, cond, ◌-◌, ◌<◌, ◌≤◌, ◌^◌, true, false, true≢false, List, length, Some, inl, inr, refl, sym, ap, subst, ◌∙◌, arith}
-use Rattle.proof_updates.specs.Beneath.ctrie_base.specs.Hashes.{hash_of}
-use Rattle.proof_updates.specs.Beneath.history.specs.declared.calls.Access.{Access}
-use Rattle.proof_updates.specs.Beneath.history.specs.declared.calls.Access.TheVariants.{Writable, ReadOnly}
-use Rattle.proof_updates.specs.Beneath.history.specs.declared.calls.Call.{Call}
-use Rattle.proof_updates.specs.Beneath.history.specs.declared.calls.Call.TheVariants.{Get, Put, PutIfAbsent, Replace, ReplaceIf, Remove, RemoveIf, Clear, Snapshot, Freeze, Close, Entries, Count}
-use Rattle.proof_updates.specs.Beneath.history.specs.declared.replies.Reply.{Reply}
-use Rattle.proof_updates.specs.Beneath.slot_arena.specs.declared.refs.Ref.{Ref}
-use Rattle.proof_updates.specs.Beneath.slot_arena.specs.declared.nodes.Node.{Node}
-use Rattle.proof_updates.specs.Beneath.slot_arena.specs.declared.nodes.Node.TheVariants.{Indirection, Branch, Single, Tomb, List as Listed}
-use Rattle.proof_updates.specs.Beneath.slot_arena.specs.Heaps.{node_at, entry_at}
-use Rattle.proof_updates.specs.Beneath.machine_model.specs.declared.finding.KeyLine.{KeyLine}
+use Rattle.proof_updates.specs.Vocabulary.{hash_of, Access, Writable, ReadOnly, Call, Get, Put, PutIfAbsent, Replace, ReplaceIf, Remove, RemoveIf, Clear, Snapshot, Freeze, Close, Entries, Count}
+use Rattle.proof_updates.specs.Vocabulary.{Reply, Ref, Node, Indirection, Branch, Single, Tomb, List as Listed, node_at, entry_at, KeyLine, Line, Operation, After, Gives, Read, Bounds, key_of}
+use Rattle.proof_updates.specs.Vocabulary.{current, above, depth_of, is_below_root, read_step, reading, key_after_read, key_after_main, after_tomb, key_after_entry, after_listed, after_sibling}
+use Rattle.proof_updates.specs.Vocabulary.{key_after, State, IsRun, node_under, moment_at}
 use Rattle.proof_updates.specs.Beneath.machine_model.specs.declared.finding.KeyLine.TheVariants as key
 use Rattle.proof_updates.specs.Beneath.machine_model.specs.declared.repairs.CleanLine.TheVariants as clean
-use Rattle.proof_updates.specs.Beneath.machine_model.specs.declared.lines.Line.{Line}
 use Rattle.proof_updates.specs.Beneath.machine_model.specs.declared.lines.Line.TheVariants as line
-use Rattle.proof_updates.specs.Beneath.machine_model.specs.declared.operations.Operation.{Operation}
-use Rattle.proof_updates.specs.Beneath.machine_model.specs.declared.reading.After.{After}
-use Rattle.proof_updates.specs.Beneath.machine_model.specs.declared.reading.After.TheVariants.{Goes, Gives}
-use Rattle.proof_updates.specs.Beneath.machine_model.specs.declared.reading.Read.{Read}
-use Rattle.proof_updates.specs.Beneath.machine_model.specs.declared.steps.Bounds.{Bounds}
-use Rattle.proof_updates.specs.Beneath.machine_model.specs.Calls.{key_of}
-use Rattle.proof_updates.specs.Beneath.machine_model.specs.Paths.{current, above, depth_of, is_below_root}
-use Rattle.proof_updates.specs.Beneath.machine_model.specs.Reading.{read_step, reading}
-use Rattle.proof_updates.specs.Beneath.machine_model.specs.Finding.{key_after_read, key_after_main, after_tomb, key_after_entry, after_listed, after_sibling, key_after}
-use Rattle.proof_updates.specs.Beneath.machine_model.specs.States.{State}
-use Rattle.proof_updates.specs.Beneath.machine_model.specs.Times.{IsRun}
-use Rattle.proof_updates.specs.Beneath.machine_model.specs.Grown.{node_under}
+use Rattle.proof_updates.specs.Beneath.machine_model.specs.declared.reading.After.TheVariants.{Goes}
 use Rattle.proof_updates.specs.Beneath.proof_memory.specs.Laws.{IsInUse}
 use Rattle.proof_updates.specs.Beneath.proof_memory.specs.Wants.{ABranch, AList, AMain, Is, Holds, meets, listed}
 use Rattle.proof_updates.specs.Beneath.proof_memory.proofs.Claims.Uses.{meets_of}
@@ -49,7 +30,6 @@ use Rattle.proof_shape.proofs.Lines.Placed.{is_keyed}
 use Rattle.proof_shape.proofs.Runs.Seen.{listed_main, sees, single_seen}
 use Rattle.proof_shape.proofs.Lines.Key.{same_known, claims, looks}
 use Rattle.proof_updates.proofs.Routes.Known.{IsAt, KeyRoute, looks_at, route_end}
-use Rattle.proof_updates.specs.Beneath.machine_model.specs.Records.{moment_at}
 
 -- the answer is what the call gives, and it changes nothing
 abbrev pub AnswersSo : Trie → Access → ℕ → ℕ → Call → Reply → Type 0

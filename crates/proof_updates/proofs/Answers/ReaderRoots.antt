@@ -1,21 +1,8 @@
 -- The root under a read-only handle on which an operation runs: it stays, and is the root of its generation.
 use Rattle.std.proofs.Common.{◌≡◌, ℕ, suc, ◌<◌, ◌≤◌, true, false, true≢false, Option, Some, None, refl, sym, ap, subst, ◌∙◌, arith}
 use Rattle.std.proofs.lemmas.Option.{none-some, same_Some}
-use Rattle.proof_updates.specs.Beneath.history.specs.declared.calls.Access.{Access}
-use Rattle.proof_updates.specs.Beneath.history.specs.declared.calls.Access.TheVariants.{ReadOnly}
-use Rattle.proof_updates.specs.Beneath.slot_arena.specs.declared.refs.Ref.{Ref}
-use Rattle.proof_updates.specs.Beneath.slot_arena.specs.declared.nodes.Node.{Node}
-use Rattle.proof_updates.specs.Beneath.slot_arena.specs.declared.nodes.Node.TheVariants.{Indirection, Branch, Single, Tomb, List as Listed}
-use Rattle.proof_updates.specs.Beneath.slot_arena.specs.Heaps.{node_at, generation_at}
-use Rattle.proof_updates.specs.Beneath.machine_model.specs.declared.operations.Operation.{Operation}
-use Rattle.proof_updates.specs.Beneath.machine_model.specs.declared.roots.Root.{Root}
-use Rattle.proof_updates.specs.Beneath.machine_model.specs.declared.roots.RootWord.TheVariants.{Plain}
-use Rattle.proof_updates.specs.Beneath.machine_model.specs.declared.steps.Bounds.{Bounds}
-use Rattle.proof_updates.specs.Beneath.machine_model.specs.Calls.{handle_of, is_close}
-use Rattle.proof_updates.specs.Beneath.machine_model.specs.States.{State, root_at, root_of, word_of, word_at}
-use Rattle.proof_updates.specs.Beneath.machine_model.specs.Times.{turns, noted_turn}
-use Rattle.proof_updates.specs.Beneath.machine_model.specs.Times.{IsRun, Turn}
-use Rattle.proof_updates.specs.Beneath.machine_model.specs.Grown.{node_under}
+use Rattle.proof_updates.specs.Vocabulary.{Access, ReadOnly, Ref, Node, Indirection, Branch, Single, Tomb, List as Listed, node_at, generation_at, Operation, Root, Plain, Bounds, handle_of}
+use Rattle.proof_updates.specs.Vocabulary.{is_close, State, root_at, root_of, word_of, word_at, turns, noted_turn, IsRun, Turn, node_under}
 use Rattle.proof_updates.specs.Beneath.proof_memory.specs.Laws.{IsInUse}
 use Rattle.proof_updates.specs.Beneath.proof_memory.specs.Wants.{Is, Holds, AnIndirection, meets, AllHold, word_wants}
 use Rattle.proof_updates.specs.Beneath.proof_memory.proofs.Claims.Uses.{safe_of, meets_of}

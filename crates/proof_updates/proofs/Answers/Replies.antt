@@ -1,29 +1,12 @@
 -- What an operation answers that has no place is right.
 use Rattle.std.proofs.Common.{◌≡◌, ◌≢◌, ℕ, suc, ◌<◌, ◌≤◌, ◌^◌, Bool, true, false, true≢false, ◌∷◌, inl, None, refl, sym, ap, subst, ◌∙◌, arith, []}
 use Rattle.std.proofs.lemmas.Option.{none-some}
-use Rattle.proof_updates.specs.Beneath.history.specs.declared.calls.Access.{Access}
-use Rattle.proof_updates.specs.Beneath.history.specs.declared.calls.Access.TheVariants.{Writable, ReadOnly}
-use Rattle.proof_updates.specs.Beneath.history.specs.declared.calls.Call.{Call}
-use Rattle.proof_updates.specs.Beneath.history.specs.declared.calls.Call.TheVariants.{Close, Entries, Count}
-use Rattle.proof_updates.specs.Beneath.history.specs.declared.replies.Reply.{Reply}
+use Rattle.proof_updates.specs.Vocabulary.{Access, Writable, ReadOnly, Call, Close, Entries, Count, Reply, Ref, on_time, Line, Operation, Bounds, Outcome, Step, key_of, is_close, needs_read_only}
+use Rattle.proof_updates.specs.Vocabulary.{State, first_line, begin_denial, Moves, begun_operation, turns, noted_turn, IsRun, Turn, is_placed, Record, noted, moment_at, told_in, Moment}
 use Rattle.proof_updates.specs.Beneath.history.specs.declared.replies.Reply.TheVariants as reply
-use Rattle.proof_updates.specs.Beneath.slot_arena.specs.declared.refs.Ref.{Ref}
-use Rattle.proof_updates.specs.Beneath.places.specs.Places.{on_time}
 use Rattle.proof_updates.specs.Beneath.machine_model.specs.declared.lines.Purpose.TheVariants as purpose
-use Rattle.proof_updates.specs.Beneath.machine_model.specs.declared.lines.Line.{Line}
 use Rattle.proof_updates.specs.Beneath.machine_model.specs.declared.lines.Line.TheVariants as line
-use Rattle.proof_updates.specs.Beneath.machine_model.specs.declared.operations.Operation.{Operation}
-use Rattle.proof_updates.specs.Beneath.machine_model.specs.declared.steps.Bounds.{Bounds}
-use Rattle.proof_updates.specs.Beneath.machine_model.specs.declared.steps.Outcome.{Outcome}
-use Rattle.proof_updates.specs.Beneath.machine_model.specs.declared.steps.Step.{Step}
 use Rattle.proof_updates.specs.Beneath.machine_model.specs.declared.steps.Step.TheVariants as step
-use Rattle.proof_updates.specs.Beneath.machine_model.specs.Calls.{key_of, is_close, needs_read_only}
-use Rattle.proof_updates.specs.Beneath.machine_model.specs.States.{State}
-use Rattle.proof_updates.specs.Beneath.machine_model.specs.Operations.{first_line}
-use Rattle.proof_updates.specs.Beneath.machine_model.specs.Machine.{begin_denial}
-use Rattle.proof_updates.specs.Beneath.machine_model.specs.Moves.{Moves, begun_operation}
-use Rattle.proof_updates.specs.Beneath.machine_model.specs.Times.{turns, noted_turn}
-use Rattle.proof_updates.specs.Beneath.machine_model.specs.Times.{IsRun, Turn}
 use Rattle.proof_updates.specs.Beneath.proof_contents.specs.Tries.{Trie, content}
 use Rattle.proof_updates.specs.Beneath.proof_contents.specs.Steps.{IsTrie}
 use Rattle.proof_updates.specs.Beneath.proof_contents.specs.Runs.{trie_of}
@@ -42,11 +25,8 @@ use Rattle.proof_updates.proofs.Tries.EachOperation.{each_operation}
 use Rattle.proof_updates.proofs.Answers.ReaderRoots.{stood_before}
 use Rattle.proof_updates.proofs.Placed.Swap.{none_next}
 use Rattle.proof_updates.specs.Beneath.proof_commits.proofs.Lines.Reads.{only_end}
-use Rattle.proof_updates.specs.Beneath.machine_model.specs.Records.{is_placed, Record, noted, moment_at}
 use Rattle.proof_updates.specs.Beneath.proof_order.specs.Facts.{Notes}
-use Rattle.proof_updates.specs.Beneath.machine_model.specs.Tellings.{told_in}
 use Rattle.proof_updates.proofs.Answers.Given.{moment_of}
-use Rattle.proof_updates.specs.Beneath.machine_model.specs.declared.records.Moment.{Moment}
 
 -- ---- a begin
 

@@ -1,26 +1,10 @@
 -- Each line of WALK hands on what it knows, and what it answers is right.
 use Rattle.std.proofs.Common.{◌≡◌, ℕ, suc, ◌<◌, true, true≢false, List, ◌++◌, flat_map, Some, inl, refl, sym, ap, subst, ◌∙◌, arith, append-nil}
-use Rattle.proof_updates.specs.Beneath.history.specs.declared.calls.Access.TheVariants.{ReadOnly}
-use Rattle.proof_updates.specs.Beneath.history.specs.declared.replies.Reply.{Reply}
-use Rattle.proof_updates.specs.Beneath.slot_arena.specs.declared.refs.Ref.{Ref}
-use Rattle.proof_updates.specs.Beneath.slot_arena.specs.declared.nodes.Node.{Node}
-use Rattle.proof_updates.specs.Beneath.slot_arena.specs.declared.nodes.Node.TheVariants.{Indirection, Branch, Single, Tomb, List as Listed}
-use Rattle.proof_updates.specs.Beneath.slot_arena.specs.Heaps.{node_at}
-use Rattle.proof_updates.specs.Beneath.machine_model.specs.declared.operations.Operation.{Operation}
-use Rattle.proof_updates.specs.Beneath.machine_model.specs.declared.reading.After.TheVariants.{Gives}
-use Rattle.proof_updates.specs.Beneath.machine_model.specs.declared.reading.Read.{Read}
-use Rattle.proof_updates.specs.Beneath.machine_model.specs.declared.walking.WalkLine.{WalkLine}
+use Rattle.proof_updates.specs.Vocabulary.{ReadOnly, Reply, Ref, Node, Indirection, Branch, Single, Tomb, List as Listed, node_at, Operation, Gives, Read, WalkLine, Line, Bounds, handle_of}
+use Rattle.proof_updates.specs.Vocabulary.{needs_read_only, State, word_at, root_of, read_of, read_step, read_after, walk_after, walk_after_entry, walked_reply, first_of, rest_of, IsRun, node_under}
+use Rattle.proof_updates.specs.Vocabulary.{Record}
 use Rattle.proof_updates.specs.Beneath.machine_model.specs.declared.walking.WalkLine.TheVariants as walk
-use Rattle.proof_updates.specs.Beneath.machine_model.specs.declared.lines.Line.{Line}
 use Rattle.proof_updates.specs.Beneath.machine_model.specs.declared.lines.Line.TheVariants as line
-use Rattle.proof_updates.specs.Beneath.machine_model.specs.declared.steps.Bounds.{Bounds}
-use Rattle.proof_updates.specs.Beneath.machine_model.specs.Calls.{handle_of, needs_read_only}
-use Rattle.proof_updates.specs.Beneath.machine_model.specs.States.{State, word_at, root_of}
-use Rattle.proof_updates.specs.Beneath.machine_model.specs.Operations.{read_of}
-use Rattle.proof_updates.specs.Beneath.machine_model.specs.Reading.{read_step, read_after}
-use Rattle.proof_updates.specs.Beneath.machine_model.specs.Walking.{walk_after, walk_after_entry, walked_reply, first_of, rest_of}
-use Rattle.proof_updates.specs.Beneath.machine_model.specs.Times.{IsRun}
-use Rattle.proof_updates.specs.Beneath.machine_model.specs.Grown.{node_under}
 use Rattle.proof_updates.specs.Beneath.proof_memory.specs.Laws.{IsInUse}
 use Rattle.proof_updates.specs.Beneath.proof_memory.specs.Wants.{AMain, Is, Holds, AnIndirection, meets}
 use Rattle.proof_updates.specs.Beneath.proof_memory.proofs.Claims.Reads.{read_link}
@@ -47,7 +31,6 @@ use Rattle.proof_updates.proofs.Answers.ReaderRoots.{IsRoot, root_stands}
 use Rattle.proof_shape.proofs.Runs.Nodes.{link_known}
 use Rattle.proof_updates.proofs.Answers.WalkSteps.{below, below_main, walked_right, KnowsWalk}
 use Rattle.proof_updates.specs.Beneath.proof_generations.proofs.Falling.Final.{given_for_ever}
-use Rattle.proof_updates.specs.Beneath.machine_model.specs.Records.{Record}
 
 -- a step of an operation that goes on, in the words of the lines
 pub goes_at : (states : ℕ → State) (records : ℕ → Record) (t k : ℕ) (operation : Operation) → OwnStep states records t k operation → GoesAt states records t (suc k) operation

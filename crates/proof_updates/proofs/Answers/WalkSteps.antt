@@ -1,15 +1,7 @@
 -- A walk takes all pairs of its root's content as it is in the end.
 use Rattle.std.proofs.Common.{◌≡◌, ℕ, true, true≢false, List, [], ◌∷◌, ◌++◌, flat_map, sym, ap, ◌∙◌, arith}
-use Rattle.proof_updates.specs.Beneath.history.specs.declared.calls.Access.TheVariants.{ReadOnly}
-use Rattle.proof_updates.specs.Beneath.history.specs.declared.calls.Call.{Call}
-use Rattle.proof_updates.specs.Beneath.history.specs.declared.calls.Call.TheVariants.{Entries, Count}
-use Rattle.proof_updates.specs.Beneath.slot_arena.specs.declared.refs.Ref.{Ref}
-use Rattle.proof_updates.specs.Beneath.slot_arena.specs.declared.nodes.Node.TheVariants.{Indirection}
-use Rattle.proof_updates.specs.Beneath.slot_arena.specs.Heaps.{entries_of}
-use Rattle.proof_updates.specs.Beneath.machine_model.specs.declared.walking.WalkLine.{WalkLine}
+use Rattle.proof_updates.specs.Vocabulary.{ReadOnly, Call, Entries, Count, Ref, Indirection, entries_of, WalkLine, needs_read_only, walked_reply}
 use Rattle.proof_updates.specs.Beneath.machine_model.specs.declared.walking.WalkLine.TheVariants as walk
-use Rattle.proof_updates.specs.Beneath.machine_model.specs.Calls.{needs_read_only}
-use Rattle.proof_updates.specs.Beneath.machine_model.specs.Walking.{walked_reply}
 use Rattle.proof_updates.specs.Beneath.proof_contents.specs.Tries.{Trie, IsShaped, branch, list, tomb, node_in, most_levels}
 use Rattle.proof_updates.specs.Beneath.proof_contents.specs.Steps.{IsTrie}
 use Rattle.proof_updates.specs.Beneath.proof_contents.specs.Pairs.{pairs_from}

@@ -1,11 +1,6 @@
 -- How keys are found by other main nodes and nodes that say the same.
 use Rattle.std.proofs.Common.{◌≡◌, ℕ, zero, suc, cond, slice_index_or, refl, ap, ◌∙◌}
-use Rattle.proof_updates.specs.Beneath.ctrie_base.specs.Paths.{position_of}
-use Rattle.proof_updates.specs.Beneath.slot_arena.specs.declared.refs.Ref.{Ref}
-use Rattle.proof_updates.specs.Beneath.slot_arena.specs.declared.nodes.Node.{Node}
-use Rattle.proof_updates.specs.Beneath.slot_arena.specs.declared.nodes.Node.TheVariants.{Indirection, Branch, Single, Tomb, List as Listed}
-use Rattle.proof_updates.specs.Beneath.slot_arena.specs.Heaps.{no_ref}
-use Rattle.proof_updates.specs.Beneath.nodes.specs.Levels.{flag_of, has_flag}
+use Rattle.proof_updates.specs.Vocabulary.{position_of, Ref, Node, Indirection, Branch, Single, Tomb, List as Listed, no_ref, flag_of, has_flag}
 use Rattle.proof_updates.specs.Beneath.proof_contents.specs.Nodes.Looking.{Absent, look_in, value_by, find_at, value_in}
 use Rattle.proof_updates.specs.Beneath.proof_contents.proofs.Values.Found.{value_by-same}
 use Rattle.proof_shape.specs.Sites.Lines.{bare}

@@ -1,17 +1,11 @@
 -- The laws, for each step that is taken after a list of steps.
 use Rattle.std.proofs.Common.{refl, ◌≡◌, ℕ, suc, cond, List, ◌∷◌, ◌++◌, length, Ok, sym, ap, subst, ◌∙◌, arith, [], ◌<◌, slice_get, Some}
 use Rattle.std.proofs.lemmas.List.{length-append}
-use Rattle.proof_updates.specs.Beneath.machine_model.specs.declared.steps.Bounds.{Bounds}
-use Rattle.proof_updates.specs.Beneath.machine_model.specs.declared.steps.Outcome.{Outcome}
-use Rattle.proof_updates.specs.Beneath.machine_model.specs.declared.steps.Step.{Step}
-use Rattle.proof_updates.specs.Beneath.machine_model.specs.Keys.{KeysFit}
-use Rattle.proof_updates.specs.Beneath.machine_model.specs.Machine.{AreBounds, next, state_after, run, taken_from, taken_steps, is_taken_step}
-use Rattle.proof_updates.specs.Beneath.machine_model.specs.States.{State, first_state}
+use Rattle.proof_updates.specs.Vocabulary.{Bounds, Outcome, Step, KeysFit, AreBounds, next, state_after, run, taken_from, taken_steps, is_taken_step, State, first_state, Moves, IsRun, states_from}
+use Rattle.proof_updates.specs.Vocabulary.{states_of, last_of}
 use Rattle.proof_updates.specs.Beneath.machine_model.proofs.Along.{run_push}
 use Rattle.proof_updates.specs.Beneath.machine_model.proofs.Moves.{moved}
-use Rattle.proof_updates.specs.Beneath.machine_model.specs.Moves.{Moves}
 use Rattle.proof_updates.specs.Beneath.machine_model.proofs.Times.{run_is, run_ends}
-use Rattle.proof_updates.specs.Beneath.machine_model.specs.Times.{IsRun, states_from, states_of, last_of}
 use Rattle.proof_shape.specs.Sites.Nodes.{steps_of}
 use Rattle.proof_shape.specs.Sites.At.{TakesSteps, StepsFit}
 use Rattle.proof_shape.proofs.Sites.Fixed.{keys_fit, states_from-append, taken-append}

@@ -1,14 +1,7 @@
 -- What a handle reaches in the machine's heap is what its root reaches in the trie of the run, and the other way round.
 use Rattle.std.proofs.Common.{◌≡◌, ℕ, ◌≤◌, true, Contains, Some, sym, ap, subst, ◌∙◌}
 use Rattle.std.proofs.lemmas.Option.{same_Some}
-use Rattle.proof_updates.specs.Beneath.slot_arena.specs.declared.refs.Ref.{Ref}
-use Rattle.proof_updates.specs.Beneath.slot_arena.specs.Heaps.{node_at, logical_main}
-use Rattle.proof_updates.specs.Beneath.machine_model.specs.declared.roots.Root.{Root}
-use Rattle.proof_updates.specs.Beneath.machine_model.specs.declared.steps.Bounds.{Bounds}
-use Rattle.proof_updates.specs.Beneath.machine_model.specs.declared.steps.Step.{Step}
-use Rattle.proof_updates.specs.Beneath.machine_model.specs.States.{State, root_at, root_of}
-use Rattle.proof_updates.specs.Beneath.machine_model.specs.Grown.{node_under}
-use Rattle.proof_updates.specs.Beneath.machine_model.specs.Times.{IsRun}
+use Rattle.proof_updates.specs.Vocabulary.{Ref, node_at, logical_main, Root, Bounds, Step, State, root_at, root_of, node_under, IsRun}
 use Rattle.proof_updates.specs.Beneath.proof_memory.specs.Laws.{IsInUse}
 use Rattle.proof_updates.specs.Beneath.proof_memory.specs.Wants.{is_indirection}
 use Rattle.proof_updates.specs.Beneath.proof_generations.proofs.Lines.ReaderKnows.{indirection_is}

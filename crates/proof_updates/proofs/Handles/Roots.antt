@@ -4,25 +4,11 @@ use native.Mathlib.Decide.{ℕ_discrete}
 use Rattle.std.proofs.lemmas.Bool.{cases_lt}
 use Rattle.std.proofs.lemmas.List.{get_or_past, get_or-set_same, length-set}
 use Rattle.std.proofs.lemmas.Option.{none-some, same_Some, some_pair_parts}
-use Rattle.proof_updates.specs.Beneath.history.specs.declared.calls.Access.{Access}
-use Rattle.proof_updates.specs.Beneath.history.specs.declared.calls.Access.TheVariants.{Writable}
-use Rattle.proof_updates.specs.Beneath.history.specs.declared.calls.Call.TheVariants.{Close}
-use Rattle.proof_updates.specs.Beneath.slot_arena.specs.declared.refs.Ref.{Ref}
-use Rattle.proof_updates.specs.Beneath.machine_model.specs.declared.roots.Root.{Root}
-use Rattle.proof_updates.specs.Beneath.machine_model.specs.declared.roots.RootWord.TheVariants.{Plain}
-use Rattle.proof_updates.specs.Beneath.machine_model.specs.declared.roots.Descriptor.{Descriptor}
-use Rattle.proof_updates.specs.Beneath.machine_model.specs.declared.steps.Bounds.{Bounds}
-use Rattle.proof_updates.specs.Beneath.machine_model.specs.declared.steps.Outcome.{Outcome}
-use Rattle.proof_updates.specs.Beneath.machine_model.specs.declared.steps.Step.{Step}
+use Rattle.proof_updates.specs.Vocabulary.{Access, Writable, Close, Ref, Root, Plain, Descriptor, Bounds, Outcome, Step, opened_root, settled, with_begin, State, root_at, root_of, rewritten, Begins}
+use Rattle.proof_updates.specs.Vocabulary.{Ends, Sweeps, Moves, begun_operation, IsRun, noted, told_in}
 use Rattle.proof_updates.specs.Beneath.machine_model.specs.declared.steps.Step.TheVariants as step
-use Rattle.proof_updates.specs.Beneath.machine_model.specs.Acting.{opened_root}
-use Rattle.proof_updates.specs.Beneath.machine_model.specs.Counting.{settled}
-use Rattle.proof_updates.specs.Beneath.machine_model.specs.Machine.{with_begin}
-use Rattle.proof_updates.specs.Beneath.machine_model.specs.States.{State, root_at, root_of, rewritten}
 use Rattle.proof_updates.specs.Beneath.machine_model.proofs.Found.{found_within, found_elsewhere}
-use Rattle.proof_updates.specs.Beneath.machine_model.specs.Moves.{Begins, Goes, Ends, Sweeps}
-use Rattle.proof_updates.specs.Beneath.machine_model.specs.Moves.{Moves, begun_operation}
-use Rattle.proof_updates.specs.Beneath.machine_model.specs.Times.{IsRun}
+use Rattle.proof_updates.specs.Beneath.machine_model.specs.Moves.{Goes}
 use Rattle.proof_order.specs.Facts.{CarriesOut}
 use Rattle.proof_order.proofs.Views.Changes.{footing_of, footing, roots_swapped}
 use Rattle.proof_order.proofs.Views.EachStep.{Changes, quiet, ends, closes, swaps, changes}
@@ -33,8 +19,6 @@ use Rattle.proof_order.specs.Openings.{IsSwap}
 use Rattle.proof_order.proofs.Openings.Carried as Carried
 use Rattle.proof_order.proofs.Openings.SwapState.{swapped, unopened, offerer, offers}
 use Rattle.proof_updates.specs.Beneath.proof_order.specs.Facts.{Notes}
-use Rattle.proof_updates.specs.Beneath.machine_model.specs.Records.{noted}
-use Rattle.proof_updates.specs.Beneath.machine_model.specs.Tellings.{told_in}
 
 -- the handle is open over this root, and of this kind
 pub record StandsOver (state : State) (handle : ℕ) (access : Access) (r : Ref) : Type 0 where

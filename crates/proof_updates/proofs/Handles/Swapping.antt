@@ -2,22 +2,8 @@
 use Rattle.std.proofs.Common.{◌≡◌, ℕ, suc, List, [], ◌∷◌, length, Option, Some, None, nat_cmp, refl, sym, ap, ◌∙◌, subst, arith}
 use Rattle.std.proofs.lemmas.Option.{none-some}
 use Rattle.std.specs.FinMap as map
-use Rattle.proof_updates.specs.Beneath.ctrie_base.specs.Hashes.{hash_of}
-use Rattle.proof_updates.specs.Beneath.history.specs.declared.calls.Access.TheVariants.{Writable, ReadOnly}
-use Rattle.proof_updates.specs.Beneath.history.specs.declared.calls.Call.{Call}
-use Rattle.proof_updates.specs.Beneath.history.specs.declared.calls.Call.TheVariants.{Clear, Snapshot, Freeze}
-use Rattle.proof_updates.specs.Beneath.slot_arena.specs.declared.refs.Ref.{Ref}
-use Rattle.proof_updates.specs.Beneath.machine_model.specs.declared.roots.Descriptor.{Descriptor}
-use Rattle.proof_updates.specs.Beneath.machine_model.specs.declared.roots.Root.{Root}
-use Rattle.proof_updates.specs.Beneath.machine_model.specs.declared.steps.Bounds.{Bounds}
-use Rattle.proof_updates.specs.Beneath.machine_model.specs.declared.steps.Outcome.{Outcome}
-use Rattle.proof_updates.specs.Beneath.machine_model.specs.declared.steps.Step.{Step}
-use Rattle.proof_updates.specs.Beneath.machine_model.specs.Acting.{opened_root}
-use Rattle.proof_updates.specs.Beneath.machine_model.specs.Contents.{content_at}
-use Rattle.proof_updates.specs.Beneath.machine_model.specs.States.{State, root_at, root_of}
-use Rattle.proof_updates.specs.Beneath.machine_model.specs.Moves.{Moves}
-use Rattle.proof_updates.specs.Beneath.machine_model.specs.Times.{IsRun}
-use Rattle.proof_updates.specs.Beneath.nodes.specs.Levels.{flag_of}
+use Rattle.proof_updates.specs.Vocabulary.{hash_of, Writable, ReadOnly, Call, Clear, Snapshot, Freeze, Ref, Descriptor, Root, Bounds, Outcome, Step, opened_root, content_at, State, root_at, root_of}
+use Rattle.proof_updates.specs.Vocabulary.{Moves, IsRun, flag_of}
 use Rattle.proof_updates.specs.Beneath.proof_contents.specs.Nodes.Looking.{value_by, value_in, find_at}
 use Rattle.proof_updates.specs.Beneath.proof_contents.specs.Runs.{counting_main}
 use Rattle.proof_updates.specs.Beneath.proof_contents.specs.Tries.{Trie, map_of, put_value}

@@ -1,18 +1,9 @@
 -- An own update, seen from any root that leads to its indirection: a trie of the two states before and after it, without generations, in which this root is that
 -- of the only generation.
 use Rattle.std.proofs.Common.{◌≡◌, ℕ, zero, suc, ◌<◌, ◌==◌, Bool, true, false, cond, Contains, Option, Some, refl, sym, ap, subst, ◌∙◌, arith}
-use Rattle.proof_updates.specs.Beneath.ctrie_base.specs.Hashes.{hash_of}
-use Rattle.proof_updates.specs.Beneath.ctrie_base.specs.declared.hashes.HashKind.{HashKind}
-use Rattle.proof_updates.specs.Beneath.history.specs.declared.calls.Access.TheVariants.{Writable}
-use Rattle.proof_updates.specs.Beneath.history.specs.declared.calls.Call.{Call}
-use Rattle.proof_updates.specs.Beneath.slot_arena.specs.declared.refs.Ref.{Ref}
-use Rattle.proof_updates.specs.Beneath.slot_arena.specs.declared.nodes.Node.{Node}
-use Rattle.proof_updates.specs.Beneath.slot_arena.specs.declared.nodes.Node.TheVariants.{Indirection}
-use Rattle.proof_updates.specs.Beneath.slot_arena.specs.Heaps.{no_ref}
-use Rattle.proof_updates.specs.Beneath.nodes.specs.Builders.{pair}
+use Rattle.proof_updates.specs.Vocabulary.{hash_of, HashKind, Writable, Call, Ref, Node, Indirection, no_ref, pair, key_of, changed_reply}
 use Rattle.proof_updates.specs.Beneath.proof_contents.specs.Nodes.Chains.{LeadsToPair, at_pair, by_rung}
 use Rattle.proof_updates.specs.Beneath.proof_contents.specs.Nodes.Looking.{find_at}
-use Rattle.proof_updates.specs.Beneath.machine_model.specs.Calls.{key_of, changed_reply}
 use Rattle.proof_updates.specs.Beneath.proof_contents.specs.Effects.{act_in}
 use Rattle.proof_updates.specs.Beneath.proof_contents.specs.Tries.{Trie, generation, node_in, assigned, value_at, content, map_of, IsShaped, most_levels}
 use Rattle.proof_updates.specs.Beneath.proof_contents.specs.Steps.{IsTrie, Updates, Does, an_update, IsOwnUpdate, branch_inserts, branch_updates, branch_removes, branch_entombs}

@@ -2,22 +2,7 @@
 use Rattle.std.proofs.Common.{◌≡◌, ℕ, suc, true, List, Option, Some, refl, sym, ap, subst, ◌∙◌, arith}
 use native.Mathlib.Decide.{ℕ_discrete}
 use Rattle.std.specs.FinMap.{entries}
-use Rattle.proof_updates.specs.Beneath.ctrie_base.specs.Hashes.{hash_of}
-use Rattle.proof_updates.specs.Beneath.history.specs.declared.calls.Access.TheVariants.{Writable}
-use Rattle.proof_updates.specs.Beneath.history.specs.declared.calls.Call.{Call}
-use Rattle.proof_updates.specs.Beneath.history.specs.declared.calls.Call.TheVariants.{Get}
-use Rattle.proof_updates.specs.Beneath.history.specs.Changes.{change_in}
-use Rattle.proof_updates.specs.Beneath.history.specs.Worlds.{KeyMap}
-use Rattle.proof_updates.specs.Beneath.slot_arena.specs.declared.refs.Ref.{Ref}
-use Rattle.proof_updates.specs.Beneath.machine_model.specs.declared.roots.Root.{Root}
-use Rattle.proof_updates.specs.Beneath.machine_model.specs.declared.steps.Bounds.{Bounds}
-use Rattle.proof_updates.specs.Beneath.machine_model.specs.declared.steps.Outcome.{Outcome}
-use Rattle.proof_updates.specs.Beneath.machine_model.specs.declared.steps.Step.{Step}
-use Rattle.proof_updates.specs.Beneath.machine_model.specs.Calls.{changed_reply}
-use Rattle.proof_updates.specs.Beneath.machine_model.specs.States.{State, root_at, root_of}
-use Rattle.proof_updates.specs.Beneath.machine_model.specs.Grown.{node_under}
-use Rattle.proof_updates.specs.Beneath.machine_model.specs.Moves.{Moves}
-use Rattle.proof_updates.specs.Beneath.machine_model.specs.Times.{IsRun}
+use Rattle.proof_updates.specs.Vocabulary.{hash_of, Writable, Call, Get, change_in, KeyMap, Ref, Root, Bounds, Outcome, Step, changed_reply, State, root_at, root_of, node_under, Moves, IsRun}
 use Rattle.proof_updates.specs.Beneath.proof_memory.specs.Laws.{IsInUse}
 use Rattle.proof_updates.specs.Beneath.proof_memory.specs.Wants.{AnIndirection, Is, Holds as Claims, AllHold, is_indirection, line_wants}
 use Rattle.proof_updates.specs.Beneath.proof_memory.proofs.Safety.AtTimes.{line_at}

@@ -1,7 +1,6 @@
 -- The values of keys below a root, before the last step of a trie and after it.
 use Rattle.std.proofs.Common.{◌≡◌, ℕ, suc, ◌<◌, ◌==◌, Bool, true, false, cond, Option, refl, sym, ap, ◌∙◌, arith}
-use Rattle.proof_updates.specs.Beneath.ctrie_base.specs.Hashes.{hash_of}
-use Rattle.proof_updates.specs.Beneath.slot_arena.specs.declared.refs.Ref.{Ref}
+use Rattle.proof_updates.specs.Vocabulary.{hash_of, Ref}
 use Rattle.proof_updates.specs.Beneath.proof_contents.specs.Nodes.Looking.{find_at}
 use Rattle.proof_updates.specs.Beneath.proof_contents.proofs.Nodes.Branches.{differ}
 use Rattle.proof_updates.specs.Beneath.proof_contents.specs.Tries.{Trie, generation, node_in, assigned, most_levels}

@@ -1,11 +1,6 @@
 -- The ways from a root down through the main nodes before a step: which keys they lead to, and what is found where they miss the indirection that is changed.
 use Rattle.std.proofs.Common.{◌≡◌, ℕ, zero, suc, ◌*◌, ◌%◌, ◌^◌, List, [], ◌∷◌, Contains, ◌<◌, Option, Some, None, refl, sym, ap, subst, ◌∙◌, arith}
-use Rattle.proof_updates.specs.Beneath.ctrie_base.specs.Hashes.{hash_of}
-use Rattle.proof_updates.specs.Beneath.slot_arena.specs.declared.refs.Ref.{Ref}
-use Rattle.proof_updates.specs.Beneath.slot_arena.specs.declared.nodes.Node.{Node}
-use Rattle.proof_updates.specs.Beneath.slot_arena.specs.declared.nodes.Node.TheVariants.{Indirection, Single}
-use Rattle.proof_updates.specs.Beneath.slot_arena.specs.Heaps.{entries_of}
-use Rattle.proof_updates.specs.Beneath.nodes.specs.Levels.{index_in}
+use Rattle.proof_updates.specs.Vocabulary.{hash_of, Ref, Node, Indirection, Single, entries_of, index_in}
 use Rattle.proof_updates.specs.Beneath.proof_contents.specs.Nodes.Branches.{standing, at_place}
 use Rattle.proof_updates.specs.Beneath.proof_contents.specs.Nodes.Lists.{AreSingles}
 use Rattle.proof_updates.specs.Beneath.proof_contents.specs.Nodes.Looking.{Absent, Below, find_at, value_in}

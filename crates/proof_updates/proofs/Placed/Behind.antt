@@ -1,46 +1,19 @@
 -- On which lines an operation has its place, and what it may be about to answer: that no slot was free, the reply of what has its place, or a reply that is
 -- right.
 use Rattle.std.proofs.Common.{◌≡◌, ℕ, ◌-◌, List, true, false, true≢false, Bool, Option, sym, arith}
-use Rattle.proof_updates.specs.Beneath.history.specs.declared.replies.Reply.{Reply}
+use Rattle.proof_updates.specs.Vocabulary.{Reply, Ref, Node, node_at, entry_at, next_ref, BuildLine, CopyLine, KeyLine, After, Read, Climb, CleanLine, ClimbLine, RenewLine, WalkLine, SwapLine}
+use Rattle.proof_updates.specs.Vocabulary.{RootLine, Line, Operation, State, word_at, handle_of, read_step, root_after, build_after, clean_after, climb_after_read, climb_after_main}
+use Rattle.proof_updates.specs.Vocabulary.{climb_after_contracted, climb_after_root, climb_after, copy_after, key_after_read, key_after_main, key_after_entry, after_listed, after_sibling, key_after}
+use Rattle.proof_updates.specs.Vocabulary.{renew_after, line_after, after_update, swapped, prev_word, is_placed, Record}
 use Rattle.proof_updates.specs.Beneath.history.specs.declared.replies.Reply.TheVariants as reply
-use Rattle.proof_updates.specs.Beneath.slot_arena.specs.declared.refs.Ref.{Ref}
-use Rattle.proof_updates.specs.Beneath.slot_arena.specs.declared.nodes.Node.{Node}
-use Rattle.proof_updates.specs.Beneath.slot_arena.specs.Heaps.{node_at, entry_at, next_ref}
 use Rattle.proof_updates.specs.Beneath.slot_arena.specs.declared.nodes.Prev.TheVariants as prev
-use Rattle.proof_updates.specs.Beneath.machine_model.specs.declared.building.BuildLine.{BuildLine}
-use Rattle.proof_updates.specs.Beneath.machine_model.specs.declared.copying.CopyLine.{CopyLine}
-use Rattle.proof_updates.specs.Beneath.machine_model.specs.declared.finding.KeyLine.{KeyLine}
 use Rattle.proof_updates.specs.Beneath.machine_model.specs.declared.finding.KeyLine.TheVariants as key
-use Rattle.proof_updates.specs.Beneath.machine_model.specs.declared.reading.After.{After}
-use Rattle.proof_updates.specs.Beneath.machine_model.specs.declared.reading.Read.{Read}
-use Rattle.proof_updates.specs.Beneath.machine_model.specs.declared.repairs.Climb.{Climb}
-use Rattle.proof_updates.specs.Beneath.machine_model.specs.declared.repairs.CleanLine.{CleanLine}
-use Rattle.proof_updates.specs.Beneath.machine_model.specs.declared.repairs.ClimbLine.{ClimbLine}
 use Rattle.proof_updates.specs.Beneath.machine_model.specs.declared.repairs.ClimbLine.TheVariants as climb
-use Rattle.proof_updates.specs.Beneath.machine_model.specs.declared.repairs.RenewLine.{RenewLine}
-use Rattle.proof_updates.specs.Beneath.machine_model.specs.declared.walking.WalkLine.{WalkLine}
-use Rattle.proof_updates.specs.Beneath.machine_model.specs.declared.reading.SwapLine.{SwapLine}
 use Rattle.proof_updates.specs.Beneath.machine_model.specs.declared.reading.SwapLine.TheVariants as swap
-use Rattle.proof_updates.specs.Beneath.machine_model.specs.declared.roots.RootLine.{RootLine}
 use Rattle.proof_updates.specs.Beneath.machine_model.specs.declared.copying.CopyLine.TheVariants as copy
 use Rattle.proof_updates.specs.Beneath.machine_model.specs.declared.lines.Purpose.TheVariants as purpose
-use Rattle.proof_updates.specs.Beneath.machine_model.specs.declared.lines.Line.{Line}
 use Rattle.proof_updates.specs.Beneath.machine_model.specs.declared.lines.Line.TheVariants as line
-use Rattle.proof_updates.specs.Beneath.machine_model.specs.declared.operations.Operation.{Operation}
-use Rattle.proof_updates.specs.Beneath.machine_model.specs.States.{State, word_at}
-use Rattle.proof_updates.specs.Beneath.machine_model.specs.Calls.{handle_of}
-use Rattle.proof_updates.specs.Beneath.machine_model.specs.Reading.{read_step}
-use Rattle.proof_updates.specs.Beneath.machine_model.specs.Swapping.{root_after}
-use Rattle.proof_updates.specs.Beneath.machine_model.specs.Building.{build_after}
-use Rattle.proof_updates.specs.Beneath.machine_model.specs.Cleaning.{clean_after}
-use Rattle.proof_updates.specs.Beneath.machine_model.specs.Climbing.{climb_after_read, climb_after_main, climb_after_contracted, climb_after_root, climb_after}
-use Rattle.proof_updates.specs.Beneath.machine_model.specs.Copying.{copy_after}
-use Rattle.proof_updates.specs.Beneath.machine_model.specs.Finding.{key_after_read, key_after_main, key_after_entry, after_listed, after_sibling, key_after}
-use Rattle.proof_updates.specs.Beneath.machine_model.specs.Renewing.{renew_after}
-use Rattle.proof_updates.specs.Beneath.machine_model.specs.Operations.{line_after, after_update, swapped}
-use Rattle.proof_updates.specs.Beneath.machine_model.specs.Grown.{prev_word}
 use Rattle.proof_order.specs.Phases.{IsPublished}
-use Rattle.proof_updates.specs.Beneath.machine_model.specs.Records.{is_placed, Record}
 
 -- ---- what an answer may be
 

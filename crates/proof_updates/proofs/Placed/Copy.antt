@@ -1,36 +1,19 @@
 -- Behind COPY: an offer that was carried out has brought its operation a place.
 use Rattle.std.proofs.Common.{◌≡◌, ℕ, suc, ◌<◌, Bool, true, false, cond, refl, sym, ap, subst, ◌∙◌, arith}
-use Rattle.proof_updates.specs.Beneath.history.specs.declared.replies.Reply.{Reply}
-use Rattle.proof_updates.specs.Beneath.slot_arena.specs.declared.refs.Ref.{Ref}
+use Rattle.proof_updates.specs.Vocabulary.{Reply, Ref, CopyLine, WalkLine, Line, Operation, After, Gives, Complete, CompleteLine, ReadLine, new_try, Bounds, handle_of, State, word_at, read_after}
+use Rattle.proof_updates.specs.Vocabulary.{complete_action_at, complete_after, after_complete, after_reading, of_offer, is_carried_out, copied_reply, copy_after, copy_after_complete, action_of}
+use Rattle.proof_updates.specs.Vocabulary.{line_action, IsRun, is_placed}
 use Rattle.proof_updates.specs.Beneath.machine_model.specs.declared.actions.Action.TheVariants as act
-use Rattle.proof_updates.specs.Beneath.machine_model.specs.declared.copying.CopyLine.{CopyLine}
 use Rattle.proof_updates.specs.Beneath.machine_model.specs.declared.copying.CopyLine.TheVariants as copy
-use Rattle.proof_updates.specs.Beneath.machine_model.specs.declared.walking.WalkLine.{WalkLine}
-use Rattle.proof_updates.specs.Beneath.machine_model.specs.declared.lines.Line.{Line}
 use Rattle.proof_updates.specs.Beneath.machine_model.specs.declared.lines.Line.TheVariants as line
-use Rattle.proof_updates.specs.Beneath.machine_model.specs.declared.operations.Operation.{Operation}
-use Rattle.proof_updates.specs.Beneath.machine_model.specs.declared.reading.After.{After}
-use Rattle.proof_updates.specs.Beneath.machine_model.specs.declared.reading.After.TheVariants.{Goes, Gives}
-use Rattle.proof_updates.specs.Beneath.machine_model.specs.declared.roots.Complete.{Complete}
-use Rattle.proof_updates.specs.Beneath.machine_model.specs.declared.roots.CompleteLine.{CompleteLine}
+use Rattle.proof_updates.specs.Beneath.machine_model.specs.declared.reading.After.TheVariants.{Goes}
 use Rattle.proof_updates.specs.Beneath.machine_model.specs.declared.roots.CompleteLine.TheVariants as complete
-use Rattle.proof_updates.specs.Beneath.machine_model.specs.declared.reading.ReadLine.{ReadLine}
-use Rattle.proof_updates.specs.Beneath.machine_model.specs.Lines.{new_try}
-use Rattle.proof_updates.specs.Beneath.machine_model.specs.declared.steps.Bounds.{Bounds}
 use Rattle.proof_updates.specs.Beneath.machine_model.specs.declared.steps.Step.TheVariants as step
-use Rattle.proof_updates.specs.Beneath.machine_model.specs.Calls.{handle_of}
-use Rattle.proof_updates.specs.Beneath.machine_model.specs.States.{State, word_at}
-use Rattle.proof_updates.specs.Beneath.machine_model.specs.Reading.{read_after}
-use Rattle.proof_updates.specs.Beneath.machine_model.specs.Swapping.{complete_action_at, complete_after, after_complete, after_reading, of_offer, is_carried_out}
-use Rattle.proof_updates.specs.Beneath.machine_model.specs.Copying.{copied_reply, copy_after, copy_after_complete}
-use Rattle.proof_updates.specs.Beneath.machine_model.specs.Operations.{action_of, line_action}
-use Rattle.proof_updates.specs.Beneath.machine_model.specs.Times.{IsRun}
 use Rattle.proof_updates.specs.Beneath.proof_generations.proofs.Lines.Copy.{LineFits}
 use Rattle.proof_order.proofs.Offers.Standing.{offers_at}
 use Rattle.proof_updates.proofs.Placed.Behind.{has_place, Behind, plain_behind, copy_plain}
 use Rattle.proof_updates.proofs.Tries.EachOperation.{OwnStep, own_notes}
 use Rattle.proof_updates.proofs.Placed.Placing.{carried_placed, marked_placed, still}
-use Rattle.proof_updates.specs.Beneath.machine_model.specs.Records.{is_placed}
 
 module _ (limits : Bounds) (states : ℕ → State) (last : ℕ) (run : IsRun limits states last) (t k : ℕ) (lt : t < last) (operation : Operation) (own : OwnStep states run.records t k operation)
     (Right : Reply → Type 0) (Walks : WalkLine → Type 0) where

@@ -1,19 +1,11 @@
 -- Behind the commit of its own change of its key an operation has its place.
 use Rattle.std.proofs.Common.{◌≡◌, ℕ, suc, ◌<◌, ◌==◌, Bool, true, false, [], ◌∷◌, ◌++◌, inl, refl, sym, ap, subst, ◌∙◌, arith, eqb-true}
 use Rattle.std.proofs.lemmas.Option.{same_Some}
-use Rattle.proof_updates.specs.Beneath.slot_arena.specs.declared.refs.Ref.{Ref}
+use Rattle.proof_updates.specs.Vocabulary.{Ref, Operation, ReadLine, Bounds, Outcome, Step, State, operation_of, Moves, IsRun, is_placed, place_of, closing_for, noted, entrant_of, told_in}
 use Rattle.proof_updates.specs.Beneath.proof_contents.proofs.Nodes.Branches.{differ}
 use Rattle.proof_updates.specs.Beneath.machine_model.specs.declared.lines.Purpose.TheVariants as purpose
 use Rattle.proof_updates.specs.Beneath.machine_model.specs.declared.lines.Line.TheVariants as line
-use Rattle.proof_updates.specs.Beneath.machine_model.specs.declared.operations.Operation.{Operation}
-use Rattle.proof_updates.specs.Beneath.machine_model.specs.declared.reading.ReadLine.{ReadLine}
 use Rattle.proof_updates.specs.Beneath.machine_model.specs.declared.reading.SwapLine.TheVariants as swap
-use Rattle.proof_updates.specs.Beneath.machine_model.specs.declared.steps.Bounds.{Bounds}
-use Rattle.proof_updates.specs.Beneath.machine_model.specs.declared.steps.Outcome.{Outcome}
-use Rattle.proof_updates.specs.Beneath.machine_model.specs.declared.steps.Step.{Step}
-use Rattle.proof_updates.specs.Beneath.machine_model.specs.States.{State, operation_of}
-use Rattle.proof_updates.specs.Beneath.machine_model.specs.Moves.{Moves}
-use Rattle.proof_updates.specs.Beneath.machine_model.specs.Times.{IsRun}
 use Rattle.proof_updates.specs.Beneath.proof_commits.specs.Protocol.{Decides, CommitsNode, Protocol}
 use Rattle.proof_updates.specs.Beneath.proof_commits.proofs.Words.Stood.{none≢pending}
 use Rattle.proof_updates.specs.Beneath.proof_commits.proofs.Known.Owners.{Staged}
@@ -35,9 +27,7 @@ use Rattle.proof_shape.proofs.Commits.Was.{main_linked, commit_is}
 use Rattle.proof_updates.proofs.Tries.Facts.{own_enters}
 use Rattle.proof_updates.specs.Beneath.proof_commits.proofs.Known.Acts.{known_run}
 use Rattle.proof_shape.proofs.Held.Commits.{fresh_commits_at}
-use Rattle.proof_updates.specs.Beneath.machine_model.specs.Records.{is_placed, place_of, closing_for, noted}
 use Rattle.proof_updates.specs.Beneath.proof_order.specs.Facts.{Notes}
-use Rattle.proof_updates.specs.Beneath.machine_model.specs.Tellings.{entrant_of, told_in}
 
 -- whom a step enters among others has a place behind it
 entered_placed : (limits : Bounds) (states : ℕ → State) (last : ℕ) (run : IsRun limits states last) → (t : ℕ) → t < last → (s : Step) (o : Outcome) →

@@ -1,23 +1,11 @@
 -- What has its place: an operation whose offer was carried out, and one whose own change of its key is committed.
 use Rattle.std.proofs.Common.{◌≡◌, ℕ, suc, ◌≤◌, true, false, ◌∷◌, ◌++◌, ◌⊎◌, inl, inr, Some, refl, sym, ap, subst, ◌∙◌, []}
 use Rattle.std.proofs.lemmas.Bool.{false≢true}
-use Rattle.proof_updates.specs.Beneath.slot_arena.specs.declared.refs.Ref.{Ref}
-use Rattle.proof_updates.specs.Beneath.places.specs.Places.{on_time}
+use Rattle.proof_updates.specs.Vocabulary.{Ref, on_time, Operation, Descriptor, Bounds, Outcome, Step, handle_of, State, word_at, is_carried_out, action_of, Moves, GoesOn, turns, noted_turn, IsRun}
+use Rattle.proof_updates.specs.Vocabulary.{Turn, is_placed, Record, noted, noted_progress, placed_by, entered, committed_now, told_in, progress_of, carried_by, generation_at, operation_after}
 use Rattle.proof_updates.specs.Beneath.machine_model.specs.declared.actions.Action.TheVariants as act
-use Rattle.proof_updates.specs.Beneath.machine_model.specs.declared.operations.Operation.{Operation}
-use Rattle.proof_updates.specs.Beneath.machine_model.specs.declared.roots.Descriptor.{Descriptor}
-use Rattle.proof_updates.specs.Beneath.machine_model.specs.declared.steps.Bounds.{Bounds}
-use Rattle.proof_updates.specs.Beneath.machine_model.specs.declared.steps.Outcome.{Outcome}
-use Rattle.proof_updates.specs.Beneath.machine_model.specs.declared.steps.Step.{Step}
-use Rattle.proof_updates.specs.Beneath.machine_model.specs.Calls.{handle_of}
-use Rattle.proof_updates.specs.Beneath.machine_model.specs.States.{State, word_at}
-use Rattle.proof_updates.specs.Beneath.machine_model.specs.Swapping.{is_carried_out}
-use Rattle.proof_updates.specs.Beneath.machine_model.specs.Operations.{action_of}
 use Rattle.proof_updates.specs.Beneath.machine_model.proofs.Actors.{mark_only, marks_in, marks_by}
-use Rattle.proof_updates.specs.Beneath.machine_model.specs.Moves.{Moves, GoesOn}
 use Rattle.proof_updates.specs.Beneath.machine_model.proofs.Times.{along_run}
-use Rattle.proof_updates.specs.Beneath.machine_model.specs.Times.{turns, noted_turn}
-use Rattle.proof_updates.specs.Beneath.machine_model.specs.Times.{IsRun, Turn}
 use Rattle.proof_order.specs.Facts.{Runs}
 use Rattle.proof_updates.specs.Beneath.history.proofs.Among.{Among, among_right}
 use Rattle.proof_order.proofs.Views.Changes.{carries_some}
@@ -26,12 +14,8 @@ use Rattle.proof_order.proofs.History.OneStep.{From, began, kept, stepped, from}
 use Rattle.proof_order.proofs.History.Copies.{own_marks, marked_or, marked_before}
 use Rattle.proof_order.proofs.Phases.Steps.{is_placed_so}
 use Rattle.proof_order.proofs.Phases.Closers.{still_placed}
-use Rattle.proof_updates.specs.Beneath.machine_model.specs.Records.{is_placed, Record, noted, noted_progress, placed_by, entered}
-use Rattle.proof_updates.specs.Beneath.machine_model.specs.Tellings.{committed_now, told_in, progress_of, carried_by}
 use Rattle.proof_updates.specs.Beneath.proof_order.specs.Facts.{Notes}
 use Rattle.proof_updates.specs.Beneath.machine_model.proofs.Notes.{noted_going}
-use Rattle.proof_updates.specs.Beneath.slot_arena.specs.Heaps.{generation_at}
-use Rattle.proof_updates.specs.Beneath.machine_model.specs.Acting.{operation_after}
 
 -- ---- a place stays
 

@@ -1,35 +1,17 @@
 -- Behind the SWAP of its own change of its key an operation has its place.
 use Rattle.std.proofs.Common.{◌≡◌, ℕ, suc, ◌<◌, ◌==◌, Bool, true, false, List, Option, refl, sym, ap, subst, ◌∙◌, arith}
-use Rattle.proof_updates.specs.Beneath.history.specs.declared.replies.Reply.{Reply}
-use Rattle.proof_updates.specs.Beneath.slot_arena.specs.declared.refs.Ref.{Ref}
-use Rattle.proof_updates.specs.Beneath.slot_arena.specs.declared.nodes.Prev.{Prev}
+use Rattle.proof_updates.specs.Vocabulary.{Reply, Ref, Prev, node_at, main_at, prev_at, prev_of, WalkLine, Purpose, Line, Operation, After, Gives, ReadLine, Swap, SwapLine, Bounds, Outcome, Step}
+use Rattle.proof_updates.specs.Vocabulary.{handle_of, State, word_at, read_after, swap_after, after_publish, after_deciding, after_check, on_line, action_of, line_action, Moves, IsRun, grown}
+use Rattle.proof_updates.specs.Vocabulary.{prev_word, is_placed}
 use Rattle.proof_updates.specs.Beneath.slot_arena.specs.declared.nodes.Prev.TheVariants as prev
-use Rattle.proof_updates.specs.Beneath.slot_arena.specs.Heaps.{node_at, main_at, prev_at, prev_of}
 use Rattle.proof_updates.specs.Beneath.machine_model.specs.declared.actions.Action.TheVariants as act
-use Rattle.proof_updates.specs.Beneath.machine_model.specs.declared.walking.WalkLine.{WalkLine}
-use Rattle.proof_updates.specs.Beneath.machine_model.specs.declared.lines.Purpose.{Purpose}
 use Rattle.proof_updates.specs.Beneath.machine_model.specs.declared.lines.Purpose.TheVariants as purpose
-use Rattle.proof_updates.specs.Beneath.machine_model.specs.declared.lines.Line.{Line}
 use Rattle.proof_updates.specs.Beneath.machine_model.specs.declared.lines.Line.TheVariants as line
-use Rattle.proof_updates.specs.Beneath.machine_model.specs.declared.operations.Operation.{Operation}
-use Rattle.proof_updates.specs.Beneath.machine_model.specs.declared.reading.After.{After}
-use Rattle.proof_updates.specs.Beneath.machine_model.specs.declared.reading.After.TheVariants.{Goes, Gives}
-use Rattle.proof_updates.specs.Beneath.machine_model.specs.declared.reading.ReadLine.{ReadLine}
-use Rattle.proof_updates.specs.Beneath.machine_model.specs.declared.reading.Swap.{Swap}
-use Rattle.proof_updates.specs.Beneath.machine_model.specs.declared.reading.SwapLine.{SwapLine}
+use Rattle.proof_updates.specs.Beneath.machine_model.specs.declared.reading.After.TheVariants.{Goes}
 use Rattle.proof_updates.specs.Beneath.machine_model.specs.declared.reading.SwapLine.TheVariants as swap
-use Rattle.proof_updates.specs.Beneath.machine_model.specs.declared.steps.Bounds.{Bounds}
-use Rattle.proof_updates.specs.Beneath.machine_model.specs.declared.steps.Outcome.{Outcome}
-use Rattle.proof_updates.specs.Beneath.machine_model.specs.declared.steps.Step.{Step}
-use Rattle.proof_updates.specs.Beneath.machine_model.specs.Calls.{handle_of}
-use Rattle.proof_updates.specs.Beneath.machine_model.specs.States.{State, word_at}
-use Rattle.proof_updates.specs.Beneath.machine_model.specs.Reading.{read_after}
 use Rattle.proof_updates.specs.Beneath.machine_model.specs.declared.steps.Step.TheVariants as step
-use Rattle.proof_updates.specs.Beneath.machine_model.specs.Swapping.{after_swap as swap_on, swap_after, after_publish, after_deciding, after_check, on_line}
-use Rattle.proof_updates.specs.Beneath.machine_model.specs.Operations.{action_of, line_action, after_swap}
-use Rattle.proof_updates.specs.Beneath.machine_model.specs.Moves.{Moves}
-use Rattle.proof_updates.specs.Beneath.machine_model.specs.Times.{IsRun}
-use Rattle.proof_updates.specs.Beneath.machine_model.specs.Grown.{grown, prev_word}
+use Rattle.proof_updates.specs.Beneath.machine_model.specs.Swapping.{after_swap as swap_on}
+use Rattle.proof_updates.specs.Beneath.machine_model.specs.Operations.{after_swap}
 use Rattle.proof_updates.specs.Beneath.proof_commits.specs.Protocol.{Protocol}
 use Rattle.proof_updates.specs.Beneath.proof_commits.proofs.Words.Stood.{none≢pending}
 use Rattle.proof_updates.specs.Beneath.proof_commits.proofs.Words.Effects.{GoesOn, StaysPending, GetsCommitted, GetsFailed, goes_on}
@@ -49,7 +31,6 @@ use Rattle.proof_updates.proofs.Tries.EachOperation.{OwnStep, own_notes}
 use Rattle.proof_updates.proofs.Placed.Own.{commit_places}
 use Rattle.proof_updates.specs.Beneath.proof_commits.proofs.Known.Acts.{known_run}
 use Rattle.proof_updates.specs.Beneath.machine_model.proofs.Basics.{none≢failed}
-use Rattle.proof_updates.specs.Beneath.machine_model.specs.Records.{is_placed}
 use Rattle.proof_updates.proofs.Placed.Placing.{still}
 use Rattle.proof_updates.specs.Beneath.proof_order.specs.Facts.{Notes}
 

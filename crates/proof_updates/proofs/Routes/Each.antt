@@ -2,41 +2,16 @@
 use Rattle.std.proofs.Common.{◌≡◌, ℕ, suc, ◌-◌, ◌<◌, ◌≤◌, nat_eq, true, cond, List, length, slice_index_or, Some, inl, refl, sym, ap, subst, ◌∙◌, arith, eqb-true, true≢false, None}
 use Rattle.std.specs.Option.{option_eq}
 use Rattle.std.proofs.lemmas.Option.{none-some, same_Some}
-use Rattle.proof_updates.specs.Beneath.ctrie_base.specs.Hashes.{hash_of}
-use Rattle.proof_updates.specs.Beneath.ctrie_base.specs.Paths.{position_of}
-use Rattle.proof_updates.specs.Beneath.history.specs.declared.calls.Access.{Access}
-use Rattle.proof_updates.specs.Beneath.history.specs.declared.calls.Access.TheVariants.{Writable, ReadOnly}
-use Rattle.proof_updates.specs.Beneath.history.specs.declared.calls.Call.{Call}
-use Rattle.proof_updates.specs.Beneath.history.specs.declared.calls.Call.TheVariants.{Clear, Snapshot, Freeze}
-use Rattle.proof_updates.specs.Beneath.slot_arena.specs.declared.refs.Ref.{Ref}
-use Rattle.proof_updates.specs.Beneath.slot_arena.specs.declared.nodes.Node.TheVariants.{Indirection, Branch, Single, Tomb, List as Listed}
-use Rattle.proof_updates.specs.Beneath.slot_arena.specs.Heaps.{node_at, entry_at, entries_of, no_ref, generation_of, generation_at}
-use Rattle.proof_updates.specs.Beneath.slot_arena.specs.declared.nodes.Node.{Node}
-use Rattle.proof_updates.specs.Beneath.nodes.specs.Levels.{flag_of}
+use Rattle.proof_updates.specs.Vocabulary.{hash_of, position_of, Access, Writable, ReadOnly, Call, Clear, Snapshot, Freeze, Ref, Indirection, Branch, Single, Tomb, List as Listed, node_at, entry_at}
+use Rattle.proof_updates.specs.Vocabulary.{entries_of, no_ref, generation_of, generation_at, Node, flag_of, Line, Operation, After, Gives, Read, Bounds, key_of, handle_of, State, word_at, root_at}
+use Rattle.proof_updates.specs.Vocabulary.{root_of, word_of, current, is_start, read_after, read_step, passes as passes_by, is_passable, key_after_read, key_after, line_action, read_of, line_after}
+use Rattle.proof_updates.specs.Vocabulary.{after_root, generation_from, given_root, IsRun, KeyLine, Purpose, Swap, Root, RootLine, Plain, root_after, swap_after, Moment}
 use Rattle.proof_updates.specs.Beneath.machine_model.specs.declared.finding.KeyLine.TheVariants as key
-use Rattle.proof_updates.specs.Beneath.machine_model.specs.declared.lines.Line.{Line}
 use Rattle.proof_updates.specs.Beneath.machine_model.specs.declared.lines.Line.TheVariants as line
-use Rattle.proof_updates.specs.Beneath.machine_model.specs.declared.operations.Operation.{Operation}
-use Rattle.proof_updates.specs.Beneath.machine_model.specs.declared.reading.After.{After}
-use Rattle.proof_updates.specs.Beneath.machine_model.specs.declared.reading.After.TheVariants.{Goes, Gives}
-use Rattle.proof_updates.specs.Beneath.machine_model.specs.declared.reading.Read.{Read}
-use Rattle.proof_updates.specs.Beneath.machine_model.specs.declared.steps.Bounds.{Bounds}
-use Rattle.proof_updates.specs.Beneath.machine_model.specs.Calls.{key_of, handle_of}
-use Rattle.proof_updates.specs.Beneath.machine_model.specs.States.{State, word_at, root_at, root_of, word_of}
-use Rattle.proof_updates.specs.Beneath.machine_model.specs.Paths.{current, is_start}
-use Rattle.proof_updates.specs.Beneath.machine_model.specs.Reading.{read_after, read_step}
-use Rattle.proof_updates.specs.Beneath.machine_model.specs.Finding.{passes as passes_by, is_passable, key_after_read, key_after}
-use Rattle.proof_updates.specs.Beneath.machine_model.specs.Operations.{line_action, read_of, line_after, after_root, from_root, generation_from, given_root}
+use Rattle.proof_updates.specs.Beneath.machine_model.specs.declared.reading.After.TheVariants.{Goes}
+use Rattle.proof_updates.specs.Beneath.machine_model.specs.Operations.{from_root}
 use Rattle.proof_updates.specs.Beneath.machine_model.proofs.Times.{steps_at}
-use Rattle.proof_updates.specs.Beneath.machine_model.specs.Times.{IsRun}
-use Rattle.proof_updates.specs.Beneath.machine_model.specs.declared.finding.KeyLine.{KeyLine}
-use Rattle.proof_updates.specs.Beneath.machine_model.specs.declared.lines.Purpose.{Purpose}
 use Rattle.proof_updates.specs.Beneath.machine_model.specs.declared.lines.Purpose.TheVariants as purpose
-use Rattle.proof_updates.specs.Beneath.machine_model.specs.declared.reading.Swap.{Swap}
-use Rattle.proof_updates.specs.Beneath.machine_model.specs.declared.roots.Root.{Root}
-use Rattle.proof_updates.specs.Beneath.machine_model.specs.declared.roots.RootLine.{RootLine}
-use Rattle.proof_updates.specs.Beneath.machine_model.specs.declared.roots.RootWord.TheVariants.{Plain}
-use Rattle.proof_updates.specs.Beneath.machine_model.specs.Swapping.{root_after, swap_after}
 use Rattle.proof_updates.specs.Beneath.proof_memory.specs.Laws.{IsInUse, is_end}
 use Rattle.proof_updates.specs.Beneath.proof_memory.specs.Wants.{Is, Holds, ABranch, AllHold, line_wants, action_wants, AnIndirection, meets, word_wants}
 use Rattle.proof_updates.specs.Beneath.proof_memory.proofs.Claims.Uses.{safe_of, meets_of}
@@ -72,7 +47,6 @@ use Rattle.proof_updates.proofs.Routes.Times.{counts_since, since_next, later}
 use Rattle.proof_updates.proofs.Routes.Known.{IsGiven, IsOf, since, KeyRoute, LineRoute, route_later, IsAt, route_root}
 use Rattle.proof_updates.proofs.Routes.Key.{main_on, entry_on, listed_on, sibling_on}
 use Rattle.proof_updates.proofs.Routes.Lines.{clean_on, climb_on, copy_on, walk_on, build_on, renew_on, swap_on}
-use Rattle.proof_updates.specs.Beneath.machine_model.specs.declared.records.Moment.{Moment}
 
 -- a SWAP's path is no matter of moments
 swap_route : (trie : Trie) (access : Access) (g q t b mu c nu : ℕ) (why : Purpose) (s : Swap) → LineRoute trie access g q t b mu (line.Swap why s) →

@@ -1,25 +1,12 @@
 -- Each line of KEY keeps to the key's path.
 use Rattle.std.proofs.Common.{◌≡◌, ℕ, suc, ◌+◌, ◌-◌, ◌<◌, ◌==◌, ◌&&◌, nat_lt, nat_le, Bool, true, false, cond, List, [], ◌∷◌, ◌++◌, length, refl, sym, arith}
 use Rattle.std.proofs.lemmas.Bool.{cond_both}
-use Rattle.proof_updates.specs.Beneath.ctrie_base.specs.Hashes.{hash_of}
-use Rattle.proof_updates.specs.Beneath.history.specs.declared.calls.Access.{Access}
-use Rattle.proof_updates.specs.Beneath.slot_arena.specs.declared.refs.Ref.{Ref}
-use Rattle.proof_updates.specs.Beneath.slot_arena.specs.declared.nodes.Node.{Node}
-use Rattle.proof_updates.specs.Beneath.slot_arena.specs.declared.nodes.Node.TheVariants.{Indirection, Branch, Single, Tomb, List as Listed}
-use Rattle.proof_updates.specs.Beneath.slot_arena.specs.Heaps.{node_at, entry_at, entries_of}
-use Rattle.proof_updates.specs.Beneath.nodes.specs.Levels.{has_flag}
-use Rattle.proof_updates.specs.Beneath.machine_model.specs.declared.operations.Operation.{Operation}
+use Rattle.proof_updates.specs.Vocabulary.{hash_of, Access, Ref, Node, Indirection, Branch, Single, Tomb, List as Listed, node_at, entry_at, entries_of, has_flag, Operation, WhenFound, Answers}
+use Rattle.proof_updates.specs.Vocabulary.{Sets, Removes, Line, key_of, inserts, when_found, State, renew_next, going_down, absent, absent_beside, absent_listed, found_so, found, key_after_main}
+use Rattle.proof_updates.specs.Vocabulary.{is_passable, key_after_entry, after_listed, after_sibling}
 use Rattle.proof_updates.specs.Beneath.machine_model.specs.declared.finding.KeyLine.TheVariants as key
-use Rattle.proof_updates.specs.Beneath.machine_model.specs.declared.finding.WhenFound.{WhenFound}
-use Rattle.proof_updates.specs.Beneath.machine_model.specs.declared.finding.WhenFound.TheVariants.{Answers, Sets, Removes}
-use Rattle.proof_updates.specs.Beneath.machine_model.specs.declared.lines.Line.{Line}
 use Rattle.proof_updates.specs.Beneath.machine_model.specs.declared.lines.Line.TheVariants as line
-use Rattle.proof_updates.specs.Beneath.machine_model.specs.Calls.{key_of, inserts, when_found}
-use Rattle.proof_updates.specs.Beneath.machine_model.specs.States.{State}
 use Rattle.proof_updates.specs.Beneath.machine_model.specs.Paths as path
-use Rattle.proof_updates.specs.Beneath.machine_model.specs.Renewing.{renew_next}
-use Rattle.proof_updates.specs.Beneath.machine_model.specs.Finding.{going_down, absent, absent_beside, absent_listed, found_so, found, key_after_main}
-use Rattle.proof_updates.specs.Beneath.machine_model.specs.Finding.{is_passable, key_after_entry, after_listed, after_sibling}
 use Rattle.proof_updates.specs.Beneath.proof_contents.specs.Nodes.Looking.{Below}
 use Rattle.proof_updates.specs.Beneath.proof_contents.specs.Nodes.Changing.{look}
 use Rattle.proof_updates.specs.Beneath.proof_contents.specs.Tries.{Trie}

@@ -1,41 +1,18 @@
 -- Lines of BUILD, RENEW and their swaps keep the path; those of CLEAN, CLIMB, COPY and WALK have none.
 use Rattle.std.proofs.Common.{◌≡◌, ℕ, suc, ◌+◌, ◌-◌, ◌==◌, nat_lt, Bool, true, false, cond, List, [], ◌∷◌, ◌++◌, length, Option, Some, None, refl, sym, arith}
 use Rattle.std.proofs.lemmas.Option.{none-some}
-use Rattle.proof_updates.specs.Beneath.history.specs.declared.calls.Access.{Access}
-use Rattle.proof_updates.specs.Beneath.slot_arena.specs.declared.refs.Ref.{Ref}
-use Rattle.proof_updates.specs.Beneath.slot_arena.specs.declared.nodes.Node.{Node}
-use Rattle.proof_updates.specs.Beneath.slot_arena.specs.declared.nodes.Node.TheVariants.{Indirection, Branch, Single, Tomb, List as Listed}
-use Rattle.proof_updates.specs.Beneath.slot_arena.specs.Heaps.{node_at, entries_of, next_ref}
-use Rattle.proof_updates.specs.Beneath.machine_model.specs.declared.operations.Operation.{Operation}
+use Rattle.proof_updates.specs.Vocabulary.{Access, Ref, Node, Indirection, Branch, Single, Tomb, List as Listed, node_at, entries_of, next_ref, Operation, BuildLine, CleanLine, Climb, ClimbLine}
+use Rattle.proof_updates.specs.Vocabulary.{RenewLine, CopyLine, WalkLine, After, Gives, Read, Swap, Purpose, Line, State, depth_of, is_start, read_step, reading, renew_next, renew_after_entry}
+use Rattle.proof_updates.specs.Vocabulary.{renew_after_read, renew_after_link, renew_after_branch, renew_after, build_after_made, build_if_made, build_after, clean_after, climb_after, copy_after}
+use Rattle.proof_updates.specs.Vocabulary.{walk_after, after_update, climbed_on, swapped}
 use Rattle.proof_updates.specs.Beneath.machine_model.specs.declared.building.Site.TheVariants as site
 use Rattle.proof_updates.specs.Beneath.machine_model.specs.declared.building.Change.TheVariants as change
-use Rattle.proof_updates.specs.Beneath.machine_model.specs.declared.building.BuildLine.{BuildLine}
 use Rattle.proof_updates.specs.Beneath.machine_model.specs.declared.building.BuildLine.TheVariants as build
-use Rattle.proof_updates.specs.Beneath.machine_model.specs.declared.repairs.CleanLine.{CleanLine}
-use Rattle.proof_updates.specs.Beneath.machine_model.specs.declared.repairs.Climb.{Climb}
-use Rattle.proof_updates.specs.Beneath.machine_model.specs.declared.repairs.ClimbLine.{ClimbLine}
-use Rattle.proof_updates.specs.Beneath.machine_model.specs.declared.repairs.RenewLine.{RenewLine}
 use Rattle.proof_updates.specs.Beneath.machine_model.specs.declared.repairs.RenewLine.TheVariants as renew
-use Rattle.proof_updates.specs.Beneath.machine_model.specs.declared.copying.CopyLine.{CopyLine}
-use Rattle.proof_updates.specs.Beneath.machine_model.specs.declared.walking.WalkLine.{WalkLine}
-use Rattle.proof_updates.specs.Beneath.machine_model.specs.declared.reading.After.{After}
-use Rattle.proof_updates.specs.Beneath.machine_model.specs.declared.reading.After.TheVariants.{Goes, Gives}
-use Rattle.proof_updates.specs.Beneath.machine_model.specs.declared.reading.Read.{Read}
-use Rattle.proof_updates.specs.Beneath.machine_model.specs.declared.reading.Swap.{Swap}
-use Rattle.proof_updates.specs.Beneath.machine_model.specs.declared.lines.Purpose.{Purpose}
+use Rattle.proof_updates.specs.Beneath.machine_model.specs.declared.reading.After.TheVariants.{Goes}
 use Rattle.proof_updates.specs.Beneath.machine_model.specs.declared.lines.Purpose.TheVariants as purpose
-use Rattle.proof_updates.specs.Beneath.machine_model.specs.declared.lines.Line.{Line}
 use Rattle.proof_updates.specs.Beneath.machine_model.specs.declared.lines.Line.TheVariants as line
-use Rattle.proof_updates.specs.Beneath.machine_model.specs.States.{State}
-use Rattle.proof_updates.specs.Beneath.machine_model.specs.Paths.{depth_of, is_start}
-use Rattle.proof_updates.specs.Beneath.machine_model.specs.Reading.{read_step, reading}
-use Rattle.proof_updates.specs.Beneath.machine_model.specs.Renewing.{renew_next, renew_after_entry, renew_after_read, renew_after_link, renew_after_branch, renew_after}
-use Rattle.proof_updates.specs.Beneath.machine_model.specs.Building.{build_after_made, build_if_made, build_after}
-use Rattle.proof_updates.specs.Beneath.machine_model.specs.Cleaning.{clean_after}
-use Rattle.proof_updates.specs.Beneath.machine_model.specs.Climbing.{climb_after}
-use Rattle.proof_updates.specs.Beneath.machine_model.specs.Copying.{copy_after}
-use Rattle.proof_updates.specs.Beneath.machine_model.specs.Walking.{walk_after}
-use Rattle.proof_updates.specs.Beneath.machine_model.specs.Operations.{after_update, climbed_on, swapped, after_swap}
+use Rattle.proof_updates.specs.Beneath.machine_model.specs.Operations.{after_swap}
 use Rattle.proof_updates.specs.Beneath.proof_contents.specs.Tries.{Trie}
 use Rattle.proof_updates.specs.Beneath.proof_contents.specs.Lines.Changes.{build_path}
 use Rattle.proof_updates.specs.Paths.{path_of}

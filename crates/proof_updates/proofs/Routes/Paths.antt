@@ -1,21 +1,11 @@
 -- Paths of operations on writable handles lie on their keys' paths, and KEY looks at their ends.
 use Rattle.std.proofs.Common.{◌≡◌, ℕ, suc, ◌<◌, ◌≤◌, true, List, Some, refl, sym, ap, subst, ◌∙◌, arith}
 use Rattle.std.proofs.lemmas.Option.{none-some, same_Some}
-use Rattle.proof_updates.specs.Beneath.history.specs.declared.calls.Access.TheVariants.{Writable}
-use Rattle.proof_updates.specs.Beneath.slot_arena.specs.declared.refs.Ref.{Ref}
-use Rattle.proof_updates.specs.Beneath.machine_model.specs.declared.finding.KeyLine.{KeyLine}
+use Rattle.proof_updates.specs.Vocabulary.{Writable, Ref, KeyLine, Line, Operation, ReadLine, Bounds, key_of, current, State, IsRun, moment_at}
 use Rattle.proof_updates.specs.Beneath.machine_model.specs.declared.finding.KeyLine.TheVariants as key
 use Rattle.proof_updates.specs.Beneath.machine_model.specs.declared.lines.Purpose.TheVariants as purpose
-use Rattle.proof_updates.specs.Beneath.machine_model.specs.declared.lines.Line.{Line}
 use Rattle.proof_updates.specs.Beneath.machine_model.specs.declared.lines.Line.TheVariants as line
-use Rattle.proof_updates.specs.Beneath.machine_model.specs.declared.operations.Operation.{Operation}
-use Rattle.proof_updates.specs.Beneath.machine_model.specs.declared.reading.ReadLine.{ReadLine}
 use Rattle.proof_updates.specs.Beneath.machine_model.specs.declared.reading.ReadLine.TheVariants as read
-use Rattle.proof_updates.specs.Beneath.machine_model.specs.declared.steps.Bounds.{Bounds}
-use Rattle.proof_updates.specs.Beneath.machine_model.specs.Calls.{key_of}
-use Rattle.proof_updates.specs.Beneath.machine_model.specs.Paths.{current}
-use Rattle.proof_updates.specs.Beneath.machine_model.specs.States.{State}
-use Rattle.proof_updates.specs.Beneath.machine_model.specs.Times.{IsRun}
 use Rattle.proof_updates.specs.Beneath.proof_generations.proofs.Handles.Running.{place_of_actor}
 use Rattle.proof_updates.specs.Beneath.proof_generations.specs.Running.{Runs}
 use Rattle.proof_order.specs.Times.{counts, read_counts}
@@ -29,7 +19,6 @@ use Rattle.proof_updates.specs.Paths.{LiesOn, path_of}
 use Rattle.proof_updates.proofs.Routes.Known.{Route, IsAt, KeyRoute, LineRoute, since, route_later, looks_at}
 use Rattle.proof_updates.proofs.Routes.Each.{has_route}
 use Rattle.proof_updates.proofs.Answers.Given.{moment_of}
-use Rattle.proof_updates.specs.Beneath.machine_model.specs.Records.{moment_at}
 
 -- a path of a writable handle
 lies_on : (trie : Trie) (g q t : ℕ) (p : List Ref) → Route trie Writable g q t p → LiesOn trie t g q p

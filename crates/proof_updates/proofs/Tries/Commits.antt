@@ -1,20 +1,10 @@
 -- What is known of a node that its owner commits: what a repair was given, at which depth a change is swapped in; and that keys have 64 bits.
 use Rattle.std.specs.Prelude.{ℕ, suc, ◌<◌, ◌≤◌, ◌^◌}
 use Rattle.std.proofs.Common.{ap, arith, ◌∙◌}
-use Rattle.proof_updates.specs.Beneath.slot_arena.specs.declared.refs.Ref.{Ref}
-use Rattle.proof_updates.specs.Beneath.machine_model.specs.declared.lines.Line.{Line}
+use Rattle.proof_updates.specs.Vocabulary.{Ref, Line, Purpose, Operation, Deciding, Bounds, Step, key_of, State, node_under, IsRun}
 use Rattle.proof_updates.specs.Beneath.machine_model.specs.declared.lines.Line.TheVariants as line
-use Rattle.proof_updates.specs.Beneath.machine_model.specs.declared.lines.Purpose.{Purpose}
 use Rattle.proof_updates.specs.Beneath.machine_model.specs.declared.lines.Purpose.TheVariants as purpose
-use Rattle.proof_updates.specs.Beneath.machine_model.specs.declared.operations.Operation.{Operation}
 use Rattle.proof_updates.specs.Beneath.machine_model.specs.declared.reading.SwapLine.TheVariants as swap
-use Rattle.proof_updates.specs.Beneath.machine_model.specs.declared.reading.SwapLine.TheVariants.{Deciding}
-use Rattle.proof_updates.specs.Beneath.machine_model.specs.declared.steps.Bounds.{Bounds}
-use Rattle.proof_updates.specs.Beneath.machine_model.specs.declared.steps.Step.{Step}
-use Rattle.proof_updates.specs.Beneath.machine_model.specs.Calls.{key_of}
-use Rattle.proof_updates.specs.Beneath.machine_model.specs.States.{State}
-use Rattle.proof_updates.specs.Beneath.machine_model.specs.Grown.{node_under}
-use Rattle.proof_updates.specs.Beneath.machine_model.specs.Times.{IsRun}
 use Rattle.proof_updates.specs.Beneath.proof_commits.specs.Laws.{IsNoSwap}
 use Rattle.proof_updates.specs.Beneath.proof_contents.specs.Lines.Repairs.{IsRepaired, ReadsBelow}
 use Rattle.proof_order.specs.Facts.{Runs}

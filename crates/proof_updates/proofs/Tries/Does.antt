@@ -2,26 +2,11 @@
 use Rattle.std.proofs.Common.{◌≡◌, ◌≢◌, ℕ, zero, suc, ◌<◌, ◌≤◌, ◌==◌, Bool, true, false, cond, List, Option, ◌⊎◌, inl, inr, refl, sym, ap, subst, subst₂, ◌∙◌, arith, eqb-true, eq-eqb}
 use Rattle.std.proofs.lemmas.Option.{same_Some}
 use Rattle.arrayvec.specs.ArrayVec.{ArrayVec}
-use Rattle.proof_updates.specs.Beneath.history.specs.declared.calls.Call.{Call}
-use Rattle.proof_updates.specs.Beneath.slot_arena.specs.declared.refs.Ref.{Ref}
-use Rattle.proof_updates.specs.Beneath.slot_arena.specs.declared.nodes.Node.TheVariants.{Indirection, Branch, Tomb, List as Listed}
-use Rattle.proof_updates.specs.Beneath.slot_arena.specs.Heaps.{generation_of}
+use Rattle.proof_updates.specs.Vocabulary.{Call, Ref, Indirection, Branch, Tomb, List as Listed, generation_of, Change, Purpose, Climb, Bounds, Outcome, Step, key_of, current, depth_of, State}
+use Rattle.proof_updates.specs.Vocabulary.{node_under, Moves, turns, noted_turn, IsRun, Turn}
 use Rattle.proof_updates.specs.Beneath.proof_contents.proofs.Nodes.Branches.{differ}
-use Rattle.proof_updates.specs.Beneath.machine_model.specs.declared.building.Change.{Change}
 use Rattle.proof_updates.specs.Beneath.machine_model.specs.declared.building.Change.TheVariants as change
-use Rattle.proof_updates.specs.Beneath.machine_model.specs.declared.lines.Purpose.{Purpose}
 use Rattle.proof_updates.specs.Beneath.machine_model.specs.declared.lines.Purpose.TheVariants as purpose
-use Rattle.proof_updates.specs.Beneath.machine_model.specs.declared.repairs.Climb.{Climb}
-use Rattle.proof_updates.specs.Beneath.machine_model.specs.declared.steps.Bounds.{Bounds}
-use Rattle.proof_updates.specs.Beneath.machine_model.specs.declared.steps.Outcome.{Outcome}
-use Rattle.proof_updates.specs.Beneath.machine_model.specs.declared.steps.Step.{Step}
-use Rattle.proof_updates.specs.Beneath.machine_model.specs.Calls.{key_of}
-use Rattle.proof_updates.specs.Beneath.machine_model.specs.Paths.{current, depth_of}
-use Rattle.proof_updates.specs.Beneath.machine_model.specs.States.{State}
-use Rattle.proof_updates.specs.Beneath.machine_model.specs.Grown.{node_under}
-use Rattle.proof_updates.specs.Beneath.machine_model.specs.Moves.{Moves}
-use Rattle.proof_updates.specs.Beneath.machine_model.specs.Times.{turns, noted_turn}
-use Rattle.proof_updates.specs.Beneath.machine_model.specs.Times.{IsRun, Turn}
 use Rattle.proof_updates.specs.Beneath.proof_contents.specs.Tries.{Trie, generation, node_in, assigned}
 use Rattle.proof_updates.specs.Beneath.proof_contents.specs.Steps.{IsRepair, Does, nothing, a_repair, an_update}
 use Rattle.proof_updates.specs.Beneath.proof_contents.specs.Runs.{counting_main, trie_of}

@@ -1,26 +1,14 @@
 -- What holds of each running operation, along a run: with the move by which it goes on.
 use Rattle.std.proofs.Common.{◌≡◌, ℕ, zero, suc, ◌<◌, ◌≤◌, Bool, Option, None, Some, get_or, sym, subst, ap, ◌∙◌, refl}
-use Rattle.proof_updates.specs.Beneath.history.specs.declared.calls.Call.{Call}
-use Rattle.proof_updates.specs.Beneath.machine_model.specs.declared.operations.Operation.{Operation}
-use Rattle.proof_updates.specs.Beneath.machine_model.specs.declared.steps.Bounds.{Bounds}
-use Rattle.proof_updates.specs.Beneath.machine_model.specs.declared.steps.Outcome.{Outcome}
-use Rattle.proof_updates.specs.Beneath.machine_model.specs.declared.steps.Step.{Step}
+use Rattle.proof_updates.specs.Vocabulary.{Call, Operation, Bounds, Outcome, Step, State, first_state, action_of, operation_after, begin_denial, Moves, GoesOn, begun_operation, turns, noted_turn}
+use Rattle.proof_updates.specs.Vocabulary.{IsRun, Turn, Record, moment_at, noted_progress, noted, progress_of, told_in}
 use Rattle.proof_updates.specs.Beneath.machine_model.specs.declared.steps.Step.TheVariants as step
-use Rattle.proof_updates.specs.Beneath.machine_model.specs.States.{State, first_state}
-use Rattle.proof_updates.specs.Beneath.machine_model.specs.Operations.{action_of}
-use Rattle.proof_updates.specs.Beneath.machine_model.specs.Acting.{operation_after}
-use Rattle.proof_updates.specs.Beneath.machine_model.specs.Machine.{begin_denial}
-use Rattle.proof_updates.specs.Beneath.machine_model.specs.Moves.{Moves, GoesOn, begun_operation}
 use Rattle.proof_updates.specs.Beneath.machine_model.proofs.Actors.{mark_one, mark_only, marks_in}
 use Rattle.proof_updates.specs.Beneath.machine_model.proofs.Found.{none_found}
 use Rattle.proof_updates.specs.Beneath.machine_model.proofs.Times.{along_run}
-use Rattle.proof_updates.specs.Beneath.machine_model.specs.Times.{turns, noted_turn}
-use Rattle.proof_updates.specs.Beneath.machine_model.specs.Times.{IsRun, Turn}
 use Rattle.proof_updates.specs.Beneath.proof_generations.proofs.Handles.Running.{Comes, began, rested, went, comes}
 use Rattle.proof_updates.specs.Beneath.proof_generations.specs.Running.{Runs}
 use Rattle.proof_updates.specs.Beneath.proof_order.specs.Facts.{Notes}
-use Rattle.proof_updates.specs.Beneath.machine_model.specs.Records.{Record, moment_at, noted_progress, noted}
-use Rattle.proof_updates.specs.Beneath.machine_model.specs.Tellings.{progress_of, told_in}
 use Rattle.proof_updates.specs.Beneath.machine_model.proofs.Alike.{moment_rests}
 use Rattle.proof_updates.specs.Beneath.machine_model.proofs.Notes.{noted_going}
 

@@ -1,19 +1,10 @@
 -- What the order takes of contents: a step that commits no own update leaves them all, and one that does leads one of them on.
 use Rattle.std.proofs.Common.{◌≡◌, ◌≢◌, ℕ, suc, ◌<◌, ◌≤◌, ◌^◌, ◌⊎◌, inl, inr, List, ◌∷◌, Option, Some, refl, sym, ap, subst₂, ◌∙◌, [], arith}
 use Rattle.std.proofs.lemmas.Option.{same_Some}
-use Rattle.proof_updates.specs.Beneath.ctrie_base.specs.Hashes.{hash_of}
-use Rattle.proof_updates.specs.Beneath.history.specs.declared.calls.Access.TheVariants.{Writable}
-use Rattle.proof_updates.specs.Beneath.slot_arena.specs.declared.refs.Ref.{Ref}
-use Rattle.proof_updates.specs.Beneath.places.specs.declared.place.Place.{Place}
+use Rattle.proof_updates.specs.Vocabulary.{hash_of, Writable, Ref, Place, Operation, Bounds, Step, key_of, changed_reply, State, operation_of, IsRun, entered}
 use Rattle.proof_updates.specs.Beneath.machine_model.specs.declared.lines.Purpose.TheVariants as purpose
 use Rattle.proof_updates.specs.Beneath.machine_model.specs.declared.lines.Line.TheVariants as line
-use Rattle.proof_updates.specs.Beneath.machine_model.specs.declared.operations.Operation.{Operation}
 use Rattle.proof_updates.specs.Beneath.machine_model.specs.declared.reading.SwapLine.TheVariants as swap
-use Rattle.proof_updates.specs.Beneath.machine_model.specs.declared.steps.Bounds.{Bounds}
-use Rattle.proof_updates.specs.Beneath.machine_model.specs.declared.steps.Step.{Step}
-use Rattle.proof_updates.specs.Beneath.machine_model.specs.Calls.{key_of, changed_reply}
-use Rattle.proof_updates.specs.Beneath.machine_model.specs.States.{State, operation_of}
-use Rattle.proof_updates.specs.Beneath.machine_model.specs.Times.{IsRun}
 use Rattle.proof_updates.specs.Beneath.proof_generations.specs.Running.{Runs}
 use Rattle.proof_updates.specs.Beneath.proof_contents.specs.Tries.{Trie, generation, node_in, content}
 use Rattle.proof_updates.specs.Beneath.proof_contents.specs.Steps.{IsRepair, IsTrie}
@@ -30,7 +21,6 @@ use Rattle.proof_updates.proofs.Tries.Does.{own_does}
 use Rattle.proof_updates.proofs.Tries.Updates.{trie_ok, updates_act}
 use Rattle.proof_updates.proofs.Handles.Committing.{own_committed}
 use Rattle.proof_shape.proofs.Held.Commits.{fresh_commits_at}
-use Rattle.proof_updates.specs.Beneath.machine_model.specs.Records.{entered}
 use Rattle.proof_updates.specs.Beneath.machine_model.proofs.Times.{steps_at}
 
 module _ (limits : Bounds) (states : ℕ → State) (last : ℕ) (run : IsRun limits states last) (t : ℕ) (within : t ≤ last) (s : Step) where

@@ -1,10 +1,7 @@
 -- The laws of contents, from what holds over a run.
 use Rattle.std.specs.Prelude.{ℕ}
-use Rattle.proof_updates.specs.Beneath.machine_model.specs.declared.steps.Bounds.{Bounds}
-use Rattle.proof_updates.specs.Beneath.machine_model.specs.declared.steps.Step.{Step}
-use Rattle.proof_updates.specs.Beneath.machine_model.specs.States.{State}
+use Rattle.proof_updates.specs.Vocabulary.{Bounds, Step, State, IsRun, states_of, last_of, Record}
 use Rattle.proof_updates.specs.Beneath.machine_model.proofs.Times.{run_is}
-use Rattle.proof_updates.specs.Beneath.machine_model.specs.Times.{IsRun, states_of, last_of}
 use Rattle.proof_updates.specs.Beneath.proof_contents.specs.Tries.{Trie}
 use Rattle.proof_shape.specs.Shaped.{trie_of_run}
 use Rattle.proof_shape.specs.Sites.Nodes.{steps_of}
@@ -14,7 +11,6 @@ use Rattle.proof_shape.proofs.Sites.Stepped.{takes_steps}
 use Rattle.proof_updates.specs.Updates.{StepsDo, PathsLie, KeysLook, StepsKeep, UpdatesFollow, RepliesRight}
 use Rattle.proof_updates.specs.Laws.Tries.{OfEachRun, EachStepDoes, OthersKeepContents, UpdatesLeadOn, PathsLieOnKeys, EndsAreSeen, RepliesAreRight}
 use Rattle.proof_updates.proofs.Tries.OfRuns as whole
-use Rattle.proof_updates.specs.Beneath.machine_model.specs.Records.{Record}
 
 of_each_run : (Law : Bounds → (ℕ → State) → (ℕ → Record) → ℕ → Trie → Type 0) →
     ((limits : Bounds) (states : ℕ → State) (steps : ℕ → Step) (last : ℕ) (run : IsRun limits states last) → TakesSteps states steps last → StepsFit steps last →

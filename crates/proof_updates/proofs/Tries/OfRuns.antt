@@ -1,12 +1,6 @@
 -- The laws of contents over a run whose keys have 64 bits.
 use Rattle.std.specs.Prelude.{ℕ, ◌<◌, ◌≤◌, ◌^◌}
-use Rattle.proof_updates.specs.Beneath.slot_arena.specs.declared.refs.Ref.{Ref}
-use Rattle.proof_updates.specs.Beneath.machine_model.specs.declared.operations.Operation.{Operation}
-use Rattle.proof_updates.specs.Beneath.machine_model.specs.declared.steps.Bounds.{Bounds}
-use Rattle.proof_updates.specs.Beneath.machine_model.specs.declared.steps.Step.{Step}
-use Rattle.proof_updates.specs.Beneath.machine_model.specs.Calls.{key_of}
-use Rattle.proof_updates.specs.Beneath.machine_model.specs.States.{State}
-use Rattle.proof_updates.specs.Beneath.machine_model.specs.Times.{IsRun}
+use Rattle.proof_updates.specs.Vocabulary.{Ref, Operation, Bounds, Step, key_of, State, IsRun}
 use Rattle.proof_updates.specs.Beneath.proof_contents.specs.Steps.{IsTrie}
 use Rattle.proof_updates.specs.Beneath.proof_generations.specs.Running.{Runs}
 use Rattle.proof_shape.specs.Sites.Nodes.{depth_of_run, path_of_run}

@@ -3,11 +3,7 @@
 use Rattle.std.proofs.Common.{◌≡◌, ℕ, ◌<◌, ◌≤◌, ◌==◌, Bool, true, false, cond, List, [], ◌∷◌, length, set, slice_index_or, slice_set, refl, sym, ap, subst, subst₂, ◌∙◌, arith, length-set, eqb-true}
 use Rattle.std.proofs.lemmas.List.{get_or-set_same, get_or-set_other}
 use Rattle.arrayvec.specs.ArrayVec.{ArrayVec}
-use Rattle.proof_updates.specs.Beneath.slot_arena.specs.declared.refs.Ref.{Ref}
-use Rattle.proof_updates.specs.Beneath.slot_arena.specs.declared.nodes.Node.{Node}
-use Rattle.proof_updates.specs.Beneath.slot_arena.specs.declared.nodes.Node.TheVariants.{Indirection, Branch, Tomb}
-use Rattle.proof_updates.specs.Beneath.slot_arena.specs.Heaps.{no_ref}
-use Rattle.proof_updates.specs.Beneath.nodes.specs.Builders.{contracted}
+use Rattle.proof_updates.specs.Vocabulary.{Ref, Node, Indirection, Branch, Tomb, no_ref, contracted}
 use Rattle.proof_updates.specs.Beneath.proof_contents.proofs.Nodes.Branches.{differ}
 use Rattle.proof_updates.specs.Beneath.proof_contents.specs.Tries.{Trie, generation, node_in}
 use Rattle.proof_updates.specs.Beneath.proof_contents.specs.Steps.{Stays, kept, renewed_by, untombed, IsRepair, refills, entombs}

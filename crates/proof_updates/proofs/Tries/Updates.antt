@@ -1,18 +1,9 @@
 -- What is committed for an operation is its own update of its key, and leads its generation's content on.
 use Rattle.std.proofs.Common.{◌≡◌, ℕ, suc, ◌-◌, ◌<◌, ◌≤◌, ◌^◌, List, length, Option, sym, subst, arith}
-use Rattle.proof_updates.specs.Beneath.history.specs.declared.calls.Access.TheVariants.{Writable}
-use Rattle.proof_updates.specs.Beneath.slot_arena.specs.declared.refs.Ref.{Ref}
+use Rattle.proof_updates.specs.Vocabulary.{Writable, Ref, Operation, Swap, Bounds, Step, key_of, current, State, IsRun}
 use Rattle.proof_updates.specs.Beneath.machine_model.specs.declared.lines.Purpose.TheVariants as purpose
 use Rattle.proof_updates.specs.Beneath.machine_model.specs.declared.lines.Line.TheVariants as line
-use Rattle.proof_updates.specs.Beneath.machine_model.specs.declared.operations.Operation.{Operation}
-use Rattle.proof_updates.specs.Beneath.machine_model.specs.declared.reading.Swap.{Swap}
 use Rattle.proof_updates.specs.Beneath.machine_model.specs.declared.reading.SwapLine.TheVariants as swap
-use Rattle.proof_updates.specs.Beneath.machine_model.specs.declared.steps.Bounds.{Bounds}
-use Rattle.proof_updates.specs.Beneath.machine_model.specs.declared.steps.Step.{Step}
-use Rattle.proof_updates.specs.Beneath.machine_model.specs.Calls.{key_of}
-use Rattle.proof_updates.specs.Beneath.machine_model.specs.Paths.{current}
-use Rattle.proof_updates.specs.Beneath.machine_model.specs.States.{State}
-use Rattle.proof_updates.specs.Beneath.machine_model.specs.Times.{IsRun}
 use Rattle.proof_updates.specs.Beneath.proof_generations.proofs.Handles.Running.{place_of_actor}
 use Rattle.proof_updates.specs.Beneath.proof_generations.specs.Running.{Runs}
 use Rattle.proof_updates.specs.Beneath.proof_contents.specs.Tries.{Trie, node_in, On}

@@ -1,24 +1,9 @@
 -- Laws of the contents of handles, for each step that is taken after a list of steps whose keys have 64 bits.
 use Rattle.std.specs.Prelude.{◌≡◌, ℕ, ◌⊎◌, List, [], ◌∷◌, ◌++◌, Option, Some, None, Ok}
 use Rattle.std.specs.FinMap as map
-use Rattle.proof_updates.specs.Beneath.ctrie_base.specs.Hashes.{hash_of}
-use Rattle.proof_updates.specs.Beneath.history.specs.declared.calls.Access.{Access}
-use Rattle.proof_updates.specs.Beneath.history.specs.declared.calls.Access.TheVariants.{Writable, ReadOnly}
-use Rattle.proof_updates.specs.Beneath.history.specs.declared.calls.Call.{Call}
-use Rattle.proof_updates.specs.Beneath.history.specs.declared.calls.Call.TheVariants.{Clear, Snapshot, Freeze, Close}
-use Rattle.proof_updates.specs.Beneath.history.specs.Worlds.{KeyMap}
-use Rattle.proof_updates.specs.Beneath.history.specs.Changes.{change_in}
-use Rattle.proof_updates.specs.Beneath.slot_arena.specs.declared.refs.Ref.{Ref}
-use Rattle.proof_updates.specs.Beneath.machine_model.specs.declared.roots.Root.{Root}
-use Rattle.proof_updates.specs.Beneath.machine_model.specs.declared.steps.Bounds.{Bounds}
-use Rattle.proof_updates.specs.Beneath.machine_model.specs.declared.steps.Outcome.{Outcome}
-use Rattle.proof_updates.specs.Beneath.machine_model.specs.declared.steps.Step.{Step}
+use Rattle.proof_updates.specs.Vocabulary.{hash_of, Access, Writable, ReadOnly, Call, Clear, Snapshot, Freeze, Close, KeyMap, change_in, Ref, Root, Bounds, Outcome, Step, changed_reply, content_at}
+use Rattle.proof_updates.specs.Vocabulary.{KeysFit, AreBounds, next, run, State, root_at}
 use Rattle.proof_updates.specs.Beneath.machine_model.specs.declared.steps.Step.TheVariants as step
-use Rattle.proof_updates.specs.Beneath.machine_model.specs.Calls.{changed_reply}
-use Rattle.proof_updates.specs.Beneath.machine_model.specs.Contents.{content_at}
-use Rattle.proof_updates.specs.Beneath.machine_model.specs.Keys.{KeysFit}
-use Rattle.proof_updates.specs.Beneath.machine_model.specs.Machine.{AreBounds, next, run}
-use Rattle.proof_updates.specs.Beneath.machine_model.specs.States.{State, root_at}
 use Rattle.proof_updates.specs.Touching.{Reaches, CommitsUpdate, CommitsRepair, CarriesOutCall, Touches}
 
 -- of the states before and after each step that is taken

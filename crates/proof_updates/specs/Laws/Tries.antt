@@ -1,16 +1,10 @@
 -- Laws of contents, for every list of steps whose keys have 64 bits.
 use Rattle.std.specs.Prelude.{ℕ, List}
-use Rattle.proof_updates.specs.Beneath.machine_model.specs.declared.steps.Bounds.{Bounds}
-use Rattle.proof_updates.specs.Beneath.machine_model.specs.declared.steps.Step.{Step}
-use Rattle.proof_updates.specs.Beneath.machine_model.specs.States.{State}
-use Rattle.proof_updates.specs.Beneath.machine_model.specs.Machine.{AreBounds}
-use Rattle.proof_updates.specs.Beneath.machine_model.specs.Times.{states_of, last_of, records_of}
+use Rattle.proof_updates.specs.Vocabulary.{Bounds, Step, State, AreBounds, states_of, last_of, records_of, KeysFit, Record}
 use Rattle.proof_updates.specs.Beneath.proof_contents.specs.Tries.{Trie}
-use Rattle.proof_updates.specs.Beneath.machine_model.specs.Keys.{KeysFit}
 use Rattle.proof_shape.specs.Shaped.{trie_of_run}
 use Rattle.proof_shape.specs.Sites.Nodes.{steps_of}
 use Rattle.proof_updates.specs.Updates.{StepsDo, PathsLie, KeysLook, StepsKeep, UpdatesFollow, RepliesRight}
-use Rattle.proof_updates.specs.Beneath.machine_model.specs.Records.{Record}
 
 -- the trie of the run of these steps
 abbrev pub trie_after : Bounds → List Step → Trie

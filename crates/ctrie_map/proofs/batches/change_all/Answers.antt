@@ -1,6 +1,6 @@
 use Rattle.std.proofs.Common.{◌<◌, arith, refl, sym, ◌∙◌}
 use Rattle.std.specs.FinMap as map
-use Rattle.machine_model.specs.States.{handle_limit}
+use Rattle.ctrie_map.specs.Vocabulary.{handle_limit}
 use Rattle.ctrie_map.specs.Beneath.map_worlds.specs.Worlds.{world_of}
 use Rattle.ctrie_map.proofs.Batched.{one_left}
 use Rattle.ctrie_map.proofs.batches.change_all.Goals as goal

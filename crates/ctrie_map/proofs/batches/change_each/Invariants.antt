@@ -1,5 +1,5 @@
 use Rattle.std.proofs.Common.{◌≡◌, false, length}
-use Rattle.history.specs.Worlds.{KeyMap}
+use Rattle.ctrie_map.specs.Vocabulary.{KeyMap}
 use Rattle.ctrie_map.specs.Beneath.map_worlds.specs.Worlds.{world_of}
 use Rattle.ctrie_map.specs.Cores.{IsCalm, is_worn_out}
 use Rattle.ctrie_map.specs.Drafts.{HasMap, IsWritable}

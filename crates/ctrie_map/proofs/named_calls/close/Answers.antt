@@ -1,6 +1,6 @@
 use Rattle.std.proofs.Common.{Ok, refl, sym, subst, ◌∙◌}
 use Rattle.std.proofs.lemmas.Result.{err_from_is_err_and}
-use Rattle.history.specs.declared.calls.Call.TheVariants.{Close}
+use Rattle.ctrie_map.specs.Vocabulary.{Close}
 use Rattle.ctrie_map.specs.Cores.{Carries}
 use Rattle.ctrie_map.proofs.ByName.{close_refused, closed, core_closes, not_open}
 use Rattle.ctrie_map.proofs.named_calls.close.Goals as goal

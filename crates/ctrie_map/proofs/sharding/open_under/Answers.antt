@@ -1,6 +1,6 @@
 use Rattle.std.proofs.Common.{◌≡◌, Ok, refl, sym, subst, ◌∙◌}
 use Rattle.std.proofs.lemmas.Result.{err_from_is_err_and}
-use Rattle.history.specs.declared.calls.Call.TheVariants.{Snapshot}
+use Rattle.ctrie_map.specs.Vocabulary.{Snapshot}
 use Rattle.ctrie_map.specs.Beneath.map_worlds.specs.Worlds.{world_of}
 use Rattle.ctrie_map.specs.Cores.{Carries}
 use Rattle.ctrie_map.specs.Performing.{copy_call}

@@ -1,7 +1,7 @@
 use Rattle.std.proofs.Common.{◌≤◌, Ok, sym, ap, subst, ◌∙◌}
 use Rattle.std.specs.FinMap as map
 use Rattle.ctrie_map.specs.Beneath.proof_core.proofs.FewPairs.{few_in_content}
-use Rattle.ctrie_map.specs.Beneath.slot_arena.specs.Refs.{most_slots}
+use Rattle.ctrie_map.specs.Vocabulary.{most_slots}
 use Rattle.ctrie_map.proofs.Lookups.{closed}
 use Rattle.ctrie_map.proofs.Walks.{counted}
 use Rattle.ctrie_map.proofs.walking.count_in.Goals as goal

@@ -1,7 +1,7 @@
 use Rattle.std.proofs.Common.{Ok, sym, ap, ◌∙◌}
 use Rattle.std.specs.FinMap as map
 use Rattle.std.proofs.lemmas.Result.{err_from_is_err_and}
-use Rattle.machine_model.specs.Contents.{content_at}
+use Rattle.ctrie_map.specs.Vocabulary.{content_at}
 use Rattle.ctrie_map.specs.Beneath.proof_core.specs.Scanning.{scanned}
 use Rattle.ctrie_map.specs.Beneath.map_worlds.specs.Worlds.{world_of}
 use Rattle.ctrie_map.proofs.Lookups.{entries_read, mapped_by, refuses, refuses_alike}

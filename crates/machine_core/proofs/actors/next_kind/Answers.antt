@@ -1,6 +1,6 @@
 use Rattle.std.proofs.Common.{sym, ap, ◌∙◌}
 use Rattle.std.specs.Prelude.{option_and_then, option_map}
-use Rattle.machine_model.specs.Operations.{action_of, kind_of}
+use Rattle.machine_core.specs.Vocabulary.{action_of, kind_of}
 use Rattle.machine_core.specs.Seen.{operation_seen, seen}
 use Rattle.machine_core.proofs.Kept.{found_operation, sound_there}
 use Rattle.machine_core.proofs.actors.next_kind.Goals as goal

@@ -3,8 +3,7 @@ use Rattle.std.proofs.lemmas.List.{length-map}
 use Rattle.std.specs.Prelude.{slice_get, slice_set}
 use Rattle.std.specs.Vec.{with_item}
 use Rattle.handle_table.specs.Numbers.{Numbers, running_on}
-use Rattle.history.specs.declared.calls.Access.{Access}
-use Rattle.machine_model.specs.Calls.{handle_of}
+use Rattle.machine_core.specs.Vocabulary.{Access, handle_of}
 use Rattle.machine_core.specs.Beneath.rdcss_root.proofs.Rewriting.{ready_less}
 use Rattle.machine_core.specs.declared.parts.Parts.{Parts}
 use Rattle.machine_core.specs.Beginnings.{Begins}

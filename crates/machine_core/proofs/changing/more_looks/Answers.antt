@@ -1,5 +1,5 @@
 use Rattle.std.proofs.Common.{ap, arith, ◌∙◌}
-use Rattle.slot_arena.specs.Views.{viewed}
+use Rattle.machine_core.specs.Vocabulary.{viewed}
 use Rattle.machine_core.proofs.Changes.{leaves_at_root, leaves_indirection, leaves_others}
 use Rattle.machine_core.proofs.changing.more_looks.Goals as goal
 use Rattle.machine_core.proofs.changing.more_looks.Goals.{then-place-eq0-via-then-place-eq0, then-place-eq0-via-else-place-eq0+then-entries_at-ne2}

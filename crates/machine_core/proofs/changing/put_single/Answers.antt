@@ -1,7 +1,5 @@
 use Rattle.std.proofs.Common.{◌∷◌, [], ◌∙◌, ◌≡◌, ap, sym}
-use Rattle.slot_arena.specs.Heaps.{node_at}
-use Rattle.slot_arena.specs.declared.nodes.Node.TheVariants.{Single}
-use Rattle.machine_model.specs.Building.{changed}
+use Rattle.machine_core.specs.Vocabulary.{node_at, Single, changed}
 use Rattle.machine_core.specs.Beneath.proof_straight.specs.Changes.{with_single}
 use Rattle.machine_core.specs.Beneath.proof_straight.specs.Drafts.{first_draft, next_made}
 use Rattle.machine_core.specs.Changing.{putting}

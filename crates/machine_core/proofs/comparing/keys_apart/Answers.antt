@@ -1,5 +1,5 @@
 use Rattle.std.proofs.Common.{ap, ◌∙◌}
-use Rattle.machine_model.specs.States.{root_of, word_at}
+use Rattle.machine_core.specs.Vocabulary.{root_of, word_at}
 use Rattle.machine_core.specs.Seen.{seen}
 use Rattle.proof_core.proofs.Compared.{covers_sorted}
 use Rattle.machine_core.proofs.comparing.keys_apart.Goals as goal

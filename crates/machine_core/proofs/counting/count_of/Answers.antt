@@ -1,7 +1,5 @@
 use Rattle.std.proofs.Common.{◌^◌, ◌<◌, length, sym, ap, subst, ◌∙◌}
-use Rattle.machine_model.specs.Contents.{most_levels, pairs_below}
-use Rattle.machine_model.specs.Pairs.{comes_before}
-use Rattle.machine_model.specs.States.{root_of, word_at}
+use Rattle.machine_core.specs.Vocabulary.{most_levels, pairs_below, comes_before, root_of, word_at}
 use Rattle.machine_core.specs.Seen.{seen}
 use Rattle.proof_core.proofs.FewPairs.{few_pairs}
 use Rattle.proof_core.proofs.Firsts.{length_sorted}

@@ -1,6 +1,5 @@
 use Rattle.std.proofs.Common.{ap, subst, ◌∙◌}
-use Rattle.slot_arena.specs.Views.{viewed}
-use Rattle.slot_arena.specs.Heaps.{generation_of, main_at}
+use Rattle.machine_core.specs.Vocabulary.{viewed, generation_of, main_at}
 use Rattle.machine_core.specs.Descending.{IsBelow}
 use Rattle.machine_core.proofs.Descent.{starts, further}
 use Rattle.machine_core.proofs.descending.look_down.Goals as goal

@@ -1,7 +1,7 @@
 use Rattle.std.proofs.Common.{◌++◌, append-nil, sym, ap, subst, ◌∙◌}
 use Rattle.std.specs.List.Sorted.{IsStrictlySortedBy}
 use Rattle.std.specs.Ordering.{nat_cmp}
-use Rattle.machine_model.specs.Contents.{content_at}
+use Rattle.machine_core.specs.Vocabulary.{content_at}
 use Rattle.machine_core.specs.Beneath.proof_contents.proofs.Values.Crowds.{sorted_distinct}
 use Rattle.machine_core.specs.Comparing.{AreDifferences, difference_of}
 use Rattle.machine_core.specs.Finding.{found_along}

@@ -5,7 +5,7 @@ use Rattle.std.proofs.lemmas.List.Filters.{dedup_is}
 use Rattle.std.proofs.lemmas.List.Kept.{Contains-dedup_nat}
 use Rattle.std.proofs.lemmas.List.Sorted.{Contains-permutation}
 use Rattle.std.proofs.lemmas.Map.Keys.{IsStrictlyIncreasing-dedup, sorted_from_strictly_increasing}
-use Rattle.machine_model.specs.Contents.{content_at}
+use Rattle.machine_core.specs.Vocabulary.{content_at}
 use Rattle.machine_core.specs.Seen.{seen}
 use Rattle.proof_core.proofs.Compared.{covers_more}
 use Rattle.machine_core.proofs.differing.rising_keys.Goals as goal

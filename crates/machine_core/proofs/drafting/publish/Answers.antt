@@ -1,10 +1,6 @@
 use Rattle.std.proofs.Common.{[], ap, ◌∙◌, ◌≡◌, ◌+◌, sym, List, arith}
 use Rattle.slot_arena.proofs.Times.{times_push}
-use Rattle.slot_arena.specs.declared.refs.Ref.{Ref}
-use Rattle.slot_arena.specs.Arenas.{is_main_node}
-use Rattle.slot_arena.specs.Heaps.{node_at, prev_at}
-use Rattle.slot_arena.specs.Times.{times}
-use Rattle.machine_model.specs.Acting.{published}
+use Rattle.machine_core.specs.Vocabulary.{Ref, is_main_node, node_at, prev_at, times, published}
 use Rattle.proof_core.proofs.Drafts.{is_published, last_held, none_held, published_kind, published_pending, settled_draft}
 use Rattle.machine_core.proofs.drafting.publish.Goals as goal
 

@@ -5,7 +5,7 @@ use Rattle.std.proofs.lemmas.Option.{same_Some, slice_get_within}
 use Rattle.epochs.specs.Memories.{Memory}
 use Rattle.machine_core.specs.Beneath.operate.specs.Places.{answer_of}
 use Rattle.running.specs.Places.{line_for}
-use Rattle.machine_model.specs.Tellings.{entrant_of}
+use Rattle.machine_core.specs.Vocabulary.{entrant_of}
 use Rattle.machine_core.specs.declared.parts.Actor.{Actor}
 use Rattle.machine_core.specs.declared.parts.Parts.{Parts}
 use Rattle.proof_core.specs.Numbering.{ended_on}

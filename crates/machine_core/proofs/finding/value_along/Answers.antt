@@ -1,7 +1,5 @@
 use Rattle.std.proofs.Common.{sym, ◌∙◌, arith}
-use Rattle.ctrie_base.specs.Hashes.{hash_of}
-use Rattle.slot_arena.specs.Heaps.{node_at, logical_main}
-use Rattle.machine_model.specs.Contents.{most_levels}
+use Rattle.machine_core.specs.Vocabulary.{hash_of, node_at, logical_main, most_levels}
 use Rattle.machine_core.specs.Beneath.proof_contents.specs.Nodes.Looking.{Absent, Has, Below}
 use Rattle.proof_core.proofs.Levels.{decides, nothing_left}
 use Rattle.machine_core.proofs.finding.value_along.Goals as goal

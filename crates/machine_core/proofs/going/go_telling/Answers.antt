@@ -1,7 +1,7 @@
 use Rattle.std.proofs.Common.{sym, ap, ◌∙◌, ◌+◌, subst}
 use Rattle.machine_model.specs.declared.steps.Outcome.TheVariants as outcome
 use Rattle.machine_core.specs.declared.parts.Parts.{Parts}
-use Rattle.ctrie_base.specs.declared.kinds.Kind.{Kind}
+use Rattle.machine_core.specs.Vocabulary.{Kind}
 use Rattle.machine_core.specs.Going.{CarriesUnless}
 use Rattle.machine_core.specs.Keeping.{IsKept}
 use Rattle.machine_core.specs.Seen.{seen}

@@ -1,13 +1,6 @@
 use Rattle.std.proofs.Common.{arith, ◌≡◌, ◌+◌, ◌-◌, ◌*◌, refl, sym, ap, ◌∙◌, subst}
-use Rattle.slot_arena.specs.Arenas.{IsLive}
-use Rattle.slot_arena.specs.Heaps.{entry_at, main_at, no_ref, node_at}
-use Rattle.slot_arena.specs.Times.{times}
-use Rattle.nodes.specs.Builders.{pair}
-use Rattle.nodes.specs.Levels.{parting}
+use Rattle.machine_core.specs.Vocabulary.{IsLive, entry_at, main_at, no_ref, node_at, times, pair, parting, changed, old_hash, key_of, key_hash}
 use Rattle.machine_model.specs.declared.building.Change.TheVariants as change
-use Rattle.machine_model.specs.Building.{changed, old_hash}
-use Rattle.machine_model.specs.Calls.{key_of}
-use Rattle.machine_model.specs.States.{key_hash}
 use Rattle.machine_core.specs.Beneath.proof_straight.specs.Changes.{with_pair, with_single}
 use Rattle.machine_core.specs.Beneath.proof_straight.specs.Drafts.{first_draft, with_made}
 use Rattle.machine_core.specs.Pairing.{IsMade}

@@ -1,7 +1,6 @@
 use Rattle.std.proofs.Common.{◌≡◌, ◌+◌, ◌*◌, drop}
 use Rattle.std.specs.List.{flat_map}
-use Rattle.slot_arena.specs.Heaps.{entries_of, node_at}
-use Rattle.machine_model.specs.Contents.{pairs_below}
+use Rattle.machine_core.specs.Vocabulary.{entries_of, node_at, pairs_below}
 use Rattle.proof_core.specs.Reading.{first_of}
 use Rattle.machine_core.proofs.picking.+picking.Given as goal
 

@@ -1,6 +1,5 @@
 use Rattle.std.proofs.Common.{sym, ap, subst, ◌∙◌}
-use Rattle.machine_model.specs.Contents.{content_at, most_levels, pairs_below}
-use Rattle.machine_model.specs.States.{root_of, word_at}
+use Rattle.machine_core.specs.Vocabulary.{content_at, most_levels, pairs_below, root_of, word_at}
 use Rattle.proof_core.specs.Reading.{IsOneOf, first_of}
 use Rattle.machine_core.specs.Seen.{seen}
 use Rattle.proof_core.proofs.Picked.{one_of}

@@ -1,6 +1,6 @@
 use Rattle.std.proofs.Common.{arith, length, get_or, ap, ◌∙◌}
 use Rattle.std.proofs.lemmas.List.{get_or_default}
-use Rattle.slot_arena.specs.Heaps.{entries_of, no_ref, node_at}
+use Rattle.machine_core.specs.Vocabulary.{entries_of, no_ref, node_at}
 use Rattle.machine_core.proofs.Passed.{decided_all, decided_first, decided_next}
 use Rattle.machine_core.proofs.renewing.are_decided.Goals as goal
 

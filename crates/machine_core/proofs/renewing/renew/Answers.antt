@@ -1,8 +1,6 @@
 use Rattle.std.proofs.Common.{arith, ◌+◌, ◌*◌, length, [], ap, refl, sym, ◌∙◌}
 use Rattle.std.proofs.lemmas.List.{take_all}
-use Rattle.slot_arena.specs.Heaps.{bitmap_of, entries_of}
-use Rattle.slot_arena.specs.Times.{times}
-use Rattle.slot_arena.specs.declared.nodes.Node.TheVariants.{Branch}
+use Rattle.machine_core.specs.Vocabulary.{bitmap_of, entries_of, times, Branch}
 use Rattle.machine_core.proofs.Paired.{can_begin, can_swap_still}
 use Rattle.machine_core.proofs.Renewed.{all_renewed, can_one, few_made, first_renewing, next_renewing}
 use Rattle.machine_core.proofs.renewing.renew.Goals as goal

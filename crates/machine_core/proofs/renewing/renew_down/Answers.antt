@@ -1,5 +1,5 @@
 use Rattle.std.proofs.Common.{arith, ◌≡◌, subst}
-use Rattle.slot_arena.specs.Heaps.{node_at}
+use Rattle.machine_core.specs.Vocabulary.{node_at}
 use Rattle.machine_core.specs.Renewing.{IsOn}
 use Rattle.machine_core.proofs.renewing.renew_down.Goals as goal
 

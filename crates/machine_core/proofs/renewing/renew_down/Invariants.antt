@@ -1,4 +1,4 @@
-use Rattle.slot_arena.specs.Heaps.{node_at}
+use Rattle.machine_core.specs.Vocabulary.{node_at}
 use Rattle.machine_core.proofs.WayDown.{ComesOn}
 use Rattle.machine_core.proofs.renewing.renew_down.Given as goal
 

@@ -1,11 +1,5 @@
 use Rattle.std.proofs.Common.{arith, ◌≡◌, [], refl, ap, set, sym, subst, ◌∙◌}
-use Rattle.slot_arena.specs.Arenas.{AreLive}
-use Rattle.slot_arena.specs.Heaps.{refs_of_option}
-use Rattle.slot_arena.specs.Times.{times}
-use Rattle.machine_model.specs.Counting.{refs_of_root}
-use Rattle.machine_model.specs.declared.roots.RootWord.TheVariants.{Plain}
-use Rattle.machine_model.specs.Acting.{opened}
-use Rattle.machine_model.specs.States.{with_root}
+use Rattle.machine_core.specs.Vocabulary.{AreLive, refs_of_option, times, refs_of_root, Plain, opened, with_root}
 use Rattle.machine_core.specs.Beneath.proof_straight.specs.Drafts.{redrafted}
 use Rattle.machine_core.specs.Beneath.rdcss_root.specs.Holding.{root_refs}
 use Rattle.machine_core.specs.Beneath.rdcss_root.specs.Tables.{Table, opened_in, with_root_in}

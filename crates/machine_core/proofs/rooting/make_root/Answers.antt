@@ -1,5 +1,5 @@
 use Rattle.std.proofs.Common.{◌+◌, ap, sym, subst}
-use Rattle.slot_arena.specs.declared.nodes.Node.TheVariants.{Indirection}
+use Rattle.machine_core.specs.Vocabulary.{Indirection}
 use Rattle.machine_core.specs.Beneath.proof_straight.specs.Drafts.{with_made}
 use Rattle.proof_core.specs.Drafting.{IsDraft}
 use Rattle.machine_core.proofs.Rooted.{draft_rebased}

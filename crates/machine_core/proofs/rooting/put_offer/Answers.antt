@@ -1,7 +1,5 @@
 use Rattle.std.proofs.Common.{arith, ◌≡◌, [], refl, ap, set, ◌∙◌}
-use Rattle.slot_arena.specs.Times.{times}
-use Rattle.machine_model.specs.declared.roots.RootWord.TheVariants.{Offer}
-use Rattle.machine_model.specs.States.{with_root}
+use Rattle.machine_core.specs.Vocabulary.{times, Offer, with_root}
 use Rattle.machine_core.specs.Beneath.rdcss_root.specs.Holding.{root_refs}
 use Rattle.machine_core.specs.Beneath.rdcss_root.specs.Tables.{Table}
 use Rattle.machine_core.specs.Rooting.{writable}

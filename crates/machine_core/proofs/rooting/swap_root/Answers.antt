@@ -1,6 +1,5 @@
 use Rattle.std.proofs.Common.{◌≡◌, [], refl, ap, set, sym, ◌∙◌}
-use Rattle.machine_model.specs.declared.roots.RootWord.TheVariants.{Offer}
-use Rattle.machine_model.specs.States.{with_root}
+use Rattle.machine_core.specs.Vocabulary.{Offer, with_root}
 use Rattle.machine_core.specs.Beneath.proof_straight.specs.Drafts.{redrafted}
 use Rattle.machine_core.specs.Beneath.rdcss_root.specs.Tables.{Table}
 use Rattle.machine_core.specs.Rooting.{writable}

@@ -1,6 +1,5 @@
 use Rattle.std.proofs.Common.{arith, [], refl, ap, set, ◌∙◌, None}
-use Rattle.slot_arena.specs.Times.{times}
-use Rattle.machine_model.specs.States.{with_root}
+use Rattle.machine_core.specs.Vocabulary.{times, with_root}
 use Rattle.machine_core.specs.Beneath.rdcss_root.specs.Holding.{root_refs}
 use Rattle.machine_core.specs.Beneath.rdcss_root.specs.Tables.{Table}
 use Rattle.proof_core.proofs.Drafts.{settled_over}

@@ -1,12 +1,6 @@
 use Rattle.std.proofs.Common.{◌≡◌, ◌+◌, ◌-◌, ◌++◌, true, length, Some, arith, sym, ap, ap₂, subst, ◌∙◌}
 use Rattle.std.specs.List.{flat_map}
-use Rattle.ctrie_base.specs.Hashes.{hash_of}
-use Rattle.ctrie_base.specs.Paths.{position_of}
-use Rattle.slot_arena.specs.Heaps.{bitmap_of, entries_of, entry_at, no_ref, node_at}
-use Rattle.slot_arena.specs.Views.{viewed}
-use Rattle.machine_core.specs.Beneath.nodes.specs.Levels.{flag_of, has_flag}
-use Rattle.machine_model.specs.Contents.{pairs_below}
-use Rattle.machine_model.specs.Pairs.{by_key}
+use Rattle.machine_core.specs.Vocabulary.{hash_of, position_of, bitmap_of, entries_of, entry_at, no_ref, node_at, viewed, flag_of, has_flag, pairs_below, by_key}
 use Rattle.proof_core.specs.Reading.{next_of}
 use Rattle.machine_core.specs.Scanning.{IsMainOnWay, IsOnWay}
 use Rattle.machine_core.proofs.Scans.{flagged_on_way, listed_next}

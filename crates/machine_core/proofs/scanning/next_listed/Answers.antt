@@ -1,8 +1,6 @@
 use Rattle.std.proofs.Common.{ap, ◌∙◌}
 use Rattle.std.specs.List.{flat_map}
-use Rattle.slot_arena.specs.Heaps.{entries_of, node_at}
-use Rattle.machine_model.specs.Contents.{pairs_below}
-use Rattle.machine_model.specs.Pairs.{by_key}
+use Rattle.machine_core.specs.Vocabulary.{entries_of, node_at, pairs_below, by_key}
 use Rattle.proof_core.specs.Reading.{next_of}
 use Rattle.machine_core.proofs.Selections.{selects_next}
 use Rattle.machine_core.proofs.scanning.next_listed.Goals as goal

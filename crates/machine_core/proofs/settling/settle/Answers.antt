@@ -1,5 +1,5 @@
 use Rattle.std.proofs.Common.{length, ◌+◌, refl, ap}
-use Rattle.slot_arena.specs.Times.{times}
+use Rattle.machine_core.specs.Vocabulary.{times}
 use Rattle.machine_core.specs.Seen.{seen}
 use Rattle.machine_core.proofs.Ends.{settles}
 use Rattle.machine_core.proofs.Kept.{kept_alike}

@@ -1,9 +1,5 @@
 use Rattle.std.proofs.Common.{List, [], ◌∷◌, refl, ap, ◌∙◌}
-use Rattle.slot_arena.specs.Refs.{ref_to}
-use Rattle.slot_arena.specs.declared.refs.Ref.{Ref}
-use Rattle.slot_arena.specs.Heaps.{Heap}
-use Rattle.epochs.specs.Limbo.{limbo_after}
-use Rattle.machine_model.specs.States.{first_heap}
+use Rattle.machine_core.specs.Vocabulary.{ref_to, Ref, Heap, limbo_after, first_heap}
 use Rattle.machine_core.proofs.Starts.{AreFirst, first_limbo, kept_first, seen_first}
 use Rattle.machine_core.proofs.starting.first_parts.Goals as goal
 

@@ -1,7 +1,5 @@
 use Rattle.std.proofs.Common.{◌≡◌, ◌+◌, ◌∷◌, [], length, ap, ◌∙◌, arith}
-use Rattle.slot_arena.specs.declared.refs.Ref.{Ref}
-use Rattle.slot_arena.specs.Times.{times}
-use Rattle.epochs.specs.Limbo.{limbo_after}
+use Rattle.machine_core.specs.Vocabulary.{Ref, times, limbo_after}
 use Rattle.epochs.proofs.Forgetting.{counts_alone}
 use Rattle.machine_core.proofs.Starts.{first_held, first_released, first_there, none_ready, settled_first}
 use Rattle.machine_core.proofs.starting.first_table.Goals as goal

@@ -1,8 +1,7 @@
 use Rattle.std.proofs.Common.{◌≡◌, None, sym, ap, subst, ◌∙◌, arith}
 use Rattle.epochs.specs.Memories.{Memory}
 use Rattle.machine_model.specs.declared.steps.Step.TheVariants as steps
-use Rattle.machine_model.specs.Machine.{go_denial, next}
-use Rattle.machine_model.specs.States.{State}
+use Rattle.machine_core.specs.Vocabulary.{go_denial, next, State}
 use Rattle.machine_core.specs.Seen.{seen}
 use Rattle.machine_core.specs.Told.{published_in}
 use Rattle.proof_core.specs.Work.{WorksUpTo, ticks_of_a_step}

@@ -1,6 +1,5 @@
 use Rattle.std.proofs.Common.{arith, refl, sym, ap, ◌∙◌}
-use Rattle.machine_model.specs.States.{key_hash}
-use Rattle.machine_core.specs.Beneath.nodes.specs.Levels.{flag_of}
+use Rattle.machine_core.specs.Vocabulary.{key_hash, flag_of}
 use Rattle.machine_core.specs.Seen.{seen}
 use Rattle.machine_core.proofs.Carried.{can_swap_at, drafted_first, remove_done}
 use Rattle.machine_core.proofs.straight.remove.Goals as goal

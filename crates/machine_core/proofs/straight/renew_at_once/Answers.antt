@@ -1,5 +1,5 @@
 use Rattle.std.proofs.Common.{arith, sym, ◌∙◌}
-use Rattle.slot_arena.specs.Heaps.{node_at}
+use Rattle.machine_core.specs.Vocabulary.{node_at}
 use Rattle.machine_core.specs.Seen.{seen}
 use Rattle.machine_core.proofs.WayDown.{ends_there, fit_there, leads_there, leaves_there, on_started}
 use Rattle.machine_core.proofs.straight.renew_at_once.Goals as goal

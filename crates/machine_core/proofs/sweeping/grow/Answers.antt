@@ -1,5 +1,5 @@
 use Rattle.std.proofs.Common.{◌≡◌, ◌≤◌, ◌+◌, refl, sym, ap, ◌∙◌, subst, arith}
-use Rattle.epochs.specs.Limbo.{limbo_after}
+use Rattle.machine_core.specs.Vocabulary.{limbo_after}
 use Rattle.epochs.specs.Memories.{Memory}
 use Rattle.machine_core.specs.Keeping.{IsCore}
 use Rattle.machine_core.specs.Seen.{seen}

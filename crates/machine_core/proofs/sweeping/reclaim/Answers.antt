@@ -1,8 +1,6 @@
 use Rattle.std.proofs.Common.{◌≡◌, Ok, ap, subst}
 use Rattle.machine_model.specs.declared.steps.Outcome.TheVariants as outcome
-use Rattle.machine_model.specs.declared.steps.Step.TheVariants.{Sweep}
-use Rattle.machine_model.specs.Machine.{next}
-use Rattle.machine_model.specs.States.{State}
+use Rattle.machine_core.specs.Vocabulary.{Sweep, next, State}
 use Rattle.proof_core.specs.Work.{Worked}
 use Rattle.machine_core.specs.declared.parts.Parts.{Parts}
 use Rattle.machine_core.specs.Seen.{seen}

@@ -1,5 +1,5 @@
 use Rattle.std.proofs.Common.{◌+◌, refl, ap, ◌∙◌, arith}
-use Rattle.slot_arena.specs.Times.{times}
+use Rattle.machine_core.specs.Vocabulary.{times}
 use Rattle.machine_core.specs.Seen.{seen}
 use Rattle.machine_model.specs.declared.steps.Step.TheVariants as steps
 use Rattle.proof_core.proofs.Bounded.{bounded, taken_run}

@@ -1,27 +1,15 @@
 -- The lines of KEY where its path ends, for an actor that is alone: each leads to the end or to BUILD, whatever follows that.
 use Rattle.std.proofs.Common.{◌≡◌, ℕ, zero, suc, ◌+◌, ◌-◌, ◌==◌, ◌&&◌, ◌<◌, ◌≤◌, Bool, true, false, nat_lt, nat_le, List, length, Option, Some, None, if◌then◌else◌, refl, sym}
 use Rattle.std.proofs.Common.{subst, ap, ◌∙◌, ltb-true, arith}
-use Rattle.proof_obstruction_free.specs.Beneath.history.specs.declared.calls.Access.{Access}
-use Rattle.proof_obstruction_free.specs.Beneath.history.specs.declared.calls.Access.TheVariants.{Writable, ReadOnly}
-use Rattle.proof_obstruction_free.specs.Beneath.history.specs.declared.replies.Reply.{Reply}
+use Rattle.proof_obstruction_free.specs.Vocabulary.{Access, Writable, ReadOnly, Reply, Ref, Node, Indirection, Branch, Single, Tomb, List as Listed, node_at, node_of, entry_at, entries_of}
+use Rattle.proof_obstruction_free.specs.Vocabulary.{BuildLine, WhenFound, Answers, Sets, Removes, Operation, when_found, inserts, absent_reply, key_of, absent, absent_beside, absent_listed}
+use Rattle.proof_obstruction_free.specs.Vocabulary.{removing, found_so, found, after_listed, after_sibling, key_after_entry, is_below_root, State}
 use Rattle.proof_obstruction_free.specs.Beneath.history.specs.declared.replies.Reply.TheVariants as reply
-use Rattle.proof_obstruction_free.specs.Beneath.slot_arena.specs.declared.refs.Ref.{Ref}
-use Rattle.proof_obstruction_free.specs.Beneath.slot_arena.specs.declared.nodes.Node.{Node}
-use Rattle.proof_obstruction_free.specs.Beneath.slot_arena.specs.declared.nodes.Node.TheVariants.{Indirection, Branch, Single, Tomb, List as Listed}
-use Rattle.proof_obstruction_free.specs.Beneath.slot_arena.specs.Heaps.{node_at, node_of, entry_at, entries_of}
-use Rattle.proof_obstruction_free.specs.Beneath.machine_model.specs.declared.building.BuildLine.{BuildLine}
 use Rattle.proof_obstruction_free.specs.Beneath.machine_model.specs.declared.building.BuildLine.TheVariants as build
 use Rattle.proof_obstruction_free.specs.Beneath.machine_model.specs.declared.building.Change.TheVariants as change
 use Rattle.proof_obstruction_free.specs.Beneath.machine_model.specs.declared.building.Site.TheVariants as site
 use Rattle.proof_obstruction_free.specs.Beneath.machine_model.specs.declared.finding.KeyLine.TheVariants as key
-use Rattle.proof_obstruction_free.specs.Beneath.machine_model.specs.declared.finding.WhenFound.{WhenFound}
-use Rattle.proof_obstruction_free.specs.Beneath.machine_model.specs.declared.finding.WhenFound.TheVariants.{Answers, Sets, Removes}
 use Rattle.proof_obstruction_free.specs.Beneath.machine_model.specs.declared.lines.Line.TheVariants as line
-use Rattle.proof_obstruction_free.specs.Beneath.machine_model.specs.declared.operations.Operation.{Operation}
-use Rattle.proof_obstruction_free.specs.Beneath.machine_model.specs.Calls.{when_found, inserts, absent_reply, key_of}
-use Rattle.proof_obstruction_free.specs.Beneath.machine_model.specs.Finding.{absent, absent_beside, absent_listed, removing, found_so, found, after_listed, after_sibling, key_after_entry}
-use Rattle.proof_obstruction_free.specs.Beneath.machine_model.specs.Paths.{is_below_root}
-use Rattle.proof_obstruction_free.specs.Beneath.machine_model.specs.States.{State}
 use Rattle.proof_obstruction_free.specs.Beneath.proof_memory.specs.Wants.{listed, meets}
 use Rattle.proof_obstruction_free.specs.Beneath.proof_memory.proofs.Claims.Uses.{safe_of, meets_of}
 use Rattle.proof_obstruction_free.specs.Beneath.proof_memory.proofs.Safety.AtTimes.{kind_at, node_found}

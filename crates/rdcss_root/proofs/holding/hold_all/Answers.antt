@@ -1,5 +1,5 @@
 use Rattle.std.proofs.Common.{ap, arith, sym, ◌≡◌, ◌+◌, length}
-use Rattle.rdcss_root.specs.Beneath.slot_arena.specs.Times.{times}
+use Rattle.rdcss_root.specs.Vocabulary.{times}
 use Rattle.rdcss_root.specs.Beneath.slot_arena.proofs.Times.{times-cons, times_le}
 use Rattle.trie_parts.proofs.Counting.{times_more, times_part, times_all}
 use Rattle.rdcss_root.proofs.Keeping.{kept_on, live_at}

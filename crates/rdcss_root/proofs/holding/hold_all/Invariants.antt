@@ -1,5 +1,5 @@
 use Rattle.std.proofs.Common.{◌≡◌, ◌+◌, ℕ, take}
-use Rattle.rdcss_root.specs.Beneath.slot_arena.specs.Times.{times}
+use Rattle.rdcss_root.specs.Vocabulary.{times}
 use Rattle.rdcss_root.specs.Holding.{KeepsMemory}
 use Rattle.rdcss_root.proofs.holding.hold_all.Given as goal
 

@@ -1,5 +1,5 @@
 use Rattle.std.proofs.Common.{◌-◌, ◌++◌, take, replicate, vec_len, Option, None, ap, ◌∙◌}
-use Rattle.rdcss_root.specs.Beneath.machine_model.specs.declared.roots.Root.{Root}
+use Rattle.rdcss_root.specs.Vocabulary.{Root}
 use Rattle.rdcss_root.proofs.roots.no_roots.Goals as goal
 
 pub returns : goal.returns

@@ -1,5 +1,5 @@
 use Rattle.std.proofs.Common.{◌≡◌, IfOk, OnOk, Option, subst, sym}
-use Rattle.ctrie_base.specs.declared.refusals.Refusal.{Refusal}
+use Rattle.script_commands.specs.Vocabulary.{Refusal}
 use Rattle.script_commands.specs.Beneath.machine_model.specs.declared.steps.Step.TheVariants.{Begin}
 use Rattle.script_commands.specs.Beneath.proof_runs.specs.Machines.{state_of}
 use Rattle.script_commands.specs.Recorded.{Recorded, recorded_in}

@@ -1,5 +1,5 @@
 use Rattle.std.proofs.Common.{◌≡◌, ◌+◌, ◌-◌, sym, ◌∙◌, arith, true, false}
-use Rattle.script_commands.specs.Beneath.machine_model.specs.Machine.{next_kind}
+use Rattle.script_commands.specs.Vocabulary.{next_kind}
 use Rattle.script_text.specs.Steps.{stops}
 use Rattle.script_commands.specs.Recorded.{recorded_in}
 use Rattle.script_commands.proofs.Carrying.{going_none, going_stops, going_on}

@@ -1,6 +1,6 @@
 -- The steps that are left come to what all of them do.
 use Rattle.std.proofs.Common.{◌≡◌, ◌-◌, replicate}
-use Rattle.script_commands.specs.Beneath.machine_model.specs.declared.steps.Step.TheVariants.{Sweep}
+use Rattle.script_commands.specs.Vocabulary.{Sweep}
 use Rattle.script_commands.specs.Recorded.{recorded_from, recorded_in}
 use Rattle.script_commands.proofs.stepping.sweep.Given as goal
 

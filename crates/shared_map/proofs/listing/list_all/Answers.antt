@@ -1,5 +1,5 @@
 use Rattle.std.proofs.Common.{◌≡◌, false, None, IfOk, sym, ap, subst, ◌∙◌}
-use Rattle.machine_model.specs.Pairs.{by_key}
+use Rattle.shared_map.specs.Vocabulary.{by_key}
 use Rattle.shared_map.specs.Listing.{collected}
 use Rattle.shared_map.proofs.Listed.{listed}
 use Rattle.shared_map.proofs.listing.list_all.Goals as goal

@@ -1,4 +1,4 @@
-use Rattle.history.specs.declared.calls.Call.TheVariants.{Snapshot}
+use Rattle.shared_map.specs.Vocabulary.{Snapshot}
 use Rattle.std.proofs.Common.{true, false, Ok, refl, sym, subst, ◌∙◌}
 use Rattle.shared_map.specs.Restoring.{RestoresOne}
 use Rattle.shared_map.specs.Visits.{VisitedEach}

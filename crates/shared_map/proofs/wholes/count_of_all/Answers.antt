@@ -1,4 +1,4 @@
-use Rattle.history.specs.declared.calls.Call.TheVariants.{Count}
+use Rattle.shared_map.specs.Vocabulary.{Count}
 use Rattle.history.specs.declared.replies.Reply.TheVariants as reply
 use Rattle.std.proofs.Common.{Ok, sym, subst}
 use Rattle.shared_map.specs.Wholes.{RepliesIf}

@@ -1,5 +1,5 @@
 use Rattle.std.proofs.Common.{subst}
-use Rattle.history.specs.declared.calls.Call.TheVariants.{Close}
+use Rattle.ctrie_map.specs.Vocabulary.{Close}
 use Rattle.ctrie_map.specs.Performing.{Performs}
 use Rattle.ctrie_map.proofs.Closings.{close_done, close_refused}
 use Rattle.ctrie_map.proofs.map.Map.close.Goals as goal

@@ -1,5 +1,5 @@
 use Rattle.std.proofs.Common.{◌≡◌, Option, Some, None, List, replicate, slice_set, ap, rules}
-use Rattle.history.specs.declared.calls.Access.TheVariants.{Writable}
+use Rattle.ctrie_map.specs.Vocabulary.{Writable}
 use Rattle.ctrie_map.specs.declared.names.Name.{Name}
 use Rattle.ctrie_map.proofs.names.Names.new.Goals as goal
 

@@ -1,6 +1,6 @@
 use Rattle.std.proofs.Common.{◌≡◌, Err, sym, ap, ◌∙◌, subst}
 use Rattle.machine_model.specs.declared.steps.Step.TheVariants as steps
-use Rattle.machine_model.specs.Machine.{next}
+use Rattle.machine_core.specs.Vocabulary.{next}
 use Rattle.proof_core.specs.Bounds.{Applies}
 use Rattle.machine_core.specs.Seen.{seen}
 use Rattle.machine_core.specs.Told.{published_in, stepped}

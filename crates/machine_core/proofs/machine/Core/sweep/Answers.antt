@@ -1,6 +1,6 @@
 use Rattle.std.proofs.Common.{Err, sym, subst}
 use Rattle.machine_model.specs.declared.steps.Step.TheVariants as steps
-use Rattle.machine_model.specs.Machine.{next}
+use Rattle.machine_core.specs.Vocabulary.{next}
 use Rattle.proof_core.specs.Bounds.{Answers}
 use Rattle.machine_core.specs.Seen.{seen}
 use Rattle.proof_core.specs.Work.{Worked}

@@ -1,6 +1,6 @@
 use Rattle.std.proofs.Common.{sym, ap, ◌∙◌}
 use Rattle.std.specs.Prelude.{option_map}
-use Rattle.machine_model.specs.declared.operations.Operation.{Operation}
+use Rattle.machine_core.specs.Vocabulary.{Operation}
 use Rattle.machine_core.specs.Seen.{operation_at}
 use Rattle.machine_core.specs.Told.{published_of}
 use Rattle.machine_core.proofs.parts.Actor.published.Goals as goal

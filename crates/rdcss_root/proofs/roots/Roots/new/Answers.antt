@@ -1,5 +1,5 @@
 use Rattle.std.proofs.Common.{rules, ◌+◌, ◌≡◌, ℕ, List, Bool, false, Option, None, replicate, ap, ◌∙◌}
-use Rattle.rdcss_root.specs.Beneath.machine_model.specs.declared.roots.Root.{Root}
+use Rattle.rdcss_root.specs.Vocabulary.{Root}
 use Rattle.rdcss_root.specs.Tables.{Table}
 use Rattle.rdcss_root.proofs.roots.Roots.new.Goals as goal
 

@@ -1,5 +1,5 @@
 use Rattle.std.proofs.Common.{arith, ap}
-use Rattle.running.specs.Beneath.slot_arena.specs.Times.{times}
+use Rattle.running.specs.Vocabulary.{times}
 use Rattle.running.proofs.programs.Programs.end.Goals as goal
 
 pub returns-clause-others : goal.returns-clause-others

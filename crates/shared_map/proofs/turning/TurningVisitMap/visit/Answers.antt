@@ -1,6 +1,6 @@
 use Rattle.std.proofs.Common.{◌≡◌, ◌<◌, None, refl, sym, subst}
 use Rattle.std.specs.FinMap as maps
-use Rattle.machine_model.specs.States.{handle_limit}
+use Rattle.shared_map.specs.Vocabulary.{handle_limit}
 use Rattle.ctrie_map.specs.Maps.{handles_of}
 use Rattle.ctrie_map.specs.Sharding.{PerformsUnder}
 use Rattle.shared_map.specs.declared.turning.Turn.TheVariants as turn

@@ -1,6 +1,5 @@
 use Rattle.std.proofs.Common.{arith, ap, ◌∙◌}
-use Rattle.snapshot.specs.Beneath.machine_model.specs.Walking.{rest_of}
-use Rattle.snapshot.specs.Beneath.slot_arena.specs.declared.refs.Ref.{Ref}
+use Rattle.snapshot.specs.Vocabulary.{rest_of, Ref}
 use Rattle.snapshot.specs.Growing.{Growing}
 use Rattle.snapshot.proofs.Stacks.{popped}
 use Rattle.snapshot.proofs.todo.Todo.drop_first.Goals as goal

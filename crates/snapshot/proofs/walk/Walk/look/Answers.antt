@@ -1,7 +1,7 @@
 use Rattle.std.proofs.Common.{refl, sym, ap, ◌∙◌, ◌++◌}
 use Rattle.snapshot.specs.Beneath.machine_model.specs.declared.lines.Line.TheVariants as line
 use Rattle.snapshot.specs.Beneath.machine_model.specs.declared.walking.WalkLine.TheVariants as walk
-use Rattle.snapshot.specs.Beneath.machine_model.specs.Walking.{walk_next}
+use Rattle.snapshot.specs.Vocabulary.{walk_next}
 use Rattle.snapshot.specs.Tasks.{at_roots}
 use Rattle.snapshot.specs.Walks.{behind_walk, on_call}
 use Rattle.snapshot.proofs.Nexts.{by_next}

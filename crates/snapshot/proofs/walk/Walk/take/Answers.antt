@@ -1,9 +1,7 @@
 use Rattle.std.proofs.Common.{rules, refl, ap, ◌∙◌, ◌≡◌}
-use Rattle.snapshot.specs.Beneath.slot_arena.specs.declared.nodes.Node.TheVariants.{Single}
-use Rattle.snapshot.specs.Beneath.slot_arena.specs.Heaps.{node_at}
+use Rattle.snapshot.specs.Vocabulary.{Single, node_at, walk_after_entry, first_of, rest_of}
 use Rattle.snapshot.specs.Beneath.machine_model.specs.declared.lines.Line.TheVariants as line
 use Rattle.snapshot.specs.Beneath.machine_model.specs.declared.walking.WalkLine.TheVariants as walk
-use Rattle.snapshot.specs.Beneath.machine_model.specs.Walking.{walk_after_entry, first_of, rest_of}
 use Rattle.snapshot.specs.Tasks.{at_roots}
 use Rattle.snapshot.specs.Walks.{behind_walk, on_call}
 use Rattle.snapshot.proofs.Nexts.{by_next}

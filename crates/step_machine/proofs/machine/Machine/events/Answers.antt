@@ -1,5 +1,5 @@
 use Rattle.std.proofs.Common.{refl}
-use Rattle.machine_model.specs.Records.{order_of}
+use Rattle.step_machine.specs.Vocabulary.{order_of}
 use Rattle.proof_runs.specs.Machines.{past_of}
 use Rattle.proof_runs.proofs.Legality.{legal}
 use Rattle.step_machine.proofs.machine.Machine.events.Goals as goal

@@ -1,4 +1,4 @@
-use Rattle.machine_model.specs.Limits.{bounded}
+use Rattle.step_machine.specs.Vocabulary.{bounded}
 use Rattle.proof_runs.proofs.Bounds.{in_bounds}
 use Rattle.step_machine.proofs.machine.Machine.explained.Goals as goal
 

@@ -1,6 +1,5 @@
 use Rattle.std.proofs.Common.{ap, refl, ◌∙◌}
-use Rattle.machine_model.specs.Limits.{bounded}
-use Rattle.machine_model.specs.States.{first_state}
+use Rattle.step_machine.specs.Vocabulary.{bounded, first_state}
 use Rattle.step_machine.proofs.Steps.{holds_at_first}
 use Rattle.step_machine.proofs.machine.Machine.new.Goals as goal
 

@@ -1,5 +1,5 @@
 use Rattle.std.proofs.Common.{◌≤◌, subst}
-use Rattle.machine_model.specs.States.{State}
+use Rattle.step_machine.specs.Vocabulary.{State}
 use Rattle.step_machine.proofs.Bounds.{most_taken}
 use Rattle.step_machine.proofs.machine.Machine.steps_taken.Goals as goal
 

@@ -1,0 +1,32 @@
+-- The words of the definition, for the files of this crate.
+pub use Rattle.proof_alone.specs.Beneath.ctrie_base.specs.Hashes.{hash_of}
+pub use Rattle.proof_alone.specs.Beneath.ctrie_base.specs.declared.kinds.Kind.{Kind}
+pub use Rattle.proof_alone.specs.Beneath.slot_arena.specs.Heaps.{Heap, in_use}
+pub use Rattle.proof_alone.specs.Beneath.history.specs.Effects.{Effect}
+pub use Rattle.proof_alone.specs.Beneath.history.specs.Worlds.{HandleMap}
+pub use Rattle.proof_alone.specs.Beneath.history.specs.declared.calls.Call.{Call}
+pub use Rattle.proof_alone.specs.Beneath.history.specs.declared.calls.Call.TheVariants.{Clear, Close, Count, Entries, Freeze, Snapshot}
+pub use Rattle.proof_alone.specs.Beneath.history.specs.declared.events.Event.{Event}
+pub use Rattle.proof_alone.specs.Beneath.history.specs.declared.replies.Reply.{Reply}
+pub use Rattle.proof_alone.specs.Beneath.history.specs.declared.replies.Reply.TheVariants.{Closed, NoSlots}
+pub use Rattle.proof_alone.specs.Beneath.machine_model.specs.Acting.{gone, operation_after}
+pub use Rattle.proof_alone.specs.Beneath.machine_model.specs.Calls.{is_close, key_of}
+pub use Rattle.proof_alone.specs.Beneath.machine_model.specs.Contents.{content_at}
+pub use Rattle.proof_alone.specs.Beneath.machine_model.specs.Counting.{settled}
+pub use Rattle.proof_alone.specs.Beneath.machine_model.specs.Keys.{FitsKey, KeysFit}
+pub use Rattle.proof_alone.specs.Beneath.machine_model.specs.Laws.{FindsNoSlot}
+pub use Rattle.proof_alone.specs.Beneath.machine_model.specs.Machine.{Answer, AreBounds, begin_denial, begin_unless, begun_operation, is_busy, is_taken_step, next_state, run, state_after}
+pub use Rattle.proof_alone.specs.Beneath.machine_model.specs.Machine.{with_begin}
+unfoldable pub use Rattle.proof_alone.specs.Beneath.machine_model.specs.Machine.{next}
+pub use Rattle.proof_alone.specs.Beneath.machine_model.specs.Moves.{Begins, Ends, Moves, Sweeps}
+pub use Rattle.proof_alone.specs.Beneath.machine_model.specs.Records.{Record, first_record, next_record, noted, record_of}
+pub use Rattle.proof_alone.specs.Beneath.machine_model.specs.States.{State, operation_of, root_at}
+unfoldable pub use Rattle.proof_alone.specs.Beneath.machine_model.specs.States.{first_state}
+pub use Rattle.proof_alone.specs.Beneath.machine_model.specs.Tellings.{told_in}
+pub use Rattle.proof_alone.specs.Beneath.machine_model.specs.declared.operations.Operation.{Operation}
+pub use Rattle.proof_alone.specs.Beneath.machine_model.specs.declared.roots.Root.{Root}
+pub use Rattle.proof_alone.specs.Beneath.machine_model.specs.declared.steps.Bounds.{Bounds}
+pub use Rattle.proof_alone.specs.Beneath.machine_model.specs.declared.steps.Outcome.{Outcome}
+pub use Rattle.proof_alone.specs.Beneath.machine_model.specs.declared.steps.Outcome.TheVariants.{Began, Ended, Went}
+pub use Rattle.proof_alone.specs.Beneath.machine_model.specs.declared.steps.Step.{Step}
+pub use Rattle.proof_alone.specs.Beneath.machine_model.specs.declared.steps.Step.TheVariants.{Go, Sweep}

@@ -1,0 +1,87 @@
+-- The words of the definition, for the files of this crate.
+pub use Rattle.proof_updates.specs.Beneath.ctrie_base.specs.Hashes.{hash_of}
+pub use Rattle.proof_updates.specs.Beneath.ctrie_base.specs.Paths.{position_of}
+pub use Rattle.proof_updates.specs.Beneath.ctrie_base.specs.declared.hashes.HashKind.{HashKind}
+pub use Rattle.proof_updates.specs.Beneath.slot_arena.specs.Heaps.{Heap, entries_of, entry_at, generation_at, generation_of, logical_main, main_at, next_ref, no_ref, node_of, prev_of, refs_of_node}
+pub use Rattle.proof_updates.specs.Beneath.slot_arena.specs.Heaps.{refs_of_prev, refs_of_slot}
+unfoldable pub use Rattle.proof_updates.specs.Beneath.slot_arena.specs.Heaps.{node_at, prev_at}
+pub use Rattle.proof_updates.specs.Beneath.slot_arena.specs.declared.nodes.Node.{Node}
+pub use Rattle.proof_updates.specs.Beneath.slot_arena.specs.declared.nodes.Node.TheVariants.{Branch, Indirection, List, Single, Tomb}
+pub use Rattle.proof_updates.specs.Beneath.slot_arena.specs.declared.nodes.Prev.{Prev}
+pub use Rattle.proof_updates.specs.Beneath.slot_arena.specs.declared.refs.Ref.{Ref}
+pub use Rattle.proof_updates.specs.Beneath.nodes.specs.Builders.{contracted, pair}
+pub use Rattle.proof_updates.specs.Beneath.nodes.specs.Levels.{flag_of, has_flag, index_in}
+pub use Rattle.proof_updates.specs.Beneath.places.specs.Places.{on_time}
+pub use Rattle.proof_updates.specs.Beneath.places.specs.declared.place.Place.{Place}
+pub use Rattle.proof_updates.specs.Beneath.history.specs.Changes.{change_in}
+pub use Rattle.proof_updates.specs.Beneath.history.specs.Worlds.{KeyMap}
+pub use Rattle.proof_updates.specs.Beneath.history.specs.declared.calls.Access.{Access}
+pub use Rattle.proof_updates.specs.Beneath.history.specs.declared.calls.Access.TheVariants.{ReadOnly, Writable}
+pub use Rattle.proof_updates.specs.Beneath.history.specs.declared.calls.Call.{Call}
+pub use Rattle.proof_updates.specs.Beneath.history.specs.declared.calls.Call.TheVariants.{Clear, Close, Count, Entries, Freeze, Get, Put, PutIfAbsent, Remove, RemoveIf, Replace, ReplaceIf, Snapshot}
+pub use Rattle.proof_updates.specs.Beneath.history.specs.declared.replies.Reply.{Reply}
+pub use Rattle.proof_updates.specs.Beneath.machine_model.specs.Acting.{gone, opened_root, operation_after}
+pub use Rattle.proof_updates.specs.Beneath.machine_model.specs.Building.{build_after, build_after_made, build_if_made}
+pub use Rattle.proof_updates.specs.Beneath.machine_model.specs.Calls.{changed_reply, handle_of, inserts, is_close, key_of, needs_read_only, when_found}
+pub use Rattle.proof_updates.specs.Beneath.machine_model.specs.Cleaning.{clean_after}
+pub use Rattle.proof_updates.specs.Beneath.machine_model.specs.Climbing.{climb_after, climb_after_contracted, climb_after_main, climb_after_read, climb_after_root}
+pub use Rattle.proof_updates.specs.Beneath.machine_model.specs.Contents.{content_at, pairs_at}
+unfoldable pub use Rattle.proof_updates.specs.Beneath.machine_model.specs.Contents.{pairs_below}
+pub use Rattle.proof_updates.specs.Beneath.machine_model.specs.Copying.{copied_reply, copy_after, copy_after_complete}
+pub use Rattle.proof_updates.specs.Beneath.machine_model.specs.Counting.{settled}
+pub use Rattle.proof_updates.specs.Beneath.machine_model.specs.Finding.{absent, absent_beside, absent_listed, after_listed, after_sibling, after_tomb, found, found_so, going_down, is_passable}
+pub use Rattle.proof_updates.specs.Beneath.machine_model.specs.Finding.{key_after, key_after_entry, key_after_main, key_after_read, passes}
+pub use Rattle.proof_updates.specs.Beneath.machine_model.specs.Grown.{node_under, prev_word}
+unfoldable pub use Rattle.proof_updates.specs.Beneath.machine_model.specs.Grown.{grown}
+pub use Rattle.proof_updates.specs.Beneath.machine_model.specs.Keys.{KeysFit}
+pub use Rattle.proof_updates.specs.Beneath.machine_model.specs.Lines.{new_try}
+pub use Rattle.proof_updates.specs.Beneath.machine_model.specs.Machine.{AreBounds, begin_denial, begun_operation, is_taken_step, run, state_after, taken_steps, with_begin}
+unfoldable pub use Rattle.proof_updates.specs.Beneath.machine_model.specs.Machine.{next, taken_from}
+pub use Rattle.proof_updates.specs.Beneath.machine_model.specs.Moves.{Begins, Ends, GoesOn, Moves, Sweeps}
+pub use Rattle.proof_updates.specs.Beneath.machine_model.specs.Operations.{action_of, after_root, after_update, climbed_on, first_line, generation_after, generation_from, given_root, line_action}
+pub use Rattle.proof_updates.specs.Beneath.machine_model.specs.Operations.{line_after, read_of, swapped}
+pub use Rattle.proof_updates.specs.Beneath.machine_model.specs.Pairs.{by_key}
+pub use Rattle.proof_updates.specs.Beneath.machine_model.specs.Paths.{above, current, depth_of, is_below_root, is_start}
+pub use Rattle.proof_updates.specs.Beneath.machine_model.specs.Reading.{read_after, read_step, reading}
+pub use Rattle.proof_updates.specs.Beneath.machine_model.specs.Records.{Record, closing_for, entered, is_placed, moment_after, moment_at, moment_given, noted, noted_progress, place_of, placed_by}
+pub use Rattle.proof_updates.specs.Beneath.machine_model.specs.Records.{read_at_after}
+pub use Rattle.proof_updates.specs.Beneath.machine_model.specs.Renewing.{renew_after, renew_after_branch, renew_after_entry, renew_after_link, renew_after_read, renew_next}
+pub use Rattle.proof_updates.specs.Beneath.machine_model.specs.States.{State, operation_of, rewritten, root_at, root_of, word_at, word_of}
+unfoldable pub use Rattle.proof_updates.specs.Beneath.machine_model.specs.States.{first_state}
+pub use Rattle.proof_updates.specs.Beneath.machine_model.specs.Swapping.{after_check, after_complete, after_deciding, after_publish, after_reading, complete_action_at, complete_after}
+pub use Rattle.proof_updates.specs.Beneath.machine_model.specs.Swapping.{is_carried_out, of_offer, on_line, root_after, swap_after}
+pub use Rattle.proof_updates.specs.Beneath.machine_model.specs.Tellings.{carried_by, committed_now, counts_from, entrant_of, given_in, progress_of, told_in}
+pub use Rattle.proof_updates.specs.Beneath.machine_model.specs.Times.{IsRun, Turn, last_of, noted_turn, records_of, states_of, turns}
+unfoldable pub use Rattle.proof_updates.specs.Beneath.machine_model.specs.Times.{states_from}
+pub use Rattle.proof_updates.specs.Beneath.machine_model.specs.Walking.{first_of, rest_of, walk_after, walk_after_entry, walked_reply}
+pub use Rattle.proof_updates.specs.Beneath.machine_model.specs.declared.building.BuildLine.{BuildLine}
+pub use Rattle.proof_updates.specs.Beneath.machine_model.specs.declared.building.Change.{Change}
+pub use Rattle.proof_updates.specs.Beneath.machine_model.specs.declared.copying.CopyLine.{CopyLine}
+pub use Rattle.proof_updates.specs.Beneath.machine_model.specs.declared.finding.KeyLine.{KeyLine}
+pub use Rattle.proof_updates.specs.Beneath.machine_model.specs.declared.finding.WhenFound.{WhenFound}
+pub use Rattle.proof_updates.specs.Beneath.machine_model.specs.declared.finding.WhenFound.TheVariants.{Answers, Removes, Sets}
+pub use Rattle.proof_updates.specs.Beneath.machine_model.specs.declared.lines.Line.{Line}
+pub use Rattle.proof_updates.specs.Beneath.machine_model.specs.declared.lines.Purpose.{Purpose}
+pub use Rattle.proof_updates.specs.Beneath.machine_model.specs.declared.operations.Operation.{Operation}
+pub use Rattle.proof_updates.specs.Beneath.machine_model.specs.declared.reading.After.{After}
+pub use Rattle.proof_updates.specs.Beneath.machine_model.specs.declared.reading.After.TheVariants.{Gives}
+pub use Rattle.proof_updates.specs.Beneath.machine_model.specs.declared.reading.Read.{Read}
+pub use Rattle.proof_updates.specs.Beneath.machine_model.specs.declared.reading.ReadLine.{ReadLine}
+pub use Rattle.proof_updates.specs.Beneath.machine_model.specs.declared.reading.Swap.{Swap}
+pub use Rattle.proof_updates.specs.Beneath.machine_model.specs.declared.reading.SwapLine.{SwapLine}
+pub use Rattle.proof_updates.specs.Beneath.machine_model.specs.declared.reading.SwapLine.TheVariants.{Deciding}
+pub use Rattle.proof_updates.specs.Beneath.machine_model.specs.declared.records.Moment.{Moment}
+pub use Rattle.proof_updates.specs.Beneath.machine_model.specs.declared.repairs.CleanLine.{CleanLine}
+pub use Rattle.proof_updates.specs.Beneath.machine_model.specs.declared.repairs.Climb.{Climb}
+pub use Rattle.proof_updates.specs.Beneath.machine_model.specs.declared.repairs.ClimbLine.{ClimbLine}
+pub use Rattle.proof_updates.specs.Beneath.machine_model.specs.declared.repairs.RenewLine.{RenewLine}
+pub use Rattle.proof_updates.specs.Beneath.machine_model.specs.declared.roots.Complete.{Complete}
+pub use Rattle.proof_updates.specs.Beneath.machine_model.specs.declared.roots.CompleteLine.{CompleteLine}
+pub use Rattle.proof_updates.specs.Beneath.machine_model.specs.declared.roots.Descriptor.{Descriptor}
+pub use Rattle.proof_updates.specs.Beneath.machine_model.specs.declared.roots.Root.{Root}
+pub use Rattle.proof_updates.specs.Beneath.machine_model.specs.declared.roots.RootLine.{RootLine}
+pub use Rattle.proof_updates.specs.Beneath.machine_model.specs.declared.roots.RootWord.TheVariants.{Plain}
+pub use Rattle.proof_updates.specs.Beneath.machine_model.specs.declared.steps.Bounds.{Bounds}
+pub use Rattle.proof_updates.specs.Beneath.machine_model.specs.declared.steps.Outcome.{Outcome}
+pub use Rattle.proof_updates.specs.Beneath.machine_model.specs.declared.steps.Step.{Step}
+pub use Rattle.proof_updates.specs.Beneath.machine_model.specs.declared.walking.WalkLine.{WalkLine}
