@@ -1,0 +1,1 @@
+-- What to cite from above: the laws.
