@@ -1,1 +1,3 @@
 -- What to cite from above: the laws.
+pub mod Weights
+pub mod Once

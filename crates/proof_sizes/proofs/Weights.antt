@@ -1,0 +1,75 @@
+-- Weights of the nodes that are reached from an entry: with 1 for each node their number, with 1 for one of them how often it is met.
+use Rattle.std.proofs.Common.{◌≡◌, ℕ, zero, suc, ◌+◌, ◌≤◌, List, [], ◌∷◌, Contains, length, sum_by, flat_map, ◌⊎◌, inl, inr, refl, sym, ap, subst, ◌∙◌, arith}
+use Rattle.std.proofs.lemmas.List.Sums.{sum_by-append, sum_by-cons}
+use Rattle.proof_sizes.specs.Beneath.slot_arena.specs.declared.refs.Ref.{Ref}
+use Rattle.proof_sizes.specs.Beneath.slot_arena.specs.declared.nodes.Node.{Node}
+use Rattle.proof_sizes.specs.Beneath.slot_arena.specs.declared.nodes.Node.TheVariants.{Indirection, Branch, Single, Tomb, List as Listed}
+use Rattle.proof_sizes.specs.Beneath.slot_arena.specs.Heaps.{entries_of}
+
+-- ---- the weight of what is reached, through these main nodes
+
+abbrev pub weight_at : (Ref → ℕ) → (Ref → ℕ) → (Ref → Node) → (Ref → Ref) → Ref → Node → ℕ
+weight_at weight below node main r (Indirection generation word) = weight r + weight (main r) + sum_by below (entries_of (node (main r)))
+weight_at weight below node main r n = weight r
+
+-- within so many levels
+unfoldable pub weight_from : (Ref → ℕ) → (Ref → Node) → (Ref → Ref) → ℕ → Ref → ℕ
+weight_from weight node main zero r = 0
+weight_from weight node main (suc levels) r = weight_at weight (weight_from weight node main levels) node main r (node r)
+
+-- each node counts once
+abbrev pub one : Ref → ℕ
+one r = 1
+
+-- how many nodes are reached
+abbrev pub size_from : (Ref → Node) → (Ref → Ref) → ℕ → Ref → ℕ
+size_from node main = weight_from one node main
+
+module _ (weight : Ref → ℕ) (node : Ref → Node) (main : Ref → Ref) where
+  pub weight_none : (r : Ref) → weight_from weight node main zero r ≡ 0
+  unfolding weight_from
+  weight_none r = refl
+
+  pub weight_node : (levels : ℕ) (r : Ref) → weight_from weight node main (suc levels) r ≡ weight_at weight (weight_from weight node main levels) node main r (node r)
+  unfolding weight_from
+  weight_node levels r = refl
+
+  pub weight_link : (levels g : ℕ) (r word : Ref) → node r ≡ Indirection g word →
+      weight_from weight node main (suc levels) r ≡ weight r + weight (main r) + sum_by (weight_from weight node main levels) (entries_of (node (main r)))
+  weight_link levels g r word is = weight_node levels r ∙ ap (weight_at weight (weight_from weight node main levels) node main r) is
+
+  pub weight_single : (levels k v : ℕ) (r : Ref) → node r ≡ Single k v → weight_from weight node main (suc levels) r ≡ weight r
+  weight_single levels k v r is = weight_node levels r ∙ ap (weight_at weight (weight_from weight node main levels) node main r) is
+
+-- ---- sums over entries
+
+module _ {X : Type 0} (f g : X → ℕ) where
+  -- of what holds of each
+  pub sum_same : (xs : List X) → ((x : X) → Contains xs x → f x ≡ g x) → sum_by f xs ≡ sum_by g xs
+  sum_same [] same = refl
+  sum_same (x ∷ xs) same =
+      let first = same x (0, omega arith, refl) in
+      let rest = sum_same xs (λ y within. same y (suc within.0, omega (arith, within.1), within.2)) in
+      omega (arith, sum_by-cons f x xs, sum_by-cons g x xs, first, rest)
+
+-- nothing, or something that follows from any part
+pub sum_nothing : {X : Type 0} (f : X → ℕ) (Q : Type 0) (xs : List X) → ((x : X) → Contains xs x → (f x ≡ 0) ⊎ Q) → (sum_by f xs ≡ 0) ⊎ Q
+sum_nothing f Q [] each = inl refl
+sum_nothing {X} f Q (x ∷ xs) each = by (each x (0, omega arith, refl)) (sum_nothing f Q xs (λ y within. each y (suc within.0, omega (arith, within.1), within.2)))
+  where
+    by : (f x ≡ 0) ⊎ Q → (sum_by f xs ≡ 0) ⊎ Q → (sum_by f (x ∷ xs) ≡ 0) ⊎ Q
+    by (inr q) rest = inr q
+    by (inl none) (inr q) = inr q
+    by (inl none) (inl nothing) = inl (omega (arith, sum_by-cons f x xs, none, nothing))
+
+-- a sum over a flat list
+pub sum_flat : {X Y : Type 0} (f : Y → ℕ) (below : X → List Y) (xs : List X) → sum_by f (flat_map below xs) ≡ sum_by (λ x. sum_by f (below x)) xs
+sum_flat f below [] = refl
+sum_flat f below (x ∷ xs) =
+    let rest = sum_flat f below xs in
+    omega (arith, sum_by-append f (below x) (flat_map below xs), sum_by-cons (λ y. sum_by f (below y)) x xs, rest)
+
+-- a length as a sum
+pub sum_ones : {X : Type 0} (xs : List X) → sum_by (λ x. 1) xs ≡ length xs
+sum_ones [] = refl
+sum_ones {X} (x ∷ xs) = let rest = sum_ones xs in omega (arith, sum_by-cons {X = X} (λ y. 1) x xs, rest)
