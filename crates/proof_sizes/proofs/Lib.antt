@@ -1,3 +1,5 @@
 -- What to cite from above: the laws.
 pub mod Weights
 pub mod Once
+pub mod Growing
+pub mod Changing

@@ -1,5 +1,5 @@
 -- Weights of the nodes that are reached from an entry: with 1 for each node their number, with 1 for one of them how often it is met.
-use Rattle.std.proofs.Common.{◌≡◌, ℕ, zero, suc, ◌+◌, ◌≤◌, List, [], ◌∷◌, Contains, length, sum_by, flat_map, ◌⊎◌, inl, inr, refl, sym, ap, subst, ◌∙◌, arith}
+use Rattle.std.proofs.Common.{◌≡◌, ℕ, zero, suc, ◌+◌, ◌≤◌, ◌<◌, List, [], ◌∷◌, Contains, get_or, length, remove, set, sum_by, flat_map, ◌⊎◌, inl, inr, refl, sym, ap, subst, ◌∙◌, arith}
 use Rattle.std.proofs.lemmas.List.Sums.{sum_by-append, sum_by-cons}
 use Rattle.proof_sizes.specs.Beneath.slot_arena.specs.declared.refs.Ref.{Ref}
 use Rattle.proof_sizes.specs.Beneath.slot_arena.specs.declared.nodes.Node.{Node}
@@ -73,3 +73,33 @@ sum_flat f below (x ∷ xs) =
 pub sum_ones : {X : Type 0} (xs : List X) → sum_by (λ x. 1) xs ≡ length xs
 sum_ones [] = refl
 sum_ones {X} (x ∷ xs) = let rest = sum_ones xs in omega (arith, sum_by-cons {X = X} (λ y. 1) x xs, rest)
+
+-- ---- sums after a change of the list
+
+module _ {X : Type 0} (f : X → ℕ) where
+  -- another element in a place
+  pub sum_set : (xs : List X) (n : ℕ) (y d : X) (more : ℕ) → f y ≤ f (get_or xs n d) + more → sum_by f (set xs n y) ≤ sum_by f xs + more
+  sum_set [] n y d more h = omega arith
+  sum_set (x ∷ xs) zero y d more h = omega (arith, sum_by-cons f y xs, sum_by-cons f x xs, h)
+  sum_set (x ∷ xs) (suc n) y d more h =
+      let rest = sum_set xs n y d more h in omega (arith, sum_by-cons f x (set xs n y), sum_by-cons f x xs, rest)
+
+  -- an element less
+  pub sum_remove : (xs : List X) (n : ℕ) → sum_by f (remove xs n) ≤ sum_by f xs
+  sum_remove [] zero = omega arith
+  sum_remove [] (suc n) = omega arith
+  sum_remove (x ∷ xs) zero = omega (arith, sum_by-cons f x xs)
+  sum_remove (x ∷ xs) (suc n) = let rest = sum_remove xs n in omega (arith, sum_by-cons f x (remove xs n), sum_by-cons f x xs, rest)
+
+  pub sum_one : (x : X) → sum_by f (x ∷ []) ≡ f x
+  sum_one x = sum_by-cons f x [] ∙ omega arith
+
+-- a list of terms that are no greater, place by place
+pub sum_places : {X : Type 0} (f g : X → ℕ) (d : X) (xs ys : List X) → length xs ≡ length ys → ((n : ℕ) → n < length xs → f (get_or xs n d) ≤ g (get_or ys n d)) → sum_by f xs ≤ sum_by g ys
+sum_places f g d [] [] same each = omega arith
+sum_places f g d [] (y ∷ ys) same each = absurd (omega (arith, same))
+sum_places f g d (x ∷ xs) [] same each = absurd (omega (arith, same))
+sum_places f g d (x ∷ xs) (y ∷ ys) same each =
+    let first = each 0 (omega arith) in
+    let rest = sum_places f g d xs ys (omega (arith, same)) (λ n lt. each (suc n) (omega (arith, lt))) in
+    omega (arith, sum_by-cons f x xs, sum_by-cons g y ys, first, rest)
