@@ -3,3 +3,6 @@ pub mod Weights
 pub mod Once
 pub mod Growing
 pub mod Changing
+pub mod Shown
+pub mod Times
+pub mod Slots
