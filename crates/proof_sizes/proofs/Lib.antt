@@ -6,3 +6,4 @@ pub mod Changing
 pub mod Shown
 pub mod Times
 pub mod Slots
+pub mod Steps
