@@ -7,3 +7,4 @@ pub mod Shown
 pub mod Times
 pub mod Slots
 pub mod Steps
+pub mod Alone
