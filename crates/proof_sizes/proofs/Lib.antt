@@ -8,3 +8,4 @@ pub mod Times
 pub mod Slots
 pub mod Steps
 pub mod Alone
+pub mod OfCalls
