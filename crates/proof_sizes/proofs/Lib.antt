@@ -9,3 +9,4 @@ pub mod Slots
 pub mod Steps
 pub mod Alone
 pub mod OfCalls
+pub mod AtRest

@@ -103,6 +103,17 @@ deeper_by trie i e word h n (tomb s k v n_is own led) within is =
     let same = only_one s e (subst (λ l. Contains l e) (ap entries_of n_is) within) in
     absurd (let bad : Single k v ≡ Indirection h word = sym own ∙ ap trie.node same ∙ is in cc)
 
+-- and no deeper than the last level
+pub link_deep : (trie : Trie) (i e word : Ref) (h : ℕ) (n : Node) → IsShaped trie i n → Contains (entries_of n) e → trie.node e ≡ Indirection h word → trie.depth e ≤ 13
+link_deep trie i e word h n (branch b es places n_is has shallow in_place led children) within is =
+    let at = placed (entries_of n) places e (ap entries_of n_is ∙ has.stand) within in child-depth trie i at.0 e (children at.0 h e word at.1 is) shallow
+link_deep trie i e word h n (list singles n_is are most deep_is one_hash) within is =
+    let found = singles_in trie.node singles.items e are (subst (λ l. Contains l e) (ap entries_of n_is) within) in
+    absurd (let bad : Single found.0 found.1 ≡ Indirection h word = sym found.2 ∙ is in cc)
+link_deep trie i e word h n (tomb s k v n_is own led) within is =
+    let same = only_one s e (subst (λ l. Contains l e) (ap entries_of n_is) within) in
+    absurd (let bad : Single k v ≡ Indirection h word = sym own ∙ ap trie.node same ∙ is in cc)
+
 -- ---- kinds
 
 -- what stands in a main node
@@ -170,7 +181,7 @@ module _ (trie : Trie) (t : ℕ) (fits : (i : Ref) → trie.path i < 2 ^ (5 * tr
 
   -- ---- singles
 
-  met_single : (levels k v : ℕ) (e : Ref) → trie.node e ≡ Single k v → (met levels e ≡ 0) ⊎ ((x ≡ e) × (met levels e ≡ 1))
+  pub met_single : (levels k v : ℕ) (e : Ref) → trie.node e ≡ Single k v → (met levels e ≡ 0) ⊎ ((x ≡ e) × (met levels e ≡ 1))
   met_single zero k v e is = inl (weight_none (once x) trie.node (trie.main t) e)
   met_single (suc levels) k v e is = by (ℕ_discrete x e)
     where
@@ -254,16 +265,6 @@ module _ (trie : Trie) (t : ℕ) (fits : (i : Ref) → trie.path i < 2 ^ (5 * tr
 
   -- ---- and it is met once
 
-  link_deep : (i e word : Ref) (h : ℕ) → IsShaped trie i (node_in trie t i) → Contains (entries_of (node_in trie t i)) e → trie.node e ≡ Indirection h word → trie.depth e ≤ 13
-  link_deep i e word h (branch b es places n_is has shallow in_place led children) within is =
-      let at = placed (entries_of (node_in trie t i)) places e (ap entries_of n_is ∙ has.stand) within in child-depth trie i at.0 e (children at.0 h e word at.1 is) shallow
-  link_deep i e word h (list singles n_is are most deep_is one_hash) within is =
-      let found = singles_in trie.node singles.items e are (subst (λ l. Contains l e) (ap entries_of n_is) within) in
-      absurd (let bad : Single found.0 found.1 ≡ Indirection h word = sym found.2 ∙ is in cc)
-  link_deep i e word h (tomb s k v n_is own led) within is =
-      let same = only_one s e (subst (λ l. Contains l e) (ap entries_of n_is) within) in
-      absurd (let bad : Single k v ≡ Indirection h word = sym own ∙ ap trie.node same ∙ is in cc)
-
   -- what stands no deeper than an indirection, and is no single, isn't met below it
   not_deeper : (levels g : ℕ) (i word : Ref) → P i → trie.node i ≡ Indirection g word → deep_by (trie.node x) ≤ trie.depth i → ((k v : ℕ) → trie.node x ≢ Single k v) → trie.depth i ≤ 13 →
       (e : Ref) → Contains (entries_of (node_in trie t i)) e → met levels e ≡ 0
@@ -281,7 +282,7 @@ module _ (trie : Trie) (t : ℕ) (fits : (i : Ref) → trie.path i < 2 ^ (5 * tr
       by_kind (a_single k v e_is) = by_single k v e_is (met_single levels k v e e_is)
       by_kind (a_link h w e_is) =
           let deeper = deeper_by trie i e w h (node_in trie t i) (shaped i) within e_is in
-          by_below deeper (met_below levels h e w (under i e word g p is within) e_is (link_deep i e w h (shaped i) within e_is))
+          by_below deeper (met_below levels h e w (under i e word g p is within) e_is (link_deep trie i e w h (node_in trie t i) (shaped i) within e_is))
 
   -- singles of a list
   singles_none : (levels : ℕ) (singles : List Ref) (k v : ℕ) → AreSingles trie.node singles → look_among trie.node k singles ≡ Absent → trie.node x ≡ Single k v →

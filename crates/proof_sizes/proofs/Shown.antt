@@ -132,13 +132,13 @@ module _ (limits : Bounds) (states : ℕ → State) (steps : ℕ → Step) (last
 
   -- ---- each is met once
 
-  under : (i e word : Ref) (g : ℕ) → IsInUse heap i → trie.node i ≡ Indirection g word → Contains (entries_of (node_in trie t i)) e → IsInUse heap e
+  pub under : (i e word : Ref) (g : ℕ) → IsInUse heap i → trie.node i ≡ Indirection g word → Contains (entries_of (node_in trie t i)) e → IsInUse heap e
   under i e word g used is c =
       let link : is_indirection (node_under states last i) ≡ true = ap is_indirection is in
       entry_used limits states steps last run takes keys t within (logical_main heap i) e (main_used limits states steps last run takes keys t within i used link)
       (subst (λ l. Contains l e) (sym (entries_same limits states steps last run takes keys t within i used link)) c)
 
-  kinds : (i e word : Ref) (g : ℕ) → IsInUse heap i → trie.node i ≡ Indirection g word → Contains (entries_of (node_in trie t i)) e → IsEntry (trie.node e)
+  pub kinds : (i e word : Ref) (g : ℕ) → IsInUse heap i → trie.node i ≡ Indirection g word → Contains (entries_of (node_in trie t i)) e → IsEntry (trie.node e)
   kinds i e word g used is c =
       let link : is_indirection (node_under states last i) ≡ true = ap is_indirection is in
       let m = logical_main heap i in
