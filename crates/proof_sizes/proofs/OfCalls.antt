@@ -1,7 +1,8 @@
 -- The laws of single states: of each state that a run leads to, of a call that runs alone from there, and of the sweep.
-use Rattle.std.specs.Prelude.{◌⊎◌, false, ◌≡◌, ℕ, zero, suc, ◌+◌, ◌<◌, ◌≤◌, true, cond, List, [], ◌∷◌, ◌++◌, length, replicate, slice_get, get_or, Option, Some, None, Ok}
+use Rattle.std.specs.Prelude.{◌⊎◌, false, ◌≡◌, ◌≢◌, ℕ, zero, suc, ◌+◌, ◌<◌, ◌≤◌, true, cond, List, [], ◌∷◌, ◌++◌, length, replicate, slice_get, get_or, Option, Some, None, Ok}
 use Rattle.std.proofs.Common.{inl, inr, refl, sym, ap, subst, arith, ◌∙◌}
 use Rattle.std.proofs.lemmas.List.{append_assoc, get_or_append_left, length-append}
+use Rattle.std.proofs.lemmas.List.Elements.{All-push}
 use Rattle.std.proofs.lemmas.Option.{same_Some}
 use Rattle.std.proofs.lemmas.Bool.{cases_lt}
 use Rattle.proof_sizes.specs.Beneath.history.specs.Histories.{HasEnded}
@@ -17,7 +18,7 @@ use Rattle.proof_sizes.specs.Beneath.machine_model.specs.declared.steps.Outcome.
 use Rattle.proof_sizes.specs.Beneath.machine_model.specs.declared.steps.Step.{Step}
 use Rattle.proof_sizes.specs.Beneath.machine_model.specs.declared.steps.Step.TheVariants as step
 use Rattle.proof_sizes.specs.Beneath.machine_model.specs.Calls.{handle_of}
-use Rattle.proof_sizes.specs.Beneath.machine_model.specs.Keys.{KeysFit}
+use Rattle.proof_sizes.specs.Beneath.machine_model.specs.Keys.{FitsKey, KeysFit}
 use Rattle.proof_sizes.specs.Beneath.machine_model.specs.Machine.{AreBounds, is_busy, is_taken_step, next, run, taken_from, taken_steps}
 use Rattle.proof_sizes.specs.Beneath.machine_model.specs.Records.{Record, record_of}
 use Rattle.proof_sizes.specs.Beneath.machine_model.specs.States.{State, first_state, root_at}
@@ -38,13 +39,18 @@ use Rattle.proof_sizes.specs.Beneath.proof_straight.specs.Running.{Comes}
 use Rattle.proof_alone.specs.Calls.{CanCall}
 use Rattle.proof_alone.proofs.Ending.{first_step, fit, own}
 use Rattle.proof_alone.proofs.Going.{began, end_is_there, is_there, there, went_on}
-use Rattle.proof_alone.proofs.Runs.{by_run}
+use Rattle.proof_alone.proofs.Runs.{by_run, of_run_behind}
+use Rattle.proof_alone.specs.Sweeps.{Sweeps, sweeps, unswept}
 use Rattle.proof_alone.proofs.Steps.{begun}
+use Rattle.proof_alone.proofs.Sweeping.{clean_is_reached}
+use Rattle.proof_sizes.specs.Beneath.proof_memory.specs.Sweeping.{UsesReached}
 use Rattle.proof_alone.proofs.Telling.{told_at_end}
-use Rattle.proof_sizes.specs.Growth.{CallsGrowLittle, CopiesAreNoLarger, growth}
-use Rattle.proof_sizes.specs.Nodes.{HandlesUseSlots, nodes_of}
+use Rattle.proof_sizes.specs.Growth.{CallsGrowLittle, CopiesAreNoLarger, SweepsKeepNodes, growth}
+use Rattle.proof_sizes.specs.Nodes.{HandlesUseSlots, OneHandleUsesAll, nodes_of}
 use Rattle.proof_sizes.proofs.Alone.{grown_little, no_larger}
-use Rattle.proof_sizes.proofs.Slots.{few_nodes}
+use Rattle.proof_sizes.proofs.Steps.{SweepKeeps, sweep_keeps}
+use Rattle.proof_sizes.specs.Beneath.proof_updates.proofs.Handles.OfLists.{of_step}
+use Rattle.proof_sizes.proofs.Slots.{all_nodes, few_nodes}
 
 -- ---- states at the end of a run
 
@@ -58,6 +64,20 @@ handles_use_slots state handle root of_run at =
         subst (λ (s : State). length (nodes_of s handle) + length s.heap.free ≤ s.limits.slots) (run_ends limits steps)
         (few_nodes limits (states_of limits steps) (steps_of limits steps) (last_of limits steps) (run_is limits steps ok) (takes_steps limits steps) (keys_fit limits steps fit)
         (last_of limits steps) (omega arith) handle root (ap (λ s. root_at s handle) (run_ends limits steps) ∙ at))
+
+pub one_handle_uses_all : OneHandleUsesAll
+one_handle_uses_all state handle root of_run at rest swept only =
+    by_run
+    (λ s. root_at s handle ≡ Some root → is_busy s ≡ false → UsesReached s → ((other : ℕ) → other ≢ handle → root_at s other ≡ None) → length (nodes_of s handle) + length s.heap.free ≡ s.limits.slots)
+    by state of_run at rest (clean_is_reached state of_run rest swept).0 only
+  where
+    by : (limits : Bounds) (steps : List Step) → AreBounds limits → KeysFit steps → root_at (run limits steps) handle ≡ Some root → is_busy (run limits steps) ≡ false → UsesReached (run limits steps) →
+        ((other : ℕ) → other ≢ handle → root_at (run limits steps) other ≡ None) → length (nodes_of (run limits steps) handle) + length (run limits steps).heap.free ≡ (run limits steps).limits.slots
+    by limits steps ok fit at rest uses only =
+        let ends = run_ends limits steps in
+        subst (λ (s : State). length (nodes_of s handle) + length s.heap.free ≡ s.limits.slots) ends
+        (all_nodes limits (states_of limits steps) (steps_of limits steps) (last_of limits steps) (run_is limits steps ok) (takes_steps limits steps) (keys_fit limits steps fit)
+        (ap is_busy ends ∙ rest) (subst UsesReached (sym ends) uses) handle root (ap (λ s. root_at s handle) ends ∙ at) (λ other apart. ap (λ s. root_at s other) ends ∙ only other apart))
 
 -- ---- a call alone
 
@@ -189,3 +209,26 @@ pub copies_are_no_larger : CopiesAreNoLarger
 copies_are_no_larger before actor call can n answer after h handle now shut at_now =
     by_run (λ s. CanCall s actor call → Comes s actor call n answer after → root_at s handle ≡ None → length (nodes_of after handle) ≤ length (nodes_of s (handle_of call)))
     (λ limits steps ok keys can h shut. opens_no_larger limits steps ok keys actor call can n answer after h handle now at_now shut) before can.of_run can h shut
+
+-- ---- the sweep
+
+-- the handle is open behind it, with the nodes that it had before
+abbrev KeepsNodes : State → State → ℕ → Type 0
+KeepsNodes before after handle = (now : Root) × (root_at after handle ≡ Some now) × (nodes_of after handle ≡ nodes_of before handle)
+
+one_sweep : (before : State) → IsOfRun before → (o : Outcome) (after : State) → next before step.Sweep ≡ Ok (o, after) → (handle : ℕ) (root : Root) → root_at before handle ≡ Some root →
+    KeepsNodes before after handle
+one_sweep before of_run o after e handle root at =
+    by_run (λ s. next s step.Sweep ≡ Ok (o, after) → root_at s handle ≡ Some root → KeepsNodes s after handle)
+    (λ limits steps ok fit e at. of_step limits steps step.Sweep o after e SweepKeeps ok (All-push FitsKey steps step.Sweep fit tt) sweep_keeps refl handle root at) before of_run e at
+
+sweeps_led : (before : State) → IsOfRun before → (n : ℕ) (after : State) → Sweeps before n after → (handle : ℕ) (root : Root) → root_at before handle ≡ Some root →
+    IsOfRun after × KeepsNodes before after handle
+sweeps_led before of_run n after unswept handle root at = (of_run, (root, at, refl))
+sweeps_led before of_run n after (sweeps {n = m} {middle} {outcome} earlier some e) handle root at =
+    let (so_far, (there, open_, same)) = sweeps_led before of_run m middle earlier handle root at in
+    let (now, at_now, kept) = one_sweep middle so_far outcome after e handle there open_ in
+    (of_run_behind middle so_far step.Sweep outcome after tt e, (now, at_now, kept ∙ same))
+
+pub sweeps_keep_nodes : SweepsKeepNodes
+sweeps_keep_nodes before n after of_run way handle root at = (sweeps_led before of_run n after way handle root at).1.2

@@ -39,7 +39,7 @@ use Rattle.proof_sizes.specs.Beneath.proof_shape.proofs.Sites.Grown.{CountsFor, 
 use Rattle.proof_sizes.specs.Beneath.proof_updates.proofs.Handles.Showing.{entries_same, entry_used, link_same, main_same, main_used, node_same, root_deep, root_link, root_used}
 use Rattle.proof_sizes.specs.Nodes.{nodes_at, nodes_below, nodes_of}
 use Rattle.proof_sizes.proofs.Once.{IsEntry, a_link, a_single, met_once}
-use Rattle.proof_sizes.proofs.Weights.{one, size_from, sum_flat, sum_nothing, sum_ones, sum_same, weight_at, weight_from, weight_node, weight_none}
+use Rattle.proof_sizes.proofs.Weights.{flat_same, nodes_by, nodes_from, nodes_weigh, one, size_from, sum_nothing, sum_ones, weight_at, weight_from, weight_node, weight_none}
 
 -- ---- nodes whose generations and words don't count
 
@@ -95,40 +95,30 @@ module _ (limits : Bounds) (states : ℕ → State) (steps : ℕ → Step) (last
   shape : HasShape (trie_of_run limits states steps last)
   shape = runs_have_shape limits states steps last run takes keys
 
-  -- ---- weights
+  -- ---- nodes
 
-  pub weights_shown : (weight : Ref → ℕ) (levels : ℕ) (r : Ref) → IsInUse heap r →
-      sum_by weight (nodes_below levels heap r) ≡ weight_from weight (node_under states last) (counting_main states last t) levels r
-  unfolding nodes_below
-  weights_shown weight zero r used = sym (weight_none weight (node_under states last) (counting_main states last t) r)
-  weights_shown weight (suc levels) r used =
-      ap (sum_by weight) (sym (bare_nodes_at (nodes_below levels heap) heap r (node_at heap r))
-      ∙ ap (nodes_at (nodes_below levels heap) heap r) (node_same limits states steps last run takes keys t within r used)
-      ∙ bare_nodes_at (nodes_below levels heap) heap r (node_under states last r))
-      ∙ by_node (λ q. weights_shown weight levels q) (node_under states last r) refl
-      ∙ sym (weight_node weight (node_under states last) (counting_main states last t) levels r)
+  pub nodes_shown : (levels : ℕ) (r : Ref) → IsInUse heap r → nodes_below levels heap r ≡ nodes_from (node_under states last) (counting_main states last t) levels r
+  unfolding nodes_below nodes_from
+  nodes_shown zero r used = refl
+  nodes_shown (suc levels) r used =
+      sym (bare_nodes_at (nodes_below levels heap) heap r (node_at heap r)) ∙ ap (nodes_at (nodes_below levels heap) heap r) (node_same limits states steps last run takes keys t within r used)
+      ∙ bare_nodes_at (nodes_below levels heap) heap r (node_under states last r) ∙ by_node (λ q. nodes_shown levels q) (node_under states last r) refl
     where
-      alone : sum_by weight (r ∷ []) ≡ weight r
-      alone = sum_by-cons weight r [] ∙ omega arith
-
-      by_node : ((q : Ref) → IsInUse heap q → sum_by weight (nodes_below levels heap q) ≡ weight_from weight (node_under states last) (counting_main states last t) levels q) → (n : Node) →
-          node_under states last r ≡ n → sum_by weight (nodes_at (nodes_below levels heap) heap r n)
-          ≡ weight_at weight (weight_from weight (node_under states last) (counting_main states last t) levels) (node_under states last) (counting_main states last t) r n
+      by_node : ((q : Ref) → IsInUse heap q → nodes_below levels heap q ≡ nodes_from (node_under states last) (counting_main states last t) levels q) → (n : Node) → node_under states last r ≡ n →
+          nodes_at (nodes_below levels heap) heap r n ≡ nodes_by (nodes_from (node_under states last) (counting_main states last t) levels) (node_under states last) (counting_main states last t) r n
       by_node rest (Indirection g w) is =
           let link : is_indirection (node_under states last r) ≡ true = ap is_indirection is in
           let m = logical_main heap r in
-          let used_main = main_used limits states steps last run takes keys t within r used link in
-          let below = sum_flat weight (nodes_below levels heap) (entries_of (node_at heap m))
-          ∙ sum_same (λ q. sum_by weight (nodes_below levels heap q)) (weight_from weight (node_under states last) (counting_main states last t) levels) (entries_of (node_at heap m))
-          (λ q c. rest q (entry_used limits states steps last run takes keys t within m q used_main c))
-          ∙ ap (sum_by (weight_from weight (node_under states last) (counting_main states last t) levels)) (entries_same limits states steps last run takes keys t within r used link) in
-          let main_is = ap weight (main_same limits states steps last run takes keys t within r used link) in
-          let tail = flat_map (nodes_below levels heap) (entries_of (node_at heap m)) in
-          omega (arith, sum_by-cons weight r (m ∷ tail), sum_by-cons weight m tail, below, main_is)
-      by_node rest (Single k v) is = alone
-      by_node rest (Branch b es) is = alone
-      by_node rest (Tomb s) is = alone
-      by_node rest (Listed ss) is = alone
+          ap (λ l. r ∷ m ∷ l)
+          (flat_same (nodes_below levels heap) (nodes_from (node_under states last) (counting_main states last t) levels) (entries_of (node_at heap m))
+          (λ q c. rest q (entry_used limits states steps last run takes keys t within m q (main_used limits states steps last run takes keys t within r used link) c))
+          ∙ ap (flat_map (nodes_from (node_under states last) (counting_main states last t) levels)) (entries_same limits states steps last run takes keys t within r used link))
+          ∙ ap (λ q. r ∷ q ∷ flat_map (nodes_from (node_under states last) (counting_main states last t) levels) (entries_of (node_under states last (counting_main states last t r))))
+          (main_same limits states steps last run takes keys t within r used link)
+      by_node rest (Single k v) is = refl
+      by_node rest (Branch b es) is = refl
+      by_node rest (Tomb s) is = refl
+      by_node rest (Listed ss) is = refl
 
   -- ---- each is met once
 
@@ -212,10 +202,12 @@ module _ (limits : Bounds) (states : ℕ → State) (steps : ℕ → Step) (last
     link : is_indirection (node_under states last r) ≡ true
     link = root_link limits states steps last run takes keys t within handle root at
 
-    -- the nodes of the handle weigh what is reached in the trie
+    -- the nodes of the handle are those that are reached in the trie
+    pub handle_nodes : nodes_of (states t) handle ≡ nodes_from trie.node (trie.main t) most_levels (root_of root.word)
+    handle_nodes = ap (λ o. nodes_below most_levels heap (root_of (word_of o))) at ∙ nodes_shown most_levels r used_root
+
     pub handle_weighs : (weight : Ref → ℕ) → sum_by weight (nodes_of (states t) handle) ≡ weight_from weight trie.node (trie.main t) most_levels (root_of root.word)
-    handle_weighs weight =
-        ap (λ o. sum_by weight (nodes_below most_levels heap (root_of (word_of o)))) at ∙ weights_shown weight most_levels r used_root
+    handle_weighs weight = ap (sum_by weight) handle_nodes ∙ nodes_weigh weight trie.node (trie.main t) most_levels r
 
     pub handle_size : length (nodes_of (states t) handle) ≡ size_from trie.node (trie.main t) most_levels (root_of root.word)
     handle_size = sym (sum_ones (nodes_of (states t) handle)) ∙ handle_weighs one

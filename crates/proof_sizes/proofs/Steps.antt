@@ -15,6 +15,7 @@ use Rattle.proof_sizes.specs.Beneath.machine_model.specs.declared.roots.Root.{Ro
 use Rattle.proof_sizes.specs.Beneath.machine_model.specs.declared.steps.Bounds.{Bounds}
 use Rattle.proof_sizes.specs.Beneath.machine_model.specs.declared.steps.Outcome.{Outcome}
 use Rattle.proof_sizes.specs.Beneath.machine_model.specs.declared.steps.Step.{Step}
+use Rattle.proof_sizes.specs.Beneath.machine_model.specs.declared.steps.Step.TheVariants.{Begin, Go, Sweep}
 use Rattle.proof_sizes.specs.Beneath.machine_model.specs.Acting.{opened_root}
 use Rattle.proof_sizes.specs.Beneath.machine_model.specs.Calls.{inserts}
 use Rattle.proof_sizes.specs.Beneath.machine_model.specs.Contents.{most_levels}
@@ -50,8 +51,8 @@ use Rattle.proof_sizes.specs.Growth.{most_growth}
 use Rattle.proof_sizes.specs.Nodes.{nodes_of}
 use Rattle.proof_sizes.proofs.Changing.{added, repair_grows_nothing, update_grows_little}
 use Rattle.proof_sizes.proofs.Growing.{heavier, no_more}
-use Rattle.proof_sizes.proofs.Shown.{handle_size, handle_weighs, nodes_once}
-use Rattle.proof_sizes.proofs.Weights.{one, size_from, weight_from, weight_link}
+use Rattle.proof_sizes.proofs.Shown.{handle_nodes, handle_size, handle_weighs, nodes_once}
+use Rattle.proof_sizes.proofs.Weights.{nodes_alike, nodes_from, one, size_from, weight_from, weight_link}
 
 -- ---- what a step does
 
@@ -306,3 +307,29 @@ steps_grow_little limits states steps t run takes keys s o m notes = grows limit
 
 pub opened_no_larger : OfLastSteps OpenedNoLarger
 opened_no_larger limits states steps t run takes keys s o m notes = opens limits states steps t run takes keys s o m notes
+
+-- ---- the sweep
+
+-- a step of the sweep leaves the handles open, and their nodes
+abbrev pub SweepKeeps : Bounds → State → Step → State → Type 0
+SweepKeeps limits before s after =
+    s ≡ Sweep → (handle : ℕ) (root : Root) → root_at before handle ≡ Some root → (now : Root) × (root_at after handle ≡ Some now) × (nodes_of after handle ≡ nodes_of before handle)
+
+pub sweep_keeps : OfLastSteps SweepKeeps
+sweep_keeps limits states steps t run takes keys s o m notes sweeps handle root at =
+    by (main_step limits states steps t run takes keys s o m notes) (handle_step limits states (suc t) run t (omega arith) s o m notes handle root at)
+  where
+    by : MainStep limits states run.records (suc t) (assigned_at states (suc t)) t s → HandleStep limits states (suc t) run t (omega arith) s o m notes handle root →
+        (now : Root) × (root_at (states (suc t)) handle ≡ Some now) × (nodes_of (states (suc t)) handle ≡ nodes_of (states t) handle)
+    by (changes own) step_is = absurd (let bad : Sweep ≡ Go own.taker = sym sweeps ∙ own.takes in cc)
+    by (stays none same) (is_closed actor e gone) = absurd (let bad : Sweep ≡ Begin actor (Close handle) = sym sweeps ∙ e in cc)
+    by (stays none same) (changes_root offer carries was stands) =
+        absurd (let bad : Sweep ≡ Go carries.0 = sym sweeps ∙ carries.3 in cc)
+    by (stays none same) (keeps stands) = (
+      stands.root,
+      stands.is_open,
+      handle_nodes limits states steps (suc t) run takes keys (suc t) (omega arith) handle stands.root stands.is_open
+          ∙ ap (nodes_from (node_under states (suc t)) (counting_main states (suc t) (suc t)) most_levels) stands.over
+          ∙ nodes_alike (node_under states (suc t)) (counting_main states (suc t) (suc t)) (counting_main states (suc t) t) same most_levels (root_of root.word)
+          ∙ sym (handle_nodes limits states steps (suc t) run takes keys t (omega arith) handle root at),
+    )
