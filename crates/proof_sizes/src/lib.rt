@@ -1,0 +1,9 @@
+//! How many nodes a handle reaches: with the free slots no more than all slots, and a call that adds no key makes them no more.
+#![tactic(auto)]
+
+mod laws;
+
+pub use laws::{
+    calls_grow_little, copies_are_no_larger, handles_use_slots, one_handle_uses_all,
+    sweeps_keep_nodes,
+};
