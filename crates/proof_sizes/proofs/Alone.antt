@@ -1,17 +1,15 @@
 -- In a run whose last steps are those of one call from rest, the call adds one key at most, and says so in its answer: so what handles reach grows by no more.
-use Rattle.std.proofs.Common.{◌≡◌, ◌≢◌, ℕ, zero, suc, ◌+◌, ◌-◌, ◌<◌, ◌≤◌, Bool, true, false, cond, List, [], ◌∷◌, ◌++◌, length, ◌⊎◌, inl, inr, Option, Some, None, refl, sym, ap, subst, ◌∙◌, arith}
+use Rattle.std.proofs.Common.{◌≡◌, ℕ, zero, suc, ◌+◌, ◌-◌, ◌<◌, ◌≤◌, Bool, true, false, cond, [], ◌∷◌, ◌++◌, length, ◌⊎◌, inl, inr, Option, Some, None, refl, sym, ap, subst, ◌∙◌, arith}
 use Rattle.std.proofs.lemmas.Bool.{cases_lt, false≢true}
 use Rattle.std.proofs.lemmas.Option.{none-some, same_Some}
 use Rattle.proof_sizes.specs.Beneath.history.specs.Histories.{HasEnded}
 use Rattle.proof_sizes.specs.Beneath.history.specs.declared.calls.Call.{Call}
 use Rattle.proof_sizes.specs.Beneath.history.specs.declared.calls.Call.TheVariants.{Clear, Close, Count, Entries, Freeze, Get, Put, PutIfAbsent, Remove, RemoveIf, Replace, ReplaceIf, Snapshot}
 use Rattle.proof_sizes.specs.Beneath.history.specs.declared.replies.Reply.{Reply}
-use Rattle.proof_sizes.specs.Beneath.history.specs.declared.replies.Reply.TheVariants.{Found}
 use Rattle.proof_sizes.specs.Beneath.history.proofs.Among.{Among, among_right}
 use Rattle.proof_sizes.specs.Beneath.machine_model.specs.declared.lines.Line.TheVariants as line
 use Rattle.proof_sizes.specs.Beneath.machine_model.specs.declared.lines.Purpose.TheVariants as purpose
 use Rattle.proof_sizes.specs.Beneath.machine_model.specs.declared.operations.Operation.{Operation}
-use Rattle.proof_sizes.specs.Beneath.machine_model.specs.declared.reading.Swap.{Swap}
 use Rattle.proof_sizes.specs.Beneath.machine_model.specs.declared.roots.Root.{Root}
 use Rattle.proof_sizes.specs.Beneath.machine_model.specs.declared.steps.Bounds.{Bounds}
 use Rattle.proof_sizes.specs.Beneath.machine_model.specs.declared.steps.Outcome.{Outcome}
@@ -20,8 +18,8 @@ use Rattle.proof_sizes.specs.Beneath.machine_model.specs.declared.steps.Step.The
 use Rattle.proof_sizes.specs.Beneath.machine_model.specs.Acting.{operation_after}
 use Rattle.proof_sizes.specs.Beneath.machine_model.specs.Calls.{changed_reply, handle_of, inserts}
 use Rattle.proof_sizes.specs.Beneath.machine_model.specs.Machine.{is_busy}
-use Rattle.proof_sizes.specs.Beneath.machine_model.specs.Moves.{Moves, begun_operation}
-use Rattle.proof_sizes.specs.Beneath.machine_model.specs.Records.{Record, closing_for, is_placed, noted, place_of}
+use Rattle.proof_sizes.specs.Beneath.machine_model.specs.Moves.{Moves}
+use Rattle.proof_sizes.specs.Beneath.machine_model.specs.Records.{closing_for, is_placed, noted, place_of}
 use Rattle.proof_sizes.specs.Beneath.machine_model.specs.States.{State, operation_of, root_at}
 use Rattle.proof_sizes.specs.Beneath.machine_model.specs.Tellings.{entrant_of, told_in}
 use Rattle.proof_sizes.specs.Beneath.machine_model.specs.Times.{IsRun}
@@ -29,7 +27,7 @@ use Rattle.proof_sizes.specs.Beneath.machine_model.proofs.Actors.{mark_one, mark
 use Rattle.proof_sizes.specs.Beneath.proof_commits.proofs.Resting.{none_at}
 use Rattle.proof_sizes.specs.Beneath.proof_generations.specs.Running.{Runs}
 use Rattle.proof_sizes.specs.Beneath.proof_generations.proofs.Handles.Running.{Comes, began, comes, place_of_actor, rested, went}
-use Rattle.proof_sizes.specs.Beneath.proof_order.specs.Facts.{Notes, committed_by_step, entered_by_step}
+use Rattle.proof_sizes.specs.Beneath.proof_order.specs.Facts.{Notes, entered_by_step}
 use Rattle.proof_sizes.specs.Beneath.proof_order.specs.Phases.{OwnUpdate}
 use Rattle.proof_sizes.specs.Beneath.proof_order.proofs.Offers.Honest.{honest}
 use Rattle.proof_sizes.specs.Beneath.proof_order.proofs.Offers.Standing.{offers_at}
@@ -38,11 +36,11 @@ use Rattle.proof_sizes.specs.Beneath.proof_order.proofs.Phases.OwnUpdates.{own_u
 use Rattle.proof_sizes.specs.Beneath.proof_order.proofs.Phases.Steps.{is_placed_so}
 use Rattle.proof_sizes.specs.Beneath.proof_order.proofs.Places.Origins.{place_says}
 use Rattle.proof_sizes.specs.Beneath.proof_order.proofs.Views.EachStep.{Changes, changes, closes, ends, quiet, swaps}
-use Rattle.proof_sizes.specs.Beneath.proof_shape.specs.Lines.Commits.{MainStep, OwnCommit, assigned_at, places_for}
+use Rattle.proof_sizes.specs.Beneath.proof_shape.specs.Lines.Commits.{MainStep, assigned_at, places_for}
 use Rattle.proof_sizes.specs.Beneath.proof_shape.specs.Lines.Commits.{changes as changes_main, stays}
 use Rattle.proof_sizes.specs.Beneath.proof_shape.specs.Sites.At.{StepsFit, TakesSteps}
 use Rattle.proof_sizes.specs.Beneath.proof_shape.proofs.Held.Commits.{fresh_commits_at}
-use Rattle.proof_sizes.specs.Beneath.proof_updates.specs.Touching.{CarriesOutCall, CommitsUpdate}
+use Rattle.proof_sizes.specs.Beneath.proof_updates.specs.Touching.{CarriesOutCall}
 use Rattle.proof_sizes.specs.Beneath.proof_updates.proofs.Handles.Committing.{no_update, owned}
 use Rattle.proof_sizes.specs.Beneath.proof_updates.proofs.Handles.Roots.{HandleStep, changes_root, handle_step, is_closed, keeps}
 use Rattle.proof_sizes.specs.Beneath.proof_updates.proofs.Tries.Facts.{own_enters}

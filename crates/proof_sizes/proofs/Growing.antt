@@ -1,23 +1,15 @@
 -- What a step that changes one main node of a trie does to the number of nodes that are reached from any entry.
-use Rattle.std.proofs.Common.{◌≡◌, ◌≢◌, ℕ, zero, suc, ◌+◌, ◌-◌, ◌*◌, ◌<◌, ◌≤◌, ◌==◌, Bool, true, false, cond, List, [], ◌∷◌, ◌++◌, Contains, length, sum_by, slice_index_or, slice_set, get_or, set, take, insert, remove}
-use Rattle.std.proofs.Common.{Option, Some, None, refl, sym, ap, subst, ◌∙◌, arith, eq-eqb}
-use Rattle.std.proofs.lemmas.List.Sums.{get_or-le-sum_by, sum_by-append, sum_by-cons, sum_by-insert, sum_by-le-sum_by, sum_by-take-le}
-use Rattle.arrayvec.specs.ArrayVec.{ArrayVec}
+use Rattle.std.proofs.Common.{◌≡◌, ℕ, zero, suc, ◌+◌, ◌≤◌, ◌==◌, Bool, true, false, cond, sum_by}
+use Rattle.std.proofs.Common.{refl, sym, ap, subst, ◌∙◌, arith, eq-eqb}
+use Rattle.std.proofs.lemmas.List.Sums.{sum_by-le-sum_by}
 use native.Mathlib.Decide.{ℕ_discrete}
-use Rattle.proof_sizes.specs.Beneath.ctrie_base.specs.Hashes.{hash_of}
-use Rattle.proof_sizes.specs.Beneath.ctrie_base.specs.Paths.{position_of}
 use Rattle.proof_sizes.specs.Beneath.slot_arena.specs.declared.refs.Ref.{Ref}
 use Rattle.proof_sizes.specs.Beneath.slot_arena.specs.declared.nodes.Node.{Node}
 use Rattle.proof_sizes.specs.Beneath.slot_arena.specs.declared.nodes.Node.TheVariants.{Indirection, Branch, Single, Tomb, List as Listed}
-use Rattle.proof_sizes.specs.Beneath.slot_arena.specs.Heaps.{entries_of, no_ref}
-use Rattle.proof_sizes.specs.Beneath.slot_arena.proofs.Times.{once, once_other, once_same}
-use Rattle.proof_sizes.specs.Beneath.proof_contents.specs.Nodes.Chains.{LeadsToPair, at_pair, by_rung}
-use Rattle.proof_sizes.specs.Beneath.proof_contents.specs.Steps.{IsOwnUpdate, IsRepair, LeavesOthers, Stays, branch_entombs, branch_inserts, branch_removes, branch_updates, entombs, goes_beside}
-use Rattle.proof_sizes.specs.Beneath.proof_contents.specs.Steps.{kept, list_entombs, list_inserts, list_removes, list_updates, refills, renewed_by, untombed}
-use Rattle.proof_sizes.specs.Beneath.proof_contents.specs.Tries.{IsShaped, Trie, assigned, generation, node_in}
-use Rattle.proof_sizes.specs.Growth.{most_growth}
-use Rattle.proof_sizes.proofs.Once.{deeper_by}
-use Rattle.proof_sizes.proofs.Weights.{one, size_from, sum_one, sum_places, sum_remove, sum_set, weight_at, weight_from, weight_link, weight_node, weight_none, weight_single}
+use Rattle.proof_sizes.specs.Beneath.slot_arena.specs.Heaps.{entries_of}
+use Rattle.proof_sizes.specs.Beneath.proof_contents.specs.Steps.{LeavesOthers}
+use Rattle.proof_sizes.specs.Beneath.proof_contents.specs.Tries.{Trie, node_in}
+use Rattle.proof_sizes.proofs.Weights.{one, size_from, weight_at, weight_from, weight_link, weight_node, weight_none, weight_single}
 
 -- one node weighs so much more
 abbrev pub heavier : Ref → ℕ → Ref → ℕ

@@ -1,5 +1,5 @@
 -- The laws of single states: of each state that a run leads to, of a call that runs alone from there, and of the sweep.
-use Rattle.std.specs.Prelude.{◌⊎◌, false, ◌≡◌, ◌≢◌, ℕ, zero, suc, ◌+◌, ◌<◌, ◌≤◌, true, cond, List, [], ◌∷◌, ◌++◌, length, replicate, slice_get, get_or, Option, Some, None, Ok}
+use Rattle.std.specs.Prelude.{◌⊎◌, false, ◌≡◌, ◌≢◌, ℕ, zero, suc, ◌+◌, ◌<◌, ◌≤◌, true, cond, List, [], ◌∷◌, ◌++◌, length, replicate, slice_get, get_or, Some, None, Ok}
 use Rattle.std.proofs.Common.{inl, inr, refl, sym, ap, subst, arith, ◌∙◌}
 use Rattle.std.proofs.lemmas.List.{append_assoc, get_or_append_left, length-append}
 use Rattle.std.proofs.lemmas.List.Elements.{All-push}
@@ -7,14 +7,12 @@ use Rattle.std.proofs.lemmas.Option.{same_Some}
 use Rattle.std.proofs.lemmas.Bool.{cases_lt}
 use Rattle.proof_sizes.specs.Beneath.history.specs.Histories.{HasEnded}
 use Rattle.proof_sizes.specs.Beneath.history.specs.declared.calls.Call.{Call}
-use Rattle.proof_sizes.specs.Beneath.history.specs.declared.events.Event.{Event}
 use Rattle.proof_sizes.specs.Beneath.history.specs.declared.events.Event.TheVariants as event
 use Rattle.proof_sizes.specs.Beneath.history.specs.declared.replies.Reply.{Reply}
 use Rattle.proof_sizes.specs.Beneath.history.proofs.Places.{at_push}
 use Rattle.proof_sizes.specs.Beneath.machine_model.specs.declared.roots.Root.{Root}
 use Rattle.proof_sizes.specs.Beneath.machine_model.specs.declared.steps.Bounds.{Bounds}
 use Rattle.proof_sizes.specs.Beneath.machine_model.specs.declared.steps.Outcome.{Outcome}
-use Rattle.proof_sizes.specs.Beneath.machine_model.specs.declared.steps.Outcome.TheVariants.{Began, Ended, Went}
 use Rattle.proof_sizes.specs.Beneath.machine_model.specs.declared.steps.Step.{Step}
 use Rattle.proof_sizes.specs.Beneath.machine_model.specs.declared.steps.Step.TheVariants as step
 use Rattle.proof_sizes.specs.Beneath.machine_model.specs.Calls.{handle_of}
@@ -27,13 +25,11 @@ use Rattle.proof_sizes.specs.Beneath.machine_model.proofs.Numbered.{step_noted}
 use Rattle.proof_sizes.specs.Beneath.machine_model.proofs.Recorded.{record_ends}
 use Rattle.proof_sizes.specs.Beneath.machine_model.proofs.Times.{run_ends, run_is}
 use Rattle.proof_sizes.specs.Beneath.proof_order.specs.Facts.{Notes}
-use Rattle.proof_sizes.specs.Beneath.proof_shape.specs.Sites.At.{StepsFit, TakesSteps}
 use Rattle.proof_sizes.specs.Beneath.proof_shape.specs.Sites.Nodes.{steps_of}
 use Rattle.proof_sizes.specs.Beneath.proof_shape.proofs.Sites.Fixed.{keys_fit, states_of-append, taken-append}
 use Rattle.proof_sizes.specs.Beneath.proof_shape.proofs.Sites.Stepped.{takes_steps}
-use Rattle.proof_sizes.specs.Beneath.proof_obstruction_free.specs.Laws.{GoesOnAt}
 use Rattle.proof_sizes.specs.Beneath.proof_obstruction_free.proofs.Ends.Alone.{all_fit}
-use Rattle.proof_sizes.specs.Beneath.proof_obstruction_free.proofs.Ends.Lists.{last_all, state_at, step_at}
+use Rattle.proof_sizes.specs.Beneath.proof_obstruction_free.proofs.Ends.Lists.{last_all, step_at}
 use Rattle.proof_sizes.specs.Beneath.proof_straight.specs.Resting.{IsOfRun}
 use Rattle.proof_sizes.specs.Beneath.proof_straight.specs.Running.{Comes}
 use Rattle.proof_alone.specs.Calls.{CanCall}

@@ -1,5 +1,5 @@
 -- The nodes of a handle and the free slots.
-use Rattle.std.proofs.Common.{◌≡◌, ◌≢◌, ℕ, zero, suc, ◌+◌, ◌<◌, ◌≤◌, ◌==◌, Bool, true, false, cond, None, length, List, ◌⊎◌, inl, inr, Option, Some, refl, sym, ap, subst, ◌∙◌, arith}
+use Rattle.std.proofs.Common.{◌≡◌, ◌≢◌, ℕ, zero, suc, ◌+◌, ◌≤◌, ◌==◌, Bool, true, false, cond, None, length, ◌⊎◌, inl, inr, Option, Some, refl, ap, ◌∙◌, arith}
 use Rattle.std.proofs.lemmas.Bool.{false≢true}
 use Rattle.proof_sizes.specs.Beneath.slot_arena.specs.declared.nodes.Slot.{Slot}
 use Rattle.proof_sizes.specs.Beneath.slot_arena.specs.declared.refs.Ref.{Ref}

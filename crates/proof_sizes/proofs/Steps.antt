@@ -1,14 +1,13 @@
 -- What each step of a run does to the nodes of handles.
-use Rattle.std.proofs.Common.{◌≡◌, ◌≢◌, ℕ, zero, suc, ◌+◌, ◌<◌, ◌≤◌, ◌==◌, Bool, true, false, cond, List, [], ◌∷◌, length, sum_by, ◌⊎◌, inl, inr, Option, Some, None, refl, sym, ap, subst, ◌∙◌, arith}
+use Rattle.std.proofs.Common.{◌≡◌, ℕ, suc, ◌+◌, ◌≤◌, ◌==◌, Bool, true, false, cond, List, [], ◌∷◌, length, sum_by, ◌⊎◌, inl, inr, Option, Some, None, refl, sym, ap, subst, ◌∙◌, arith}
 use Rattle.std.proofs.lemmas.List.Sums.{sum_by-cons, sum_by-le-sum_by}
 use Rattle.std.proofs.lemmas.Option.{none-some, same_Some}
-use native.Mathlib.Decide.{ℕ_discrete}
 use Rattle.proof_sizes.specs.Beneath.history.specs.declared.calls.Call.{Call}
-use Rattle.proof_sizes.specs.Beneath.history.specs.declared.calls.Call.TheVariants.{Clear, Close, Freeze, Snapshot}
+use Rattle.proof_sizes.specs.Beneath.history.specs.declared.calls.Call.TheVariants.{Close, Freeze, Snapshot}
 use Rattle.proof_sizes.specs.Beneath.slot_arena.specs.declared.refs.Ref.{Ref}
 use Rattle.proof_sizes.specs.Beneath.slot_arena.specs.Heaps.{empty_branch, entries_of}
 use Rattle.proof_sizes.specs.Beneath.slot_arena.specs.Times.{times}
-use Rattle.proof_sizes.specs.Beneath.slot_arena.proofs.Times.{once, times-cons}
+use Rattle.proof_sizes.specs.Beneath.slot_arena.proofs.Times.{times-cons}
 use Rattle.proof_sizes.specs.Beneath.machine_model.specs.declared.lines.Purpose.TheVariants as purpose
 use Rattle.proof_sizes.specs.Beneath.machine_model.specs.declared.roots.Descriptor.{Descriptor}
 use Rattle.proof_sizes.specs.Beneath.machine_model.specs.declared.roots.Root.{Root}
@@ -25,7 +24,7 @@ use Rattle.proof_sizes.specs.Beneath.machine_model.specs.States.{State, root_at,
 use Rattle.proof_sizes.specs.Beneath.machine_model.specs.Times.{IsRun}
 use Rattle.proof_sizes.specs.Beneath.proof_memory.specs.Wants.{is_indirection}
 use Rattle.proof_sizes.specs.Beneath.proof_contents.specs.Runs.{counting_main}
-use Rattle.proof_sizes.specs.Beneath.proof_contents.specs.Steps.{Asks, IsRepair, LeavesOthers, Updates, to_insert, to_remove, to_set}
+use Rattle.proof_sizes.specs.Beneath.proof_contents.specs.Steps.{Asks, IsRepair, Updates, to_insert, to_remove, to_set}
 use Rattle.proof_sizes.specs.Beneath.proof_contents.specs.Tries.{Trie, generation, node_in}
 use Rattle.proof_sizes.specs.Beneath.proof_generations.proofs.Lines.ReaderKnows.{indirection_is}
 use Rattle.proof_sizes.specs.Beneath.proof_order.specs.Facts.{CarriesOut, Notes}
@@ -39,9 +38,9 @@ use Rattle.proof_sizes.specs.Beneath.proof_shape.specs.Sites.Nodes.{depth_of_run
 use Rattle.proof_sizes.specs.Beneath.proof_shape.proofs.Shaped.Trie.{runs_have_shape}
 use Rattle.proof_sizes.specs.Beneath.proof_updates.specs.Touching.{CarriesOutCall, CommitsUpdate}
 use Rattle.proof_sizes.specs.Beneath.proof_updates.proofs.Handles.Committing.{carries_nothing, commits_own}
-use Rattle.proof_sizes.specs.Beneath.proof_updates.proofs.Handles.Kept.{Own, main_step, ok}
+use Rattle.proof_sizes.specs.Beneath.proof_updates.proofs.Handles.Kept.{main_step}
 use Rattle.proof_sizes.specs.Beneath.proof_updates.proofs.Handles.OfRuns.{OfLastSteps}
-use Rattle.proof_sizes.specs.Beneath.proof_updates.proofs.Handles.Roots.{HandleStep, IsOpened, StandsOver, changes_root, handle_step, is_closed, keeps, opened_step, swap_of}
+use Rattle.proof_sizes.specs.Beneath.proof_updates.proofs.Handles.Roots.{HandleStep, changes_root, handle_step, is_closed, keeps, opened_step, swap_of}
 use Rattle.proof_sizes.specs.Beneath.proof_updates.proofs.Handles.Showing.{root_link}
 use Rattle.proof_sizes.specs.Beneath.proof_updates.proofs.Handles.Swapping.{brings, carries_call, its_call}
 use Rattle.proof_sizes.specs.Beneath.proof_updates.proofs.Tries.Commits.{sites_of_updates}
