@@ -140,7 +140,8 @@ module _ (limits : Bounds) (states : ℕ → State) (steps : ℕ → Step) (last
         }
 
     only_calls : (d : ℕ) → start + suc d ≤ last → (k : ℕ) (operation : Operation) → Runs (states (start + suc d)) k operation → IsCalls k operation
-    only_calls zero within k operation runs = by (comes (states start) (steps start) (takes start more).0 (states (suc start)) (takes start more).1 k operation (subst (λ u. Runs (states u) k operation) next runs))
+    only_calls zero within k operation runs =
+        by (comes (states start) (steps start) (takes start more).0 (states (suc start)) (takes start more).1 k operation (subst (λ u. Runs (states u) k operation) next runs))
       where
         next : start + suc zero ≡ suc start
         next = omega arith
@@ -155,7 +156,8 @@ module _ (limits : Bounds) (states : ℕ → State) (steps : ℕ → Step) (last
         by (went was s at_k g it) = absurd (let bad : step.Begin actor call ≡ step.Go (suc k) = sym begins ∙ s in cc)
     only_calls (suc d) within k operation runs =
         by (only_calls d (omega (arith, within)))
-        (comes (states (start + suc d)) (steps (start + suc d)) (takes (start + suc d) (omega (arith, within))).0 (states (suc (start + suc d))) (takes (start + suc d) (omega (arith, within))).1 k operation
+        (comes (states (start + suc d)) (steps (start + suc d)) (takes (start + suc d) (omega (arith, within))).0 (states (suc (start + suc d)))
+        (takes (start + suc d) (omega (arith, within))).1 k operation
         (subst (λ u. Runs (states u) k operation) next runs))
       where
         next : start + suc (suc d) ≡ suc (start + suc d)
@@ -164,7 +166,8 @@ module _ (limits : Bounds) (states : ℕ → State) (steps : ℕ → Step) (last
         its : steps (start + suc d) ≡ step.Go actor
         its = goes (start + suc d) (omega arith) (omega (arith, within))
 
-        by : ((k : ℕ) (operation : Operation) → Runs (states (start + suc d)) k operation → IsCalls k operation) → Comes (states (start + suc d)) (steps (start + suc d)) k operation → IsCalls k operation
+        by : ((k : ℕ) (operation : Operation) → Runs (states (start + suc d)) k operation → IsCalls k operation) →
+            Comes (states (start + suc d)) (steps (start + suc d)) k operation → IsCalls k operation
         by before (began other s denied it) = absurd (let bad : step.Go actor ≡ step.Begin (suc k) other = sym its ∙ s in cc)
         by before (rested was at_k it other_step) = marked_calls k (marks_in (states (start + suc d)) (steps (start + suc d))) was operation it (before k was at_k)
         by before (went was s at_k g it) =

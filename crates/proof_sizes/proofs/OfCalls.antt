@@ -67,7 +67,8 @@ one_handle_uses_all state handle root of_run at rest swept only =
     (λ s. root_at s handle ≡ Some root → is_busy s ≡ false → UsesReached s → ((other : ℕ) → other ≢ handle → root_at s other ≡ None) → length (nodes_of s handle) + length s.heap.free ≡ s.limits.slots)
     by state of_run at rest (clean_is_reached state of_run rest swept).0 only
   where
-    by : (limits : Bounds) (steps : List Step) → AreBounds limits → KeysFit steps → root_at (run limits steps) handle ≡ Some root → is_busy (run limits steps) ≡ false → UsesReached (run limits steps) →
+    by : (limits : Bounds) (steps : List Step) → AreBounds limits → KeysFit steps → root_at (run limits steps) handle ≡ Some root → is_busy (run limits steps) ≡ false →
+        UsesReached (run limits steps) →
         ((other : ℕ) → other ≢ handle → root_at (run limits steps) other ≡ None) → length (nodes_of (run limits steps) handle) + length (run limits steps).heap.free ≡ (run limits steps).limits.slots
     by limits steps ok fit at rest uses only =
         let ends = run_ends limits steps in
@@ -186,14 +187,16 @@ module _ (limits : Bounds) (steps : List Step) (ok : AreBounds limits) (keys : K
     grows root at =
         subst (λ s. length (nodes_of s handle) ≤ length (nodes_of (run limits steps) handle) + growth call answer) after_is
         (subst (λ s. length (nodes_of (states_of limits all last) handle) ≤ length (nodes_of s handle) + growth call answer) before_is
-        (grown_little limits (states_of limits all) (steps_of limits all) last is_run (takes_steps limits all) (keys_fit limits all all_fit_keys) noted_each start actor call more at_rest begins_at goes_at answer
+        (grown_little limits (states_of limits all) (steps_of limits all) last is_run (takes_steps limits all) (keys_fit limits all all_fit_keys) noted_each
+        start actor call more at_rest begins_at goes_at answer
         ended_there handle root now (ap (λ s. root_at s handle) before_is ∙ at) at_last))
 
     pub opens_no_larger : root_at (run limits steps) handle ≡ None → length (nodes_of after handle) ≤ length (nodes_of (run limits steps) (handle_of call))
     opens_no_larger shut =
         subst (λ s. length (nodes_of s handle) ≤ length (nodes_of (run limits steps) (handle_of call))) after_is
         (subst (λ s. length (nodes_of (states_of limits all last) handle) ≤ length (nodes_of s (handle_of call))) before_is
-        (no_larger limits (states_of limits all) (steps_of limits all) last is_run (takes_steps limits all) (keys_fit limits all all_fit_keys) noted_each start actor call more at_rest begins_at goes_at answer
+        (no_larger limits (states_of limits all) (steps_of limits all) last is_run (takes_steps limits all) (keys_fit limits all all_fit_keys) noted_each
+        start actor call more at_rest begins_at goes_at answer
         ended_there handle now (ap (λ s. root_at s handle) before_is ∙ shut) at_last))
 
 pub calls_grow_little : CallsGrowLittle

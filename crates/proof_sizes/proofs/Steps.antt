@@ -77,7 +77,8 @@ pub data Copies (copied : ℕ) : Call → Type 0 where
 abbrev pub OpenedNoLarger : Bounds → State → Step → State → Type 0
 OpenedNoLarger limits before s after =
     (handle : ℕ) (now : Root) → root_at before handle ≡ None → root_at after handle ≡ Some now →
-    (copied : ℕ) × (call : Call) × Copies copied call × CarriesOutCall before s call (Some handle) × ((root : Root) × (root_at before copied ≡ Some root)) × (length (nodes_of after handle) ≤ length (nodes_of before copied))
+    (copied : ℕ) × (call : Call) × Copies copied call × CarriesOutCall before s call (Some handle) × ((root : Root) × (root_at before copied ≡ Some root))
+    × (length (nodes_of after handle) ≤ length (nodes_of before copied))
 
 -- ---- lists in which one number weighs more
 
@@ -147,7 +148,9 @@ module _ (limits : Bounds) (states : ℕ → State) (steps : ℕ → Step) (t : 
     nothing_below same =
         let few = no_more trie t r (λ j apart. same j) 0
         (λ levels rest. let less = sum_by-le-sum_by _ _ (entries_of (node_in trie t r)) rest in
-        subst (λ q. sum_by (size_from trie.node (trie.main (suc t)) levels) (entries_of (trie.node q)) ≤ sum_by (weight_from (heavier r 0) trie.node (trie.main t) levels) (entries_of (node_in trie t r)) + 0)
+        subst
+        (λ q. sum_by (size_from trie.node (trie.main (suc t)) levels) (entries_of (trie.node q))
+        ≤ sum_by (weight_from (heavier r 0) trie.node (trie.main t) levels) (entries_of (node_in trie t r)) + 0)
         (sym (same r)) (omega (arith, less))) most_levels r in
         let heavy = heavy_at r 0 in
         omega (arith, few, heavy)
@@ -289,7 +292,8 @@ module _ (limits : Bounds) (states : ℕ → State) (steps : ℕ → Step) (t : 
       by (keeps stands) =
           by_size (root_of root.word) refl (ap (λ (x : Root). root_of x.word) (same_Some _ _ (sym at_now ∙ stands.is_open)) ∙ stands.over) (below handle root at)
       by (changes_root offer carries was stands) =
-          inl (new_root_below handle offer carries (its_call limits states steps t run takes keys s o m notes handle offer carries) (brings limits states steps t run takes keys s o m notes handle offer carries) now at_now
+          inl (new_root_below handle offer carries (its_call limits states steps t run takes keys s o m notes handle offer carries)
+          (brings limits states steps t run takes keys s o m notes handle offer carries) now at_now
           (ap (λ (x : Root). root_of x.word) (same_Some _ _ (sym at_now ∙ stands.is_open)) ∙ stands.over))
       by (is_closed actor e gone) = absurd (none-some now (sym gone ∙ at_now))
 
