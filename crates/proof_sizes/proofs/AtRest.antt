@@ -66,7 +66,7 @@ use Rattle.proof_sizes.proofs.Weights.{weight_at, weight_from, weight_link, weig
 
 -- ---- sums
 
-some_of : {X : Type 0} (f : X → ℕ) (xs : List X) → 0 < sum_by f xs → (x : X) × Contains xs x × (0 < f x)
+pub some_of : {X : Type 0} (f : X → ℕ) (xs : List X) → 0 < sum_by f xs → (x : X) × Contains xs x × (0 < f x)
 some_of f [] some = absurd (omega (arith, some))
 some_of {X} f (x ∷ xs) some = by (f x) refl (some_of f xs)
   where
