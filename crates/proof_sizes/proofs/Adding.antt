@@ -1,7 +1,7 @@
 -- In a run whose last steps are those of one call from rest: whatever runs is that call's operation, and where it adds a key it hadn't done so before, and says it in its answer.
-use Rattle.std.proofs.Common.{◌≡◌, ℕ, zero, suc, ◌+◌, ◌-◌, ◌<◌, ◌≤◌, Bool, true, false, cond, [], ◌∷◌, ◌++◌, length, ◌⊎◌, inl, inr, Option, Some, None, refl, sym, ap, subst, ◌∙◌, arith}
+use Rattle.std.proofs.Common.{◌≡◌, ℕ, zero, suc, ◌+◌, ◌-◌, ◌<◌, ◌≤◌, true, false, [], ◌∷◌, ◌++◌, ◌⊎◌, inl, inr, Option, Some, None, refl, sym, ap, subst, ◌∙◌, arith}
 use Rattle.std.proofs.lemmas.Bool.{cases_lt, false≢true}
-use Rattle.std.proofs.lemmas.Option.{none-some, same_Some}
+use Rattle.std.proofs.lemmas.Option.{same_Some}
 use Rattle.proof_sizes.specs.Beneath.history.specs.Histories.{HasEnded}
 use Rattle.proof_sizes.specs.Beneath.history.specs.declared.calls.Call.{Call}
 use Rattle.proof_sizes.specs.Beneath.history.specs.declared.calls.Call.TheVariants.{Clear, Close, Count, Entries, Freeze, Get, Put, PutIfAbsent, Remove, RemoveIf, Replace, ReplaceIf, Snapshot}
@@ -10,7 +10,6 @@ use Rattle.proof_sizes.specs.Beneath.history.proofs.Among.{Among, among_right}
 use Rattle.proof_sizes.specs.Beneath.machine_model.specs.declared.lines.Line.TheVariants as line
 use Rattle.proof_sizes.specs.Beneath.machine_model.specs.declared.lines.Purpose.TheVariants as purpose
 use Rattle.proof_sizes.specs.Beneath.machine_model.specs.declared.operations.Operation.{Operation}
-use Rattle.proof_sizes.specs.Beneath.machine_model.specs.declared.roots.Root.{Root}
 use Rattle.proof_sizes.specs.Beneath.machine_model.specs.declared.steps.Bounds.{Bounds}
 use Rattle.proof_sizes.specs.Beneath.machine_model.specs.declared.steps.Outcome.{Outcome}
 use Rattle.proof_sizes.specs.Beneath.machine_model.specs.declared.steps.Step.{Step}
@@ -20,7 +19,7 @@ use Rattle.proof_sizes.specs.Beneath.machine_model.specs.Calls.{changed_reply, h
 use Rattle.proof_sizes.specs.Beneath.machine_model.specs.Machine.{is_busy}
 use Rattle.proof_sizes.specs.Beneath.machine_model.specs.Moves.{Moves}
 use Rattle.proof_sizes.specs.Beneath.machine_model.specs.Records.{closing_for, is_placed, noted, place_of}
-use Rattle.proof_sizes.specs.Beneath.machine_model.specs.States.{State, operation_of, root_at}
+use Rattle.proof_sizes.specs.Beneath.machine_model.specs.States.{State, operation_of}
 use Rattle.proof_sizes.specs.Beneath.machine_model.specs.Tellings.{entrant_of, told_in}
 use Rattle.proof_sizes.specs.Beneath.machine_model.specs.Times.{IsRun}
 use Rattle.proof_sizes.specs.Beneath.machine_model.proofs.Actors.{mark_one, mark_only, marks_in}
@@ -31,7 +30,6 @@ use Rattle.proof_sizes.specs.Beneath.proof_order.specs.Facts.{Notes, entered_by_
 use Rattle.proof_sizes.specs.Beneath.proof_order.specs.Phases.{OwnUpdate}
 use Rattle.proof_sizes.specs.Beneath.proof_order.proofs.Offers.Honest.{honest}
 use Rattle.proof_sizes.specs.Beneath.proof_order.proofs.Offers.Standing.{offers_at}
-use Rattle.proof_sizes.specs.Beneath.proof_order.proofs.Phases.Closers.{still_placed}
 use Rattle.proof_sizes.specs.Beneath.proof_order.proofs.Phases.OwnUpdates.{own_updates_enter}
 use Rattle.proof_sizes.specs.Beneath.proof_order.proofs.Phases.Steps.{is_placed_so}
 use Rattle.proof_sizes.specs.Beneath.proof_order.proofs.Places.Origins.{place_says}
@@ -40,13 +38,10 @@ use Rattle.proof_sizes.specs.Beneath.proof_shape.specs.Lines.Commits.{MainStep, 
 use Rattle.proof_sizes.specs.Beneath.proof_shape.specs.Lines.Commits.{changes as changes_main, stays}
 use Rattle.proof_sizes.specs.Beneath.proof_shape.specs.Sites.At.{StepsFit, TakesSteps}
 use Rattle.proof_sizes.specs.Beneath.proof_shape.proofs.Held.Commits.{fresh_commits_at}
-use Rattle.proof_sizes.specs.Beneath.proof_updates.specs.Touching.{CarriesOutCall}
 use Rattle.proof_sizes.specs.Beneath.proof_updates.proofs.Handles.Committing.{no_update, owned}
-use Rattle.proof_sizes.specs.Beneath.proof_updates.proofs.Handles.Roots.{HandleStep, changes_root, handle_step, is_closed, keeps}
 use Rattle.proof_sizes.specs.Beneath.proof_updates.proofs.Tries.Facts.{own_enters}
-use Rattle.proof_sizes.specs.Growth.{adds_key, growth, most_growth}
-use Rattle.proof_sizes.specs.Nodes.{nodes_of}
-use Rattle.proof_sizes.proofs.Steps.{AddsKey, Copies, by_freeze, by_snapshot, opened_no_larger, steps_grow_little}
+use Rattle.proof_sizes.specs.Growth.{adds_key, growth}
+use Rattle.proof_sizes.proofs.Steps.{AddsKey, Copies, by_freeze, by_snapshot}
 
 -- ---- answers
 

@@ -1,50 +1,29 @@
 -- In a run whose last steps are those of one call from rest handles grow by no more than one key does, and none but the call's.
-use Rattle.std.proofs.Common.{◌≢◌, ◌≡◌, ℕ, zero, suc, ◌+◌, ◌-◌, ◌<◌, ◌≤◌, Bool, true, false, cond, [], ◌∷◌, ◌++◌, length, ◌⊎◌, inl, inr, Option, Some, None, refl, sym, ap, subst, ◌∙◌, arith}
+use Rattle.std.proofs.Common.{◌≢◌, ◌≡◌, ℕ, zero, suc, ◌+◌, ◌-◌, ◌<◌, ◌≤◌, Bool, true, false, cond, length, ◌⊎◌, inl, inr, Option, Some, None, refl, sym, ap, subst, ◌∙◌, arith}
 use Rattle.std.proofs.lemmas.Bool.{cases_lt, false≢true}
-use Rattle.std.proofs.lemmas.Option.{none-some, same_Some}
+use Rattle.std.proofs.lemmas.Option.{none-some}
 use Rattle.proof_sizes.specs.Beneath.history.specs.Histories.{HasEnded}
 use Rattle.proof_sizes.specs.Beneath.history.specs.declared.calls.Call.{Call}
-use Rattle.proof_sizes.specs.Beneath.history.specs.declared.calls.Call.TheVariants.{Clear, Close, Count, Entries, Freeze, Get, Put, PutIfAbsent, Remove, RemoveIf, Replace, ReplaceIf, Snapshot}
+use Rattle.proof_sizes.specs.Beneath.history.specs.declared.calls.Call.TheVariants.{Close}
 use Rattle.proof_sizes.specs.Beneath.history.specs.declared.replies.Reply.{Reply}
-use Rattle.proof_sizes.specs.Beneath.history.proofs.Among.{Among, among_right}
-use Rattle.proof_sizes.specs.Beneath.machine_model.specs.declared.lines.Line.TheVariants as line
-use Rattle.proof_sizes.specs.Beneath.machine_model.specs.declared.lines.Purpose.TheVariants as purpose
 use Rattle.proof_sizes.specs.Beneath.machine_model.specs.declared.operations.Operation.{Operation}
 use Rattle.proof_sizes.specs.Beneath.machine_model.specs.declared.roots.Root.{Root}
 use Rattle.proof_sizes.specs.Beneath.machine_model.specs.declared.steps.Bounds.{Bounds}
 use Rattle.proof_sizes.specs.Beneath.machine_model.specs.declared.steps.Outcome.{Outcome}
 use Rattle.proof_sizes.specs.Beneath.machine_model.specs.declared.steps.Step.{Step}
 use Rattle.proof_sizes.specs.Beneath.machine_model.specs.declared.steps.Step.TheVariants as step
-use Rattle.proof_sizes.specs.Beneath.machine_model.specs.Acting.{operation_after}
-use Rattle.proof_sizes.specs.Beneath.machine_model.specs.Calls.{changed_reply, handle_of, inserts}
+use Rattle.proof_sizes.specs.Beneath.machine_model.specs.Calls.{handle_of, inserts}
 use Rattle.proof_sizes.specs.Beneath.machine_model.specs.Machine.{is_busy}
 use Rattle.proof_sizes.specs.Beneath.machine_model.specs.Moves.{Moves}
-use Rattle.proof_sizes.specs.Beneath.machine_model.specs.Records.{closing_for, is_placed, noted, place_of}
+use Rattle.proof_sizes.specs.Beneath.machine_model.specs.Records.{is_placed}
 use Rattle.proof_sizes.specs.Beneath.machine_model.specs.States.{State, operation_of, root_at}
-use Rattle.proof_sizes.specs.Beneath.machine_model.specs.Tellings.{entrant_of, told_in}
 use Rattle.proof_sizes.specs.Beneath.machine_model.specs.Times.{IsRun}
-use Rattle.proof_sizes.specs.Beneath.machine_model.proofs.Actors.{mark_one, mark_only, marks_in}
-use Rattle.proof_sizes.specs.Beneath.proof_commits.proofs.Resting.{none_at}
-use Rattle.proof_sizes.specs.Beneath.proof_generations.specs.Running.{Runs}
-use Rattle.proof_sizes.specs.Beneath.proof_generations.proofs.Handles.Running.{Comes, began, comes, place_of_actor, rested, went}
-use Rattle.proof_sizes.specs.Beneath.proof_order.specs.Facts.{Notes, entered_by_step}
-use Rattle.proof_sizes.specs.Beneath.proof_order.specs.Phases.{OwnUpdate}
-use Rattle.proof_sizes.specs.Beneath.proof_order.proofs.Offers.Honest.{honest}
-use Rattle.proof_sizes.specs.Beneath.proof_order.proofs.Offers.Standing.{offers_at}
+use Rattle.proof_sizes.specs.Beneath.proof_order.specs.Facts.{Notes}
 use Rattle.proof_sizes.specs.Beneath.proof_order.proofs.Phases.Closers.{still_placed}
-use Rattle.proof_sizes.specs.Beneath.proof_order.proofs.Phases.OwnUpdates.{own_updates_enter}
-use Rattle.proof_sizes.specs.Beneath.proof_order.proofs.Phases.Steps.{is_placed_so}
-use Rattle.proof_sizes.specs.Beneath.proof_order.proofs.Places.Origins.{place_says}
-use Rattle.proof_sizes.specs.Beneath.proof_order.proofs.Views.EachStep.{Changes, changes, closes, ends, quiet, swaps}
-use Rattle.proof_sizes.specs.Beneath.proof_shape.specs.Lines.Commits.{MainStep, assigned_at, places_for}
-use Rattle.proof_sizes.specs.Beneath.proof_shape.specs.Lines.Commits.{changes as changes_main, stays}
 use Rattle.proof_sizes.specs.Beneath.proof_shape.specs.Sites.At.{StepsFit, TakesSteps}
-use Rattle.proof_sizes.specs.Beneath.proof_shape.proofs.Held.Commits.{fresh_commits_at}
 use Rattle.proof_sizes.specs.Beneath.proof_updates.specs.Touching.{CarriesOutCall}
-use Rattle.proof_sizes.specs.Beneath.proof_updates.proofs.Handles.Committing.{no_update, owned}
 use Rattle.proof_sizes.specs.Beneath.proof_updates.proofs.Handles.Roots.{HandleStep, changes_root, handle_step, is_closed, keeps}
-use Rattle.proof_sizes.specs.Beneath.proof_updates.proofs.Tries.Facts.{own_enters}
-use Rattle.proof_sizes.specs.Growth.{adds_key, growth, most_growth}
+use Rattle.proof_sizes.specs.Growth.{growth, most_growth}
 use Rattle.proof_sizes.specs.Nodes.{nodes_of}
 use Rattle.proof_sizes.proofs.Adding.{adds_now, copies_add_nothing, copies_stay_open, its_operation, keys_to, run_to, takes_to}
 use Rattle.proof_sizes.proofs.Others.{own_handle}
@@ -58,6 +37,21 @@ module _ (limits : Bounds) (states : ℕ → State) (steps : ℕ → Step) (last
   id = (states start).begun
 
   -- ---- along the call
+
+  -- whatever runs is its operation
+  mine : (u : ℕ) → start ≤ u → u ≤ last → (other : ℕ) (operation : Operation) → operation_of (states u) other ≡ Some operation →
+      (operation.id ≡ id) × (operation.call ≡ call) × (other ≡ actor)
+  mine = its_operation limits states steps last run takes keys notes start actor call more rest begins goes answer ended
+
+  -- a step as the last of a run
+  abbrev run_at : (u : ℕ) → u < last → IsRun limits states (suc u)
+  run_at u lt = run_to limits states steps last run takes keys notes u lt
+
+  takes_at : (u : ℕ) → u < last → TakesSteps states steps (suc u)
+  takes_at u lt = takes_to limits states steps last run takes keys notes u lt
+
+  keys_at : (u : ℕ) → u < last → StepsFit steps (suc u)
+  keys_at u lt = keys_to limits states steps last run takes keys notes u lt
 
   -- what the call may have added before a step
   abbrev added_by : ℕ → ℕ
@@ -101,8 +95,8 @@ module _ (limits : Bounds) (states : ℕ → State) (steps : ℕ → Step) (last
     stays_so : (handle : ℕ) (root now : Root) → root_at (states u) handle ≡ Some root → root_at (states (suc u)) handle ≡ Some now → Follows (suc u) handle
     stays_so handle root now at at_now =
         by (kept.follows handle root at)
-        (steps_grow_little limits states steps u (run_to limits states steps last run takes keys notes u lt) (takes_to limits states steps last run takes keys notes u lt)
-        (keys_to limits states steps last run takes keys notes u lt) (steps u) o m (notes u lt) handle root now at at_now)
+        (steps_grow_little limits states steps u (run_at u lt) (takes_at u lt)
+        (keys_at u lt) (steps u) o m (notes u lt) handle root now at at_now)
       where
         by : Follows u handle → (length (nodes_of (states (suc u)) handle) ≤ length (nodes_of (states u) handle))
             ⊎ (AddsKey (states u) (steps u) handle × (length (nodes_of (states (suc u)) handle) ≤ length (nodes_of (states u) handle) + most_growth)) → Follows (suc u) handle
@@ -112,22 +106,24 @@ module _ (limits : Bounds) (states : ℕ → State) (steps : ℕ → Step) (last
             let a = adds_now limits states steps last run takes keys notes start actor call more rest begins goes answer ended u past lt handle adds in
             let none : added_by u ≡ 0 = ap (λ b. cond b (growth call answer) 0) a.before in
             let all : added_by (suc u) ≡ most_growth = ap (λ b. cond b (growth call answer) 0) a.behind ∙ ap (λ b. cond b most_growth 0) a.tells in
-            stood first was (omega (arith, few, less, none, all)) (λ apart. absurd (apart (own_handle limits states steps last run takes keys notes start actor call more rest begins goes answer ended u past lt handle root at adds)))
+            stood first was (omega (arith, few, less, none, all))
+            (λ apart. absurd (apart (own_handle limits states steps last run takes keys notes start actor call more rest begins goes answer ended
+            u past lt handle root at adds)))
         by (copied none copies few) (inr (adds, less)) =
-            let its = its_operation limits states steps last run takes keys notes start actor call more rest begins goes answer ended u past (omega (arith, lt)) adds.commits.actor adds.commits.operation adds.commits.runs in
+            let its = mine u past (omega (arith, lt)) adds.commits.actor adds.commits.operation adds.commits.runs in
             absurd (false≢true (sym (copies_add_nothing (handle_of call) call answer copies).2 ∙ ap inserts (sym its.1 ∙ adds.commits.calls) ∙ adds.gives))
 
     -- a handle that is opened
     opens_so : (handle : ℕ) (now : Root) → root_at (states u) handle ≡ None → root_at (states (suc u)) handle ≡ Some now → Follows (suc u) handle
-    opens_so handle now shut at_now = by (opened_no_larger limits states steps u (run_to limits states steps last run takes keys notes u lt) (takes_to limits states steps last run takes keys notes u lt)
-        (keys_to limits states steps last run takes keys notes u lt) (steps u) o m (notes u lt) handle now shut at_now)
+    opens_so handle now shut at_now = by (opened_no_larger limits states steps u (run_at u lt) (takes_at u lt)
+        (keys_at u lt) (steps u) o m (notes u lt) handle now shut at_now)
       where
         by : (on : ℕ) × (c : Call) × Copies on c × CarriesOutCall (states u) (steps u) c (Some handle) × ((root : Root) × (root_at (states u) on ≡ Some root))
             × (length (nodes_of (states (suc u)) handle) ≤ length (nodes_of (states u) on)) → Follows (suc u) handle
         by (on, c, copies, carries, (root, open_), few) = by_first (root_at (states start) handle) refl (kept.follows on root open_)
           where
             same : c ≡ call
-            same = sym carries.calls ∙ (its_operation limits states steps last run takes keys notes start actor call more rest begins goes answer ended u past (omega (arith, lt)) carries.actor carries.operation carries.runs).1
+            same = sym carries.calls ∙ (mine u past (omega (arith, lt)) carries.actor carries.operation carries.runs).1
 
             its : Copies on call
             its = subst (Copies on) same copies

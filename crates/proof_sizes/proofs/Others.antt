@@ -1,6 +1,6 @@
 -- A call that runs alone from rest adds its key below its own handle alone: the indirection has the generation of that handle's root, which is open, and none
 -- that is open stands below the root of another handle.
-use Rattle.std.proofs.Common.{◌≡◌, ◌≢◌, ℕ, zero, suc, ◌+◌, ◌-◌, ◌<◌, ◌≤◌, Bool, true, false, List, Contains, sum_by, ◌⊎◌, inl, inr, Option, Some, None, is_some, refl, sym, ap, subst, ◌∙◌, arith}
+use Rattle.std.proofs.Common.{◌≡◌, ℕ, zero, suc, ◌+◌, ◌-◌, ◌<◌, ◌≤◌, true, false, Contains, sum_by, ◌⊎◌, inl, inr, Option, Some, None, is_some, refl, sym, ap, subst, ◌∙◌, arith}
 use Rattle.std.proofs.lemmas.Bool.{cases_lt, false≢true}
 use Rattle.std.proofs.lemmas.Option.{none-some, some_pair_parts}
 use native.Mathlib.Decide.{ℕ_discrete}
@@ -10,7 +10,6 @@ use Rattle.proof_sizes.specs.Beneath.history.specs.declared.calls.Access.TheVari
 use Rattle.proof_sizes.specs.Beneath.history.specs.declared.calls.Call.{Call}
 use Rattle.proof_sizes.specs.Beneath.history.specs.declared.calls.Call.TheVariants.{Close}
 use Rattle.proof_sizes.specs.Beneath.history.specs.declared.replies.Reply.{Reply}
-use Rattle.proof_sizes.specs.Beneath.slot_arena.specs.declared.nodes.Node.{Node}
 use Rattle.proof_sizes.specs.Beneath.slot_arena.specs.declared.nodes.Node.TheVariants.{Indirection, Branch, Single, Tomb, List as Listed}
 use Rattle.proof_sizes.specs.Beneath.slot_arena.specs.declared.refs.Ref.{Ref}
 use Rattle.proof_sizes.specs.Beneath.slot_arena.specs.Heaps.{entries_of, generation_at, generation_of, node_of}
@@ -34,10 +33,9 @@ use Rattle.proof_sizes.specs.Beneath.proof_memory.specs.Wants.{AllHold, AnIndire
 use Rattle.proof_sizes.specs.Beneath.proof_memory.proofs.Claims.Uses.{meets_of, safe_of}
 use Rattle.proof_sizes.specs.Beneath.proof_memory.proofs.Safety.AtTimes.{line_at}
 use Rattle.proof_sizes.specs.Beneath.proof_commits.proofs.Resting.{none_at}
-use Rattle.proof_sizes.specs.Beneath.proof_contents.specs.Runs.{counting_main}
 use Rattle.proof_sizes.specs.Beneath.proof_contents.specs.Tries.{IsShaped, Trie, branch, list, node_in, tomb}
 use Rattle.proof_sizes.specs.Beneath.proof_contents.proofs.Values.Runs.{counting_main-made}
-use Rattle.proof_sizes.specs.Beneath.proof_generations.specs.Falling.{IsIndirectionOf, MayStandBelow, WasOpened}
+use Rattle.proof_sizes.specs.Beneath.proof_generations.specs.Falling.{MayStandBelow, WasOpened}
 use Rattle.proof_sizes.specs.Beneath.proof_generations.specs.Running.{Runs}
 use Rattle.proof_sizes.specs.Beneath.proof_generations.specs.Standing.{standing, standing_of}
 use Rattle.proof_sizes.specs.Beneath.proof_generations.proofs.Falling.Along.{all_falls}
@@ -57,8 +55,7 @@ use Rattle.proof_sizes.specs.Beneath.proof_shape.specs.Sites.At.{StepsFit, Takes
 use Rattle.proof_sizes.specs.Beneath.proof_shape.proofs.Shaped.Trie.{runs_have_shape}
 use Rattle.proof_sizes.specs.Beneath.proof_updates.proofs.Handles.Roots.{HandleStep, StandsOver, changes_root, handle_step, is_closed, keeps}
 use Rattle.proof_sizes.specs.Beneath.proof_updates.proofs.Handles.Showing.{link_same, root_link, root_used}
-use Rattle.proof_sizes.specs.Beneath.proof_updates.proofs.Handles.Swapping.{brings, carries_call, its_call}
-use Rattle.proof_sizes.specs.Nodes.{nodes_of}
+use Rattle.proof_sizes.specs.Beneath.proof_updates.proofs.Handles.Swapping.{brings, carries_call}
 use Rattle.proof_sizes.proofs.Adding.{its_operation, keys_to, run_to, takes_to}
 use Rattle.proof_sizes.proofs.AtRest.{some_of}
 use Rattle.proof_sizes.proofs.Once.{IsEntry, a_link, a_single}
@@ -95,7 +92,8 @@ module _ (limits : Bounds) (states : ℕ → State) (steps : ℕ → Step) (last
   main_apart i (tomb s k v n_is own led) same = let bad : Tomb s ≡ Indirection h_x word_x = sym n_is ∙ ap trie.node (sym same) ∙ is_x in cc
 
   -- what stands below an indirection that may stand below
-  pub met_falls : (levels h : ℕ) (i word : Ref) → IsInUse (states u).heap i → trie.node i ≡ Indirection h word → MayStandBelow run.records u g h → 0 < weight_from (once x) trie.node (trie.main u) levels i →
+  pub met_falls : (levels h : ℕ) (i word : Ref) → IsInUse (states u).heap i → trie.node i ≡ Indirection h word → MayStandBelow run.records u g h →
+      0 < weight_from (once x) trie.node (trie.main u) levels i →
       MayStandBelow run.records u g h_x
   met_falls zero h i word used is below some = absurd (omega (arith, some, weight_none (once x) trie.node (trie.main u) i))
   met_falls (suc levels) h i word used is below some = by (λ k e w. met_falls levels k e w) (ℕ_discrete x i)
@@ -156,6 +154,11 @@ module _ (limits : Bounds) (states : ℕ → State) (steps : ℕ → Step) (last
   abbrev gen : Ref → ℕ
   gen r = generation_of (node_under states last r)
 
+  -- whatever runs is the call's operation
+  mine : (u : ℕ) → start ≤ u → u ≤ last → (other : ℕ) (operation : Operation) → operation_of (states u) other ≡ Some operation →
+      (operation.id ≡ (states start).begun) × (operation.call ≡ call) × (other ≡ actor)
+  mine = its_operation limits states steps last run takes keys notes start actor call more rest begins goes answer ended
+
   -- the handle is writable, over a root of this generation
   record StandsOn (u g : ℕ) : Type 0 where
     root : Root
@@ -179,8 +182,8 @@ module _ (limits : Bounds) (states : ℕ → State) (steps : ℕ → Step) (last
             let k = keys_to limits states steps last run takes keys notes u lt in
             let calls = carries_call limits states steps u r t k (steps u) (takes u lt).0 (takes u lt).1 (notes u lt) (handle_of call) offer carries offer.opens refl in
             let brought = brings limits states steps u r t k (steps u) (takes u lt).0 (takes u lt).1 (notes u lt) (handle_of call) offer carries in
-            let mine = its_operation limits states steps last run takes keys notes start actor call more rest begins goes answer ended u past (omega (arith, lt)) calls.actor calls.operation calls.runs in
-            absurd (false≢true (sym (brings_inserts states (suc u) u (handle_of call) offer _ brought) ∙ ap inserts (sym calls.calls ∙ mine.1) ∙ inserting))
+            let its = mine u past (omega (arith, lt)) calls.actor calls.operation calls.runs in
+            absurd (false≢true (sym (brings_inserts states (suc u) u (handle_of call) offer _ brought) ∙ ap inserts (sym calls.calls ∙ its.1) ∙ inserting))
         by (is_closed closer e gone) = by_time (cases_lt start u)
           where
             by_time : (start < u) ⊎ (u ≤ start) → StandsOn (suc u) g
@@ -208,10 +211,11 @@ module _ (limits : Bounds) (states : ℕ → State) (steps : ℕ → Step) (last
           record { root = root; is_open = e; kind = parts.0 ∙ kind; its = standing_generation limits states last run u within (handle_of call) root e ∙ parts.1 }
 
   pub own_handle : (u : ℕ) → start ≤ u → (lt : u < last) → (handle : ℕ) (root : Root) → root_at (states u) handle ≡ Some root → AddsKey (states u) (steps u) handle → handle ≡ handle_of call
-  own_handle u past lt handle root at a = by_swap (swaps_in_own_generation limits states last run u (omega (arith, lt)) a.commits.actor a.commits.operation a.commits.runs _ a.commits.swap a.commits.swaps)
+  own_handle u past lt handle root at a =
+      by_swap (swaps_in_own_generation limits states last run u (omega (arith, lt)) a.commits.actor a.commits.operation a.commits.runs _ a.commits.swap a.commits.swaps)
     where
       its : (a.commits.operation.id ≡ (states start).begun) × (a.commits.operation.call ≡ call) × (a.commits.actor ≡ actor)
-      its = its_operation limits states steps last run takes keys notes start actor call more rest begins goes answer ended u past (omega (arith, lt)) a.commits.actor a.commits.operation a.commits.runs
+      its = mine u past (omega (arith, lt)) a.commits.actor a.commits.operation a.commits.runs
 
       inserting : inserts call ≡ true
       inserting = ap inserts (sym its.1 ∙ a.commits.calls) ∙ a.gives
