@@ -4,7 +4,7 @@ use Rattle.std.proofs.lemmas.Bool.{cases_lt, false≢true}
 use Rattle.std.proofs.lemmas.Option.{same_Some}
 use Rattle.proof_sizes.specs.Beneath.history.specs.Histories.{HasEnded}
 use Rattle.proof_sizes.specs.Beneath.history.specs.declared.calls.Call.{Call}
-use Rattle.proof_sizes.specs.Beneath.history.specs.declared.calls.Call.TheVariants.{Clear, Close, Count, Entries, Freeze, Get, Put, PutIfAbsent, Remove, RemoveIf, Replace, ReplaceIf, Snapshot}
+use Rattle.proof_sizes.specs.Beneath.history.specs.declared.calls.Call.TheVariants.{Close, Put, PutIfAbsent}
 use Rattle.proof_sizes.specs.Beneath.history.specs.declared.replies.Reply.{Reply}
 use Rattle.proof_sizes.specs.Beneath.history.proofs.Among.{Among, among_right}
 use Rattle.proof_sizes.specs.Beneath.machine_model.specs.declared.lines.Line.TheVariants as line
@@ -47,19 +47,9 @@ use Rattle.proof_sizes.proofs.Steps.{AddsKey, Copies, by_freeze, by_snapshot}
 
 -- who gives an absent key a value and answers so adds a key
 adds_so : (call : Call) (answer : Reply) → inserts call ≡ true → changed_reply call None ≡ answer → adds_key call answer ≡ true
-adds_so (Put h k v) answer yes_ is = ap (adds_key (Put h k v)) (sym is)
-adds_so (PutIfAbsent h k v) answer yes_ is = ap (adds_key (PutIfAbsent h k v)) (sym is)
-adds_so (Get h k) answer e is = absurd (false≢true e)
-adds_so (Replace h k v) answer e is = absurd (false≢true e)
-adds_so (ReplaceIf h k a b) answer e is = absurd (false≢true e)
-adds_so (Remove h k) answer e is = absurd (false≢true e)
-adds_so (RemoveIf h k v) answer e is = absurd (false≢true e)
-adds_so (Clear h) answer e is = absurd (false≢true e)
-adds_so (Snapshot h) answer e is = absurd (false≢true e)
-adds_so (Freeze h) answer e is = absurd (false≢true e)
-adds_so (Close h) answer e is = absurd (false≢true e)
-adds_so (Entries h) answer e is = absurd (false≢true e)
-adds_so (Count h) answer e is = absurd (false≢true e)
+adds_so (Put h k v) answer e is = ap (adds_key (Put h k v)) (sym is)
+adds_so (PutIfAbsent h k v) answer e is = ap (adds_key (PutIfAbsent h k v)) (sym is)
+adds_so call answer e is = absurd (false≢true e)
 
 -- who copies doesn't
 pub copies_add_nothing : (copied : ℕ) (call : Call) (answer : Reply) → Copies copied call → (growth call answer ≡ 0) × (handle_of call ≡ copied) × (inserts call ≡ false)
