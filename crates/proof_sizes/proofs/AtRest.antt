@@ -1,9 +1,9 @@
 -- Where nothing runs every main node is decided and no offer stands: so what a handle reaches by any reference are its nodes.
-use Rattle.std.proofs.Common.{◌≡◌, ◌≢◌, ℕ, zero, suc, ◌+◌, ◌<◌, ◌≤◌, Bool, true, false, cond, List, [], ◌∷◌, ◌++◌, Contains, length, sum_by, get_or, ◌⊎◌, inl, inr, Option, Some, None, is_some, refl, sym, ap, subst, ◌∙◌, arith}
+use Rattle.std.proofs.Common.{◌≡◌, ◌≢◌, ℕ, zero, suc, ◌+◌, ◌<◌, ◌≤◌, true, false, List, [], ◌∷◌, Contains, sum_by, ◌⊎◌, inl, inr, Option, Some, None, refl, sym, ap, subst, ◌∙◌, arith}
 use Rattle.std.proofs.lemmas.Bool.{false≢true}
 use Rattle.std.proofs.lemmas.List.Elements.{Contains-append_cases}
 use Rattle.std.proofs.lemmas.List.Sums.{get_or-le-sum_by, sum_by-cons}
-use Rattle.std.proofs.lemmas.Option.{none-some, same_Some}
+use Rattle.std.proofs.lemmas.Option.{same_Some}
 use native.Mathlib.Decide.{ℕ_discrete}
 use Rattle.proof_sizes.specs.Beneath.slot_arena.specs.declared.nodes.Node.{Node}
 use Rattle.proof_sizes.specs.Beneath.slot_arena.specs.declared.nodes.Node.TheVariants.{Indirection, Branch, Single, Tomb, List as Listed}
@@ -12,7 +12,8 @@ use Rattle.proof_sizes.specs.Beneath.slot_arena.specs.declared.nodes.Prev.TheVar
 use Rattle.proof_sizes.specs.Beneath.slot_arena.specs.declared.refs.Ref.{Ref}
 use Rattle.proof_sizes.specs.Beneath.slot_arena.specs.declared.nodes.Slot.{Slot}
 use Rattle.proof_sizes.specs.Beneath.slot_arena.specs.Arenas.{is_main_node}
-use Rattle.proof_sizes.specs.Beneath.slot_arena.specs.Heaps.{Heap, entries_of, in_use, logical, logical_main, main_at, main_of, node_at, node_of, prev_at, prev_of, refs_of_node, refs_of_prev, refs_of_slot, stored}
+use Rattle.proof_sizes.specs.Beneath.slot_arena.specs.Heaps.{Heap, entries_of, logical, logical_main, main_at, main_of, node_at, node_of, prev_at, prev_of}
+use Rattle.proof_sizes.specs.Beneath.slot_arena.specs.Heaps.{refs_of_node, refs_of_prev, refs_of_slot, stored}
 use Rattle.proof_sizes.specs.Beneath.slot_arena.specs.Times.{times}
 use Rattle.proof_sizes.specs.Beneath.slot_arena.proofs.Times.{once, once_other, once_same}
 use Rattle.proof_sizes.specs.Beneath.machine_model.specs.declared.operations.Operation.{Operation}
@@ -26,12 +27,12 @@ use Rattle.proof_sizes.specs.Beneath.machine_model.specs.Contents.{IsReached, fr
 use Rattle.proof_sizes.specs.Beneath.machine_model.specs.Counting.{refs_of_root, refs_of_word}
 use Rattle.proof_sizes.specs.Beneath.machine_model.specs.Grown.{grown, node_under, prev_word, main_word, standing}
 use Rattle.proof_sizes.specs.Beneath.machine_model.specs.Machine.{is_busy}
-use Rattle.proof_sizes.specs.Beneath.machine_model.specs.States.{State, operation_of, root_at, root_of, word_at, word_of}
+use Rattle.proof_sizes.specs.Beneath.machine_model.specs.States.{State, operation_of, root_at, root_of, word_of}
 use Rattle.proof_sizes.specs.Beneath.machine_model.specs.Times.{IsRun}
 use Rattle.proof_sizes.specs.Beneath.machine_model.proofs.Basics.{only_one}
 use Rattle.proof_sizes.specs.Beneath.machine_model.proofs.Grown.{grown_in_use, node_standing, prev_standing, standing_parts}
 use Rattle.proof_sizes.specs.Beneath.proof_memory.specs.Laws.{IsInUse}
-use Rattle.proof_sizes.specs.Beneath.proof_memory.specs.Wants.{AMain, AllHold, Holds, Is, is_indirection, meets, node_wants}
+use Rattle.proof_sizes.specs.Beneath.proof_memory.specs.Wants.{AMain, AllHold, is_indirection, node_wants}
 use Rattle.proof_sizes.specs.Beneath.proof_memory.proofs.Claims.Uses.{meets_of, meets_same, safe_of}
 use Rattle.proof_sizes.specs.Beneath.proof_memory.proofs.Heap.Moves.{grown_stays}
 use Rattle.proof_sizes.specs.Beneath.proof_memory.proofs.Levels.States.{heaped_in_use}
@@ -57,15 +58,15 @@ use Rattle.proof_sizes.specs.Beneath.proof_shape.proofs.Shaped.Places.{bare_sing
 use Rattle.proof_sizes.specs.Beneath.proof_shape.proofs.Shaped.Trie.{runs_have_shape}
 use Rattle.proof_sizes.specs.Beneath.proof_shape.proofs.Sites.Grown.{WordMade, grown_sites}
 use Rattle.proof_sizes.specs.Beneath.proof_obstruction_free.proofs.Weights.FailedOwners.{failed_owned}
-use Rattle.proof_sizes.specs.Beneath.proof_updates.proofs.Handles.Showing.{entries_same, link_same, main_same, main_used, node_same, root_deep, root_link, root_used}
+use Rattle.proof_sizes.specs.Beneath.proof_updates.proofs.Handles.Showing.{entries_same, link_same, main_same, node_same, root_deep, root_link, root_used}
 use Rattle.proof_sizes.specs.Nodes.{nodes_of}
 use Rattle.proof_sizes.proofs.Once.{IsEntry, a_link, a_single, deeper_by, link_deep}
 use Rattle.proof_sizes.proofs.Shown.{handle_weighs, kinds, under}
-use Rattle.proof_sizes.proofs.Weights.{sum_nothing, weight_at, weight_from, weight_link, weight_node, weight_none, weight_single}
+use Rattle.proof_sizes.proofs.Weights.{weight_at, weight_from, weight_link, weight_node, weight_none, weight_single}
 
 -- ---- sums
 
-some_of : {X : Type 0} (f : X → ℕ) (xs : List X) → 0 < sum_by f xs → (x : X) × Contains xs x × (0 < f x)
+pub some_of : {X : Type 0} (f : X → ℕ) (xs : List X) → 0 < sum_by f xs → (x : X) × Contains xs x × (0 < f x)
 some_of f [] some = absurd (omega (arith, some))
 some_of {X} f (x ∷ xs) some = by (f x) refl (some_of f xs)
   where
@@ -343,7 +344,8 @@ module _ (limits : Bounds) (states : ℕ → State) (steps : ℕ → Step) (last
         let node = indirection_is (node_under states last top) (root_link limits states steps last run takes keys last (omega arith) handle root at) in
         let deep = root_deep limits states steps last run takes keys last (omega arith) handle root at in (
           in_any_slot (states last) safe q r within,
-          met_on q r used_q within most_levels node.0 top node.1 (root_used limits states steps last run takes keys last (omega arith) handle root at) node.2 (omega (arith, deep)) (omega (arith, deep)) met_q,
+          met_on q r used_q within most_levels node.0 top node.1
+              (root_used limits states steps last run takes keys last (omega arith) handle root at) node.2 (omega (arith, deep)) (omega (arith, deep)) met_q,
         )
 
     pub reached_stands : (r : Ref) → IsReached (states last) r → 0 < times r (nodes_of (states last) handle)

@@ -1,20 +1,17 @@
 -- Repairs and own updates of keys: how many nodes more their new main node leads to.
-use Rattle.std.proofs.Common.{◌≡◌, ◌≢◌, ℕ, zero, suc, ◌+◌, ◌-◌, ◌*◌, ◌<◌, ◌≤◌, ◌==◌, Bool, true, false, cond, List, [], ◌∷◌, ◌++◌, Contains, length, sum_by, slice_index_or, slice_set, get_or, set, take, insert, remove}
+use Rattle.std.proofs.Common.{◌≡◌, ℕ, zero, suc, ◌+◌, ◌-◌, ◌*◌, ◌<◌, ◌≤◌, ◌==◌, Bool, true, false, cond, List, [], ◌∷◌, Contains, length, sum_by, slice_index_or, set, take}
 use Rattle.std.proofs.Common.{Option, Some, None, refl, sym, ap, subst, ◌∙◌, arith, get_or-set_same, nat_lt, bit_or, take_all}
 use Rattle.std.proofs.lemmas.List.{get_or_default}
 use Rattle.std.proofs.lemmas.List.Sums.{get_or-le-sum_by, sum_by-append, sum_by-cons, sum_by-insert, sum_by-le-sum_by, sum_by-take-le}
-use Rattle.arrayvec.specs.ArrayVec.{ArrayVec}
 use Rattle.proof_sizes.specs.Beneath.ctrie_base.specs.Hashes.{hash_of}
 use Rattle.proof_sizes.specs.Beneath.ctrie_base.specs.Paths.{position_of}
-use Rattle.proof_sizes.specs.Beneath.ctrie_base.specs.declared.hashes.HashKind.{HashKind}
 use Rattle.proof_sizes.specs.Beneath.slot_arena.specs.declared.refs.Ref.{Ref}
 use Rattle.proof_sizes.specs.Beneath.slot_arena.specs.declared.nodes.Node.{Node}
-use Rattle.proof_sizes.specs.Beneath.slot_arena.specs.declared.nodes.Node.TheVariants.{Indirection, Branch, Single, Tomb, List as Listed}
-use Rattle.proof_sizes.specs.Beneath.slot_arena.specs.Heaps.{entries_from, entries_of, generation_of, no_ref}
-use Rattle.proof_sizes.specs.Beneath.proof_contents.specs.Beneath.nodes.specs.Builders.{by_index, pair, rung}
-use Rattle.proof_sizes.specs.Beneath.proof_contents.specs.Beneath.nodes.specs.Levels.{flag_of, has_flag, index_in, list_depth}
+use Rattle.proof_sizes.specs.Beneath.slot_arena.specs.declared.nodes.Node.TheVariants.{Indirection, Branch, Single, List as Listed}
+use Rattle.proof_sizes.specs.Beneath.slot_arena.specs.Heaps.{entries_from, entries_of, no_ref}
+use Rattle.proof_sizes.specs.Beneath.proof_contents.specs.Beneath.nodes.specs.Builders.{pair}
+use Rattle.proof_sizes.specs.Beneath.proof_contents.specs.Beneath.nodes.specs.Levels.{flag_of, index_in, list_depth}
 use Rattle.proof_sizes.specs.Beneath.proof_contents.specs.Beneath.nodes.proofs.Indices.{index_below}
-use Rattle.proof_sizes.specs.Beneath.proof_contents.specs.Nodes.Branches.{at_place}
 use Rattle.proof_sizes.specs.Beneath.proof_contents.specs.Nodes.Chains.{LeadsToPair, at_pair, by_rung}
 use Rattle.proof_sizes.specs.Beneath.proof_contents.specs.Steps.{IsOwnUpdate, IsRepair, LeavesOthers, Stays, branch_entombs, branch_inserts, branch_removes, branch_updates, entombs, goes_beside}
 use Rattle.proof_sizes.specs.Beneath.proof_contents.specs.Steps.{kept, list_entombs, list_inserts, list_removes, list_updates, refills, renewed_by, untombed}
@@ -22,9 +19,9 @@ use Rattle.proof_sizes.specs.Beneath.proof_contents.specs.Tries.{IsShaped, Trie,
 use Rattle.proof_sizes.specs.Beneath.proof_contents.proofs.Nodes.Branches.{flagged, standing-le, updated-places}
 use Rattle.proof_sizes.specs.Beneath.proof_contents.proofs.Shapes.Nodes.{IsTomb, branch_shape, list_depth-le, tomb_shape}
 use Rattle.proof_sizes.specs.Growth.{most_growth}
-use Rattle.proof_sizes.proofs.Growing.{IsNoMore, heavier, links_alike, no_more, now, now_single, single_least, singles_alike, was}
-use Rattle.proof_sizes.proofs.Once.{deeper_by, singles_in, stands_in}
-use Rattle.proof_sizes.proofs.Weights.{one, size_from, sum_one, sum_places, sum_remove, sum_set, weight_from, weight_link, weight_none, weight_single}
+use Rattle.proof_sizes.proofs.Growing.{IsNoMore, links_alike, no_more, now, now_single, single_least, singles_alike, was}
+use Rattle.proof_sizes.proofs.Once.{deeper_by, stands_in}
+use Rattle.proof_sizes.proofs.Weights.{one, size_from, sum_one, sum_places, sum_remove, sum_set, weight_link, weight_none, weight_single}
 
 -- what is changed for a key that had this value may lead to so many more
 abbrev pub added : Option ℕ → ℕ
@@ -51,7 +48,8 @@ module _ (trie : Trie) (t : ℕ) (end : trie.last ≡ suc t) (shaped : (n : ℕ)
 
   module _ (levels : ℕ) (rest : IsNoMore trie t i others 0 levels) where
     -- an entry that stays leads to no more
-    entry_stays : (entry other : Ref) → Contains (entries_of (node_in trie (suc t) i)) other → Stays trie (generation trie i) t entry other → now trie t i others 0 levels other ≤ was trie t i others 0 levels entry
+    entry_stays : (entry other : Ref) → Contains (entries_of (node_in trie (suc t) i)) other → Stays trie (generation trie i) t entry other →
+        now trie t i others 0 levels other ≤ was trie t i others 0 levels entry
     entry_stays entry other within (kept same) = subst (λ r. now trie t i others 0 levels r ≤ was trie t i others 0 levels entry) same (rest entry)
     entry_stays entry other within (renewed_by h word word' is apart fresh main) =
         let deeper = deeper_by trie i other word' (generation trie i) (node_in trie (suc t) i) (shaped (suc t) i (omega arith)) within fresh in
@@ -59,7 +57,8 @@ module _ (trie : Trie) (t : ℕ) (end : trie.last ≡ suc t) (shaped : (n : ℕ)
         others other (λ e. omega (arith, deeper, ap trie.depth e)) ∙ main ∙ ap (λ n. trie.main n entry) end in
         let alike = links_alike trie t i others 0 levels (generation trie i) h other entry word' word fresh is same in
         omega (arith, alike, rest entry)
-    entry_stays entry other within (untombed h word is tomb) = by_single (tomb_shape trie entry (trie.node (assigned trie (generation trie i) t entry)) other (shaped_assigned (generation trie i) entry) tomb)
+    entry_stays entry other within (untombed h word is tomb) =
+        by_single (tomb_shape trie entry (trie.node (assigned trie (generation trie i) t entry)) other (shaped_assigned (generation trie i) entry) tomb)
       where
         by_single : IsTomb trie entry other → now trie t i others 0 levels other ≤ was trie t i others 0 levels entry
         by_single s = let least = single_least trie t i others 0 levels s.key s.value h other entry word s.is is in omega (arith, least, rest entry)
@@ -135,7 +134,8 @@ module _ (trie : Trie) (t : ℕ) (end : trie.last ≡ suc t) (shaped : (n : ℕ)
 
     module _ (levels : ℕ) where
       -- a list that is cut, with an element more
-      cut : (old_list new_list : List Ref) (more : ℕ) (old new : Node) → entries_of old ≡ old_list → entries_of new ≡ take 32 new_list → sum_by (F levels) new_list ≤ sum_by (F levels) old_list + more →
+      cut : (old_list new_list : List Ref) (more : ℕ) (old new : Node) → entries_of old ≡ old_list → entries_of new ≡ take 32 new_list →
+          sum_by (F levels) new_list ≤ sum_by (F levels) old_list + more →
           sum_by (F levels) (entries_of new) ≤ sum_by (F levels) (entries_of old) + more
       cut old_list new_list more old new o n h = omega (arith, ap (sum_by (F levels)) o, ap (sum_by (F levels)) n, sum_by-take-le (F levels) new_list 32, h)
 

@@ -1,23 +1,15 @@
 -- What a step that changes one main node of a trie does to the number of nodes that are reached from any entry.
-use Rattle.std.proofs.Common.{◌≡◌, ◌≢◌, ℕ, zero, suc, ◌+◌, ◌-◌, ◌*◌, ◌<◌, ◌≤◌, ◌==◌, Bool, true, false, cond, List, [], ◌∷◌, ◌++◌, Contains, length, sum_by, slice_index_or, slice_set, get_or, set, take, insert, remove}
-use Rattle.std.proofs.Common.{Option, Some, None, refl, sym, ap, subst, ◌∙◌, arith, eq-eqb}
-use Rattle.std.proofs.lemmas.List.Sums.{get_or-le-sum_by, sum_by-append, sum_by-cons, sum_by-insert, sum_by-le-sum_by, sum_by-take-le}
-use Rattle.arrayvec.specs.ArrayVec.{ArrayVec}
+use Rattle.std.proofs.Common.{◌≡◌, ℕ, zero, suc, ◌+◌, ◌≤◌, ◌==◌, Bool, true, false, cond, sum_by}
+use Rattle.std.proofs.Common.{refl, sym, ap, subst, ◌∙◌, arith, eq-eqb}
+use Rattle.std.proofs.lemmas.List.Sums.{sum_by-le-sum_by}
 use native.Mathlib.Decide.{ℕ_discrete}
-use Rattle.proof_sizes.specs.Beneath.ctrie_base.specs.Hashes.{hash_of}
-use Rattle.proof_sizes.specs.Beneath.ctrie_base.specs.Paths.{position_of}
 use Rattle.proof_sizes.specs.Beneath.slot_arena.specs.declared.refs.Ref.{Ref}
 use Rattle.proof_sizes.specs.Beneath.slot_arena.specs.declared.nodes.Node.{Node}
 use Rattle.proof_sizes.specs.Beneath.slot_arena.specs.declared.nodes.Node.TheVariants.{Indirection, Branch, Single, Tomb, List as Listed}
-use Rattle.proof_sizes.specs.Beneath.slot_arena.specs.Heaps.{entries_of, no_ref}
-use Rattle.proof_sizes.specs.Beneath.slot_arena.proofs.Times.{once, once_other, once_same}
-use Rattle.proof_sizes.specs.Beneath.proof_contents.specs.Nodes.Chains.{LeadsToPair, at_pair, by_rung}
-use Rattle.proof_sizes.specs.Beneath.proof_contents.specs.Steps.{IsOwnUpdate, IsRepair, LeavesOthers, Stays, branch_entombs, branch_inserts, branch_removes, branch_updates, entombs, goes_beside}
-use Rattle.proof_sizes.specs.Beneath.proof_contents.specs.Steps.{kept, list_entombs, list_inserts, list_removes, list_updates, refills, renewed_by, untombed}
-use Rattle.proof_sizes.specs.Beneath.proof_contents.specs.Tries.{IsShaped, Trie, assigned, generation, node_in}
-use Rattle.proof_sizes.specs.Growth.{most_growth}
-use Rattle.proof_sizes.proofs.Once.{deeper_by}
-use Rattle.proof_sizes.proofs.Weights.{one, size_from, sum_one, sum_places, sum_remove, sum_set, weight_at, weight_from, weight_link, weight_node, weight_none, weight_single}
+use Rattle.proof_sizes.specs.Beneath.slot_arena.specs.Heaps.{entries_of}
+use Rattle.proof_sizes.specs.Beneath.proof_contents.specs.Steps.{LeavesOthers}
+use Rattle.proof_sizes.specs.Beneath.proof_contents.specs.Tries.{Trie, node_in}
+use Rattle.proof_sizes.proofs.Weights.{one, size_from, weight_at, weight_from, weight_link, weight_node, weight_none, weight_single}
 
 -- one node weighs so much more
 abbrev pub heavier : Ref → ℕ → Ref → ℕ
@@ -77,7 +69,8 @@ module _ (trie : Trie) (t : ℕ) (i : Ref) (others : LeavesOthers trie t i) (mor
               subst (λ m. sum_by (now levels) (entries_of (trie.node m)) ≤ sum_by (was levels) (entries_of (node_in trie t r))) (sym (others r apart))
               (sum_by-le-sum_by (now levels) (was levels) (entries_of (node_in trie t r)) rest) in
               omega (arith, after, before, inside, heavier_some i more r, heavier_some i more (trie.main t r))
-      by_node rest (Single k v) is = omega (arith, weight_single one trie.node (trie.main (suc t)) levels k v r is, weight_single (heavier i more) trie.node (trie.main t) levels k v r is, heavier_some i more r)
+      by_node rest (Single k v) is =
+          omega (arith, weight_single one trie.node (trie.main (suc t)) levels k v r is, weight_single (heavier i more) trie.node (trie.main t) levels k v r is, heavier_some i more r)
       by_node rest (Branch b es) is = alone (Branch b es) is refl refl
       by_node rest (Tomb s) is = alone (Tomb s) is refl refl
       by_node rest (Listed ss) is = alone (Listed ss) is refl refl
@@ -94,7 +87,8 @@ module _ (trie : Trie) (t : ℕ) (i : Ref) (others : LeavesOthers trie t i) (mor
   singles_alike (suc levels) k v q w r s a b = weight_single one trie.node (trie.main (suc t)) levels k v r a ∙ sym (weight_single one trie.node (trie.main (suc t)) levels q w s b)
 
   -- indirections over one main node
-  pub links_alike : (levels g h : ℕ) (r s word word' : Ref) → trie.node r ≡ Indirection g word → trie.node s ≡ Indirection h word' → trie.main (suc t) r ≡ trie.main (suc t) s → now levels r ≡ now levels s
+  pub links_alike : (levels g h : ℕ) (r s word word' : Ref) → trie.node r ≡ Indirection g word → trie.node s ≡ Indirection h word' → trie.main (suc t) r ≡ trie.main (suc t) s →
+      now levels r ≡ now levels s
   links_alike zero g h r s word word' a b same = weight_none one trie.node (trie.main (suc t)) r ∙ sym (weight_none one trie.node (trie.main (suc t)) s)
   links_alike (suc levels) g h r s word word' a b same =
       weight_link one trie.node (trie.main (suc t)) levels g r word a ∙ ap (λ m. 1 + 1 + sum_by (now levels) (entries_of (trie.node m))) same

@@ -1,5 +1,5 @@
 -- In what an indirection reaches no node is met twice: each has a level and a path of its own, and a single the hash of its key.
-use Rattle.std.proofs.Common.{◌≡◌, ◌≢◌, ℕ, zero, suc, ◌+◌, ◌*◌, ◌%◌, ◌^◌, ◌<◌, ◌≤◌, Bool, true, false, cond, List, [], ◌∷◌, Contains, sum_by, ◌⊎◌, inl, inr, Option, Some, None, refl, sym, ap, subst, ◌∙◌}
+use Rattle.std.proofs.Common.{◌≡◌, ◌≢◌, ℕ, zero, suc, ◌+◌, ◌*◌, ◌%◌, ◌^◌, ◌<◌, ◌≤◌, List, [], ◌∷◌, Contains, sum_by, ◌⊎◌, inl, inr, Option, Some, None, refl, sym, ap, subst, ◌∙◌}
 use Rattle.std.proofs.Common.{arith, mod-eq_of_lt, mod-lt, pow_pos}
 use Rattle.std.proofs.lemmas.Nat.{mod-pow-add, mod-mul-add}
 use Rattle.std.proofs.lemmas.List.Sums.{sum_by-cons}
@@ -15,14 +15,14 @@ use Rattle.proof_sizes.specs.Beneath.machine_model.proofs.Basics.{only_one}
 use Rattle.proof_sizes.specs.Beneath.proof_contents.specs.Beneath.nodes.specs.Levels.{index_in}
 use Rattle.proof_sizes.specs.Beneath.proof_contents.specs.Nodes.Branches.{at_place, standing}
 use Rattle.proof_sizes.specs.Beneath.proof_contents.specs.Nodes.Lists.{AreSingles}
-use Rattle.proof_sizes.specs.Beneath.proof_contents.specs.Nodes.Looking.{Absent, Found, Has, look_among, look_at, or_else}
+use Rattle.proof_sizes.specs.Beneath.proof_contents.specs.Nodes.Looking.{Absent, Has, look_among, or_else}
 use Rattle.proof_sizes.specs.Beneath.proof_contents.specs.Tries.{IsChild, IsShaped, Trie, branch, list, node_in, tomb}
 use Rattle.proof_sizes.specs.Beneath.proof_contents.proofs.Changes.Repairs.{same_factor}
 use Rattle.proof_sizes.specs.Beneath.proof_contents.proofs.Nodes.Changes.{look-other, look-same}
 use Rattle.proof_sizes.specs.Beneath.proof_contents.proofs.Nodes.Branches.{before, standing_at}
-use Rattle.proof_sizes.specs.Beneath.proof_contents.proofs.Shapes.Nodes.{child-depth, list_depth-le}
+use Rattle.proof_sizes.specs.Beneath.proof_contents.proofs.Shapes.Nodes.{child-depth}
 use Rattle.proof_sizes.specs.Beneath.proof_contents.proofs.Nodes.Tombs.{before-lt, place_of}
-use Rattle.proof_sizes.proofs.Weights.{sum_nothing, sum_same, weight_from, weight_link, weight_none, weight_single}
+use Rattle.proof_sizes.proofs.Weights.{sum_nothing, weight_from, weight_link, weight_none, weight_single}
 
 -- a path that begins with that of a child parts into that of its parent and the child's index
 parts : (x y p d : ℕ) → p < 2 ^ (5 * d) → x % 2 ^ (5 * suc d) ≡ p + y * 2 ^ (5 * d) → (index_in x d ≡ y) × (x % 2 ^ (5 * d) ≡ p)
@@ -244,7 +244,8 @@ module _ (trie : Trie) (t : ℕ) (fits : (i : Ref) → trie.path i < 2 ^ (5 * tr
               by_rest c (inr s) = inr (child_below i e at.0 c s).1
       by_shape rest (list singles n_is are most deep_is one_hash) e within =
           let found = singles_in trie.node singles.items e are (subst (λ l. Contains l e) (ap entries_of n_is) within) in
-          single_by e found.0 found.1 found.2 (ap (λ h. h % 2 ^ (5 * trie.depth i)) (one_hash found.0 found.1 (among singles.items are (subst (λ l. Contains l e) (ap entries_of n_is) within) found.0 found.1 found.2)) ∙ mod-eq_of_lt (fits i))
+          let hash_is = one_hash found.0 found.1 (among singles.items are (subst (λ l. Contains l e) (ap entries_of n_is) within) found.0 found.1 found.2) in
+          single_by e found.0 found.1 found.2 (ap (λ h. h % 2 ^ (5 * trie.depth i)) hash_is ∙ mod-eq_of_lt (fits i))
         where
           among : (ss : List Ref) → AreSingles trie.node ss → Contains ss e → (k v : ℕ) → trie.node e ≡ Single k v → look_among trie.node k ss ≡ Has v
           among ss are within k v e_is = listed_has trie.node ss e k v are within e_is

@@ -1,31 +1,30 @@
 -- The nodes that a handle reaches before a step of a run: those below its root in the trie of the run, each of them in use and met once.
-use Rattle.std.proofs.Common.{◌≡◌, ℕ, zero, suc, ◌+◌, ◌<◌, ◌≤◌, ◌^◌, ◌*◌, Bool, true, false, cond, List, [], ◌∷◌, Contains, length, sum_by, flat_map, ◌⊎◌, inl, inr, Option, Some, None, refl, sym, ap, subst, ◌∙◌, arith, is_some}
+use Rattle.std.proofs.Common.{◌≡◌, ℕ, zero, suc, ◌≤◌, true, cond, List, ◌∷◌, Contains, length, sum_by, flat_map, ◌⊎◌, inl, inr, Some, refl, sym, ap, subst, ◌∙◌, arith, is_some}
 use Rattle.std.proofs.lemmas.Bool.{false≢true}
-use Rattle.std.proofs.lemmas.List.Sums.{sum_by-cons}
 use native.Mathlib.Decide.{ℕ_discrete}
 use Rattle.proof_sizes.specs.Beneath.slot_arena.specs.declared.refs.Ref.{Ref}
 use Rattle.proof_sizes.specs.Beneath.slot_arena.specs.declared.nodes.Node.{Node}
 use Rattle.proof_sizes.specs.Beneath.slot_arena.specs.declared.nodes.Node.TheVariants.{Indirection, Branch, Single, Tomb, List as Listed}
-use Rattle.proof_sizes.specs.Beneath.slot_arena.specs.Heaps.{Heap, entries_of, in_use, logical_main, node_at, node_of}
+use Rattle.proof_sizes.specs.Beneath.slot_arena.specs.Heaps.{Heap, entries_of, logical_main, node_at}
 use Rattle.proof_sizes.specs.Beneath.slot_arena.specs.Times.{times}
-use Rattle.proof_sizes.specs.Beneath.slot_arena.proofs.Times.{once, once_other, once_same, times-cons, times-without}
+use Rattle.proof_sizes.specs.Beneath.slot_arena.proofs.Times.{once, once_other}
 use Rattle.proof_sizes.specs.Beneath.machine_model.specs.declared.roots.Root.{Root}
 use Rattle.proof_sizes.specs.Beneath.machine_model.specs.declared.steps.Bounds.{Bounds}
 use Rattle.proof_sizes.specs.Beneath.machine_model.specs.declared.steps.Step.{Step}
 use Rattle.proof_sizes.specs.Beneath.machine_model.specs.Contents.{most_levels}
-use Rattle.proof_sizes.specs.Beneath.machine_model.specs.Grown.{grown, main_before, node_under}
+use Rattle.proof_sizes.specs.Beneath.machine_model.specs.Grown.{main_before, node_under}
 use Rattle.proof_sizes.specs.Beneath.machine_model.specs.States.{State, root_at, root_of, word_of}
 use Rattle.proof_sizes.specs.Beneath.machine_model.specs.Times.{IsRun}
 use Rattle.proof_sizes.specs.Beneath.machine_model.proofs.Basics.{only_one}
 use Rattle.proof_sizes.specs.Beneath.machine_model.proofs.Grown.{grown_in_use, node_standing}
 use Rattle.proof_sizes.specs.Beneath.proof_memory.specs.Laws.{IsInUse}
-use Rattle.proof_sizes.specs.Beneath.proof_memory.specs.Wants.{ASingle, AllHold, AnEntry, is_entry, is_indirection, node_wants}
+use Rattle.proof_sizes.specs.Beneath.proof_memory.specs.Wants.{AllHold, is_entry, is_indirection, node_wants}
 use Rattle.proof_sizes.specs.Beneath.machine_model.specs.Cleaning.{is_single}
 use Rattle.proof_sizes.specs.Beneath.proof_memory.proofs.Claims.Uses.{all_of, meets_of}
 use Rattle.proof_sizes.specs.Beneath.proof_memory.proofs.Levels.States.{heaped_in_use}
 use Rattle.proof_sizes.specs.Beneath.proof_memory.proofs.Safety.AtEachTime.{safe_at}
 use Rattle.proof_sizes.specs.Beneath.proof_memory.proofs.Safety.States.{IsSafe}
-use Rattle.proof_sizes.specs.Beneath.proof_contents.specs.Runs.{counting_main, is_made}
+use Rattle.proof_sizes.specs.Beneath.proof_contents.specs.Runs.{counting_main}
 use Rattle.proof_sizes.specs.Beneath.proof_contents.specs.Tries.{Trie, node_in}
 use Rattle.proof_sizes.specs.Beneath.proof_contents.proofs.Values.Runs.{counting_main-made}
 use Rattle.proof_sizes.specs.Beneath.proof_generations.proofs.Lines.ReaderKnows.{indirection_is}
@@ -33,9 +32,8 @@ use Rattle.proof_sizes.specs.Beneath.proof_shape.specs.Shaped.{HasShape, trie_of
 use Rattle.proof_sizes.specs.Beneath.proof_shape.specs.Sites.At.{StepsFit, TakesSteps}
 use Rattle.proof_sizes.specs.Beneath.proof_shape.specs.Sites.Lines.{bare}
 use Rattle.proof_sizes.specs.Beneath.proof_shape.specs.Sites.Nodes.{depth_at, level_until, path_until}
-use Rattle.proof_sizes.specs.Beneath.proof_shape.proofs.Shaped.Places.{bare_link, bare_single}
 use Rattle.proof_sizes.specs.Beneath.proof_shape.proofs.Shaped.Trie.{runs_have_shape}
-use Rattle.proof_sizes.specs.Beneath.proof_shape.proofs.Sites.Grown.{CountsFor, counts}
+use Rattle.proof_sizes.specs.Beneath.proof_shape.proofs.Sites.Grown.{counts}
 use Rattle.proof_sizes.specs.Beneath.proof_updates.proofs.Handles.Showing.{entries_same, entry_used, link_same, main_same, main_used, node_same, root_deep, root_link, root_used}
 use Rattle.proof_sizes.specs.Nodes.{nodes_at, nodes_below, nodes_of}
 use Rattle.proof_sizes.proofs.Once.{IsEntry, a_link, a_single, met_once}
@@ -222,6 +220,7 @@ module _ (limits : Bounds) (states : ℕ → State) (steps : ℕ → Step) (last
     pub nodes_once : (x : Ref) → times x (nodes_of (states t) handle) ≤ 1
     nodes_once x =
         let node = indirection_is (node_under states last r) link in
-        let few = met_once trie t shape.path_fits (λ i. shape.shaped t i within) (IsInUse heap) under kinds (λ m. depth_at (level_until states steps last m)) (path_until states steps last) sites x most_levels
+        let few = met_once trie t shape.path_fits (λ i. shape.shaped t i within) (IsInUse heap) under kinds
+        (λ m. depth_at (level_until states steps last m)) (path_until states steps last) sites x most_levels
         node.0 r node.1 used_root node.2 (omega (arith, root_deep limits states steps last run takes keys t within handle root at)) in
         omega (arith, handle_weighs (once x), few)
