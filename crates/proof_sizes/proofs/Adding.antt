@@ -110,14 +110,16 @@ module _ (limits : Bounds) (states : ℕ → State) (steps : ℕ → Step) (last
       linked : p.words.link u own.indirection ≡ true
       linked =
           let used = safe_of claim in
-          ap (λ x. is_indirection (node_of x)) (grown_in_use states u own.indirection used.0 used.1) ∙ ap is_indirection (sym (node_standing (states u).heap own.indirection used.0 used.1)) ∙ meets_of claim
+          ap (λ x. is_indirection (node_of x)) (grown_in_use states u own.indirection used.0 used.1)
+          ∙ ap is_indirection (sym (node_standing (states u).heap own.indirection used.0 used.1)) ∙ meets_of claim
 
       linked_then : p.words.link (suc u) own.indirection ≡ true
       linked_then = link_stays p own.indirection u (suc u) (omega arith) lt linked
 
       by : MainTurn p.words u own.indirection → is_placed (run.records (suc u)) own.owner.id ≡ true
       by (MainStays same) =
-          absurd (own.differ (sym own.after ∙ main_linked limits states last run (suc u) own.indirection linked_then ∙ same ∙ sym (main_linked limits states last run u own.indirection linked) ∙ own.before))
+          absurd (own.differ (sym own.after ∙ main_linked limits states last run (suc u) own.indirection linked_then ∙ same
+          ∙ sym (main_linked limits states last run u own.indirection linked) ∙ own.before))
       by (MainChanges c) =
           let fresh : c.fresh ≡ own.fresh = sym c.after ∙ sym (main_linked limits states last run (suc u) own.indirection linked_then) ∙ own.after in
           commit_places limits states last run u place.0 lt (steps u) o m (notes u lt) own.owner place.2 path former own.indirection own.replaced own.fresh own.deciding
