@@ -94,7 +94,7 @@ module _ (limits : Bounds) (states : ℕ → State) (steps : ℕ → Step) (last
   abbrev p : Protocol
   p = protocol limits states last (known_run limits states last run)
 
-  -- who commits its own change of its key has a place behind the step
+  -- who commits its own change of its key has a place after the step
   update_placed : (u : ℕ) → (lt : u < last) → (o : Outcome) → Moves (states u) (steps u) o (states (suc u)) → (own : OwnCommit limits states run.records last (assigned_at states last) u (steps u)) →
       (path : List Ref) (former : Option ℕ) → own.why ≡ purpose.Update path former → is_placed (run.records (suc u)) own.owner.id ≡ true
   update_placed u lt o m own path former e = by (main_step p u lt own.indirection linked)
@@ -204,9 +204,9 @@ module _ (limits : Bounds) (states : ℕ → State) (steps : ℕ → Step) (last
     -- ---- a step that adds a key
 
     pub record AddsNow (u : ℕ) : Type 0 where
-      pub before : is_placed (run.records u) id ≡ false
-      pub behind : is_placed (run.records (suc u)) id ≡ true
-      pub tells : adds_key call answer ≡ true
+      pub unplaced : is_placed (run.records u) id ≡ false
+      pub placed : is_placed (run.records (suc u)) id ≡ true
+      pub adds : adds_key call answer ≡ true
 
     pub adds_now : (u : ℕ) → start ≤ u → (lt : u < last) → (handle : ℕ) → AddsKey (states u) (steps u) handle → AddsNow u
     adds_now u past lt handle a = by_main (fresh_commits_at limits states last run u lt (steps u) o m (notes u lt))
@@ -221,7 +221,7 @@ module _ (limits : Bounds) (states : ℕ → State) (steps : ℕ → Step) (last
         its = its_operation u past (omega (arith, lt)) a.commits.actor a.commits.operation a.commits.runs
 
         by_update : OwnUpdate states run.records last u (steps u) → is_placed (run.records (suc u)) a.commits.operation.id ≡ true → AddsNow u
-        by_update w placed =
+        by_update w has_place =
             let who = its_operation u past (omega (arith, lt)) (suc w.k) w.owner w.runs in
             let one : w.owner ≡ a.commits.operation = same_Some _ _ (sym w.runs ∙ ap (operation_of (states u)) (who.2 ∙ sym its.2) ∙ a.commits.runs) in
             let lines : line.Swap (purpose.Update w.path w.former) w.its ≡ line.Swap (purpose.Update a.commits.path None) a.commits.swap =
@@ -230,9 +230,9 @@ module _ (limits : Bounds) (states : ℕ → State) (steps : ℕ → Step) (last
             let says : changed_reply call None ≡ answer =
             ap (λ c. changed_reply c None) (sym who.1) ∙ ap (changed_reply w.owner.call) (sym none) ∙ w.agrees answer (subst (λ i. HasEnded (run.records last).events i answer) (sym who.0) ended) in
             record {
-              before = ap (is_placed (run.records u)) (sym who.0) ∙ w.unplaced;
-              behind = ap (is_placed (run.records (suc u))) (sym its.0) ∙ placed;
-              tells = adds_so call answer (ap inserts (sym its.1 ∙ a.commits.calls) ∙ a.gives) says;
+              unplaced = ap (is_placed (run.records u)) (sym who.0) ∙ w.unplaced;
+              placed = ap (is_placed (run.records (suc u))) (sym its.0) ∙ has_place;
+              adds = adds_so call answer (ap inserts (sym its.1 ∙ a.commits.calls) ∙ a.gives) says;
             }
 
         by_main : MainStep limits states run.records last (assigned_at states last) u (steps u) → AddsNow u

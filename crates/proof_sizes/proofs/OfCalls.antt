@@ -225,7 +225,7 @@ copies_are_no_larger before actor call can n answer after h handle now shut at_n
 
 -- ---- the sweep
 
--- the handle is open behind it, with the nodes that it had before
+-- the handle is open after it, with the nodes that it had before
 abbrev KeepsNodes : State → State → ℕ → Type 0
 KeepsNodes before after handle = (now : Root) × (root_at after handle ≡ Some now) × (nodes_of after handle ≡ nodes_of before handle)
 
