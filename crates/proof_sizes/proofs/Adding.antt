@@ -1,12 +1,27 @@
 -- In a run whose last steps are those of one call from rest: whatever runs is that call's operation, and where it adds a key it hadn't done so before, and says it in its answer.
-use Rattle.std.proofs.Common.{◌≡◌, ℕ, zero, suc, ◌+◌, ◌-◌, ◌<◌, ◌≤◌, true, false, [], ◌∷◌, ◌++◌, ◌⊎◌, inl, inr, Option, Some, None, refl, sym, ap, subst, ◌∙◌, arith}
+use Rattle.std.proofs.Common.{List, ◌≡◌, ℕ, zero, suc, ◌+◌, ◌-◌, ◌<◌, ◌≤◌, true, false, [], ◌∷◌, ◌⊎◌, inl, inr, Option, Some, None, refl, sym, ap, subst, ◌∙◌, arith}
 use Rattle.std.proofs.lemmas.Bool.{cases_lt, false≢true}
 use Rattle.std.proofs.lemmas.Option.{same_Some}
 use Rattle.proof_sizes.specs.Beneath.history.specs.Histories.{HasEnded}
 use Rattle.proof_sizes.specs.Beneath.history.specs.declared.calls.Call.{Call}
 use Rattle.proof_sizes.specs.Beneath.history.specs.declared.calls.Call.TheVariants.{Close, Put, PutIfAbsent}
 use Rattle.proof_sizes.specs.Beneath.history.specs.declared.replies.Reply.{Reply}
-use Rattle.proof_sizes.specs.Beneath.history.proofs.Among.{Among, among_right}
+use Rattle.proof_sizes.specs.Beneath.slot_arena.specs.Heaps.{node_of}
+use Rattle.proof_sizes.specs.Beneath.slot_arena.specs.declared.refs.Ref.{Ref}
+use Rattle.proof_sizes.specs.Beneath.machine_model.specs.declared.reading.SwapLine.TheVariants.{Deciding}
+use Rattle.proof_sizes.specs.Beneath.machine_model.proofs.Grown.{grown_in_use, node_standing}
+use Rattle.proof_sizes.specs.Beneath.proof_memory.specs.Laws.{IsInUse}
+use Rattle.proof_sizes.specs.Beneath.proof_memory.specs.Wants.{AllHold, AnIndirection, Holds, Is, is_indirection, line_wants}
+use Rattle.proof_sizes.specs.Beneath.proof_memory.proofs.Claims.Uses.{meets_of, safe_of}
+use Rattle.proof_sizes.specs.Beneath.proof_memory.proofs.Safety.AtTimes.{line_at}
+use Rattle.proof_sizes.specs.Beneath.proof_commits.specs.Protocol.{CommitsNode, Protocol}
+use Rattle.proof_sizes.specs.Beneath.proof_commits.proofs.Course.Finals.{link_stays}
+use Rattle.proof_sizes.specs.Beneath.proof_commits.proofs.Course.Mains.{MainChanges, MainStays, main_step}
+use Rattle.proof_sizes.specs.Beneath.proof_commits.proofs.Course.Mains.{MainStep as MainTurn}
+use Rattle.proof_sizes.specs.Beneath.proof_commits.proofs.Known.Acts.{known_run}
+use Rattle.proof_sizes.specs.Beneath.proof_commits.proofs.Words.Along.{protocol}
+use Rattle.proof_sizes.specs.Beneath.proof_shape.proofs.Commits.Was.{main_linked}
+use Rattle.proof_sizes.specs.Beneath.proof_updates.proofs.Placed.Own.{commit_places}
 use Rattle.proof_sizes.specs.Beneath.machine_model.specs.declared.lines.Line.TheVariants as line
 use Rattle.proof_sizes.specs.Beneath.machine_model.specs.declared.lines.Purpose.TheVariants as purpose
 use Rattle.proof_sizes.specs.Beneath.machine_model.specs.declared.operations.Operation.{Operation}
@@ -18,23 +33,18 @@ use Rattle.proof_sizes.specs.Beneath.machine_model.specs.Acting.{operation_after
 use Rattle.proof_sizes.specs.Beneath.machine_model.specs.Calls.{changed_reply, handle_of, inserts}
 use Rattle.proof_sizes.specs.Beneath.machine_model.specs.Machine.{is_busy}
 use Rattle.proof_sizes.specs.Beneath.machine_model.specs.Moves.{Moves}
-use Rattle.proof_sizes.specs.Beneath.machine_model.specs.Records.{closing_for, is_placed, noted, place_of}
+use Rattle.proof_sizes.specs.Beneath.machine_model.specs.Records.{is_placed, place_of}
 use Rattle.proof_sizes.specs.Beneath.machine_model.specs.States.{State, operation_of}
-use Rattle.proof_sizes.specs.Beneath.machine_model.specs.Tellings.{entrant_of, told_in}
+use Rattle.proof_sizes.specs.Beneath.machine_model.specs.Tellings.{entrant_of}
 use Rattle.proof_sizes.specs.Beneath.machine_model.specs.Times.{IsRun}
 use Rattle.proof_sizes.specs.Beneath.machine_model.proofs.Actors.{mark_one, mark_only, marks_in}
 use Rattle.proof_sizes.specs.Beneath.proof_commits.proofs.Resting.{none_at}
 use Rattle.proof_sizes.specs.Beneath.proof_generations.specs.Running.{Runs}
 use Rattle.proof_sizes.specs.Beneath.proof_generations.proofs.Handles.Running.{Comes, began, comes, place_of_actor, rested, went}
-use Rattle.proof_sizes.specs.Beneath.proof_order.specs.Facts.{Notes, entered_by_step}
+use Rattle.proof_sizes.specs.Beneath.proof_order.specs.Facts.{Notes}
 use Rattle.proof_sizes.specs.Beneath.proof_order.specs.Phases.{OwnUpdate}
-use Rattle.proof_sizes.specs.Beneath.proof_order.proofs.Offers.Honest.{honest}
-use Rattle.proof_sizes.specs.Beneath.proof_order.proofs.Offers.Standing.{offers_at}
 use Rattle.proof_sizes.specs.Beneath.proof_order.proofs.Phases.OwnUpdates.{own_updates_enter}
-use Rattle.proof_sizes.specs.Beneath.proof_order.proofs.Phases.Steps.{is_placed_so}
-use Rattle.proof_sizes.specs.Beneath.proof_order.proofs.Places.Origins.{place_says}
-use Rattle.proof_sizes.specs.Beneath.proof_order.proofs.Views.EachStep.{Changes, changes, closes, ends, quiet, swaps}
-use Rattle.proof_sizes.specs.Beneath.proof_shape.specs.Lines.Commits.{MainStep, assigned_at, places_for}
+use Rattle.proof_sizes.specs.Beneath.proof_shape.specs.Lines.Commits.{MainStep, OwnCommit, assigned_at, places_for}
 use Rattle.proof_sizes.specs.Beneath.proof_shape.specs.Lines.Commits.{changes as changes_main, stays}
 use Rattle.proof_sizes.specs.Beneath.proof_shape.specs.Sites.At.{StepsFit, TakesSteps}
 use Rattle.proof_sizes.specs.Beneath.proof_shape.proofs.Held.Commits.{fresh_commits_at}
@@ -81,26 +91,40 @@ module _ (limits : Bounds) (states : ℕ → State) (steps : ℕ → Step) (last
   pub keys_to : (u : ℕ) → u < last → StepsFit steps (suc u)
   keys_to u lt v h = keys v (omega (arith, h, lt))
 
-  -- who is entered alone has a place behind the step
-  update_placed : (u : ℕ) → (lt : u < last) → (o : Outcome) → Moves (states u) (steps u) o (states (suc u)) → (operation : Operation) →
-      entered_by_step (run.records u) (states u) (steps u) ≡ place_of (run.records u) (entrant_of operation) u false ∷ [] → is_placed (run.records (suc u)) operation.id ≡ true
-  update_placed u lt o m operation enters =
-      subst (λ q. is_placed q operation.id ≡ true) (sym (notes u lt))
-      (by (changes (states u) (run.records u) (steps u) o (states (suc u)) m (honest (states u) (offers_at limits states last run u (omega (arith, lt))))))
-    where
-      not_none : entered_by_step (run.records u) (states u) (steps u) ≡ [] → ⊥
-      not_none none = let bad : [] ≡ place_of (run.records u) (entrant_of operation) u false ∷ [] = sym none ∙ enters in cc
+  abbrev p : Protocol
+  p = protocol limits states last (known_run limits states last run)
 
-      by : Changes (states u) (run.records u) (steps u) (states (suc u)) (noted (run.records u) (states u).steps (told_in (states u) (steps u))) →
-          is_placed (noted (run.records u) (states u).steps (told_in (states u) (steps u))) operation.id ≡ true
-      by (quiet places closings footing) =
-          is_placed_so (noted (run.records u) (states u).steps (told_in (states u) (steps u))) (place_of (run.records u) (entrant_of operation) u false)
-          (subst (λ l. Among (place_of (run.records u) (entrant_of operation) u false) l) (sym (places ∙ ap (λ l. (run.records u).places ++ l) enters))
-          (among_right (run.records u).places (place_of (run.records u) (entrant_of operation) u false ∷ []) _ (inl refl)))
-          operation.id (place_says (closing_for (run.records u) operation.generation operation.access) u operation.id false).2
-      by (ends actor ending answer is runs does none places closings footing) = absurd (not_none none)
-      by (closes actor handle root is found none places closings gone footing) = absurd (not_none none)
-      by (swaps handle offer carries none places closings roots heap) = absurd (not_none none)
+  -- who commits its own change of its key has a place after the step
+  update_placed : (u : ℕ) → (lt : u < last) → (o : Outcome) → Moves (states u) (steps u) o (states (suc u)) → (own : OwnCommit limits states run.records last (assigned_at states last) u (steps u)) →
+      (path : List Ref) (former : Option ℕ) → own.why ≡ purpose.Update path former → is_placed (run.records (suc u)) own.owner.id ≡ true
+  update_placed u lt o m own path former e = by (main_step p u lt own.indirection linked)
+    where
+      place : (k : ℕ) × (own.actor ≡ suc k) × Runs (states u) k own.owner
+      place = place_of_actor (states u) own.actor own.owner own.runs
+
+      claim : Holds (IsInUse (states u).heap) (states u).heap (Is own.indirection AnIndirection)
+      claim =
+          (subst (λ l. AllHold (IsInUse (states u).heap) (states u).heap (line_wants limits.hash own.owner.call own.owner.access l)) own.swaps
+          (line_at limits states last run u (omega (arith, lt)) own.actor own.owner own.runs)).0
+
+      linked : p.words.link u own.indirection ≡ true
+      linked =
+          let used = safe_of claim in
+          ap (λ x. is_indirection (node_of x)) (grown_in_use states u own.indirection used.0 used.1)
+          ∙ ap is_indirection (sym (node_standing (states u).heap own.indirection used.0 used.1)) ∙ meets_of claim
+
+      linked_then : p.words.link (suc u) own.indirection ≡ true
+      linked_then = link_stays p own.indirection u (suc u) (omega arith) lt linked
+
+      by : MainTurn p.words u own.indirection → is_placed (run.records (suc u)) own.owner.id ≡ true
+      by (MainStays same) =
+          absurd (own.differ (sym own.after ∙ main_linked limits states last run (suc u) own.indirection linked_then ∙ same
+          ∙ sym (main_linked limits states last run u own.indirection linked) ∙ own.before))
+      by (MainChanges c) =
+          let fresh : c.fresh ≡ own.fresh = sym c.after ∙ sym (main_linked limits states last run (suc u) own.indirection linked_then) ∙ own.after in
+          commit_places limits states last run u place.0 lt (steps u) o m (notes u lt) own.owner place.2 path former own.indirection own.replaced own.fresh own.deciding
+          (own.swaps ∙ ap (λ why. line.Swap why (record { indirection = own.indirection; replaced = own.replaced; fresh = own.fresh; line = Deciding own.deciding })) e)
+          c.replaced (subst (λ f. CommitsNode p.words u f c.replaced) fresh c.commits)
 
   -- ---- from rest a call alone
 
@@ -180,9 +204,9 @@ module _ (limits : Bounds) (states : ℕ → State) (steps : ℕ → Step) (last
     -- ---- a step that adds a key
 
     pub record AddsNow (u : ℕ) : Type 0 where
-      pub before : is_placed (run.records u) id ≡ false
-      pub behind : is_placed (run.records (suc u)) id ≡ true
-      pub tells : adds_key call answer ≡ true
+      pub unplaced : is_placed (run.records u) id ≡ false
+      pub placed : is_placed (run.records (suc u)) id ≡ true
+      pub adds : adds_key call answer ≡ true
 
     pub adds_now : (u : ℕ) → start ≤ u → (lt : u < last) → (handle : ℕ) → AddsKey (states u) (steps u) handle → AddsNow u
     adds_now u past lt handle a = by_main (fresh_commits_at limits states last run u lt (steps u) o m (notes u lt))
@@ -196,8 +220,8 @@ module _ (limits : Bounds) (states : ℕ → State) (steps : ℕ → Step) (last
         its : (a.commits.operation.id ≡ id) × (a.commits.operation.call ≡ call) × (a.commits.actor ≡ actor)
         its = its_operation u past (omega (arith, lt)) a.commits.actor a.commits.operation a.commits.runs
 
-        by_update : OwnUpdate states run.records last u (steps u) → AddsNow u
-        by_update w =
+        by_update : OwnUpdate states run.records last u (steps u) → is_placed (run.records (suc u)) a.commits.operation.id ≡ true → AddsNow u
+        by_update w has_place =
             let who = its_operation u past (omega (arith, lt)) (suc w.k) w.owner w.runs in
             let one : w.owner ≡ a.commits.operation = same_Some _ _ (sym w.runs ∙ ap (operation_of (states u)) (who.2 ∙ sym its.2) ∙ a.commits.runs) in
             let lines : line.Swap (purpose.Update w.path w.former) w.its ≡ line.Swap (purpose.Update a.commits.path None) a.commits.swap =
@@ -206,9 +230,9 @@ module _ (limits : Bounds) (states : ℕ → State) (steps : ℕ → Step) (last
             let says : changed_reply call None ≡ answer =
             ap (λ c. changed_reply c None) (sym who.1) ∙ ap (changed_reply w.owner.call) (sym none) ∙ w.agrees answer (subst (λ i. HasEnded (run.records last).events i answer) (sym who.0) ended) in
             record {
-              before = ap (is_placed (run.records u)) (sym who.0) ∙ w.unplaced;
-              behind = ap (is_placed (run.records (suc u))) (sym who.0) ∙ update_placed u lt o m w.owner w.enters;
-              tells = adds_so call answer (ap inserts (sym its.1 ∙ a.commits.calls) ∙ a.gives) says;
+              unplaced = ap (is_placed (run.records u)) (sym who.0) ∙ w.unplaced;
+              placed = ap (is_placed (run.records (suc u))) (sym its.0) ∙ has_place;
+              adds = adds_so call answer (ap inserts (sym its.1 ∙ a.commits.calls) ∙ a.gives) says;
             }
 
         by_main : MainStep limits states run.records last (assigned_at states last) u (steps u) → AddsNow u
@@ -216,5 +240,9 @@ module _ (limits : Bounds) (states : ℕ → State) (steps : ℕ → Step) (last
         by_main (changes_main own) =
             let w = owned limits states run.records last u (steps u) own a.indirection a.call None a.commits in
             let enters = own_enters limits states last run u (omega (arith, lt)) (steps u) own ∙ ap (places_for (run.records u) own.owner u) w.purpose_is in
-            by_update (own_updates_enter limits states last run u (steps u) o lt m (notes u lt)
+            let mine : own.owner ≡ a.commits.operation =
+            same_Some _ _ (sym own.runs ∙ ap (operation_of (states u)) ((its_operation u past (omega (arith, lt)) own.actor own.owner own.runs).2 ∙ sym its.2) ∙ a.commits.runs) in
+            by_update
+            (own_updates_enter limits states last run u (steps u) o lt m (notes u lt)
             (λ none. let bad : [] ≡ place_of (run.records u) (entrant_of own.owner) u false ∷ [] = sym none ∙ enters in cc))
+            (ap (λ (x : Operation). is_placed (run.records (suc u)) x.id) (sym mine) ∙ update_placed u lt o m own w.path None w.purpose_is)

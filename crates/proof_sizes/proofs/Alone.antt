@@ -104,8 +104,8 @@ module _ (limits : Bounds) (states : ℕ → State) (steps : ℕ → Step) (last
         by (copied none copies few) (inl less) = copied none copies (omega (arith, few, less))
         by (stood first was few others) (inr (adds, less)) =
             let a = adds_now limits states steps last run takes keys notes start actor call more rest begins goes answer ended u past lt handle adds in
-            let none : added_by u ≡ 0 = ap (λ b. cond b (growth call answer) 0) a.before in
-            let all : added_by (suc u) ≡ most_growth = ap (λ b. cond b (growth call answer) 0) a.behind ∙ ap (λ b. cond b most_growth 0) a.tells in
+            let none : added_by u ≡ 0 = ap (λ b. cond b (growth call answer) 0) a.unplaced in
+            let all : added_by (suc u) ≡ most_growth = ap (λ b. cond b (growth call answer) 0) a.placed ∙ ap (λ b. cond b most_growth 0) a.adds in
             stood first was (omega (arith, few, less, none, all))
             (λ apart. absurd (apart (own_handle limits states steps last run takes keys notes start actor call more rest begins goes answer ended
             u past lt handle root at adds)))

@@ -42,7 +42,9 @@ use Rattle.proof_alone.proofs.Sweeping.{clean_is_reached}
 use Rattle.proof_sizes.specs.Beneath.proof_memory.specs.Sweeping.{UsesReached}
 use Rattle.proof_alone.proofs.Telling.{told_at_end}
 use Rattle.proof_sizes.specs.Growth.{CallsGrowLittle, CopiesAreNoLarger, OthersGrowNothing, SweepsKeepNodes, growth}
-use Rattle.proof_sizes.specs.Nodes.{HandlesUseSlots, OneHandleUsesAll, nodes_of}
+use Rattle.proof_sizes.specs.Beneath.machine_model.specs.Contents.{content_at}
+use Rattle.proof_sizes.proofs.Empty.{empty_has_two as two_left}
+use Rattle.proof_sizes.specs.Nodes.{EmptyHasTwo, HandlesUseSlots, OneHandleUsesAll, nodes_of}
 use Rattle.proof_sizes.proofs.Alone.{grown_little, no_larger}
 use Rattle.proof_sizes.proofs.Alone.{others_grow_nothing as others_small}
 use Rattle.proof_sizes.proofs.Steps.{SweepKeeps, sweep_keeps}
@@ -76,6 +78,17 @@ one_handle_uses_all state handle root of_run at rest swept only =
         subst (λ (s : State). length (nodes_of s handle) + length s.heap.free ≡ s.limits.slots) ends
         (all_nodes limits (states_of limits steps) (steps_of limits steps) (last_of limits steps) (run_is limits steps ok) (takes_steps limits steps) (keys_fit limits steps fit)
         (ap is_busy ends ∙ rest) (subst UsesReached (sym ends) uses) handle root (ap (λ s. root_at s handle) ends ∙ at) (λ other apart. ap (λ s. root_at s other) ends ∙ only other apart))
+
+pub empty_has_two : EmptyHasTwo
+empty_has_two state handle root of_run at = by_run (λ s. root_at s handle ≡ Some root → content_at s handle ≡ [] → length (nodes_of s handle) ≡ 2) by state of_run at
+  where
+    by : (limits : Bounds) (steps : List Step) → AreBounds limits → KeysFit steps → root_at (run limits steps) handle ≡ Some root → content_at (run limits steps) handle ≡ [] →
+        length (nodes_of (run limits steps) handle) ≡ 2
+    by limits steps ok fit at none =
+        let ends = run_ends limits steps in
+        ap (λ s. length (nodes_of s handle)) (sym ends)
+        ∙ two_left limits (states_of limits steps) (steps_of limits steps) (last_of limits steps) (run_is limits steps ok) (takes_steps limits steps) (keys_fit limits steps fit)
+        (last_of limits steps) (omega arith) handle root (ap (λ s. root_at s handle) ends ∙ at) (ap (λ s. content_at s handle) ends ∙ none)
 
 -- ---- a call alone
 
@@ -225,7 +238,7 @@ copies_are_no_larger before actor call can n answer after h handle now shut at_n
 
 -- ---- the sweep
 
--- the handle is open behind it, with the nodes that it had before
+-- the handle is open after it, with the nodes that it had before
 abbrev KeepsNodes : State → State → ℕ → Type 0
 KeepsNodes before after handle = (now : Root) × (root_at after handle ≡ Some now) × (nodes_of after handle ≡ nodes_of before handle)
 

@@ -135,7 +135,7 @@ module _ (limits : Bounds) (states : ℕ → State) (steps : ℕ → Step) (last
       entry_kind (node_under states last e)
       (sym (bare_kind (node_under states last e)) ∙ ap is_entry (sym (node_same limits states steps last run takes keys t within e (under i e word g used is c))) ∙ bare_kind (node_at heap e) ∙ there)
 
-  sites : (i word : Ref) (g : ℕ) → IsInUse heap i → trie.node i ≡ Indirection g word →
+  pub sites : (i word : Ref) (g : ℕ) → IsInUse heap i → trie.node i ≡ Indirection g word →
       (depth_at (level_until states steps last (trie.main t i)) ≡ trie.depth i) × (path_until states steps last (trie.main t i) ≡ trie.path i)
   sites i word g used is =
       let link : is_indirection (node_under states last i) ≡ true = ap is_indirection is in

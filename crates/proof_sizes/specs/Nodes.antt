@@ -5,7 +5,7 @@ use Rattle.proof_sizes.specs.Beneath.slot_arena.specs.declared.nodes.Node.{Node}
 use Rattle.proof_sizes.specs.Beneath.slot_arena.specs.declared.nodes.Node.TheVariants.{Indirection}
 use Rattle.proof_sizes.specs.Beneath.slot_arena.specs.Heaps.{Heap, entries_of, logical_main, node_at}
 use Rattle.proof_sizes.specs.Beneath.machine_model.specs.declared.roots.Root.{Root}
-use Rattle.proof_sizes.specs.Beneath.machine_model.specs.Contents.{most_levels}
+use Rattle.proof_sizes.specs.Beneath.machine_model.specs.Contents.{content_at, most_levels}
 use Rattle.proof_sizes.specs.Beneath.machine_model.specs.Machine.{is_busy}
 use Rattle.proof_sizes.specs.Beneath.machine_model.specs.States.{State, root_at, root_of, word_at}
 use Rattle.proof_sizes.specs.Beneath.proof_straight.specs.Resting.{IsOfRun}
@@ -39,3 +39,7 @@ abbrev pub OneHandleUsesAll : Type 0
 OneHandleUsesAll =
     OfOpenHandles (λ state handle. is_busy state ≡ false → state.limbo ≡ [] → ((other : ℕ) → other ≢ handle → root_at state other ≡ None) →
     length (nodes_of state handle) + length state.heap.free ≡ state.limits.slots)
+
+-- where its map is empty a handle has two: its root, and an empty branch
+abbrev pub EmptyHasTwo : Type 0
+EmptyHasTwo = OfOpenHandles (λ state handle. content_at state handle ≡ [] → length (nodes_of state handle) ≡ 2)

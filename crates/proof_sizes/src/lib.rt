@@ -4,6 +4,6 @@
 mod laws;
 
 pub use laws::{
-    calls_grow_little, copies_are_no_larger, handles_use_slots, one_handle_uses_all,
+    calls_grow_little, copies_are_no_larger, empty_has_two, handles_use_slots, one_handle_uses_all,
     others_grow_nothing, sweeps_keep_nodes,
 };
