@@ -30,7 +30,8 @@ from dataclasses import dataclass
 sys.dont_write_bytecode = True
 import edn
 from edn import Fault, Word
-from orders import Budget, Spent, after, merged, order_of
+from orders import Budget, Spent, merged, order_of
+from worlds import Register, after
 
 CALLS = {":read": "read", ":write": "write", ":cas": "cas", ":get": "read", ":put": "write", ":append": "append"}
 MOST_NUMBER, MOST_ACTOR, MOST_LINES = 2**64 - 1, 255, 300_000
@@ -246,7 +247,7 @@ def ordered(operations, steps):
     """Returns an order of the operations, and the keys whose answers no order explains."""
     budget, orders, unexplained = Budget(steps), [], []
     for key, of_key in by_key(operations).items():
-        order, explains = order_of(of_key, budget)
+        order, explains = order_of(of_key, Register(), budget)
         orders.append(order)
         if not explains:
             unexplained.append(key)
