@@ -10,7 +10,7 @@
 
 It prints 250 300. A `Map` is a dictionary of whole numbers from 0 to 2^64 - 1, in a given number of slots for nodes, whose memory is what
 it took at first. A snapshot or a freeze of it is one too, in the same slots: it has what the map has at that moment, by a bounded number of
-steps, and changes on its own or never. A map goes back to a copy by `restore`, `diff` tells what has changed since, and `put_all`
+steps, and changes on its own or never. A map goes back to a copy by `restore`, `diff` returns what has changed since, and `put_all`
 sets several keys, all or none.
 
 What is otherwise than of a dictionary:
@@ -18,16 +18,17 @@ What is otherwise than of a dictionary:
 - A key or value that is set is refused with OverflowError where it is out of range, with TypeError where it is no whole number. What is
   looked up may be anything: what is equal to no key has no value, and a complex number never has one.
 - A call that the map refuses raises an `Error` and changes nothing, but that `update` keeps what it has set before.
-- Keys are listed in ascending order, and `popitem` takes any. A map may be changed while it is listed: `__iter__` tells what is seen.
+- Keys are listed in ascending order, and `popitem` takes any. A map may be changed while it is listed: `__iter__` says what is seen.
 - `len`, and each 4,096 entries of a listing, take a walk over the whole map; but those of `scan` don't.
-- `|`, `reversed`, `copy`, `fromkeys` and a `repr` that shows the entries aren't there.
+- `|`, `reversed`, `copy` and `fromkeys` aren't there, and `repr` shows how many keys there are, by such a walk, and no entries.
 
 A map and its copies are used on the thread that made the map, and not in a child made by fork. What another thread lets go of is given
 back at the next call of a map on that thread, and the maps that a thread has made are closed as it ends. Calls that may take long let
 other threads run.
 
 The library is the shared object that `./build ctrie_c` makes. It is the file that the environment's CTRIE_LIBRARY names, or else
-libctrie.so beside this file, the one that was built, or the one that the system finds.
+libctrie.so beside this file, the one that was built, or the one that the system finds. Where there is none, or another version, the
+import of this module raises an ImportError.
 """
 from __future__ import annotations
 
@@ -48,9 +49,9 @@ __all__ = [
 ]
 __version__ = "0.1.0"
 
-# So many entries are listed at once.
+# How many entries are listed at once.
 _ROOM = 4096
-# So many handles are open at most.
+# How many handles are open at most.
 _HANDLES = 256
 _Default = TypeVar("_Default")
 _View = TypeVar("_View", bound="_Handle")
@@ -101,7 +102,8 @@ class WrongThread(Error):
 
 
 class Hash(enum.IntEnum):
-    """How a map hashes its keys. At most 32 keys of a map have one hash: a key more is `Crowded`."""
+    """How a map hashes its keys. `WIDE` suits keys of any form; the others are for who knows his keys. Of these at most 32 keys of a map
+    have one hash: a key more is `Crowded`."""
 
     LOW = 0  # the key modulo 2^32
     FOLD = 1  # the key's low half xor its high half: not for two small numbers packed into a key
@@ -173,8 +175,14 @@ def _declared(call: Any, result: Any, *words: Any) -> Any:
 def _load() -> Dict[str, Any]:
     """Returns the calls of the library. They keep the interpreter's lock, but for those that may take long."""
     file = _library_file()
-    short, long = PyDLL(file), CDLL(file)
-    major, rest = divmod(_declared(short.ctrie_version, c_uint32)(), 10_000)
+    try:
+        short, long = PyDLL(file), CDLL(file)
+        version_number = _declared(short.ctrie_version, c_uint32)()
+    except (OSError, AttributeError) as fault:
+        raise ImportError(
+            f"no library of the map ({fault}). ./build ctrie_c makes it, and the environment's CTRIE_LIBRARY may name its file"
+        ) from fault
+    major, rest = divmod(version_number, 10_000)
     version = ".".join(map(str, (major, *divmod(rest, 100))))
     if version != __version__:
         raise ImportError(f"{file} has the version {version}, and this module {__version__}")
@@ -276,7 +284,7 @@ class _Owner:
             raise WrongThread(WrongThread.__doc__)
 
     def call(self, name: str, *words: Any) -> bool:
-        """Carries out a call, and returns whether it tells yes."""
+        """Carries out a call, and returns whether it answers yes."""
         self.check_thread()
         self.thread.give_back()
         code: int = _LIBRARY[name](byref(self.held), *words)
@@ -293,8 +301,8 @@ class Difference(NamedTuple):
     after: Optional[int]
 
 
-def _difference(told: _Difference) -> Difference:
-    return Difference(told.key, told.before if told.was_there else None, told.after if told.is_there else None)
+def _difference(found: _Difference) -> Difference:
+    return Difference(found.key, found.before if found.was_there else None, found.after if found.is_there else None)
 
 
 class _Items(ItemsView[int, int]):
@@ -321,7 +329,7 @@ class _Handle(MutableMapping[int, int]):
 
     @property
     def handle(self) -> int:
-        """The number by which the library knows it. Once it is closed, that may be another copy's, and isn't told."""
+        """The number by which the library knows it. Once it is closed, that may be another copy's: `NoHandle`."""
         if self._handle is None:
             raise NoHandle(NoHandle.__doc__)
         return self._handle
@@ -337,7 +345,9 @@ class _Handle(MutableMapping[int, int]):
         return self._call("is_writable")
 
     def _handle_beside(self, other: _Handle) -> int:
-        """Returns the other's handle, if it is one of the same map: the library can't tell."""
+        """Returns the other's handle, if it is one of the same map: the library can't know."""
+        if not isinstance(other, _Handle):
+            raise TypeError(f"it is a {type(other).__name__}, and no map or copy of this module")
         if other._owner is not self._owner:
             raise ValueError("it is a copy of another map")
         return other.handle
@@ -345,20 +355,20 @@ class _Handle(MutableMapping[int, int]):
     def _call(self, name: str, *words: Any) -> bool:
         return self._owner.call(name, self.handle, *words)
 
-    def _told(self, name: str, *words: int) -> Optional[int]:
-        """Returns the value that a call tells, if it tells one."""
+    def _value(self, name: str, *words: int) -> Optional[int]:
+        """Returns the value that a call answers, if it answers one."""
         value = c_uint64()
         return value.value if self._call(name, *words, byref(value)) else None
 
     def _looked_up(self, name: str, wanted: Any) -> Optional[int]:
-        """Returns the value that a call on a key tells, if it tells one."""
+        """Returns the value that a call on a key answers, if it answers one."""
         key = _key(wanted)
         if key is None:
             # As a look for a key a closed map refuses it, and as a removal a frozen one.
             if not self._call("is_writable") and name == "remove":
                 raise ReadOnly(ReadOnly.__doc__)
             return None
-        return self._told(name, key)
+        return self._value(name, key)
 
     def _pairs(self, name: str = "entries") -> Iterator[Tuple[int, int]]:
         cursor, pairs, count = _Cursor(0, False), (_Pair * _ROOM)(), c_uint64(_ROOM)
@@ -378,7 +388,7 @@ class _Handle(MutableMapping[int, int]):
         return value
 
     def __setitem__(self, key: int, value: int) -> None:
-        self._told("put", _number(key), _number(value))
+        self._value("put", _number(key), _number(value))
 
     def __delitem__(self, key: int) -> None:
         if self._looked_up("remove", key) is None:
@@ -393,12 +403,20 @@ class _Handle(MutableMapping[int, int]):
         self._call("count", byref(count))
         return count.value
 
+    def __repr__(self) -> str:
+        """Says what it is, and how many keys it has by a walk over them; or why it can't be read."""
+        try:
+            said = f"{'writable' if self.is_writable else 'frozen'}, {len(self)} keys"
+        except Error as refused:
+            said = type(refused).__name__
+        return f"<ctrie.{type(self).__name__}: {said}>"
+
     def __bool__(self) -> bool:
         """Returns whether a key has a value, by a walk to the first one."""
         return self._call("first", byref(_Pair()))
 
     def __iter__(self) -> Iterator[int]:
-        """Goes through the keys. It reads 4,096 entries at a time, and what is changed behind that is seen from the next ones on: these
+        """Goes through the keys. It reads 4,096 entries at a time, and what is changed after that is seen from the next ones on: these
         begin after the last key that was read, whether it is there still or not. A frozen copy is of one moment."""
         return (key for key, _ in self._pairs())
 
@@ -442,7 +460,7 @@ class _Handle(MutableMapping[int, int]):
         return default if value is None else value
 
     def popitem(self) -> Tuple[int, int]:
-        """Removes a key, whichever is found first, and returns it with its value; a KeyError where there is none."""
+        """Removes any one key, and returns it with its value; a KeyError where there is none."""
         pair = _Pair()
         if not self._call("pop", byref(pair)):
             raise KeyError("no key has a value")
@@ -519,7 +537,7 @@ class Map(_Handle):
     thread ends. Closed, it and its copies raise `Closed`. Where another thread was the last that referred to it, its memory is given back
     at the next call of a map on its own thread."""
 
-    def __init__(self, slots: int, hash: Hash = Hash.FOLD) -> None:
+    def __init__(self, slots: int, hash: Hash = Hash.WIDE) -> None:
         super().__init__(_Owner(slots, hash), 0)
 
     def close(self) -> None:

@@ -1,9 +1,12 @@
 """Checks python/ctrie.py beside Python's dictionaries, how it refuses, and what becomes of maps where there are threads. `c` runs it."""
 import copy
+import ctypes.util
 import decimal
 import fractions
 import gc
+import os
 import random
+import subprocess
 import sys
 import threading
 import unittest
@@ -274,11 +277,46 @@ class Threads(unittest.TestCase):
             thread.join()
 
 
+class Imports(unittest.TestCase):
+    def test_no_library(self):
+        """Where there is none, and where there is another one, it is an ImportError that says what to do."""
+        for file in ("no/such.so", ctypes.util.find_library("c")):
+            words = [sys.executable, "-c", "import ctrie"]
+            ran = subprocess.run(words, env={**os.environ, "CTRIE_LIBRARY": file}, stderr=subprocess.PIPE, text=True)
+            self.assertRegex(ran.stderr, r"ImportError: no library of the map \(.*\)\. \./build ctrie_c makes it, and the environment's CTRIE_LIBRARY")
+
+
 class Lives(unittest.TestCase):
     def test_copies_of_another_map(self):
         with ctrie.Map(64) as one, ctrie.Map(64) as other, other.freeze() as copied:
             for call in (lambda: one.restore(other), lambda: one.restore(copied), lambda: one.diff(other), lambda: copied.diff(one)):
                 self.assertRaises(ValueError, call)
+
+    def test_what_is_no_map(self):
+        with ctrie.Map(64) as one:
+            for other in ({}, None, 3, [one]):
+                for call in (lambda: one.restore(other), lambda: one.diff(other)):
+                    self.assertRaisesRegex(TypeError, f"it is a {type(other).__name__}, and no map", call)
+
+    def test_what_repr_says(self):
+        one = ctrie.Map(256)
+        frozen = one.freeze()
+        one.update({1: 2, 3: 4})
+        said = []
+        on_another_thread(lambda: said.append(repr(one)))
+        self.assertEqual(said, ["<ctrie.Map: WrongThread>"])
+        self.assertEqual((repr(one), str(frozen)), ("<ctrie.Map: writable, 2 keys>", "<ctrie.Copy: frozen, 0 keys>"))
+        frozen.close()
+        self.assertEqual(repr(frozen), "<ctrie.Copy: NoHandle>")
+        one.close()
+        self.assertEqual(repr(one), "<ctrie.Map: Closed>")
+
+    def test_no_key_is_crowded(self):
+        """By the hash that a map has where none is named: two small numbers packed into a key, of which many have one xor."""
+        with ctrie.Map(4096) as one:
+            keys = [at << 32 | at for at in range(40)]
+            one.update(dict.fromkeys(keys, 1))
+            self.assertEqual(list(one), keys)
 
     def test_which_are_open(self):
         one = ctrie.Map(64)

@@ -4,19 +4,21 @@
 It reads
 
 - Jepsen's histories of a register, with :read, :write and :cas; where all values are tuples `[k v]`, of a register for each k;
-- porcupine's logs of a map from strings to strings, with :get, :put and :append.
+- porcupine's logs of a map from strings to strings, with :get, :put and :append;
+- the same as JSON: `{"process": 0, "type": "invoke", "f": "read", "value": null}`, one event a line or all in an array.
 
 A register is a key of the map, which has no value at first (nil, and in a log ""). Numbers from 0 to 2^64 - 1 stand for themselves,
-if all keys or all values are such numbers; else they are numbered in the order in which they come first, and comment lines tell which
+if all keys or all values are such numbers; else they are numbered in the order in which they come first, and comment lines say which
 is which. An operation without an end, or whose end is :info, stays open: it may have had its effect or not. One that ended with :fail
-is left out: it had none. What isn't of a numbered process, as of the nemesis, is passed over.
+is left out: it had none. A process is a number or a name. Events of the process :nemesis are passed over, and standard error says how
+many.
 
 `check` judges an order, and such a history has none. So this program looks for one, and gives up after a million steps, or N. The
-order also says what the history doesn't: the value before, which a put is answered, and what a key has after an append, which is told
-as a put of that.
+order also says what the history doesn't: the value before, which a put is answered, and what a key has after an append, which becomes
+a put of that.
 
-Status 0: the order explains all answers. 1: the history can't be told; standard error says in which line and why. 2: the words are
-no call, the file can't be read, or the steps didn't suffice. Nothing is written then. 3: no order explains the answers; one that goes
+Status 0: the order explains all answers. 1: the history can't be converted, or has no operation; standard error says in which line and why.
+2: the words are no call, the file can't be read, or the steps didn't suffice. Nothing is written then. 3: no order explains the answers; one that goes
 as far as any is written, and `ctrie explain` says where it breaks off.
 """
 import argparse
@@ -29,6 +31,7 @@ from dataclasses import dataclass
 
 sys.dont_write_bytecode = True
 import edn
+import json_events
 from edn import Fault, Word
 from orders import Budget, Spent, merged, order_of
 from worlds import Register, after
@@ -43,7 +46,7 @@ class Operation:
     none. `before` is what a cas wants to find, `value` what is written or appended, `found` what a read was answered."""
 
     line: int
-    process: int
+    process: object
     what: str
     key: object = 0
     before: object = None
@@ -113,12 +116,21 @@ def found_by(line, form, read, tuples):
     return value
 
 
-def operations_of(forms):
-    """Returns the operations of a history, and those that ended with :fail."""
-    forms = [(line, form) for line, form in forms if not isinstance(form, dict) or isinstance(named(form, "process"), int)]
+def of_processes(forms):
+    """Returns the events of processes, and those of the nemesis, which makes the faults of a test."""
+    kept, passed = [], []
     for line, form in forms:
+        process = named(form, "process") if isinstance(form, dict) else None
         if not isinstance(form, dict):
             raise Fault(line, "this is no event")
+        if process is None or isinstance(process, (list, dict)):
+            raise Fault(line, "this event names no process")
+        (passed if str(process).lstrip(":") == "nemesis" else kept).append((line, form))
+    return kept, passed
+
+
+def operations_of(forms):
+    """Returns the operations of a history, and those that ended with :fail."""
     tuples, running, kept, failed = are_tuples(forms), {}, [], []
     for time, (line, form) in enumerate(forms):
         process, kind = named(form, "process"), str(named(form, "type"))
@@ -166,7 +178,7 @@ def spelled(name):
 def actors_of(operations):
     """Returns the actor of each operation, by its begin: its process, where all are actors; else the lowest number that no process has
     that goes on, or that left an operation open."""
-    if all(0 <= it.process <= MOST_ACTOR for it in operations):
+    if all(isinstance(it.process, int) and 0 <= it.process <= MOST_ACTOR for it in operations):
         return {it.begin: it.process for it in operations}
     last = {it.process: it for it in operations}
     free, actors, has = list(range(MOST_ACTOR + 1)), {}, {}
@@ -217,9 +229,9 @@ class Telling:
             for name, number in numbers.items():
                 if str(name) != str(number):
                     yield f"# {kind} {number} is {spelled(name)}"
-        for actor, process in sorted({(self.actors[it.begin], it.process) for it in self.operations}):
+        for actor, process in sorted({(self.actors[it.begin], it.process) for it in self.operations}, key=lambda it: (it[0], str(it[1]))):
             if actor != process:
-                yield f"# actor {actor} is process {process}"
+                yield f"# actor {actor} is process {spelled(process)}"
 
     def lines(self):
         yield "# Worked out by examples/histories/convert.py: the order, what puts were answered, and what appends made."
@@ -258,8 +270,10 @@ def say(text):
     print(f"convert: {text}", file=sys.stderr)
 
 
-def say_what_is_left(operations, failed):
+def say_what_is_left(operations, failed, passed):
     """Says what of the history is told otherwise than it stands there, and what was read and neither written nor made by an append."""
+    if passed:
+        say(f"events of the nemesis that are passed over: {len(passed)}, the first of line {passed[0][0]}")
     unended, appends = [it for it in operations if it.end == math.inf], [it for it in operations if it.what == "append"]
     for found, what in ((failed, "failed and left out"), (unended, "left open"), (appends, "appends told as puts")):
         if found:
@@ -273,8 +287,14 @@ def say_what_is_left(operations, failed):
 
 
 def convert(text, steps):
-    operations, failed = operations_of(edn.forms(text))
-    say_what_is_left(operations, failed)
+    forms, passed = of_processes((json_events if json_events.are_json(text) else edn).forms(text))
+    operations, failed = operations_of(forms)
+    say_what_is_left(operations, failed, passed)
+    # An order of no operations is legal, whatever the file was.
+    if failed and not operations:
+        raise Fault(failed[0].line, "each operation of this file failed, so none is left to judge")
+    if not operations:
+        raise Fault(passed[0][0] if passed else 1, f"no operation stands in this file{', only events of the nemesis' if passed else ''}")
     order, unexplained = ordered(operations, steps)
     told = Telling(operations, order)
     lines = list(told.lines())
