@@ -13,8 +13,8 @@ import re
 import sys
 from dataclasses import dataclass
 
-# As crates/scene_svg/specs/Geometry.antt has them: pixels of an event, where the first stands, and what is at both sides of all.
-EVENT, LEFT, SIDES = 96, 112, 128
+# As crates/scene_svg/specs/Geometry.antt has them: pixels of an event, where the first stands, what is at both sides of all, and what is above the marks.
+EVENT, LEFT, SIDES, TOP = 96, 112, 128, 36
 # So many events are shown by themselves, 3,968 pixels with the sides, and stand in one piece of a page; so many of them before a fault.
 SHOWN, BEFORE = 40, 8
 # A number with `late` reaches so far beyond the begin of its bar, and so many characters of a label fit into an event.
@@ -142,7 +142,7 @@ class Picture:
     def piece(self, first, last):
         """These events for a page, without a head: pieces side by side are the picture."""
         left, width = EVENT * first + LEFT - EVENT // 2, EVENT * (last - first + 1)
-        yield f'<svg id="e{first}" class="piece" style="width:{width}px" width="{width}" height="{self.bottom}" viewBox="{left} 0 {width} {self.bottom}">'
+        yield f'<svg id="e{first}" class="piece" style="width:{width}px" width="{width}" height="{self.bottom - TOP}" viewBox="{left} {TOP} {width} {self.bottom - TOP}">'
         yield from self.marks(first, last)
         for y, _ in self.lanes:
             yield f'<path class="lane" d="M{left} {y}H{left + width}"/>'
@@ -152,14 +152,15 @@ class Picture:
     def page(self, first, last):
         """An HTML page of these events, or of all of them."""
         pieces = [(at, min(at + SHOWN - 1, last)) for at in range(first, last + 1, SHOWN)]
-        yield f'<!doctype html>\n<html lang="en"><meta charset="utf-8"><title>{self.heading}</title>\n<style>\n{self.style}{PAGE_STYLE % self.bottom}</style>'
+        yield f'<!doctype html>\n<html lang="en"><meta charset="utf-8"><title>{self.heading}</title>\n<style>\n{self.style}{PAGE_STYLE % (self.bottom - TOP)}</style>'
         yield f"<h1>{self.heading}</h1>"
         if self.reason:
             wrong = self.by_itself()[0] + BEFORE
             yield f'<p class="told">{self.reason}. <a href="#e{next((it for it, to in pieces if it <= wrong <= to), first)}">To where it stands</a></p>'
         links = pieces[:: max(1, len(pieces) // 20)]
         yield f'<p>Events {" ".join(f"""<a href="#e{at}">{at}</a>""" for at, _ in links)}</p>'
-        yield f'<div class="scroller"><svg class="names" width="{LEFT - 8}" height="{self.bottom}"><path class="ground" d="M0 0H{LEFT}V{self.bottom}H0z"/>'
+        yield f'<div class="scroller"><svg class="names" width="{LEFT - 8}" height="{self.bottom - TOP}" viewBox="0 {TOP} {LEFT - 8} {self.bottom - TOP}">'
+        yield f'<path class="ground" d="M0 0H{LEFT}V{self.bottom}H0z"/>'
         yield from (label for _, label in self.lanes)
         yield "</svg>"
         for it in pieces:
