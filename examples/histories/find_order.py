@@ -6,7 +6,7 @@ Where it has calls on keys of handle 0 alone, each key is looked at for itself. 
 
 `ctrie check` judges the order, so the search needn't be believed where it finds one.
 
-Status 0: the order explains all answers. 1: the history has a fault; standard error says in which line. 2: the words are no call, the
+Status 0: the order explains all answers. 1: the history has a fault, or no operation; standard error says in which line. 2: the words are no call, the
 file can't be read, or the steps didn't suffice. Nothing is written then. 3: no order explains the answers, by this search alone; one
 that goes as far as any that it tried is written, and `ctrie explain` says where it breaks off.
 """
@@ -85,8 +85,9 @@ def operations_of(lines):
             del running[operation.actor]
         else:
             raise Fault(line, "this is no line of a history")
-    if not hash_name:
-        raise Fault(1, "there is no line")
+    # An order of no operations is legal, whatever the file was.
+    if not operations:
+        raise Fault(1, "no operation stands in this history")
     return operations, hash_name
 
 
