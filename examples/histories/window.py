@@ -11,6 +11,7 @@ Status 0; 1 where it is no such picture, or has no such part; 2 where the words 
 import argparse
 import re
 import sys
+from collections import defaultdict
 from dataclasses import dataclass
 
 # As crates/scene_svg/specs/Geometry.antt has them: pixels of an event, where the first stands, what is at both sides of all, and what is above the marks.
@@ -19,6 +20,7 @@ EVENT, LEFT, SIDES, TOP = 96, 112, 128, 36
 SHOWN, BEFORE = 40, 8
 # A number with `late` reaches so far beyond the begin of its bar, and so many characters of a label fit into an event.
 REACH, LETTERS = 120, 14
+STRETCH = SHOWN * EVENT
 SIZE = r'<svg [^>]*width="\d+" height="(\d+)"'
 BAR = re.compile(r'<g class="(\w+)"><title>operation (\d+) .*?</title><path d="M(\d+) (\d+)h(-?)(\d+)')
 LABEL = re.compile(r'(?<=<text x=")\d+(" y="\d+">)([^<]*)')
@@ -45,6 +47,20 @@ def bar_of(line):
     return Bar(line, int(operation), colour, left, left + int(width))
 
 
+def near(spans):
+    """Returns the places of the spans that touch each stretch of the picture, by the stretch's number."""
+    touching = defaultdict(list)
+    for at, (left, right) in enumerate(spans):
+        for stretch in range(left // STRETCH, right // STRETCH + 1):
+            touching[stretch].append(at)
+    return touching
+
+
+def places(touching, left, right):
+    """Returns the places of the spans that may touch what lies between these two, in their order."""
+    return sorted({at for stretch in range(left // STRETCH, right // STRETCH + 1) for at in touching[stretch]})
+
+
 def found(pattern, text, what):
     match = re.search(pattern, text, re.DOTALL)
     if not match:
@@ -65,6 +81,9 @@ class Picture:
         reason = re.search(r'(<text class="reason" x="16" y="\d+">)(.*)</text>', text)
         self.reason_head, self.reason = reason.groups() if reason else ("", None)
         self.bottom = self.height - 196
+        # The bars and the pieces of the line, by their places, that come near each stretch of the picture.
+        self.near_bars = near((it.left, max(it.right, it.left + REACH)) for it in self.bars)
+        self.near_lines = near(sorted([one[0], other[0]]) for one, other in zip(self.points, self.points[1:]))
 
     # ---- which part
 
@@ -89,22 +108,22 @@ class Picture:
 
     def order(self, left, right):
         """The pieces of the line through the bars that come between these two."""
-        piece = []
-        for one, other in zip(self.points, self.points[1:]):
-            if min(one[0], other[0]) <= right and max(one[0], other[0]) >= left:
-                piece += [other] if piece else [one, other]
-            elif piece:
+        last, piece = None, []
+        for at in places(self.near_lines, left, right):
+            if at - 1 != last and piece:
                 yield piece
                 piece = []
+            piece += self.points[at + 1 : at + 2] if piece else self.points[at : at + 2]
+            last = at
         if piece:
             yield piece
 
     def inside(self, left, right):
         for piece in self.order(left, right):
             yield f'<polyline class="order" points="{" ".join(f"{x},{y}" for x, y in piece)}"/>'
-        for bar in self.bars:
-            if bar.left <= right and max(bar.right, bar.left + REACH) >= left:
-                yield bar.line
+        for at in places(self.near_bars, left, right):
+            if self.bars[at].left <= right and max(self.bars[at].right, self.bars[at].left + REACH) >= left:
+                yield self.bars[at].line
 
     def named(self, bar_line, left):
         """The line of a bar; where it begins on the left of the part, what stands in it begins with the part."""
