@@ -110,7 +110,7 @@ def ordered(operations, hash_name, steps):
     if all(it.name in ON_KEYS and it.handle == 0 for it in wanted):
         groups = of_each_key(wanted, HASHES[hash_name])
     for group in groups:
-        orders.append(order_of(group, Worlds(hash_name), budget))
+        orders.append(order_of(group, Worlds(hash_name, group), budget))
     return merged([order for order, _ in orders]), all(explains for _, explains in orders)
 
 

@@ -18,14 +18,25 @@ class Budget:
         self.left -= 1
 
 
+class Node:
+    """A state of the search: the operations that may come next and weren't tried, whether there was one choice alone, and of what cells
+    it is that no order goes on from here."""
+
+    def __init__(self, key, options, reason, is_forced=False):
+        self.key, self.options, self.reason, self.is_forced = key, options[::-1], reason, is_forced
+
+
 class Search:
     """The search of Wing and Gong (Testing and Verifying Concurrent Objects, 1993): it places one operation after the other, each time
     one that began before any other of those left ended, and goes back where none fits. As Lowe has it (Testing for Linearizability,
-    2017) it goes on from no state twice: the operations that are placed, and what the world has.
+    2017) it goes on from no state twice: the operations that are placed, and what the world has. And it goes back at once to where a
+    choice made a difference to what went wrong: the cells of the world, as a key of a handle, of the operations that didn't fit.
 
     A world carries operations out: `change_by` returns what an operation changes, if it can be answered there as it was, else None;
     `make` makes that change, `undo` takes the last one back, and `code` stands for what there is. `unchanged` is the change of an operation
-    that changes nothing wherever it is answered as it was. Two operations of which `clash` is false may change places in any order."""
+    that changes nothing wherever it is answered as it was. Two operations of which `clash` is false may change places in any order.
+    `why` has the cells for which an operation doesn't fit, with those that they may be copied from; `touches` is whether an operation
+    reads or changes one of these cells."""
 
     def __init__(self, operations, world, budget):
         self.ended = sorted((it for it in operations if it.end < math.inf), key=lambda it: it.begin)
@@ -72,51 +83,62 @@ class Search:
             if not used >> at & 1 and operation.begin < first_end:
                 yield operation, (low, placed, used | 1 << at)
 
-    def steps(self, state):
-        """Returns the operations that fit next, each with its change and the state after it. One that fits and changes nothing is the
-        only one: an order that has it later may have it here too. So is one that is settled; where that doesn't fit here, it never
-        does. One without an end that changes nothing isn't wanted."""
-        found = []
-        for operation, placed in self.candidates(state):
+    def node(self, placed):
+        """Returns the node of this state, with the operations that fit next. One that fits and changes nothing is the only one: an order
+        that has it later may have it here too. So is one that is settled; where that doesn't fit here, it never does. One without an end
+        that changes nothing isn't wanted."""
+        options, reason = [], set()
+        for operation, after in self.candidates(placed):
             self.budget.spend()
             change = self.world.change_by(operation)
-            if operation.end == math.inf:
-                found += [] if change in (None, self.world.unchanged) else [(operation, change, placed)]
-            elif change is self.world.unchanged:
-                return [(operation, change, placed)]
-            elif self.is_settled(operation, state):
-                return [] if change is None else [(operation, change, placed)]
-            elif change is not None:
-                found.append((operation, change, placed))
-        return found
+            option, has_ended = (operation, change, after), operation.end < math.inf
+            is_only = has_ended and (change is self.world.unchanged or self.is_settled(operation, placed))
+            if is_only and change is None:
+                return Node(self.key(placed), [], self.world.why(operation))
+            if is_only:
+                return Node(self.key(placed), [option], set(), True)
+            if change is None:
+                reason |= self.world.why(operation)
+            elif change is not self.world.unchanged:
+                options.append(option)
+        return Node(self.key(placed), options, reason)
+
+    def key(self, placed):
+        return placed, self.world.code
 
     def longest(self):
         """Returns an order of all that ended, perhaps with some that didn't, and true; or the longest that was found, and false."""
-        # How many of the first that ended are placed, which of those after them, and which that didn't end.
-        start = (0, 0, 0)
-        seen, order, best = {(start, self.world.code)}, [], []
+        order, best, failed = [], [], {}
         if not self.ended:
             return order, True
-        left = [iter(self.steps(start))]
-        while left:
-            operation, change, placed = next(left[-1], (None, None, None))
-            if operation is None:
+        # How many of the first that ended are placed, which of those after them, and which that didn't end.
+        path = [self.node((0, 0, 0))]
+        while path:
+            if not path[-1].options:
                 best = order[:] if len(order) > len(best) else best
-                left.pop()
-                if order:
-                    order.pop()
-                    self.world.undo()
+                self.go_back(path, order, failed)
                 continue
+            operation, change, placed = path[-1].options.pop()
             self.world.make(change)
-            if (placed, self.world.code) in seen:
-                self.world.undo()
-                continue
-            seen.add((placed, self.world.code))
             order.append(operation)
             if placed[0] == len(self.ended):
                 return order, True
-            left.append(iter(self.steps(placed)))
+            known = failed.get(self.key(placed))
+            path.append(self.node(placed) if known is None else Node(self.key(placed), [], known))
         return best, False
+
+    def go_back(self, path, order, failed):
+        """Leaves the last node, from which nothing leads on, and all before it in which no other choice would help: those whose operation
+        the reason doesn't touch."""
+        reason = path[-1].reason
+        failed[path.pop().key] = reason
+        while path:
+            operation, node = order.pop(), path[-1]
+            self.world.undo()
+            if not node.is_forced and self.world.touches(operation, reason):
+                node.reason |= reason
+                return
+            failed[path.pop().key] = reason
 
 
 def order_of(operations, world, budget):

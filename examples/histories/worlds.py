@@ -1,4 +1,5 @@
 """Worlds in which the search of orders.py carries operations out: one register, and the finite maps of ctrie's own calls."""
+import math
 import random
 
 
@@ -33,6 +34,12 @@ class Register:
     def clash(self, one, other):
         return one.what != "read" or other.what != "read"
 
+    def why(self, operation):
+        return {0}
+
+    def touches(self, operation, cells):
+        return True
+
     def make(self, change):
         self.values.append(self.code if change is self.unchanged else change[0])
 
@@ -46,6 +53,7 @@ HASHES = {
     "wide": lambda key: key,
     "block": lambda key: key >> 6,
 }
+WHOLE = "whole"
 # At most so many keys of a map have one hash.
 MOST_OF_A_HASH = 32
 
@@ -87,16 +95,42 @@ def handles_of(operation):
     return {operation.handle, *(operation.numbers if operation.name in COPIES else ())}
 
 
+def reads_of_freezes(operations):
+    """Yields each freeze with the reads that are of its copy in each order: they began when it had ended, and no other freeze or snapshot
+    with this handle was under way or began from its begin to the read's end."""
+    opened, reads = {}, {}
+    for it in operations:
+        if it.name in COPIES:
+            opened.setdefault(it.numbers[0], []).append(it)
+        elif it.reply and it.name in ("get", *WALKS):
+            reads.setdefault(it.handle, []).append(it)
+    for handle, openings in opened.items():
+        for freeze in (it for it in openings if it.name == "freeze"):
+            others = [it for it in openings if it is not freeze and it.end > freeze.begin]
+            until = min((it.begin for it in others), default=math.inf)
+            yield freeze, [it for it in reads.get(handle, ()) if freeze.end < it.begin and it.end < until]
+
+
 class Worlds:
     """Finite maps by handle, as docs/SCRIPTS.md has them. A change is a handle with a key and the key's new value; or with no key and a
     function that makes the map which the handle names from then on, or None."""
 
     unchanged = ("unchanged",)
 
-    def __init__(self, hash_name):
+    def __init__(self, hash_name, operations):
         self.hash_of = HASHES[hash_name]
+        # The handles of which each one may be a copy, those of which these may be, and so on.
+        self.origins = {}
+        copies = [(it.numbers[0], it.handle) for it in operations if it.name in COPIES]
+        for _ in copies:
+            before = sum(map(len, self.origins.values()))
+            for copy, origin in copies:
+                self.origins.setdefault(copy, {copy}).update(self.origins.get(origin, {origin}))
+            if sum(map(len, self.origins.values())) == before:
+                break
         self.maps, self.pairs, self.undone = {0: Finite(True)}, Codes(), []
         self.code = self.code_of(0)
+        self.reads = {freeze.number: reads for freeze, reads in reads_of_freezes(operations)}
 
     def code_of(self, handle):
         found = self.maps.get(handle)
@@ -108,14 +142,43 @@ class Worlds:
         if not found or not found.writable and name in WRITES or found.writable and name in WALKS:
             return None
         reply, change = CALLS[name](self, found, operation, *operation.numbers)
-        return change if operation.reply in (None, reply) else None
+        fits = operation.reply in (None, reply) and not self.wrong_read(operation, found)
+        return change if fits else None
+
+    def wrong_read(self, operation, found):
+        """A read of the copy that a freeze makes of this map, whose answer would be another one, if there is one."""
+        wrong = (it for it in self.reads.get(operation.number, ()) if CALLS[it.name](self, found, it, *it.numbers)[0] != it.reply)
+        return next(wrong, None)
+
+    def why(self, operation):
+        """The cells for which an operation doesn't fit: those of one key, where a list of all pairs is wrong."""
+        found = self.maps.get(operation.handle)
+        read = found and operation.name == "freeze" and self.wrong_read(operation, found) or operation
+        if not found or read.name != "entries" or read is operation and found.writable:
+            return self.cells(read)
+        answered = {tuple(map(int, it.split("="))) for it in read.reply.split(" ")[1:]}
+        key = min(answered ^ set(found.values.items()))[0]
+        return {(handle, self.hash_of(key)) for handle in self.origins.get(read.handle, {read.handle})}
 
     def clash(self, one, other):
         """Whether the two are of one map, and not of keys of different hashes there, and one of them may change something."""
         if is_reading(one) and is_reading(other) or not handles_of(one) & handles_of(other):
             return False
-        both_on_keys = one.name in ON_KEYS and other.name in ON_KEYS
-        return not both_on_keys or self.hash_of(one.numbers[0]) == self.hash_of(other.numbers[0])
+        places = {self.place(one), self.place(other)}
+        return WHOLE in places or len(places) == 1
+
+    def place(self, operation):
+        """The hash of the operation's key, or the whole map."""
+        return self.hash_of(operation.numbers[0]) if operation.name in ON_KEYS else WHOLE
+
+    def cells(self, operation):
+        return {(origin, self.place(operation)) for handle in handles_of(operation) for origin in self.origins.get(handle, {handle})}
+
+    def touches(self, operation, cells):
+        if operation.name in ON_KEYS:
+            return (operation.handle, self.place(operation)) in cells or (operation.handle, WHOLE) in cells
+        handles = handles_of(operation)
+        return any(handle in handles for handle, _ in cells)
 
     def make(self, change):
         if change is self.unchanged:
