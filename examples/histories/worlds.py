@@ -154,11 +154,11 @@ class Worlds:
         """The cells for which an operation doesn't fit: those of one key, where a list of all pairs is wrong."""
         found = self.maps.get(operation.handle)
         read = found and operation.name == "freeze" and self.wrong_read(operation, found) or operation
-        if not found or read.name != "entries" or read is operation and found.writable:
+        if not found or read.name != "entries" or read is operation and found.writable or not read.reply.startswith("pairs"):
             return self.cells(read)
         answered = {tuple(map(int, it.split("="))) for it in read.reply.split(" ")[1:]}
-        key = min(answered ^ set(found.values.items()))[0]
-        return {(handle, self.hash_of(key)) for handle in self.origins.get(read.handle, {read.handle})}
+        wrong = min(answered ^ set(found.values.items()), default=None)
+        return {(it, self.hash_of(wrong[0])) for it in self.origins.get(read.handle, {read.handle})} if wrong else self.cells(read)
 
     def clash(self, one, other):
         """Whether the two are of one map, and not of keys of different hashes there, and one of them may change something."""
