@@ -79,12 +79,12 @@ enum ctrie_code {
     CTRIE_WORN_OUT = 8,     /* no more work is left than a call may take, of 2^45 - 2^21 steps; the map can be read */
     CTRIE_MEMORY = 9,       /* malloc refused: only of ctrie_new, ctrie_entries, ctrie_scan, ctrie_diff, ctrie_put_all, and of
                                ctrie_shared_open, _new, _split, _entries and _scan */
-    CTRIE_NULL = 10,        /* ctrie_put_all of a number of pairs with NULL for their place */
     CTRIE_NO_MAP = 11,      /* no map is held, or no seat at a shared one; or another call has it at this time, which is
                                a mistake: one call at a time uses a struct */
     CTRIE_HAS_MAP = 12,     /* ctrie_new where a map is held already, which stays; ctrie_shared_open, _new, _split where a
                                seat is */
-    CTRIE_BAD_HASH = 13     /* ctrie_new, ctrie_shared_open, _new: the number is none of enum ctrie_hash */
+    CTRIE_BAD_HASH = 13,    /* ctrie_new, ctrie_shared_open, _new: the number is none of enum ctrie_hash */
+    CTRIE_NULL = 16         /* ctrie_put_all of a number of pairs with NULL for their place */
 };
 
 /* Whether a code is that of a refusal. */
@@ -144,10 +144,10 @@ static inline const char *ctrie_error(uint32_t code) {
     case CTRIE_BAD_SIZES: return "the number of slots is out of range";
     case CTRIE_WORN_OUT: return "the map's steps are used up";
     case CTRIE_MEMORY: return "no memory";
-    case CTRIE_NULL: return "NULL stands for the place of pairs";
     case CTRIE_NO_MAP: return "no map is held, or another call has it";
     case CTRIE_HAS_MAP: return "a map is held already";
     case CTRIE_BAD_HASH: return "no hash has this number";
+    case CTRIE_NULL: return "NULL stands for the place of pairs";
     default: return "no call of ctrie.h answers this code";
     }
 }

@@ -103,7 +103,7 @@ int main(void) {
     uint16_t copy = 99, frozen = 99, thawed = 99;
     struct ctrie_pair pair = {99, 99};
     printf("version %u\n", (unsigned)ctrie_version());
-    for (uint32_t code = 0; code < 15; code++) printf("code %u: %s\n", (unsigned)code, ctrie_error(code));
+    for (uint32_t code = 0; code <= CTRIE_NULL; code++) printf("code %u: %s\n", (unsigned)code, ctrie_error(code));
     TELL("get of no map", ctrie_get(&map, 0, 1, &value), value);
     lists_no_map();
     TELL("new of 1 slot", ctrie_new(&map, 1, CTRIE_LOW), 0);
