@@ -22,9 +22,10 @@ What is otherwise than of a dictionary:
 - `len`, and each 4,096 entries of a listing, take a walk over the whole map; but those of `scan` don't.
 - `|`, `reversed`, `copy` and `fromkeys` aren't there, and `repr` shows how many keys there are, by such a walk, and no entries.
 
-A map and its copies are used on the thread that made the map, and not in a child made by fork. What another thread lets go of is given
-back at the next call of a map on that thread, and the maps that a thread has made are closed as it ends. Calls that may take long let
-other threads run.
+A map and its copies may be used by any thread: the calls of a map take turns at its lock, and those that may take long let other threads
+run meanwhile. Each call is made whole; what takes several, as `setdefault`, `update`, `popitem` of all or a listing, others may come
+between. (That a thread may go on with a map that another one made is tested, and not proved: include/ctrie.h says what is.) They aren't
+used in a child made by fork.
 
 The library is the shared object that `./build ctrie_c` makes. It is the file that the environment's CTRIE_LIBRARY names, or else
 libctrie.so beside this file, the one that was built, or the one that the system finds. Where there is none, or another version, the
@@ -39,13 +40,13 @@ import threading
 import weakref
 from ctypes import CDLL, POINTER, PyDLL, Structure, byref, c_bool, c_size_t, c_uint16, c_uint32, c_uint64, c_void_p
 from typing import (
-    Any, Dict, ItemsView, Iterable, Iterator, List, Mapping, MutableMapping, NamedTuple, Optional, Set, Tuple, Type, TypeVar, Union,
+    Any, Dict, ItemsView, Iterable, Iterator, List, Mapping, MutableMapping, NamedTuple, Optional, Tuple, Type, TypeVar, Union,
     ValuesView, overload,
 )
 
 __all__ = [
     "Map", "Copy", "Difference", "Hash", "Error", "NoHandle", "ReadOnly", "HandlesFull", "Crowded", "Full", "BadSizes", "WornOut",
-    "OutOfMemory", "Closed", "WrongThread",
+    "OutOfMemory", "Closed", "slots_for",
 ]
 __version__ = "0.1.0"
 
@@ -58,7 +59,9 @@ _View = TypeVar("_View", bound="_Handle")
 
 
 class Error(Exception):
-    """A call of a map was refused."""
+    """A call of a map was refused. Of `put_many`, `done` says how many pairs were set before."""
+
+    done = 0
 
 
 class NoHandle(Error):
@@ -97,10 +100,6 @@ class Closed(Error):
     """The map is closed."""
 
 
-class WrongThread(Error):
-    """Another thread made the map."""
-
-
 class Hash(enum.IntEnum):
     """How a map hashes its keys. `WIDE` suits keys of any form; the others are for who knows his keys. Of these at most 32 keys of a map
     have one hash: a key more is `Crowded`."""
@@ -113,7 +112,6 @@ class Hash(enum.IntEnum):
 
 class _Held(Structure):
     _fields_ = [("at", c_void_p)]
-    __hash__ = object.__hash__
 
 
 class _Pair(Structure):
@@ -212,85 +210,67 @@ def _key(wanted: Any) -> Optional[int]:
         return None
 
 
-class _Thread:
-    """A thread, with the maps that are used on it alone. It is known by this object: its number is given again once it has ended."""
+def _free(held: _Held, lock: Any) -> None:
+    """Frees a map, unless a call of it is under way: that can be so only as the interpreter ends."""
+    if lock.acquire(blocking=False):
+        try:
+            _LIBRARY["free"](byref(held))
+        finally:
+            lock.release()
 
-    def __init__(self) -> None:
-        self.number = threading.get_ident()
-        self.maps: Set[_Held] = set()
-        # Maps that are to be freed, and handles that are to be closed; other threads put them there too.
-        self.left: List[Tuple[_Held, Optional[int]]] = []
 
-    def let_go(self, held: _Held, handle: Optional[int] = None) -> None:
-        """Frees a map that is open, or closes one of its handles: at once, or for another thread at this one's next call."""
-        if held in self.maps:
-            self.left.append((held, handle))
-            # It has a map, so it hasn't ended, and its number is its own. (As it ends, `_CURRENT` may be gone.)
-            if threading.get_ident() == self.number:
+class _Owner:
+    """What holds a map in the library. Its lock is held while the library is called, and while a handle is looked up for that. A thread
+    that has it may take it again, as for what the collector finds meanwhile."""
+
+    def __init__(self, slots: int, hash: Hash) -> None:
+        self.held, self.lock, self.is_open = _Held(None), threading.RLock(), False
+        # Handles of copies that were dropped, and are to be closed.
+        self.left: List[int] = []
+        self.free = weakref.finalize(self, _free, self.held, self.lock)
+        if not 0 <= operator.index(slots) < 2**32:
+            raise BadSizes(BadSizes.__doc__)
+        self.call("new", slots, Hash(hash))
+        self.is_open = True
+
+    def call(self, name: str, *words: Any) -> bool:
+        """Carries out a call, and returns whether it answers yes."""
+        with self.lock:
+            self.give_back()
+            code: int = _LIBRARY[name](byref(self.held), *words)
+        return _is_yes(code)
+
+    def let_go(self, handle: int) -> None:
+        """Closes a handle: at once, or at the next call, where a call of another thread is under way. It never waits, since the collector
+        calls it anywhere."""
+        self.left.append(handle)
+        if self.lock.acquire(blocking=False):
+            try:
                 self.give_back()
+            finally:
+                self.lock.release()
 
     def give_back(self) -> None:
         while self.left:
             try:
-                held, handle = self.left.pop()
+                handle = self.left.pop()
             except IndexError:
-                # A call that came in between, by a signal or the collector, has given all back.
+                # What came in between, by a signal or the collector, has given all back.
                 return
-            if handle is None:
-                self.maps.discard(held)
-                _LIBRARY["free"](byref(held))
-            else:
-                _LIBRARY["close"](byref(held), handle)
-
-    def end(self) -> None:
-        """Frees all maps, which nobody can use any more. (As the interpreter ends, it is called of threads that go on too.)"""
-        if threading.get_ident() == self.number:
-            self.left.extend((held, None) for held in list(self.maps))
-            self.give_back()
+            _LIBRARY["close"](byref(self.held), handle)
 
 
-class _Life:
-    """Of a thread: nothing else refers to it, so it goes as the thread ends."""
+def _is_yes(code: int) -> bool:
+    """Returns whether a call answered yes; raises what it was refused by."""
+    if code > _YES:
+        raise _REFUSALS[code](_REFUSALS[code].__doc__)
+    return code == _YES
 
 
-class _Current(threading.local):
-    """The thread that runs, which each one sees as itself."""
-
-    def __init__(self) -> None:
-        self.thread, self.life = _Thread(), _Life()
-        weakref.finalize(self.life, self.thread.end)
-
-
-_CURRENT = _Current()
-
-
-class _Owner:
-    """What holds a map in the library."""
-
-    def __init__(self, slots: int, hash: Hash) -> None:
-        self.held, self.thread = _Held(None), _CURRENT.thread
-        self.thread.maps.add(self.held)
-        self.free = weakref.finalize(self, self.thread.let_go, self.held)
-        if not 0 <= operator.index(slots) < 2**32:
-            raise BadSizes(BadSizes.__doc__)
-        self.call("new", slots, Hash(hash))
-
-    def is_open(self) -> bool:
-        # What is held isn't asked: while a call is under way, the library has taken the map out of it.
-        return self.held in self.thread.maps
-
-    def check_thread(self) -> None:
-        if _CURRENT.thread is not self.thread:
-            raise WrongThread(WrongThread.__doc__)
-
-    def call(self, name: str, *words: Any) -> bool:
-        """Carries out a call, and returns whether it answers yes."""
-        self.check_thread()
-        self.thread.give_back()
-        code: int = _LIBRARY[name](byref(self.held), *words)
-        if code > _YES:
-            raise _REFUSALS[code](_REFUSALS[code].__doc__)
-        return code == _YES
+def slots_for(keys: int) -> int:
+    """Returns how many slots to ask for, for so many keys: three for each, and 40. It is a guide, and no promise: random keys have room then
+    for one open copy while a third of them are changed."""
+    return 3 * operator.index(keys) + 40
 
 
 class Difference(NamedTuple):
@@ -337,7 +317,7 @@ class _Handle(MutableMapping[int, int]):
     @property
     def is_open(self) -> bool:
         """Whether neither it nor its map is closed."""
-        return self._handle is not None and self._owner.is_open()
+        return self._handle is not None and self._owner.is_open
 
     @property
     def is_writable(self) -> bool:
@@ -353,7 +333,12 @@ class _Handle(MutableMapping[int, int]):
         return other.handle
 
     def _call(self, name: str, *words: Any) -> bool:
-        return self._owner.call(name, self.handle, *words)
+        with self._owner.lock:
+            return self._owner.call(name, self.handle, *words)
+
+    def _call_beside(self, name: str, other: _Handle, *words: Any) -> bool:
+        with self._owner.lock:
+            return self._call(name, self._handle_beside(other), *words)
 
     def _value(self, name: str, *words: int) -> Optional[int]:
         """Returns the value that a call answers, if it answers one."""
@@ -466,6 +451,32 @@ class _Handle(MutableMapping[int, int]):
             raise KeyError("no key has a value")
         return pair.key, pair.value
 
+    def get_many(self, keys: Iterable[int]) -> List[Optional[int]]:
+        """Returns the values of these keys, one after the other, None for one that has none: as `get` of each would, and sooner."""
+        wanted, value, values = [_key(it) for it in keys], c_uint64(), []
+        with self._owner.lock:
+            self._call("is_writable")
+            get, held, handle, place = _LIBRARY["get"], byref(self._owner.held), self.handle, byref(value)
+            for key in wanted:
+                values.append(value.value if key is not None and _is_yes(get(held, handle, key, place)) else None)
+        return values
+
+    def put_many(self, pairs: Union[Mapping[int, int], Iterable[Tuple[int, int]]]) -> None:
+        """Sets the values of these keys, one after the other, as `update` does, and sooner. It stops at the first that is refused: the
+        error's `done` says how many were set before."""
+        entries = [(_number(key), _number(value)) for key, value in (pairs.items() if isinstance(pairs, Mapping) else pairs)]
+        before, done = c_uint64(), 0
+        with self._owner.lock:
+            self._call("is_writable")
+            put, held, handle, place = _LIBRARY["put"], byref(self._owner.held), self.handle, byref(before)
+            try:
+                for key, value in entries:
+                    _is_yes(put(held, handle, key, value, place))
+                    done += 1
+            except Error as refused:
+                refused.done = done
+                raise
+
     def put_all(self, pairs: Union[Mapping[int, int], Iterable[Tuple[int, int]]]) -> None:
         """Sets the values of all these keys, or of none. (`update` sets one after the other, as a dictionary's, and what it has set before
         a refusal stays.) For the moment it takes one more handle, and slots for what it sets beside what was there."""
@@ -479,10 +490,10 @@ class _Handle(MutableMapping[int, int]):
     def diff(self, newer: _Handle) -> List[Difference]:
         """Returns the keys of which this map and a newer one, a copy of the same map, have different values, in ascending order. Its work
         goes by what was changed from one to the other, whatever else is there."""
-        handle, room, count = self._handle_beside(newer), _ROOM, c_uint64(_ROOM + 1)
+        room, count = _ROOM, c_uint64(_ROOM + 1)
         while True:
             found = (_Difference * room)()
-            self._call("diff", handle, found, room, byref(count))
+            self._call_beside("diff", newer, found, room, byref(count))
             if count.value <= room:
                 return [_difference(it) for it in found[: count.value]]
             room = count.value
@@ -490,7 +501,7 @@ class _Handle(MutableMapping[int, int]):
     def restore(self, copy: _Handle) -> None:
         """Goes back to what the copy has, which is one of the same map, a frozen one too, and stays. For the moment it takes one more
         handle."""
-        self._call("restore", self._handle_beside(copy))
+        self._call_beside("restore", copy)
 
     def snapshot(self) -> Copy:
         """Returns a copy that can be changed, of a frozen one too."""
@@ -515,35 +526,39 @@ class _Handle(MutableMapping[int, int]):
 
 class Copy(_Handle):
     """A snapshot or a freeze of a map, with a handle of its own. It is open until it is closed, by close(), by the end of a `with` or as
-    nothing refers to it any more; or until the map is. Closed, it raises `NoHandle`. Where another thread was the last that referred
-    to it, it is closed at the next call of a map on its own thread."""
+    nothing refers to it any more; or until the map is. Closed, it raises `NoHandle`. What nothing refers to any more while a call of
+    another thread is under way is closed at the next call of the map."""
 
     def close(self) -> None:
         """Gives the handle back, and what slots the copy alone has."""
-        if self.is_open:
-            self._call("close")
-        self._handle = None
+        with self._owner.lock:
+            if self.is_open:
+                self._call("close")
+            self._handle = None
 
     def __del__(self) -> None:
-        if self.is_open:
-            self._owner.thread.let_go(self._owner.held, self._handle)
+        if self._handle is not None and self._owner.is_open:
+            self._owner.let_go(self._handle)
         self._handle = None
 
 
 class Map(_Handle):
     """A map with the given number of slots for nodes, from 2 to 1,048,576: some 1.7 for each key, and more for what copies keep.
 
-    It is open until it is closed, by close(), by the end of a `with` or as nothing refers to it or to a copy of it any more; or until its
-    thread ends. Closed, it and its copies raise `Closed`. Where another thread was the last that referred to it, its memory is given back
-    at the next call of a map on its own thread."""
+    Instead of the slots it may be given the number of keys, as by `slots_for`.
 
-    def __init__(self, slots: int, hash: Hash = Hash.WIDE) -> None:
-        super().__init__(_Owner(slots, hash), 0)
+    It is open until it is closed, by close(), by the end of a `with` or as nothing refers to it or to a copy of it any more. Closed, it and
+    its copies raise `Closed`."""
+
+    def __init__(self, slots: Optional[int] = None, hash: Hash = Hash.WIDE, *, keys: Optional[int] = None) -> None:
+        if (slots is None) == (keys is None):
+            raise TypeError("a map takes a number of slots, or of keys")
+        super().__init__(_Owner(slots_for(keys) if slots is None else slots, hash), 0)
 
     def close(self) -> None:
         """Frees the map."""
-        if self._owner.is_open():
-            self._owner.check_thread()
+        with self._owner.lock:
+            self._owner.is_open = False
             self._owner.free()
 
     @property
