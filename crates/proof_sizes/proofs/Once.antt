@@ -1,5 +1,5 @@
 -- In what an indirection reaches no node is met twice: each has a level and a path of its own, and a single the hash of its key.
-use Rattle.std.proofs.Common.{◌≡◌, ◌≢◌, ℕ, zero, suc, ◌+◌, ◌*◌, ◌%◌, ◌^◌, ◌<◌, ◌≤◌, Bool, true, false, cond, List, [], ◌∷◌, Contains, sum_by, ◌⊎◌, inl, inr, Option, Some, None, refl, sym, ap, subst, ◌∙◌}
+use Rattle.std.proofs.Common.{◌≡◌, ◌≢◌, ℕ, zero, suc, ◌+◌, ◌*◌, ◌%◌, ◌^◌, ◌<◌, ◌≤◌, List, [], ◌∷◌, Contains, sum_by, ◌⊎◌, inl, inr, Option, Some, None, refl, sym, ap, subst, ◌∙◌}
 use Rattle.std.proofs.Common.{arith, mod-eq_of_lt, mod-lt, pow_pos}
 use Rattle.std.proofs.lemmas.Nat.{mod-pow-add, mod-mul-add}
 use Rattle.std.proofs.lemmas.List.Sums.{sum_by-cons}
@@ -15,14 +15,14 @@ use Rattle.proof_sizes.specs.Beneath.machine_model.proofs.Basics.{only_one}
 use Rattle.proof_sizes.specs.Beneath.proof_contents.specs.Beneath.nodes.specs.Levels.{index_in}
 use Rattle.proof_sizes.specs.Beneath.proof_contents.specs.Nodes.Branches.{at_place, standing}
 use Rattle.proof_sizes.specs.Beneath.proof_contents.specs.Nodes.Lists.{AreSingles}
-use Rattle.proof_sizes.specs.Beneath.proof_contents.specs.Nodes.Looking.{Absent, Found, Has, look_among, look_at, or_else}
+use Rattle.proof_sizes.specs.Beneath.proof_contents.specs.Nodes.Looking.{Absent, Has, look_among, or_else}
 use Rattle.proof_sizes.specs.Beneath.proof_contents.specs.Tries.{IsChild, IsShaped, Trie, branch, list, node_in, tomb}
 use Rattle.proof_sizes.specs.Beneath.proof_contents.proofs.Changes.Repairs.{same_factor}
 use Rattle.proof_sizes.specs.Beneath.proof_contents.proofs.Nodes.Changes.{look-other, look-same}
 use Rattle.proof_sizes.specs.Beneath.proof_contents.proofs.Nodes.Branches.{before, standing_at}
-use Rattle.proof_sizes.specs.Beneath.proof_contents.proofs.Shapes.Nodes.{child-depth, list_depth-le}
+use Rattle.proof_sizes.specs.Beneath.proof_contents.proofs.Shapes.Nodes.{child-depth}
 use Rattle.proof_sizes.specs.Beneath.proof_contents.proofs.Nodes.Tombs.{before-lt, place_of}
-use Rattle.proof_sizes.proofs.Weights.{sum_nothing, sum_same, weight_from, weight_link, weight_none, weight_single}
+use Rattle.proof_sizes.proofs.Weights.{sum_nothing, weight_from, weight_link, weight_none, weight_single}
 
 -- a path that begins with that of a child parts into that of its parent and the child's index
 parts : (x y p d : ℕ) → p < 2 ^ (5 * d) → x % 2 ^ (5 * suc d) ≡ p + y * 2 ^ (5 * d) → (index_in x d ≡ y) × (x % 2 ^ (5 * d) ≡ p)
@@ -73,6 +73,46 @@ sum_spread f b z (Some q ∷ places) none few =
         let first = few 0 q refl in
         omega (arith, sum_by-cons f q (standing places), rest, first)
     by later (no apart) = let first = none 0 q refl (λ is. apart (omega (arith, is))) in omega (arith, sum_by-cons f q (standing places), later, first)
+
+-- ---- entries
+
+-- an entry of a branch stands at a place
+pub placed : (es : List Ref) (places : List (Option Ref)) (e : Ref) → es ≡ standing places → Contains es e → (y : ℕ) × (at_place places y ≡ Some e)
+placed es places e stand within =
+    let c = subst (λ l. Contains l e) stand within in
+    let found = place_of places c.0 e c.1 in
+    (found.0, found.1 ∙ ap Some c.2)
+
+pub stands_in : (places : List (Option Ref)) (y : ℕ) (e : Ref) → at_place places y ≡ Some e → Contains (standing places) e
+stands_in places y e at = (before places y, before-lt places y e at, standing_at places y e e at)
+
+-- those of a list are singles
+pub singles_in : (node : Ref → Node) (singles : List Ref) (e : Ref) → AreSingles node singles → Contains singles e → (k : ℕ) × (v : ℕ) × (node e ≡ Single k v)
+singles_in node [] e are (n, lt, is) = absurd (omega (arith, lt))
+singles_in node (s ∷ singles) e are (zero, lt, is) = (are.0.key, are.0.value, ap node (sym is) ∙ are.0.is)
+singles_in node (s ∷ singles) e are (suc n, lt, is) = singles_in node singles e are.1 (n, omega (arith, lt), is)
+
+-- an indirection in a main node stands one level deeper
+pub deeper_by : (trie : Trie) (i e word : Ref) (h : ℕ) (n : Node) → IsShaped trie i n → Contains (entries_of n) e → trie.node e ≡ Indirection h word → trie.depth e ≡ suc (trie.depth i)
+deeper_by trie i e word h n (branch b es places n_is has shallow in_place led children) within is =
+    let at = placed (entries_of n) places e (ap entries_of n_is ∙ has.stand) within in (children at.0 h e word at.1 is).deeper
+deeper_by trie i e word h n (list singles n_is are most deep_is one_hash) within is =
+    let found = singles_in trie.node singles.items e are (subst (λ l. Contains l e) (ap entries_of n_is) within) in
+    absurd (let bad : Single found.0 found.1 ≡ Indirection h word = sym found.2 ∙ is in cc)
+deeper_by trie i e word h n (tomb s k v n_is own led) within is =
+    let same = only_one s e (subst (λ l. Contains l e) (ap entries_of n_is) within) in
+    absurd (let bad : Single k v ≡ Indirection h word = sym own ∙ ap trie.node same ∙ is in cc)
+
+-- and no deeper than the last level
+pub link_deep : (trie : Trie) (i e word : Ref) (h : ℕ) (n : Node) → IsShaped trie i n → Contains (entries_of n) e → trie.node e ≡ Indirection h word → trie.depth e ≤ 13
+link_deep trie i e word h n (branch b es places n_is has shallow in_place led children) within is =
+    let at = placed (entries_of n) places e (ap entries_of n_is ∙ has.stand) within in child-depth trie i at.0 e (children at.0 h e word at.1 is) shallow
+link_deep trie i e word h n (list singles n_is are most deep_is one_hash) within is =
+    let found = singles_in trie.node singles.items e are (subst (λ l. Contains l e) (ap entries_of n_is) within) in
+    absurd (let bad : Single found.0 found.1 ≡ Indirection h word = sym found.2 ∙ is in cc)
+link_deep trie i e word h n (tomb s k v n_is own led) within is =
+    let same = only_one s e (subst (λ l. Contains l e) (ap entries_of n_is) within) in
+    absurd (let bad : Single k v ≡ Indirection h word = sym own ∙ ap trie.node same ∙ is in cc)
 
 -- ---- kinds
 
@@ -141,7 +181,7 @@ module _ (trie : Trie) (t : ℕ) (fits : (i : Ref) → trie.path i < 2 ^ (5 * tr
 
   -- ---- singles
 
-  met_single : (levels k v : ℕ) (e : Ref) → trie.node e ≡ Single k v → (met levels e ≡ 0) ⊎ ((x ≡ e) × (met levels e ≡ 1))
+  pub met_single : (levels k v : ℕ) (e : Ref) → trie.node e ≡ Single k v → (met levels e ≡ 0) ⊎ ((x ≡ e) × (met levels e ≡ 1))
   met_single zero k v e is = inl (weight_none (once x) trie.node (trie.main t) e)
   met_single (suc levels) k v e is = by (ℕ_discrete x e)
     where
@@ -167,21 +207,6 @@ module _ (trie : Trie) (t : ℕ) (fits : (i : Ref) → trie.path i < 2 ^ (5 * tr
       ap (λ d. path_by (trie.node x) % 2 ^ (5 * d)) (sym c.deeper) ∙ s.led ∙ c.led in
       let both = parts (path_by (trie.node x)) y (trie.path i) (trie.depth i) (fits i) led in
       (both.0, record { deep = omega (arith, s.deep, c.deeper); led = both.1 })
-
-  -- an entry of a branch stands at a place
-  placed : (es : List Ref) (places : List (Option Ref)) (e : Ref) → es ≡ standing places → Contains es e → (y : ℕ) × (at_place places y ≡ Some e)
-  placed es places e stand within =
-      let c = subst (λ l. Contains l e) stand within in
-      let found = place_of places c.0 e c.1 in
-      (found.0, found.1 ∙ ap Some c.2)
-
-  stands_in : (places : List (Option Ref)) (y : ℕ) (e : Ref) → at_place places y ≡ Some e → Contains (standing places) e
-  stands_in places y e at = (before places y, before-lt places y e at, standing_at places y e e at)
-
-  singles_in : (node : Ref → Node) (singles : List Ref) (e : Ref) → AreSingles node singles → Contains singles e → (k : ℕ) × (v : ℕ) × (node e ≡ Single k v)
-  singles_in node [] e are (n, lt, is) = absurd (omega (arith, lt))
-  singles_in node (s ∷ singles) e are (zero, lt, is) = (are.0.key, are.0.value, ap node (sym is) ∙ are.0.is)
-  singles_in node (s ∷ singles) e are (suc n, lt, is) = singles_in node singles e are.1 (n, omega (arith, lt), is)
 
   -- ---- where it is met it stands
 
@@ -253,21 +278,11 @@ module _ (trie : Trie) (t : ℕ) (fits : (i : Ref) → trie.path i < 2 ^ (5 * tr
       by_single k v e_is (inl nothing) = nothing
       by_single k v e_is (inr some) = absurd (none k v (ap trie.node some.0 ∙ e_is))
 
-      by_shape : (h : ℕ) (w : Ref) → trie.node e ≡ Indirection h w → IsShaped trie i (node_in trie t i) → met levels e ≡ 0
-      by_shape h w e_is (branch b es places n_is has shallow in_place led children) =
-          let at = placed (entries_of (node_in trie t i)) places e (ap entries_of n_is ∙ has.stand) within in
-          let c = children at.0 h e w at.1 e_is in
-          by_below c.deeper (met_below levels h e w (under i e word g p is within) e_is (child-depth trie i at.0 e c shallow))
-      by_shape h w e_is (list singles n_is are most deep_is one_hash) =
-          let found = singles_in trie.node singles.items e are (subst (λ l. Contains l e) (ap entries_of n_is) within) in
-          absurd (let bad : Single found.0 found.1 ≡ Indirection h w = sym found.2 ∙ e_is in cc)
-      by_shape h w e_is (tomb s k v n_is own led) =
-          let same = only_one s e (subst (λ l. Contains l e) (ap entries_of n_is) within) in
-          absurd (let bad : Single k v ≡ Indirection h w = sym own ∙ ap trie.node same ∙ e_is in cc)
-
       by_kind : IsEntry (trie.node e) → met levels e ≡ 0
       by_kind (a_single k v e_is) = by_single k v e_is (met_single levels k v e e_is)
-      by_kind (a_link h w e_is) = by_shape h w e_is (shaped i)
+      by_kind (a_link h w e_is) =
+          let deeper = deeper_by trie i e w h (node_in trie t i) (shaped i) within e_is in
+          by_below deeper (met_below levels h e w (under i e word g p is within) e_is (link_deep trie i e w h (node_in trie t i) (shaped i) within e_is))
 
   -- singles of a list
   singles_none : (levels : ℕ) (singles : List Ref) (k v : ℕ) → AreSingles trie.node singles → look_among trie.node k singles ≡ Absent → trie.node x ≡ Single k v →
