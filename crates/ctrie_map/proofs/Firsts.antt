@@ -102,12 +102,12 @@ module _ (slots : ℕ) (hash : HashKind) where
 
   first_room : HandlesUseSlots → IsOfRun (first_state sizes) → LeavesRoom (first_state sizes)
   unfolding first_state
-  first_room use run handle root e =
-      let used = use (first_state sizes) handle root run e in let free = free_first (slots + reserve) (omega arith) in omega (arith, used, free)
+  first_room uses run handle root e =
+      let used = uses (first_state sizes) handle root run e in let free = free_first (slots + reserve) (omega arith) in omega (arith, used, free)
 
   first_calm : HandlesUseSlots → IsOfRun (first_state sizes) → IsCalm (first_state sizes)
   unfolding first_state
-  first_calm use run = record { one = refl; life = refl; rest = refl; clean = refl; room = first_room use run }
+  first_calm uses run = record { one = refl; life = refl; rest = refl; clean = refl; room = first_room uses run }
 
   is_first : AreBounds sizes → world_of (first_state sizes) ≡ first_world
   unfolding run_from first_state
@@ -137,14 +137,14 @@ module _ (slots : ℕ) (hash : HashKind) where
   )
 
   first_whole : AreBounds sizes → HandlesUseSlots → IsOfRun (first_state sizes) → IsWhole map_of
-  first_whole ok use run = record { calm = first_calm use run; named = subst (λ w. AreNamesOf w first_names) (sym (is_first ok)) named }
+  first_whole ok uses run = record { calm = first_calm uses run; named = subst (λ w. AreNamesOf w first_names) (sym (is_first ok)) named }
 
   same_map : (state : State) → state ≡ first_state sizes → (names : NameTable) → names ≡ first_names → map_with state names ≡ map_of
   same_map state is names same = ap (λ s. map_with s names) is ∙ ap (map_with (first_state sizes)) same
 
   pub whole : (state : State) → state ≡ first_state sizes → AreBounds sizes → HandlesUseSlots → IsOfRun state → (names : NameTable) → names ≡ first_names →
       IsWhole (map_with state names)
-  whole state is ok use run names same = subst IsWhole (sym (same_map state is names same)) (first_whole ok use (subst IsOfRun is run))
+  whole state is ok uses run names same = subst IsWhole (sym (same_map state is names same)) (first_whole ok uses (subst IsOfRun is run))
 
   pub is_new : (state : State) → state ≡ first_state sizes → AreBounds sizes → AreSlots slots → (names : NameTable) → names ≡ first_names → IsNew slots hash (map_with state names)
   is_new state is ok asked names same = subst (IsNew slots hash) (sym (same_map state is names same)) (first_new ok asked)

@@ -12,7 +12,7 @@ use Rattle.ctrie_map.specs.declared.errors.MapError.TheVariants as error
 use Rattle.ctrie_map.specs.Changes.{HasKey, IsAlone, IsFullFor, Refuses, core_call}
 use Rattle.ctrie_map.specs.Cores.{LacksSlotsBy, adds, is_without}
 use Rattle.ctrie_map.specs.Maps.{MapState, handles_of}
-use Rattle.ctrie_map.specs.Popping.{RefusesPop}
+use Rattle.ctrie_map.specs.Popping.{RefusesPop, key_in}
 use Rattle.ctrie_map.specs.Updating.{IsDenied, giving}
 use Rattle.ctrie_map.proofs.Changing.{told_of}
 
@@ -43,7 +43,7 @@ pub denied_full : (before : MapState) (handle key : ℕ) → IsDenied before han
 denied_full before handle key e = told_of before (call.Remove handle key) error.Full e
 
 pub pop_goes_on : (before : MapState) (handle : ℕ) (after : MapState) → IsAlone before → RefusesPop before handle after error.Full → ⊥
-pop_goes_on before handle after alone (found, reads, refuses) = never_full before _ ⊥ after alone refl refuses
+pop_goes_on before handle after alone (found, reads, refuses) = never_full before (call.Remove handle (key_in found)) ⊥ after alone refl refuses
 
 -- what is told of a call that has no slots
 pub is_full : {A : Type 0} (said : Result Reply MapError → Result A MapError) (told : Result A MapError) (result : Result Reply MapError) → told ≡ said result → result ≡ Ok NoSlots →

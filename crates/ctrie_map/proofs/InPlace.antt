@@ -1,5 +1,5 @@
 -- Keys that are taken out of a map itself, where no other handle is open.
-use Rattle.std.specs.Prelude.{◌≡◌, ◌≤◌, ◌*◌, ℕ, false, is_some, List, [], ◌∷◌, Some}
+use Rattle.std.specs.Prelude.{◌≡◌, ◌≤◌, ◌*◌, ℕ, false, is_some, List, [], ◌∷◌, Some, Result, Ok, Err, IfOk, IfErr}
 use Rattle.std.specs.FinMap as map
 use Rattle.std.proofs.Common.{refl, sym, ap, subst, inl, inr, arith, ◌∙◌}
 use Rattle.ctrie_base.specs.Hashes.{hash_of}
@@ -14,7 +14,7 @@ use Rattle.ctrie_map.specs.declared.errors.MapError.TheVariants as error
 use Rattle.ctrie_map.specs.declared.names.Name.{Name}
 use Rattle.ctrie_map.specs.Batches.{CanCopy, ChangesAll, ChangesEach, FindsNoneAmong, HasLifeFor, Stops, changed_all, work_of_changes}
 use Rattle.ctrie_map.specs.Costs.{work_of_a_change}
-use Rattle.ctrie_map.specs.Drafts.{is_worn_out_by}
+use Rattle.ctrie_map.specs.Drafts.{HasMap, is_worn_out_by}
 use Rattle.ctrie_map.specs.Maps.{IsWhole, MapState, handles_of, map_with}
 use Rattle.ctrie_map.specs.Names.{AreNamesOf, NameTable, handles_under, how_many, name_at}
 use Rattle.ctrie_map.proofs.ByName.{shown_with}
@@ -75,6 +75,43 @@ module _ (before : State) (names : NameTable) (whole : IsWhole (map_with before 
         ),
       ),
     )
+
+  -- what it comes to
+  module _ (after : State) (result : Result (Unit {0}) MapError)
+      (changes : IfOk result (λ _. (n : KeyMap) → HasMap (world_of before) name.core n → ChangesEach Removes name.core n pairs before after))
+      (stops : IfErr result (λ why. (n : KeyMap) → HasMap (world_of before) name.core n → Stops Removes name.core n pairs before after why)) where
+    never_err : (why : MapError) → result ≡ Err why → ⊥
+    never_err why is =
+        never_refused after why (subst (λ r. IfErr r (λ why. (n : KeyMap) → HasMap (world_of before) name.core n → Stops Removes name.core n pairs before after why)) is stops m
+        (whole.named.stands handle name can.0).1)
+
+    done : (r : Result (Unit {0}) MapError) → result ≡ r → ChangesEach Removes name.core m pairs before after
+    done (Ok d) is =
+        subst (λ r. IfOk r (λ _. (n : KeyMap) → HasMap (world_of before) name.core n → ChangesEach Removes name.core n pairs before after)) is changes m
+        (whole.named.stands handle name can.0).1
+    done (Err why) is = absurd (never_err why is)
+
+    pub named_if : AreNamesOf (world_of after) names
+    named_if = still_named after (done result refl)
+
+    pub done_if : HasLifeFor now pairs → IfOk result (λ _. ChangesAll Removes now handle pairs (map_with after names))
+    done_if life = by_result result
+      where
+        by_result : (r : Result (Unit {0}) MapError) → IfOk r (λ _. ChangesAll Removes now handle pairs (map_with after names))
+        by_result (Ok d) = removes_all after (done result refl) life
+        by_result (Err why) = tt
+
+    pub none_if : (Q : MapError → Type 0) → IfErr result Q
+    none_if Q = by_result result refl
+      where
+        by_result : (r : Result (Unit {0}) MapError) → result ≡ r → IfErr r Q
+        by_result (Ok d) is = tt
+        by_result (Err why) is = absurd (never_err why is)
+
+-- where two handles are open, this is so whatever is told
+pub others_if : (told : Result (Unit {0}) MapError) (Full : MapError → Type 0) (many : ℕ) → 2 ≤ many → IfErr told (λ why. Full why → 2 ≤ many)
+others_if (Ok done) Full many two = tt
+others_if (Err why) Full many two = λ full. two
 
 -- a copy more would want no less life
 pub lives_in_place : (many : ℕ) (before : State) → is_worn_out_by (work_of_changes many) before ≡ false → is_worn_out_by (work_of_a_change * many) before ≡ false

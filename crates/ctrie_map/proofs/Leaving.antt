@@ -5,6 +5,7 @@ use Rattle.std.specs.FinMap.{empty_of_len, get-empty}
 use Rattle.std.proofs.Common.{refl, sym, ap, subst, arith, eqb-true, leb-false, leb-true, nat_cmp, ◌∙◌}
 use Rattle.std.proofs.lemmas.Bool.{false≢true, true≢false}
 use Rattle.ctrie_base.specs.Hashes.{hash_of}
+use Rattle.history.specs.declared.calls.Access.TheVariants.{Writable}
 use Rattle.history.specs.declared.calls.Call.{Call}
 use Rattle.history.specs.declared.calls.Call.TheVariants as call
 use Rattle.history.specs.declared.replies.Reply.{Reply}
@@ -73,21 +74,27 @@ open_if before c allowed = by_shown (map.get (world_of before) (handle_of c)) al
 
 -- ---- what adds a key
 
+abbrev put_here : KeyMap → ℕ → ℕ → Bool → Reply × KeyMap
+put_here m k v b = if b then (Crowded, m) else (Found (map.get m k), map.insert m k v)
+
+abbrev put_if_there : Reply × KeyMap → KeyMap → ℕ → Bool → Reply × KeyMap
+put_if_there put m k b = if b then (Found (map.get m k), m) else put
+
 put_none : (hash : ℕ → ℕ) (m : KeyMap) (k v : ℕ) → Found None ≡ (put_in hash m k v).0 → map.contains_key m k ≡ false
 put_none hash m k v e = by_crowd (is_crowded hash m k) e
   where
-    by_crowd : (b : Bool) → Found None ≡ (if b then (Crowded, m) else (Found (map.get m k), map.insert m k v)).0 → map.contains_key m k ≡ false
+    by_crowd : (b : Bool) → Found None ≡ (put_here m k v b).0 → map.contains_key m k ≡ false
     by_crowd true e = cc e
     by_crowd false e = let none : map.get m k ≡ None = cc e in ap is_some none
 
 absent_none : (hash : ℕ → ℕ) (m : KeyMap) (k v : ℕ) → Found None ≡ (put_if_absent_in hash m k v).0 → map.contains_key m k ≡ false
 absent_none hash m k v e = by_there (map.contains_key m k) refl e
   where
-    by_there : (b : Bool) → map.contains_key m k ≡ b → Found None ≡ (if b then (Found (map.get m k), m) else put_in hash m k v).0 → map.contains_key m k ≡ false
+    by_there : (b : Bool) → map.contains_key m k ≡ b → Found None ≡ (put_if_there (put_in hash m k v) m k b).0 → map.contains_key m k ≡ false
     by_there true is e = let none : map.get m k ≡ None = cc e in ap is_some none
     by_there false is e = is
 
-without_so : (o : Option HandleState) (m : KeyMap) (k : ℕ) → o ≡ Some (record { access = _; pairs = m }) → map.contains_key m k ≡ false → is_without o k ≡ true
+without_so : (o : Option HandleState) (m : KeyMap) (k : ℕ) → o ≡ Some (record { access = Writable; pairs = m }) → map.contains_key m k ≡ false → is_without o k ≡ true
 without_so o m k at none = rw at (rw none refl)
 
 -- a call that has added a key was to add one
@@ -128,7 +135,7 @@ pub roomy : (state : State) (c : Call) → (nat_eq (free_in state) 0 && adds (wo
 roomy state c e is = by_free (nat_eq (free_in state) 0) refl
   where
     by_free : (b : Bool) → nat_eq (free_in state) 0 ≡ b → reserve < length state.heap.free
-    by_free true zero = absurd (false≢true (sym e ∙ ap (λ b. b && adds (world_of state) c) zero ∙ is))
+    by_free true none = absurd (false≢true (sym e ∙ ap (λ b. b && adds (world_of state) c) none ∙ is))
     by_free false some = grind (arith, some)
 
 module _ (laws : SizeLaws) (before : State) (c : Call) (calm : IsCalm before) (can : CanCall before the_actor c) (allowed : core_denial before c ≡ None)

@@ -36,9 +36,9 @@ pub refused_then : {P Q : MapError → Type 0} → ((why : MapError) → P why �
 refused_then so (Ok done) p = tt
 refused_then so (Err why) p = so why p
 
-pub both_if : {P Q : MapError → Type 0} → (told : Result (Unit {0}) MapError) → IfErr told P → IfErr told Q → IfErr told (λ why. P why × Q why)
-both_if (Ok done) p q = tt
-both_if (Err why) p q = (p, q)
+pub both_if : (P Q : MapError → Type 0) (told : Result (Unit {0}) MapError) → IfErr told P → IfErr told Q → IfErr told (λ why. P why × Q why)
+both_if P Q (Ok done) p q = tt
+both_if P Q (Err why) p q = (p, q)
 
 pub some_unwanted : (pairs : List (ℕ × ℕ)) → nat_eq (length pairs) 0 ≡ false → pairs ≢ []
 some_unwanted pairs e none = cc (sym e ∙ ap (λ xs. nat_eq (length xs) 0) none)

@@ -53,6 +53,6 @@ returns-clause-refused g c =
     (map_with c.remove_all.new.core.state c.remove_all.new.names)
     (subst (λ xs. TakesUpTo (work_of_changes (length xs) + work_of_a_close) c.args.core.now.state c.remove_all.new.core.state) c.as_slice.ensures.value c.remove_all.ensures.work) why p.0 p.1)
     c.remove_all.result
-    (both_if c.remove_all.result
+    (both_if _ _ c.remove_all.result
     (subst (λ xs. IfErr c.remove_all.result (RefusesBatch Removes (map_with c.args.core.now.state c.args.names.now) c.args.handle xs (map_with c.remove_all.new.core.state c.remove_all.new.names)))
     c.as_slice.ensures.value c.remove_all.ensures.refused) c.remove_all.ensures.others)
