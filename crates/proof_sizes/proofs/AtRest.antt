@@ -12,7 +12,8 @@ use Rattle.proof_sizes.specs.Beneath.slot_arena.specs.declared.nodes.Prev.TheVar
 use Rattle.proof_sizes.specs.Beneath.slot_arena.specs.declared.refs.Ref.{Ref}
 use Rattle.proof_sizes.specs.Beneath.slot_arena.specs.declared.nodes.Slot.{Slot}
 use Rattle.proof_sizes.specs.Beneath.slot_arena.specs.Arenas.{is_main_node}
-use Rattle.proof_sizes.specs.Beneath.slot_arena.specs.Heaps.{Heap, entries_of, logical, logical_main, main_at, main_of, node_at, node_of, prev_at, prev_of, refs_of_node, refs_of_prev, refs_of_slot, stored}
+use Rattle.proof_sizes.specs.Beneath.slot_arena.specs.Heaps.{Heap, entries_of, logical, logical_main, main_at, main_of, node_at, node_of, prev_at, prev_of}
+use Rattle.proof_sizes.specs.Beneath.slot_arena.specs.Heaps.{refs_of_node, refs_of_prev, refs_of_slot, stored}
 use Rattle.proof_sizes.specs.Beneath.slot_arena.specs.Times.{times}
 use Rattle.proof_sizes.specs.Beneath.slot_arena.proofs.Times.{once, once_other, once_same}
 use Rattle.proof_sizes.specs.Beneath.machine_model.specs.declared.operations.Operation.{Operation}
@@ -65,7 +66,7 @@ use Rattle.proof_sizes.proofs.Weights.{weight_at, weight_from, weight_link, weig
 
 -- ---- sums
 
-some_of : {X : Type 0} (f : X → ℕ) (xs : List X) → 0 < sum_by f xs → (x : X) × Contains xs x × (0 < f x)
+pub some_of : {X : Type 0} (f : X → ℕ) (xs : List X) → 0 < sum_by f xs → (x : X) × Contains xs x × (0 < f x)
 some_of f [] some = absurd (omega (arith, some))
 some_of {X} f (x ∷ xs) some = by (f x) refl (some_of f xs)
   where
@@ -343,7 +344,8 @@ module _ (limits : Bounds) (states : ℕ → State) (steps : ℕ → Step) (last
         let node = indirection_is (node_under states last top) (root_link limits states steps last run takes keys last (omega arith) handle root at) in
         let deep = root_deep limits states steps last run takes keys last (omega arith) handle root at in (
           in_any_slot (states last) safe q r within,
-          met_on q r used_q within most_levels node.0 top node.1 (root_used limits states steps last run takes keys last (omega arith) handle root at) node.2 (omega (arith, deep)) (omega (arith, deep)) met_q,
+          met_on q r used_q within most_levels node.0 top node.1
+              (root_used limits states steps last run takes keys last (omega arith) handle root at) node.2 (omega (arith, deep)) (omega (arith, deep)) met_q,
         )
 
     pub reached_stands : (r : Ref) → IsReached (states last) r → 0 < times r (nodes_of (states last) handle)

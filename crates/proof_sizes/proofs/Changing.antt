@@ -48,7 +48,8 @@ module _ (trie : Trie) (t : ℕ) (end : trie.last ≡ suc t) (shaped : (n : ℕ)
 
   module _ (levels : ℕ) (rest : IsNoMore trie t i others 0 levels) where
     -- an entry that stays leads to no more
-    entry_stays : (entry other : Ref) → Contains (entries_of (node_in trie (suc t) i)) other → Stays trie (generation trie i) t entry other → now trie t i others 0 levels other ≤ was trie t i others 0 levels entry
+    entry_stays : (entry other : Ref) → Contains (entries_of (node_in trie (suc t) i)) other → Stays trie (generation trie i) t entry other →
+        now trie t i others 0 levels other ≤ was trie t i others 0 levels entry
     entry_stays entry other within (kept same) = subst (λ r. now trie t i others 0 levels r ≤ was trie t i others 0 levels entry) same (rest entry)
     entry_stays entry other within (renewed_by h word word' is apart fresh main) =
         let deeper = deeper_by trie i other word' (generation trie i) (node_in trie (suc t) i) (shaped (suc t) i (omega arith)) within fresh in
@@ -56,7 +57,8 @@ module _ (trie : Trie) (t : ℕ) (end : trie.last ≡ suc t) (shaped : (n : ℕ)
         others other (λ e. omega (arith, deeper, ap trie.depth e)) ∙ main ∙ ap (λ n. trie.main n entry) end in
         let alike = links_alike trie t i others 0 levels (generation trie i) h other entry word' word fresh is same in
         omega (arith, alike, rest entry)
-    entry_stays entry other within (untombed h word is tomb) = by_single (tomb_shape trie entry (trie.node (assigned trie (generation trie i) t entry)) other (shaped_assigned (generation trie i) entry) tomb)
+    entry_stays entry other within (untombed h word is tomb) =
+        by_single (tomb_shape trie entry (trie.node (assigned trie (generation trie i) t entry)) other (shaped_assigned (generation trie i) entry) tomb)
       where
         by_single : IsTomb trie entry other → now trie t i others 0 levels other ≤ was trie t i others 0 levels entry
         by_single s = let least = single_least trie t i others 0 levels s.key s.value h other entry word s.is is in omega (arith, least, rest entry)
@@ -132,7 +134,8 @@ module _ (trie : Trie) (t : ℕ) (end : trie.last ≡ suc t) (shaped : (n : ℕ)
 
     module _ (levels : ℕ) where
       -- a list that is cut, with an element more
-      cut : (old_list new_list : List Ref) (more : ℕ) (old new : Node) → entries_of old ≡ old_list → entries_of new ≡ take 32 new_list → sum_by (F levels) new_list ≤ sum_by (F levels) old_list + more →
+      cut : (old_list new_list : List Ref) (more : ℕ) (old new : Node) → entries_of old ≡ old_list → entries_of new ≡ take 32 new_list →
+          sum_by (F levels) new_list ≤ sum_by (F levels) old_list + more →
           sum_by (F levels) (entries_of new) ≤ sum_by (F levels) (entries_of old) + more
       cut old_list new_list more old new o n h = omega (arith, ap (sum_by (F levels)) o, ap (sum_by (F levels)) n, sum_by-take-le (F levels) new_list 32, h)
 

@@ -69,7 +69,8 @@ module _ (trie : Trie) (t : ℕ) (i : Ref) (others : LeavesOthers trie t i) (mor
               subst (λ m. sum_by (now levels) (entries_of (trie.node m)) ≤ sum_by (was levels) (entries_of (node_in trie t r))) (sym (others r apart))
               (sum_by-le-sum_by (now levels) (was levels) (entries_of (node_in trie t r)) rest) in
               omega (arith, after, before, inside, heavier_some i more r, heavier_some i more (trie.main t r))
-      by_node rest (Single k v) is = omega (arith, weight_single one trie.node (trie.main (suc t)) levels k v r is, weight_single (heavier i more) trie.node (trie.main t) levels k v r is, heavier_some i more r)
+      by_node rest (Single k v) is =
+          omega (arith, weight_single one trie.node (trie.main (suc t)) levels k v r is, weight_single (heavier i more) trie.node (trie.main t) levels k v r is, heavier_some i more r)
       by_node rest (Branch b es) is = alone (Branch b es) is refl refl
       by_node rest (Tomb s) is = alone (Tomb s) is refl refl
       by_node rest (Listed ss) is = alone (Listed ss) is refl refl
@@ -86,7 +87,8 @@ module _ (trie : Trie) (t : ℕ) (i : Ref) (others : LeavesOthers trie t i) (mor
   singles_alike (suc levels) k v q w r s a b = weight_single one trie.node (trie.main (suc t)) levels k v r a ∙ sym (weight_single one trie.node (trie.main (suc t)) levels q w s b)
 
   -- indirections over one main node
-  pub links_alike : (levels g h : ℕ) (r s word word' : Ref) → trie.node r ≡ Indirection g word → trie.node s ≡ Indirection h word' → trie.main (suc t) r ≡ trie.main (suc t) s → now levels r ≡ now levels s
+  pub links_alike : (levels g h : ℕ) (r s word word' : Ref) → trie.node r ≡ Indirection g word → trie.node s ≡ Indirection h word' → trie.main (suc t) r ≡ trie.main (suc t) s →
+      now levels r ≡ now levels s
   links_alike zero g h r s word word' a b same = weight_none one trie.node (trie.main (suc t)) r ∙ sym (weight_none one trie.node (trie.main (suc t)) s)
   links_alike (suc levels) g h r s word word' a b same =
       weight_link one trie.node (trie.main (suc t)) levels g r word a ∙ ap (λ m. 1 + 1 + sum_by (now levels) (entries_of (trie.node m))) same

@@ -41,9 +41,10 @@ use Rattle.proof_alone.proofs.Steps.{begun}
 use Rattle.proof_alone.proofs.Sweeping.{clean_is_reached}
 use Rattle.proof_sizes.specs.Beneath.proof_memory.specs.Sweeping.{UsesReached}
 use Rattle.proof_alone.proofs.Telling.{told_at_end}
-use Rattle.proof_sizes.specs.Growth.{CallsGrowLittle, CopiesAreNoLarger, SweepsKeepNodes, growth}
+use Rattle.proof_sizes.specs.Growth.{CallsGrowLittle, CopiesAreNoLarger, OthersGrowNothing, SweepsKeepNodes, growth}
 use Rattle.proof_sizes.specs.Nodes.{HandlesUseSlots, OneHandleUsesAll, nodes_of}
 use Rattle.proof_sizes.proofs.Alone.{grown_little, no_larger}
+use Rattle.proof_sizes.proofs.Alone.{others_grow_nothing as others_small}
 use Rattle.proof_sizes.proofs.Steps.{SweepKeeps, sweep_keeps}
 use Rattle.proof_sizes.specs.Beneath.proof_updates.proofs.Handles.OfLists.{of_step}
 use Rattle.proof_sizes.proofs.Slots.{all_nodes, few_nodes}
@@ -67,7 +68,8 @@ one_handle_uses_all state handle root of_run at rest swept only =
     (λ s. root_at s handle ≡ Some root → is_busy s ≡ false → UsesReached s → ((other : ℕ) → other ≢ handle → root_at s other ≡ None) → length (nodes_of s handle) + length s.heap.free ≡ s.limits.slots)
     by state of_run at rest (clean_is_reached state of_run rest swept).0 only
   where
-    by : (limits : Bounds) (steps : List Step) → AreBounds limits → KeysFit steps → root_at (run limits steps) handle ≡ Some root → is_busy (run limits steps) ≡ false → UsesReached (run limits steps) →
+    by : (limits : Bounds) (steps : List Step) → AreBounds limits → KeysFit steps → root_at (run limits steps) handle ≡ Some root → is_busy (run limits steps) ≡ false →
+        UsesReached (run limits steps) →
         ((other : ℕ) → other ≢ handle → root_at (run limits steps) other ≡ None) → length (nodes_of (run limits steps) handle) + length (run limits steps).heap.free ≡ (run limits steps).limits.slots
     by limits steps ok fit at rest uses only =
         let ends = run_ends limits steps in
@@ -186,20 +188,35 @@ module _ (limits : Bounds) (steps : List Step) (ok : AreBounds limits) (keys : K
     grows root at =
         subst (λ s. length (nodes_of s handle) ≤ length (nodes_of (run limits steps) handle) + growth call answer) after_is
         (subst (λ s. length (nodes_of (states_of limits all last) handle) ≤ length (nodes_of s handle) + growth call answer) before_is
-        (grown_little limits (states_of limits all) (steps_of limits all) last is_run (takes_steps limits all) (keys_fit limits all all_fit_keys) noted_each start actor call more at_rest begins_at goes_at answer
+        (grown_little limits (states_of limits all) (steps_of limits all) last is_run (takes_steps limits all) (keys_fit limits all all_fit_keys) noted_each
+        start actor call more at_rest begins_at goes_at answer
         ended_there handle root now (ap (λ s. root_at s handle) before_is ∙ at) at_last))
+
+    pub stays_small : handle ≢ handle_of call → (root : Root) → root_at (run limits steps) handle ≡ Some root → length (nodes_of after handle) ≤ length (nodes_of (run limits steps) handle)
+    stays_small apart root at =
+        subst (λ s. length (nodes_of s handle) ≤ length (nodes_of (run limits steps) handle)) after_is
+        (subst (λ s. length (nodes_of (states_of limits all last) handle) ≤ length (nodes_of s handle)) before_is
+        (others_small limits (states_of limits all) (steps_of limits all) last is_run (takes_steps limits all) (keys_fit limits all all_fit_keys) noted_each
+        start actor call more at_rest begins_at goes_at answer
+        ended_there handle root now apart (ap (λ s. root_at s handle) before_is ∙ at) at_last))
 
     pub opens_no_larger : root_at (run limits steps) handle ≡ None → length (nodes_of after handle) ≤ length (nodes_of (run limits steps) (handle_of call))
     opens_no_larger shut =
         subst (λ s. length (nodes_of s handle) ≤ length (nodes_of (run limits steps) (handle_of call))) after_is
         (subst (λ s. length (nodes_of (states_of limits all last) handle) ≤ length (nodes_of s (handle_of call))) before_is
-        (no_larger limits (states_of limits all) (steps_of limits all) last is_run (takes_steps limits all) (keys_fit limits all all_fit_keys) noted_each start actor call more at_rest begins_at goes_at answer
+        (no_larger limits (states_of limits all) (steps_of limits all) last is_run (takes_steps limits all) (keys_fit limits all all_fit_keys) noted_each
+        start actor call more at_rest begins_at goes_at answer
         ended_there handle now (ap (λ s. root_at s handle) before_is ∙ shut) at_last))
 
 pub calls_grow_little : CallsGrowLittle
 calls_grow_little before actor call can n answer after h handle root now at at_now =
     by_run (λ s. CanCall s actor call → Comes s actor call n answer after → root_at s handle ≡ Some root → length (nodes_of after handle) ≤ length (nodes_of s handle) + growth call answer)
     (λ limits steps ok keys can h at. grows limits steps ok keys actor call can n answer after h handle now at_now root at) before can.of_run can h at
+
+pub others_grow_nothing : OthersGrowNothing
+others_grow_nothing before actor call can n answer after h handle root now apart at at_now =
+    by_run (λ s. CanCall s actor call → Comes s actor call n answer after → root_at s handle ≡ Some root → length (nodes_of after handle) ≤ length (nodes_of s handle))
+    (λ limits steps ok keys can h at. stays_small limits steps ok keys actor call can n answer after h handle now at_now apart root at) before can.of_run can h at
 
 pub copies_are_no_larger : CopiesAreNoLarger
 copies_are_no_larger before actor call can n answer after h handle now shut at_now =

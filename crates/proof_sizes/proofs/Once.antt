@@ -244,7 +244,8 @@ module _ (trie : Trie) (t : ℕ) (fits : (i : Ref) → trie.path i < 2 ^ (5 * tr
               by_rest c (inr s) = inr (child_below i e at.0 c s).1
       by_shape rest (list singles n_is are most deep_is one_hash) e within =
           let found = singles_in trie.node singles.items e are (subst (λ l. Contains l e) (ap entries_of n_is) within) in
-          single_by e found.0 found.1 found.2 (ap (λ h. h % 2 ^ (5 * trie.depth i)) (one_hash found.0 found.1 (among singles.items are (subst (λ l. Contains l e) (ap entries_of n_is) within) found.0 found.1 found.2)) ∙ mod-eq_of_lt (fits i))
+          let hash_is = one_hash found.0 found.1 (among singles.items are (subst (λ l. Contains l e) (ap entries_of n_is) within) found.0 found.1 found.2) in
+          single_by e found.0 found.1 found.2 (ap (λ h. h % 2 ^ (5 * trie.depth i)) hash_is ∙ mod-eq_of_lt (fits i))
         where
           among : (ss : List Ref) → AreSingles trie.node ss → Contains ss e → (k v : ℕ) → trie.node e ≡ Single k v → look_among trie.node k ss ≡ Has v
           among ss are within k v e_is = listed_has trie.node ss e k v are within e_is

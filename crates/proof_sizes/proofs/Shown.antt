@@ -220,6 +220,7 @@ module _ (limits : Bounds) (states : ℕ → State) (steps : ℕ → Step) (last
     pub nodes_once : (x : Ref) → times x (nodes_of (states t) handle) ≤ 1
     nodes_once x =
         let node = indirection_is (node_under states last r) link in
-        let few = met_once trie t shape.path_fits (λ i. shape.shaped t i within) (IsInUse heap) under kinds (λ m. depth_at (level_until states steps last m)) (path_until states steps last) sites x most_levels
+        let few = met_once trie t shape.path_fits (λ i. shape.shaped t i within) (IsInUse heap) under kinds
+        (λ m. depth_at (level_until states steps last m)) (path_until states steps last) sites x most_levels
         node.0 r node.1 used_root node.2 (omega (arith, root_deep limits states steps last run takes keys t within handle root at)) in
         omega (arith, handle_weighs (once x), few)

@@ -54,8 +54,8 @@ lives_in_use : (heap : Heap) (r : Ref) → IsLive heap r → IsInUse heap r
 lives_in_use heap r live = by (stored heap r) refl live
   where
     by_birth : (slot : Slot) → stored heap r ≡ Some slot → (b : Bool) → (slot.birth == birth_of r) ≡ b → b ≡ true → IsInUse heap r
-    by_birth slot is true e yes_ = (slot, ap (of_birth (birth_of r)) is ∙ ap (λ c. cond c (Some slot) None) e)
-    by_birth slot is false e yes_ = absurd (false≢true yes_)
+    by_birth slot is true e same = (slot, ap (of_birth (birth_of r)) is ∙ ap (λ c. cond c (Some slot) None) e)
+    by_birth slot is false e same = absurd (false≢true same)
 
     by : (o : Option Slot) → stored heap r ≡ o → has_birth (birth_of r) o ≡ true → IsInUse heap r
     by None is e = absurd (false≢true e)

@@ -1,7 +1,8 @@
 -- What each step of a run does to the nodes of handles.
-use Rattle.std.proofs.Common.{◌≡◌, ℕ, suc, ◌+◌, ◌≤◌, ◌==◌, Bool, true, false, cond, List, [], ◌∷◌, length, sum_by, ◌⊎◌, inl, inr, Option, Some, None, refl, sym, ap, subst, ◌∙◌, arith}
+use Rattle.std.proofs.Common.{zero, ◌<◌, ◌≡◌, ℕ, suc, ◌+◌, ◌≤◌, ◌==◌, Bool, true, false, cond, List, [], ◌∷◌, length, sum_by, ◌⊎◌, inl, inr, Option, Some, None, refl, sym, ap, subst, ◌∙◌, arith}
 use Rattle.std.proofs.lemmas.List.Sums.{sum_by-cons, sum_by-le-sum_by}
 use Rattle.std.proofs.lemmas.Option.{none-some, same_Some}
+use native.Mathlib.Decide.{ℕ_discrete}
 use Rattle.proof_sizes.specs.Beneath.history.specs.declared.calls.Call.{Call}
 use Rattle.proof_sizes.specs.Beneath.history.specs.declared.calls.Call.TheVariants.{Close, Freeze, Snapshot}
 use Rattle.proof_sizes.specs.Beneath.slot_arena.specs.declared.refs.Ref.{Ref}
@@ -55,18 +56,19 @@ use Rattle.proof_sizes.proofs.Weights.{nodes_alike, nodes_from, one, size_from, 
 
 -- ---- what a step does
 
--- it commits an operation's change of its key, which had no value and is given one
-pub record AddsKey (before : State) (s : Step) : Type 0 where
+-- it commits an operation's change of its key, which had no value and is given one, below a node of the handle
+pub record AddsKey (before : State) (s : Step) (handle : ℕ) : Type 0 where
   pub indirection : Ref
   pub call : Call
   pub commits : CommitsUpdate before s indirection call None
   pub gives : inserts call ≡ true
+  pub reached : 0 < times indirection (nodes_of before handle)
 
 -- the nodes of a handle become no more, but where a key is added, and then so many at most
 abbrev pub StepsGrowLittle : Bounds → State → Step → State → Type 0
 StepsGrowLittle limits before s after =
     (handle : ℕ) (root now : Root) → root_at before handle ≡ Some root → root_at after handle ≡ Some now →
-    (length (nodes_of after handle) ≤ length (nodes_of before handle)) ⊎ (AddsKey before s × (length (nodes_of after handle) ≤ length (nodes_of before handle) + most_growth))
+    (length (nodes_of after handle) ≤ length (nodes_of before handle)) ⊎ (AddsKey before s handle × (length (nodes_of after handle) ≤ length (nodes_of before handle) + most_growth))
 
 -- the call copies this handle
 pub data Copies (copied : ℕ) : Call → Type 0 where
@@ -77,7 +79,8 @@ pub data Copies (copied : ℕ) : Call → Type 0 where
 abbrev pub OpenedNoLarger : Bounds → State → Step → State → Type 0
 OpenedNoLarger limits before s after =
     (handle : ℕ) (now : Root) → root_at before handle ≡ None → root_at after handle ≡ Some now →
-    (copied : ℕ) × (call : Call) × Copies copied call × CarriesOutCall before s call (Some handle) × ((root : Root) × (root_at before copied ≡ Some root)) × (length (nodes_of after handle) ≤ length (nodes_of before copied))
+    (copied : ℕ) × (call : Call) × Copies copied call × CarriesOutCall before s call (Some handle) × ((root : Root) × (root_at before copied ≡ Some root))
+    × (length (nodes_of after handle) ≤ length (nodes_of before copied))
 
 -- ---- lists in which one number weighs more
 
@@ -139,15 +142,23 @@ module _ (limits : Bounds) (states : ℕ → State) (steps : ℕ → Step) (t : 
         let few = heavy_once i more (nodes_of (states t) handle) (nodes_once limits states steps (suc t) run takes keys t (omega arith) handle root at i) in
         omega (arith, weighs, few)
 
+    light_at : (i : Ref) (more : ℕ) → times i (nodes_of (states t) handle) ≡ 0 →
+        weight_from (heavier i more) trie.node (trie.main t) most_levels (root_of root.word) ≡ length (nodes_of (states t) handle)
+    light_at i more none =
+        let weighs = handle_weighs limits states steps (suc t) run takes keys t (omega arith) handle root at (heavier i more) in
+        sym weighs ∙ heavy_none i more (nodes_of (states t) handle) none
+
     abbrev pub Grows : Ref → Type 0
     Grows q = (size_from trie.node (trie.main (suc t)) most_levels q ≤ length (nodes_of (states t) handle))
-        ⊎ (AddsKey (states t) s × (size_from trie.node (trie.main (suc t)) most_levels q ≤ length (nodes_of (states t) handle) + most_growth))
+        ⊎ (AddsKey (states t) s handle × (size_from trie.node (trie.main (suc t)) most_levels q ≤ length (nodes_of (states t) handle) + most_growth))
 
     nothing_below : ((i : Ref) → trie.main (suc t) i ≡ trie.main t i) → size_from trie.node (trie.main (suc t)) most_levels (root_of root.word) ≤ length (nodes_of (states t) handle)
     nothing_below same =
         let few = no_more trie t r (λ j apart. same j) 0
         (λ levels rest. let less = sum_by-le-sum_by _ _ (entries_of (node_in trie t r)) rest in
-        subst (λ q. sum_by (size_from trie.node (trie.main (suc t)) levels) (entries_of (trie.node q)) ≤ sum_by (weight_from (heavier r 0) trie.node (trie.main t) levels) (entries_of (node_in trie t r)) + 0)
+        subst
+        (λ q. sum_by (size_from trie.node (trie.main (suc t)) levels) (entries_of (trie.node q))
+        ≤ sum_by (weight_from (heavier r 0) trie.node (trie.main t) levels) (entries_of (node_in trie t r)) + 0)
         (sym (same r)) (omega (arith, less))) most_levels r in
         let heavy = heavy_at r 0 in
         omega (arith, few, heavy)
@@ -169,6 +180,13 @@ module _ (limits : Bounds) (states : ℕ → State) (steps : ℕ → Step) (t : 
         bound : size_from trie.node (trie.main (suc t)) most_levels r ≤ length (nodes_of (states t) handle) + added former
         bound = let low = few most_levels r in let heavy = heavy_at u.indirection (added former) in omega (arith, low, heavy)
 
+        same_link : u.indirection ≡ own.indirection
+        same_link = by (ℕ_discrete own.indirection u.indirection)
+          where
+            by : Dec (own.indirection ≡ u.indirection) → u.indirection ≡ own.indirection
+            by (yes same) = sym same
+            by (no apart) = absurd (own.differ (sym own.after ∙ u.leaves own.indirection apart ∙ own.before))
+
         gives : (had is : Option ℕ) → Asks own.owner.call had is → had ≡ None → inserts own.owner.call ≡ true
         gives had is (to_insert it_inserts) none = it_inserts
         gives had is (to_set v sets) none = absurd (none-some v (sym none))
@@ -176,16 +194,24 @@ module _ (limits : Bounds) (states : ℕ → State) (steps : ℕ → Step) (t : 
 
         by : (had : Option ℕ) → former ≡ had → Grows (root_of root.word)
         by (Some v) same = inl (omega (arith, bound, ap added same))
-        by None same =
-            inr (
-              record {
-                indirection = own.indirection;
-                call = own.owner.call;
-                commits = commits_own limits states run.records (suc t) t s own p None (e ∙ ap (purpose.Update p) same);
-                gives = gives former u.now u.asks same;
-              },
-              omega (arith, bound, ap added same),
-            )
+        by None same = by_times (times own.indirection (nodes_of (states t) handle)) refl
+          where
+            by_times : (n : ℕ) → times own.indirection (nodes_of (states t) handle) ≡ n → Grows (root_of root.word)
+            by_times zero none =
+                let light = light_at u.indirection (added former) (ap (λ i. times i (nodes_of (states t) handle)) same_link ∙ none) in
+                let low = few most_levels r in
+                inl (omega (arith, low, light))
+            by_times (suc n) some =
+                inr (
+                  record {
+                    indirection = own.indirection;
+                    call = own.owner.call;
+                    commits = commits_own limits states run.records (suc t) t s own p None (e ∙ ap (purpose.Update p) same);
+                    gives = gives former u.now u.asks same;
+                    reached = omega (arith, some);
+                  },
+                  omega (arith, bound, ap added same),
+                )
 
     below : Grows (root_of root.word)
     below = by main_turn
@@ -273,9 +299,9 @@ module _ (limits : Bounds) (states : ℕ → State) (steps : ℕ → Step) (t : 
     where
       by_size : (q : Ref) → q ≡ root_of root.word → root_of now.word ≡ q →
           (size_from trie.node (trie.main (suc t)) most_levels (root_of root.word) ≤ length (nodes_of (states t) handle))
-          ⊎ (AddsKey (states t) s × (size_from trie.node (trie.main (suc t)) most_levels (root_of root.word) ≤ length (nodes_of (states t) handle) + most_growth)) →
+          ⊎ (AddsKey (states t) s handle × (size_from trie.node (trie.main (suc t)) most_levels (root_of root.word) ≤ length (nodes_of (states t) handle) + most_growth)) →
           (length (nodes_of (states (suc t)) handle) ≤ length (nodes_of (states t) handle))
-          ⊎ (AddsKey (states t) s × (length (nodes_of (states (suc t)) handle) ≤ length (nodes_of (states t) handle) + most_growth))
+          ⊎ (AddsKey (states t) s handle × (length (nodes_of (states (suc t)) handle) ≤ length (nodes_of (states t) handle) + most_growth))
       by_size q is over (inl few) =
           let size = handle_size limits states steps (suc t) run takes keys (suc t) (omega arith) handle now at_now in
           inl (omega (arith, size, ap (λ x. size_from trie.node (trie.main (suc t)) most_levels x) (over ∙ is), few))
@@ -285,11 +311,12 @@ module _ (limits : Bounds) (states : ℕ → State) (steps : ℕ → Step) (t : 
 
       by : HandleStep limits states (suc t) run t (omega arith) s o m notes handle root →
           (length (nodes_of (states (suc t)) handle) ≤ length (nodes_of (states t) handle))
-          ⊎ (AddsKey (states t) s × (length (nodes_of (states (suc t)) handle) ≤ length (nodes_of (states t) handle) + most_growth))
+          ⊎ (AddsKey (states t) s handle × (length (nodes_of (states (suc t)) handle) ≤ length (nodes_of (states t) handle) + most_growth))
       by (keeps stands) =
           by_size (root_of root.word) refl (ap (λ (x : Root). root_of x.word) (same_Some _ _ (sym at_now ∙ stands.is_open)) ∙ stands.over) (below handle root at)
       by (changes_root offer carries was stands) =
-          inl (new_root_below handle offer carries (its_call limits states steps t run takes keys s o m notes handle offer carries) (brings limits states steps t run takes keys s o m notes handle offer carries) now at_now
+          inl (new_root_below handle offer carries (its_call limits states steps t run takes keys s o m notes handle offer carries)
+          (brings limits states steps t run takes keys s o m notes handle offer carries) now at_now
           (ap (λ (x : Root). root_of x.word) (same_Some _ _ (sym at_now ∙ stands.is_open)) ∙ stands.over))
       by (is_closed actor e gone) = absurd (none-some now (sym gone ∙ at_now))
 

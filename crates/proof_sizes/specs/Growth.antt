@@ -1,5 +1,5 @@
 -- By how much a call that runs alone from rest may grow what a handle reaches.
-use Rattle.std.specs.Prelude.{◌≡◌, ℕ, ◌+◌, ◌≤◌, Bool, true, false, length, Some, None, if◌then◌else◌}
+use Rattle.std.specs.Prelude.{◌≡◌, ◌≢◌, ℕ, ◌+◌, ◌≤◌, Bool, true, false, length, Some, None, if◌then◌else◌}
 use Rattle.proof_sizes.specs.Beneath.history.specs.declared.calls.Call.{Call}
 use Rattle.proof_sizes.specs.Beneath.history.specs.declared.calls.Call.TheVariants.{Put, PutIfAbsent}
 use Rattle.proof_sizes.specs.Beneath.history.specs.declared.replies.Reply.{Reply}
@@ -39,6 +39,12 @@ abbrev pub CallsGrowLittle : Type 0
 CallsGrowLittle =
     OfCallsAlone (λ before call answer after. (handle : ℕ) (root now : Root) → root_at before handle ≡ Some root → root_at after handle ≡ Some now →
     length (nodes_of after handle) ≤ length (nodes_of before handle) + growth call answer)
+
+-- those of another handle than its own not even then
+abbrev pub OthersGrowNothing : Type 0
+OthersGrowNothing =
+    OfCallsAlone (λ before call answer after. (handle : ℕ) (root now : Root) → handle ≢ handle_of call → root_at before handle ≡ Some root → root_at after handle ≡ Some now →
+    length (nodes_of after handle) ≤ length (nodes_of before handle))
 
 -- a handle that it opens has no more nodes than that of the call had before
 abbrev pub CopiesAreNoLarger : Type 0

@@ -1,6 +1,6 @@
 //! Laws of the nodes that a handle reaches.
 
-ghost use Rattle.proof_sizes.specs.Growth.{CallsGrowLittle, CopiesAreNoLarger, SweepsKeepNodes};
+ghost use Rattle.proof_sizes.specs.Growth.{CallsGrowLittle, CopiesAreNoLarger, OthersGrowNothing, SweepsKeepNodes};
 ghost use Rattle.proof_sizes.specs.Nodes.{HandlesUseSlots, OneHandleUsesAll};
 
 /// A law: the nodes of a handle and the free slots are no more than all slots.
@@ -16,6 +16,11 @@ pub fn one_handle_uses_all()
 /// A law: a call that runs alone makes the nodes of no handle more, but where it adds a key, and then by a constant at most.
 pub fn calls_grow_little()
     ensures { CallsGrowLittle }
+{}
+
+/// A law: and those of another handle than its own not even then.
+pub fn others_grow_nothing()
+    ensures { OthersGrowNothing }
 {}
 
 /// A law: a handle that it opens has no more nodes than the handle that was copied.

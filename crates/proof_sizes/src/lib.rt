@@ -5,5 +5,5 @@ mod laws;
 
 pub use laws::{
     calls_grow_little, copies_are_no_larger, handles_use_slots, one_handle_uses_all,
-    sweeps_keep_nodes,
+    others_grow_nothing, sweeps_keep_nodes,
 };
