@@ -82,7 +82,7 @@ fn changes(rt: HostRuntime) -> Result<(), Fail> {
     };
     assert_eq!(rt; map.slots(), 64);
     assert_eq!(rt; change(&rt, &map, &mut seat), Ok(true));
-    assert_eq!(rt; clear(&rt, &map, &mut seat), Ok((0, 62, false)));
+    assert_eq!(rt; clear(&rt, &map, &mut seat), Ok((0, 62, true)));
     Ok(())
 }
 

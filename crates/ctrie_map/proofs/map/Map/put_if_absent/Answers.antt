@@ -24,5 +24,5 @@ returns-clause-full c = λ full.
 
 pub returns-clause-goes_on : goal.returns-clause-goes_on
 returns-clause-goes_on c = λ alone has.
-    goes_on c.args.self.now (PutIfAbsent c.args.handle c.args.key c.args.value) (IsCrowdedAt c.args.self.now c.args.handle c.args.key) c.perform.new.self c.found.result (returns-clause-refused c) alone
-    (adds_none c.args.self.now c.args.handle c.args.key has)
+    goes_on c.args.self.now (PutIfAbsent c.args.handle c.args.key c.args.value) (IsCrowdedAt c.args.self.now c.args.handle c.args.key) c.perform.new.self c.found.result
+    (returns-clause-refused c) alone (adds_none c.args.self.now c.args.handle c.args.key has)
