@@ -14,7 +14,7 @@
  *     ctrie_free(&map);
  *     return CTRIE_REFUSED(code);
  *
- * A map's memory is what ctrie_new took, until ctrie_free: some 346 bytes a slot and 26 kB, however long it lives.
+ * A map's memory is what ctrie_new took, until ctrie_free: some 346 bytes a slot and 230 kB, however long it lives.
  * Of these 66 bytes a slot are written at once, and 264 for as many slots as there were branches or lists at once.
  * Beside it ctrie_entries, ctrie_scan, ctrie_diff and ctrie_put_all take memory for a list, and give it back at their
  * end.
@@ -70,11 +70,11 @@ enum ctrie_code {
     CTRIE_READ_ONLY = 3,    /* a change by a read-only handle */
     CTRIE_HANDLES_FULL = 4, /* a snapshot, a freeze, a restore or a put_all while 256 are open */
     CTRIE_CROWDED = 5,      /* the key has no value, and 32 other keys have its hash */
-    CTRIE_FULL = 6,         /* the call's last step before this answer was to make a node, and no slot was free (of a
-                               put_all: that of its copy, or of a change of a key in it); it comes only where fewer than
-                               CTRIE_SLOTS_FOR_A_CALL were before it, or 23 where it is a clear, snapshot, freeze or
-                               restore, or 24 and 571 a pair where it is a put_all */
-    CTRIE_BAD_SIZES = 7,    /* the number of slots isn't from 2 to 1,048,576, or that of a shared map's shards isn't from
+    CTRIE_FULL = 6,         /* no slot is free: a call that adds a key, a snapshot, a freeze or a restore, exactly where
+                               ctrie_free_slots is 0; another change only where it is 0 and other handles are open; a
+                               put_all only where it is less than 24 and 571 a pair. While one handle alone is open, what
+                               is there can always be changed and removed */
+    CTRIE_BAD_SIZES = 7,    /* the number of slots isn't from 3 to 1,000,000, or that of a shared map's shards isn't from
                                1 to 64 */
     CTRIE_WORN_OUT = 8,     /* no more work is left than a call may take, of 2^45 - 2^21 steps; the map can be read */
     CTRIE_MEMORY = 9,       /* malloc refused: only of ctrie_new, ctrie_entries, ctrie_scan, ctrie_diff, ctrie_put_all, and of
@@ -123,9 +123,6 @@ struct ctrie_cursor {
 
 #define CTRIE_START {0, false}
 
-/* So many free slots are enough for any call but ctrie_put_all. */
-#define CTRIE_SLOTS_FOR_A_CALL 570
-
 /* ---- the library */
 
 /* The version of the library, as CTRIE_VERSION_NUMBER: where the two differ, the header is another library's. */
@@ -154,9 +151,14 @@ static inline const char *ctrie_error(uint32_t code) {
 
 /* ---- a map */
 
-/* Makes a map with the given number of slots for nodes, from 2 to 1,048,576, and hash of keys. Random keys take
-   some 1.7 each, and copies more for what changes behind them: take twice as many as keys, and CTRIE_SLOTS_FOR_A_CALL.
-   DONE, BAD_SIZES, MEMORY, HAS_MAP, BAD_HASH. */
+/* How many slots to ask for, for so many keys: three for each, and 40. It is a guide, and no promise: by what was counted
+   of maps of random keys they have room then for one open copy while a third of the keys are overwritten. More than
+   333,320 keys come to more slots than a map can have. */
+uint32_t ctrie_slots_for(uint32_t keys);
+
+/* Makes a map with the given number of slots for nodes, from 3 to 1,000,000, and hash of keys. It takes memory for 597
+   more slots, which it keeps in reserve, so that a map that is full can be changed all the same. DONE, BAD_SIZES, MEMORY,
+   HAS_MAP, BAD_HASH. */
 CTRIE_MUST_USE
 uint32_t ctrie_new(struct ctrie *map, uint32_t slots, uint32_t hash);
 
@@ -236,16 +238,18 @@ uint32_t ctrie_handles(struct ctrie *map, uint32_t *handles);
 CTRIE_MUST_USE
 uint32_t ctrie_open_handles(struct ctrie *map, uint16_t *handles, size_t room, uint32_t *count);
 
-/* DONE with how many slots there are in all. */
+/* DONE with how many slots were asked for. */
 CTRIE_MUST_USE
 uint32_t ctrie_slots(struct ctrie *map, uint32_t *slots);
 
-/* DONE with how many slots no open handle reaches: the others are just those that one reaches. */
+/* DONE with how many of the slots that were asked for no open handle reaches: 0 where a call that adds a key or a copy is
+   FULL. What no handle needs any more is free after each call. */
 CTRIE_MUST_USE
 uint32_t ctrie_free_slots(struct ctrie *map, uint32_t *free);
 
 /* ---- changing: NO_HANDLE, READ_ONLY, FULL, WORN_OUT, NO_MAP; others only where it is said, and no memory but there.
-   For the place of the value before NULL may stand */
+   FULL is none while one handle alone is open, but a call that gives a value to a key that has none. For the place of
+   the value before NULL may stand */
 
 /* Sets the key's value. YES with the value before, or NO where it had none. CROWDED. */
 CTRIE_MUST_USE

@@ -111,8 +111,8 @@ uint32_t ctrie_shared_try_close(struct ctrie_seat *seat, uint16_t handle);
 
 /* ---- a shared map and its seats: these don't wait */
 
-/* Makes a shared map in this number of shards, from 1 to 64, each of which is as ctrie_new makes a map with these slots;
-   and this number of seats at it, from 1 to 255. The struct holds one, which hands out the others. Keys spread over the shards, some of which
+/* Makes a shared map in this number of shards, from 1 to 64, each of which is as ctrie_new makes a map with these slots,
+   with a reserve of its own; and this number of seats at it, from 1 to 255. The struct holds one, which hands out the others. Keys spread over the shards, some of which
    get more than their share: a call is FULL where its key's shard is, whatever the others have. DONE; BAD_HASH, before all others; HAS_MAP
    where it holds one already; BAD_SIZES where the number of slots or of shards is out of range; MEMORY; NO_SEATS where
    there are to be none. */
@@ -175,8 +175,9 @@ static inline const char *ctrie_shared_error(uint32_t code) {
 }
 
 /* ---- the calls that wait: as those of ctrie.h, with the same codes; NO_MAP where no seat is held. In several shards a
-   clear, snapshot, freeze or restore from another handle that nothing else refuses is FULL already where one of them has
-   fewer than 23 free slots, and these and a close are WORN_OUT where one of them is */
+   snapshot, freeze or restore from another handle that nothing else refuses is FULL where one of them has no free slot, a
+   clear only where other handles are open too and one of them has fewer than 23 slots with its reserve; and these and a
+   close are WORN_OUT where one of them is */
 
 /* How a seat waits between two tries: first by pauses, since a shard is soon given back, then by leaving the processor
    to others, who may have it. */
@@ -289,7 +290,7 @@ static inline uint32_t ctrie_shared_free_slots(struct ctrie_seat *seat, uint64_t
     CTRIE_SHARED_WAIT(ctrie_shared_try_free_slots(seat, free));
 }
 
-/* YES where each shard has CTRIE_SLOTS_FOR_A_CALL free slots, enough for any call, else NO. It takes all shards, as
+/* YES where a slot is free in each shard, so that no call is FULL, else NO. It takes all shards, as
    ctrie_shared_is_open does. Calls of others may have taken the slots before the seat's next one. */
 CTRIE_MUST_USE
 static inline uint32_t ctrie_shared_has_room(struct ctrie_seat *seat) {

@@ -81,11 +81,12 @@ class Crowded(Error):
 
 
 class Full(Error):
-    """No slot is free."""
+    """No slot is free: a key or a copy is to be added and `free_slots` is 0; or another change wants slots of its own, since copies are
+    open. Without open copies what is there can always be changed and removed."""
 
 
 class BadSizes(Error, ValueError):
-    """The number of slots isn't from 2 to 1,048,576."""
+    """The number of slots isn't from 3 to 1,000,000."""
 
 
 class WornOut(Error):
@@ -187,7 +188,7 @@ def _load() -> Dict[str, Any]:
     return {
         name: _declared((long if name in _LONG else short)[f"ctrie_{name}"], None if name == "free" else c_uint32, POINTER(_Held), *words)
         for name, words in _CALLS.items()
-    }
+    } | {"slots_for": _declared(short.ctrie_slots_for, c_uint32, c_uint32)}
 
 
 _LIBRARY = _load()
@@ -268,9 +269,12 @@ def _is_yes(code: int) -> bool:
 
 
 def slots_for(keys: int) -> int:
-    """Returns how many slots to ask for, for so many keys: three for each, and 40. It is a guide, and no promise: random keys have room then
-    for one open copy while a third of them are changed."""
-    return 3 * operator.index(keys) + 40
+    """Returns how many slots to ask for, for that many keys: three for each, and 40. It is a guide, and no promise: by what was counted of
+    maps of random keys they have room then for one open copy while a third of the keys are overwritten."""
+    if not 0 <= operator.index(keys) < 2**32:
+        raise ValueError("the number of keys is out of range")
+    slots: int = _LIBRARY["slots_for"](operator.index(keys))
+    return slots
 
 
 class Difference(NamedTuple):
@@ -543,7 +547,8 @@ class Copy(_Handle):
 
 
 class Map(_Handle):
-    """A map with the given number of slots for nodes, from 2 to 1,048,576: some 1.7 for each key, and more for what copies keep.
+    """A map with the given number of slots for nodes, from 3 to 1,000,000: `slots_for` says how many to ask for. It keeps 597 more in
+    reserve, so that a map that is full can be changed all the same.
 
     Instead of the slots it may be given the number of keys, as by `slots_for`.
 
@@ -563,12 +568,12 @@ class Map(_Handle):
 
     @property
     def slots(self) -> int:
-        """How many slots there are in all."""
+        """How many slots were asked for."""
         return self._slots("slots")
 
     @property
     def free_slots(self) -> int:
-        """How many slots neither the map nor an open copy has."""
+        """How many of these neither the map nor an open copy has: where it is 0, no key and no copy is added."""
         return self._slots("free_slots")
 
     def open_handles(self) -> List[int]:

@@ -1,5 +1,5 @@
 -- What the calls do, each in the words of the map's own contract.
-use Rattle.std.specs.Prelude.{◌≡◌, ◌⊎◌, ◌<◌, ◌≤◌, ◌+◌, ℕ, nat_eq, List, length, Bool, Option, Some, None, Result, Ok, IfOk, IfErr, IsTrue, if◌then◌else◌}
+use Rattle.std.specs.Prelude.{◌≡◌, ◌⊎◌, ◌<◌, ◌≤◌, ◌+◌, ◌-◌, ℕ, nat_eq, List, length, Bool, Option, Some, None, Result, Ok, IfOk, IfErr, IsTrue, if◌then◌else◌}
 use Rattle.std.specs.Prelude as list
 use Rattle.std.specs.FinMap as map
 use Rattle.ctrie_base.specs.declared.hashes.HashKind.{HashKind}
@@ -23,7 +23,7 @@ use Rattle.shared_map.specs.Beneath.ctrie_map.specs.Costs.{WorksUpTo, work_of_a_
 use Rattle.shared_map.specs.Beneath.ctrie_map.specs.Filling.{PutsAll, RefusesPuts}
 use Rattle.shared_map.specs.Beneath.ctrie_map.specs.Names.{IsNext}
 use Rattle.shared_map.specs.Beneath.ctrie_map.specs.Popping.{RefusesPop}
-use Rattle.shared_map.specs.Beneath.ctrie_map.specs.Maps.{AreSlots, IsNew, MapState, RefusesSizes, free_of, handles_of}
+use Rattle.shared_map.specs.Beneath.ctrie_map.specs.Maps.{AreSlots, IsNew, MapState, RefusesSizes, free_of, handles_of, slots_asked}
 use Rattle.shared_map.specs.Beneath.ctrie_map.specs.Reading.{IsOneOf, Reads, reading, without, writability}
 use Rattle.shared_map.specs.Beneath.ctrie_map.specs.Restoring.{HasLifeIfTried, RefusesRestore, Restores}
 use Rattle.ctrie_c.specs.Answers.{bad_hash, code_limit, done_told, has_map}
@@ -73,12 +73,12 @@ abbrev pub ListsHandles : List ℕ → List ℕ → Result ℕ MapError → MapS
 ListsHandles before after told old new = CountsHandles told old new × Fills (map.keys (handles_of old)) before after
 
 abbrev pub CountsSlots : Result ℕ MapError → MapState → MapState → Type 0
-CountsSlots told old new = (told ≡ Ok old.core.limits.slots) × (new ≡ old)
+CountsSlots told old new = (told ≡ Ok (slots_asked old)) × (new ≡ old)
 
--- the free slots, where all others are reached by handles
+-- the slots that were asked for and that no handle reaches
 abbrev pub CountsFree : Result ℕ MapError → MapState → MapState → Type 0
 CountsFree told old new =
-    (told ≡ Ok (free_of old)) × UsesReached old.core × (length (in_use old.core.heap) + free_of old ≡ old.core.limits.slots) × (new ≡ old)
+    (told ≡ Ok (free_of old)) × UsesReached old.core × (free_of old ≡ slots_asked old - length (in_use old.core.heap)) × (new ≡ old)
 
 -- ---- changing
 

@@ -1,12 +1,20 @@
 //! Calls that make a map and free it.
 
-ghost use Rattle.std.specs.Prelude.{◌≡◌, Some, None};
+ghost use Rattle.std.specs.Prelude.{◌≡◌, ◌+◌, ◌-◌, ◌*◌, ◌^◌, min, Some, None};
 ghost use Rattle.ctrie_c.specs.Calls.{Makes, kind_of};
 
 use crate::codes::{BAD_HASH, HAS_MAP, NO, refusal};
 use crate::held::{HeldMap, give, take};
-use shared_map::{HashKind, Map, MapError};
+use shared_map::{HashKind, Map, MapError, slots_for};
 use std::alloc::Global;
+
+/// How many slots to ask for, for so many keys.
+#[unsafe(no_mangle)]
+pub extern "C" fn ctrie_slots_for(keys: u32) -> u32
+    ensures { result ≡ min (3 * keys + 40) (2 ^ 32 - 1) }
+{
+    slots_for(keys)
+}
 
 /// Makes a map with so many slots, whose keys are hashed so, where there is none.
 #[unsafe(no_mangle)]

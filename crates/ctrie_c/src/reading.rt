@@ -138,7 +138,7 @@ pub extern "C" fn ctrie_handles(alloc: Global, held: &mut HeldMap, handles: &mut
     }
 }
 
-/// Tells how many slots there are in all.
+/// Tells how many slots were asked for.
 #[unsafe(no_mangle)]
 pub extern "C" fn ctrie_slots(alloc: Global, held: &mut HeldMap, slots: &mut u32) -> u32
     ensures does { Does held.old.state held.new.state result (CountsSlots (number_told result slots.new)) }
@@ -155,7 +155,7 @@ pub extern "C" fn ctrie_slots(alloc: Global, held: &mut HeldMap, slots: &mut u32
     }
 }
 
-/// Tells how many slots no open handle reaches.
+/// Tells how many of these no open handle reaches.
 #[unsafe(no_mangle)]
 pub extern "C" fn ctrie_free_slots(alloc: Global, held: &mut HeldMap, free: &mut u32) -> u32
     ensures does { Does held.old.state held.new.state result (CountsFree (number_told result free.new)) }

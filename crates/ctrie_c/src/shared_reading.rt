@@ -148,7 +148,7 @@ pub extern "C" fn ctrie_shared_try_free_slots(
     }
 }
 
-/// Tells whether each shard has free slots enough for any call.
+/// Tells whether a slot is free in each shard.
 #[unsafe(no_mangle)]
 pub extern "C" fn ctrie_shared_try_has_room(alloc: Global, held: &mut HeldSeat) -> u32
     ensures does { Tries held.old.state held.new.state result (Says (λ told. Ok (has_room_in told)) HasRoom (truth_told result)) }

@@ -10,8 +10,8 @@ use Rattle.ctrie_map.specs.declared.errors.MapError.{MapError}
 use Rattle.ctrie_map.specs.declared.errors.MapError.TheVariants as error
 use Rattle.ctrie_map.specs.declared.names.Name.{Name}
 use Rattle.ctrie_map.specs.declared.batches.Batch.{Batch}
-use Rattle.ctrie_map.specs.Batches.{ChangesAll, ChangesEach, ChangesKey, HasLifeFor, HaveRoom, IsChanging, IsCrowdedAmong, RefusesBatch, RefusesKey, RefusesName, RunsOutOnCopy, Stops}
-use Rattle.ctrie_map.specs.Batches.{batch_denial, changed, changed_all, crowds}
+use Rattle.ctrie_map.specs.Batches.{ChangesAll, ChangesEach, ChangesKey, HasLifeFor, HaveRoom, IsChanging, IsCrowdedAmong, RefusesBatch, RefusesKey, RefusesName, FindsNoneOnCopy, Stops}
+use Rattle.ctrie_map.specs.Batches.{batch_call, batch_denial, changed, changed_all, crowds}
 use Rattle.ctrie_map.specs.Changes.{core_of}
 use Rattle.ctrie_map.specs.Cores.{TakesUpTo, Turns, is_worn_out}
 use Rattle.ctrie_map.specs.Costs.{work_of_a_change}
@@ -21,6 +21,7 @@ use Rattle.ctrie_map.specs.Maps.{IsWhole, MapState, Stays, handles_of, map_with}
 use Rattle.ctrie_map.specs.Names.{AreNamesOf, NameTable, handles_under, how_many, name_at, shown_by}
 use Rattle.ctrie_map.proofs.ByName.{shown_with}
 use Rattle.ctrie_map.proofs.Changing.{naming_same}
+use Rattle.ctrie_map.proofs.Leaving.{none_free}
 use Rattle.ctrie_map.proofs.Named.{as_many, at_other, at_same, gone_other, gone_same, same_handles, shows, state_of}
 use Rattle.ctrie_map.proofs.Setting.{one_map}
 
@@ -102,7 +103,8 @@ module _ (batch : Batch) (handle : ℕ) (m : KeyMap) (pairs : List (ℕ × ℕ))
     turns_so turns = (turns.0 ∙ changing.turns.0, turns.1 ∙ changing.turns.1)
 
     pub stops_at : (why : MapError) → RefusesKey batch handle pair now after why → Stops batch handle m pairs before after why
-    stops_at error.Full p = (omega (arith, p.0, changing.slots), changing.out (inl p.1), (so_far, turns_so p.2))
+    stops_at error.Full p =
+        let none = none_free now (batch_call batch handle pair) p.0 in let slots = changing.slots in (grind (arith, none, slots), changing.out (inl p.0), (so_far, turns_so p.1))
     stops_at error.Crowded (n, has, crowd, turns) = (changing.crowded (inl (sym (crowd_now n has) ∙ crowd)), (so_far, turns_so turns))
     stops_at why p = absurd p
 
@@ -163,8 +165,8 @@ module _ (batch : Batch) (before : State) (names : NameTable) (whole : IsWhole (
     pub is_frozen_there : name.access ≡ ReadOnly → batch_denial now handle ≡ Some error.ReadOnly
     is_frozen_there e = ap opening shown ∙ ap (λ a. opening (Some (state_of a m))) e
 
-    out_so : RunsOutOnCopy batch name.core pairs before → RunsOutOnCopy batch (core_of (name_at names handle)) pairs before
-    out_so = subst (λ h. RunsOutOnCopy batch h pairs before) (sym (ap core_of at))
+    out_so : FindsNoneOnCopy batch name.core pairs before → FindsNoneOnCopy batch (core_of (name_at names handle)) pairs before
+    out_so = subst (λ h. FindsNoneOnCopy batch h pairs before) (sym (ap core_of at))
 
     module _ (writable : name.access ≡ Writable) where
       abbrev full_at : ℕ → Option MapError
@@ -232,7 +234,7 @@ module _ (batch : Batch) (before : State) (names : NameTable) (whole : IsWhole (
           back_named why p = absurd p
 
           pub refuses_all : HasLifeFor now pairs → (why : MapError) → Stops batch draft d.m pairs drafted stopped why → RefusesBatch batch now handle pairs (map_with after names) why
-          refuses_all life error.Full p = (allowed, life, (omega (arith, p.0, slots), out_so (inr (draft, drafted, d, p.1))), stays_so (back p.2.0 p.2.1))
+          refuses_all life error.Full p = (allowed, life, (let few = p.0 in grind (arith, few, slots), out_so (inr (draft, drafted, d, p.1))), stays_so (back p.2.0 p.2.1))
           refuses_all life error.Crowded p = (
             allowed,
             life,
@@ -251,8 +253,8 @@ module _ (batch : Batch) (before : State) (names : NameTable) (whole : IsWhole (
       no_draft room life after why p = rw p.0 (
         one_left (omega (arith, room, whole.named.many)),
         life,
-        (omega (arith, p.1), out_so (inl p.2)),
-        (p.3.0, refl, ap (handles_under names) p.3.1),
+        (let none = p.1 in omega (arith, none), out_so (inl p.1)),
+        (p.2.0, refl, ap (handles_under names) p.2.1),
       )
 
   -- or the name tells why not

@@ -3,19 +3,23 @@ use Rattle.std.specs.Prelude.{◌≡◌, ◌≢◌, ◌<◌, ℕ, Bool, true, fa
 use Rattle.std.specs.FinMap as map
 use Rattle.std.proofs.Common.{refl, sym, ap, subst, arith, ◌∙◌}
 use Rattle.std.proofs.lemmas.Option.{same_Some}
-use Rattle.ctrie_map.specs.Vocabulary.{hash_of, Access, Writable, ReadOnly, Call, Reply, Closed, Cleared, Crowded, Found, NoSlots, Opened, changing, copying, effect, is_crowded, naming}
-use Rattle.ctrie_map.specs.Vocabulary.{put_if_absent_in, remove_in, remove_if_in, replace_in, replace_if_in, with_access, writable_map_of, HandleMap, HandleState, KeyMap, handle_of, needs_writable}
-use Rattle.ctrie_map.specs.Vocabulary.{opens_handle, State, handle_limit}
+use Rattle.ctrie_base.specs.Hashes.{hash_of}
+use Rattle.history.specs.declared.calls.Access.{Access}
+use Rattle.history.specs.declared.calls.Access.TheVariants.{Writable, ReadOnly}
+use Rattle.history.specs.declared.calls.Call.{Call}
 use Rattle.history.specs.declared.calls.Call.TheVariants as call
-use Rattle.history.specs.Effects.{put_in}
-use Rattle.proof_alone.specs.Calls.{RunsOut}
-use Rattle.ctrie_map.specs.Beneath.proof_obstruction_free.specs.Calls.{slots_of}
+use Rattle.history.specs.declared.replies.Reply.{Reply}
+use Rattle.history.specs.declared.replies.Reply.TheVariants.{Closed, Cleared, Crowded, Found, NoSlots, Opened}
+use Rattle.history.specs.Effects.{changing, copying, effect, is_crowded, naming, put_in, put_if_absent_in, remove_in, remove_if_in, replace_in, replace_if_in, with_access, writable_map_of}
+use Rattle.history.specs.Worlds.{HandleMap, HandleState, KeyMap}
+use Rattle.machine_model.specs.Calls.{handle_of, needs_writable, opens_handle}
+use Rattle.machine_model.specs.States.{State, handle_limit}
 use Rattle.ctrie_map.specs.Beneath.map_worlds.specs.Worlds.{world_of}
 use Rattle.ctrie_map.specs.declared.errors.MapError.{MapError}
 use Rattle.ctrie_map.specs.declared.errors.MapError.TheVariants as error
 use Rattle.ctrie_map.specs.declared.names.Name.{Name}
 use Rattle.ctrie_map.specs.Changes.{LacksSlots, changes_map, core_call, core_of, denial_in, on_handle}
-use Rattle.ctrie_map.specs.Cores.{Carries, IsTight, Replies, Turns, core_denial, is_worn_out, the_actor}
+use Rattle.ctrie_map.specs.Cores.{Carries, Lacks, LacksSlotsBy, Replies, Turns, adds, core_denial, is_without, is_worn_out}
 use Rattle.ctrie_map.specs.Denials.{denial_by}
 use Rattle.ctrie_map.specs.Maps.{IsWhole, MapState, Stays, handles_of, map_with}
 use Rattle.ctrie_map.specs.Names.{AreNamesOf, IsNext, NameTable, handles_under, how_many, name_at, shown_by, with_given, with_name}
@@ -47,25 +51,24 @@ record IsLike (hash : ℕ → ℕ) (c : Call) (core : ℕ) : Type 0 where
   opens_none : opens_handle (on_handle core c) ≡ false
   changes : changes_map c ≡ true
   none_opened : opens_handle c ≡ false
-  slots : slots_of (on_handle core c) ≡ slots_of c
   does : (w : HandleMap) (o : Option ℕ) → effect hash w (on_handle core c) o ≡ changing w core (change_of hash c)
   named : (w : HandleMap) (o : Option ℕ) → effect_among hash w c o ≡ changing w (handle_of c) (change_of hash c)
 
 like : (hash : ℕ → ℕ) (c : Call) (core : ℕ) → IsOnMap c → IsLike hash c core
 like hash (call.Put h k v) core on =
-    record { on = refl; writes = refl; opens_none = refl; changes = refl; none_opened = refl; slots = refl; does = λ w o. refl; named = λ w o. refl }
+    record { on = refl; writes = refl; opens_none = refl; changes = refl; none_opened = refl; does = λ w o. refl; named = λ w o. refl }
 like hash (call.PutIfAbsent h k v) core on =
-    record { on = refl; writes = refl; opens_none = refl; changes = refl; none_opened = refl; slots = refl; does = λ w o. refl; named = λ w o. refl }
+    record { on = refl; writes = refl; opens_none = refl; changes = refl; none_opened = refl; does = λ w o. refl; named = λ w o. refl }
 like hash (call.Replace h k v) core on =
-    record { on = refl; writes = refl; opens_none = refl; changes = refl; none_opened = refl; slots = refl; does = λ w o. refl; named = λ w o. refl }
+    record { on = refl; writes = refl; opens_none = refl; changes = refl; none_opened = refl; does = λ w o. refl; named = λ w o. refl }
 like hash (call.ReplaceIf h k a b) core on =
-    record { on = refl; writes = refl; opens_none = refl; changes = refl; none_opened = refl; slots = refl; does = λ w o. refl; named = λ w o. refl }
+    record { on = refl; writes = refl; opens_none = refl; changes = refl; none_opened = refl; does = λ w o. refl; named = λ w o. refl }
 like hash (call.Remove h k) core on =
-    record { on = refl; writes = refl; opens_none = refl; changes = refl; none_opened = refl; slots = refl; does = λ w o. refl; named = λ w o. refl }
+    record { on = refl; writes = refl; opens_none = refl; changes = refl; none_opened = refl; does = λ w o. refl; named = λ w o. refl }
 like hash (call.RemoveIf h k v) core on =
-    record { on = refl; writes = refl; opens_none = refl; changes = refl; none_opened = refl; slots = refl; does = λ w o. refl; named = λ w o. refl }
+    record { on = refl; writes = refl; opens_none = refl; changes = refl; none_opened = refl; does = λ w o. refl; named = λ w o. refl }
 like hash (call.Clear h) core on =
-    record { on = refl; writes = refl; opens_none = refl; changes = refl; none_opened = refl; slots = refl; does = λ w o. refl; named = λ w o. refl }
+    record { on = refl; writes = refl; opens_none = refl; changes = refl; none_opened = refl; does = λ w o. refl; named = λ w o. refl }
 like hash other core on = absurd on
 
 -- and opens no handle
@@ -138,9 +141,22 @@ module _ (before : State) (names : NameTable) (whole : IsWhole (map_with before 
     pub core_call_so : (c : Call) → handle_of c ≡ h → core_call now c ≡ on_handle name.core c
     core_call_so c is = ap (λ o. on_handle (core_of o) c) (ap (name_at names) is ∙ at)
 
-    lacks_so : (c : Call) → handle_of c ≡ h → slots_of (on_handle name.core c) ≡ slots_of c → IsTight (slots_of (on_handle name.core c)) before →
-        RunsOut before the_actor (on_handle name.core c) → LacksSlots now c
-    lacks_so c is slots tight out = (subst (λ n. IsTight n before) slots tight, subst (RunsOut before the_actor) (sym (core_call_so c is)) out)
+    is_without_so : (k q : ℕ) → q ≡ h → is_without (map.get (handles_of now) q) k ≡ is_without (map.get world name.core) k
+    is_without_so k q is =
+        ap (λ q. is_without (map.get (handles_of now) q) k) is ∙ ap (λ o. is_without o k) shown
+        ∙ sym (ap {B = Bool} (λ o. is_without o k) there)
+
+    -- what it adds it adds there
+    pub adds_so : (c : Call) → handle_of c ≡ h → adds (handles_of now) c ≡ adds world (on_handle name.core c)
+    adds_so (call.Put q k v) is = is_without_so k q is
+    adds_so (call.PutIfAbsent q k v) is = is_without_so k q is
+    adds_so c is = refl
+
+    pub lacks_so : (c : Call) → handle_of c ≡ h → Lacks before (on_handle name.core c) → LacksSlots now c
+    lacks_so c is lacks =
+        subst (LacksSlotsBy (adds (handles_of now) c) (map.len (handles_of now)) before) (sym (core_call_so c is))
+        (subst (λ n. LacksSlotsBy (adds (handles_of now) c) n before (on_handle name.core c)) (sym (as_many world names whole.named))
+        (subst (λ b. LacksSlotsBy b (map.len world) before (on_handle name.core c)) (sym (adds_so c is)) lacks))
 
     stays_so : (after : State) → Turns before world after → Stays now (map_with after names)
     stays_so after turns = (turns.0, refl, ap (handles_under names) turns.1)
@@ -202,7 +218,7 @@ module _ (before : State) (names : NameTable) (whole : IsWhole (map_with before 
 
         by_answer : (answer : Reply) (after : State) → is_worn_out before ≡ false → Replies before (on_handle name.core c) answer after → Comes c (Ok answer) after names
         by_answer NoSlots after life p =
-            record { named = named_so after p.2; performs = ((none_denied, life), (lacks_so c is alike.slots p.0 p.1, stays_so after p.2)) }
+            record { named = named_so after p.1; performs = ((none_denied, life), (lacks_so c is p.0, stays_so after p.1)) }
         by_answer (Opened copy) after life p =
             let (n, here, told, to) = says world name.core (change_of hash c) (Opened copy) p.1 (sym (alike.does world p.0) ∙ p.2) in
             absurd (opens_none hash c n copy (sym told))
@@ -250,15 +266,8 @@ module _ (before : State) (names : NameTable) (whole : IsWhole (map_with before 
       at_core Writable = refl
       at_core ReadOnly = refl
 
-      slots_alike : (a : Access) → slots_of (copy_call a h) ≡ slots_of (call.Snapshot name.core)
-      slots_alike Writable = refl
-      slots_alike ReadOnly = refl
-
-      lacks_copy : IsTight (slots_of (call.Snapshot name.core)) before → RunsOut before the_actor (call.Snapshot name.core) → LacksSlots now copy
-      lacks_copy tight out = (
-        subst (λ n. IsTight n before) (sym (slots_alike access)) tight,
-        subst (RunsOut before the_actor) (sym (core_call_so copy (on_copy h access) ∙ at_core access)) out,
-      )
+      lacks_copy : Lacks before (call.Snapshot name.core) → LacksSlots now copy
+      lacks_copy lacks = lacks_so copy (on_copy h access) (subst (Lacks before) (sym (at_core access)) lacks)
 
       -- a number is free
       module _ (number : ℕ) (low : number < handle_limit) (free : name_at names number ≡ None) where
@@ -280,8 +289,8 @@ module _ (before : State) (names : NameTable) (whole : IsWhole (map_with before 
         -- a reply that opens nothing finds no slot
         pub unopened : (IsNumber : ℕ → Type 0) (answer : Reply) (after : State) → ((core : ℕ) → answer ≢ Opened core) → Carries (Ok answer) before (call.Snapshot name.core) after →
             ComesBy IsNumber copy (Ok answer) after names
-        unopened IsNumber NoSlots after none (life, (tight, out, turns)) =
-            record { named = named_so after turns; performs = ((copy_begun, life), (lacks_copy tight out, stays_so after turns)) }
+        unopened IsNumber NoSlots after none (life, (lacks, turns)) =
+            record { named = named_so after turns; performs = ((copy_begun, life), (lacks_copy lacks, stays_so after turns)) }
         unopened IsNumber answer after none p = let o = opened_core answer p.1.0 p.1.1 p.1.2 in absurd (none o.copy o.told)
 
         module _ (IsNumber : ℕ → Type 0) (is_number : IsNumber number) where
@@ -356,7 +365,7 @@ module _ (before : State) (names : NameTable) (whole : IsWhole (map_with before 
         let same = same_Some (Closed, map.remove world name.core) (answer, next) (sym is ∙ e) in (ap (λ p. p.0) (sym same), ap (λ p. p.1) (sym same))
 
     pub not_closed : (answer : Reply) (after : State) → answer ≢ Closed → Carries (Ok answer) before (call.Close name.core) after → Comes closes (Ok answer) after names
-    not_closed NoSlots after none (life, (tight, out, turns)) = absurd (omega (arith, tight))
+    not_closed NoSlots after none (life, (lacks, turns)) = let tight = lacks.1 in absurd (omega (arith, tight))
     not_closed answer after none p = absurd (none (closed_core answer p.1.1 p.1.2).0)
 
     pub closed : (after : State) → Carries (Ok Closed) before (call.Close name.core) after → Comes closes (Ok Closed) after (with_name names h None)

@@ -1,8 +1,13 @@
 -- A call that is carried out from rest with the sweep behind it, seen in its handles.
-use Rattle.std.specs.Prelude.{◌≡◌, ◌+◌, ◌*◌, ◌<◌, ◌≤◌, ◌^◌, ℕ, Bool, true, false, nat_le, [], length, None, Ok}
-use Rattle.std.proofs.Common.{refl, sym, ap, subst, arith, leb-false, leb-true, ◌∙◌}
-use Rattle.ctrie_map.specs.Vocabulary.{Call, Reply, NoSlots, Bounds, key_of, State}
+use Rattle.std.specs.Prelude.{◌≡◌, ◌+◌, ◌*◌, ◌<◌, ◌≤◌, ◌^◌, ◌&&◌, ℕ, false, nat_eq, [], length, None, Ok}
+use Rattle.std.proofs.Common.{refl, sym, ap, subst, arith, ◌∙◌}
+use Rattle.history.specs.declared.calls.Call.{Call}
 use Rattle.history.specs.declared.calls.Call.TheVariants as call
+use Rattle.history.specs.declared.replies.Reply.{Reply}
+use Rattle.history.specs.declared.replies.Reply.TheVariants.{NoSlots}
+use Rattle.machine_model.specs.declared.steps.Bounds.{Bounds}
+use Rattle.machine_model.specs.Calls.{key_of}
+use Rattle.machine_model.specs.States.{State}
 use Rattle.ctrie_map.specs.Beneath.proof_obstruction_free.specs.Laws.{most_steps_alone}
 use Rattle.proof_alone.specs.Calls.{Acts, CallsDo, CanCall, Does, EnoughSlotsForCalls, RefusedIfOut, RunsOut, steps_of}
 use Rattle.ctrie_map.specs.Beneath.proof_obstruction_free.specs.Calls.{IsNoWalk, slots_of}
@@ -11,10 +16,11 @@ use Rattle.ctrie_map.specs.Beneath.proof_memory.specs.Sweeping.{steps_for_a_slot
 use Rattle.ctrie_map.specs.Beneath.proof_straight.specs.Resting.{IsOfRun}
 use Rattle.ctrie_map.specs.Beneath.proof_straight.specs.Running.{Comes}
 use Rattle.ctrie_map.specs.Beneath.map_worlds.specs.Worlds.{world_of}
-use Rattle.ctrie_map.specs.Cores.{Carries, IsCalm, IsTight, Replies, TakesUpTo, core_denial, is_worn_out, the_actor}
+use Rattle.ctrie_map.specs.Cores.{Carries, IsCalm, Replies, TakesUpTo, adds, core_denial, free_in, is_worn_out, the_actor}
 use Rattle.ctrie_map.specs.Costs.{work_of_call}
 use Rattle.ctrie_map.specs.Performing.{IsChange}
 use Rattle.ctrie_map.proofs.Denying.{is_begun}
+use Rattle.ctrie_map.proofs.Leaving.{SizeLaws, lacks_if, leaves_room}
 
 short : (c : Call) → IsChange c → IsNoWalk c
 short (call.Entries h) change = change
@@ -50,25 +56,27 @@ module _ (before : State) (c : Call) (calm : IsCalm before) (run : IsOfRun befor
       swept : Swept middle way.0 after
       swept = leave middle way.0 after does.of_run does.rest way.1
 
-      pub calm_after : after.limbo ≡ [] → IsCalm after
-      calm_after clean =
-          let same = swept.limits ∙ does.limits in
-          record { one = ap (λ (l : Bounds). l.actors) same ∙ calm.one; life = ap (λ (l : Bounds). l.steps) same ∙ calm.life; rest = swept.rest; clean = clean }
+      module _ (laws : SizeLaws) (begun : (nat_eq (free_in before) 0 && adds (world_of before) c) ≡ false) where
+        pub calm_after : after.limbo ≡ [] → IsCalm after
+        calm_after clean =
+            let same = swept.limits ∙ does.limits in record {
+              one = ap (λ (l : Bounds). l.actors) same ∙ calm.one;
+              life = ap (λ (l : Bounds). l.steps) same ∙ calm.life;
+              rest = swept.rest;
+              clean = clean;
+              room = leaves_room laws before c calm can allowed begun answer middle comes does way.0 after way.1 swept;
+            }
 
-      module _ (out : RefusedIfOut) (enough : EnoughSlotsForCalls) where
-        tight_by : (b : Bool) → nat_le (slots_of c) (length before.heap.free) ≡ b → answer ≡ NoSlots → IsTight (slots_of c) before
-        tight_by true e none = absurd (enough before the_actor c can (leb-true (slots_of c) (length before.heap.free) e) comes.0 answer middle comes.1 none)
-        tight_by false e none = leb-false (slots_of c) (length before.heap.free) e
+        module _ (out : RefusedIfOut) (enough : EnoughSlotsForCalls) where
+          runs_out : answer ≡ NoSlots → RunsOut before the_actor c
+          runs_out none = out before the_actor c can comes.0 middle (subst (λ a. Comes before the_actor c comes.0 a middle) none comes.1)
 
-        runs_out : answer ≡ NoSlots → RunsOut before the_actor c
-        runs_out none = out before the_actor c can comes.0 middle (subst (λ a. Comes before the_actor c comes.0 a middle) none comes.1)
+          answers : (a : Reply) → answer ≡ a → Acts before c a middle → Replies before c a after
+          answers NoSlots is acts = (lacks_if laws before c calm can allowed begun answer middle comes does enough is (runs_out is), (swept.limits ∙ does.limits, swept.world ∙ acts))
+          answers a is acts = (acts.0, world_of middle, acts.1, (swept.limits ∙ does.limits, swept.world))
 
-        answers : (a : Reply) → answer ≡ a → Acts before c a middle → Replies before c a after
-        answers NoSlots is acts = (tight_by (nat_le (slots_of c) (length before.heap.free)) refl is, runs_out is, (swept.limits ∙ does.limits, swept.world ∙ acts))
-        answers a is acts = (acts.0, world_of middle, acts.1, (swept.limits ∙ does.limits, swept.world))
-
-        pub performs : Carries (Ok answer) before c after
-        performs = (life, answers answer refl does.acts)
+          pub performs : Carries (Ok answer) before c after
+          performs = (life, answers answer refl does.acts)
 
       pub works : TakesUpTo (work_of_call c) before after
       works =

@@ -1,5 +1,5 @@
 -- What becomes of the core where a copy is made that has no name.
-use Rattle.std.specs.Prelude.{◌≡◌, ◌<◌, ℕ, false, option_and_then, Result, Ok, Err, IfOk}
+use Rattle.std.specs.Prelude.{◌≡◌, ◌≢◌, ◌<◌, ℕ, false, option_and_then, Result, Ok, Err, IfOk}
 use Rattle.std.specs.FinMap as map
 use Rattle.std.proofs.Common.{refl, sym, ap, subst, ◌∙◌}
 use Rattle.std.proofs.lemmas.Bool.{true≢false}
@@ -22,8 +22,8 @@ module _ (before : State) (handle : ℕ) where
     abbrev Comes : Result ℕ MapError → Type 0
     Comes = ComesTo (λ draft. IsDraftOf handle before draft after) (RefusesDraft handle before after)
 
-    by_answer : (answer : Reply) → Replies before (call.Snapshot handle) answer after → Leads before (call.Snapshot handle) after → Comes (opened_in (Ok answer))
-    by_answer NoSlots p leads = (refl, p.0, p.1, p.2)
+    by_answer : (answer : Reply) → Replies before (call.Snapshot handle) answer after → (answer ≢ NoSlots → Leads before (call.Snapshot handle) after) → Comes (opened_in (Ok answer))
+    by_answer NoSlots p leads = (refl, p.0, p.1)
     by_answer answer p leads =
         let o = is_opened world p.0 Writable answer p.1 (writable_map_of world handle) p.2 in
         let is : o.m ≡ writable.0 =
@@ -33,14 +33,14 @@ module _ (before : State) (handle : ℕ) where
           has = writable.1;
           new = o.new;
           turns = (p.3.0, p.3.1 ∙ o.there ∙ ap (naming world o.copy Writable) is);
-          leads = leads;
+          leads = leads (λ e. cc e);
         })
 
-    comes : (result : Result Reply MapError) → Carries result before (call.Snapshot handle) after → IfOk result (λ _. Leads before (call.Snapshot handle) after) →
+    comes : (result : Result Reply MapError) → Carries result before (call.Snapshot handle) after → IfOk result (λ answer. answer ≢ NoSlots → Leads before (call.Snapshot handle) after) →
         Comes (opened_in result)
     comes (Ok answer) p leads = by_answer answer p.1 leads
     comes (Err why) p none = absurd (true≢false (sym p.1 ∙ life))
 
-    pub drafted : (result : Result Reply MapError) → Carries result before (call.Snapshot handle) after → IfOk result (λ _. Leads before (call.Snapshot handle) after) →
+    pub drafted : (result : Result Reply MapError) → Carries result before (call.Snapshot handle) after → IfOk result (λ answer. answer ≢ NoSlots → Leads before (call.Snapshot handle) after) →
         (draft : ℕ) → opened_in result ≡ Ok draft → IsDraftOf handle before draft after
     drafted result p leads draft is = subst Comes is (comes result p leads)

@@ -1,21 +1,31 @@
 -- A new map.
-use Rattle.std.specs.Prelude.{◌≡◌, ◌≢◌, ◌+◌, ◌≤◌, ℕ, zero, suc, List, Option, Some, None, IsSome, is_some, option_map, length, replicate}
+use Rattle.std.specs.Prelude.{◌≡◌, ◌≢◌, ◌+◌, ◌≤◌, ◌||◌, ℕ, zero, suc, Bool, true, false, nat_lt, List, Option, Some, None, IsSome, is_some, option_map, length, replicate}
 use Rattle.std.specs.FinMap as map
 use Rattle.std.specs.FinMap.{get-empty, len-empty}
-use Rattle.std.proofs.Common.{refl, sym, ap, subst, cond, get_or, length-set, nat_cmp, ne_eqb, inl, inr, arith, ◌∙◌}
+use Rattle.std.proofs.Common.{refl, sym, ap, subst, cond, get_or, length-set, ltb-false, ltb-true, nat_cmp, ne_eqb, inl, inr, arith, ◌∙◌}
 use Rattle.std.proofs.lemmas.Bool.{cases_eq, cases_lt, true≢false}
 use Rattle.std.proofs.lemmas.List.{get_or-replicate, get_or_past, length-replicate}
 use Rattle.std.proofs.lemmas.List.Folds.{sum_by-replicate}
 use Rattle.std.proofs.lemmas.Option.{same_Some}
-use Rattle.ctrie_map.specs.Vocabulary.{Writable, HandleState, first_world, HashKind, Refusal, Bounds, AreBounds, longest_life, run_from, State, first_heap, first_state, taken, handle_limit}
+use Rattle.history.specs.declared.calls.Access.TheVariants.{Writable}
+use Rattle.history.specs.Worlds.{HandleState, first_world}
 use Rattle.std.proofs.lemmas.List.FromFn.{length-range_with_len}
+use Rattle.ctrie_base.specs.declared.hashes.HashKind.{HashKind}
+use Rattle.ctrie_base.specs.declared.refusals.Refusal.{Refusal}
+use Rattle.machine_model.specs.declared.steps.Bounds.{Bounds}
+use Rattle.machine_model.specs.Machine.{AreBounds, longest_life, run_from}
+use Rattle.machine_model.specs.States.{State, first_heap, first_state}
 use Rattle.ctrie_map.specs.Beneath.map_worlds.proofs.First.{first_is_shown}
 use Rattle.ctrie_map.specs.Beneath.proof_core.specs.Bounds.{RefusesBounds}
+use Rattle.ctrie_map.specs.Beneath.slot_arena.specs.Heaps.{taken}
 use Rattle.ctrie_map.specs.declared.errors.MapError.{MapError}
-use Rattle.ctrie_map.specs.Cores.{IsCalm}
+use Rattle.ctrie_map.specs.Beneath.proof_straight.specs.Resting.{IsOfRun}
+use Rattle.proof_sizes.specs.Nodes.{HandlesUseSlots}
+use Rattle.ctrie_map.specs.Cores.{IsCalm, LeavesRoom, reserve}
+use Rattle.machine_model.specs.States.{handle_limit}
 use Rattle.ctrie_map.specs.Beneath.map_worlds.specs.Worlds.{world_of}
 use Rattle.ctrie_map.specs.declared.names.Name.{Name}
-use Rattle.ctrie_map.specs.Maps.{IsNew, IsWhole, MapState, RefusesSizes, map_with}
+use Rattle.ctrie_map.specs.Maps.{AreSlots, IsNew, IsWhole, MapState, RefusesSizes, map_with}
 use Rattle.ctrie_map.specs.Names.{AreNamesOf, NameTable, first_names, handles_under, how_many, name_at, shown_by}
 use Rattle.ctrie_map.proofs.Named.{at_other, at_same, len_new, same_handles, shows, state_of}
 use Rattle.ctrie_map.proofs.Renaming.{counted, found_set}
@@ -88,11 +98,16 @@ first_handles = same_handles (handles_under first_names first_world) first_world
 
 module _ (slots : ℕ) (hash : HashKind) where
   abbrev sizes : Bounds
-  sizes = record { slots = slots; actors = 1; hash = hash; steps = longest_life }
+  sizes = record { slots = slots + reserve; actors = 1; hash = hash; steps = longest_life }
 
-  first_calm : IsCalm (first_state sizes)
+  first_room : HandlesUseSlots → IsOfRun (first_state sizes) → LeavesRoom (first_state sizes)
   unfolding first_state
-  first_calm = record { one = refl; life = refl; rest = refl; clean = refl }
+  first_room uses run handle root e =
+      let used = uses (first_state sizes) handle root run e in let free = free_first (slots + reserve) (omega arith) in omega (arith, used, free)
+
+  first_calm : HandlesUseSlots → IsOfRun (first_state sizes) → IsCalm (first_state sizes)
+  unfolding first_state
+  first_calm uses run = record { one = refl; life = refl; rest = refl; clean = refl; room = first_room uses run }
 
   is_first : AreBounds sizes → world_of (first_state sizes) ≡ first_world
   unfolding run_from first_state
@@ -111,22 +126,50 @@ module _ (slots : ℕ) (hash : HashKind) where
   abbrev map_of : MapState
   map_of = map_with (first_state sizes) first_names
 
-  first_new : AreBounds sizes → IsNew slots hash map_of
+  first_new : AreBounds sizes → AreSlots slots → IsNew slots hash map_of
   unfolding run_from first_state
-  first_new ok = (refl, refl, ap (handles_under first_names) (is_first ok) ∙ first_handles, refl, free_first slots ok.0)
+  first_new ok asked = (
+    refl,
+    refl,
+    ap (handles_under first_names) (is_first ok) ∙ first_handles,
+    refl,
+    let free = free_first (slots + reserve) (omega arith) in let low = asked.0 in omega (arith, free, low),
+  )
 
-  first_whole : AreBounds sizes → IsWhole map_of
-  first_whole ok = record { calm = first_calm; named = subst (λ w. AreNamesOf w first_names) (sym (is_first ok)) named }
+  first_whole : AreBounds sizes → HandlesUseSlots → IsOfRun (first_state sizes) → IsWhole map_of
+  first_whole ok uses run = record { calm = first_calm uses run; named = subst (λ w. AreNamesOf w first_names) (sym (is_first ok)) named }
 
   same_map : (state : State) → state ≡ first_state sizes → (names : NameTable) → names ≡ first_names → map_with state names ≡ map_of
   same_map state is names same = ap (λ s. map_with s names) is ∙ ap (map_with (first_state sizes)) same
 
-  pub whole : (state : State) → state ≡ first_state sizes → AreBounds sizes → (names : NameTable) → names ≡ first_names → IsWhole (map_with state names)
-  whole state is ok names same = subst IsWhole (sym (same_map state is names same)) (first_whole ok)
+  pub whole : (state : State) → state ≡ first_state sizes → AreBounds sizes → HandlesUseSlots → IsOfRun state → (names : NameTable) → names ≡ first_names →
+      IsWhole (map_with state names)
+  whole state is ok uses run names same = subst IsWhole (sym (same_map state is names same)) (first_whole ok uses (subst IsOfRun is run))
 
-  pub is_new : (state : State) → state ≡ first_state sizes → AreBounds sizes → (names : NameTable) → names ≡ first_names → IsNew slots hash (map_with state names)
-  is_new state is ok names same = subst (IsNew slots hash) (sym (same_map state is names same)) (first_new ok)
+  pub is_new : (state : State) → state ≡ first_state sizes → AreBounds sizes → AreSlots slots → (names : NameTable) → names ≡ first_names → IsNew slots hash (map_with state names)
+  is_new state is ok asked names same = subst (IsNew slots hash) (sym (same_map state is names same)) (first_new ok asked)
 
-  pub refuses : (why : Refusal) (told : MapError) → told ≡ of_refusal why → RefusesBounds sizes why → RefusesSizes slots told
-  refuses why told e (inl (bad, is)) = inl ((λ ok. bad (ok.0, ok.1, omega arith, omega arith, omega arith)), e ∙ ap of_refusal is)
-  refuses why told e (inr (ok, is)) = inr ((ok.0, ok.1), e ∙ ap of_refusal is)
+  pub refuses : AreSlots slots → (why : Refusal) (told : MapError) → told ≡ of_refusal why → RefusesBounds sizes why → RefusesSizes slots told
+  refuses asked why told e (inl (bad, is)) =
+      let low = asked.0 in let high = asked.1 in absurd (bad (omega (arith, low), omega (arith, high), omega arith, omega arith, omega arith))
+  refuses asked why told e (inr (ok, is)) = inr (asked, e ∙ ap of_refusal is)
+
+-- ---- how many slots may be asked for
+
+abbrev pub is_no_size : ℕ → Bool
+is_no_size slots = nat_lt slots 3 || nat_lt 1000000 slots
+
+pub in_range : (slots : ℕ) → is_no_size slots ≡ false → AreSlots slots
+in_range slots e = by_low (nat_lt slots 3) refl
+  where
+    by_low : (b : Bool) → nat_lt slots 3 ≡ b → AreSlots slots
+    by_low true low = absurd (true≢false (sym (ap (λ b. b || nat_lt 1000000 slots) low) ∙ e))
+    by_low false low = (ltb-false slots 3 low, ltb-false 1000000 slots (sym (ap (λ b. b || nat_lt 1000000 slots) low) ∙ e))
+
+pub out_of_range : (slots : ℕ) → is_no_size slots ≡ true → ¬ AreSlots slots
+out_of_range slots e = λ ok. by_low ok (nat_lt slots 3) refl
+  where
+    by_low : AreSlots slots → (b : Bool) → nat_lt slots 3 ≡ b → ⊥
+    by_low ok true low = let few = ltb-true slots 3 low in let least = ok.0 in omega (arith, few, least)
+    by_low ok false low =
+        let many = ltb-true 1000000 slots (sym (ap (λ b. b || nat_lt 1000000 slots) low) ∙ e) in let most = ok.1 in omega (arith, many, most)

@@ -1,5 +1,6 @@
 pub mod Denying
 pub mod Stepping
+pub mod Leaving
 pub mod Carrying
 pub mod Changing
 pub mod Puts
@@ -23,8 +24,10 @@ pub mod Setting
 pub mod Batched
 pub mod Sifted
 pub mod Retained
+pub mod InPlace
 pub mod Firsts
 pub mod Walks
 pub mod Pops
 pub mod Updated
+pub mod Fullness
 pub mod Listings

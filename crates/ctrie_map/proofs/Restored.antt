@@ -97,8 +97,8 @@ module _ (before : State) (names : NameTable) (whole : IsWhole (map_with before 
               RefusesRestore now handle copy (map_with after new) why
           refuses few after new why p same = rw (p.0, same) (
             allowed few,
-            (p.1, subst (RunsOut before the_actor) (sym (core_call_so before names whole copy source from (Snapshot copy) refl)) p.2),
-            (p.3.0, refl, ap (handles_under names) p.3.1),
+            p.1,
+            (p.2.0, refl, ap (handles_under names) p.2.1),
           )
 
           -- more steps are left than a copy may take

@@ -1,5 +1,5 @@
 -- What it comes to that the pairs which a closure doesn't want are taken out.
-use Rattle.std.specs.Prelude.{◌≡◌, ◌≢◌, ◌+◌, ℕ, nat_eq, Bool, false, List, [], ◌∷◌, length, None, Some, Result, Ok, Err, IfOk, IfErr}
+use Rattle.std.specs.Prelude.{◌≡◌, ◌≢◌, ◌≤◌, ◌+◌, ℕ, nat_eq, Bool, false, List, [], ◌∷◌, length, None, Some, Result, Ok, Err, IfOk, IfErr}
 use Rattle.std.specs.FinMap as map
 use Rattle.std.proofs.Common.{refl, sym, ap, subst, inl, inr, ◌∙◌}
 use Rattle.ctrie_map.specs.Vocabulary.{hash_of, Writable, naming, KeyMap, State}
@@ -32,11 +32,15 @@ pub refused_then : {P Q : MapError → Type 0} → ((why : MapError) → P why �
 refused_then so (Ok done) p = tt
 refused_then so (Err why) p = so why p
 
+pub both_if : (P Q : MapError → Type 0) (told : Result (Unit {0}) MapError) → IfErr told P → IfErr told Q → IfErr told (λ why. P why × Q why)
+both_if P Q (Ok done) p q = tt
+both_if P Q (Err why) p q = (p, q)
+
 pub some_unwanted : (pairs : List (ℕ × ℕ)) → nat_eq (length pairs) 0 ≡ false → pairs ≢ []
 some_unwanted pairs e none = cc (sym e ∙ ap (λ xs. nat_eq (length xs) 0) none)
 
 -- a key that is taken out is never crowded
-never_crowded : (hash : ℕ → ℕ) (n : KeyMap) (pairs : List (ℕ × ℕ)) → IsCrowdedAmong Removes hash n pairs → ⊥
+pub never_crowded : (hash : ℕ → ℕ) (n : KeyMap) (pairs : List (ℕ × ℕ)) → IsCrowdedAmong Removes hash n pairs → ⊥
 never_crowded hash n [] crowded = crowded
 never_crowded hash n (pair ∷ pairs) (inl e) = absurd (cc e)
 never_crowded hash n (pair ∷ pairs) (inr crowded) = never_crowded hash (map.remove n pair.0) pairs crowded
@@ -109,9 +113,9 @@ module _ {F : Type 0} (asks : F → ℕ → ℕ → Bool → F → Type 0) (f : 
           subst (λ k. Becomes now (naming (handles_of now) handle Writable (changed_all Removes k unwanted)) after) (one_map (map.get (handles_of now) handle) n m has there) becomes,
         )
 
-        pub refuses : (why : MapError) → RefusesBatch Removes now handle unwanted after why → RefusesRetain asks f now handle after why
-        refuses error.Full p = (p.0, (left, unwanted, divides, some, p.1, p.2, takes), p.3)
-        refuses error.WornOut p = (p.0, (left, unwanted, divides, some, p.1), p.2)
-        refuses error.Crowded p = absurd (never_crowded (hash_of before.limits.hash) p.2.0 unwanted p.2.2)
-        refuses error.Memory p = (allowed, p.1)
-        refuses why p = p
+        pub refuses : (why : MapError) → RefusesBatch Removes now handle unwanted after why → (why ≡ error.Full → 2 ≤ map.len (handles_of now)) → RefusesRetain asks f now handle after why
+        refuses error.Full p others = (p.0, others refl, (left, unwanted, divides, some, p.1, p.2, takes), p.3)
+        refuses error.WornOut p others = (p.0, (left, unwanted, divides, some, p.1), p.2)
+        refuses error.Crowded p others = absurd (never_crowded (hash_of before.limits.hash) p.2.0 unwanted p.2.2)
+        refuses error.Memory p others = (allowed, p.1)
+        refuses why p others = p

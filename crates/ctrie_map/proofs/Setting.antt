@@ -1,5 +1,5 @@
 -- A key that is changed in a map of the core.
-use Rattle.std.specs.Prelude.{◌≡◌, ℕ, Bool, true, false, if◌then◌else◌, Option, Some, None, Result, Ok, Err, IfOk}
+use Rattle.std.specs.Prelude.{◌≡◌, ◌≢◌, ℕ, Bool, true, false, if◌then◌else◌, Option, Some, None, Result, Ok, Err, IfOk}
 use Rattle.std.specs.FinMap as map
 use Rattle.std.proofs.Common.{refl, sym, ap, subst, ◌∙◌}
 use Rattle.std.proofs.lemmas.Bool.{true≢false}
@@ -47,30 +47,32 @@ module _ (before : State) (handle : ℕ) (pair : ℕ × ℕ) (m : KeyMap) (has :
       subst (λ a. Comes Puts (found_in (Ok a))) (sym told) (m, has, e, (turns.0, turns.1 ∙ to ∙ naming_same world handle m has))
   by_crowd answer next turns leads false e told to = subst (λ a. Comes Puts (found_in (Ok a))) (sym told) (m, has, e, (turns.0, turns.1 ∙ to), leads)
 
-  by_put : (answer : Reply) → Replies before (call.Put handle pair.0 pair.1) answer after → Leads before (call.Put handle pair.0 pair.1) after → Comes Puts (found_in (Ok answer))
+  by_put : (answer : Reply) → Replies before (call.Put handle pair.0 pair.1) answer after → (answer ≢ NoSlots → Leads before (call.Put handle pair.0 pair.1) after) →
+      Comes Puts (found_in (Ok answer))
   by_put NoSlots p leads = p
   by_put answer p leads =
       let (n, at, told, to) = says world handle (λ m. put_in hash m pair.0 pair.1) answer p.1 p.2 in
       let same : n ≡ m = one_map (map.get world handle) n m at has in
-      by_crowd answer p.1 p.3 leads (is_crowded hash m pair.0) refl (told ∙ ap (λ m. (put_in hash m pair.0 pair.1).0) same)
+      by_crowd answer p.1 p.3 (leads (λ e. cc e)) (is_crowded hash m pair.0) refl (told ∙ ap (λ m. (put_in hash m pair.0 pair.1).0) same)
       (to ∙ ap (λ m. naming world handle Writable (put_in hash m pair.0 pair.1).1) same)
 
-  by_remove : (answer : Reply) → Replies before (call.Remove handle pair.0) answer after → Leads before (call.Remove handle pair.0) after → Comes Removes (found_in (Ok answer))
+  by_remove : (answer : Reply) → Replies before (call.Remove handle pair.0) answer after → (answer ≢ NoSlots → Leads before (call.Remove handle pair.0) after) →
+      Comes Removes (found_in (Ok answer))
   by_remove NoSlots p leads = p
   by_remove answer p leads =
       let (n, at, told, to) = says world handle (λ m. remove_in m pair.0) answer p.1 p.2 in
       let same : n ≡ m = one_map (map.get world handle) n m at has in
       subst (λ a. Comes Removes (found_in (Ok a))) (sym told)
-      (m, has, refl, (p.3.0, p.3.1 ∙ to ∙ ap (λ k. naming world handle Writable (map.remove k pair.0)) same), leads)
+      (m, has, refl, (p.3.0, p.3.1 ∙ to ∙ ap (λ k. naming world handle Writable (map.remove k pair.0)) same), leads (λ e. cc e))
 
-  by_answer : (batch : Batch) (answer : Reply) → Replies before (batch_call batch handle pair) answer after → Leads before (batch_call batch handle pair) after →
+  by_answer : (batch : Batch) (answer : Reply) → Replies before (batch_call batch handle pair) answer after → (answer ≢ NoSlots → Leads before (batch_call batch handle pair) after) →
       Comes batch (found_in (Ok answer))
   by_answer Puts = by_put
   by_answer Removes = by_remove
 
   -- what is said of the call
   abbrev Said : Batch → Result Reply MapError → Type 0
-  Said batch result = Carries result before (batch_call batch handle pair) after × IfOk result (λ _. Leads before (batch_call batch handle pair) after)
+  Said batch result = Carries result before (batch_call batch handle pair) after × IfOk result (λ answer. answer ≢ NoSlots → Leads before (batch_call batch handle pair) after)
 
   comes : (batch : Batch) (result : Result Reply MapError) → Said batch result → Comes batch (found_in result)
   comes batch (Ok answer) (p, leads) = by_answer batch answer p.1 leads

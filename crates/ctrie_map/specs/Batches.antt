@@ -4,18 +4,17 @@ use Rattle.std.specs.FinMap as map
 use Rattle.ctrie_map.specs.Vocabulary.{hash_of, Writable, ReadOnly as Frozen, Call, Put, Remove, Snapshot, is_crowded, naming, KeyMap, State, handle_limit}
 use Rattle.ctrie_map.specs.Beneath.map_worlds.specs.Worlds.{world_of}
 use Rattle.ctrie_map.specs.Beneath.proof_obstruction_free.specs.Slots.{most_makes_alone, most_steps_of_copies}
-use Rattle.proof_alone.specs.Calls.{RunsOut}
 use Rattle.ctrie_map.specs.declared.batches.Batch.{Batch}
 use Rattle.ctrie_map.specs.declared.batches.Batch.TheVariants.{Puts, Removes}
 use Rattle.ctrie_map.specs.declared.errors.MapError.{MapError}
 use Rattle.ctrie_map.specs.declared.errors.MapError.TheVariants.{NoHandle, ReadOnly, HandlesFull, Crowded, Full, WornOut}
 use Rattle.ctrie_map.specs.declared.names.Name.{Name}
 use Rattle.ctrie_map.specs.Changes.{core_of}
-use Rattle.ctrie_map.specs.Cores.{IsTight, Leads, Turns, the_actor}
+use Rattle.ctrie_map.specs.Cores.{Lacks, Leads, Turns, free_in}
 use Rattle.ctrie_map.specs.Costs.{work_of_a_change, work_of_a_copy}
 use Rattle.ctrie_map.specs.Denials.{denial_by}
 use Rattle.ctrie_map.specs.Drafts.{HasMap, IsDraftOf, is_worn_out_by}
-use Rattle.ctrie_map.specs.Maps.{MapState, Becomes, Stays, handles_of}
+use Rattle.ctrie_map.specs.Maps.{MapState, Becomes, Stays, free_of, handles_of}
 use Rattle.ctrie_map.specs.Names.{NameTable, how_many, name_at}
 
 -- ---- in a finite map
@@ -58,16 +57,16 @@ ChangesKey batch handle pair before after =
     (m : KeyMap) × HasMap (world_of before) handle m × (crowds batch (hash_of before.limits.hash) m pair.0 ≡ false)
     × Turns before (naming (world_of before) handle Writable (changed batch pair m)) after × Leads before (batch_call batch handle pair) after
 
--- the change of one of these keys ran out of slots, in the state to which the changes before it led
-abbrev pub RunsOutAmong : Batch → ℕ → List (ℕ × ℕ) → State → Type 0
-RunsOutAmong batch handle [] now = ⊥
-RunsOutAmong batch handle (pair ∷ pairs) now =
-    RunsOut now the_actor (batch_call batch handle pair) ⊎ ((next : State) × ChangesKey batch handle pair now next × RunsOutAmong batch handle pairs next)
+-- the change of one of these keys had no slots, in the state to which the changes before it led
+abbrev pub FindsNoneAmong : Batch → ℕ → List (ℕ × ℕ) → State → Type 0
+FindsNoneAmong batch handle [] now = ⊥
+FindsNoneAmong batch handle (pair ∷ pairs) now =
+    Lacks now (batch_call batch handle pair) ⊎ ((next : State) × ChangesKey batch handle pair now next × FindsNoneAmong batch handle pairs next)
 
--- so did the copy of a map, or the change of one of these keys in that copy
-abbrev pub RunsOutOnCopy : Batch → ℕ → List (ℕ × ℕ) → State → Type 0
-RunsOutOnCopy batch handle pairs before =
-    RunsOut before the_actor (Snapshot handle) ⊎ ((draft : ℕ) × (drafted : State) × IsDraftOf handle before draft drafted × RunsOutAmong batch draft pairs drafted)
+-- so had the copy of a map, or the change of one of these keys in that copy
+abbrev pub FindsNoneOnCopy : Batch → ℕ → List (ℕ × ℕ) → State → Type 0
+FindsNoneOnCopy batch handle pairs before =
+    Lacks before (Snapshot handle) ⊎ ((draft : ℕ) × (drafted : State) × IsDraftOf handle before draft drafted × FindsNoneAmong batch draft pairs drafted)
 
 -- ---- in the map
 
@@ -93,9 +92,9 @@ ChangesAll batch before handle pairs after =
     × ((m : KeyMap) × HasMap (handles_of before) handle m × HaveRoom batch (hash_of before.core.limits.hash) m pairs
     × Becomes before (naming (handles_of before) handle Writable (changed_all batch m pairs)) after)
 
--- Fewer slots were free than the copy of the handle's map and all these changes may take, and that copy or one of these changes ran out of them.
+-- Fewer slots were free than the copy of the handle's map and all these changes may take, and that copy or one of these changes had none.
 abbrev pub LacksSlotsAmong : Batch → MapState → ℕ → List (ℕ × ℕ) → Type 0
-LacksSlotsAmong batch before handle pairs = IsTight (slots_of_changes (length pairs)) before.core × RunsOutOnCopy batch (core_of (name_at before.names handle)) pairs before.core
+LacksSlotsAmong batch before handle pairs = (free_of before < slots_of_changes (length pairs)) × FindsNoneOnCopy batch (core_of (name_at before.names handle)) pairs before.core
 
 -- Why it was refused. All maps stay as they are; where it wasn't begun, nothing has changed.
 abbrev pub RefusesBatch : Batch → MapState → ℕ → List (ℕ × ℕ) → MapState → MapError → Type 0
@@ -126,7 +125,7 @@ RefusesName names number error = ⊥
 -- why it isn't where steps are left
 abbrev pub RefusesKey : Batch → ℕ → ℕ × ℕ → State → State → MapError → Type 0
 RefusesKey batch handle pair before after Full =
-    IsTight most_makes_alone before × RunsOut before the_actor (batch_call batch handle pair) × Turns before (world_of before) after
+    Lacks before (batch_call batch handle pair) × Turns before (world_of before) after
 RefusesKey batch handle pair before after Crowded =
     (m : KeyMap) × HasMap (world_of before) handle m × (crowds batch (hash_of before.limits.hash) m pair.0 ≡ true) × Turns before (world_of before) after
 RefusesKey batch handle pair before after error = ⊥
@@ -138,7 +137,7 @@ pub record IsChanging (batch : Batch) (handle : ℕ) (m : KeyMap) (pairs : List 
   pub same : changed_all batch so_far left ≡ changed_all batch m pairs
   pub room : HaveRoom batch (hash_of before.limits.hash) so_far left → HaveRoom batch (hash_of before.limits.hash) m pairs
   pub crowded : IsCrowdedAmong batch (hash_of before.limits.hash) so_far left → IsCrowdedAmong batch (hash_of before.limits.hash) m pairs
-  pub out : RunsOutAmong batch handle left now → RunsOutAmong batch handle pairs before
+  pub out : FindsNoneAmong batch handle left now → FindsNoneAmong batch handle pairs before
   pub rises : before.steps ≤ now.steps
   pub work : now.steps + 5 * length before.heap.free + work_of_a_change * length left ≤ before.steps + work_of_a_change * length pairs + 5 * length now.heap.free
   pub slots : length before.heap.free + (most_makes_alone + 1) * length left ≤ length now.heap.free + (most_makes_alone + 1) * length pairs
@@ -151,7 +150,7 @@ ChangesEach batch handle m pairs before after =
 -- or it has stopped in their midst
 abbrev pub Stops : Batch → ℕ → KeyMap → List (ℕ × ℕ) → State → State → MapError → Type 0
 Stops batch handle m pairs before after Full =
-    IsTight ((most_makes_alone + 1) * length pairs) before × RunsOutAmong batch handle pairs before
+    (free_in before < (most_makes_alone + 1) * length pairs) × FindsNoneAmong batch handle pairs before
     × ((so_far : KeyMap) × Turns before (naming (world_of before) handle Writable so_far) after)
 Stops batch handle m pairs before after Crowded =
     IsCrowdedAmong batch (hash_of before.limits.hash) m pairs × ((so_far : KeyMap) × Turns before (naming (world_of before) handle Writable so_far) after)

@@ -1,16 +1,20 @@
 -- What calls do that change a map, and why they are refused.
 use Rattle.std.specs.Prelude.{◌≡◌, ℕ, Bool, true, false, Option, Some, None, if◌then◌else◌}
 use Rattle.std.specs.FinMap as map
-use Rattle.ctrie_map.specs.Vocabulary.{hash_of, Access, Writable, Call, Get, Put, PutIfAbsent, Replace, ReplaceIf, Remove, RemoveIf, Clear, Snapshot, Freeze, Close, Entries, Count, has_value}
-use Rattle.ctrie_map.specs.Vocabulary.{is_crowded, naming, HandleMap, HandleState, KeyMap, handle_of, needs_writable, opens_handle}
-use Rattle.proof_alone.specs.Calls.{RunsOut}
-use Rattle.ctrie_map.specs.Beneath.proof_obstruction_free.specs.Calls.{slots_of}
+use Rattle.ctrie_base.specs.Hashes.{hash_of}
+use Rattle.history.specs.declared.calls.Access.{Access}
+use Rattle.history.specs.declared.calls.Access.TheVariants.{Writable}
+use Rattle.history.specs.declared.calls.Call.{Call}
+use Rattle.history.specs.declared.calls.Call.TheVariants.{Get, Put, PutIfAbsent, Replace, ReplaceIf, Remove, RemoveIf, Clear, Snapshot, Freeze, Close, Entries, Count}
+use Rattle.history.specs.Effects.{has_value, is_crowded, naming}
+use Rattle.history.specs.Worlds.{HandleMap, HandleState, KeyMap}
+use Rattle.machine_model.specs.Calls.{handle_of, needs_writable, opens_handle}
 use Rattle.ctrie_map.specs.declared.errors.MapError.{MapError}
 use Rattle.ctrie_map.specs.declared.errors.MapError.TheVariants.{Crowded, Full, WornOut}
 use Rattle.ctrie_map.specs.declared.names.Name.{Name}
-use Rattle.ctrie_map.specs.Cores.{IsTight, is_worn_out, the_actor}
+use Rattle.ctrie_map.specs.Cores.{LacksSlotsBy, adds, is_worn_out}
 use Rattle.ctrie_map.specs.Denials.{denial_by}
-use Rattle.ctrie_map.specs.Maps.{MapState, Becomes, HasThen, Stays, handles_of}
+use Rattle.ctrie_map.specs.Maps.{MapState, Becomes, HasThen, Stays, free_of, handles_of}
 use Rattle.ctrie_map.specs.Names.{name_at}
 
 -- ---- what is changed
@@ -102,9 +106,22 @@ core_of (Some name) = name.core
 abbrev pub core_call : MapState → Call → Call
 core_call before call = on_handle (core_of (name_at before.names (handle_of call))) call
 
--- Fewer slots were free than such a call may take, and the core's call ran out of them: its last step before that answer was to make a node.
+-- The call has no slots: one that adds a key or a copy, where none is free of those that were asked for; another one, where other handles are open, fewer slots were free
+-- than it may take, and the core's call ran out of them.
 abbrev pub LacksSlots : MapState → Call → Type 0
-LacksSlots before call = IsTight (slots_of call) before.core × RunsOut before.core the_actor (core_call before call)
+LacksSlots before call = LacksSlotsBy (adds (handles_of before) call) (map.len (handles_of before)) before.core (core_call before call)
+
+-- it is a call that adds, nothing but slots is wanting, and none is free
+abbrev pub IsFullFor : MapState → Call → Type 0
+IsFullFor before call = (denial_in before call ≡ None) × HasLife before × (adds (handles_of before) call ≡ true) × (free_of before ≡ 0)
+
+-- no other handle is open
+abbrev pub IsAlone : MapState → Type 0
+IsAlone before = map.len (handles_of before) ≡ 1
+
+-- the handle is open, and the key has a value in its map
+abbrev pub HasKey : MapState → ℕ → ℕ → Type 0
+HasKey before handle key = (shown : HandleState) × (map.get (handles_of before) handle ≡ Some shown) × (map.contains_key shown.pairs key ≡ true)
 
 -- Why a call was refused for which there may be such a denial, and whose key may be crowded. All maps stay as they are. Where it wasn't begun, nothing has changed.
 abbrev pub RefusedBy : Option MapError → Call → Type 0 → MapState → MapState → MapError → Type 0

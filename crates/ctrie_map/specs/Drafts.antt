@@ -4,12 +4,10 @@ use Rattle.std.specs.FinMap as map
 use Rattle.ctrie_map.specs.Vocabulary.{Writable, Snapshot, naming, HandleMap, KeyMap, State}
 use Rattle.ctrie_map.specs.Beneath.map_worlds.specs.Worlds.{world_of}
 use Rattle.ctrie_map.specs.Beneath.proof_obstruction_free.specs.Laws.{most_steps_alone}
-use Rattle.proof_alone.specs.Calls.{RunsOut}
-use Rattle.ctrie_map.specs.Beneath.proof_obstruction_free.specs.Calls.{slots_of}
 use Rattle.proof_alone.specs.Sweeps.{most_sweeps}
 use Rattle.ctrie_map.specs.declared.errors.MapError.{MapError}
 use Rattle.ctrie_map.specs.declared.errors.MapError.TheVariants.{Full}
-use Rattle.ctrie_map.specs.Cores.{IsTight, Leads, Turns, the_actor}
+use Rattle.ctrie_map.specs.Cores.{Leads, Turns, free_in}
 use Rattle.ctrie_map.specs.Maps.{MapState, Becomes, handles_of}
 use Rattle.ctrie_map.specs.Names.{AreNamesOf, NameTable}
 
@@ -37,7 +35,7 @@ pub record IsBeside (world : HandleMap) (names : NameTable) (draft : ℕ) (m : K
 -- why there is none where handles and steps are left
 abbrev pub RefusesDraft : ℕ → State → State → MapError → Type 0
 RefusesDraft handle before after error =
-    (error ≡ Full) × IsTight (slots_of (Snapshot handle)) before × RunsOut before the_actor (Snapshot handle) × Turns before (world_of before) after
+    (error ≡ Full) × (free_in before ≡ 0) × Turns before (world_of before) after
 
 -- no more steps are left than this work takes, with five for each slot in use which may become free by it, and a call behind it
 abbrev pub is_worn_out_by : ℕ → State → Bool

@@ -1,5 +1,5 @@
 -- The pairs of a map that a closure wants.
-use Rattle.std.specs.Prelude.{◌≡◌, ◌≢◌, ◌+◌, ℕ, Bool, true, List, [], ◌∷◌, ◌++◌, length, Some, None, if◌then◌else◌}
+use Rattle.std.specs.Prelude.{◌≡◌, ◌≢◌, ◌≤◌, ◌+◌, ℕ, Bool, true, List, [], ◌∷◌, ◌++◌, length, Some, None, if◌then◌else◌}
 use Rattle.std.specs.FinMap as map
 use Rattle.std.specs.List.{FoldsTo}
 use Rattle.ctrie_map.specs.Vocabulary.{Writable, naming, KeyMap}
@@ -39,7 +39,7 @@ Retains asks f before handle after =
 -- Why it was refused: by the pairs that aren't wanted, of which there are some, or before the closure was asked of any. All maps stay as they are.
 abbrev pub RefusesRetain : {F : Type 0} → (F → ℕ → ℕ → Bool → F → Type 0) → F → MapState → ℕ → MapState → MapError → Type 0
 RefusesRetain asks f before handle after Full =
-    (batch_denial before handle ≡ None)
+    (batch_denial before handle ≡ None) × (2 ≤ map.len (handles_of before))
     × ((left : KeyMap) × (unwanted : List (ℕ × ℕ)) × Divides asks f before handle left unwanted × (unwanted ≢ []) × HasLifeFor before unwanted
     × LacksSlotsAmong Removes before handle unwanted × WorksUpTo (work_of_changes (length unwanted) + work_of_a_close) before after) × Stays before after
 RefusesRetain asks f before handle after WornOut =

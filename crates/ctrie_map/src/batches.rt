@@ -11,7 +11,9 @@ ghost use Rattle.ctrie_map.specs.Batches.{CanCopy, ChangesAll, ChangesEach, Chan
 ghost use Rattle.ctrie_map.specs.Cores.{IsCalm, TakesUpTo, is_worn_out};
 ghost use Rattle.ctrie_map.specs.Costs.{work_of_a_change, work_of_a_close, work_of_call};
 ghost use Rattle.ctrie_map.specs.Drafts.{HasMap, IsWritable, is_worn_out_by};
-ghost use Rattle.ctrie_map.specs.Maps.{IsWhole, map_with};
+ghost use Rattle.ctrie_map.specs.Maps.{IsWhole, handles_of, map_with};
+ghost use Rattle.ctrie_map.specs.declared.batches.Batch.TheVariants.{Removes};
+ghost use Rattle.ctrie_map.specs.declared.errors.MapError.TheVariants.{Full};
 ghost use Rattle.ctrie_map.specs.Performing.{IsChange};
 
 use crate::drafts::{adopt, draft, let_go};
@@ -71,6 +73,31 @@ pub(crate) fn change_all(
         return Err(MapError::WornOut);
     }
     change_copy(core, names, handle, name, batch, pairs)
+}
+
+/// Removes the keys of these pairs, all or none: where no other handle is open in the map itself, which wants no copy then.
+pub(crate) fn remove_all(
+    core: &mut Core,
+    names: &mut Names,
+    handle: u16,
+    name: Name,
+    pairs: &[(u64, u64)],
+) -> Result<(), MapError>
+    requires whole { IsWhole (map_with core.old.state names.old) }
+    requires can_copy { CanCopy names.old handle name }
+    ensures whole { IsWhole (map_with core.new.state names.new) }
+    ensures done { IfOk result (λ _. ChangesAll Removes (map_with core.old.state names.old) handle pairs.now (map_with core.new.state names.new)) }
+    ensures refused { IfErr result (RefusesBatch Removes (map_with core.old.state names.old) handle pairs.now (map_with core.new.state names.new)) }
+    ensures others { IfErr result (λ error. error ≡ Full → 2 ≤ map.len (handles_of (map_with core.old.state names.old))) }
+    ensures work { TakesUpTo (work_of_changes (length pairs.now) + work_of_a_close) core.old.state core.new.state }
+{
+    if names.many() > 1 {
+        return change_all(core, names, handle, name, Batch::Removes, pairs);
+    }
+    if are_too_many(core, pairs.len()) {
+        return Err(MapError::WornOut);
+    }
+    change_each(core, name.core, Batch::Removes, pairs)
 }
 
 /// Whether no more steps are left than so many changes of a copy take, and a call behind them.

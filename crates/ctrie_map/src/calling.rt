@@ -1,9 +1,10 @@
 //! Calls as values.
 
-ghost use Rattle.std.specs.Prelude.{◌≡◌};
+ghost use Rattle.std.specs.Prelude.{◌≡◌, Ok};
 ghost use Rattle.std.specs.FinMap as map;
 ghost use Rattle.history.specs.declared.replies.Reply.TheVariants as reply;
 ghost use Rattle.ctrie_map.specs.Calling.{Calls, IsRead};
+ghost use Rattle.ctrie_map.specs.Changes.{IsFullFor};
 ghost use Rattle.ctrie_map.specs.Costs.{WorksUpTo, work_of_call};
 ghost use Rattle.ctrie_map.specs.Reading.{reading};
 
@@ -14,11 +15,12 @@ use history::{Call, Pairs, Reply};
 
 impl Map {
     /// Any call, for what keeps calls and replies as values. It is refused as the call's own method is, but that a change for
-    /// which no slot was free has the reply `NoSlots`, and one whose key is crowded the reply `Crowded`: no map has changed then.
+    /// which there was no slot has the reply `NoSlots`, and one whose key is crowded the reply `Crowded`: no map has changed then.
     /// `telling` has what the call's own method tells of a reply.
     #[inline(always)]
     pub fn call(&mut self, call: Call) -> Result<Reply, MapError>
         ensures calls { Calls result self.old call self.new }
+        ensures full { IsFullFor self.old call → result ≡ Ok reply.NoSlots }
         ensures work { WorksUpTo (work_of_call call) self.old self.new }
     {
         match call {

@@ -1,9 +1,10 @@
 //! Calls that open and close handles.
 
-ghost use Rattle.std.specs.Prelude.{IfOk, IfErr};
+ghost use Rattle.std.specs.Prelude.{IfOk, IfErr, ◌≡◌, Err};
+ghost use Rattle.ctrie_map.specs.declared.errors.MapError.TheVariants.{Full};
 ghost use Rattle.history.specs.declared.calls.Access.TheVariants.{Writable, ReadOnly};
 ghost use Rattle.history.specs.declared.calls.Call.TheVariants.{Close, Freeze, Snapshot};
-ghost use Rattle.ctrie_map.specs.Changes.{Closes, Copies, HasLife, Refuses};
+ghost use Rattle.ctrie_map.specs.Changes.{Closes, Copies, HasLife, IsFullFor, Refuses};
 ghost use Rattle.ctrie_map.specs.Costs.{WorksUpTo, work_of_a_close, work_of_a_copy};
 ghost use Rattle.ctrie_map.specs.Maps.{handles_of};
 ghost use Rattle.ctrie_map.specs.Names.{IsNext};
@@ -17,11 +18,12 @@ use history::{Access, Call};
 impl Map {
     /// Opens a writable copy, of a read-only map too. It is changed on its own, as is the map that was copied. Its number is
     /// the next one behind the number that was given last, round about, that isn't open. Refused as `NoHandle`, as
-    /// `HandlesFull` where 256 handles are open, as `WornOut` or as `Full`.
+    /// `HandlesFull` where 256 handles are open, as `WornOut`, or as `Full` exactly where `free` is 0.
     pub fn snapshot(&mut self, handle: Handle) -> Result<Handle, MapError>
         ensures done { IfOk result (λ copy. HasLife self.old × Copies self.old handle Writable copy self.new) }
         ensures next { IfOk result (IsNext self.old.names.last (handles_of self.old)) }
         ensures refused { IfErr result (Refuses self.old (Snapshot handle) ⊥ self.new) }
+        ensures full { IsFullFor self.old (Snapshot handle) → result ≡ Err Full }
         ensures work { WorksUpTo work_of_a_copy self.old self.new }
     {
         opened(self.open(handle.number(), Access::Writable))
@@ -32,6 +34,7 @@ impl Map {
         ensures done { IfOk result (λ copy. HasLife self.old × Copies self.old handle ReadOnly copy self.new) }
         ensures next { IfOk result (IsNext self.old.names.last (handles_of self.old)) }
         ensures refused { IfErr result (Refuses self.old (Freeze handle) ⊥ self.new) }
+        ensures full { IsFullFor self.old (Freeze handle) → result ≡ Err Full }
         ensures work { WorksUpTo work_of_a_copy self.old self.new }
     {
         opened(self.open(handle.number(), Access::ReadOnly))

@@ -1,11 +1,12 @@
 //! Copies in the core that have no name yet: what is to take another one's place is made there first.
 
-ghost use Rattle.std.specs.Prelude.{◌≡◌, ◌<◌, ◌≤◌, ◌+◌, length, IfOk, IfErr, IsSome, Some, false};
+ghost use Rattle.std.specs.Prelude.{◌≡◌, ◌<◌, ◌≤◌, ◌+◌, length, IfOk, IfErr, IsSome, Some, Err, false};
 ghost use Rattle.std.specs.FinMap as map;
 ghost use Rattle.machine_model.specs.States.{handle_limit};
 ghost use Rattle.ctrie_map.specs.Beneath.map_worlds.specs.Worlds.{world_of};
 ghost use Rattle.ctrie_map.specs.Beneath.proof_obstruction_free.specs.Slots.{most_steps_of_copies};
-ghost use Rattle.ctrie_map.specs.Cores.{IsCalm, TakesUpTo, Turns, is_worn_out};
+ghost use Rattle.ctrie_map.specs.Cores.{IsCalm, TakesUpTo, Turns, free_in, is_worn_out};
+ghost use Rattle.ctrie_map.specs.declared.errors.MapError.TheVariants.{Full};
 ghost use Rattle.ctrie_map.specs.Costs.{work_of_a_close, work_of_a_copy};
 ghost use Rattle.history.specs.declared.calls.Access.TheVariants.{Writable};
 ghost use Rattle.history.specs.Effects.{naming};
@@ -30,6 +31,7 @@ pub(crate) fn draft(core: &mut Core, handle: u16) -> Result<u16, MapError>
     ensures calm { IsCalm core.new.state }
     ensures drafted { IfOk result (λ draft. IsDraftOf handle core.old.state draft core.new.state) }
     ensures refused { IfErr result (RefusesDraft handle core.old.state core.new.state) }
+    ensures full { free_in core.old.state ≡ 0 → result ≡ Err Full }
     ensures work { TakesUpTo work_of_a_copy core.old.state core.new.state }
     ensures slots { length core.old.state.heap.free ≤ length core.new.state.heap.free + (most_steps_of_copies + 1) }
 {
@@ -89,6 +91,7 @@ pub(crate) fn take_map(
     ensures whole { IsWhole (map_with core.new.state names.new) }
     ensures takes { IfOk result (λ _. TakesMap (map_with core.old.state names.old) handle source (map_with core.new.state names.new)) }
     ensures refused { IfErr result (λ error. RefusesDraft source core.old.state core.new.state error × (names.new ≡ names.old)) }
+    ensures full { free_in core.old.state ≡ 0 → result ≡ Err Full }
     ensures work { TakesUpTo (work_of_a_copy + work_of_a_close) core.old.state core.new.state }
 {
     let made = draft(core, source)?;

@@ -24,13 +24,13 @@ pub enum MapError {
     /// The key has no value and is to get one, and 32 other keys have its hash.
     #[error("too many keys have this hash")]
     Crowded,
-    /// The call's last step before this answer was to make a node, and no slot was free: of a `put_all` or a `retain`, that of
-    /// its copy or of the change of a key in it. It comes only where fewer than `SLOTS_FOR_A_CALL` slots were free before the
-    /// call, or 23 where it is a clear or a copy, or 24 and 571 a pair where it is a `put_all`, or a `retain` that doesn't want
-    /// so many pairs. A removal whose repair of the trie finds no slot is done.
+    /// A call that adds a key or a copy, exactly where `free` is 0. Another change only where `free` is 0 and other handles are
+    /// open: its last step before this answer was to make a node, and no slot was free, not even of the reserve. A `put_all`, or a
+    /// `retain` where other handles are open, only where `free` is less than 24 and 571 a pair: its copy, or the change of a key
+    /// in it, found no slot. A removal whose repair of the trie finds no slot is done.
     #[error("no slot is free")]
     Full,
-    /// The number of slots isn't from 2 to 1,048,576, or that of a shared map's shards isn't from 1 to 64.
+    /// The number of slots isn't from 3 to 1,000,000, or that of a shared map's shards isn't from 1 to 64.
     #[error("the number of slots or shards is out of range")]
     BadSizes,
     /// No more steps are left than a change, a copy or a close may take with the sweep behind it, of the 2^45 - 2^21 of a

@@ -1,7 +1,8 @@
 //! Calls on handles by their names: each is carried out by a call on the core's handle for which the name stands.
 
-ghost use Rattle.std.specs.Prelude.{◌≡◌};
-ghost use Rattle.ctrie_map.specs.Changes.{on_handle};
+ghost use Rattle.std.specs.Prelude.{◌≡◌, Ok};
+ghost use Rattle.history.specs.declared.replies.Reply.TheVariants as reply;
+ghost use Rattle.ctrie_map.specs.Changes.{IsFullFor, on_handle};
 ghost use Rattle.ctrie_map.specs.Costs.{WorksUpTo, work_of_a_close, work_of_a_copy, work_of_call};
 ghost use Rattle.ctrie_map.specs.Maps.{IsWhole, map_with};
 ghost use Rattle.ctrie_map.specs.Performing.{IsOnMap, Performs, copy_call};
@@ -44,6 +45,7 @@ pub(crate) fn change(core: &mut Core, names: &Names, call: Call) -> Result<Reply
     requires on_map { IsOnMap call }
     ensures whole { IsWhole (map_with core.new.state names.now) }
     ensures performs { Performs result (map_with core.old.state names.now) call (map_with core.new.state names.now) }
+    ensures full { IsFullFor (map_with core.old.state names.now) call → result ≡ Ok reply.NoSlots }
     ensures work { WorksUpTo (work_of_call call) (map_with core.old.state names.now) (map_with core.new.state names.now) }
 {
     let Some(name) = names.find(call.handle()) else {
@@ -65,6 +67,7 @@ pub(crate) fn open(
     requires whole { IsWhole (map_with core.old.state names.old) }
     ensures whole { IsWhole (map_with core.new.state names.new) }
     ensures performs { Performs result (map_with core.old.state names.old) (copy_call access handle) (map_with core.new.state names.new) }
+    ensures full { IsFullFor (map_with core.old.state names.old) (copy_call access handle) → result ≡ Ok reply.NoSlots }
     ensures work { WorksUpTo work_of_a_copy (map_with core.old.state names.old) (map_with core.new.state names.new) }
 {
     let Some(name) = names.find(handle) else {

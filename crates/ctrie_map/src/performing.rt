@@ -1,23 +1,31 @@
 //! One call of the core below a map, from its begin to its end, and the sweep behind it.
 
-ghost use Rattle.std.specs.Prelude.{◌≡◌, ◌<◌, ◌≤◌, ◌+◌, ℕ, IfOk, None, false, [], length};
+ghost use Rattle.std.specs.Prelude.{◌≡◌, ◌≢◌, ◌<◌, ◌≤◌, ◌+◌, ◌&&◌, ℕ, nat_eq, IfOk, Ok, None, true, false, [], length};
+ghost use Rattle.std.specs.FinMap as map;
+ghost use Rattle.history.specs.declared.replies.Reply.TheVariants as reply;
 ghost use Rattle.machine_model.specs.Machine.{is_busy};
 ghost use Rattle.proof_alone.specs.Calls.{CanCall};
+ghost use Rattle.ctrie_map.specs.Beneath.map_worlds.specs.Worlds.{world_of};
 ghost use Rattle.ctrie_map.specs.Beneath.proof_obstruction_free.specs.Calls.{slots_of};
 ghost use Rattle.proof_alone.specs.Sweeps.{Sweeps, most_sweeps};
 ghost use Rattle.ctrie_map.specs.Beneath.proof_straight.specs.Running.{Comes};
-ghost use Rattle.ctrie_map.specs.Cores.{Carries, IsCalm, Leads, TakesUpTo, core_denial, is_worn_out, life_left, the_actor};
+ghost use Rattle.ctrie_map.specs.Cores.{Carries, IsCalm, Leads, TakesUpTo, adds, core_denial, free_in, is_without, is_worn_out, life_left, the_actor};
 ghost use Rattle.ctrie_map.specs.Costs.{work_of_call};
 ghost use Rattle.ctrie_map.specs.Drafts.{is_worn_out_by};
 ghost use Rattle.ctrie_map.specs.Performing.{IsChange};
 
 use crate::errors::MapError;
+use crate::reading::value_in;
 use history::{Call, Reply};
 use machine_core::{Core, key_fits};
 use machine_model::Bounds;
 
 /// The one actor of a map's core.
 pub(crate) const ACTOR: u8 = 1;
+
+/// How many slots the core has beside those that were asked for: 570 that any call may take, and 27 that a call which adds a
+/// key may add to what a handle reaches.
+pub(crate) const RESERVE: u32 = 597;
 
 /// How many steps a call takes at most, with its begin.
 const CALL_STEPS: u64 = 3_963;
@@ -57,6 +65,40 @@ pub(crate) fn is_worn_out_by(core: &Core, work: u64) -> bool
     let slots = core.limits().slots;
     let used = u64::from(slots).saturating_sub(u64::from(core.free_slots()));
     life_left(core) <= work.saturating_add(SLOT_SWEEPS * used)
+}
+
+/// How many of the slots that were asked for are free.
+pub(crate) fn free_slots(core: &Core) -> u32
+    ensures { result ≡ free_in core.now.state }
+{
+    core.free_slots().saturating_sub(RESERVE)
+}
+
+/// Whether the handle is open, and the key has no value in its map.
+fn is_without(core: &Core, handle: u16, key: u64) -> bool
+    ensures { result ≡ is_without (map.get (world_of core.now.state) handle) key }
+{
+    matches!(value_in(core, handle, key), Ok(None))
+}
+
+/// Whether the call adds a key to a map, or a copy.
+fn adds(core: &Core, call: Call) -> bool
+    ensures { result ≡ adds (world_of core.now.state) call }
+{
+    match call {
+        Call::Put { handle, key, .. } | Call::PutIfAbsent { handle, key, .. } => {
+            is_without(core, handle, key)
+        }
+        Call::Snapshot { .. } | Call::Freeze { .. } => true,
+        _ => false,
+    }
+}
+
+/// Whether the call adds something, and none of the slots that were asked for is free.
+fn is_full_for(core: &Core, call: Call) -> bool
+    ensures { result ≡ (nat_eq (free_in core.now.state) 0 && adds (world_of core.now.state) call) }
+{
+    free_slots(core) == 0 && adds(core, call)
 }
 
 /// Carries a call out step by step.
@@ -104,13 +146,16 @@ fn sweep(core: &mut Core)
 }
 
 /// One call that nothing denies, from its begin to its end, and the sweep of what it makes free. Refused as `WornOut` alone.
+/// One that adds something isn't begun where none of the slots that were asked for is free: so what a handle reaches leaves as
+/// many slots as any call takes.
 pub(crate) fn perform(core: &mut Core, call: Call) -> Result<Reply, MapError>
     requires calm { IsCalm core.old.state }
     requires change { IsChange call }
     requires allowed { core_denial core.old.state call ≡ None }
     ensures calm { IsCalm core.new.state }
     ensures carries { Carries result core.old.state call core.new.state }
-    ensures leads { IfOk result (λ _. Leads core.old.state call core.new.state) }
+    ensures leads { IfOk result (λ answer. answer ≢ reply.NoSlots → Leads core.old.state call core.new.state) }
+    ensures full { is_worn_out core.old.state ≡ false → adds (world_of core.old.state) call ≡ true → free_in core.old.state ≡ 0 → result ≡ Ok reply.NoSlots }
     ensures work { TakesUpTo (work_of_call call) core.old.state core.new.state }
     ensures slots { length core.old.state.heap.free ≤ length core.new.state.heap.free + (slots_of call + 1) }
 {
@@ -118,11 +163,19 @@ pub(crate) fn perform(core: &mut Core, call: Call) -> Result<Reply, MapError>
     if is_worn_out(core) {
         return Err(MapError::WornOut);
     }
+    if is_full_for(core, call) {
+        return Ok(Reply::NoSlots);
+    }
     key_fits(call);
     proof_alone::calls_do();
     proof_alone::refused_if_out();
     proof_alone::enough_slots_for_calls();
     proof_alone::sweeps_leave();
+    proof_sizes::handles_use_slots();
+    proof_sizes::one_handle_uses_all();
+    proof_sizes::calls_grow_little();
+    proof_sizes::copies_are_no_larger();
+    proof_sizes::sweeps_keep_nodes();
     let reply = carry_out(core, call);
     sweep(core);
     Ok(reply)

@@ -1,7 +1,8 @@
 //! The call that takes any one key out, for work lists.
 
-ghost use Rattle.std.specs.Prelude.{IfOk, IfErr};
-ghost use Rattle.ctrie_map.specs.Changes.{Changes, HasLife};
+ghost use Rattle.std.specs.Prelude.{IfOk, IfErr, ◌≢◌, Err};
+ghost use Rattle.ctrie_map.specs.declared.errors.MapError.TheVariants.{Full};
+ghost use Rattle.ctrie_map.specs.Changes.{Changes, HasLife, IsAlone};
 ghost use Rattle.ctrie_map.specs.Costs.{WorksUpTo, work_of_a_change};
 ghost use Rattle.ctrie_map.specs.Popping.{RefusesPop};
 ghost use Rattle.ctrie_map.specs.Reading.{IsOneOf, without};
@@ -16,6 +17,7 @@ impl Map {
     pub fn pop(&mut self, handle: Handle) -> Result<Option<(u64, u64)>, MapError>
         ensures done { IfOk result (λ popped. HasLife self.old × Changes self.old handle (λ m. IsOneOf m popped) (without popped) self.new) }
         ensures refused { IfErr result (RefusesPop self.old handle self.new) }
+        ensures goes_on { IsAlone self.old → result ≢ Err Full }
         ensures work { WorksUpTo work_of_a_change self.old self.new }
     {
         let first = self.first(handle)?;

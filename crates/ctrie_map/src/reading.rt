@@ -1,14 +1,13 @@
 //! Calls that change nothing.
 
-ghost use Rattle.std.specs.Prelude.{◌≡◌, ◌≤◌, ◌+◌, length, nat_eq, nat_le, IfOk, IfErr, Ok, None, Some};
+ghost use Rattle.std.specs.Prelude.{◌≡◌, ◌≤◌, ◌-◌, length, nat_eq, nat_lt, IfOk, IfErr, Ok, None, Some};
 ghost use Rattle.std.specs.FinMap as map;
 ghost use Rattle.machine_model.specs.Machine.{longest_life};
 ghost use Rattle.machine_model.specs.States.{handle_limit};
 ghost use Rattle.ctrie_map.specs.Beneath.proof_memory.specs.Sweeping.{UsesReached};
 ghost use Rattle.ctrie_map.specs.Beneath.slot_arena.specs.Heaps.{in_use};
 ghost use Rattle.ctrie_map.specs.Cores.{is_worn_out, life_left};
-ghost use Rattle.ctrie_map.specs.Maps.{free_of, handles_of};
-ghost use Rattle.ctrie_map.specs.Beneath.proof_obstruction_free.specs.Slots.{most_makes_alone};
+ghost use Rattle.ctrie_map.specs.Maps.{free_of, handles_of, slots_asked};
 ghost use Rattle.ctrie_map.specs.Reading.{RefusesReading, core_reading, reading};
 ghost use Rattle.ctrie_map.specs.Names.{name_at};
 ghost use Rattle.ctrie_map.specs.declared.errors.MapError.TheVariants.{NoHandle};
@@ -17,11 +16,8 @@ use crate::errors::MapError;
 use crate::handle::Handle;
 use crate::map::Map;
 use crate::names::Name;
-use crate::performing::life_left;
+use crate::performing::{RESERVE, free_slots, life_left};
 use machine_core::Core;
-
-/// So many free slots are enough for any call but `put_all` and `retain`, which change several keys.
-pub const SLOTS_FOR_A_CALL: u32 = 570;
 
 impl Map {
     /// The key's value, if it has one. It takes no memory. Refused as `NoHandle` alone.
@@ -68,11 +64,11 @@ impl Map {
         u32::from(self.names.many())
     }
 
-    /// How many slots there are in all.
+    /// How many slots were asked for; those in reserve aren't counted.
     pub fn slots(&self) -> u32
-        ensures { result ≡ self.now.core.limits.slots }
+        ensures { result ≡ slots_asked self.now }
     {
-        self.core.limits().slots
+        self.core.limits().slots.saturating_sub(RESERVE)
     }
 
     /// How many steps its calls have taken, of the 2^45 - 2^21 of its life.
@@ -92,27 +88,36 @@ impl Map {
         life_left(&self.core)
     }
 
-    /// How many slots no open handle reaches: those in use are just what the open handles reach.
+    /// How many of the slots that were asked for no open handle reaches. A call that adds a key or a copy is `Full` exactly where
+    /// this is 0, as it is where the reserve is in use too; no call but `put_all` and `retain` is where it isn't.
     pub fn free(&self) -> u32
         ensures free { result ≡ free_of self.now }
         ensures reached { UsesReached self.now.core }
-        ensures all { length (in_use self.now.core.heap) + result ≡ self.now.core.limits.slots }
+        ensures all { result ≡ slots_asked self.now - length (in_use self.now.core.heap) }
     {
         let _ = self.core.limits();
         proof_alone::clean_is_reached();
-        self.core.free_slots()
+        free_slots(&self.core)
     }
 
-    /// Whether the next call finds enough free slots, whatever it is but `put_all` and `retain`: it isn't `Full` then.
-    pub fn has_room(&self) -> bool
-        ensures { result ≡ nat_le most_makes_alone (free_of self.now) }
+    /// How many slots the open handles reach: more than were asked for where the reserve is in use.
+    pub fn used(&self) -> u32
+        ensures { result ≡ self.now.core.limits.slots - length self.now.core.heap.free }
     {
-        self.free() >= SLOTS_FOR_A_CALL
+        let slots = self.core.limits().slots;
+        slots.saturating_sub(self.core.free_slots())
+    }
+
+    /// Whether the next call finds free slots, whatever it is but `put_all` and `retain`: it isn't `Full` then.
+    pub fn has_room(&self) -> bool
+        ensures { result ≡ nat_lt 0 (free_of self.now) }
+    {
+        self.free() > 0
     }
 }
 
 /// The value of a key in a map of the core.
-fn value_in(core: &Core, handle: u16, key: u64) -> Result<Option<u64>, MapError>
+pub(crate) fn value_in(core: &Core, handle: u16, key: u64) -> Result<Option<u64>, MapError>
     ensures { result ≡ core_reading core.now.state handle (λ m. map.get m key) }
 {
     let _ = core.limits();

@@ -1,9 +1,10 @@
 //! A handle that is to name another one's map.
 
-ghost use Rattle.std.specs.Prelude.{◌≡◌, ◌+◌, IfOk, IfErr};
+ghost use Rattle.std.specs.Prelude.{◌≡◌, ◌+◌, IfOk, IfErr, Err};
+ghost use Rattle.ctrie_map.specs.declared.errors.MapError.TheVariants.{Full};
 ghost use Rattle.ctrie_map.specs.Costs.{WorksUpTo, work_of_a_close, work_of_a_copy};
 ghost use Rattle.ctrie_map.specs.Maps.{IsWhole, map_with};
-ghost use Rattle.ctrie_map.specs.Restoring.{HasLifeIfTried, RefusesRestore, Restores};
+ghost use Rattle.ctrie_map.specs.Restoring.{HasLifeIfTried, IsFullToRestore, RefusesRestore, Restores};
 
 use crate::drafts::take_map;
 use crate::errors::MapError;
@@ -19,11 +20,12 @@ impl Map {
     /// have of it. The copy may be read-only, and stays. Refused as `NoHandle` where one of the two isn't open, as `ReadOnly`
     /// where the handle is; and, but where both are the same and nothing is to be done, as `HandlesFull` where 256 handles are
     /// open, since it takes one more for the moment, as `WornOut` where no more steps are left than it may take, and as `Full`
-    /// where its last step before this answer was to make a node and no slot was free. No map has changed then.
+    /// exactly where `free` is 0. No map has changed then.
     pub fn restore(&mut self, handle: Handle, copy: Handle) -> Result<(), MapError>
         ensures restores { IfOk result (λ _. Restores self.old handle copy self.new) }
         ensures itself { handle ≡ copy → self.new ≡ self.old }
         ensures refused { IfErr result (RefusesRestore self.old handle copy self.new) }
+        ensures full { IsFullToRestore self.old handle copy → result ≡ Err Full }
         ensures life { HasLifeIfTried result self.old handle copy }
         ensures work { WorksUpTo (work_of_a_copy + work_of_a_close) self.old self.new }
     {
@@ -43,6 +45,7 @@ fn restore(core: &mut Core, names: &mut Names, handle: u16, copy: u16) -> Result
     ensures restores { IfOk result (λ _. Restores (map_with core.old.state names.old) handle copy (map_with core.new.state names.new)) }
     ensures itself { handle ≡ copy → map_with core.new.state names.new ≡ map_with core.old.state names.old }
     ensures refused { IfErr result (RefusesRestore (map_with core.old.state names.old) handle copy (map_with core.new.state names.new)) }
+    ensures full { IsFullToRestore (map_with core.old.state names.old) handle copy → result ≡ Err Full }
     ensures life { HasLifeIfTried result (map_with core.old.state names.old) handle copy }
     ensures work { WorksUpTo (work_of_a_copy + work_of_a_close) (map_with core.old.state names.old) (map_with core.new.state names.new) }
 {

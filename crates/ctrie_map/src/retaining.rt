@@ -1,13 +1,15 @@
 //! Keys that are taken out together, all or none, by what the caller's closure says of them.
 
-ghost use Rattle.std.specs.Prelude.{◌≡◌, ◌<◌, ◌+◌, ℕ, IfOk, IfErr, List, if◌then◌else◌, length, slice_set};
+ghost use Rattle.std.specs.Prelude.{◌≡◌, ◌<◌, ◌+◌, ℕ, IfOk, IfErr, List, if◌then◌else◌, length, slice_set, ◌≢◌, Err};
+ghost use Rattle.ctrie_map.specs.declared.errors.MapError.TheVariants.{Full};
 ghost use Rattle.std.specs.FinMap as map;
 ghost use Rattle.history.specs.Worlds.{KeyMap};
+ghost use Rattle.ctrie_map.specs.Changes.{IsAlone};
 ghost use Rattle.ctrie_map.specs.Drafts.{HasMap};
 ghost use Rattle.ctrie_map.specs.Maps.{IsWhole, handles_of, map_with};
 ghost use Rattle.ctrie_map.specs.Retaining.{CanBeAsked, RefusesRetain, Retains, Sifts};
 
-use crate::batches::{Batch, change_all, name_to_copy};
+use crate::batches::{name_to_copy, remove_all};
 use crate::errors::MapError;
 use crate::handle::Handle;
 use crate::map::Map;
@@ -17,12 +19,12 @@ use machine_core::Core;
 
 impl Map {
     /// Keeps the pairs that `f` wants: it takes all others out, or none. `f` is asked of each pair once, in ascending order of
-    /// keys, before anything changes, and of none where the handle isn't open or is read-only, where 256 handles are open, since
-    /// it works on a copy, which takes one more for the moment, or where there is no memory for a list of the pairs. It is `Full`
-    /// only where the last step of that copy, or of the removal of an unwanted pair from it, was to make a node and no slot was
-    /// free: never where 24 slots and 571 for each unwanted pair were free before it. It is `WornOut` where no more steps are left
-    /// than so many changes may take. No map has changed then, and `remove` may do for some of the pairs. Where all are wanted,
-    /// nothing changes, no step is taken, and it is neither `Full` nor `WornOut`.
+    /// keys, before anything changes, and of none where the handle isn't open or is read-only, where 256 handles are open, or where
+    /// there is no memory for a list of the pairs. While one handle alone is open it is never `Full`. While others are, it works on
+    /// a copy, and is `Full` only where that copy, or the removal of an unwanted pair from it, found no slot: never where 24 slots
+    /// and 571 for each unwanted pair were free before it. It is `WornOut` where no more steps are left than so many changes may
+    /// take. No map has changed then, and `remove` may do for some of the pairs. Where all are wanted, nothing changes, no step is
+    /// taken, and it is neither `Full` nor `WornOut`.
     pub fn retain<F: FnMut(u64, u64) -> bool>(
         &mut self,
         handle: Handle,
@@ -31,6 +33,7 @@ impl Map {
         requires callable { (m : KeyMap) → HasMap (handles_of self.old) handle m → CanBeAsked F.pre F.step f (map.entries m) }
         ensures retains { IfOk result (λ _. Retains F.step f self.old handle self.new) }
         ensures refused { IfErr result (RefusesRetain F.step f self.old handle self.new) }
+        ensures goes_on { IsAlone self.old → result ≢ Err Full }
     {
         retain(&mut self.core, &mut self.names, handle.number(), f)
     }
@@ -55,7 +58,7 @@ fn retain<F: FnMut(u64, u64) -> bool>(
     if pairs.is_empty() {
         return Ok(());
     }
-    change_all(core, names, handle, name, Batch::Removes, pairs.as_slice())
+    remove_all(core, names, handle, name, pairs.as_slice())
 }
 
 /// Leaves the pairs that `f` doesn't want, asking it of one after the other.

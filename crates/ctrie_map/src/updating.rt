@@ -1,9 +1,10 @@
 //! Changes of a key by what the caller's closure makes of its value.
 
-ghost use Rattle.std.specs.Prelude.{◌≡◌, IfOk, IfErr, Ok, None, Some};
+ghost use Rattle.std.specs.Prelude.{◌≡◌, IfOk, IfErr, Ok, None, Some, ◌≢◌, Err};
+ghost use Rattle.ctrie_map.specs.declared.errors.MapError.TheVariants.{Full};
 ghost use Rattle.std.specs.FinMap as map;
 ghost use Rattle.history.specs.Worlds.{KeyMap};
-ghost use Rattle.ctrie_map.specs.Changes.{Changes, HasLife, IsCrowdedAt, Refuses, set_if_absent};
+ghost use Rattle.ctrie_map.specs.Changes.{Changes, HasKey, HasLife, IsAlone, IsCrowdedAt, Refuses, set_if_absent};
 ghost use Rattle.ctrie_map.specs.Costs.{WorksUpTo, work_of_a_change};
 ghost use Rattle.ctrie_map.specs.Drafts.{HasMap};
 ghost use Rattle.ctrie_map.specs.Maps.{handles_of};
@@ -28,6 +29,7 @@ impl Map {
         ensures done { IfOk result (λ value. Changes self.old handle (IsUpdate (F.post f) self.old key value) (with_value key value) self.new) }
         ensures same { IfOk result (λ value. reading self.old handle (λ m. map.get m key) ≡ Ok value → self.new ≡ self.old) }
         ensures refused { IfErr result (RefusesUpdate (F.post f) self.old handle key self.new) }
+        ensures goes_on { IsAlone self.old → HasKey self.old handle key → result ≢ Err Full }
         ensures work { WorksUpTo work_of_a_change self.old self.new }
     {
         let before = self.value_to_change(handle, key)?;

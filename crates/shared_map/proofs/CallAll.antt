@@ -12,7 +12,6 @@ use Rattle.ctrie_map.specs.Performing.{copy_call}
 use Rattle.shared_map.specs.Answering.{RepliesAll}
 use Rattle.shared_map.specs.Asking.{IsKnown, IsNumber, denial_from}
 use Rattle.shared_map.specs.Asks.{Replied}
-use Rattle.shared_map.specs.Beneath.proof_obstruction_free.specs.Calls.{slots_of}
 use Rattle.shared_map.specs.Shards.{AreShards, IsAnyTight, is_any_worn_out, worlds_of}
 use Rattle.shared_map.specs.Turning.{AreAllowed, HasNext, HaveTurned, Turns, call_of, reply_of}
 use Rattle.shared_map.specs.Uniting.{pairs_at}
@@ -29,7 +28,7 @@ use Rattle.shared_map.proofs.Turns.{none_tight, turns_done}
 
 -- ---- the parts
 
-pub turns_ok : (t : Turn) (before after : List MapState) (answer : Reply) → answer ≡ reply_of t → is_any_worn_out before ≡ false → is_any_tight (slots_of (call_of t)) before ≡ false →
+pub turns_ok : (t : Turn) (before after : List MapState) (answer : Reply) → answer ≡ reply_of t → is_any_worn_out before ≡ false → is_any_tight (call_of t) before ≡ false →
     (AreAllowed t before → HaveTurned t before after) → TurnsAll t before (Ok answer) after
 turns_ok t before after answer is life roomy have = subst (λ a. TurnsAll t before (Ok a) after) (sym is) (by_turn t (none_tight (call_of t) before roomy) have)
   where
@@ -39,7 +38,7 @@ turns_ok t before after answer is life roomy have = subst (λ a. TurnsAll t befo
     by_turn (turn.Copy h n access) none have = (life, none, refl, have)
 
 pub turned_from : (t : Turn) (v u : Turning) (before mid after : List MapState) → mid ≡ before → v.turn ≡ t → VisitedEach Turns v mid u after →
-    is_any_worn_out before ≡ false → is_any_tight (slots_of (call_of t)) before ≡ false → AreAllowed t before → HaveTurned t before after
+    is_any_worn_out before ≡ false → is_any_tight (call_of t) before ≡ false → AreAllowed t before → HaveTurned t before after
 turned_from t v u before mid after same is each worn tight allowed =
     turns_done t v u before after is (subst (λ xs. VisitedEach Turns v xs u after) same each) worn tight allowed
 

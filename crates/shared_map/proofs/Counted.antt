@@ -1,14 +1,16 @@
 -- What all shards count, from what each does.
 use Rattle.std.proofs.Common.{◌≡◌, ℕ, ◌+◌, ◌*◌, ◌^◌, ◌<◌}
 use Rattle.std.proofs.Common.{Bool, true, false, ◌||◌, List, [], ◌∷◌, length, Option, Some, None}
-use Rattle.std.proofs.Common.{Ok, Err, nat_lt, refl, sym, ap, ap₂, subst, ◌∙◌, arith, length-append, suc-mul}
+use Rattle.std.proofs.Common.{Ok, Err, refl, sym, ap, ap₂, subst, ◌∙◌, arith, length-append, suc-mul}
 use Rattle.std.specs.FinMap as maps
 use Rattle.std.specs.List.{list_any}
 use Rattle.std.proofs.lemmas.List.Sums.{sum_by-cons}
-use Rattle.shared_map.specs.Vocabulary.{HandleState}
+use Rattle.history.specs.declared.calls.Call.{Call}
+use Rattle.history.specs.Worlds.{HandleState}
 use Rattle.ctrie_map.specs.declared.errors.MapError.{MapError}
 use Rattle.ctrie_map.specs.Maps.{MapState, free_of, handles_of}
 use Rattle.ctrie_map.specs.Reading.{read_of}
+use Rattle.ctrie_map.specs.Sharding.{may_lack_slots}
 use Rattle.shared_map.specs.Asking.{Measures, is_worn_out_for}
 use Rattle.shared_map.specs.Shards.{free_of_all, worlds_of}
 use Rattle.shared_map.specs.Summing.{Counts, Frees}
@@ -61,7 +63,7 @@ freed before after (s ∷ ss) (t ∷ ts) (between, did, each) =
     let (same, more) = freed between after ss ts each in (
       ap₂ (λ x xs. x ∷ xs) did.0 same,
       λ small.
-          let sum = sum_by-cons (λ (s : MapState). length s.core.heap.free) s ss in
+          let sum = sum_by-cons free_of s ss in
           let many = suc-mul (length ss) (2 ^ 32) in
           let now = did.1 in
           let few = did.2 in
@@ -71,9 +73,9 @@ freed before after (s ∷ ss) (t ∷ ts) (between, did, each) =
 
 -- ---- measured
 
--- one of these has fewer free slots
-abbrev pub is_any_tight : ℕ → List MapState → Bool
-is_any_tight slots shards = list_any (λ s. nat_lt (free_of s) slots) shards
+-- one of these may have no slots for the call
+abbrev pub is_any_tight : Call → List MapState → Bool
+is_any_tight call shards = list_any (may_lack_slots call) shards
 
 or_assoc : (a b c : Bool) → ((a || b) || c) ≡ (a || (b || c))
 or_assoc true b c = refl
@@ -84,7 +86,7 @@ or_none true = refl
 or_none false = refl
 
 pub measured : (before after : Measuring) (ss ts : List MapState) → VisitedEach Measures before ss after ts →
-    (ts ≡ ss) × (after.is_worn_out ≡ (before.is_worn_out || list_any (is_worn_out_for before.restores) ss)) × (after.is_tight ≡ (before.is_tight || is_any_tight before.slots ss))
+    (ts ≡ ss) × (after.is_worn_out ≡ (before.is_worn_out || list_any (is_worn_out_for before.restores) ss)) × (after.is_tight ≡ (before.is_tight || is_any_tight before.call ss))
 measured before after [] [] each = (
   refl,
   ap (λ (l : Measuring). l.is_worn_out) each ∙ sym (or_none before.is_worn_out),
@@ -97,7 +99,7 @@ measured before after (s ∷ ss) (t ∷ ts) (between, did, each) =
       ap₂ (λ x xs. x ∷ xs) did.0 same,
       worn ∙ ap₂ (λ b r. b || list_any (is_worn_out_for r) ss) did.3 did.2
           ∙ or_assoc before.is_worn_out (is_worn_out_for before.restores s) (list_any (is_worn_out_for before.restores) ss),
-      tight ∙ ap₂ (λ b n. b || is_any_tight n ss) did.4 did.1 ∙ or_assoc before.is_tight (nat_lt (free_of s) before.slots) (is_any_tight before.slots ss),
+      tight ∙ ap₂ (λ b c. b || is_any_tight c ss) did.4 did.1 ∙ or_assoc before.is_tight (may_lack_slots before.call s) (is_any_tight before.call ss),
     )
 
 -- ---- turned

@@ -1,7 +1,7 @@
 -- A restore in all shards is one of the whole.
 use Rattle.std.proofs.Common.{◌≡◌, ◌≢◌, ◌⊎◌, inl, inr, ℕ, ◌≤◌, ◌*◌, Bool, true, false, ◌&&◌, not, nat_eq, nat_le, nat_lt, if◌then◌else◌}
 use Rattle.std.proofs.Common.{List, [], ◌∷◌, length, map, Option, Some, None, option_map, Result, Ok, Err}
-use Rattle.std.proofs.Common.{refl, sym, ap, ap₂, subst, ◌∙◌, arith, ltb-false}
+use Rattle.std.proofs.Common.{refl, sym, ap, ap₂, subst, ◌∙◌, arith}
 use Rattle.std.specs.FinMap as maps
 use Rattle.std.proofs.lemmas.Bool.{cases_eq}
 use Rattle.std.proofs.lemmas.Option.{same_Some}
@@ -10,13 +10,13 @@ use Rattle.ctrie_map.specs.Costs.{WorksUpTo}
 use Rattle.ctrie_map.specs.Denials.{is_frozen}
 use Rattle.ctrie_map.specs.declared.errors.MapError.{MapError}
 use Rattle.ctrie_map.specs.declared.errors.MapError.TheVariants as error
-use Rattle.ctrie_map.specs.Maps.{MapState, free_of, handles_of}
+use Rattle.ctrie_map.specs.Maps.{MapState, handles_of}
 use Rattle.ctrie_map.specs.Reading.{writability_by}
 use Rattle.ctrie_map.specs.Restoring.{HasLifeIfTried, RefusesRestore, is_worn_out_to_restore, restore_denial_by}
+use Rattle.ctrie_map.specs.Sharding.{may_lack_slots}
 use Rattle.ctrie_map.proofs.Named.{at_other, at_same}
 use Rattle.shared_map.specs.Answering.{AnswersAll, RestoresAll, WorkUpTo}
 use Rattle.shared_map.specs.Asks.{Told, answer_to_restore, told_as}
-use Rattle.shared_map.specs.Beneath.proof_obstruction_free.specs.Calls.{slots_of}
 use Rattle.shared_map.specs.Restores.{RestoresAmong, restore_denial_among, work_of_a_restore}
 use Rattle.shared_map.specs.Restoring.{AreUndenied, ComesTo, IsRestoredAlone, RestoresEach, RestoresOne, restore_denial_from}
 use Rattle.shared_map.specs.Shards.{AreShards, IsAnyTight, is_any_worn_out_to_restore, last_given, world_of_all, worlds_of}
@@ -41,17 +41,17 @@ use Rattle.shared_map.proofs.United.{same_len, same_world, shown_as}
 -- ---- each shard in turn
 
 pub each_restored : (h copy : ℕ) (before after : Restoring) (ss ts : List MapState) → before.handle ≡ h → before.copy ≡ copy → VisitedEach RestoresOne before ss after ts →
-    is_any_worn_out_to_restore ss ≡ false → is_any_tight (slots_of (Snapshot copy)) ss ≡ false → AreUndenied h copy ss →
+    is_any_worn_out_to_restore ss ≡ false → is_any_tight (Snapshot copy) ss ≡ false → AreUndenied h copy ss →
     HaveBecome (turned (turn.Copy copy h Writable)) (λ last. last) work_of_a_restore ss ts
 each_restored h copy before after [] [] on from each life roomy none = tt
 each_restored h copy before after [] (t ∷ ts) on from each life roomy none = absurd each
 each_restored h copy before after (s ∷ ss) [] on from each life roomy none = absurd each
 each_restored h copy before after (s ∷ ss) (t ∷ ts) on from (between, did, each) life roomy none = (
   becomes_copy s t h copy none.0 (or_first (is_worn_out_to_restore s) (is_any_worn_out_to_restore ss) life)
-      (ltb-false (free_of s) (slots_of (Snapshot copy)) (or_first (nat_lt (free_of s) (slots_of (Snapshot copy))) (is_any_tight (slots_of (Snapshot copy)) ss) roomy))
+      (or_first (may_lack_slots (Snapshot copy) s) (is_any_tight (Snapshot copy) ss) roomy)
       between.told (subst (λ k. ComesTo s h k between.told t) from (subst (λ k. ComesTo s k before.copy between.told t) on did.2)) did.3,
   each_restored h copy between after ss ts (did.0 ∙ on) (did.1 ∙ from) each (or_second (is_worn_out_to_restore s) (is_any_worn_out_to_restore ss) life)
-      (or_second (nat_lt (free_of s) (slots_of (Snapshot copy))) (is_any_tight (slots_of (Snapshot copy)) ss) roomy) none.1,
+      (or_second (may_lack_slots (Snapshot copy) s) (is_any_tight (Snapshot copy) ss) roomy) none.1,
 )
 
 -- ---- why it isn't begun

@@ -4,8 +4,9 @@ use Rattle.std.proofs.Math.Nat.{mul-suc, mul-zero}
 use Rattle.std.proofs.lemmas.List.{take_all}
 use Rattle.std.proofs.lemmas.List.Sums.{sum_by-cons, sum_by_more}
 use Rattle.std.proofs.lemmas.Nat.{mul-le}
-use Rattle.shared_map.specs.Vocabulary.{HashKind}
-use Rattle.ctrie_map.specs.Maps.{MapState}
+use Rattle.ctrie_base.specs.declared.hashes.HashKind.{HashKind}
+use Rattle.ctrie_map.specs.Cores.{reserve}
+use Rattle.ctrie_map.specs.Maps.{MapState, slots_asked}
 use Rattle.shared_map.specs.Opening.{AreNew, AreNewMaps}
 use Rattle.shared_map.specs.Shards.{slots_of_all}
 
@@ -16,19 +17,19 @@ few_slots slots shards p q =
 slots_are : (slots : ℕ) (hash : HashKind) (ms : List MapState) → AreNew slots hash ms → slots_of_all ms ≡ slots * length ms
 slots_are slots hash [] new = sym (mul-zero slots)
 slots_are slots hash (m ∷ ms) new =
-    let one = sum_by-cons (λ (s : MapState). s.core.limits.slots) m ms in
+    let one = sum_by-cons slots_asked m ms in
     let more = slots_are slots hash ms new.1 in
     let product = mul-suc slots (length ms) in
-    let its : m.core.limits.slots ≡ slots = ap (λ (l : _). l.slots) new.0.0 in omega (arith, one, more, product, its)
+    let its : m.core.limits.slots ≡ slots + reserve = ap (λ (l : _). l.slots) new.0.0 in omega (arith, one, more, product, its)
 
 -- new maps
 pub new_slots : (slots shards : ℕ) (hash : HashKind) (ms : List MapState) → AreNewMaps slots hash shards ms → slots_of_all ms ≡ slots * shards
 new_slots slots shards hash ms new = slots_are slots hash ms new.0 ∙ ap (λ n. slots * n) new.1
 
 -- the first of these maps, and one more
-pub slots_more : (ms : List MapState) (i : ℕ) (m : MapState) → i < length ms → m ≡ get_or ms i m → slots_of_all (take (i + 1) ms) ≡ slots_of_all (take i ms) + m.core.limits.slots
+pub slots_more : (ms : List MapState) (i : ℕ) (m : MapState) → i < length ms → m ≡ get_or ms i m → slots_of_all (take (i + 1) ms) ≡ slots_of_all (take i ms) + slots_asked m
 slots_more ms i m within is =
-    sum_by_more (λ (s : MapState). s.core.limits.slots) ms i m within ∙ ap (λ (s : MapState). slots_of_all (take i ms) + s.core.limits.slots) (sym is)
+    sum_by_more slots_asked ms i m within ∙ ap (λ (s : MapState). slots_of_all (take i ms) + slots_asked s) (sym is)
 
 -- all of them
 pub slots_of_them : (ms : List MapState) (i : ℕ) → length ms ≤ i → slots_of_all (take i ms) ≡ slots_of_all ms

@@ -1,14 +1,21 @@
 -- A shard in which nothing stands in the way of a change of all is turned.
-use Rattle.std.proofs.Common.{◌≡◌, ◌≢◌, ℕ, Bool, true, false, nat_le, if◌then◌else◌, Option}
+use Rattle.std.proofs.Common.{◌≡◌, ◌≢◌, ◌&&◌, ℕ, Bool, true, false, length, nat_eq, nat_le, nat_lt, if◌then◌else◌, Option}
 use Rattle.std.proofs.Common.{Some, None, Ok, Err, refl, sym, ap, subst, ◌∙◌, arith, option_and_then}
 use Rattle.std.specs.FinMap as map
-use Rattle.std.proofs.lemmas.Bool.{true≢false}
+use Rattle.std.proofs.lemmas.Bool.{lt-ltb, true≢false}
 use Rattle.std.proofs.lemmas.Option.{same_Some}
-use Rattle.shared_map.specs.Vocabulary.{hash_of, Access, Writable, ReadOnly, Reply, map_of, naming, HandleMap, HandleState, KeyMap, handle_of, opens_handle, handle_limit}
+use Rattle.ctrie_base.specs.Hashes.{hash_of}
+use Rattle.history.specs.declared.calls.Access.{Access}
+use Rattle.history.specs.declared.calls.Access.TheVariants.{Writable, ReadOnly}
 use Rattle.history.specs.declared.calls.Call.TheVariants as call
+use Rattle.history.specs.declared.replies.Reply.{Reply}
 use Rattle.history.specs.declared.replies.Reply.TheVariants as reply
-use Rattle.ctrie_map.specs.Changes.{changes_map, denial_in}
-use Rattle.shared_map.specs.Beneath.proof_obstruction_free.specs.Calls.{slots_of}
+use Rattle.history.specs.Effects.{map_of, naming}
+use Rattle.history.specs.Worlds.{HandleMap, HandleState, KeyMap}
+use Rattle.machine_model.specs.Calls.{handle_of, opens_handle}
+use Rattle.machine_model.specs.States.{handle_limit}
+use Rattle.ctrie_map.specs.Changes.{LacksSlots, changes_map, denial_in}
+use Rattle.ctrie_map.specs.Sharding.{may_lack_slots}
 use Rattle.ctrie_map.specs.Costs.{WorksUpTo, work_of_a_copy, work_of_call}
 use Rattle.ctrie_map.specs.Denials.{denial_by}
 use Rattle.ctrie_map.specs.declared.errors.MapError.{MapError}
@@ -29,6 +36,17 @@ denied_any writes (Some s) m n = refl
 pub not_both : {X : Type 0} (o : Option X) (x : X) → o ≡ None → o ≡ Some x → ⊥
 not_both o x none some = let bad : None ≡ Some x = sym none ∙ some in cc
 
+-- a shard that may have slots has them
+clears : (s : MapState) (h : ℕ) → LacksSlots s (call.Clear h) → may_lack_slots (call.Clear h) s ≡ false → ⊥
+clears s h lacks e =
+    let many : nat_lt 1 (map.len (handles_of s)) ≡ true = lt-ltb 1 (map.len (handles_of s)) (omega (arith, lacks.0)) in
+    let few : nat_lt (length s.core.heap.free) 23 ≡ true = lt-ltb (length s.core.heap.free) 23 (omega (arith, lacks.1)) in
+    true≢false (sym (ap (λ b. b && nat_lt (length s.core.heap.free) 23) many ∙ few) ∙ e)
+
+copies : (s : MapState) (h : ℕ) (access : Access) → LacksSlots s (copy_call access h) → may_lack_slots (copy_call access h) s ≡ false → ⊥
+copies s h Writable none e = true≢false (sym (ap (λ n. nat_eq n 0) none) ∙ e)
+copies s h ReadOnly none e = true≢false (sym (ap (λ n. nat_eq n 0) none) ∙ e)
+
 module _ (s t : MapState) where
   -- ---- a clear
 
@@ -37,7 +55,7 @@ module _ (s t : MapState) where
     clear_allowed = denied_any true (map.get (handles_of s) h) (map.len (handles_of s)) 0 ∙ due.allowed
 
     clear_reply : (answer : Reply) → Answers s (call.Clear h) answer t → HasTurned (turn.Clear h) s t
-    clear_reply reply.NoSlots p = absurd (omega (arith, p.0.0, due.room))
+    clear_reply reply.NoSlots p = absurd (clears s h p.0 due.room)
     clear_reply (reply.Opened copy) (number, (next, effect, has)) =
         cc (says (handles_of s) h (λ m. (reply.Cleared, map.empty)) (reply.Opened copy) next effect).2
     clear_reply answer p =
@@ -67,7 +85,7 @@ module _ (s t : MapState) where
         (ap (λ (p : Reply × HandleMap). p.0) same, ap (λ (p : Reply × HandleMap). p.1) same)
 
     close_reply : (answer : Reply) → Answers s (call.Close h) answer t → HasTurned (turn.Close h) s t
-    close_reply reply.NoSlots p = absurd (omega (arith, p.0.0))
+    close_reply reply.NoSlots p = let tight = p.0.1 in absurd (omega (arith, tight))
     close_reply (reply.Opened copy) (number, (next, effect, has)) = cc (closed_so (reply.Opened copy) next (map.get (handles_of s) h) effect).0
     close_reply answer p =
         record { limits = p.3.0; last = p.3.1; handles = p.3.2 ∙ (closed_so answer p.1 (map.get (handles_of s) h) p.2).1; work = works }
@@ -92,10 +110,6 @@ module _ (s t : MapState) where
     opening Writable = refl
     opening ReadOnly = refl
 
-    slots_alike : (a : Access) → slots_of (copy_call a h) ≡ 23
-    slots_alike Writable = refl
-    slots_alike ReadOnly = refl
-
     works_alike : (a : Access) → work_of_call (copy_call a h) ≡ work_of_a_copy
     works_alike Writable = refl
     works_alike ReadOnly = refl
@@ -115,7 +129,7 @@ module _ (s t : MapState) where
     opened_so answer opens next effect = is_opened (handles_of s) opens access answer next (map_of (handles_of s) h) (sym (copying_so access opens) ∙ effect)
 
     copy_reply : (answer : Reply) → AnswersBy (λ copy. copy ≡ number) s (copy_call access h) answer t → HasTurned (turn.Copy h number access) s t
-    copy_reply reply.NoSlots p = absurd (omega (arith, p.0.0, due.room))
+    copy_reply reply.NoSlots p = absurd (copies s h access p.0 due.room)
     copy_reply (reply.Opened copy) (is, (next, effect, has)) =
         let o = opened_so (reply.Opened copy) (Some copy) next effect in
         let same : copy ≡ o.copy = cc o.told in
@@ -151,11 +165,6 @@ module _ (s t : MapState) where
     pub copy_turns : (told : Replied) → PerformsUnder number told s access h t → HasTurned (turn.Copy h number access) s t
     copy_turns (Ok answer) p = copy_reply answer p.0.1
     copy_turns (Err error) p = copy_error error p.0 p.1
-
--- so many slots a copy takes at most
-pub copy_slots : (h : ℕ) (access : Access) → 23 ≡ slots_of (copy_call access h)
-copy_slots h Writable = refl
-copy_slots h ReadOnly = refl
 
 -- it changes no map, and opens a handle
 pub copies_change_none : (h : ℕ) (access : Access) → false ≡ changes_map (copy_call access h)

@@ -17,7 +17,7 @@ use Rattle.shared_map.specs.declared.asks.Ask.TheVariants.{Do, From, Scan, First
 use Rattle.shared_map.specs.declared.asks.Request.{Request}
 use Rattle.shared_map.specs.Asks.{Replied, Told, told_as}
 use Rattle.shared_map.specs.Shards.{AreShards, IsNoneTight, LackSlots, concerned, free_of_all, have_room, is_any_worn_out, is_any_worn_out_to_restore}
-use Rattle.shared_map.specs.Shards.{last_given, steps_of_all, world_of_all}
+use Rattle.shared_map.specs.Shards.{last_given, steps_of_all, unused_in_all, world_of_all}
 use Rattle.shared_map.specs.Restores.{RestoresAmong, restore_denial_among, work_of_a_restore}
 use Rattle.shared_map.specs.Readings.{IsFirst, IsPart, IsScan}
 
@@ -33,7 +33,7 @@ Become before world after = HaveThen before world (last_given before) after
 abbrev pub WorkUpTo : ℕ → List MapState → List MapState → Type 0
 WorkUpTo most before after =
     (steps_of_all before ≤ steps_of_all after)
-    × (steps_of_all after + 5 * free_of_all before ≤ steps_of_all before + most + 5 * free_of_all after)
+    × (steps_of_all after + 5 * unused_in_all before ≤ steps_of_all before + most + 5 * unused_in_all after)
 
 module _ (hash : HashKind) (before : List MapState) where
   -- a change is begun

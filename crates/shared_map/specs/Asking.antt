@@ -1,5 +1,5 @@
 -- What shards are asked before all of them are changed.
-use Rattle.std.specs.Prelude.{◌≡◌, ◌&&◌, ◌||◌, ℕ, Bool, true, false, not, nat_le, nat_lt, if◌then◌else◌, Option, Some, None, Result, Ok, Err}
+use Rattle.std.specs.Prelude.{◌≡◌, ◌&&◌, ◌||◌, ℕ, Bool, true, false, not, nat_le, if◌then◌else◌, Option, Some, None, Result, Ok, Err}
 use Rattle.std.specs.FinMap as map
 use Rattle.shared_map.specs.Vocabulary.{handle_limit}
 use Rattle.ctrie_map.specs.Calling.{Calls}
@@ -7,10 +7,11 @@ use Rattle.ctrie_map.specs.Cores.{is_worn_out}
 use Rattle.ctrie_map.specs.Costs.{WorksUpTo, work_of_call}
 use Rattle.ctrie_map.specs.declared.errors.MapError.{MapError}
 use Rattle.ctrie_map.specs.declared.errors.MapError.TheVariants.{HandlesFull, ReadOnly}
-use Rattle.ctrie_map.specs.Maps.{MapState, free_of, handles_of}
+use Rattle.ctrie_map.specs.Maps.{MapState, handles_of}
 use Rattle.ctrie_map.specs.Names.{IsNext}
 use Rattle.ctrie_map.specs.Reading.{writability}
 use Rattle.ctrie_map.specs.Restoring.{is_worn_out_to_restore}
+use Rattle.ctrie_map.specs.Sharding.{may_lack_slots}
 use Rattle.shared_map.specs.declared.asking.Calling.{Calling}
 use Rattle.shared_map.specs.declared.asking.Knowing.{Knowing}
 use Rattle.shared_map.specs.declared.asking.Measuring.{Measuring}
@@ -43,8 +44,8 @@ is_worn_out_for false shard = is_worn_out shard.core
 
 abbrev pub Measures : Measuring → MapState → Measuring → MapState → Type 0
 Measures before shard after later =
-    (later ≡ shard) × (after.slots ≡ before.slots) × (after.restores ≡ before.restores)
-    × (after.is_worn_out ≡ (before.is_worn_out || is_worn_out_for before.restores shard)) × (after.is_tight ≡ (before.is_tight || nat_lt (free_of shard) before.slots))
+    (later ≡ shard) × (after.call ≡ before.call) × (after.restores ≡ before.restores)
+    × (after.is_worn_out ≡ (before.is_worn_out || is_worn_out_for before.restores shard)) × (after.is_tight ≡ (before.is_tight || may_lack_slots before.call shard))
 
 abbrev pub CallsOne : Calling → MapState → Calling → MapState → Type 0
 CallsOne before shard after later = Calls after.told shard before.call later × WorksUpTo (work_of_call before.call) shard later

@@ -1,13 +1,15 @@
 -- The shards of one map, and the world of the whole.
-use Rattle.std.specs.Prelude.{◌≡◌, ℕ, ◌≤◌, Bool, Option, Some, None, List, [], ◌∷◌, length, map, option_map, option_to_list, slice_get, sum_by, not, nat_lt}
+use Rattle.std.specs.Prelude.{◌≡◌, ℕ, ◌≤◌, Bool, true, Option, Some, None, List, [], ◌∷◌, length, map, option_map, option_to_list, slice_get, sum_by, not, nat_eq}
 use Rattle.std.specs.List.{list_any}
-use Rattle.shared_map.specs.Vocabulary.{HashKind, Access, Call, HandleMap}
-use Rattle.ctrie_map.specs.Beneath.proof_obstruction_free.specs.Calls.{slots_of}
-use Rattle.ctrie_map.specs.Beneath.proof_obstruction_free.specs.Slots.{most_makes_alone}
+use Rattle.ctrie_base.specs.declared.hashes.HashKind.{HashKind}
+use Rattle.history.specs.declared.calls.Access.{Access}
+use Rattle.history.specs.declared.calls.Call.{Call}
+use Rattle.history.specs.Worlds.{HandleMap}
 use Rattle.ctrie_map.specs.Changes.{LacksSlots}
-use Rattle.ctrie_map.specs.Cores.{IsTight, is_worn_out}
-use Rattle.ctrie_map.specs.Maps.{MapState, free_of, handles_of}
+use Rattle.ctrie_map.specs.Cores.{is_worn_out}
+use Rattle.ctrie_map.specs.Maps.{MapState, free_of, handles_of, slots_asked}
 use Rattle.ctrie_map.specs.Restoring.{is_worn_out_to_restore}
+use Rattle.ctrie_map.specs.Sharding.{may_lack_slots}
 use Rattle.shared_map.specs.Asks.{key_in, place_of}
 use Rattle.shared_map.specs.Uniting.{AreOfKinds, AreOwnFrom, united}
 
@@ -57,11 +59,11 @@ is_any_worn_out shards = list_any (λ s. is_worn_out s.core) shards
 abbrev pub is_any_worn_out_to_restore : List MapState → Bool
 is_any_worn_out_to_restore shards = list_any is_worn_out_to_restore shards
 
--- one of these has fewer free slots than such a call may take
+-- one of these may have no slots for such a call
 abbrev pub IsAnyTight : Call → List MapState → Type 0
-IsAnyTight call shards = (i : ℕ) × (s : MapState) × (slice_get shards i ≡ Some s) × IsTight (slots_of call) s.core
+IsAnyTight call shards = (i : ℕ) × (s : MapState) × (slice_get shards i ≡ Some s) × (may_lack_slots call s ≡ true)
 
--- The only shard's last step before the answer was to make a node, and no slot was free. Where there are several, they are asked before, and one of them is tight.
+-- The only shard has none for it. Where there are several, they are asked before, and one of them may have none.
 abbrev pub LackSlots : Call → List MapState → Type 0
 LackSlots call (s ∷ []) = LacksSlots s call
 LackSlots call shards = IsAnyTight call shards
@@ -74,14 +76,18 @@ IsNoneTight call shards = ¬ IsAnyTight call shards
 -- ---- what is counted of all shards
 
 abbrev pub free_of_all : List MapState → ℕ
-free_of_all shards = sum_by (λ s. length s.core.heap.free) shards
+free_of_all shards = sum_by free_of shards
+
+-- with those in reserve
+abbrev pub unused_in_all : List MapState → ℕ
+unused_in_all shards = sum_by (λ s. length s.core.heap.free) shards
 
 abbrev pub steps_of_all : List MapState → ℕ
 steps_of_all shards = sum_by (λ s. s.core.steps) shards
 
 abbrev pub slots_of_all : List MapState → ℕ
-slots_of_all shards = sum_by (λ s. s.core.limits.slots) shards
+slots_of_all shards = sum_by slots_asked shards
 
--- none of these has fewer free slots than any call may take
+-- a slot is free in each of these
 abbrev pub have_room : List MapState → Bool
-have_room shards = not (list_any (λ s. nat_lt (free_of s) most_makes_alone) shards)
+have_room shards = not (list_any (λ s. nat_eq (free_of s) 0) shards)

@@ -8,10 +8,10 @@ use Rattle.ctrie_map.specs.Changes.{changes_map}
 use Rattle.ctrie_map.specs.Cores.{is_worn_out}
 use Rattle.ctrie_map.specs.Costs.{WorksUpTo, work_of_call}
 use Rattle.ctrie_map.specs.Denials.{denial_by}
-use Rattle.ctrie_map.specs.Maps.{MapState, free_of, handles_of}
+use Rattle.ctrie_map.specs.Maps.{MapState, handles_of}
 use Rattle.ctrie_map.specs.Names.{IsNext}
 use Rattle.ctrie_map.specs.Performing.{copy_call}
-use Rattle.shared_map.specs.Beneath.proof_obstruction_free.specs.Calls.{slots_of}
+use Rattle.ctrie_map.specs.Sharding.{may_lack_slots}
 use Rattle.shared_map.specs.declared.turning.Turn.{Turn}
 use Rattle.shared_map.specs.declared.turning.Turn.TheVariants as turn
 use Rattle.shared_map.specs.declared.turning.Turning.{Turning}
@@ -58,7 +58,7 @@ pub record IsDue (turn : Turn) (shard : MapState) : Type 0 where
   pub allowed : denial_by (changes_map (call_of turn)) false (map.get (handles_of shard) (handle_of (call_of turn))) 0 ≡ None
   pub free : IsFree turn (handles_of shard)
   pub life : is_worn_out shard.core ≡ false
-  pub room : slots_of (call_of turn) ≤ free_of shard
+  pub room : may_lack_slots (call_of turn) shard ≡ false
 
 -- its handles become these, and the number that was given last this one, by so much work at most
 pub record HasBecome (become : HandleMap → HandleMap) (gives : ℕ → ℕ) (most : ℕ) (before after : MapState) : Type 0 where

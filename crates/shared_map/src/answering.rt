@@ -15,8 +15,8 @@ use crate::restoring::restore_all;
 use crate::visits::visit_each;
 use crate::wholes::call_all;
 use ctrie_base::HashKind;
-use ctrie_map::{Handle, Map, MapError, SLOTS_FOR_A_CALL};
-use history::Reply;
+use ctrie_map::{Handle, Map, MapError};
+use history::{Call, Reply};
 use sharded_gate::{Sharded, Shards};
 
 impl Sharded<Request, Told> for Map {
@@ -129,14 +129,14 @@ fn free_in_all<S: Shards<Map>>(shards: &mut S) -> u64
     freeing.slots
 }
 
-/// Whether each shard has free slots enough for any call.
+/// Whether a slot is free in each shard.
 fn have_room<S: Shards<Map>>(shards: &mut S) -> bool
     ensures room { result ≡ have_room (S.items shards.old) }
     ensures same { S.items shards.new ≡ S.items shards.old }
     ensures rest { S.rest shards.new ≡ S.rest shards.old }
 {
     let mut measuring = Measuring {
-        slots: SLOTS_FOR_A_CALL,
+        call: Call::Snapshot { handle: 0 },
         restores: false,
         is_worn_out: false,
         is_tight: false,

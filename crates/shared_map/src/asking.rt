@@ -79,10 +79,10 @@ pub(crate) fn first_of<S: Shards<Map>>(shards: &mut S, handle: u16, hash: HashKi
     first
 }
 
-/// Whether one of the shards has no life or no room for a change that takes so many slots at most.
+/// Whether one of the shards has no life for a change, or may have no slots for this one.
 #[derive(Drop)]
 pub(crate) struct Measuring {
-    pub(crate) slots: u32,
+    pub(crate) call: Call,
     /// Whether the change is a restore, which wants its own steps besides.
     pub(crate) restores: bool,
     pub(crate) is_worn_out: bool,
@@ -94,7 +94,7 @@ impl Visit<Map> for Measuring {
 
     fn visit(&mut self, map: &mut Map) {
         let is_worn_out = is_worn_out_for(self.restores, map);
-        let is_tight = map.free() < self.slots;
+        let is_tight = map.may_lack_slots(self.call);
         self.is_worn_out = self.is_worn_out || is_worn_out;
         self.is_tight = self.is_tight || is_tight;
     }
@@ -116,8 +116,7 @@ fn is_worn_out_for(restores: bool, map: &Map) -> bool
 fn is_worn_out_to_restore(map: &Map) -> bool
     ensures { result ≡ is_worn_out_to_restore map.now }
 {
-    let used = u64::from(map.slots()).saturating_sub(u64::from(map.free()));
-    map.life_left() <= COPY_STEPS + 5 * used
+    map.life_left() <= COPY_STEPS + 5 * u64::from(map.used())
 }
 
 /// The call as a map alone answers it.

@@ -23,7 +23,7 @@ mod wholes;
 
 pub use asks::{Answer, Ask, Request, Told};
 pub use calling::MapCalls;
-pub use ctrie_map::{Difference, Handle, HashKind, Map, MapError, SLOTS_FOR_A_CALL};
+pub use ctrie_map::{Difference, Handle, HashKind, Map, MapError, slots_for};
 pub use finishing::only_shard;
 pub use history::{Call, Pairs, Reply};
 pub use laws::{

@@ -8,9 +8,9 @@ ghost use Rattle.shared_map.specs.Wholes.{AnswersIf};
 
 use crate::asking::{Knowing, Measuring, first_of};
 use crate::asks::{Answer, Told, told_restored};
-use crate::turning::COPY_SLOTS;
 use crate::visits::visit_each;
 use ctrie_map::{Handle, Map, MapError};
+use history::Call;
 use sharded_gate::{Shards, Visit};
 
 /// Gives the handle the map of another one in each shard.
@@ -105,7 +105,7 @@ fn restore_each<S: Shards<Map>>(shards: &mut S, handle: u16, copy: u16) -> Told
     ensures rest { S.rest shards.new ≡ S.rest shards.old }
 {
     let mut measuring = Measuring {
-        slots: COPY_SLOTS,
+        call: Call::Snapshot { handle: copy },
         restores: true,
         is_worn_out: false,
         is_tight: false,

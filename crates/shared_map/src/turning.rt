@@ -3,15 +3,11 @@
 ghost use Rattle.std.specs.Prelude.{◌≡◌};
 ghost use Rattle.machine_model.specs.Calls.{opens_handle};
 ghost use Rattle.ctrie_map.specs.Changes.{changes_map};
-ghost use Rattle.shared_map.specs.Beneath.proof_obstruction_free.specs.Calls.{slots_of};
 ghost use Rattle.shared_map.specs.Turning.{Turns, call_of, reply_of};
 
 use ctrie_map::{Handle, Map};
 use history::{Access, Call, Reply};
 use sharded_gate::Visit;
-
-/// So many slots are enough for a clear, a copy or a restore.
-pub(crate) const COPY_SLOTS: u32 = 23;
 
 /// A change of all shards.
 #[derive(Clone, Copy)]
@@ -33,14 +29,17 @@ pub(crate) enum Turn {
 }
 
 impl Turn {
-    /// How many slots it takes in a shard at most.
-    #[tactic(auto, using(crate::proofs::TurnOne::copy_slots))]
-    pub(crate) fn slots(self) -> u32
-        ensures { result ≡ slots_of (call_of self) }
+    /// The call that it is.
+    pub(crate) fn call(self) -> Call
+        ensures { result ≡ call_of self }
     {
         match self {
-            Turn::Clear { .. } | Turn::Copy { .. } => COPY_SLOTS,
-            Turn::Close { .. } => 0,
+            Turn::Clear { handle } => Call::Clear { handle },
+            Turn::Close { handle } => Call::Close { handle },
+            Turn::Copy { handle, access, .. } => match access {
+                Access::Writable => Call::Snapshot { handle },
+                Access::ReadOnly => Call::Freeze { handle },
+            },
         }
     }
 

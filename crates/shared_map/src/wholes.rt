@@ -96,7 +96,7 @@ fn turn_all<S: Shards<Map>>(shards: &mut S, turn: Turn) -> Replied
     ensures rest { S.rest shards.new ≡ S.rest shards.old }
 {
     let mut measuring = Measuring {
-        slots: turn.slots(),
+        call: turn.call(),
         restores: false,
         is_worn_out: false,
         is_tight: false,

@@ -82,7 +82,7 @@ fn changes(rt: HostRuntime) -> Result<(), Fail> {
     };
     assert_eq!(rt; map.slots(), 64);
     assert_eq!(rt; change(&rt, &map, &mut seat), Ok(true));
-    assert_eq!(rt; clear(&rt, &map, &mut seat), Ok((0, 62, false)));
+    assert_eq!(rt; clear(&rt, &map, &mut seat), Ok((0, 62, true)));
     Ok(())
 }
 
@@ -106,20 +106,28 @@ fn read_and_copy<R: Wait + AllocGlobal + Abort>(rt: &R, shards: u8) -> Result<()
     Ok(())
 }
 
-/// A freeze of a new map in two shards, each of so many slots.
-fn freeze_two_shards<R: Wait + AllocGlobal>(rt: &R, slots: u32) -> Result<Handle, MapError> {
-    let (map, mut seats) = SharedMap::new(rt.alloc(), slots, HashKind::Fold, 1, 2)?;
-    match seats.pop() {
-        Some(mut seat) => seat.freeze(rt, &map, Handle::first()),
-        None => Err(MapError::BadSizes),
+/// A freeze of a map in two shards, each of three slots, in which so many keys are to be put; and after it a clear.
+fn freeze_two_shards<R: Wait + AllocGlobal>(
+    rt: &R,
+    keys: u64,
+) -> Result<(Result<Handle, MapError>, Result<(), MapError>), MapError> {
+    let (map, mut seats) = SharedMap::new(rt.alloc(), 3, HashKind::Fold, 1, 2)?;
+    let Some(mut seat) = seats.pop() else {
+        return Err(MapError::BadSizes);
+    };
+    for key in 0..keys {
+        let _ = seat.put(rt, &map, Handle::first(), key, key);
     }
+    let copy = seat.freeze(rt, &map, Handle::first());
+    let cleared = seat.clear(rt, &map, Handle::first());
+    Ok((copy, cleared))
 }
 
-/// A new map takes two slots of each shard, and a copy wants 23 of each of several.
+/// A new map takes two slots of each shard, and a key the third one: then no copy is made, and a clear is done.
 #[test]
-fn a_copy_is_full_where_a_shard_is_tight(rt: HostRuntime) -> Result<(), Fail> {
-    assert_eq!(rt; freeze_two_shards(&rt, 24).err(), Some(MapError::Full));
-    assert!(rt; freeze_two_shards(&rt, 25).is_ok());
+fn a_copy_is_full_where_a_shard_is(rt: HostRuntime) -> Result<(), Fail> {
+    assert_eq!(rt; freeze_two_shards(&rt, 0), Ok((Ok(Handle::new(1)), Ok(()))));
+    assert_eq!(rt; freeze_two_shards(&rt, 40), Ok((Err(MapError::Full), Ok(()))));
     Ok(())
 }
 

@@ -1,4 +1,4 @@
-use Rattle.std.proofs.Common.{Ok, sym, subst, ◌∙◌}
+use Rattle.std.proofs.Common.{Ok, sym, subst, ◌∙◌, ap, refl}
 use Rattle.std.proofs.lemmas.Result.{err_from_is_err_and}
 use Rattle.ctrie_map.specs.Vocabulary.{Snapshot}
 use Rattle.ctrie_map.specs.Cores.{Carries}
@@ -59,5 +59,18 @@ returns-in_default-2 c =
     c.in_default-2.not-Opened c.in_ok-reply.ensures.carries in record {
       whole = record { calm = c.perform.ensures.calm; named = u.named };
       performs = u.performs;
+      full = λ full. sym c.in_ok-reply.was ∙ c.perform.ensures.full full.1 refl full.3;
       work = c.perform.ensures.work;
     }
+
+pub returns-in_default-clause-full : goal.returns-in_default-clause-full
+returns-in_default-clause-full c = λ full. cc (sym full.0 ∙ (returns-in_default-clause-performs c).0)
+
+pub returns-in_default-next_free-clause-full : goal.returns-in_default-next_free-clause-full
+returns-in_default-next_free-clause-full c = λ full. cc (sym full.0 ∙ (returns-in_default-next_free-clause-performs c).0)
+
+pub returns-in_err-reply-clause-full : goal.returns-in_err-reply-clause-full
+returns-in_err-reply-clause-full c = λ full. cc (sym c.in_err-reply.was ∙ c.perform.ensures.full full.1 refl full.3)
+
+pub returns-in-Opened-clause-full : goal.returns-in-Opened-clause-full
+returns-in-Opened-clause-full c = λ full. cc (sym (ap Ok c.in-Opened.is) ∙ sym c.in_ok-reply.was ∙ c.perform.ensures.full full.1 refl full.3)

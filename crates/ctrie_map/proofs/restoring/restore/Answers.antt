@@ -64,3 +64,15 @@ returns-clause-life c =
     life_if c.args.core.now.state c.args.names.now c.requires.whole c.args.handle c.args.copy c.in-Some.name (sym c.find.ensures ∙ c.in-Some.is)
     c.in-Some-find.source (sym c.find-2.ensures ∙ c.in-Some-find.is) (not_frozen c.in-Some.name.access c.in_default-access.not-ReadOnly) c.if-handle-copy.false
     (sym c.is_worn_out_by.ensures ∙ c.if-is_worn_out_by.false) c.take_map.result
+
+pub returns-in_default-clause-full : goal.returns-in_default-clause-full
+returns-in_default-clause-full c = λ full. cc (sym full.1 ∙ (returns-in_default-clause-refused c).0)
+
+pub returns-in_default-find-clause-full : goal.returns-in_default-find-clause-full
+returns-in_default-find-clause-full c = λ full. cc (sym full.1 ∙ (returns-in_default-find-clause-refused c).0)
+
+pub returns-in-ReadOnly-clause-full : goal.returns-in-ReadOnly-clause-full
+returns-in-ReadOnly-clause-full c = λ full. cc (sym full.1 ∙ (returns-in-ReadOnly-clause-refused c).0)
+
+pub returns-then-many-ge-NAMES-clause-full : goal.returns-then-many-ge-NAMES-clause-full
+returns-then-many-ge-NAMES-clause-full c = λ full. cc (sym full.1 ∙ (returns-then-many-ge-NAMES-clause-refused c).0)

@@ -1,4 +1,4 @@
-use Rattle.std.proofs.Common.{◌≡◌, Ok, refl, sym, subst, ◌∙◌}
+use Rattle.std.proofs.Common.{◌≡◌, Ok, refl, sym, subst, ◌∙◌, ap}
 use Rattle.std.proofs.lemmas.Result.{err_from_is_err_and}
 use Rattle.ctrie_map.specs.Vocabulary.{Snapshot}
 use Rattle.ctrie_map.specs.Beneath.map_worlds.specs.Worlds.{world_of}
@@ -63,5 +63,15 @@ returns-in_default-2 c =
     (λ copy. copy ≡ c.args.number) c.in_ok-reply.reply c.perform.new.core.state c.in_default-2.not-Opened c.in_ok-reply.ensures.carries in record {
       whole = record { calm = c.perform.ensures.calm; named = u.named };
       performs = (u.performs, (λ e. cc e));
+      full = λ full. sym c.in_ok-reply.was ∙ c.perform.ensures.full full.1 refl full.3;
       work = c.perform.ensures.work;
     }
+
+pub returns-in_default-clause-full : goal.returns-in_default-clause-full
+returns-in_default-clause-full c = λ full. cc (sym full.0 ∙ (returns-in_default-clause-performs c).0.0)
+
+pub returns-in_err-reply-clause-full : goal.returns-in_err-reply-clause-full
+returns-in_err-reply-clause-full c = λ full. cc (sym c.in_err-reply.was ∙ c.perform.ensures.full full.1 refl full.3)
+
+pub returns-in-Opened-clause-full : goal.returns-in-Opened-clause-full
+returns-in-Opened-clause-full c = λ full. cc (sym (ap Ok c.in-Opened.is) ∙ sym c.in_ok-reply.was ∙ c.perform.ensures.full full.1 refl full.3)

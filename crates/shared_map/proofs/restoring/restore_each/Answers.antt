@@ -9,19 +9,19 @@ use Rattle.shared_map.proofs.restoring.restore_each.Goals as goal
 
 pub returns-then-measuring-clause-restores : goal.returns-then-measuring-clause-restores
 returns-then-measuring-clause-restores g c =
-    let (same, worn, tight) = measured (record { slots = 23; restores = true; is_worn_out = false; is_tight = false }) c.visit_each.new.visitor
+    let (same, worn, tight) = measured (record { call = Snapshot c.args.copy; restores = true; is_worn_out = false; is_tight = false }) c.visit_each.new.visitor
     (g.S.Shards.items c.args.shards.now) (g.S.Shards.items c.visit_each.new.shards) c.visit_each.ensures.visited in
     (c.requires, sym worn ∙ c.if-measuring.true, same)
 
 pub returns-then-measuring-2-clause-restores : goal.returns-then-measuring-2-clause-restores
 returns-then-measuring-2-clause-restores g c =
-    let (same, worn, tight) = measured (record { slots = 23; restores = true; is_worn_out = false; is_tight = false }) c.visit_each.new.visitor
+    let (same, worn, tight) = measured (record { call = Snapshot c.args.copy; restores = true; is_worn_out = false; is_tight = false }) c.visit_each.new.visitor
     (g.S.Shards.items c.args.shards.now) (g.S.Shards.items c.visit_each.new.shards) c.visit_each.ensures.visited in
     (c.requires, sym worn ∙ c.if-measuring.false, tight_is (Snapshot c.args.copy) (g.S.Shards.items c.args.shards.now) (sym tight ∙ c.if-measuring-2.true), same)
 
 pub returns-clause-restores : goal.returns-clause-restores
 returns-clause-restores g c =
-    let (same, worn, tight) = measured (record { slots = 23; restores = true; is_worn_out = false; is_tight = false }) c.visit_each.new.visitor
+    let (same, worn, tight) = measured (record { call = Snapshot c.args.copy; restores = true; is_worn_out = false; is_tight = false }) c.visit_each.new.visitor
     (g.S.Shards.items c.args.shards.now) (g.S.Shards.items c.visit_each.new.shards) c.visit_each.ensures.visited in (
       refl,
       (λ e. absurd (c.requires e)),
