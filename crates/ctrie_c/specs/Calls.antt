@@ -2,18 +2,9 @@
 use Rattle.std.specs.Prelude.{◌≡◌, ◌⊎◌, ◌<◌, ◌≤◌, ◌+◌, ◌-◌, ℕ, nat_eq, List, length, Bool, Option, Some, None, Result, Ok, IfOk, IfErr, IsTrue, if◌then◌else◌}
 use Rattle.std.specs.Prelude as list
 use Rattle.std.specs.FinMap as map
-use Rattle.ctrie_base.specs.declared.hashes.HashKind.{HashKind}
-use Rattle.ctrie_base.specs.declared.hashes.HashKind.TheVariants.{Low, Fold, Wide, Block}
-use Rattle.history.specs.declared.calls.Access.{Access}
-use Rattle.history.specs.declared.calls.Access.TheVariants.{Writable, ReadOnly}
-use Rattle.history.specs.declared.calls.Call.{Call}
-use Rattle.history.specs.declared.calls.Call.TheVariants.{Clear, Close, Freeze, Put, PutIfAbsent, Remove, RemoveIf, Replace, ReplaceIf, Snapshot}
-use Rattle.history.specs.Effects.{has_value}
-use Rattle.history.specs.Worlds.{KeyMap}
-use Rattle.shared_map.specs.Beneath.ctrie_map.specs.Beneath.proof_alone.specs.Beneath.machine_model.specs.States.{handle_limit}
+use Rattle.ctrie_c.specs.Vocabulary.{HashKind, Low, Fold, Wide, Block, Access, Writable, ReadOnly, Call, Clear, Close, Freeze, Put, PutIfAbsent, Remove, RemoveIf, Replace, ReplaceIf, Snapshot}
+use Rattle.ctrie_c.specs.Vocabulary.{has_value, KeyMap, handle_limit, in_use, most_slots}
 use Rattle.shared_map.specs.Beneath.proof_memory.specs.Sweeping.{UsesReached}
-use Rattle.shared_map.specs.Beneath.slot_arena.specs.Heaps.{in_use}
-use Rattle.shared_map.specs.Beneath.slot_arena.specs.Refs.{most_slots}
 use Rattle.shared_map.specs.Beneath.ctrie_map.specs.declared.errors.MapError.{MapError}
 use Rattle.shared_map.specs.Beneath.ctrie_map.specs.declared.errors.MapError.TheVariants.{Memory}
 use Rattle.shared_map.specs.Beneath.ctrie_map.specs.Batches.{work_of_changes}

@@ -5,3 +5,4 @@ pub mod Comparing
 pub mod Holding
 pub mod Listing
 pub mod Sharing
+pub mod Vocabulary

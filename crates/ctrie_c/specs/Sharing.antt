@@ -1,11 +1,10 @@
 -- What a C program holds of a shared map: a seat with a share of it; and what the calls do.
 use Rattle.std.specs.Prelude.{◌≡◌, ◌≢◌, ◌<◌, ◌⊎◌, ℕ, List, [], ◌∷◌, ◌++◌, length, take, drop, map, min, Bool, Option, Some, None, Result, Ok, Err, IfOk, IfErr}
-use Rattle.ctrie_base.specs.declared.hashes.HashKind.{HashKind}
+use Rattle.ctrie_c.specs.Vocabulary.{HashKind, Entries}
 use Rattle.shared_map.specs.Beneath.ctrie_map.specs.declared.errors.MapError.{MapError}
 use Rattle.shared_map.specs.Beneath.ctrie_map.specs.declared.errors.MapError.TheVariants.{Memory}
 use Rattle.shared_map.specs.Beneath.ctrie_map.specs.Maps.{AreSlots}
 use Rattle.gate.specs.Logs.{saturated}
-use Rattle.history.specs.declared.calls.Call.TheVariants.{Entries}
 use Rattle.shared_map.specs.declared.asks.Ask.{Ask}
 use Rattle.shared_map.specs.declared.asks.Ask.TheVariants.{Do, Scan}
 use Rattle.shared_map.specs.Beneath.sharded_gate.specs.declared.gates.ShardCount.{ShardCount}

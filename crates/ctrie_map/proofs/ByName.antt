@@ -3,17 +3,11 @@ use Rattle.std.specs.Prelude.{◌≡◌, ◌≢◌, ◌<◌, ℕ, Bool, true, fa
 use Rattle.std.specs.FinMap as map
 use Rattle.std.proofs.Common.{refl, sym, ap, subst, arith, ◌∙◌}
 use Rattle.std.proofs.lemmas.Option.{same_Some}
-use Rattle.ctrie_base.specs.Hashes.{hash_of}
-use Rattle.history.specs.declared.calls.Access.{Access}
-use Rattle.history.specs.declared.calls.Access.TheVariants.{Writable, ReadOnly}
-use Rattle.history.specs.declared.calls.Call.{Call}
+use Rattle.ctrie_map.specs.Vocabulary.{hash_of, Access, Writable, ReadOnly, Call, Reply, Closed, Cleared, Crowded, Found, NoSlots, Opened, changing, copying, effect, is_crowded, naming}
+use Rattle.ctrie_map.specs.Vocabulary.{put_if_absent_in, remove_in, remove_if_in, replace_in, replace_if_in, with_access, writable_map_of, HandleMap, HandleState, KeyMap, handle_of, needs_writable}
+use Rattle.ctrie_map.specs.Vocabulary.{opens_handle, State, handle_limit}
 use Rattle.history.specs.declared.calls.Call.TheVariants as call
-use Rattle.history.specs.declared.replies.Reply.{Reply}
-use Rattle.history.specs.declared.replies.Reply.TheVariants.{Closed, Cleared, Crowded, Found, NoSlots, Opened}
-use Rattle.history.specs.Effects.{changing, copying, effect, is_crowded, naming, put_in, put_if_absent_in, remove_in, remove_if_in, replace_in, replace_if_in, with_access, writable_map_of}
-use Rattle.history.specs.Worlds.{HandleMap, HandleState, KeyMap}
-use Rattle.machine_model.specs.Calls.{handle_of, needs_writable, opens_handle}
-use Rattle.machine_model.specs.States.{State, handle_limit}
+use Rattle.history.specs.Effects.{put_in}
 use Rattle.ctrie_map.specs.Beneath.map_worlds.specs.Worlds.{world_of}
 use Rattle.ctrie_map.specs.declared.errors.MapError.{MapError}
 use Rattle.ctrie_map.specs.declared.errors.MapError.TheVariants as error

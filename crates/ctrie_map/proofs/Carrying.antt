@@ -1,13 +1,8 @@
 -- A call that is carried out from rest with the sweep behind it, seen in its handles.
 use Rattle.std.specs.Prelude.{◌≡◌, ◌+◌, ◌*◌, ◌<◌, ◌≤◌, ◌^◌, ◌&&◌, ℕ, false, nat_eq, [], length, None, Ok}
 use Rattle.std.proofs.Common.{refl, sym, ap, subst, arith, ◌∙◌}
-use Rattle.history.specs.declared.calls.Call.{Call}
+use Rattle.ctrie_map.specs.Vocabulary.{Call, Reply, NoSlots, Bounds, key_of, State}
 use Rattle.history.specs.declared.calls.Call.TheVariants as call
-use Rattle.history.specs.declared.replies.Reply.{Reply}
-use Rattle.history.specs.declared.replies.Reply.TheVariants.{NoSlots}
-use Rattle.machine_model.specs.declared.steps.Bounds.{Bounds}
-use Rattle.machine_model.specs.Calls.{key_of}
-use Rattle.machine_model.specs.States.{State}
 use Rattle.ctrie_map.specs.Beneath.proof_obstruction_free.specs.Laws.{most_steps_alone}
 use Rattle.proof_alone.specs.Calls.{Acts, CallsDo, CanCall, Does, EnoughSlotsForCalls, RefusedIfOut, RunsOut, steps_of}
 use Rattle.ctrie_map.specs.Beneath.proof_obstruction_free.specs.Calls.{IsNoWalk, slots_of}

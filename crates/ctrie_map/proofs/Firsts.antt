@@ -7,22 +7,14 @@ use Rattle.std.proofs.lemmas.Bool.{cases_eq, cases_lt, true≢false}
 use Rattle.std.proofs.lemmas.List.{get_or-replicate, get_or_past, length-replicate}
 use Rattle.std.proofs.lemmas.List.Folds.{sum_by-replicate}
 use Rattle.std.proofs.lemmas.Option.{same_Some}
-use Rattle.history.specs.declared.calls.Access.TheVariants.{Writable}
-use Rattle.history.specs.Worlds.{HandleState, first_world}
+use Rattle.ctrie_map.specs.Vocabulary.{Writable, HandleState, first_world, HashKind, Refusal, Bounds, AreBounds, longest_life, run_from, State, first_heap, first_state, taken, handle_limit}
 use Rattle.std.proofs.lemmas.List.FromFn.{length-range_with_len}
-use Rattle.ctrie_base.specs.declared.hashes.HashKind.{HashKind}
-use Rattle.ctrie_base.specs.declared.refusals.Refusal.{Refusal}
-use Rattle.machine_model.specs.declared.steps.Bounds.{Bounds}
-use Rattle.machine_model.specs.Machine.{AreBounds, longest_life, run_from}
-use Rattle.machine_model.specs.States.{State, first_heap, first_state}
 use Rattle.ctrie_map.specs.Beneath.map_worlds.proofs.First.{first_is_shown}
 use Rattle.ctrie_map.specs.Beneath.proof_core.specs.Bounds.{RefusesBounds}
-use Rattle.ctrie_map.specs.Beneath.slot_arena.specs.Heaps.{taken}
 use Rattle.ctrie_map.specs.declared.errors.MapError.{MapError}
 use Rattle.ctrie_map.specs.Beneath.proof_straight.specs.Resting.{IsOfRun}
 use Rattle.proof_sizes.specs.Nodes.{HandlesUseSlots}
 use Rattle.ctrie_map.specs.Cores.{IsCalm, LeavesRoom, reserve}
-use Rattle.machine_model.specs.States.{handle_limit}
 use Rattle.ctrie_map.specs.Beneath.map_worlds.specs.Worlds.{world_of}
 use Rattle.ctrie_map.specs.declared.names.Name.{Name}
 use Rattle.ctrie_map.specs.Maps.{AreSlots, IsNew, IsWhole, MapState, RefusesSizes, map_with}

@@ -2,11 +2,7 @@
 use Rattle.std.specs.Prelude.{◌≡◌, ◌≤◌, ◌*◌, ℕ, false, is_some, List, [], ◌∷◌, Some, Result, Ok, Err, IfOk, IfErr}
 use Rattle.std.specs.FinMap as map
 use Rattle.std.proofs.Common.{refl, sym, ap, subst, inl, inr, arith, ◌∙◌}
-use Rattle.ctrie_base.specs.Hashes.{hash_of}
-use Rattle.history.specs.declared.calls.Access.TheVariants.{Writable}
-use Rattle.history.specs.Effects.{naming}
-use Rattle.history.specs.Worlds.{KeyMap}
-use Rattle.machine_model.specs.States.{State}
+use Rattle.ctrie_map.specs.Vocabulary.{hash_of, Writable, naming, KeyMap, State}
 use Rattle.ctrie_map.specs.Beneath.map_worlds.specs.Worlds.{world_of}
 use Rattle.ctrie_map.specs.declared.batches.Batch.TheVariants.{Removes}
 use Rattle.ctrie_map.specs.declared.errors.MapError.{MapError}

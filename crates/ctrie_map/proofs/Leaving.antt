@@ -4,18 +4,10 @@ use Rattle.std.specs.FinMap as map
 use Rattle.std.specs.FinMap.{empty_of_len, get-empty}
 use Rattle.std.proofs.Common.{refl, sym, ap, subst, arith, eqb-true, leb-false, leb-true, nat_cmp, ◌∙◌}
 use Rattle.std.proofs.lemmas.Bool.{false≢true, true≢false}
-use Rattle.ctrie_base.specs.Hashes.{hash_of}
-use Rattle.history.specs.declared.calls.Access.TheVariants.{Writable}
-use Rattle.history.specs.declared.calls.Call.{Call}
+use Rattle.ctrie_map.specs.Vocabulary.{hash_of, Writable, Call, Reply, Crowded, Found, NoSlots, effect, is_crowded, put_if_absent_in, HandleMap, HandleState, KeyMap, Root, Bounds, handle_of}
+use Rattle.ctrie_map.specs.Vocabulary.{needs_writable, opens_handle, State, root_at}
 use Rattle.history.specs.declared.calls.Call.TheVariants as call
-use Rattle.history.specs.declared.replies.Reply.{Reply}
-use Rattle.history.specs.declared.replies.Reply.TheVariants.{Crowded, Found, NoSlots}
-use Rattle.history.specs.Effects.{effect, is_crowded, put_if_absent_in, put_in}
-use Rattle.history.specs.Worlds.{HandleMap, HandleState, KeyMap}
-use Rattle.machine_model.specs.declared.roots.Root.{Root}
-use Rattle.machine_model.specs.declared.steps.Bounds.{Bounds}
-use Rattle.machine_model.specs.Calls.{handle_of, needs_writable, opens_handle}
-use Rattle.machine_model.specs.States.{State, root_at}
+use Rattle.history.specs.Effects.{put_in}
 use Rattle.proof_alone.specs.Calls.{Acts, CanCall, Does, EnoughSlotsForCalls, RunsOut}
 use Rattle.proof_alone.specs.Sweeps.{Sweeps, Swept}
 use Rattle.ctrie_map.specs.Beneath.map_worlds.proofs.Shown.{shows_roots}

@@ -1,14 +1,8 @@
 -- What calls do that change a map, and why they are refused.
 use Rattle.std.specs.Prelude.{◌≡◌, ℕ, Bool, true, false, Option, Some, None, if◌then◌else◌}
 use Rattle.std.specs.FinMap as map
-use Rattle.ctrie_base.specs.Hashes.{hash_of}
-use Rattle.history.specs.declared.calls.Access.{Access}
-use Rattle.history.specs.declared.calls.Access.TheVariants.{Writable}
-use Rattle.history.specs.declared.calls.Call.{Call}
-use Rattle.history.specs.declared.calls.Call.TheVariants.{Get, Put, PutIfAbsent, Replace, ReplaceIf, Remove, RemoveIf, Clear, Snapshot, Freeze, Close, Entries, Count}
-use Rattle.history.specs.Effects.{has_value, is_crowded, naming}
-use Rattle.history.specs.Worlds.{HandleMap, HandleState, KeyMap}
-use Rattle.machine_model.specs.Calls.{handle_of, needs_writable, opens_handle}
+use Rattle.ctrie_map.specs.Vocabulary.{hash_of, Access, Writable, Call, Get, Put, PutIfAbsent, Replace, ReplaceIf, Remove, RemoveIf, Clear, Snapshot, Freeze, Close, Entries, Count, has_value}
+use Rattle.ctrie_map.specs.Vocabulary.{is_crowded, naming, HandleMap, HandleState, KeyMap, handle_of, needs_writable, opens_handle}
 use Rattle.ctrie_map.specs.declared.errors.MapError.{MapError}
 use Rattle.ctrie_map.specs.declared.errors.MapError.TheVariants.{Crowded, Full, WornOut}
 use Rattle.ctrie_map.specs.declared.names.Name.{Name}

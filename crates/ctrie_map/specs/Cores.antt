@@ -1,17 +1,8 @@
 -- The core below a map, between two calls, and what a call of it comes to.
 use Rattle.std.specs.Prelude.{◌≡◌, ◌<◌, ◌≤◌, ◌+◌, ◌-◌, ◌*◌, ℕ, Bool, true, false, not, nat_le, [], length, Option, Some, None, Result, Ok, Err}
 use Rattle.std.specs.FinMap as map
-use Rattle.ctrie_base.specs.Hashes.{hash_of}
-use Rattle.history.specs.declared.calls.Call.{Call}
-use Rattle.history.specs.declared.calls.Call.TheVariants.{Put, PutIfAbsent, Snapshot, Freeze}
-use Rattle.history.specs.declared.replies.Reply.{Reply}
-use Rattle.history.specs.declared.replies.Reply.TheVariants.{NoSlots}
-use Rattle.history.specs.Effects.{Effect}
-use Rattle.history.specs.Worlds.{HandleMap, HandleState}
-use Rattle.machine_model.specs.declared.roots.Root.{Root}
-use Rattle.machine_model.specs.Calls.{handle_of, needs_writable, opens_handle}
-use Rattle.machine_model.specs.Machine.{is_busy, longest_life}
-use Rattle.machine_model.specs.States.{State, root_at}
+use Rattle.ctrie_map.specs.Vocabulary.{hash_of, Call, Put, PutIfAbsent, Snapshot, Freeze, Reply, NoSlots, Effect, HandleMap, HandleState, Root, handle_of, needs_writable, opens_handle, is_busy}
+use Rattle.ctrie_map.specs.Vocabulary.{longest_life, State, root_at}
 use Rattle.ctrie_map.specs.Beneath.map_worlds.specs.Worlds.{world_of}
 use Rattle.ctrie_map.specs.Beneath.proof_obstruction_free.specs.Laws.{most_steps_alone}
 use Rattle.proof_alone.specs.Calls.{RunsOut}

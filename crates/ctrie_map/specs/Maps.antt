@@ -1,9 +1,6 @@
 -- What contracts see of a map: the state of its core, and its handles' names. What they say of it they say by the maps that its handles name, and by its free slots.
 use Rattle.std.specs.Prelude.{◌≡◌, ◌⊎◌, ◌≤◌, ◌+◌, ◌-◌, ℕ}
-use Rattle.ctrie_base.specs.declared.hashes.HashKind.{HashKind}
-use Rattle.history.specs.Worlds.{HandleMap, first_world}
-use Rattle.machine_model.specs.Machine.{longest_life}
-use Rattle.machine_model.specs.States.{State}
+use Rattle.ctrie_map.specs.Vocabulary.{HashKind, HandleMap, first_world, longest_life, State}
 use Rattle.ctrie_map.specs.Beneath.map_worlds.specs.Worlds.{world_of}
 use Rattle.ctrie_map.specs.declared.errors.MapError.{MapError}
 use Rattle.ctrie_map.specs.declared.errors.MapError.TheVariants.{BadSizes, Memory}

@@ -1,10 +1,7 @@
 -- What becomes of a handle that is to name the map of another one.
 use Rattle.std.specs.Prelude.{◌≡◌, ◌≢◌, ℕ, Bool, true, false, not, ◌&&◌, nat_eq, nat_le, Option, Some, None, Result, Ok, Err, if◌then◌else◌}
 use Rattle.std.specs.FinMap as map
-use Rattle.history.specs.declared.calls.Access.TheVariants.{Writable}
-use Rattle.history.specs.Effects.{naming}
-use Rattle.history.specs.Worlds.{HandleState}
-use Rattle.machine_model.specs.States.{handle_limit}
+use Rattle.ctrie_map.specs.Vocabulary.{Writable, naming, HandleState, handle_limit}
 use Rattle.ctrie_map.specs.declared.errors.MapError.{MapError}
 use Rattle.ctrie_map.specs.declared.errors.MapError.TheVariants.{NoHandle, ReadOnly, HandlesFull, Full, WornOut}
 use Rattle.ctrie_map.specs.Costs.{work_of_a_copy}

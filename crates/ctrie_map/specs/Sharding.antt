@@ -1,10 +1,7 @@
 -- What a map does as one shard of several, which all have the same handles.
 use Rattle.std.specs.Prelude.{◌≡◌, ◌≢◌, ◌&&◌, ℕ, Bool, false, nat_eq, nat_lt, length, Result, Err}
 use Rattle.std.specs.FinMap as map
-use Rattle.history.specs.declared.calls.Access.{Access}
-use Rattle.history.specs.declared.calls.Call.{Call}
-use Rattle.history.specs.declared.calls.Call.TheVariants.{Clear, Snapshot, Freeze}
-use Rattle.history.specs.declared.replies.Reply.{Reply}
+use Rattle.ctrie_map.specs.Vocabulary.{Access, Call, Clear, Snapshot, Freeze, Reply}
 use Rattle.ctrie_map.specs.declared.errors.MapError.{MapError}
 use Rattle.ctrie_map.specs.declared.errors.MapError.TheVariants.{HandlesFull}
 use Rattle.ctrie_map.specs.Beneath.proof_obstruction_free.specs.Slots.{most_steps_of_copies}

@@ -2,13 +2,8 @@
 use Rattle.std.proofs.Common.{List, ◌≡◌, ℕ, zero, suc, ◌+◌, ◌-◌, ◌<◌, ◌≤◌, true, false, [], ◌∷◌, ◌⊎◌, inl, inr, Option, Some, None, refl, sym, ap, subst, ◌∙◌, arith}
 use Rattle.std.proofs.lemmas.Bool.{cases_lt, false≢true}
 use Rattle.std.proofs.lemmas.Option.{same_Some}
-use Rattle.proof_sizes.specs.Beneath.history.specs.Histories.{HasEnded}
-use Rattle.proof_sizes.specs.Beneath.history.specs.declared.calls.Call.{Call}
-use Rattle.proof_sizes.specs.Beneath.history.specs.declared.calls.Call.TheVariants.{Close, Put, PutIfAbsent}
-use Rattle.proof_sizes.specs.Beneath.history.specs.declared.replies.Reply.{Reply}
-use Rattle.proof_sizes.specs.Beneath.slot_arena.specs.Heaps.{node_of}
-use Rattle.proof_sizes.specs.Beneath.slot_arena.specs.declared.refs.Ref.{Ref}
-use Rattle.proof_sizes.specs.Beneath.machine_model.specs.declared.reading.SwapLine.TheVariants.{Deciding}
+use Rattle.proof_sizes.specs.Vocabulary.{HasEnded, Call, Close, Put, PutIfAbsent, Reply, node_of, Ref, Deciding, Operation, Bounds, Outcome, Step, operation_after, changed_reply, handle_of, inserts}
+use Rattle.proof_sizes.specs.Vocabulary.{is_busy, Moves, is_placed, place_of, State, operation_of, entrant_of, IsRun}
 use Rattle.proof_sizes.specs.Beneath.machine_model.proofs.Grown.{grown_in_use, node_standing}
 use Rattle.proof_sizes.specs.Beneath.proof_memory.specs.Laws.{IsInUse}
 use Rattle.proof_sizes.specs.Beneath.proof_memory.specs.Wants.{AllHold, AnIndirection, Holds, Is, is_indirection, line_wants}
@@ -24,19 +19,7 @@ use Rattle.proof_sizes.specs.Beneath.proof_shape.proofs.Commits.Was.{main_linked
 use Rattle.proof_sizes.specs.Beneath.proof_updates.proofs.Placed.Own.{commit_places}
 use Rattle.proof_sizes.specs.Beneath.machine_model.specs.declared.lines.Line.TheVariants as line
 use Rattle.proof_sizes.specs.Beneath.machine_model.specs.declared.lines.Purpose.TheVariants as purpose
-use Rattle.proof_sizes.specs.Beneath.machine_model.specs.declared.operations.Operation.{Operation}
-use Rattle.proof_sizes.specs.Beneath.machine_model.specs.declared.steps.Bounds.{Bounds}
-use Rattle.proof_sizes.specs.Beneath.machine_model.specs.declared.steps.Outcome.{Outcome}
-use Rattle.proof_sizes.specs.Beneath.machine_model.specs.declared.steps.Step.{Step}
 use Rattle.proof_sizes.specs.Beneath.machine_model.specs.declared.steps.Step.TheVariants as step
-use Rattle.proof_sizes.specs.Beneath.machine_model.specs.Acting.{operation_after}
-use Rattle.proof_sizes.specs.Beneath.machine_model.specs.Calls.{changed_reply, handle_of, inserts}
-use Rattle.proof_sizes.specs.Beneath.machine_model.specs.Machine.{is_busy}
-use Rattle.proof_sizes.specs.Beneath.machine_model.specs.Moves.{Moves}
-use Rattle.proof_sizes.specs.Beneath.machine_model.specs.Records.{is_placed, place_of}
-use Rattle.proof_sizes.specs.Beneath.machine_model.specs.States.{State, operation_of}
-use Rattle.proof_sizes.specs.Beneath.machine_model.specs.Tellings.{entrant_of}
-use Rattle.proof_sizes.specs.Beneath.machine_model.specs.Times.{IsRun}
 use Rattle.proof_sizes.specs.Beneath.machine_model.proofs.Actors.{mark_one, mark_only, marks_in}
 use Rattle.proof_sizes.specs.Beneath.proof_commits.proofs.Resting.{none_at}
 use Rattle.proof_sizes.specs.Beneath.proof_generations.specs.Running.{Runs}

@@ -2,22 +2,8 @@
 use Rattle.std.proofs.Common.{◌≢◌, ◌≡◌, ℕ, zero, suc, ◌+◌, ◌-◌, ◌<◌, ◌≤◌, Bool, true, false, cond, length, ◌⊎◌, inl, inr, Option, Some, None, refl, sym, ap, subst, ◌∙◌, arith}
 use Rattle.std.proofs.lemmas.Bool.{cases_lt, false≢true}
 use Rattle.std.proofs.lemmas.Option.{none-some}
-use Rattle.proof_sizes.specs.Beneath.history.specs.Histories.{HasEnded}
-use Rattle.proof_sizes.specs.Beneath.history.specs.declared.calls.Call.{Call}
-use Rattle.proof_sizes.specs.Beneath.history.specs.declared.calls.Call.TheVariants.{Close}
-use Rattle.proof_sizes.specs.Beneath.history.specs.declared.replies.Reply.{Reply}
-use Rattle.proof_sizes.specs.Beneath.machine_model.specs.declared.operations.Operation.{Operation}
-use Rattle.proof_sizes.specs.Beneath.machine_model.specs.declared.roots.Root.{Root}
-use Rattle.proof_sizes.specs.Beneath.machine_model.specs.declared.steps.Bounds.{Bounds}
-use Rattle.proof_sizes.specs.Beneath.machine_model.specs.declared.steps.Outcome.{Outcome}
-use Rattle.proof_sizes.specs.Beneath.machine_model.specs.declared.steps.Step.{Step}
+use Rattle.proof_sizes.specs.Vocabulary.{HasEnded, Call, Close, Reply, Operation, Root, Bounds, Outcome, Step, handle_of, inserts, is_busy, Moves, is_placed, State, operation_of, root_at, IsRun}
 use Rattle.proof_sizes.specs.Beneath.machine_model.specs.declared.steps.Step.TheVariants as step
-use Rattle.proof_sizes.specs.Beneath.machine_model.specs.Calls.{handle_of, inserts}
-use Rattle.proof_sizes.specs.Beneath.machine_model.specs.Machine.{is_busy}
-use Rattle.proof_sizes.specs.Beneath.machine_model.specs.Moves.{Moves}
-use Rattle.proof_sizes.specs.Beneath.machine_model.specs.Records.{is_placed}
-use Rattle.proof_sizes.specs.Beneath.machine_model.specs.States.{State, operation_of, root_at}
-use Rattle.proof_sizes.specs.Beneath.machine_model.specs.Times.{IsRun}
 use Rattle.proof_sizes.specs.Beneath.proof_order.specs.Facts.{Notes}
 use Rattle.proof_sizes.specs.Beneath.proof_order.proofs.Phases.Closers.{still_placed}
 use Rattle.proof_sizes.specs.Beneath.proof_shape.specs.Sites.At.{StepsFit, TakesSteps}

@@ -5,30 +5,13 @@ use Rattle.std.proofs.lemmas.List.Elements.{Contains-append_cases}
 use Rattle.std.proofs.lemmas.List.Sums.{get_or-le-sum_by, sum_by-cons}
 use Rattle.std.proofs.lemmas.Option.{same_Some}
 use native.Mathlib.Decide.{ℕ_discrete}
-use Rattle.proof_sizes.specs.Beneath.slot_arena.specs.declared.nodes.Node.{Node}
-use Rattle.proof_sizes.specs.Beneath.slot_arena.specs.declared.nodes.Node.TheVariants.{Indirection, Branch, Single, Tomb, List as Listed}
-use Rattle.proof_sizes.specs.Beneath.slot_arena.specs.declared.nodes.Prev.{Prev}
+use Rattle.proof_sizes.specs.Vocabulary.{Node, Indirection, Branch, Single, Tomb, List as Listed, Prev, Ref, Slot, is_main_node, Heap, entries_of, logical, logical_main, main_at, main_of, node_at}
+use Rattle.proof_sizes.specs.Vocabulary.{node_of, prev_at, prev_of, refs_of_node, refs_of_prev, refs_of_slot, stored, times, Operation, ReadLine, Root, RootWord, Offer, Plain, Bounds, Step}
+use Rattle.proof_sizes.specs.Vocabulary.{IsReached, from_slot, most_levels, refs_of_root, refs_of_word, grown, node_under, prev_word, main_word, standing, is_busy, State, operation_of, root_at}
+use Rattle.proof_sizes.specs.Vocabulary.{root_of, word_of, IsRun}
 use Rattle.proof_sizes.specs.Beneath.slot_arena.specs.declared.nodes.Prev.TheVariants as over
-use Rattle.proof_sizes.specs.Beneath.slot_arena.specs.declared.refs.Ref.{Ref}
-use Rattle.proof_sizes.specs.Beneath.slot_arena.specs.declared.nodes.Slot.{Slot}
-use Rattle.proof_sizes.specs.Beneath.slot_arena.specs.Arenas.{is_main_node}
-use Rattle.proof_sizes.specs.Beneath.slot_arena.specs.Heaps.{Heap, entries_of, logical, logical_main, main_at, main_of, node_at, node_of, prev_at, prev_of}
-use Rattle.proof_sizes.specs.Beneath.slot_arena.specs.Heaps.{refs_of_node, refs_of_prev, refs_of_slot, stored}
-use Rattle.proof_sizes.specs.Beneath.slot_arena.specs.Times.{times}
 use Rattle.proof_sizes.specs.Beneath.slot_arena.proofs.Times.{once, once_other, once_same}
-use Rattle.proof_sizes.specs.Beneath.machine_model.specs.declared.operations.Operation.{Operation}
-use Rattle.proof_sizes.specs.Beneath.machine_model.specs.declared.reading.ReadLine.{ReadLine}
-use Rattle.proof_sizes.specs.Beneath.machine_model.specs.declared.roots.Root.{Root}
-use Rattle.proof_sizes.specs.Beneath.machine_model.specs.declared.roots.RootWord.{RootWord}
-use Rattle.proof_sizes.specs.Beneath.machine_model.specs.declared.roots.RootWord.TheVariants.{Offer, Plain}
-use Rattle.proof_sizes.specs.Beneath.machine_model.specs.declared.steps.Bounds.{Bounds}
-use Rattle.proof_sizes.specs.Beneath.machine_model.specs.declared.steps.Step.{Step}
-use Rattle.proof_sizes.specs.Beneath.machine_model.specs.Contents.{IsReached, from_root, from_slot, most_levels}
-use Rattle.proof_sizes.specs.Beneath.machine_model.specs.Counting.{refs_of_root, refs_of_word}
-use Rattle.proof_sizes.specs.Beneath.machine_model.specs.Grown.{grown, node_under, prev_word, main_word, standing}
-use Rattle.proof_sizes.specs.Beneath.machine_model.specs.Machine.{is_busy}
-use Rattle.proof_sizes.specs.Beneath.machine_model.specs.States.{State, operation_of, root_at, root_of, word_of}
-use Rattle.proof_sizes.specs.Beneath.machine_model.specs.Times.{IsRun}
+use Rattle.proof_sizes.specs.Beneath.machine_model.specs.Contents.{from_root}
 use Rattle.proof_sizes.specs.Beneath.machine_model.proofs.Basics.{only_one}
 use Rattle.proof_sizes.specs.Beneath.machine_model.proofs.Grown.{grown_in_use, node_standing, prev_standing, standing_parts}
 use Rattle.proof_sizes.specs.Beneath.proof_memory.specs.Laws.{IsInUse}

@@ -3,14 +3,7 @@ use Rattle.std.proofs.Common.{◌≡◌, ℕ, zero, suc, ◌+◌, ◌-◌, ◌*�
 use Rattle.std.proofs.Common.{Option, Some, None, refl, sym, ap, subst, ◌∙◌, arith, get_or-set_same, nat_lt, bit_or, take_all}
 use Rattle.std.proofs.lemmas.List.{get_or_default}
 use Rattle.std.proofs.lemmas.List.Sums.{get_or-le-sum_by, sum_by-append, sum_by-cons, sum_by-insert, sum_by-le-sum_by, sum_by-take-le}
-use Rattle.proof_sizes.specs.Beneath.ctrie_base.specs.Hashes.{hash_of}
-use Rattle.proof_sizes.specs.Beneath.ctrie_base.specs.Paths.{position_of}
-use Rattle.proof_sizes.specs.Beneath.slot_arena.specs.declared.refs.Ref.{Ref}
-use Rattle.proof_sizes.specs.Beneath.slot_arena.specs.declared.nodes.Node.{Node}
-use Rattle.proof_sizes.specs.Beneath.slot_arena.specs.declared.nodes.Node.TheVariants.{Indirection, Branch, Single, List as Listed}
-use Rattle.proof_sizes.specs.Beneath.slot_arena.specs.Heaps.{entries_from, entries_of, no_ref}
-use Rattle.proof_sizes.specs.Beneath.proof_contents.specs.Beneath.nodes.specs.Builders.{pair}
-use Rattle.proof_sizes.specs.Beneath.proof_contents.specs.Beneath.nodes.specs.Levels.{flag_of, index_in, list_depth}
+use Rattle.proof_sizes.specs.Vocabulary.{hash_of, position_of, Ref, Node, Indirection, Branch, Single, List as Listed, entries_from, entries_of, no_ref, pair, flag_of, index_in, list_depth}
 use Rattle.proof_sizes.specs.Beneath.proof_contents.specs.Beneath.nodes.proofs.Indices.{index_below}
 use Rattle.proof_sizes.specs.Beneath.proof_contents.specs.Nodes.Chains.{LeadsToPair, at_pair, by_rung}
 use Rattle.proof_sizes.specs.Beneath.proof_contents.specs.Steps.{IsOwnUpdate, IsRepair, LeavesOthers, Stays, branch_entombs, branch_inserts, branch_removes, branch_updates, entombs, goes_beside}

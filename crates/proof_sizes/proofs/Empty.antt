@@ -1,18 +1,8 @@
 -- A handle whose map is empty has two nodes: below the root there is no main node without entries, so whatever is reached there leads to a pair.
 use Rattle.std.proofs.Common.{leb-true, nat_le, ◌≡◌, ◌≢◌, ℕ, zero, suc, ◌+◌, ◌≤◌, Bool, true, false, cond, List}
 use Rattle.std.proofs.Common.{[], ◌∷◌, ◌++◌, Contains, length, flat_map, sum_by, Some, refl, sym, ap, subst, ◌∙◌, arith}
-use Rattle.proof_sizes.specs.Beneath.ctrie_base.specs.Sorting.{put_by}
-use Rattle.proof_sizes.specs.Beneath.slot_arena.specs.declared.nodes.Node.TheVariants.{Indirection}
-use Rattle.proof_sizes.specs.Beneath.slot_arena.specs.declared.refs.Ref.{Ref}
-use Rattle.proof_sizes.specs.Beneath.slot_arena.specs.Heaps.{Heap, entries_of, logical_main, node_at}
-use Rattle.proof_sizes.specs.Beneath.machine_model.specs.declared.roots.Root.{Root}
-use Rattle.proof_sizes.specs.Beneath.machine_model.specs.declared.steps.Bounds.{Bounds}
-use Rattle.proof_sizes.specs.Beneath.machine_model.specs.declared.steps.Step.{Step}
-use Rattle.proof_sizes.specs.Beneath.machine_model.specs.Contents.{content_at, most_levels, pairs_at, pairs_below}
-use Rattle.proof_sizes.specs.Beneath.machine_model.specs.Pairs.{by_key, comes_before}
-use Rattle.proof_sizes.specs.Beneath.machine_model.specs.Grown.{node_under}
-use Rattle.proof_sizes.specs.Beneath.machine_model.specs.States.{State, root_at, root_of, word_of}
-use Rattle.proof_sizes.specs.Beneath.machine_model.specs.Times.{IsRun}
+use Rattle.proof_sizes.specs.Vocabulary.{put_by, Indirection, Ref, Heap, entries_of, logical_main, node_at, Root, Bounds, Step, content_at, most_levels, pairs_at, pairs_below, by_key, comes_before}
+use Rattle.proof_sizes.specs.Vocabulary.{node_under, State, root_at, root_of, word_of, IsRun}
 use Rattle.proof_sizes.specs.Beneath.machine_model.proofs.Grown.{grown_in_use, node_standing}
 use Rattle.proof_sizes.specs.Beneath.proof_memory.specs.Laws.{IsInUse}
 use Rattle.proof_sizes.specs.Beneath.proof_memory.specs.Wants.{is_formed, is_indirection}

@@ -3,10 +3,7 @@ use Rattle.std.proofs.Common.{◌≡◌, ℕ, zero, suc, ◌+◌, ◌≤◌, ◌
 use Rattle.std.proofs.Common.{refl, sym, ap, subst, ◌∙◌, arith, eq-eqb}
 use Rattle.std.proofs.lemmas.List.Sums.{sum_by-le-sum_by}
 use native.Mathlib.Decide.{ℕ_discrete}
-use Rattle.proof_sizes.specs.Beneath.slot_arena.specs.declared.refs.Ref.{Ref}
-use Rattle.proof_sizes.specs.Beneath.slot_arena.specs.declared.nodes.Node.{Node}
-use Rattle.proof_sizes.specs.Beneath.slot_arena.specs.declared.nodes.Node.TheVariants.{Indirection, Branch, Single, Tomb, List as Listed}
-use Rattle.proof_sizes.specs.Beneath.slot_arena.specs.Heaps.{entries_of}
+use Rattle.proof_sizes.specs.Vocabulary.{Ref, Node, Indirection, Branch, Single, Tomb, List as Listed, entries_of}
 use Rattle.proof_sizes.specs.Beneath.proof_contents.specs.Steps.{LeavesOthers}
 use Rattle.proof_sizes.specs.Beneath.proof_contents.specs.Tries.{Trie, node_in}
 use Rattle.proof_sizes.proofs.Weights.{one, size_from, weight_at, weight_from, weight_link, weight_node, weight_none, weight_single}

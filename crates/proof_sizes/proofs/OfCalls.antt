@@ -5,22 +5,11 @@ use Rattle.std.proofs.lemmas.List.{append_assoc, get_or_append_left, length-appe
 use Rattle.std.proofs.lemmas.List.Elements.{All-push}
 use Rattle.std.proofs.lemmas.Option.{same_Some}
 use Rattle.std.proofs.lemmas.Bool.{cases_lt}
-use Rattle.proof_sizes.specs.Beneath.history.specs.Histories.{HasEnded}
-use Rattle.proof_sizes.specs.Beneath.history.specs.declared.calls.Call.{Call}
+use Rattle.proof_sizes.specs.Vocabulary.{HasEnded, Call, Reply, Root, Bounds, Outcome, Step, handle_of, FitsKey, KeysFit, AreBounds, is_busy, is_taken_step, next, run, taken_from, taken_steps}
+use Rattle.proof_sizes.specs.Vocabulary.{Record, record_of, State, first_state, root_at, IsRun, last_of, records_of, states_of, content_at}
 use Rattle.proof_sizes.specs.Beneath.history.specs.declared.events.Event.TheVariants as event
-use Rattle.proof_sizes.specs.Beneath.history.specs.declared.replies.Reply.{Reply}
 use Rattle.proof_sizes.specs.Beneath.history.proofs.Places.{at_push}
-use Rattle.proof_sizes.specs.Beneath.machine_model.specs.declared.roots.Root.{Root}
-use Rattle.proof_sizes.specs.Beneath.machine_model.specs.declared.steps.Bounds.{Bounds}
-use Rattle.proof_sizes.specs.Beneath.machine_model.specs.declared.steps.Outcome.{Outcome}
-use Rattle.proof_sizes.specs.Beneath.machine_model.specs.declared.steps.Step.{Step}
 use Rattle.proof_sizes.specs.Beneath.machine_model.specs.declared.steps.Step.TheVariants as step
-use Rattle.proof_sizes.specs.Beneath.machine_model.specs.Calls.{handle_of}
-use Rattle.proof_sizes.specs.Beneath.machine_model.specs.Keys.{FitsKey, KeysFit}
-use Rattle.proof_sizes.specs.Beneath.machine_model.specs.Machine.{AreBounds, is_busy, is_taken_step, next, run, taken_from, taken_steps}
-use Rattle.proof_sizes.specs.Beneath.machine_model.specs.Records.{Record, record_of}
-use Rattle.proof_sizes.specs.Beneath.machine_model.specs.States.{State, first_state, root_at}
-use Rattle.proof_sizes.specs.Beneath.machine_model.specs.Times.{IsRun, last_of, records_of, states_of}
 use Rattle.proof_sizes.specs.Beneath.machine_model.proofs.Numbered.{step_noted}
 use Rattle.proof_sizes.specs.Beneath.machine_model.proofs.Recorded.{record_ends}
 use Rattle.proof_sizes.specs.Beneath.machine_model.proofs.Times.{run_ends, run_is}
@@ -42,7 +31,6 @@ use Rattle.proof_alone.proofs.Sweeping.{clean_is_reached}
 use Rattle.proof_sizes.specs.Beneath.proof_memory.specs.Sweeping.{UsesReached}
 use Rattle.proof_alone.proofs.Telling.{told_at_end}
 use Rattle.proof_sizes.specs.Growth.{CallsGrowLittle, CopiesAreNoLarger, OthersGrowNothing, SweepsKeepNodes, growth}
-use Rattle.proof_sizes.specs.Beneath.machine_model.specs.Contents.{content_at}
 use Rattle.proof_sizes.proofs.Empty.{empty_has_two as two_left}
 use Rattle.proof_sizes.specs.Nodes.{EmptyHasTwo, HandlesUseSlots, OneHandleUsesAll, nodes_of}
 use Rattle.proof_sizes.proofs.Alone.{grown_little, no_larger}

@@ -4,15 +4,9 @@ use Rattle.std.proofs.Common.{arith, mod-eq_of_lt, mod-lt, pow_pos}
 use Rattle.std.proofs.lemmas.Nat.{mod-pow-add, mod-mul-add}
 use Rattle.std.proofs.lemmas.List.Sums.{sum_by-cons}
 use native.Mathlib.Decide.{ℕ_discrete}
-use Rattle.proof_sizes.specs.Beneath.ctrie_base.specs.Hashes.{hash_of}
-use Rattle.proof_sizes.specs.Beneath.slot_arena.specs.declared.refs.Ref.{Ref}
-use Rattle.proof_sizes.specs.Beneath.slot_arena.specs.declared.nodes.Node.{Node}
-use Rattle.proof_sizes.specs.Beneath.slot_arena.specs.declared.nodes.Node.TheVariants.{Indirection, Branch, Single, Tomb, List as Listed}
-use Rattle.proof_sizes.specs.Beneath.slot_arena.specs.Heaps.{entries_of}
+use Rattle.proof_sizes.specs.Vocabulary.{hash_of, Ref, Node, Indirection, Branch, Single, Tomb, List as Listed, entries_of, most_levels, index_in}
 use Rattle.proof_sizes.specs.Beneath.slot_arena.proofs.Times.{once, once_other, once_same}
-use Rattle.proof_sizes.specs.Beneath.machine_model.specs.Contents.{most_levels}
 use Rattle.proof_sizes.specs.Beneath.machine_model.proofs.Basics.{only_one}
-use Rattle.proof_sizes.specs.Beneath.proof_contents.specs.Beneath.nodes.specs.Levels.{index_in}
 use Rattle.proof_sizes.specs.Beneath.proof_contents.specs.Nodes.Branches.{at_place, standing}
 use Rattle.proof_sizes.specs.Beneath.proof_contents.specs.Nodes.Lists.{AreSingles}
 use Rattle.proof_sizes.specs.Beneath.proof_contents.specs.Nodes.Looking.{Absent, Has, look_among, or_else}

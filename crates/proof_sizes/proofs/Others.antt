@@ -4,29 +4,11 @@ use Rattle.std.proofs.Common.{◌≡◌, ℕ, zero, suc, ◌+◌, ◌-◌, ◌<�
 use Rattle.std.proofs.lemmas.Bool.{cases_lt, false≢true}
 use Rattle.std.proofs.lemmas.Option.{none-some, some_pair_parts}
 use native.Mathlib.Decide.{ℕ_discrete}
-use Rattle.proof_sizes.specs.Beneath.history.specs.Histories.{HasEnded}
-use Rattle.proof_sizes.specs.Beneath.history.specs.declared.calls.Access.{Access}
-use Rattle.proof_sizes.specs.Beneath.history.specs.declared.calls.Access.TheVariants.{Writable}
-use Rattle.proof_sizes.specs.Beneath.history.specs.declared.calls.Call.{Call}
-use Rattle.proof_sizes.specs.Beneath.history.specs.declared.calls.Call.TheVariants.{Close}
-use Rattle.proof_sizes.specs.Beneath.history.specs.declared.replies.Reply.{Reply}
-use Rattle.proof_sizes.specs.Beneath.slot_arena.specs.declared.nodes.Node.TheVariants.{Indirection, Branch, Single, Tomb, List as Listed}
-use Rattle.proof_sizes.specs.Beneath.slot_arena.specs.declared.refs.Ref.{Ref}
-use Rattle.proof_sizes.specs.Beneath.slot_arena.specs.Heaps.{entries_of, generation_at, generation_of, node_of}
+use Rattle.proof_sizes.specs.Vocabulary.{HasEnded, Access, Writable, Call, Close, Reply, Indirection, Branch, Single, Tomb, List as Listed, Ref, entries_of, generation_at, generation_of, node_of}
+use Rattle.proof_sizes.specs.Vocabulary.{Operation, Descriptor, Root, Bounds, Step, handle_of, inserts, most_levels, main_before, node_under, is_busy, closed_at, State, operation_of, root_at}
+use Rattle.proof_sizes.specs.Vocabulary.{root_of, IsRun}
 use Rattle.proof_sizes.specs.Beneath.slot_arena.proofs.Times.{once, once_other}
-use Rattle.proof_sizes.specs.Beneath.machine_model.specs.declared.operations.Operation.{Operation}
-use Rattle.proof_sizes.specs.Beneath.machine_model.specs.declared.roots.Descriptor.{Descriptor}
-use Rattle.proof_sizes.specs.Beneath.machine_model.specs.declared.roots.Root.{Root}
-use Rattle.proof_sizes.specs.Beneath.machine_model.specs.declared.steps.Bounds.{Bounds}
-use Rattle.proof_sizes.specs.Beneath.machine_model.specs.declared.steps.Step.{Step}
 use Rattle.proof_sizes.specs.Beneath.machine_model.specs.declared.steps.Step.TheVariants as step
-use Rattle.proof_sizes.specs.Beneath.machine_model.specs.Calls.{handle_of, inserts}
-use Rattle.proof_sizes.specs.Beneath.machine_model.specs.Contents.{most_levels}
-use Rattle.proof_sizes.specs.Beneath.machine_model.specs.Grown.{main_before, node_under}
-use Rattle.proof_sizes.specs.Beneath.machine_model.specs.Machine.{is_busy}
-use Rattle.proof_sizes.specs.Beneath.machine_model.specs.Records.{closed_at}
-use Rattle.proof_sizes.specs.Beneath.machine_model.specs.States.{State, operation_of, root_at, root_of}
-use Rattle.proof_sizes.specs.Beneath.machine_model.specs.Times.{IsRun}
 use Rattle.proof_sizes.specs.Beneath.machine_model.proofs.Grown.{grown_in_use, node_standing}
 use Rattle.proof_sizes.specs.Beneath.proof_memory.specs.Laws.{IsInUse}
 use Rattle.proof_sizes.specs.Beneath.proof_memory.specs.Wants.{AllHold, AnIndirection, Holds, Is, is_indirection, line_wants}

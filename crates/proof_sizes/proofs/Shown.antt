@@ -2,24 +2,13 @@
 use Rattle.std.proofs.Common.{◌≡◌, ℕ, zero, suc, ◌≤◌, true, cond, List, ◌∷◌, Contains, length, sum_by, flat_map, ◌⊎◌, inl, inr, Some, refl, sym, ap, subst, ◌∙◌, arith, is_some}
 use Rattle.std.proofs.lemmas.Bool.{false≢true}
 use native.Mathlib.Decide.{ℕ_discrete}
-use Rattle.proof_sizes.specs.Beneath.slot_arena.specs.declared.refs.Ref.{Ref}
-use Rattle.proof_sizes.specs.Beneath.slot_arena.specs.declared.nodes.Node.{Node}
-use Rattle.proof_sizes.specs.Beneath.slot_arena.specs.declared.nodes.Node.TheVariants.{Indirection, Branch, Single, Tomb, List as Listed}
-use Rattle.proof_sizes.specs.Beneath.slot_arena.specs.Heaps.{Heap, entries_of, logical_main, node_at}
-use Rattle.proof_sizes.specs.Beneath.slot_arena.specs.Times.{times}
+use Rattle.proof_sizes.specs.Vocabulary.{Ref, Node, Indirection, Branch, Single, Tomb, List as Listed, Heap, entries_of, logical_main, node_at, times, Root, Bounds, Step, most_levels, main_before}
+use Rattle.proof_sizes.specs.Vocabulary.{node_under, State, root_at, root_of, word_of, IsRun, is_single}
 use Rattle.proof_sizes.specs.Beneath.slot_arena.proofs.Times.{once, once_other}
-use Rattle.proof_sizes.specs.Beneath.machine_model.specs.declared.roots.Root.{Root}
-use Rattle.proof_sizes.specs.Beneath.machine_model.specs.declared.steps.Bounds.{Bounds}
-use Rattle.proof_sizes.specs.Beneath.machine_model.specs.declared.steps.Step.{Step}
-use Rattle.proof_sizes.specs.Beneath.machine_model.specs.Contents.{most_levels}
-use Rattle.proof_sizes.specs.Beneath.machine_model.specs.Grown.{main_before, node_under}
-use Rattle.proof_sizes.specs.Beneath.machine_model.specs.States.{State, root_at, root_of, word_of}
-use Rattle.proof_sizes.specs.Beneath.machine_model.specs.Times.{IsRun}
 use Rattle.proof_sizes.specs.Beneath.machine_model.proofs.Basics.{only_one}
 use Rattle.proof_sizes.specs.Beneath.machine_model.proofs.Grown.{grown_in_use, node_standing}
 use Rattle.proof_sizes.specs.Beneath.proof_memory.specs.Laws.{IsInUse}
 use Rattle.proof_sizes.specs.Beneath.proof_memory.specs.Wants.{AllHold, is_entry, is_indirection, node_wants}
-use Rattle.proof_sizes.specs.Beneath.machine_model.specs.Cleaning.{is_single}
 use Rattle.proof_sizes.specs.Beneath.proof_memory.proofs.Claims.Uses.{all_of, meets_of}
 use Rattle.proof_sizes.specs.Beneath.proof_memory.proofs.Levels.States.{heaped_in_use}
 use Rattle.proof_sizes.specs.Beneath.proof_memory.proofs.Safety.AtEachTime.{safe_at}

@@ -1,20 +1,8 @@
 -- The nodes of a handle and the free slots.
 use Rattle.std.proofs.Common.{◌≡◌, ◌≢◌, ℕ, zero, suc, ◌+◌, ◌≤◌, ◌==◌, Bool, true, false, cond, None, length, ◌⊎◌, inl, inr, Option, Some, refl, ap, ◌∙◌, arith}
 use Rattle.std.proofs.lemmas.Bool.{false≢true}
-use Rattle.proof_sizes.specs.Beneath.slot_arena.specs.declared.nodes.Slot.{Slot}
-use Rattle.proof_sizes.specs.Beneath.slot_arena.specs.declared.refs.Ref.{Ref}
-use Rattle.proof_sizes.specs.Beneath.slot_arena.specs.Arenas.{IsLive, has_birth}
-use Rattle.proof_sizes.specs.Beneath.slot_arena.specs.Heaps.{Heap, in_use, stored}
-use Rattle.proof_sizes.specs.Beneath.slot_arena.specs.Refs.{birth_of, most_slots}
-use Rattle.proof_sizes.specs.Beneath.slot_arena.specs.Times.{times}
+use Rattle.proof_sizes.specs.Vocabulary.{Slot, Ref, IsLive, has_birth, Heap, in_use, stored, birth_of, most_slots, times, Root, Bounds, Step, of_birth, is_busy, State, root_at, IsRun}
 use Rattle.proof_sizes.specs.Beneath.proof_obstruction_free.specs.Beneath.epochs.proofs.InUse.{in_use_live, in_use_once, live_in_use}
-use Rattle.proof_sizes.specs.Beneath.machine_model.specs.declared.roots.Root.{Root}
-use Rattle.proof_sizes.specs.Beneath.machine_model.specs.declared.steps.Bounds.{Bounds}
-use Rattle.proof_sizes.specs.Beneath.machine_model.specs.declared.steps.Step.{Step}
-use Rattle.proof_sizes.specs.Beneath.machine_model.specs.Grown.{of_birth}
-use Rattle.proof_sizes.specs.Beneath.machine_model.specs.Machine.{is_busy}
-use Rattle.proof_sizes.specs.Beneath.machine_model.specs.States.{State, root_at}
-use Rattle.proof_sizes.specs.Beneath.machine_model.specs.Times.{IsRun}
 use Rattle.proof_sizes.specs.Beneath.machine_model.proofs.Slots.{add_up}
 use Rattle.proof_sizes.specs.Beneath.proof_memory.specs.Laws.{IsInUse}
 use Rattle.proof_sizes.specs.Beneath.proof_memory.specs.Sweeping.{UsesReached}

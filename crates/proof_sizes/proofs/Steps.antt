@@ -3,26 +3,11 @@ use Rattle.std.proofs.Common.{zero, ◌<◌, ◌≡◌, ℕ, suc, ◌+◌, ◌�
 use Rattle.std.proofs.lemmas.List.Sums.{sum_by-cons, sum_by-le-sum_by}
 use Rattle.std.proofs.lemmas.Option.{none-some, same_Some}
 use native.Mathlib.Decide.{ℕ_discrete}
-use Rattle.proof_sizes.specs.Beneath.history.specs.declared.calls.Call.{Call}
-use Rattle.proof_sizes.specs.Beneath.history.specs.declared.calls.Call.TheVariants.{Close, Freeze, Snapshot}
-use Rattle.proof_sizes.specs.Beneath.slot_arena.specs.declared.refs.Ref.{Ref}
-use Rattle.proof_sizes.specs.Beneath.slot_arena.specs.Heaps.{empty_branch, entries_of}
-use Rattle.proof_sizes.specs.Beneath.slot_arena.specs.Times.{times}
+use Rattle.proof_sizes.specs.Vocabulary.{Call, Close, Freeze, Snapshot, Ref, empty_branch, entries_of, times, Descriptor, Root, Bounds, Outcome, Step, Go, Sweep, opened_root, inserts, most_levels}
+use Rattle.proof_sizes.specs.Vocabulary.{node_under, Moves, State, root_at, root_of, IsRun}
 use Rattle.proof_sizes.specs.Beneath.slot_arena.proofs.Times.{times-cons}
 use Rattle.proof_sizes.specs.Beneath.machine_model.specs.declared.lines.Purpose.TheVariants as purpose
-use Rattle.proof_sizes.specs.Beneath.machine_model.specs.declared.roots.Descriptor.{Descriptor}
-use Rattle.proof_sizes.specs.Beneath.machine_model.specs.declared.roots.Root.{Root}
-use Rattle.proof_sizes.specs.Beneath.machine_model.specs.declared.steps.Bounds.{Bounds}
-use Rattle.proof_sizes.specs.Beneath.machine_model.specs.declared.steps.Outcome.{Outcome}
-use Rattle.proof_sizes.specs.Beneath.machine_model.specs.declared.steps.Step.{Step}
-use Rattle.proof_sizes.specs.Beneath.machine_model.specs.declared.steps.Step.TheVariants.{Begin, Go, Sweep}
-use Rattle.proof_sizes.specs.Beneath.machine_model.specs.Acting.{opened_root}
-use Rattle.proof_sizes.specs.Beneath.machine_model.specs.Calls.{inserts}
-use Rattle.proof_sizes.specs.Beneath.machine_model.specs.Contents.{most_levels}
-use Rattle.proof_sizes.specs.Beneath.machine_model.specs.Grown.{node_under}
-use Rattle.proof_sizes.specs.Beneath.machine_model.specs.Moves.{Moves}
-use Rattle.proof_sizes.specs.Beneath.machine_model.specs.States.{State, root_at, root_of}
-use Rattle.proof_sizes.specs.Beneath.machine_model.specs.Times.{IsRun}
+use Rattle.proof_sizes.specs.Beneath.machine_model.specs.declared.steps.Step.TheVariants.{Begin}
 use Rattle.proof_sizes.specs.Beneath.proof_memory.specs.Wants.{is_indirection}
 use Rattle.proof_sizes.specs.Beneath.proof_contents.specs.Runs.{counting_main}
 use Rattle.proof_sizes.specs.Beneath.proof_contents.specs.Steps.{Asks, IsRepair, Updates, to_insert, to_remove, to_set}

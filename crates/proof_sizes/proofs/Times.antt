@@ -1,6 +1,6 @@
 -- Lists of numbers compared by how often each number stands in them.
 use Rattle.std.proofs.Common.{◌≡◌, ℕ, ◌+◌, ◌<◌, ◌≤◌, ◌==◌, Bool, true, false, cond, List, [], ◌∷◌, length, ap, refl, arith}
-use Rattle.proof_sizes.specs.Beneath.slot_arena.specs.Times.{times, without}
+use Rattle.proof_sizes.specs.Vocabulary.{times, without}
 use Rattle.proof_sizes.specs.Beneath.slot_arena.proofs.Times.{bit, once_same, times-cons, times-without}
 
 length-without : (m : ℕ) (ms : List ℕ) → 0 < times m ms → length (without m ms) + 1 ≡ length ms

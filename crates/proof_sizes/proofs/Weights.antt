@@ -1,10 +1,7 @@
 -- Weights of the nodes that are reached from an entry: with 1 for each node their number, with 1 for one of them how often it is met.
 use Rattle.std.proofs.Common.{◌≡◌, ℕ, zero, suc, ◌+◌, ◌≤◌, ◌<◌, List, [], ◌∷◌, ◌++◌, Contains, get_or, length, remove, set, sum_by, flat_map, ◌⊎◌, inl, inr, refl, ap, ◌∙◌, arith}
 use Rattle.std.proofs.lemmas.List.Sums.{sum_by-append, sum_by-cons}
-use Rattle.proof_sizes.specs.Beneath.slot_arena.specs.declared.refs.Ref.{Ref}
-use Rattle.proof_sizes.specs.Beneath.slot_arena.specs.declared.nodes.Node.{Node}
-use Rattle.proof_sizes.specs.Beneath.slot_arena.specs.declared.nodes.Node.TheVariants.{Indirection, Branch, Single, Tomb, List as Listed}
-use Rattle.proof_sizes.specs.Beneath.slot_arena.specs.Heaps.{entries_of}
+use Rattle.proof_sizes.specs.Vocabulary.{Ref, Node, Indirection, Branch, Single, Tomb, List as Listed, entries_of}
 
 -- ---- the weight of what is reached, through these main nodes
 

@@ -1,12 +1,6 @@
 -- By how much a call that runs alone from rest may grow what a handle reaches.
 use Rattle.std.specs.Prelude.{◌≡◌, ◌≢◌, ℕ, ◌+◌, ◌≤◌, Bool, true, false, length, Some, None, if◌then◌else◌}
-use Rattle.proof_sizes.specs.Beneath.history.specs.declared.calls.Call.{Call}
-use Rattle.proof_sizes.specs.Beneath.history.specs.declared.calls.Call.TheVariants.{Put, PutIfAbsent}
-use Rattle.proof_sizes.specs.Beneath.history.specs.declared.replies.Reply.{Reply}
-use Rattle.proof_sizes.specs.Beneath.history.specs.declared.replies.Reply.TheVariants.{Found}
-use Rattle.proof_sizes.specs.Beneath.machine_model.specs.declared.roots.Root.{Root}
-use Rattle.proof_sizes.specs.Beneath.machine_model.specs.Calls.{handle_of}
-use Rattle.proof_sizes.specs.Beneath.machine_model.specs.States.{State, root_at}
+use Rattle.proof_sizes.specs.Vocabulary.{Call, Put, PutIfAbsent, Reply, Found, Root, handle_of, State, root_at}
 use Rattle.proof_sizes.specs.Beneath.proof_alone.specs.Calls.{CanCall}
 use Rattle.proof_sizes.specs.Beneath.proof_alone.specs.Sweeps.{Sweeps}
 use Rattle.proof_sizes.specs.Beneath.proof_straight.specs.Resting.{IsOfRun}

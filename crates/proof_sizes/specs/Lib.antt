@@ -1,3 +1,4 @@
 pub mod Beneath
+pub mod Vocabulary
 pub mod Nodes
 pub mod Growth

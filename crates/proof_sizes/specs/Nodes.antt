@@ -1,13 +1,6 @@
 -- The nodes that a handle reaches, and how they and the free slots share the slots.
 use Rattle.std.specs.Prelude.{◌≡◌, ◌≢◌, ℕ, zero, suc, ◌+◌, ◌≤◌, false, List, [], ◌∷◌, flat_map, length, Some, None}
-use Rattle.proof_sizes.specs.Beneath.slot_arena.specs.declared.refs.Ref.{Ref}
-use Rattle.proof_sizes.specs.Beneath.slot_arena.specs.declared.nodes.Node.{Node}
-use Rattle.proof_sizes.specs.Beneath.slot_arena.specs.declared.nodes.Node.TheVariants.{Indirection}
-use Rattle.proof_sizes.specs.Beneath.slot_arena.specs.Heaps.{Heap, entries_of, logical_main, node_at}
-use Rattle.proof_sizes.specs.Beneath.machine_model.specs.declared.roots.Root.{Root}
-use Rattle.proof_sizes.specs.Beneath.machine_model.specs.Contents.{content_at, most_levels}
-use Rattle.proof_sizes.specs.Beneath.machine_model.specs.Machine.{is_busy}
-use Rattle.proof_sizes.specs.Beneath.machine_model.specs.States.{State, root_at, root_of, word_at}
+use Rattle.proof_sizes.specs.Vocabulary.{Ref, Node, Indirection, Heap, entries_of, logical_main, node_at, Root, content_at, most_levels, is_busy, State, root_at, root_of, word_at}
 use Rattle.proof_sizes.specs.Beneath.proof_straight.specs.Resting.{IsOfRun}
 
 -- of an indirection it itself, its logical main node and the nodes below its entries; of a single it itself

@@ -4,7 +4,7 @@ use Rattle.std.proofs.Math.Nat.{mul-suc, mul-zero}
 use Rattle.std.proofs.lemmas.List.{take_all}
 use Rattle.std.proofs.lemmas.List.Sums.{sum_by-cons, sum_by_more}
 use Rattle.std.proofs.lemmas.Nat.{mul-le}
-use Rattle.ctrie_base.specs.declared.hashes.HashKind.{HashKind}
+use Rattle.shared_map.specs.Vocabulary.{HashKind}
 use Rattle.ctrie_map.specs.Cores.{reserve}
 use Rattle.ctrie_map.specs.Maps.{MapState, slots_asked}
 use Rattle.shared_map.specs.Opening.{AreNew, AreNewMaps}

@@ -4,16 +4,9 @@ use Rattle.std.proofs.Common.{Some, None, Ok, Err, refl, sym, ap, subst, ◌∙�
 use Rattle.std.specs.FinMap as map
 use Rattle.std.proofs.lemmas.Bool.{lt-ltb, true≢false}
 use Rattle.std.proofs.lemmas.Option.{same_Some}
-use Rattle.ctrie_base.specs.Hashes.{hash_of}
-use Rattle.history.specs.declared.calls.Access.{Access}
-use Rattle.history.specs.declared.calls.Access.TheVariants.{Writable, ReadOnly}
+use Rattle.shared_map.specs.Vocabulary.{hash_of, Access, Writable, ReadOnly, Reply, map_of, naming, HandleMap, HandleState, KeyMap, handle_of, opens_handle, handle_limit}
 use Rattle.history.specs.declared.calls.Call.TheVariants as call
-use Rattle.history.specs.declared.replies.Reply.{Reply}
 use Rattle.history.specs.declared.replies.Reply.TheVariants as reply
-use Rattle.history.specs.Effects.{map_of, naming}
-use Rattle.history.specs.Worlds.{HandleMap, HandleState, KeyMap}
-use Rattle.machine_model.specs.Calls.{handle_of, opens_handle}
-use Rattle.machine_model.specs.States.{handle_limit}
 use Rattle.ctrie_map.specs.Changes.{LacksSlots, changes_map, denial_in}
 use Rattle.ctrie_map.specs.Sharding.{may_lack_slots}
 use Rattle.ctrie_map.specs.Costs.{WorksUpTo, work_of_a_copy, work_of_call}

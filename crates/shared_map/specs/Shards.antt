@@ -1,10 +1,7 @@
 -- The shards of one map, and the world of the whole.
 use Rattle.std.specs.Prelude.{◌≡◌, ℕ, ◌≤◌, Bool, true, Option, Some, None, List, [], ◌∷◌, length, map, option_map, option_to_list, slice_get, sum_by, not, nat_eq}
 use Rattle.std.specs.List.{list_any}
-use Rattle.ctrie_base.specs.declared.hashes.HashKind.{HashKind}
-use Rattle.history.specs.declared.calls.Access.{Access}
-use Rattle.history.specs.declared.calls.Call.{Call}
-use Rattle.history.specs.Worlds.{HandleMap}
+use Rattle.shared_map.specs.Vocabulary.{HashKind, Access, Call, HandleMap}
 use Rattle.ctrie_map.specs.Changes.{LacksSlots}
 use Rattle.ctrie_map.specs.Cores.{is_worn_out}
 use Rattle.ctrie_map.specs.Maps.{MapState, free_of, handles_of, slots_asked}

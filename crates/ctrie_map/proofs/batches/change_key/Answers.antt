@@ -1,6 +1,6 @@
 use Rattle.std.proofs.Common.{◌≡◌, ◌≢◌, IfOk, None, subst, sym, ◌∙◌}
 use Rattle.std.proofs.lemmas.Result.{err_from_is_err_and}
-use Rattle.history.specs.declared.replies.Reply.TheVariants.{NoSlots}
+use Rattle.ctrie_map.specs.Vocabulary.{NoSlots}
 use Rattle.ctrie_map.specs.Cores.{Carries, Leads, core_denial}
 use Rattle.ctrie_map.proofs.Setting.{allowed, changes_so, refuses_so}
 use Rattle.ctrie_map.proofs.batches.change_key.Goals as goal

@@ -1,6 +1,6 @@
 use Rattle.std.specs.Prelude.{not}
 use Rattle.std.proofs.Common.{false, ap}
-use Rattle.history.specs.declared.calls.Call.TheVariants.{Snapshot}
+use Rattle.shared_map.specs.Vocabulary.{Snapshot}
 use Rattle.shared_map.proofs.Counted.{measured}
 use Rattle.shared_map.proofs.answering.have_room.Goals as goal
 

@@ -1,5 +1,5 @@
 use Rattle.std.proofs.Common.{subst, refl}
-use Rattle.history.specs.declared.calls.Call.TheVariants.{Clear}
+use Rattle.ctrie_map.specs.Vocabulary.{Clear}
 use Rattle.ctrie_map.specs.Performing.{Performs}
 use Rattle.ctrie_map.proofs.Removes.{clear_done, clear_refused}
 use Rattle.ctrie_map.proofs.Fullness.{goes_on}

@@ -1,5 +1,5 @@
 use Rattle.std.proofs.Common.{subst, refl, sym}
-use Rattle.history.specs.declared.calls.Access.TheVariants.{ReadOnly}
+use Rattle.ctrie_map.specs.Vocabulary.{ReadOnly}
 use Rattle.ctrie_map.specs.Performing.{Performs, copy_call}
 use Rattle.ctrie_map.proofs.Copies.{freeze_done, freeze_next, freeze_refused}
 use Rattle.ctrie_map.proofs.Fullness.{is_full}

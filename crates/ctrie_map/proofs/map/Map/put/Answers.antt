@@ -1,5 +1,5 @@
 use Rattle.std.proofs.Common.{subst, refl, sym}
-use Rattle.history.specs.declared.calls.Call.TheVariants.{Put}
+use Rattle.ctrie_map.specs.Vocabulary.{Put}
 use Rattle.ctrie_map.specs.Performing.{Performs}
 use Rattle.ctrie_map.proofs.Puts.{put_done, put_refused}
 use Rattle.ctrie_map.proofs.Fullness.{adds_none, goes_on, is_full}

@@ -1,5 +1,5 @@
 use Rattle.std.proofs.Common.{subst, refl}
-use Rattle.history.specs.declared.calls.Call.TheVariants.{Remove}
+use Rattle.ctrie_map.specs.Vocabulary.{Remove}
 use Rattle.ctrie_map.specs.Performing.{Performs}
 use Rattle.ctrie_map.proofs.Removes.{remove_done, remove_refused}
 use Rattle.ctrie_map.proofs.Fullness.{goes_on}

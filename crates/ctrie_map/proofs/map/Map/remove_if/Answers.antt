@@ -1,5 +1,5 @@
 use Rattle.std.proofs.Common.{subst, refl}
-use Rattle.history.specs.declared.calls.Call.TheVariants.{RemoveIf}
+use Rattle.ctrie_map.specs.Vocabulary.{RemoveIf}
 use Rattle.ctrie_map.specs.Performing.{Performs}
 use Rattle.ctrie_map.proofs.Removes.{remove_if_done, remove_if_refused}
 use Rattle.ctrie_map.proofs.Fullness.{goes_on}

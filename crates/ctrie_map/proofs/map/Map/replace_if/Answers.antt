@@ -1,5 +1,5 @@
 use Rattle.std.proofs.Common.{subst, refl}
-use Rattle.history.specs.declared.calls.Call.TheVariants.{ReplaceIf}
+use Rattle.ctrie_map.specs.Vocabulary.{ReplaceIf}
 use Rattle.ctrie_map.specs.Performing.{Performs}
 use Rattle.ctrie_map.proofs.Replaces.{replace_if_done, replace_if_refused}
 use Rattle.ctrie_map.proofs.Fullness.{goes_on}

@@ -1,5 +1,5 @@
 use Rattle.std.proofs.Common.{subst, refl, sym}
-use Rattle.history.specs.declared.calls.Access.TheVariants.{Writable}
+use Rattle.ctrie_map.specs.Vocabulary.{Writable}
 use Rattle.ctrie_map.specs.Performing.{Performs, copy_call}
 use Rattle.ctrie_map.proofs.Copies.{snapshot_done, snapshot_next, snapshot_refused}
 use Rattle.ctrie_map.proofs.Fullness.{is_full}
