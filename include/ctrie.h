@@ -151,7 +151,7 @@ static inline const char *ctrie_error(uint32_t code) {
 
 /* ---- a map */
 
-/* How many slots to ask for, for so many keys: three for each, and 40. It is a guide, and no promise: by what was counted
+/* How many slots to ask for, for this many keys: three for each, and 40. It is a guide, and no promise: by what was counted
    of maps of random keys they have room then for one open copy while a third of the keys are overwritten. More than
    333,320 keys come to more slots than a map can have. */
 uint32_t ctrie_slots_for(uint32_t keys);

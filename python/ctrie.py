@@ -269,11 +269,12 @@ def _is_yes(code: int) -> bool:
 
 
 def slots_for(keys: int) -> int:
-    """Returns how many slots to ask for, for that many keys: three for each, and 40. It is a guide, and no promise: by what was counted of
+    """Returns how many slots to ask for, for this many keys: three for each, and 40. It is a guide, and no promise: by what was counted of
     maps of random keys they have room then for one open copy while a third of the keys are overwritten."""
-    if not 0 <= operator.index(keys) < 2**32:
-        raise ValueError("the number of keys is out of range")
-    slots: int = _LIBRARY["slots_for"](operator.index(keys))
+    number = operator.index(keys)
+    if not 0 <= number < 2**32:
+        raise BadSizes("the number of keys is out of range")
+    slots: int = _LIBRARY["slots_for"](number)
     return slots
 
 

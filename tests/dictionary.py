@@ -173,7 +173,7 @@ class Refusals(unittest.TestCase):
             one.put_all({0: 1})
             one.restore(copies[0])
             self.assertEqual(one[0], 0)
-        for slots in (-1, 1, 1_048_577, 2**32 + 64):
+        for slots in (-1, 2, 1_000_001, 2**32 + 64):
             self.assertRaises(ctrie.BadSizes, ctrie.Map, slots)
         self.assertTrue(issubclass(ctrie.BadSizes, ValueError) and issubclass(ctrie.OutOfMemory, MemoryError))
         self.assertRaises(ValueError, ctrie.Map, 64, 4)
@@ -367,7 +367,7 @@ class Lives(unittest.TestCase):
     def test_sizes(self):
         for words in ({}, {"slots": 64, "keys": 64}):
             self.assertRaises(TypeError, lambda: ctrie.Map(**words))
-        for words in ({"keys": -20}, {"keys": 10**6}, {"slots": 1}, {"slots": -1}):
+        for words in ({"keys": -20}, {"keys": 10**6}, {"keys": 2**40}, {"slots": 2}, {"slots": -1}):
             self.assertRaises(ctrie.BadSizes, lambda: ctrie.Map(**words))
         # As many random keys as it was made for, and a third of them changed under a copy.
         keys = random.Random(4).sample(range(2**63 - 1), 10_000)

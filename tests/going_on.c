@@ -1,4 +1,4 @@
-/* A map that is full can be changed all the same, while one handle alone is open. Maps are filled, so many keys are taken out again,
+/* A map that is full can be changed all the same, while one handle alone is open. Maps are filled, some keys are taken out again,
    copies are made and closed, and then each key gets another value and is taken out: none of this may be FULL. With a copy open a
    change may be; after its close none is. The same of shared maps. */
 #include <ctrie_shared.h>

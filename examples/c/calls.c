@@ -103,10 +103,11 @@ int main(void) {
     uint16_t copy = 99, frozen = 99, thawed = 99;
     struct ctrie_pair pair = {99, 99};
     printf("version %u\n", (unsigned)ctrie_version());
+    printf("slots for 10 keys: %u\n", (unsigned)ctrie_slots_for(10));
     for (uint32_t code = 0; code <= CTRIE_NULL; code++) printf("code %u: %s\n", (unsigned)code, ctrie_error(code));
     TELL("get of no map", ctrie_get(&map, 0, 1, &value), value);
     lists_no_map();
-    TELL("new of 1 slot", ctrie_new(&map, 1, CTRIE_LOW), 0);
+    TELL("new of 2 slots", ctrie_new(&map, 2, CTRIE_LOW), 0);
     TELL("new of no hash", ctrie_new(&map, 64, 4), 0);
     TELL("new", ctrie_new(&map, 64, CTRIE_WIDE), 0);
     TELL("new again", ctrie_new(&map, 64, CTRIE_WIDE), 0);

@@ -130,9 +130,10 @@ int main(void) {
     print_plan(mine, plan);
     printf("as it was planned once: %s\n", answer(ctrie_shared_restore(mine, 0, plan)));
 
-    /* No call finds CTRIE_SLOTS_FOR_A_CALL slots in 64, of which a new map takes two. */
-    check(ctrie_shared_new(&small, 1, 64, CTRIE_WIDE, 1), "new");
-    printf("room for any call in a small map: %s", answer(ctrie_shared_has_room(&small)));
+    /* The smallest map has slots for one key. */
+    check(ctrie_shared_new(&small, 1, 3, CTRIE_WIDE, 1), "new");
+    check(ctrie_shared_put(&small, 0, 1, 1, NULL), "put");
+    printf("room for one key more in a small map: %s", answer(ctrie_shared_has_room(&small)));
     check(ctrie_shared_free_slots(&small, &count), "free_slots");
     printf(", free slots: %" PRIu64 "\n", count);
 

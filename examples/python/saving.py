@@ -20,14 +20,14 @@ def save(copy, file):
 def load(file):
     with open(file, "rb") as pairs:
         keys = os.path.getsize(file) // PAIR.size
-        loaded = ctrie.Map(ctrie.slots_for(keys), ctrie.Hash.WIDE)
+        loaded = ctrie.Map(keys=keys)
         for key, value in PAIR.iter_unpack(pairs.read()):
             loaded[key] = value
     return loaded
 
 
 def main():
-    with tempfile.TemporaryDirectory() as folder, ctrie.Map(ctrie.slots_for(1000), ctrie.Hash.WIDE) as squares:
+    with tempfile.TemporaryDirectory() as folder, ctrie.Map(keys=1000) as squares:
         file = os.path.join(folder, "squares")
         for number in range(1000):
             squares[number] = number * number
