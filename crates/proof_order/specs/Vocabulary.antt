@@ -26,7 +26,7 @@ pub use Rattle.proof_order.specs.Beneath.history.specs.declared.replies.Reply.{R
 pub use Rattle.proof_order.specs.Beneath.history.specs.declared.replies.Reply.TheVariants.{NoSlots}
 pub use Rattle.proof_order.specs.Beneath.machine_model.specs.Acting.{aborted, acted, carried_out, completed, ended, gone, if_changed, mark_after, marked, new_root_taken, offered, opened}
 pub use Rattle.proof_order.specs.Beneath.machine_model.specs.Acting.{opened_root, operation_after}
-pub use Rattle.proof_order.specs.Beneath.machine_model.specs.Calls.{changed_reply, handle_of, is_close, opens_handle}
+pub use Rattle.proof_order.specs.Beneath.machine_model.specs.Calls.{changed_reply, handle_of, is_clear, is_close, is_snapshot, opens_handle}
 pub use Rattle.proof_order.specs.Beneath.machine_model.specs.Climbing.{climb_after_contracted, climb_after_main, climb_after_read, climb_after_root, climbed, climbing, higher, holds_it}
 pub use Rattle.proof_order.specs.Beneath.machine_model.specs.Contents.{content_at}
 pub use Rattle.proof_order.specs.Beneath.machine_model.specs.Copying.{after_offer, after_successor, copied_reply, copy_after_complete, copy_after_made, copy_after_read, copy_if_made}
@@ -47,10 +47,10 @@ pub use Rattle.proof_order.specs.Beneath.machine_model.specs.Records.{Record, ch
 pub use Rattle.proof_order.specs.Beneath.machine_model.specs.Records.{entered_at_end, entered_by, first_record, is_placed, moment_after, moment_at, moment_given, next_record, no_moment, noted}
 pub use Rattle.proof_order.specs.Beneath.machine_model.specs.Records.{noted_progress, order_of, place_of, placed_by, read_at_after, record_of, step_of, step_of_commit, with_moment}
 unfoldable pub use Rattle.proof_order.specs.Beneath.machine_model.specs.Records.{record_from}
-pub use Rattle.proof_order.specs.Beneath.machine_model.specs.States.{State, first_heap, handle_limit, operation_of, rewritten, root_at, root_of, with_operation, with_word, word_at, word_of}
+pub use Rattle.proof_order.specs.Beneath.machine_model.specs.States.{Runs, State, first_heap, handle_limit, operation_of, rewritten, root_at, root_of, with_operation, with_word, word_at, word_of}
 unfoldable pub use Rattle.proof_order.specs.Beneath.machine_model.specs.States.{first_state}
-pub use Rattle.proof_order.specs.Beneath.machine_model.specs.Swapping.{action_at, after_check, after_completing, after_deciding, after_reading, after_root_word, complete_action, complete_action_at}
-pub use Rattle.proof_order.specs.Beneath.machine_model.specs.Swapping.{complete_after, completing, is_carried_out, is_plain, of_offer, on_line, root_action, root_after, stands_in}
+pub use Rattle.proof_order.specs.Beneath.machine_model.specs.Swapping.{action_at, after_check, after_deciding, after_reading, complete_action, complete_action_at, complete_after, is_carried_out}
+pub use Rattle.proof_order.specs.Beneath.machine_model.specs.Swapping.{is_plain, of_offer, on_line, root_action, root_after, stands_in}
 pub use Rattle.proof_order.specs.Beneath.machine_model.specs.Tellings.{carried_by, changer_for, committed_in, committed_now, counts_from, entrant_of, given_by, given_in, given_now, progress_of}
 pub use Rattle.proof_order.specs.Beneath.machine_model.specs.Tellings.{published_at, published_by, told_in}
 pub use Rattle.proof_order.specs.Beneath.machine_model.specs.Times.{IsRun, Turn, last_of, noted_turn, records_of, states_of, turns}
@@ -74,10 +74,8 @@ pub use Rattle.proof_order.specs.Beneath.machine_model.specs.declared.records.En
 pub use Rattle.proof_order.specs.Beneath.machine_model.specs.declared.records.Moment.{Moment}
 pub use Rattle.proof_order.specs.Beneath.machine_model.specs.declared.records.Progress.{Progress}
 pub use Rattle.proof_order.specs.Beneath.machine_model.specs.declared.records.Publication.{Publication}
-pub use Rattle.proof_order.specs.Beneath.machine_model.specs.declared.repairs.CleanLine.{CleanLine}
 pub use Rattle.proof_order.specs.Beneath.machine_model.specs.declared.repairs.Climb.{Climb}
 pub use Rattle.proof_order.specs.Beneath.machine_model.specs.declared.repairs.ClimbLine.{ClimbLine}
-pub use Rattle.proof_order.specs.Beneath.machine_model.specs.declared.repairs.RenewLine.{RenewLine}
 pub use Rattle.proof_order.specs.Beneath.machine_model.specs.declared.roots.Complete.{Complete}
 pub use Rattle.proof_order.specs.Beneath.machine_model.specs.declared.roots.CompleteLine.{CompleteLine}
 pub use Rattle.proof_order.specs.Beneath.machine_model.specs.declared.roots.Descriptor.{Descriptor}

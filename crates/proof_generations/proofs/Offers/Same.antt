@@ -5,7 +5,7 @@ use Rattle.std.proofs.lemmas.Option.{none-some, same_Some}
 use Rattle.proof_generations.specs.Vocabulary.{Call, Clear, Snapshot, Freeze, Close, Entries, Count, Ref, next_ref, Action, CopyLine, Line, Operation, After, Gives, Read, Complete, Descriptor}
 use Rattle.proof_generations.specs.Vocabulary.{RootLine, Offer, Bounds, Outcome, Step, handle_of, State, first_state, word_at, operation_of, new_try, read_step, is_plain, stands_in, complete_after}
 use Rattle.proof_generations.specs.Vocabulary.{root_after, copy_after_read, copy_if_made, after_given, after_offer, copy_after_complete, copied_reply, action_of, line_action, line_after, first_line}
-use Rattle.proof_generations.specs.Vocabulary.{after_root, operation_after, attempt_after, Moves, IsRun}
+use Rattle.proof_generations.specs.Vocabulary.{after_root, operation_after, attempt_after, Moves, IsRun, Runs}
 use Rattle.proof_generations.specs.Beneath.machine_model.specs.declared.actions.Action.TheVariants as act
 use Rattle.proof_generations.specs.Beneath.machine_model.specs.declared.copying.CopyLine.TheVariants as copy
 use Rattle.proof_generations.specs.Beneath.machine_model.specs.declared.lines.Line.TheVariants as line
@@ -15,13 +15,12 @@ use Rattle.proof_generations.specs.Beneath.machine_model.proofs.Found.{none_foun
 use Rattle.proof_generations.specs.Beneath.machine_model.proofs.Actors.{mark_only, marks_in}
 use Rattle.proof_generations.specs.Beneath.machine_model.proofs.Times.{at_each_time}
 use Rattle.proof_generations.proofs.Handles.Running.{Comes, began, rested, went, comes, place_of_actor}
-use Rattle.proof_generations.specs.Running.{Runs}
 use Rattle.proof_generations.proofs.Handles.Ids.{HasIds, one_of_id, begun_kept, ids_after, ids_at_first}
 use Rattle.proof_generations.proofs.Lines.Copy.{AllOwn, own_after, is_copy, no_copy_after, complete_tries, same_offer_after}
 use Rattle.proof_generations.specs.Laws.Roots.{settles}
 use Rattle.proof_generations.proofs.Offers.Standing.{own_offer, own_numbers, OffersStand, stands_as, offers_after, none_offered}
-use Rattle.proof_generations.proofs.Lines.Offers.{HoldsOffer, completing_of, abort_after, settles_held}
-use Rattle.proof_generations.proofs.Lines.Completes.{CompletesFrom, completes_after}
+use Rattle.proof_generations.proofs.Lines.Offers.{HoldsOffer, completing_of, settles_held}
+use Rattle.proof_generations.proofs.Lines.Completes.{CompletesFrom, goes_on, finds_offer, has_offered, abort_after, completes_after}
 
 -- ---- where an operation has its own offer from
 
@@ -191,9 +190,10 @@ module _ (state : State) (I : HasOffers state) (s : Step) (o : Outcome) (after :
 
   completing_known : (k : ℕ) (was found : Operation) → Runs state k was → Runs after k found → found.line ≡ line_after state was was.line → (c : Complete) →
       completing_of (line_after state was was.line) ≡ Some c → CompletesFrom state was was.line c → IsKnown after c.offer
-  completing_known k was found at_k now line_is c e (inl (before, held, same)) = known_kept state s o after m c.offer (I.known k was at_k c.offer (inr (before, held, same)))
-  completing_known k was found at_k now line_is c e (inr (inl word)) = known_kept state s o after m c.offer (known_standing state I.ids I.own I.offers (handle_of was.call) c.offer word)
-  completing_known k was found at_k now line_is c e (inr (inr offers)) =
+  completing_known k was found at_k now line_is c e (goes_on before held on) =
+      known_kept state s o after m c.offer (I.known k was at_k c.offer (inr (before, held, sym (same_offer_after state was before c on))))
+  completing_known k was found at_k now line_is c e (finds_offer word first) = known_kept state s o after m c.offer (known_standing state I.ids I.own I.offers (handle_of was.call) c.offer word)
+  completing_known k was found at_k now line_is c e (has_offered offers first) =
       known_own after (ids_after state s o after m I.ids) (own_after state s o after m I.own) k found c.offer now (ap own_offer line_is ∙ own_line was c offers e)
 
   went_known : (k : ℕ) (was found : Operation) → Runs state k was → Runs after k found → found.line ≡ line_after state was was.line → (offer : Descriptor) →

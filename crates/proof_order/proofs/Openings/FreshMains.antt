@@ -2,7 +2,7 @@
 use Rattle.std.proofs.Common.{◌≡◌, ℕ, suc, ◌<◌, ◌≤◌, Bool, true, false, inl, inr, Some, is_some, refl, sym, ap, ◌∙◌, subst, arith}
 use Rattle.std.proofs.lemmas.Bool.{true≢false}
 use Rattle.proof_order.specs.Vocabulary.{Writable, Ref, Indirection, generation_at, generation_of, node_of, prev_of, main_of, logical, empty_branch, next_ref, Line, Operation, Bounds, Outcome, Step}
-use Rattle.proof_order.specs.Vocabulary.{State, action_of, grown, node_under, prev_word, Moves, IsRun}
+use Rattle.proof_order.specs.Vocabulary.{State, action_of, grown, node_under, prev_word, Moves, IsRun, Runs, is_clear}
 use Rattle.proof_order.specs.Beneath.slot_arena.specs.declared.nodes.Prev.TheVariants as over
 use Rattle.proof_order.specs.Beneath.machine_model.specs.declared.actions.Action.TheVariants as act
 use Rattle.proof_order.specs.Beneath.machine_model.specs.declared.steps.Step.TheVariants as step
@@ -18,9 +18,7 @@ use Rattle.proof_order.specs.Beneath.proof_commits.proofs.Known.Given.{ActsOn, T
 use Rattle.proof_order.specs.Beneath.proof_commits.proofs.Words.Along.{protocol, remembers_at}
 use Rattle.proof_order.specs.Beneath.proof_commits.proofs.Lines.Stages.{Remembers}
 use Rattle.proof_order.specs.Beneath.proof_commits.specs.Stages.{stage_of, stage_of_actor}
-use Rattle.proof_generations.specs.Running.{Runs}
 use Rattle.proof_generations.proofs.Counter.Drawn.{generation_stays}
-use Rattle.proof_generations.proofs.Lines.Copy.{is_clear}
 use Rattle.proof_generations.proofs.Roots.Own.{IsUnused}
 use Rattle.proof_generations.proofs.Roots.Kept.{fresh_in, fresh_safe}
 use Rattle.proof_generations.proofs.Roots.Along.{IsOrdered, ordered_at}
