@@ -31,7 +31,7 @@ use Rattle.proof_shape.proofs.Runs.EachAt.{GoesAt, each_at}
 use Rattle.proof_shape.proofs.Runs.Nodes.{node_known}
 use Rattle.proof_shape.proofs.Opened.Lines.{Opens}
 use Rattle.proof_shape.proofs.Opened.Later.{opens_more}
-use Rattle.proof_shape.proofs.Opened.Repair.{line_opens}
+use Rattle.proof_shape.proofs.Opened.Steps.{line_opens}
 use Rattle.proof_shape.proofs.Commits.At.{commits_at}
 use Rattle.proof_shape.specs.Beneath.proof_commits.proofs.Known.Acts.{known_run}
 
