@@ -34,4 +34,4 @@ pub mod Grown
 pub mod Numbered
 pub mod Basics
 pub mod Taking
-pub mod Spared
+pub mod GivingUp
