@@ -25,7 +25,7 @@ use Rattle.machine_model.specs.Reading.{Verdict, Commits, Fails, Overtaken, verd
 use Rattle.machine_model.specs.Operations.{action_of}
 use Rattle.machine_model.specs.Acting.{acted, gone, published, restored, decided, new_root_taken, if_changed}
 use Rattle.machine_model.specs.Counting.{settled}
-use Rattle.machine_model.specs.Moves.{Begins, Goes, Ends, Sweeps}
+use Rattle.machine_model.specs.Moves.{Begins, Goes, Ends, Sweeps, GivesUp}
 use Rattle.machine_model.specs.Moves.{Moves, begun_operation}
 use Rattle.machine_model.proofs.HeapMoves.{begin_heap, aborted_heap, offered_heap, completed_heap}
 use Rattle.machine_model.specs.Machine.{pin_of, reclaimer_of}
@@ -194,6 +194,7 @@ standing_move state I s o after (Goes {actor} {operation} d is a g) =
     let (k, found) = of_actor state (λ k operation. get_or state.actors k None ≡ Some operation) (λ k operation e. e) actor operation is in
     inl (gone_move state I actor k operation is found)
 standing_move state I s o after (Ends d is a) = inl (keeps (λ r. refl))
+standing_move state I s o after (GivesUp d is a) = inl (keeps (λ r. refl))
 standing_move state I s o after (Sweeps spent) =
     inr (sweep_goes state I (map pin_of state.actors) (ripe state.epoch state.limbo)
     (λ q due. stands_in_use state.heap q (omega (arith, I.small, I.sound.heap.size)) (ripe_in_use (InUse state.heap) state.epoch state.limbo (I.sound.limbo) q due)))

@@ -17,7 +17,7 @@ use Rattle.machine_model.specs.States.{State, first_state, handle_limit, with_wo
 use Rattle.machine_model.specs.Operations.{action_of}
 use Rattle.machine_model.specs.Acting.{acted, carried_out, opened, new_root_taken, if_changed}
 use Rattle.machine_model.specs.Machine.{run, handle_closed, with_begin}
-use Rattle.machine_model.specs.Moves.{Moves, Begins, Goes, Ends, Sweeps, begun_operation}
+use Rattle.machine_model.specs.Moves.{Moves, Begins, Goes, Ends, Sweeps, GivesUp, begun_operation}
 use Rattle.machine_model.proofs.Along.{along}
 use Rattle.proof_memory.specs.Holding.{SizesStay}
 
@@ -83,6 +83,7 @@ moved_sizes state s o after (Begins {actor} {call} d) =
 moved_sizes state s o after (Goes {actor} {operation} d is a g) =
     let went = acted_sizes _ (handle_of operation.call) (action_of state operation) in record { roots = went.roots; actors = went.actors ∙ length-set state.actors (actor - 1) _ }
 moved_sizes state s o after (Ends {actor} d is a) = record { roots = refl; actors = length-set state.actors (actor - 1) None }
+moved_sizes state s o after (GivesUp {actor} d is a) = record { roots = refl; actors = length-set state.actors (actor - 1) _ }
 moved_sizes state s o after (Sweeps spent) = record { roots = refl; actors = refl }
 
 first_sizes : (limits : Bounds) → (length (first_state limits).roots ≡ handle_limit) × (length (first_state limits).actors ≡ limits.actors)

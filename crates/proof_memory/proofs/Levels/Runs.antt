@@ -20,7 +20,7 @@ use Rattle.machine_model.specs.Machine.{Answer, AreBounds, run, run_from, next, 
 use Rattle.machine_model.specs.Times.{states_from, states_of}
 use Rattle.machine_model.proofs.Found.{none_found}
 use Rattle.machine_model.proofs.Moves.{moves}
-use Rattle.machine_model.specs.Moves.{Begins, Goes, Ends, Sweeps}
+use Rattle.machine_model.specs.Moves.{Begins, Goes, Ends, Sweeps, GivesUp}
 use Rattle.machine_model.specs.Moves.{Moves, MovesIfTaken}
 use Rattle.proof_memory.proofs.Claims.Uses.{safe_of}
 use Rattle.proof_memory.proofs.Heap.Under.{births_taken}
@@ -58,6 +58,7 @@ pub made_next : (state : State) (s : Step) (r : Ref) → made_now state s ≡ So
 made_next state (step.Go actor) r e = made_next_of state (operation_of state actor) r e
 made_next state (step.Begin actor call) r e = absurd (none-some r e)
 made_next state step.Sweep r e = absurd (none-some r e)
+made_next state (step.GiveUp actor) r e = absurd (none-some r e)
 
 -- the number is that of the reference that is made
 pub number_is : (r : Ref) (o : Option Ref) → is_number r o ≡ true → o ≡ Some r
@@ -83,6 +84,7 @@ births_made state I s o after (Goes {actor} {operation} d is a g) r e = by_node 
         let next = sym (ap (λ x. if_made x (next_ref state.heap)) n) ∙ made in enough (drawn_birth state I r next) (drawn node n next)
 births_made state I s o after (Ends {actor} {operation} d is a) r e =
     absurd (none-some r (sym (ap (λ x. if_made x (next_ref state.heap)) (ap (made_node state) a)) ∙ ap (made_by state) (sym is) ∙ e))
+births_made state I s o after (GivesUp d is a) r e = absurd (none-some r e)
 births_made state I s o after (Sweeps spent) r e = absurd (none-some r e)
 
 -- ---- a run from a safe state

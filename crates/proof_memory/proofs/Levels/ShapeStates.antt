@@ -38,7 +38,7 @@ use Rattle.machine_model.specs.Times.{states_of}
 use Rattle.machine_model.proofs.Along.{along}
 use Rattle.machine_model.proofs.Found.{none_found}
 use Rattle.machine_model.proofs.Frames.{limits_kept}
-use Rattle.machine_model.specs.Moves.{Begins, Goes, Ends, Sweeps}
+use Rattle.machine_model.specs.Moves.{Begins, Goes, Ends, Sweeps, GivesUp}
 use Rattle.machine_model.specs.Moves.{Moves, begun_operation}
 use Rattle.machine_model.proofs.Actors.{mark_one, mark_only}
 use Rattle.machine_model.proofs.HeapMoves.{begin_heap}
@@ -164,6 +164,7 @@ module _ (lv : Ref → ℕ) (state : State) (I : IsSafe state) (h : HasLevels lv
       subst (λ l. ShapeAt deep l node) (sym (gives actor operation node made refl is its e))
       (makes_shape operation (line_finds state I actor operation is) (h.lines k operation found) (g.lines k operation found) (action_of state operation) refl node its)
   fresh_shape s o after (Ends d is a) gives = nothing_new after (λ r. inl refl)
+  fresh_shape s o after (GivesUp d is a) gives = nothing_new after (λ r. inl refl)
   fresh_shape s o after (Sweeps spent) gives =
       nothing_new after (sweep_goes state I (map pin_of state.actors) (ripe state.epoch state.limbo)
       (λ q due. stands_in_use state.heap q (omega (arith, I.small, I.sound.heap.size)) (ripe_in_use (InUse state.heap) state.epoch state.limbo (I.sound.limbo) q due)))
@@ -191,6 +192,7 @@ module _ (lv : Ref → ℕ) (state : State) (I : IsSafe state) (h : HasLevels lv
       (λ actor operation k own is goes found. marked_shape _ (operation_after state operation)
       (line_shape_next lv state operation (IsInUse state.heap) (heaped_in_use state I) shape_under operation.line (line_finds state I actor operation is)
       (h.lines k operation found) (g.lines k operation found)))
+      (λ actor operation answer k own is a found. tt)
       (λ s o after m k other operation found e. marked_shape _ operation (g.lines k operation found))
 
   pub shapes_after : (s : Step) (o : Outcome) (after : State) → Moves state s o after → GivesLevel lv state s → HasShapes lv after

@@ -30,9 +30,9 @@ use Rattle.proof_memory.specs.Beneath.epochs.specs.Sweeping.{ripe}
 use Rattle.machine_model.proofs.HeapMoves.{aborted_heap, offered_heap, completed_heap, begin_heap}
 use Rattle.machine_model.proofs.InUse.{InUse}
 use Rattle.machine_model.proofs.Slots.{ripe_in_use}
-use Rattle.machine_model.specs.Moves.{Begins, Goes, Ends, Sweeps}
+use Rattle.machine_model.specs.Moves.{Begins, Goes, Ends, Sweeps, GivesUp}
 use Rattle.machine_model.specs.Moves.{Moves, GoesOn, begun_operation}
-use Rattle.machine_model.proofs.Actors.{IsOf, is_of, mark_one, mark_only, marks_in, marks_by, of_others, of_itself, of_begin, of_end}
+use Rattle.machine_model.proofs.Actors.{IsOf, is_of, mark_one, mark_only, marks_in, marks_by, of_others, of_itself, of_begin, of_end, of_giving_up}
 use Rattle.machine_model.specs.Grown.{standing}
 use Rattle.proof_memory.specs.Wants.{is_formed, AllHold, node_wants, prev_wants}
 use Rattle.proof_memory.specs.Laws.{IsInUse}
@@ -204,6 +204,7 @@ module _ (lv : Ref → ℕ) (state : State) (I : IsSafe state) (h : HasLevels lv
       put_words (WordLevel lv) _ (handle_of operation.call) (action_of state operation) (h.words)
       (puts_level lv (made_level operation.line) (action_of state operation) (acts_level actor operation is))
   words_after s o after (Ends d is a) = h.words
+  words_after s o after (GivesUp d is a) = h.words
   words_after s o after (Sweeps spent) = h.words
 
   -- ---- what is made
@@ -244,6 +245,7 @@ module _ (lv : Ref → ℕ) (state : State) (I : IsSafe state) (h : HasLevels lv
       let (k, found) = of_actor state (λ k operation. get_or state.actors k None ≡ Some operation) (λ k operation e. e) actor operation is in
       gone_made actor operation k is found gives (made_node state (action_of state operation)) refl
   fresh_after s o after (Ends d is a) gives = nothing_made after (λ r. inl refl)
+  fresh_after s o after (GivesUp d is a) gives = nothing_made after (λ r. inl refl)
   fresh_after s o after (Sweeps spent) gives =
       nothing_made after (sweep_goes state I (map pin_of state.actors) (ripe state.epoch state.limbo)
       (λ q due. stands_in_use state.heap q (omega (arith, I.small, I.sound.heap.size)) (ripe_in_use (InUse state.heap) state.epoch state.limbo (I.sound.limbo) q due)))
@@ -279,6 +281,8 @@ module _ (lv : Ref → ℕ) (state : State) (I : IsSafe state) (h : HasLevels lv
       (word_by (root_at state (handle_of operation.call)) (handle_of operation.call) refl is_open) older operation.line
       (line_finds state I actor operation is) (h.lines k operation at_was) (λ node made m e. gives actor operation node made refl is m e)))
   lines_after s o after (Ends {actor} d is a) gives k (yes own) found at_k = absurd (of_end state actor k own found at_k)
+  lines_after s o after (GivesUp {actor} {operation} {answer} d is a) gives k (yes own) found at_k =
+      subst (λ (x : Operation). LineLevel lv x.line) (of_giving_up state actor operation answer k own found at_k) tt
   lines_after s o after (Sweeps spent) gives k (yes own) found at_k = absurd own
 
   pub levels_after : (s : Step) (o : Outcome) (after : State) → Moves state s o after → GivesLevel lv state s → HasLevels lv after

@@ -17,7 +17,7 @@ use Rattle.machine_model.specs.States.{State, first_state}
 use Rattle.machine_model.specs.Counting.{outside}
 use Rattle.machine_model.specs.Machine.{run, pin_of, reclaimer_of}
 use Rattle.machine_model.proofs.Along.{along}
-use Rattle.machine_model.specs.Moves.{Begins, Goes, Ends, Sweeps}
+use Rattle.machine_model.specs.Moves.{Begins, Goes, Ends, Sweeps, GivesUp}
 use Rattle.machine_model.specs.Moves.{Moves, begun_operation}
 use Rattle.proof_memory.specs.Laws.{IsRising}
 use Rattle.proof_memory.proofs.Safety.Base.{begin_times}
@@ -73,6 +73,7 @@ epoch_step : (state : State) (s : Step) (o : Outcome) (after : State) → Moves 
 epoch_step state s o after (Begins {actor} {call} d) = inl (ap (λ (p : ℕ × ℕ). p.0) (begin_times state actor call (begun_operation state call)))
 epoch_step state s o after (Goes {actor} {operation} d is a g) = inl (gone_epoch state actor operation)
 epoch_step state s o after (Ends d is a) = inl refl
+epoch_step state s o after (GivesUp d is a) = inl refl
 epoch_step state s o after (Sweeps spent) = swept_step state (map pin_of state.actors) (ripe state.epoch state.limbo) refl
 
 -- ---- along a run

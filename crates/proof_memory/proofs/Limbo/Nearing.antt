@@ -25,7 +25,7 @@ use Rattle.machine_model.specs.Acting.{gone}
 use Rattle.machine_model.specs.Calls.{handle_of}
 use Rattle.machine_model.specs.Counting.{outside, settled}
 use Rattle.machine_model.specs.Machine.{is_busy, pin_of, reclaimer_of, run, swept_with}
-use Rattle.machine_model.specs.Moves.{Moves, Begins, Ends, Goes, Sweeps, begun_operation}
+use Rattle.machine_model.specs.Moves.{Moves, Begins, Ends, Goes, Sweeps, GivesUp, begun_operation}
 use Rattle.machine_model.specs.Operations.{action_of}
 use Rattle.machine_model.specs.States.{State, first_state}
 use Rattle.machine_model.proofs.Along.{along}
@@ -179,6 +179,7 @@ cursor_counts state s o after (Begins {actor} {call} d) h = omega (arith, h, ap 
 cursor_counts state s o after (Goes {actor} {operation} d is a g) h =
     let same : (gone state actor operation).cursor ≡ state.cursor = (acted_framed _ (handle_of operation.call) (action_of state operation)).cursor in omega (arith, h, same)
 cursor_counts state s o after (Ends d is a) h = h
+cursor_counts state s o after (GivesUp d is a) h = h
 cursor_counts state s o after (Sweeps spent) h = swept_counts (map pin_of state.actors) (reclaimer_of state) (ripe state.epoch state.limbo) h
 
 pub counts_along : (limits : Bounds) (steps : List Step) → 1 ≤ (run limits steps).cursor

@@ -30,7 +30,7 @@ use Rattle.machine_model.specs.Operations.{action_of, line_action, first_line}
 use Rattle.machine_model.specs.Acting.{operation_after, gone, acted, opened, opened_root, carried_out, new_root_taken, if_changed}
 use Rattle.machine_model.specs.Counting.{settled}
 use Rattle.machine_model.specs.Machine.{begin_denial, with_begin, handle_closed, runs_on, names, pin_of, reclaimer_of}
-use Rattle.machine_model.specs.Moves.{Begins, Goes, Ends, Sweeps}
+use Rattle.machine_model.specs.Moves.{Begins, Goes, Ends, Sweeps, GivesUp}
 use Rattle.machine_model.specs.Moves.{Moves, GoesOn, begun_operation}
 use Rattle.machine_model.proofs.Actors.{IsOf, mark_one, mark_only, marks_in, marks_by}
 use Rattle.machine_model.proofs.Frames.{IsFramed, acted_framed}
@@ -167,10 +167,11 @@ module _ (state : State) (all : (k : ℕ) (operation : Operation) → get_or sta
       (kept_handle after operation (λ handle same open_now. acted_open _ (handle_of mover.call) (action_of state mover) handle open_now) h)
   other_handle s o after (Ends {actor} {operation = mover} d is a) k other operation found h =
       rw (mark_only (marks_in state s) operation) (kept_handle after operation (λ handle same open_now. open_now) h)
+  other_handle s o after (GivesUp d is a) k other operation found h = kept_handle after operation (λ handle same open_now. open_now) h
   other_handle s o after (Sweeps spent) k other operation found h = kept_handle after operation (λ handle same open_now. open_now) h
 
   pub handles_after : (s : Step) (o : Outcome) (after : State) → Moves state s o after → (k : ℕ) (found : Operation) → get_or after.actors k None ≡ Some found → HasHandle after found
-  handles_after = each_after state (λ k operation. HasHandle state operation) (λ after k operation. HasHandle after operation) all begun_handle gone_handle other_handle
+  handles_after = each_after state (λ k operation. HasHandle state operation) (λ after k operation. HasHandle after operation) all begun_handle gone_handle (λ actor operation answer k own is a h. refl) other_handle
 
 -- ---- a reader stays one
 
@@ -178,7 +179,7 @@ pub fits_after : (state : State) → ((k : ℕ) (operation : Operation) → get_
     (s : Step) (o : Outcome) (after : State) → Moves state s o after → (k : ℕ) (found : Operation) → get_or after.actors k None ≡ Some found → Fits found
 fits_after state all =
     each_after state (λ k operation. Fits operation) (λ after k operation. Fits operation) all (λ actor call k own d. begun_fits state actor call d)
-    (λ actor operation k own is g h. marked_fits _ (operation_after state operation) h) (λ s o after m k other operation found h. marked_fits _ operation h)
+    (λ actor operation k own is g h. marked_fits _ (operation_after state operation) h) (λ actor operation answer k own is a h. h) (λ s o after m k other operation found h. marked_fits _ operation h)
 
 -- ---- epochs
 
@@ -237,9 +238,10 @@ module _ (state : State) (all : (k : ℕ) (operation : Operation) → get_or sta
   other_recent s o after (Goes {actor} {operation = mover} d is a g) k other operation found h =
       rw (mark_only (marks_in state s) operation) (framed_recent _ _ (acted_framed _ (handle_of mover.call) (action_of state mover)) k operation.epoch h)
   other_recent s o after (Ends {actor} {operation = mover} d is a) k other operation found h = rw (mark_only (marks_in state s) operation) h
+  other_recent s o after (GivesUp d is a) k other operation found h = h
   other_recent s o after (Sweeps spent) k other operation found h =
       swept_recent (map pin_of state.actors) (reclaimer_of state) (ripe state.epoch state.limbo) k operation.epoch
       (omega (arith, found_within state.actors k operation found, length-map state.actors pin_of)) (get_or-map pin_of state.actors k None ∙ ap pin_of found) h
 
   pub recent_after : (s : Step) (o : Outcome) (after : State) → Moves state s o after → (k : ℕ) (found : Operation) → get_or after.actors k None ≡ Some found → IsRecent after k found
-  recent_after = each_after state (IsRecent state) IsRecent all begun_recent gone_recent other_recent
+  recent_after = each_after state (IsRecent state) IsRecent all begun_recent gone_recent (λ actor operation answer k own is a h. h) other_recent
