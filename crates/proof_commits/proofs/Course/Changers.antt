@@ -34,13 +34,14 @@ use Rattle.proof_commits.specs.Beneath.machine_model.specs.Records.{Record, chan
 use Rattle.proof_commits.specs.Beneath.machine_model.specs.Tellings.{changer_for, progress_of, published_at, published_by}
 use Rattle.proof_commits.specs.Beneath.machine_model.proofs.Times.{along_run}
 use Rattle.proof_commits.specs.Beneath.machine_model.proofs.Actors.{begin_counts, marks_by}
+use Rattle.proof_commits.specs.Beneath.history.specs.declared.replies.Reply.{Reply}
 use Rattle.proof_commits.specs.Protocol.{Words, Stage, Publishes, Decides, Moves, Idles, MakesNode, SwapsNode, ReadsOn, DecidesOn, IsAtRest, MayHave}
 use Rattle.proof_commits.specs.Stages.{stage_of, stage_of_actor, stage_of_swap}
 use Rattle.proof_commits.specs.Words.{words_of}
 use Rattle.proof_commits.proofs.Known.Given.{Known}
 use Rattle.proof_commits.proofs.Known.Owners.{HasFresh}
 use Rattle.proof_commits.proofs.Known.Sounds.{sound_at}
-use Rattle.proof_commits.proofs.Known.StepsAt.{NotedAt, NotesBegin, NotesGo, NotesEnd, NotesSweep, noted_at, after_mark, go_others, go_own, end_others, end_own, begin_others, begin_own, actor_counts}
+use Rattle.proof_commits.proofs.Known.StepsAt.{NotedAt, NotesBegin, NotesGo, NotesEnd, NotesSweep, noted_at, after_mark, go_others, go_own, end_others, end_own, begin_others, begin_own, actor_counts, NotesGivingUp, give_up_own, give_up_others}
 use Rattle.proof_commits.proofs.Lines.Resting.{swapped_rest}
 use Rattle.proof_commits.proofs.Lines.Swap.{line_decides, line_publishes}
 use Rattle.proof_commits.proofs.Lines.Turns.{line_turn}
@@ -249,6 +250,17 @@ module _ (limits : Bounds) (states : ℕ → State) (last : ℕ) (known : Known 
         rests t all k None (ap (λ (s : State). operation_of s k) e ∙ end_others (states t) actor ending answer (actor_counts (states t) actor ending ran) k other)
         (known.run.records (suc t)) (λ g. ap (λ past. changer_of past g) notes) operation runs why i a f l is
   ]
+  at_next t h all (NotesGivingUp actor was answer o m ran may e notes) k operation runs why i a f l is = elim (cases_eq k actor) [
+    | inl same ↦
+        let own = ap (λ (s : State). operation_of s actor) e ∙ give_up_own (states t) actor was answer ran in
+        absurd (not_ending answer (ap (λ (x : Operation). x.line) (same_Some _ _ (sym own ∙ subst (λ j. operation_of (states (suc t)) j ≡ Some operation) same runs)) ∙ is))
+    | inr other ↦
+        rests t all k None (ap (λ (s : State). operation_of s k) e ∙ give_up_others (states t) actor was answer (actor_counts (states t) actor was ran) k other)
+        (known.run.records (suc t)) (λ g. ap (λ past. changer_of past g) notes) operation runs why i a f l is
+  ]
+    where
+      not_ending : (x : Reply) → line.End x ≡ line.Swap why (in_swap i a f l) → ⊥
+      not_ending x same = cc same
   at_next t h all (NotesSweep o m e notes) k operation runs why i a f l is =
       rests t all k None (ap (λ (s : State). operation_of s k) e) (known.run.records (suc t)) (λ g. ap (λ past. changer_of past g) notes) operation runs why i a f l is
 

@@ -24,7 +24,7 @@ use Rattle.proof_commits.specs.Beneath.machine_model.specs.Reading.{Verdict, Com
 use Rattle.proof_commits.specs.Beneath.machine_model.specs.Operations.{action_of}
 use Rattle.proof_commits.specs.Beneath.machine_model.specs.Acting.{acted, decided, new_root_taken, if_changed}
 use Rattle.proof_commits.specs.Beneath.machine_model.specs.Machine.{reclaimer_of}
-use Rattle.proof_commits.specs.Beneath.machine_model.specs.Moves.{Begins, Goes, Ends, Sweeps}
+use Rattle.proof_commits.specs.Beneath.machine_model.specs.Moves.{Begins, Goes, Ends, Sweeps, GivesUp}
 use Rattle.proof_commits.specs.Beneath.machine_model.specs.Moves.{Moves, begun_operation}
 use Rattle.proof_commits.specs.Beneath.machine_model.specs.Times.{IsRun}
 use Rattle.proof_commits.specs.Beneath.machine_model.specs.Grown.{standing, or_before, grown}
@@ -54,6 +54,7 @@ fewer : (before : State) (s : Step) (o : Outcome) (after : State) → Moves befo
 fewer before s o after (Begins {actor} {call} d) n q slot e = subst (λ x. standing x q ≡ Some slot) (begin_heap before actor call (begun_operation before call)) e
 fewer before s o after (Goes d is a g) n q slot e = absurd n
 fewer before s o after (Ends d is a) n q slot e = absurd n
+fewer before s o after (GivesUp d is a) n q slot e = e
 fewer before s o after (Sweeps spent) n q slot e = fewer_swept _ (reclaimer_of before) (ripe before.epoch before.limbo) q slot e
 
 module _ (states : ℕ → State) (t : ℕ) where

@@ -1,5 +1,5 @@
 -- What an operation on a line is about with main words, and what the line remembers.
-use Rattle.std.proofs.Common.{◌≡◌, ℕ, List, arith, refl}
+use Rattle.std.proofs.Common.{◌≡◌, ℕ, List, arith, refl, Some}
 use Rattle.proof_commits.specs.Beneath.slot_arena.specs.declared.refs.Ref.{Ref}
 use Rattle.proof_commits.specs.Beneath.machine_model.specs.declared.operations.Operation.{Operation}
 use Rattle.proof_commits.specs.Beneath.machine_model.specs.declared.reading.ReadLine.{ReadLine}
@@ -28,8 +28,8 @@ use Rattle.proof_commits.specs.Beneath.machine_model.specs.declared.walking.Walk
 use Rattle.proof_commits.specs.Beneath.machine_model.specs.declared.lines.Line.{Line}
 use Rattle.proof_commits.specs.Beneath.machine_model.specs.declared.lines.Line.TheVariants as line
 use Rattle.proof_commits.specs.Beneath.machine_model.specs.Paths.{current, above}
-use Rattle.proof_commits.specs.Protocol.{Rests, after_read}
-use Rattle.proof_commits.specs.Stages.{stage_of}
+use Rattle.proof_commits.specs.Protocol.{Rests, after_read, IsFree}
+use Rattle.proof_commits.specs.Stages.{stage_of, stage_of_complete}
 use Rattle.proof_commits.specs.Beneath.machine_model.specs.declared.reading.After.{After}
 use Rattle.proof_commits.specs.Beneath.machine_model.specs.Finding.{key_after_read}
 use Rattle.proof_commits.specs.Beneath.machine_model.specs.Renewing.{renew_after_read}
@@ -42,6 +42,8 @@ use Rattle.proof_commits.specs.Beneath.machine_model.specs.Reading.{at_indirecti
 use Rattle.proof_commits.specs.Beneath.machine_model.specs.Swapping.{of_offer, after_completing, after_reading}
 use Rattle.proof_commits.specs.Beneath.machine_model.specs.declared.repairs.Climb.{Climb}
 use Rattle.proof_commits.specs.Beneath.machine_model.specs.declared.reading.After.TheVariants.{Goes, Gives}
+use Rattle.proof_commits.specs.Beneath.machine_model.specs.GivingUp.{given_up}
+use Rattle.proof_commits.specs.Beneath.history.specs.declared.replies.Reply.{Reply}
 use Rattle.proof_commits.specs.Beneath.history.specs.declared.calls.Call.{Call}
 
 -- ---- what an operation is about
@@ -247,3 +249,22 @@ root_completing_stage operation offer (Gives m) = refl
 -- the first line
 pub first_rests : (call : Call) → stage_of (first_line call) ≡ Rests
 first_rests call = grind arith
+
+-- where an operation may give up it isn't deciding the node of a SWAP
+pub given_up_free : (call : Call) (l : Line) (answer : Reply) → given_up call l ≡ Some answer → IsFree (stage_of l)
+given_up_free call (line.Root root.Read) answer e = tt
+given_up_free call (line.Root (root.Completing c)) answer e = completing_free c.offer c.line
+  where
+    completing_free : (offer : Descriptor) (l : CompleteLine) → IsFree (stage_of_complete offer l)
+    completing_free offer (complete.Reading x) = tt
+    completing_free offer (complete.Swap main) = tt
+given_up_free call (line.Key l) answer e = grind arith
+given_up_free call (line.Build l) answer e = grind arith
+given_up_free call (line.Swap why s) answer e = grind (arith, e)
+given_up_free call (line.Renew l) answer e = grind arith
+given_up_free call (line.Clean l) answer e = grind arith
+given_up_free call (line.Climb l) answer e = grind arith
+given_up_free call (line.Copy l) answer e = grind arith
+given_up_free call (line.Walk l) answer e = grind arith
+given_up_free call (line.End x) answer e = tt
+given_up_free call line.Impossible answer e = tt
