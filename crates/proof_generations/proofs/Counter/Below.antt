@@ -36,14 +36,14 @@ use Rattle.proof_generations.specs.Beneath.machine_model.proofs.Times.{along_run
 use Rattle.proof_generations.specs.Beneath.machine_model.specs.Times.{turns}
 use Rattle.proof_generations.specs.Beneath.machine_model.specs.Times.{IsRun, Turn}
 use Rattle.proof_generations.specs.Beneath.proof_memory.proofs.Safety.AtEachTime.{safe_at}
-use Rattle.proof_generations.proofs.Handles.Running.{Comes, began, rested, went, comes}
+use Rattle.proof_generations.proofs.Handles.Running.{Comes, began, rested, went, comes, gave}
 use Rattle.proof_generations.specs.Running.{Runs}
 use Rattle.proof_generations.specs.Beneath.machine_model.specs.Paths.{start_of}
 use Rattle.proof_generations.specs.Beneath.machine_model.specs.Reading.{Verdict, Commits, Fails, Overtaken, verdict}
 use Rattle.proof_generations.specs.Beneath.machine_model.specs.Operations.{action_of, generation_from, given_root}
 use Rattle.proof_generations.specs.Beneath.machine_model.specs.Acting.{acted, aborted, offered, completed, decided, new_root_taken, if_changed, operation_after}
 use Rattle.proof_generations.specs.Beneath.machine_model.specs.Machine.{with_begin, pin_of, reclaimer_of}
-use Rattle.proof_generations.specs.Beneath.machine_model.specs.Moves.{Begins, Goes, Ends, Sweeps}
+use Rattle.proof_generations.specs.Beneath.machine_model.specs.Moves.{Begins, Goes, Ends, Sweeps, GivesUp}
 use Rattle.proof_generations.specs.Beneath.machine_model.specs.Moves.{Moves, begun_operation}
 use Rattle.proof_generations.specs.Beneath.machine_model.proofs.HeapMoves.{aborted_heap, offered_heap, completed_heap}
 use Rattle.proof_generations.specs.Beneath.machine_model.proofs.Found.{found_elsewhere, found_here, none_found}
@@ -160,6 +160,7 @@ nodes_below_after state I pos h start s o after (Goes {actor} {operation} d is a
     (λ node e. made_below state operation node pos (start actor operation is)
     (subst (λ x. MadeOf state operation x node) e (made_of state operation (IsInUse state.heap) operation.line (line_finds state I actor operation is) node (ap (made_node state) e))))
 nodes_below_after state I pos h start s o after (Ends d is a) = h
+nodes_below_after state I pos h start s o after (GivesUp d is a) = h
 nodes_below_after state I pos h start s o after (Sweeps spent) = sweep_below state.generations (map pin_of state.actors) (reclaimer_of state) (ripe state.epoch state.limbo) h
 
 -- ---- generations of operations
@@ -193,6 +194,7 @@ starts_by state s n pos more h all k found (began call is d it) = omega (arith, 
 starts_by state s n pos more h all k found (rested was at_k it other_step) = omega (arith, ap start_of (it ∙ mark_only (marks_in state s) was), all k was at_k)
 starts_by state s n pos more h all k found (went was is at_k g it) =
     omega (arith, ap start_of (it ∙ mark_only (marks_in state s) (operation_after state was)), start_after state was was.line pos h (all k was at_k))
+starts_by state s n pos more h all k found (gave was answer is at_k may it) = omega (arith, ap start_of it, all k was at_k)
 
 -- ---- closings
 
@@ -252,6 +254,7 @@ closings_after state past s o after (Goes {actor} {operation} {action} d is a g)
     (carried_below state.generations state.steps past.closings _ (carried_root state (handle_of operation.call) (action_of state operation) root) h)
 closings_after state past s o after (Ends {actor} {operation} {answer} d is a) root h =
     subst (λ (r : Record). ClosingsBelow state.generations r.closings) (sym (noted_ending state past actor operation answer is a)) h
+closings_after state past s o after (GivesUp d is a) root h = h
 closings_after state past s o after (Sweeps spent) root h = h
 
 -- ---- all of it

@@ -21,7 +21,7 @@ use Rattle.proof_generations.specs.Beneath.machine_model.specs.States.{State, fi
 use Rattle.proof_generations.specs.Beneath.machine_model.specs.Operations.{action_of}
 use Rattle.proof_generations.specs.Beneath.machine_model.specs.Acting.{acted, aborted, offered, completed, new_root_taken}
 use Rattle.proof_generations.specs.Beneath.machine_model.specs.Machine.{with_begin}
-use Rattle.proof_generations.specs.Beneath.machine_model.specs.Moves.{Begins, Goes, Ends, Sweeps}
+use Rattle.proof_generations.specs.Beneath.machine_model.specs.Moves.{Begins, Goes, Ends, Sweeps, GivesUp}
 use Rattle.proof_generations.specs.Beneath.machine_model.specs.Moves.{Moves, begun_operation}
 use Rattle.proof_generations.specs.Beneath.machine_model.proofs.Found.{found_elsewhere, found_here, none_found}
 use Rattle.proof_generations.specs.Beneath.machine_model.specs.Times.{IsRun}
@@ -61,6 +61,7 @@ pub counter_rises : (state : State) (s : Step) (o : Outcome) (after : State) →
 counter_rises state s o after (Begins {actor} {call} d) = omega (arith, begin_counts state actor call (begun_operation state call))
 counter_rises state s o after (Goes {actor} {operation} d is a g) = acted_counts _ (handle_of operation.call) (action_of state operation)
 counter_rises state s o after (Ends d is a) = omega arith
+counter_rises state s o after (GivesUp d is a) = omega arith
 counter_rises state s o after (Sweeps spent) = omega arith
 
 -- ---- an indirection keeps its generation

@@ -50,7 +50,7 @@ use Rattle.proof_generations.specs.Beneath.machine_model.specs.Operations.{line_
 use Rattle.proof_generations.specs.Beneath.machine_model.specs.Acting.{operation_after, attempt_after}
 use Rattle.proof_generations.specs.Beneath.machine_model.specs.Moves.{Moves}
 use Rattle.proof_generations.specs.Beneath.machine_model.proofs.Actors.{mark_one, mark_only}
-use Rattle.proof_generations.proofs.Handles.Running.{Comes, began, rested, went, comes}
+use Rattle.proof_generations.proofs.Handles.Running.{Comes, began, rested, went, comes, gave}
 use Rattle.proof_generations.specs.Running.{Runs}
 
 -- ---- the calls
@@ -329,6 +329,7 @@ own_by : (state : State) (s : Step) → AllOwn state → (k : ℕ) (found : Oper
 own_by state s all k found (began call is d it) = subst HasOwn (sym it) (first_fits call _ _ 0)
 own_by state s all k found (rested was at_k it other_step) = subst HasOwn (sym it) (marked_has _ was (all k was at_k))
 own_by state s all k found (went was is at_k g it) = subst HasOwn (sym it) (marked_has _ (operation_after state was) (line_fits state was was.line (all k was at_k)))
+own_by state s all k found (gave was answer is at_k may it) = subst HasOwn (sym it) tt
 
 pub own_after : (state : State) (s : Step) (o : Outcome) (after : State) → Moves state s o after → AllOwn state → AllOwn after
 own_after state s o after m all k found at_k = own_by state s all k found (comes state s o after m k found at_k)

@@ -22,7 +22,7 @@ use Rattle.proof_generations.specs.Beneath.machine_model.specs.Operations.{actio
 use Rattle.proof_generations.specs.Beneath.machine_model.specs.Acting.{gone, operation_after}
 use Rattle.proof_generations.specs.Beneath.machine_model.specs.Counting.{settled}
 use Rattle.proof_generations.specs.Beneath.machine_model.specs.Machine.{handle_closed}
-use Rattle.proof_generations.specs.Beneath.machine_model.specs.Moves.{Begins, Goes, Ends, Sweeps}
+use Rattle.proof_generations.specs.Beneath.machine_model.specs.Moves.{Begins, Goes, Ends, Sweeps, GivesUp}
 use Rattle.proof_generations.specs.Beneath.machine_model.specs.Moves.{Moves}
 use Rattle.proof_generations.specs.Beneath.machine_model.proofs.Found.{found_elsewhere, found_here}
 use Rattle.proof_generations.proofs.Offers.Same.{HasOffers, same_offer}
@@ -205,4 +205,5 @@ step_kind state I past now s o after (Goes {actor} {operation} {action} d is a g
     (gone_kind state I past actor operation is (carries_or_not state (handle_of operation.call) (action_of state operation)))
 step_kind state I past now s o after (Ends {actor} {operation} {answer} d is a) e =
     quiet (ap (λ (r : Record). r.closings) (e ∙ noted_ending state past actor operation answer is a)) (λ handle root at_it. (root, at_it, refl, refl))
+step_kind state I past now s o after (GivesUp d is a) e = quiet (ap (λ (r : Record). r.closings) e) (λ handle root at_it. (root, at_it, refl, refl))
 step_kind state I past now s o after (Sweeps spent) e = quiet (ap (λ (r : Record). r.closings) e) (λ handle root at_it. (root, at_it, refl, refl))

@@ -24,7 +24,7 @@ use Rattle.proof_generations.specs.Beneath.machine_model.specs.Calls.{handle_of,
 use Rattle.proof_generations.specs.Beneath.machine_model.specs.States.{State, root_at, root_of, word_of, operation_of}
 use Rattle.proof_generations.specs.Beneath.machine_model.specs.Operations.{action_of, first_line}
 use Rattle.proof_generations.specs.Beneath.machine_model.specs.Acting.{opened_root}
-use Rattle.proof_generations.specs.Beneath.machine_model.specs.Moves.{Begins, Goes, Ends, Sweeps}
+use Rattle.proof_generations.specs.Beneath.machine_model.specs.Moves.{Begins, Goes, Ends, Sweeps, GivesUp}
 use Rattle.proof_generations.specs.Beneath.machine_model.specs.Moves.{Moves}
 use Rattle.proof_generations.specs.Beneath.machine_model.proofs.Actors.{marks_in, marks_by, marks_of}
 use Rattle.proof_generations.specs.Beneath.proof_memory.specs.Making.{made_node}
@@ -96,6 +96,7 @@ drawn_by state S s o after (Ends {actor} {operation} {answer} d is action) k was
     let both : act.End answer ≡ act.MakeRoot main = sym action ∙ ap (action_of state) one ∙ a in
     let wrong : ⊥ = cc both in
     absurd wrong
+drawn_by state S s o after (GivesUp d is action) k was e at_k main r a n = let wrong : ⊥ = cc e in absurd wrong
 drawn_by state S s o after (Sweeps spent) k was e at_k main r a n = let wrong : ⊥ = cc e in absurd wrong
 
 -- a call that offers needs a writable handle, and is no close
@@ -122,7 +123,8 @@ module _ (state : State) (S : IsSafe state) (I : HasOffers state) (H : HasHandle
   fresh_had k found at_k x r e = elim (ran_or_began state I H s k found (comes state s o after m k found at_k)) [
     | inl ran ↦ elim ran.line [
       | inl same ↦ old ran (ap (fresh_in x) (sym same) ∙ e)
-      | inr goes ↦ from_line k found x r ran goes.0 (fresh_from state ran.was ran.was.line x r (ap (fresh_in x) (sym goes.1) ∙ e))
+      | inr (inl goes) ↦ from_line k found x r ran goes.0 (fresh_from state ran.was ran.was.line x r (ap (fresh_in x) (sym goes.1) ∙ e))
+      | inr (inr ended) ↦ absurd (none-some r (sym (ap (fresh_in x) ended.1) ∙ e))
     ]
     | inr (call, is, d, it) ↦ absurd (first_none call x r (ap (λ (y : Operation). fresh_in x y.line) (sym it) ∙ e))
   ]
