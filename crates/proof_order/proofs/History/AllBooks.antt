@@ -13,7 +13,7 @@ use Rattle.proof_order.specs.Beneath.machine_model.specs.declared.steps.Outcome.
 use Rattle.proof_order.specs.Beneath.machine_model.specs.declared.steps.Step.{Step}
 use Rattle.proof_order.specs.Beneath.machine_model.specs.declared.steps.Step.TheVariants as step
 use Rattle.proof_order.specs.Beneath.machine_model.specs.States.{State, first_state}
-use Rattle.proof_order.specs.Beneath.machine_model.specs.Moves.{Begins, Goes, Ends, Sweeps}
+use Rattle.proof_order.specs.Beneath.machine_model.specs.Moves.{Begins, Goes, Ends, Sweeps, GivesUp}
 use Rattle.proof_order.specs.Beneath.machine_model.specs.Moves.{Moves, begun_operation}
 use Rattle.proof_order.specs.Beneath.machine_model.proofs.Frames.{limits_kept}
 use Rattle.proof_order.specs.Beneath.machine_model.proofs.Found.{none_found}
@@ -113,6 +113,9 @@ books_kept state past s o after (Goes {actor} {operation} {action} d is a g) boo
 books_kept state past s o after (Ends {actor} {operation} {answer} d is a) books =
     let (k, own, at_k) = place_of_actor state actor operation is in
     ends_books state past actor k operation answer _ _ (Ends d is a) own at_k refl refl (ap (λ (r : Record). r.events) (noted_ending state past actor operation answer is a)) books
+books_kept state past s o after (GivesUp {actor} d is a) books =
+    quiet_books state past (step.GiveUp actor) _ _ (GivesUp d is a) (length-set state.actors (actor - 1) _) refl refl (λ k found new. let is = new.is_step in cc is)
+    (no_end state past (step.GiveUp actor) past refl) books
 books_kept state past s o after (Sweeps spent) books =
     quiet_books state past step.Sweep _ _ (Sweeps spent) refl refl refl (λ k found new. let is = new.is_step in cc is) (no_end state past step.Sweep past refl) books
 

@@ -18,7 +18,7 @@ use Rattle.proof_order.specs.Beneath.machine_model.specs.declared.steps.Outcome.
 use Rattle.proof_order.specs.Beneath.machine_model.specs.declared.steps.Step.{Step}
 use Rattle.proof_order.specs.Beneath.machine_model.specs.States.{State, operation_of}
 use Rattle.proof_order.specs.Beneath.machine_model.specs.Operations.{action_of}
-use Rattle.proof_order.specs.Beneath.machine_model.specs.Moves.{Begins, Goes, Ends, Sweeps}
+use Rattle.proof_order.specs.Beneath.machine_model.specs.Moves.{Begins, Goes, Ends, Sweeps, GivesUp}
 use Rattle.proof_order.specs.Beneath.machine_model.specs.Moves.{Moves}
 use Rattle.proof_order.specs.Beneath.machine_model.specs.Times.{IsRun}
 use Rattle.proof_order.specs.Facts.{Runs, Facts}
@@ -95,6 +95,7 @@ refused_now state past s o after (Ends {actor} {operation} {answer = told} d is 
                 ∙ append-nil past.places,
           )
     ]
+refused_now state past s o after (GivesUp d is a) id ended = inl ended
 refused_now state past s o after (Sweeps spent) id ended = inl ended
 
 module _ (limits : Bounds) (states : ℕ → State) (last : ℕ) (r : IsRun limits states last) (V : ℕ → ℕ → KeyMap) (facts : Facts limits states r.records last V) where

@@ -1,5 +1,6 @@
 -- A close is answered with Closed, if it ends.
 use Rattle.std.proofs.Common.{◌≡◌, ℕ, suc, ◌≤◌, inl, inr, Option, Some, slice_get, sym, ap, ◌∙◌, subst, arith}
+use Rattle.std.proofs.lemmas.Option.{none-some}
 use Rattle.proof_order.specs.Beneath.history.specs.declared.calls.Call.{Call}
 use Rattle.proof_order.specs.Beneath.history.specs.declared.calls.Call.TheVariants.{Close}
 use Rattle.proof_order.specs.Beneath.history.specs.declared.replies.Reply.{Reply}
@@ -19,11 +20,11 @@ use Rattle.proof_order.specs.Beneath.machine_model.specs.declared.steps.Step.{St
 use Rattle.proof_order.specs.Beneath.machine_model.specs.States.{State, first_state}
 use Rattle.proof_order.specs.Beneath.machine_model.specs.Operations.{action_of, line_action, first_line}
 use Rattle.proof_order.specs.Beneath.machine_model.specs.Acting.{operation_after}
-use Rattle.proof_order.specs.Beneath.machine_model.specs.Moves.{Begins, Goes, Ends, Sweeps}
+use Rattle.proof_order.specs.Beneath.machine_model.specs.Moves.{Begins, Goes, Ends, Sweeps, GivesUp}
 use Rattle.proof_order.specs.Beneath.machine_model.specs.Moves.{Moves, GoesOn, begun_operation}
 use Rattle.proof_order.specs.Beneath.machine_model.proofs.Found.{none_found}
 use Rattle.proof_order.specs.Beneath.machine_model.specs.Times.{IsRun}
-use Rattle.proof_order.specs.Beneath.machine_model.proofs.Actors.{IsOf, is_of, mark_one, mark_only, of_others, of_itself, of_begin, of_end}
+use Rattle.proof_order.specs.Beneath.machine_model.proofs.Actors.{IsOf, is_of, mark_one, mark_only, of_others, of_itself, of_begin, of_end, of_giving_up}
 use Rattle.proof_generations.proofs.Handles.Running.{place_of_actor, at_place}
 use Rattle.proof_order.specs.Facts.{Runs}
 use Rattle.proof_order.proofs.History.Books.{Books, ended_below}
@@ -32,6 +33,7 @@ use Rattle.proof_order.specs.Beneath.machine_model.specs.Records.{Record, first_
 use Rattle.proof_order.specs.Beneath.machine_model.proofs.Recorded.{KeptByNotes, at_each_record}
 use Rattle.proof_order.specs.Beneath.machine_model.specs.Tellings.{told_in}
 use Rattle.proof_order.specs.Beneath.machine_model.proofs.Notes.{noted_going, noted_ending}
+use Rattle.proof_order.specs.Beneath.machine_model.specs.GivingUp.{given_up}
 
 -- ---- a close that runs is about to end
 
@@ -63,6 +65,9 @@ closed_by state s o after (Goes {actor} {operation} {action} d is a g) k found a
     subst EndsClosed (sym (of_itself state actor operation k own found at_k)) (marked_closed _ (operation_after state operation) (λ handle e.
     absurd (goes_not_closed state operation action a g (h k operation (at_place state actor k operation own is) handle e))))
 closed_by state s o after (Ends {actor} d is a) k found at_k h (yes own) = absurd (of_end state actor k own found at_k)
+closed_by state s o after (GivesUp {actor} {operation} {answer} d is a) k found at_k h (yes own) =
+    subst EndsClosed (of_giving_up state actor operation answer k own found at_k) (λ handle e. absurd (none-some answer
+    (subst (λ l. given_up (Close handle) l ≡ Some answer) (h k operation (at_place state actor k operation own is) handle e) (subst (λ x. given_up x operation.line ≡ Some answer) e a))))
 closed_by state s o after (Sweeps spent) k found at_k h (yes own) = absurd own
 
 -- ---- so it is answered with that
@@ -121,6 +126,7 @@ answers_kept state past s o after (Ends {actor = a} {operation} {answer = told} 
       ]
       | inr new ↦ let event = new.1 in let wrong : ⊥ = cc event in absurd wrong
     ]
+answers_kept state past s o after (GivesUp d is b) c place id actor handle opens answer at ended = c.answers place id actor handle opens answer at ended
 answers_kept state past s o after (Sweeps spent) c place id actor handle opens answer at ended = c.answers place id actor handle opens answer at ended
 
 closing_kept : KeptByNotes Closing

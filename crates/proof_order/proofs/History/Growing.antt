@@ -15,7 +15,7 @@ use Rattle.proof_order.specs.Beneath.machine_model.specs.declared.steps.Outcome.
 use Rattle.proof_order.specs.Beneath.machine_model.specs.declared.steps.Step.{Step}
 use Rattle.proof_order.specs.Beneath.machine_model.specs.States.{State}
 use Rattle.proof_order.specs.Beneath.machine_model.specs.Acting.{ended}
-use Rattle.proof_order.specs.Beneath.machine_model.specs.Moves.{Begins, Goes, Ends, Sweeps}
+use Rattle.proof_order.specs.Beneath.machine_model.specs.Moves.{Begins, Goes, Ends, Sweeps, GivesUp}
 use Rattle.proof_order.specs.Beneath.machine_model.specs.Moves.{Moves, begun_operation}
 use Rattle.proof_order.specs.Beneath.machine_model.specs.Times.{turns, noted_turn}
 use Rattle.proof_order.specs.Beneath.machine_model.specs.Times.{IsRun, Turn}
@@ -76,6 +76,7 @@ places_grow state past s o after (Goes {actor} {operation} {action} d is a g) =
     subst (λ (r : Record). Grows past.places r.places) (sym (noted_going state past actor operation action is a g)) (progress_grows past state.steps actor (progress_of state operation))
 places_grow state past s o after (Ends {actor} {operation} {answer} d is a) =
     (_, ap (λ (r : Record). r.places) (noted_ending state past actor operation answer is a))
+places_grow state past s o after (GivesUp d is a) = grows_same _ _ refl
 places_grow state past s o after (Sweeps spent) = grows_same _ _ refl
 
 -- and the history
@@ -83,6 +84,7 @@ pub events_grow : (state : State) (past : Record) (s : Step) (o : Outcome) (afte
 events_grow state past s o after (Begins {actor} {call} d) = (_, refl)
 events_grow state past s o after (Goes {actor} {operation} {action} d is a g) = grows_same _ _ (ap (λ (r : Record). r.events) (noted_going state past actor operation action is a g))
 events_grow state past s o after (Ends {actor} {operation} {answer} d is a) = (_, ap (λ (r : Record). r.events) (noted_ending state past actor operation answer is a))
+events_grow state past s o after (GivesUp d is a) = grows_same _ _ refl
 events_grow state past s o after (Sweeps spent) = grows_same _ _ refl
 
 -- ---- each answered operation has a place
@@ -149,6 +151,7 @@ newly_ended state past s o after (Ends {actor} {operation} {answer = told} d is 
           let (p, within, its) = placed_at_end past (entrant_of operation) (moment_at past actor).moment told _ refl (subst (λ r. r ≢ reply.NoSlots) (sym same_reply) other) in
           inr (subst (λ r. HasPlace r id) (sym notes) (p, within, its ∙ same_id))
     ]
+newly_ended state past s o after (GivesUp d is a) id answer ended other = inl ended
 newly_ended state past s o after (Sweeps spent) id answer ended other = inl ended
 
 pub answered_kept : KeptByNotes (λ state past. Answered past)

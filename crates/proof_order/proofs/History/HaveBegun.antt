@@ -27,7 +27,7 @@ use Rattle.proof_order.specs.Beneath.machine_model.specs.States.{State, first_st
 use Rattle.proof_order.specs.Beneath.machine_model.specs.Operations.{action_of}
 use Rattle.proof_order.specs.Beneath.machine_model.specs.Swapping.{stands_in, is_carried_out}
 use Rattle.proof_order.specs.Beneath.machine_model.specs.Machine.{run}
-use Rattle.proof_order.specs.Beneath.machine_model.specs.Moves.{Begins, Goes, Ends, Sweeps}
+use Rattle.proof_order.specs.Beneath.machine_model.specs.Moves.{Begins, Goes, Ends, Sweeps, GivesUp}
 use Rattle.proof_order.specs.Beneath.machine_model.specs.Moves.{Moves, begun_operation}
 use Rattle.proof_order.specs.Beneath.machine_model.specs.Times.{IsRun}
 use Rattle.proof_generations.specs.Laws.Roots.{settles}
@@ -213,6 +213,7 @@ place_begun state past s o after (Ends {actor} {operation} {answer} d is b) h p 
       | inr new ↦ inr (still_begun past.events _ p.id grown
           (subst (λ i. HasBegun past.events i) (sym (end_place past (entrant_of operation) (moment_at past actor).moment answer p new)) (runs_begun state past h.offers.books k operation runs)))
     ]
+place_begun state past s o after (GivesUp d is b) h p a = inl a
 place_begun state past s o after (Sweeps spent) h p a = inl a
 
 changers_begun : (state : State) (past : Record) (s : Step) (o : Outcome) (after : State) → Moves state s o after → Begun state past → ChangersBegun (noted past state.steps (told_in state s))
@@ -230,6 +231,7 @@ changers_begun state past s o after (Goes {actor} {operation} {action} d is b g)
 changers_begun state past s o after (Ends {actor} {operation} {answer} d is b) h p e a its =
     still_begun past.events _ e.id (events_grow state past s o after (Ends {actor = actor} {operation = operation} {answer = answer} d is b))
     (h.changers p e (subst (λ (r : Record). Among p r.published) (noted_ending state past actor operation answer is b) a) its)
+changers_begun state past s o after (GivesUp d is b) h p e a its = h.changers p e a its
 changers_begun state past s o after (Sweeps spent) h p e a its = h.changers p e a its
 
 begun_kept : KeptByNotes Begun

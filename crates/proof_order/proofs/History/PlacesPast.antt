@@ -13,7 +13,7 @@ use Rattle.proof_order.specs.Beneath.machine_model.specs.declared.steps.Bounds.{
 use Rattle.proof_order.specs.Beneath.machine_model.specs.declared.steps.Outcome.{Outcome}
 use Rattle.proof_order.specs.Beneath.machine_model.specs.declared.steps.Step.{Step}
 use Rattle.proof_order.specs.Beneath.machine_model.specs.Machine.{run}
-use Rattle.proof_order.specs.Beneath.machine_model.specs.Moves.{Begins, Ends, Goes, Moves, Sweeps, begun_operation}
+use Rattle.proof_order.specs.Beneath.machine_model.specs.Moves.{Begins, Ends, Goes, Moves, Sweeps, GivesUp, begun_operation}
 use Rattle.proof_order.specs.Beneath.machine_model.specs.States.{State, first_state}
 use Rattle.proof_order.specs.Beneath.machine_model.proofs.Frames.{steps_counted}
 use Rattle.proof_order.specs.Laws.Past.{PlacesPast}
@@ -100,6 +100,7 @@ moved_below state past h below s o after (Ends {actor} {operation} {answer} d is
     let its : (moment_at past actor).moment < state.steps = subst (λ j. (moment_at past j).moment < state.steps) (sym place) low in
     subst (λ (r : Record). Below (state.steps + 1) r.places) (sym (noted_ending state past actor operation answer is a))
     (more_below state.steps past.places _ below (ended_below past (entrant_of operation) (moment_at past actor).moment answer (state.steps + 1) (omega (arith, its))))
+moved_below state past h below s o after (GivesUp d is a) = later state.steps (state.steps + 1) past.places (omega arith) below
 moved_below state past h below s o after (Sweeps spent) = later state.steps (state.steps + 1) past.places (omega arith) below
 
 -- ---- all of it

@@ -17,7 +17,7 @@ use Rattle.proof_order.specs.Beneath.machine_model.specs.Operations.{action_of}
 use Rattle.proof_order.specs.Beneath.machine_model.specs.Swapping.{is_plain, stands_in}
 use Rattle.proof_order.specs.Beneath.machine_model.specs.Machine.{with_begin}
 use Rattle.proof_order.specs.Beneath.machine_model.proofs.Found.{found_here, found_elsewhere}
-use Rattle.proof_order.specs.Beneath.machine_model.specs.Moves.{Begins, Goes, Ends, Sweeps}
+use Rattle.proof_order.specs.Beneath.machine_model.specs.Moves.{Begins, Goes, Ends, Sweeps, GivesUp}
 use Rattle.proof_order.specs.Beneath.machine_model.specs.Moves.{Moves, begun_operation}
 use Rattle.proof_generations.specs.Laws.Roots.{settles}
 use Rattle.proof_generations.proofs.Offers.Standing.{OfferFrom, offer_from, stood as stays, put as puts}
@@ -73,4 +73,5 @@ words_after state s o after (Begins {actor} {call} d) handle offer e =
 words_after state s o after (Goes {actor} {operation} d is a g) handle offer e =
     go_by state actor operation is handle offer (offer_from _ (handle_of operation.call) handle offer (action_of state operation) e)
 words_after state s o after (Ends {actor} {operation} {answer} d is a) handle offer e = end_by state actor operation is handle offer (ap settles a) e
+words_after state s o after (GivesUp d is a) handle offer e = stood e (λ k operation mine is. let wrong : ⊥ = cc is in absurd wrong)
 words_after state s o after (Sweeps spent) handle offer e = stood e (λ k operation mine is. let wrong : ⊥ = cc is in absurd wrong)

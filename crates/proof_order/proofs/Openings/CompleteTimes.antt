@@ -28,7 +28,7 @@ use Rattle.proof_order.specs.Beneath.machine_model.specs.Swapping.{complete_afte
 use Rattle.proof_order.specs.Beneath.machine_model.specs.Operations.{action_of, first_line}
 use Rattle.proof_order.specs.Beneath.machine_model.specs.Acting.{gone, operation_after}
 use Rattle.proof_order.specs.Beneath.machine_model.specs.Counting.{settled}
-use Rattle.proof_order.specs.Beneath.machine_model.specs.Moves.{Begins, Goes, Ends, Sweeps}
+use Rattle.proof_order.specs.Beneath.machine_model.specs.Moves.{Begins, Goes, Ends, Sweeps, GivesUp}
 use Rattle.proof_order.specs.Beneath.machine_model.specs.Moves.{Moves, GoesOn}
 use Rattle.proof_order.specs.Beneath.machine_model.proofs.Actors.{mark_only, marks_in}
 use Rattle.proof_order.specs.Beneath.machine_model.specs.Times.{IsRun}
@@ -38,7 +38,7 @@ use Rattle.proof_order.specs.Beneath.proof_commits.specs.Moments.{IsMoment}
 use Rattle.proof_order.specs.Beneath.proof_commits.specs.Words.{words_of}
 use Rattle.proof_order.specs.Beneath.proof_commits.proofs.Course.Moments.{found, counted, moment_noted}
 use Rattle.proof_order.specs.Beneath.proof_commits.proofs.Known.Acts.{known_run}
-use Rattle.proof_generations.proofs.Handles.Running.{Comes, began, rested, went, comes}
+use Rattle.proof_generations.proofs.Handles.Running.{Comes, began, rested, went, comes, gave}
 use Rattle.proof_generations.specs.Running.{Runs}
 use Rattle.proof_generations.proofs.Lines.Offers.{completing_of}
 use Rattle.proof_generations.proofs.Offers.Same.{IsKnown}
@@ -75,6 +75,7 @@ went_so before s o after (Ends {actor} {operation} {answer} d is a) k was e at_k
     let place : actor ≡ suc k = cc e in
     let one : operation ≡ was = same_Some _ _ (sym is ∙ ap (operation_of before) place ∙ at_k) in
     absurd (subst GoesOn (ap (action_of before) (sym one) ∙ a) g)
+went_so before s o after (GivesUp d is a) k was e at_k g = let wrong : ⊥ = cc e in absurd wrong
 went_so before s o after (Sweeps spent) k was e at_k g = let wrong : ⊥ = cc e in absurd wrong
 
 -- whence a READ counts after a step of it
@@ -201,6 +202,7 @@ module _ (limits : Bounds) (states : ℕ → State) (last : ℕ) (run : IsRun li
     since_by k found c now e (went was go at_k g it) =
         let same = it ∙ mark_only (marks_in (states t) s) (operation_after (states t) was) in
         went_by k found was c now e go at_k g (comes_from (states t) was c was.line (ap (λ (x : Operation). completing_of x.line) (sym same) ∙ e))
+    since_by k found c now e (gave was answer go at_k may it) = absurd (none-some c (ap (λ (x : Operation). completing_of x.line) (sym it) ∙ e))
 
     all_next : AllSince (suc t)
     all_next k found c now e = since_by k found c now e (comes (states t) s o (states (suc t)) m k found now)

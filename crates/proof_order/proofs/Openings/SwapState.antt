@@ -18,7 +18,7 @@ use Rattle.proof_order.specs.Beneath.machine_model.specs.Operations.{action_of}
 use Rattle.proof_order.specs.Beneath.machine_model.specs.Swapping.{is_carried_out}
 use Rattle.proof_order.specs.Beneath.machine_model.specs.Acting.{acted, gone, carried_out, opened_root, operation_after}
 use Rattle.proof_order.specs.Beneath.machine_model.specs.Counting.{settled}
-use Rattle.proof_order.specs.Beneath.machine_model.specs.Moves.{Begins, Goes, Ends, Sweeps}
+use Rattle.proof_order.specs.Beneath.machine_model.specs.Moves.{Begins, Goes, Ends, Sweeps, GivesUp}
 use Rattle.proof_order.specs.Beneath.machine_model.specs.Moves.{Moves}
 use Rattle.proof_order.specs.Beneath.machine_model.proofs.Found.{found_within, found_elsewhere}
 use Rattle.proof_order.specs.Beneath.machine_model.proofs.Times.{steps_at}
@@ -73,6 +73,7 @@ swapped_by state past s o after handle offer (Ends {actor} {operation} {answer} 
     let both : act.End answer ≡ act.Complete offer c.main = sym a ∙ ap (action_of state) one ∙ c.completes in
     let wrong : ⊥ = cc both in
     absurd wrong
+swapped_by state past s o after handle offer (GivesUp d is a) c = let go = c.go in let wrong : ⊥ = cc go in absurd wrong
 swapped_by state past s o after handle offer (Sweeps spent) c = let go = c.go in let wrong : ⊥ = cc go in absurd wrong
 
 module _ (limits : Bounds) (states : ℕ → State) (last : ℕ) (r : IsRun limits states last) where

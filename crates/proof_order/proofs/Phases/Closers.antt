@@ -13,11 +13,11 @@ use Rattle.proof_order.specs.Beneath.machine_model.specs.declared.steps.Step.The
 use Rattle.proof_order.specs.Beneath.machine_model.specs.Calls.{is_close}
 use Rattle.proof_order.specs.Beneath.machine_model.specs.States.{State}
 use Rattle.proof_order.specs.Beneath.machine_model.specs.Acting.{operation_after}
-use Rattle.proof_order.specs.Beneath.machine_model.specs.Moves.{Begins, Goes, Ends, Sweeps}
+use Rattle.proof_order.specs.Beneath.machine_model.specs.Moves.{Begins, Goes, Ends, Sweeps, GivesUp}
 use Rattle.proof_order.specs.Beneath.machine_model.specs.Moves.{Moves, begun_operation}
 use Rattle.proof_order.specs.Beneath.machine_model.proofs.Actors.{mark_only, marks_in, begin_actors}
 use Rattle.proof_order.specs.Beneath.machine_model.specs.Times.{IsRun}
-use Rattle.proof_generations.proofs.Handles.Running.{Comes, began, rested, went, comes}
+use Rattle.proof_generations.proofs.Handles.Running.{Comes, began, rested, went, comes, gave}
 use Rattle.proof_order.specs.Facts.{Runs}
 use Rattle.proof_order.specs.Beneath.history.proofs.Among.{Among, among_right}
 use Rattle.proof_order.proofs.History.Books.{Books, within_actors}
@@ -43,6 +43,7 @@ begun_runs state s o after (Begins {actor = own} {call = calls} d) books actor c
     )
 begun_runs state s o after (Goes d is a g) books actor call go = let wrong : ⊥ = cc go in absurd wrong
 begun_runs state s o after (Ends d is a) books actor call go = let wrong : ⊥ = cc go in absurd wrong
+begun_runs state s o after (GivesUp d is a) books actor call go = let wrong : ⊥ = cc go in absurd wrong
 begun_runs state s o after (Sweeps spent) books actor call go = let wrong : ⊥ = cc go in absurd wrong
 
 -- a close has its place
@@ -79,6 +80,9 @@ closes_by state past s o after m all k found (went was go at_k g it) e =
     let same = it ∙ mark_only (marks_in state s) (operation_after state was) in
     still_placed state past s o after m found.id
     (ap (is_placed past) (ap (λ (x : Operation). x.id) same) ∙ all k was at_k (ap (λ (x : Operation). is_close x.call) (sym same) ∙ e))
+closes_by state past s o after m all k found (gave was answer go at_k may it) e =
+    still_placed state past s o after m found.id
+    (ap (is_placed past) (ap (λ (x : Operation). x.id) it) ∙ all k was at_k (ap (λ (x : Operation). is_close x.call) (sym it) ∙ e))
 
 pub closes_placed : (limits : Bounds) (states : ℕ → State) (last : ℕ) (r : IsRun limits states last) → (t : ℕ) → t ≤ last → ClosesPlaced (states t) (r.records t)
 closes_placed limits states last r =

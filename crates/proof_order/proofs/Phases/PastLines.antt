@@ -30,7 +30,8 @@ use Rattle.proof_order.specs.Beneath.machine_model.specs.Climbing.{climbing, cli
 use Rattle.proof_order.specs.Beneath.machine_model.specs.Operations.{line_after, line_action, after_swap, after_update, climbed_on}
 use Rattle.proof_order.specs.Beneath.machine_model.specs.Moves.{GoesOn}
 use Rattle.proof_order.specs.Beneath.machine_model.specs.Grown.{prev_word}
-use Rattle.proof_order.specs.Phases.{IsPastAt, IsPublished, former_of}
+use Rattle.proof_order.specs.Beneath.machine_model.specs.GivingUp.{former_of}
+use Rattle.proof_order.specs.Phases.{IsPastAt, IsPublished}
 
 module _ (states : ℕ → State) (t : ℕ) (operation : Operation) (former : Option ℕ) where
   -- the line lies past the commit

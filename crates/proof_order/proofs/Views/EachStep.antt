@@ -23,7 +23,7 @@ use Rattle.proof_order.specs.Beneath.machine_model.specs.Swapping.{stands_in, is
 use Rattle.proof_order.specs.Beneath.machine_model.specs.Acting.{acted, carried_out, gone, operation_after}
 use Rattle.proof_order.specs.Beneath.machine_model.specs.Counting.{settled}
 use Rattle.proof_order.specs.Beneath.machine_model.specs.Machine.{begin_denial, with_begin}
-use Rattle.proof_order.specs.Beneath.machine_model.specs.Moves.{Begins, Goes, Ends, Sweeps}
+use Rattle.proof_order.specs.Beneath.machine_model.specs.Moves.{Begins, Goes, Ends, Sweeps, GivesUp}
 use Rattle.proof_order.specs.Beneath.machine_model.specs.Moves.{Moves, begun_operation}
 use Rattle.proof_order.specs.Beneath.machine_model.proofs.Found.{found_within, found_elsewhere}
 use Rattle.proof_order.specs.Facts.{committed_of, committed_by_step, entered_by_step, CarriesOut}
@@ -141,4 +141,5 @@ changes state past s o after (Ends {actor} {operation} {answer} d is a) honest =
     let notes = noted_ending state past actor operation answer is a in
     ends actor operation answer refl is a (entered_is state past actor operation None is (end_commits state operation operation.line answer a))
     (ap (λ (r : Record). r.places) notes) (ap (λ (r : Record). r.closings) notes) (λ h. refl)
+changes state past s o after (GivesUp d is a) honest = quiet (sym (append-nil past.places)) refl (λ h. refl)
 changes state past s o after (Sweeps spent) honest = quiet (sym (append-nil past.places)) refl (λ h. refl)

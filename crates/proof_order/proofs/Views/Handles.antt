@@ -23,7 +23,7 @@ use Rattle.proof_order.specs.Beneath.machine_model.specs.States.{State, first_st
 use Rattle.proof_order.specs.Beneath.machine_model.specs.Operations.{action_of}
 use Rattle.proof_order.specs.Beneath.machine_model.specs.Acting.{acted, aborted, offered, completed, opened, new_root_taken}
 use Rattle.proof_order.specs.Beneath.machine_model.specs.Machine.{begin_denial, with_begin, is_taken, taken_below, handles_taken, least_from, least_free}
-use Rattle.proof_order.specs.Beneath.machine_model.specs.Moves.{Begins, Goes, Ends, Sweeps}
+use Rattle.proof_order.specs.Beneath.machine_model.specs.Moves.{Begins, Goes, Ends, Sweeps, GivesUp}
 use Rattle.proof_order.specs.Beneath.machine_model.specs.Moves.{Moves, begun_operation}
 use Rattle.proof_order.specs.Beneath.machine_model.proofs.Found.{none_found}
 use Rattle.proof_order.specs.Beneath.machine_model.proofs.Times.{at_each_time}
@@ -70,6 +70,7 @@ unfolding Sized
 sized_kept state s o after (Begins {actor} {call} d) size = begun_size state actor call (begun_operation state call) ∙ size
 sized_kept state s o after (Goes {actor} {operation} d is a g) size = acted_size _ (handle_of operation.call) (action_of state operation) ∙ size
 sized_kept state s o after (Ends d is a) size = size
+sized_kept state s o after (GivesUp d is a) size = size
 sized_kept state s o after (Sweeps spent) size = size
 
 first_sized : (limits : Bounds) → Sized (first_state limits)
@@ -131,6 +132,7 @@ in_range_of_begin state s o after (Begins {actor} {call} d) k other e n is =
     begun_in_range state actor call (opens_handle call) refl d n (ap (λ c. (begun_operation state c).opens) same ∙ is)
 in_range_of_begin state s o after (Goes d found a g) k other e n is = let wrong : ⊥ = cc e in absurd wrong
 in_range_of_begin state s o after (Ends d found a) k other e n is = let wrong : ⊥ = cc e in absurd wrong
+in_range_of_begin state s o after (GivesUp d found a) k other e n is = let wrong : ⊥ = cc e in absurd wrong
 in_range_of_begin state s o after (Sweeps spent) k other e n is = let wrong : ⊥ = cc e in absurd wrong
 
 in_range_kept : (state : State) (s : Step) (o : Outcome) (after : State) → Moves state s o after → InRange state → InRange after
