@@ -4,17 +4,9 @@ use Rattle.std.specs.List.{list_any}
 use Rattle.std.proofs.Common.{refl, sym, ap, subst, ◌∙◌, get_or}
 use Rattle.std.proofs.lemmas.Bool.{false≢true}
 use Rattle.std.proofs.lemmas.Option.{none-some}
-use Rattle.proof_commits.specs.Beneath.history.specs.declared.replies.Reply.{Reply}
-use Rattle.proof_commits.specs.Beneath.machine_model.specs.declared.operations.Operation.{Operation}
-use Rattle.proof_commits.specs.Beneath.machine_model.specs.declared.steps.Outcome.{Outcome}
-use Rattle.proof_commits.specs.Beneath.machine_model.specs.declared.steps.Outcome.TheVariants.{Ended}
-use Rattle.proof_commits.specs.Beneath.machine_model.specs.declared.steps.Step.{Step}
-use Rattle.proof_commits.specs.Beneath.machine_model.specs.declared.steps.Step.TheVariants.{Begin, Go, Sweep, GiveUp}
-use Rattle.proof_commits.specs.Beneath.machine_model.specs.Acting.{ended}
-use Rattle.proof_commits.specs.Beneath.machine_model.specs.Counting.{settled}
-use Rattle.proof_commits.specs.Beneath.machine_model.specs.Machine.{is_busy, next}
-use Rattle.proof_commits.specs.Beneath.machine_model.specs.Moves.{Moves, Begins, Goes, Ends, Sweeps, GivesUp}
-use Rattle.proof_commits.specs.Beneath.machine_model.specs.States.{State, operation_of}
+use Rattle.proof_commits.specs.Vocabulary.{Reply, Operation, Outcome, Ended, Step, Go, Sweep, GiveUp, ended, settled, is_busy, next, Moves, Begins, Ends, Sweeps, GivesUp, State, operation_of}
+use Rattle.proof_commits.specs.Beneath.machine_model.specs.declared.steps.Step.TheVariants.{Begin}
+use Rattle.proof_commits.specs.Beneath.machine_model.specs.Moves.{Goes}
 use Rattle.proof_commits.specs.Beneath.machine_model.proofs.Actors.{IsOf, is_of, of_others}
 use Rattle.proof_commits.specs.Beneath.machine_model.proofs.Moves.{moved}
 use Rattle.proof_commits.proofs.Known.StepsAt.{end_own}

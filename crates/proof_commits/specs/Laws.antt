@@ -1,31 +1,12 @@
 -- Laws of main words and prev words, for every list of steps: who decides what, and what a READ gives.
 use Rattle.std.specs.Prelude.{◌≡◌, ℕ, suc, ◌+◌, ◌<◌, ◌≤◌, ◌⊎◌, List, Some, slice_get}
-use Rattle.proof_commits.specs.Beneath.slot_arena.specs.declared.refs.Ref.{Ref}
-use Rattle.proof_commits.specs.Beneath.slot_arena.specs.declared.nodes.Node.{Node}
-use Rattle.proof_commits.specs.Beneath.slot_arena.specs.declared.nodes.Node.TheVariants.{Tomb}
+use Rattle.proof_commits.specs.Vocabulary.{Ref, Node, Tomb, node_at, main_at, prev_at, generation_at, logical_main, Operation, Moment, Gives, Read, ReadLine, SwapLine, Publish, Deciding, Check}
+use Rattle.proof_commits.specs.Vocabulary.{Purpose, Line, Bounds, Step, Go, State, operation_of, closed_at, moment_at, record_of, read_step, read_of, AreBounds, run, taken_steps, states_of}
+use Rattle.proof_commits.specs.Vocabulary.{records_of, last_of}
 use Rattle.proof_commits.specs.Beneath.slot_arena.specs.declared.nodes.Prev.TheVariants as prev
-use Rattle.proof_commits.specs.Beneath.slot_arena.specs.Heaps.{node_at, main_at, prev_at, generation_at, logical_main}
-use Rattle.proof_commits.specs.Beneath.machine_model.specs.declared.operations.Operation.{Operation}
-use Rattle.proof_commits.specs.Beneath.machine_model.specs.declared.records.Moment.{Moment}
-use Rattle.proof_commits.specs.Beneath.machine_model.specs.declared.reading.After.TheVariants.{Gives}
-use Rattle.proof_commits.specs.Beneath.machine_model.specs.declared.reading.Read.{Read}
-use Rattle.proof_commits.specs.Beneath.machine_model.specs.declared.reading.ReadLine.{ReadLine}
-use Rattle.proof_commits.specs.Beneath.machine_model.specs.declared.reading.SwapLine.{SwapLine}
-use Rattle.proof_commits.specs.Beneath.machine_model.specs.declared.reading.SwapLine.TheVariants.{Publish, Deciding, Check}
-use Rattle.proof_commits.specs.Beneath.machine_model.specs.declared.lines.Purpose.{Purpose}
-use Rattle.proof_commits.specs.Beneath.machine_model.specs.declared.lines.Line.{Line}
 use Rattle.proof_commits.specs.Beneath.machine_model.specs.declared.lines.Line.TheVariants as line
-use Rattle.proof_commits.specs.Beneath.machine_model.specs.declared.steps.Bounds.{Bounds}
-use Rattle.proof_commits.specs.Beneath.machine_model.specs.declared.steps.Step.{Step}
-use Rattle.proof_commits.specs.Beneath.machine_model.specs.declared.steps.Step.TheVariants.{Go}
-use Rattle.proof_commits.specs.Beneath.machine_model.specs.States.{State, operation_of}
-use Rattle.proof_commits.specs.Beneath.machine_model.specs.Records.{closed_at, moment_at, record_of}
-use Rattle.proof_commits.specs.Beneath.machine_model.specs.Reading.{read_step}
-use Rattle.proof_commits.specs.Beneath.machine_model.specs.Operations.{read_of}
-use Rattle.proof_commits.specs.Beneath.machine_model.specs.Machine.{AreBounds, run, taken_steps}
 use Rattle.proof_commits.specs.Runs.{HasIndirection}
 use Rattle.proof_memory.specs.Laws.{IsInUse}
-use Rattle.proof_commits.specs.Beneath.machine_model.specs.Times.{states_of, records_of, last_of}
 
 -- ---- owners
 

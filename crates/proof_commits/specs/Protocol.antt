@@ -1,14 +1,9 @@
 -- Words over time: what stands in main words and prev words before each step of a run, apart from the machine that writes
 -- them, and the turns by which actors read and write them.
 use Rattle.std.specs.Prelude.{◌≡◌, ℕ, zero, suc, ◌<◌, ◌≤◌, ◌⊎◌, Bool, true, false, Option, Some, None}
-use Rattle.proof_commits.specs.Beneath.slot_arena.specs.declared.refs.Ref.{Ref}
-use Rattle.proof_commits.specs.Beneath.slot_arena.specs.declared.nodes.Prev.{Prev}
+use Rattle.proof_commits.specs.Vocabulary.{Ref, Prev, logical, Descriptor, After, Gives, ReadLine}
 use Rattle.proof_commits.specs.Beneath.slot_arena.specs.declared.nodes.Prev.TheVariants as over
-use Rattle.proof_commits.specs.Beneath.slot_arena.specs.Heaps.{logical}
-use Rattle.proof_commits.specs.Beneath.machine_model.specs.declared.roots.Descriptor.{Descriptor}
-use Rattle.proof_commits.specs.Beneath.machine_model.specs.declared.reading.After.{After}
-use Rattle.proof_commits.specs.Beneath.machine_model.specs.declared.reading.After.TheVariants.{Goes, Gives}
-use Rattle.proof_commits.specs.Beneath.machine_model.specs.declared.reading.ReadLine.{ReadLine}
+use Rattle.proof_commits.specs.Beneath.machine_model.specs.declared.reading.After.TheVariants.{Goes}
 use Rattle.proof_commits.specs.Beneath.machine_model.specs.declared.reading.ReadLine.TheVariants as read
 
 -- what an actor is about with main words

@@ -1,8 +1,6 @@
 -- Words for laws over the whole of a run.
 use Rattle.std.specs.Prelude.{◌≡◌, true}
-use Rattle.proof_commits.specs.Beneath.slot_arena.specs.declared.refs.Ref.{Ref}
-use Rattle.proof_commits.specs.Beneath.slot_arena.specs.Heaps.{node_at}
-use Rattle.proof_commits.specs.Beneath.machine_model.specs.States.{State}
+use Rattle.proof_commits.specs.Vocabulary.{Ref, node_at, State}
 use Rattle.proof_memory.specs.Laws.{IsInUse}
 use Rattle.proof_memory.specs.Wants.{is_indirection}
 

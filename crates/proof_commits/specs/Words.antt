@@ -1,12 +1,7 @@
 -- The words of a machine's run, and what its steps do to them.
 use Rattle.std.specs.Prelude.{ℕ, ◌==◌, Option, option_map, find}
 use Rattle.std.specs.Prelude.{is_some}
-use Rattle.proof_commits.specs.Beneath.slot_arena.specs.declared.refs.Ref.{Ref}
-use Rattle.proof_commits.specs.Beneath.slot_arena.specs.Heaps.{generation_of}
-use Rattle.proof_commits.specs.Beneath.machine_model.specs.declared.records.Commit.{Commit}
-use Rattle.proof_commits.specs.Beneath.machine_model.specs.States.{State, operation_of}
-use Rattle.proof_commits.specs.Beneath.machine_model.specs.Records.{Record, moment_at}
-use Rattle.proof_commits.specs.Beneath.machine_model.specs.Grown.{grown, node_under, main_word, prev_word}
+use Rattle.proof_commits.specs.Vocabulary.{Ref, generation_of, Commit, State, operation_of, Record, moment_at, grown, node_under, main_word, prev_word}
 use Rattle.proof_commits.specs.Protocol.{Words}
 use Rattle.proof_commits.specs.Stages.{stage_of_actor}
 use Rattle.proof_memory.specs.Wants.{is_indirection, is_branch_or_list}

@@ -1,17 +1,10 @@
 -- The laws of main nodes, for every list of steps.
 use Rattle.std.proofs.Common.{◌≡◌, ℕ, suc, ◌+◌, ◌<◌, ◌⊎◌, List, Some, refl, sym, ◌∙◌, ap, subst, add-one, arith}
-use Rattle.proof_commits.specs.Beneath.slot_arena.specs.declared.refs.Ref.{Ref}
+use Rattle.proof_commits.specs.Vocabulary.{Ref, prev_at, generation_at, logical_main, Operation, Bounds, Step, State, operation_of, Record, closed_at, record_of, AreBounds, states_of, records_of}
+use Rattle.proof_commits.specs.Vocabulary.{last_of}
 use Rattle.proof_commits.specs.Beneath.slot_arena.specs.declared.nodes.Prev.TheVariants as over
-use Rattle.proof_commits.specs.Beneath.slot_arena.specs.Heaps.{prev_at, generation_at, logical_main}
-use Rattle.proof_commits.specs.Beneath.machine_model.specs.declared.operations.Operation.{Operation}
 use Rattle.proof_commits.specs.Beneath.machine_model.specs.declared.reading.SwapLine.TheVariants as swap
-use Rattle.proof_commits.specs.Beneath.machine_model.specs.declared.steps.Bounds.{Bounds}
-use Rattle.proof_commits.specs.Beneath.machine_model.specs.declared.steps.Step.{Step}
-use Rattle.proof_commits.specs.Beneath.machine_model.specs.States.{State, operation_of}
-use Rattle.proof_commits.specs.Beneath.machine_model.specs.Records.{Record, closed_at, record_of}
-use Rattle.proof_commits.specs.Beneath.machine_model.specs.Machine.{AreBounds}
 use Rattle.proof_commits.specs.Beneath.machine_model.proofs.Times.{run_ends}
-use Rattle.proof_commits.specs.Beneath.machine_model.specs.Times.{states_of, records_of, last_of}
 use Rattle.proof_commits.proofs.Known.Given.{Known}
 use Rattle.proof_commits.specs.Runs.{HasIndirection}
 use Rattle.proof_commits.specs.Laws.{IsInSwap, PendingHasOwner, PrevChange, PrevWordsChange, DecidedForGood}

@@ -4,37 +4,18 @@ use Rattle.std.specs.Prelude.{option_and_then}
 use Rattle.std.proofs.lemmas.Bool.{cases_eq, eq-eqb}
 use Rattle.std.proofs.Common.{ne_eqb}
 use Rattle.std.proofs.lemmas.Option.{none-some, same_Some}
-use Rattle.proof_commits.specs.Beneath.slot_arena.specs.declared.refs.Ref.{Ref}
-use Rattle.proof_commits.specs.Beneath.history.specs.declared.calls.Call.{Call}
-use Rattle.proof_commits.specs.Beneath.slot_arena.specs.Heaps.{node_at}
-use Rattle.proof_commits.specs.Beneath.machine_model.specs.declared.lines.Line.{Line}
+use Rattle.proof_commits.specs.Vocabulary.{Ref, Call, node_at, Line, Purpose, SwapLine, Operation, After, Gives, ReadLine, Swap, Entrant, Publication, Bounds, Outcome, State, operation_of, word_at}
+use Rattle.proof_commits.specs.Vocabulary.{handle_of, swap_after, action_of, line_after, generation_from, first_line, operation_after, GoesOn, begun_operation, Record, changer_of, noted_progress}
+use Rattle.proof_commits.specs.Vocabulary.{changer_for, progress_of, published_at, published_by, Reply}
 use Rattle.proof_commits.specs.Beneath.machine_model.specs.declared.lines.Line.TheVariants as line
-use Rattle.proof_commits.specs.Beneath.machine_model.specs.declared.lines.Purpose.{Purpose}
 use Rattle.proof_commits.specs.Beneath.machine_model.specs.declared.lines.Purpose.TheVariants as purpose
-use Rattle.proof_commits.specs.Beneath.machine_model.specs.declared.reading.SwapLine.{SwapLine}
-use Rattle.proof_commits.specs.Beneath.machine_model.specs.declared.operations.Operation.{Operation}
-use Rattle.proof_commits.specs.Beneath.machine_model.specs.declared.reading.After.{After}
-use Rattle.proof_commits.specs.Beneath.machine_model.specs.declared.reading.After.TheVariants.{Goes, Gives}
-use Rattle.proof_commits.specs.Beneath.machine_model.specs.declared.reading.ReadLine.{ReadLine}
-use Rattle.proof_commits.specs.Beneath.machine_model.specs.declared.reading.Swap.{Swap}
+use Rattle.proof_commits.specs.Beneath.machine_model.specs.declared.reading.After.TheVariants.{Goes}
 use Rattle.proof_commits.specs.Beneath.machine_model.specs.declared.reading.SwapLine.TheVariants as swap
-use Rattle.proof_commits.specs.Beneath.machine_model.specs.declared.records.Entrant.{Entrant}
-use Rattle.proof_commits.specs.Beneath.machine_model.specs.declared.records.Publication.{Publication}
-use Rattle.proof_commits.specs.Beneath.machine_model.specs.declared.steps.Bounds.{Bounds}
-use Rattle.proof_commits.specs.Beneath.machine_model.specs.declared.steps.Outcome.{Outcome}
 use Rattle.proof_commits.specs.Beneath.machine_model.specs.declared.steps.Step.TheVariants as step
-use Rattle.proof_commits.specs.Beneath.machine_model.specs.States.{State, operation_of, word_at}
-use Rattle.proof_commits.specs.Beneath.machine_model.specs.Calls.{handle_of}
-use Rattle.proof_commits.specs.Beneath.machine_model.specs.Swapping.{swap_after}
-use Rattle.proof_commits.specs.Beneath.machine_model.specs.Operations.{action_of, after_swap, line_after, generation_from, first_line}
-use Rattle.proof_commits.specs.Beneath.machine_model.specs.Acting.{operation_after}
-use Rattle.proof_commits.specs.Beneath.machine_model.specs.Moves.{GoesOn, begun_operation}
+use Rattle.proof_commits.specs.Beneath.machine_model.specs.Operations.{after_swap}
 use Rattle.proof_commits.specs.Beneath.machine_model.specs.Moves as Machine
-use Rattle.proof_commits.specs.Beneath.machine_model.specs.Records.{Record, changer_of, noted_progress}
-use Rattle.proof_commits.specs.Beneath.machine_model.specs.Tellings.{changer_for, progress_of, published_at, published_by}
 use Rattle.proof_commits.specs.Beneath.machine_model.proofs.Times.{along_run}
 use Rattle.proof_commits.specs.Beneath.machine_model.proofs.Actors.{begin_counts, marks_by}
-use Rattle.proof_commits.specs.Beneath.history.specs.declared.replies.Reply.{Reply}
 use Rattle.proof_commits.specs.Protocol.{Words, Stage, Publishes, Decides, Moves, Idles, MakesNode, SwapsNode, ReadsOn, DecidesOn, IsAtRest, MayHave}
 use Rattle.proof_commits.specs.Stages.{stage_of, stage_of_actor, stage_of_swap}
 use Rattle.proof_commits.specs.Words.{words_of}

@@ -1,10 +1,8 @@
 -- How logical main nodes change, over whole runs: by commits alone, from the replaced node to the fresh one of the owner.
 use Rattle.std.proofs.Common.{◌≡◌, ℕ, suc, ◌<◌, ◌≤◌, ◌⊎◌, true, inl, inr, refl, sym, ◌∙◌, ap, subst, arith}
 use Rattle.std.proofs.lemmas.Bool.{cases_eq}
-use Rattle.proof_commits.specs.Beneath.slot_arena.specs.declared.refs.Ref.{Ref}
-use Rattle.proof_commits.specs.Beneath.slot_arena.specs.declared.nodes.Prev.{Prev}
+use Rattle.proof_commits.specs.Vocabulary.{Ref, Prev, logical}
 use Rattle.proof_commits.specs.Beneath.slot_arena.specs.declared.nodes.Prev.TheVariants as over
-use Rattle.proof_commits.specs.Beneath.slot_arena.specs.Heaps.{logical}
 use Rattle.proof_commits.specs.Protocol.{Words, logical_at, Makes, SwapsIn, PutsBack, CommitsNode, FailsNode, Protocol}
 use Rattle.proof_commits.proofs.Words.Stood.{Stood, Decided, AreSound, stands_now, stood_still, none≢pending, over_pending, over_failed, not_both}
 use Rattle.proof_commits.proofs.Words.Effects.{Effect, Nothing, Made, SwappedIn, PutBack, Committed, Failed, stood_below}

@@ -1,25 +1,11 @@
 -- What a READ of an operation gives, and that the operation's fields tell from when on it was the logical main node.
 use Rattle.std.proofs.Common.{◌≡◌, ℕ, suc, ◌<◌, max, ◌==◌, Option, Some, None, option_map, find, refl, sym, ◌∙◌, ap, subst, arith}
-use Rattle.proof_commits.specs.Beneath.history.specs.declared.calls.Access.{Access}
-use Rattle.proof_commits.specs.Beneath.history.specs.declared.calls.Access.TheVariants.{Writable}
-use Rattle.proof_commits.specs.Beneath.slot_arena.specs.declared.refs.Ref.{Ref}
-use Rattle.proof_commits.specs.Beneath.slot_arena.specs.Heaps.{Heap}
-use Rattle.proof_commits.specs.Beneath.machine_model.specs.declared.records.Commit.{Commit}
-use Rattle.proof_commits.specs.Beneath.machine_model.specs.declared.operations.Operation.{Operation}
-use Rattle.proof_commits.specs.Beneath.machine_model.specs.declared.reading.After.{After}
-use Rattle.proof_commits.specs.Beneath.machine_model.specs.declared.reading.After.TheVariants.{Gives}
-use Rattle.proof_commits.specs.Beneath.machine_model.specs.declared.reading.ReadLine.{ReadLine}
+use Rattle.proof_commits.specs.Vocabulary.{Access, Writable, Ref, Heap, Commit, Operation, After, Gives, ReadLine, RootWord, Bounds, Outcome, handle_of, State, word_at, operation_of, Verdict}
+use Rattle.proof_commits.specs.Vocabulary.{Commits, Fails, Overtaken, verdict, read_action, read_after, after_decide, committed_by, committed_so, at_indirection, Moment, Record, commit_step}
+use Rattle.proof_commits.specs.Vocabulary.{commits_after, moment_after, moment_at, moment_given, noted_progress, read_at_after, step_of_commit, committed_in, counts_from, given_by, given_in}
+use Rattle.proof_commits.specs.Vocabulary.{progress_of}
 use Rattle.proof_commits.specs.Beneath.machine_model.specs.declared.reading.ReadLine.TheVariants as read
-use Rattle.proof_commits.specs.Beneath.machine_model.specs.declared.roots.RootWord.{RootWord}
-use Rattle.proof_commits.specs.Beneath.machine_model.specs.declared.steps.Bounds.{Bounds}
-use Rattle.proof_commits.specs.Beneath.machine_model.specs.declared.steps.Outcome.{Outcome}
 use Rattle.proof_commits.specs.Beneath.machine_model.specs.declared.steps.Step.TheVariants as step
-use Rattle.proof_commits.specs.Beneath.machine_model.specs.Calls.{handle_of}
-use Rattle.proof_commits.specs.Beneath.machine_model.specs.States.{State, word_at, operation_of}
-use Rattle.proof_commits.specs.Beneath.machine_model.specs.Reading.{Verdict, Commits, Fails, Overtaken, verdict, read_action, read_after, after_decide, committed_by, committed_so, at_indirection}
-use Rattle.proof_commits.specs.Beneath.machine_model.specs.declared.records.Moment.{Moment}
-use Rattle.proof_commits.specs.Beneath.machine_model.specs.Records.{Record, commit_step, commits_after, moment_after, moment_at, moment_given, noted_progress, read_at_after, step_of_commit}
-use Rattle.proof_commits.specs.Beneath.machine_model.specs.Tellings.{committed_in, counts_from, given_by, given_in, progress_of}
 use Rattle.proof_commits.specs.Beneath.machine_model.specs.Moves as Machine
 use Rattle.proof_commits.specs.Beneath.machine_model.proofs.Times.{steps_at}
 use Rattle.proof_commits.specs.Protocol.{Words, Reads, Given, CommitsNode, ReadTurn, ReadsMain, FindsDecided, FindsFailed, FindsPending, DecidesAtOnce, Asks, FindsOffer, Aborts}

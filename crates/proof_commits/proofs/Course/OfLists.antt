@@ -2,38 +2,18 @@
 use Rattle.std.proofs.Common.{◌≡◌, ℕ, suc, ◌+◌, ◌<◌, ◌≤◌, ◌⊎◌, true, false, List, Some, inl, inr, refl, sym, ◌∙◌, ap, subst, add-one, arith, None}
 use Rattle.std.proofs.lemmas.Bool.{cases_eq}
 use Rattle.std.proofs.lemmas.Option.{same_Some}
-use Rattle.proof_commits.specs.Beneath.history.specs.declared.replies.Reply.{Reply}
+use Rattle.proof_commits.specs.Vocabulary.{Reply, Ref, Node, Tomb, main_of, generation_of, main_at, prev_at, generation_at, node_at, logical_main, Operation, After, Gives, Read, ReadLine, SwapLine}
+use Rattle.proof_commits.specs.Vocabulary.{Bounds, Outcome, Step, handle_of, State, operation_of, word_at, Moment, Record, closed_at, moment_after, moment_at, noted_progress, progress_of}
+use Rattle.proof_commits.specs.Vocabulary.{read_after, at_indirection, action_of, read_of, AreBounds, go_denial, states_of, records_of, last_of, grown, node_under}
 use Rattle.proof_commits.specs.Beneath.history.proofs.Places.{option_tested}
-use Rattle.proof_commits.specs.Beneath.slot_arena.specs.declared.refs.Ref.{Ref}
-use Rattle.proof_commits.specs.Beneath.slot_arena.specs.declared.nodes.Node.{Node}
-use Rattle.proof_commits.specs.Beneath.slot_arena.specs.declared.nodes.Node.TheVariants.{Tomb}
 use Rattle.std.specs.Prelude.{is_some}
 use Rattle.proof_commits.specs.Beneath.slot_arena.specs.declared.nodes.Prev.TheVariants as over
-use Rattle.proof_commits.specs.Beneath.slot_arena.specs.Heaps.{main_of, generation_of, main_at, prev_at, generation_at, node_at, logical_main}
 use Rattle.proof_commits.specs.Beneath.machine_model.specs.declared.actions.Action.TheVariants as act
-use Rattle.proof_commits.specs.Beneath.machine_model.specs.declared.operations.Operation.{Operation}
-use Rattle.proof_commits.specs.Beneath.machine_model.specs.declared.reading.After.{After}
-use Rattle.proof_commits.specs.Beneath.machine_model.specs.declared.reading.After.TheVariants.{Goes, Gives}
-use Rattle.proof_commits.specs.Beneath.machine_model.specs.declared.reading.Read.{Read}
-use Rattle.proof_commits.specs.Beneath.machine_model.specs.declared.reading.ReadLine.{ReadLine}
-use Rattle.proof_commits.specs.Beneath.machine_model.specs.declared.reading.SwapLine.{SwapLine}
+use Rattle.proof_commits.specs.Beneath.machine_model.specs.declared.reading.After.TheVariants.{Goes}
 use Rattle.proof_commits.specs.Beneath.machine_model.specs.declared.reading.SwapLine.TheVariants as swap
-use Rattle.proof_commits.specs.Beneath.machine_model.specs.declared.steps.Bounds.{Bounds}
-use Rattle.proof_commits.specs.Beneath.machine_model.specs.declared.steps.Outcome.{Outcome}
-use Rattle.proof_commits.specs.Beneath.machine_model.specs.declared.steps.Step.{Step}
 use Rattle.proof_commits.specs.Beneath.machine_model.specs.declared.steps.Step.TheVariants as step
-use Rattle.proof_commits.specs.Beneath.machine_model.specs.Calls.{handle_of}
-use Rattle.proof_commits.specs.Beneath.machine_model.specs.States.{State, operation_of, word_at}
-use Rattle.proof_commits.specs.Beneath.machine_model.specs.declared.records.Moment.{Moment}
-use Rattle.proof_commits.specs.Beneath.machine_model.specs.Records.{Record, closed_at, moment_after, moment_at, noted_progress}
-use Rattle.proof_commits.specs.Beneath.machine_model.specs.Tellings.{progress_of}
-use Rattle.proof_commits.specs.Beneath.machine_model.specs.Reading.{read_after, at_indirection}
-use Rattle.proof_commits.specs.Beneath.machine_model.specs.Operations.{action_of, read_of}
-use Rattle.proof_commits.specs.Beneath.machine_model.specs.Machine.{AreBounds, go_denial}
 use Rattle.proof_commits.specs.Beneath.machine_model.specs.Moves as Machine
 use Rattle.proof_commits.specs.Beneath.machine_model.proofs.Times.{run_is}
-use Rattle.proof_commits.specs.Beneath.machine_model.specs.Times.{states_of, records_of, last_of}
-use Rattle.proof_commits.specs.Beneath.machine_model.specs.Grown.{grown, node_under}
 use Rattle.proof_commits.specs.Protocol.{Words, Rests, Reads, Protocol}
 use Rattle.proof_commits.specs.Protocol as Protocol'
 use Rattle.proof_commits.proofs.Words.Stood.{Stood, stood_still, none≢pending, stands_now, over_pending}

@@ -1,11 +1,9 @@
 -- How a SWAP comes out: its fresh node is pending until it is decided, and a decided one was committed by the time that it is seen so.
 use Rattle.std.proofs.Common.{◌≡◌, ℕ, zero, suc, ◌<◌, ◌≤◌, ◌⊎◌, true, false, inl, inr, refl, sym, ◌∙◌, ap, subst, arith}
 use Rattle.std.proofs.lemmas.Bool.{cases_eq, true≢false}
-use Rattle.proof_commits.specs.Beneath.slot_arena.specs.declared.refs.Ref.{Ref}
+use Rattle.proof_commits.specs.Vocabulary.{Ref, After, Gives, ReadLine}
 use Rattle.proof_commits.specs.Beneath.slot_arena.specs.declared.nodes.Prev.TheVariants as over
-use Rattle.proof_commits.specs.Beneath.machine_model.specs.declared.reading.After.{After}
-use Rattle.proof_commits.specs.Beneath.machine_model.specs.declared.reading.After.TheVariants.{Goes, Gives}
-use Rattle.proof_commits.specs.Beneath.machine_model.specs.declared.reading.ReadLine.{ReadLine}
+use Rattle.proof_commits.specs.Beneath.machine_model.specs.declared.reading.After.TheVariants.{Goes}
 use Rattle.proof_commits.specs.Protocol.{Words, logical_at, Stage, Rests, Reads, Builds, Publishes, Decides, Checks, CommitsNode, IsAtRest, MayHave, IsSame, Moves, Idles, MakesNode}
 use Rattle.proof_commits.specs.Protocol.{SwapsNode, ReadsOn, DecidesOn, Turn, Acts, Passes, after_read, after_deciding, Protocol}
 use Rattle.proof_commits.proofs.Words.Stood.{none≢pending}

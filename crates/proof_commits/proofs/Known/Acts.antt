@@ -3,31 +3,14 @@ use Rattle.std.proofs.Common.{◌≡◌, ℕ, suc, ◌<◌, Bool, true, false, �
 use Rattle.std.specs.Prelude.{is_some}
 use Rattle.std.proofs.lemmas.Bool.{true≢false}
 use Rattle.std.proofs.lemmas.Option.{none-some, same_Some}
-use Rattle.proof_commits.specs.Beneath.slot_arena.specs.declared.refs.Ref.{Ref}
-use Rattle.proof_commits.specs.Beneath.slot_arena.specs.declared.nodes.Node.{Node}
-use Rattle.proof_commits.specs.Beneath.slot_arena.specs.declared.nodes.Node.TheVariants.{Indirection}
-use Rattle.proof_commits.specs.Beneath.slot_arena.specs.declared.nodes.Prev.{Prev}
+use Rattle.proof_commits.specs.Vocabulary.{Ref, Node, Indirection, Prev, Slot, Heap, node_of, main_of, main_at, generation_of, main_changed, prev_changed, with_main, with_prev, taken, next_ref}
+use Rattle.proof_commits.specs.Vocabulary.{Reclaimer, ripe, sweep_by, Action, Operation, Bounds, Outcome, Step, handle_of, State, operation_of, Verdict, Commits, Fails, Overtaken, verdict}
+use Rattle.proof_commits.specs.Vocabulary.{action_of, acted, decided, new_root_taken, if_changed, reclaimer_of, Begins, Ends, Sweeps, GivesUp, Moves, begun_operation, IsRun, standing, or_before}
+use Rattle.proof_commits.specs.Vocabulary.{grown}
 use Rattle.proof_commits.specs.Beneath.slot_arena.specs.declared.nodes.Prev.TheVariants as over
-use Rattle.proof_commits.specs.Beneath.slot_arena.specs.declared.nodes.Slot.{Slot}
-use Rattle.proof_commits.specs.Beneath.slot_arena.specs.Heaps.{Heap, node_of, main_of, main_at, generation_of, main_changed, prev_changed, with_main, with_prev, taken, next_ref}
-use Rattle.proof_commits.specs.Beneath.epochs.specs.Sweeping.{Reclaimer, ripe, sweep_by}
-use Rattle.proof_commits.specs.Beneath.machine_model.specs.declared.actions.Action.{Action}
 use Rattle.proof_commits.specs.Beneath.machine_model.specs.declared.actions.Action.TheVariants as act
-use Rattle.proof_commits.specs.Beneath.machine_model.specs.declared.operations.Operation.{Operation}
-use Rattle.proof_commits.specs.Beneath.machine_model.specs.declared.steps.Bounds.{Bounds}
-use Rattle.proof_commits.specs.Beneath.machine_model.specs.declared.steps.Outcome.{Outcome}
-use Rattle.proof_commits.specs.Beneath.machine_model.specs.declared.steps.Step.{Step}
 use Rattle.proof_commits.specs.Beneath.machine_model.specs.declared.steps.Step.TheVariants as step
-use Rattle.proof_commits.specs.Beneath.machine_model.specs.Calls.{handle_of}
-use Rattle.proof_commits.specs.Beneath.machine_model.specs.States.{State, operation_of}
-use Rattle.proof_commits.specs.Beneath.machine_model.specs.Reading.{Verdict, Commits, Fails, Overtaken, verdict}
-use Rattle.proof_commits.specs.Beneath.machine_model.specs.Operations.{action_of}
-use Rattle.proof_commits.specs.Beneath.machine_model.specs.Acting.{acted, decided, new_root_taken, if_changed}
-use Rattle.proof_commits.specs.Beneath.machine_model.specs.Machine.{reclaimer_of}
-use Rattle.proof_commits.specs.Beneath.machine_model.specs.Moves.{Begins, Goes, Ends, Sweeps, GivesUp}
-use Rattle.proof_commits.specs.Beneath.machine_model.specs.Moves.{Moves, begun_operation}
-use Rattle.proof_commits.specs.Beneath.machine_model.specs.Times.{IsRun}
-use Rattle.proof_commits.specs.Beneath.machine_model.specs.Grown.{standing, or_before, grown}
+use Rattle.proof_commits.specs.Beneath.machine_model.specs.Moves.{Goes}
 use Rattle.proof_commits.specs.Beneath.machine_model.proofs.HeapMoves.{begin_heap, aborted_heap, offered_heap, completed_heap}
 use Rattle.proof_commits.proofs.Known.Given.{GrownStays, GrownChanges, GrownSwaps, FindsMain, FindsPrev, Either, Decided, Taken, ActsOn, IsNoGo, RootsAreOpen, Known}
 use Rattle.proof_memory.proofs.Heap.Under.{main_here, main_other, prev_here, prev_other, freed_before}

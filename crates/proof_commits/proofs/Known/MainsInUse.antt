@@ -1,11 +1,6 @@
 -- The logical main node of an indirection in use is the one that the protocol's words say.
 use Rattle.std.proofs.Common.{◌≡◌, ℕ, ◌≤◌, true, Some, sym, ◌∙◌, ap, subst}
-use Rattle.proof_commits.specs.Beneath.slot_arena.specs.declared.refs.Ref.{Ref}
-use Rattle.proof_commits.specs.Beneath.slot_arena.specs.declared.nodes.Slot.{Slot}
-use Rattle.proof_commits.specs.Beneath.slot_arena.specs.Heaps.{node_of, prev_at, main_of, logical, logical_main}
-use Rattle.proof_commits.specs.Beneath.machine_model.specs.declared.steps.Bounds.{Bounds}
-use Rattle.proof_commits.specs.Beneath.machine_model.specs.States.{State}
-use Rattle.proof_commits.specs.Beneath.machine_model.specs.Grown.{standing, node_under}
+use Rattle.proof_commits.specs.Vocabulary.{Ref, Slot, node_of, prev_at, main_of, logical, logical_main, Bounds, State, standing, node_under}
 use Rattle.proof_commits.specs.Beneath.machine_model.proofs.Grown.{grown_in_use, node_grown, prev_grown}
 use Rattle.proof_commits.specs.Protocol.{logical_at}
 use Rattle.proof_commits.proofs.Known.Given.{Known}

@@ -7,31 +7,15 @@ use Rattle.std.proofs.lemmas.Bool.{eq-eqb, true≢false}
 use Rattle.std.proofs.lemmas.List.{get_or-set_same}
 use Rattle.std.proofs.lemmas.List.Folds.{find-append}
 use Rattle.std.proofs.lemmas.Option.{none-some}
-use Rattle.proof_commits.specs.Beneath.history.specs.declared.calls.Call.{Call}
-use Rattle.proof_commits.specs.Beneath.history.specs.declared.replies.Reply.{Reply}
-use Rattle.proof_commits.specs.Beneath.slot_arena.specs.declared.refs.Ref.{Ref}
+use Rattle.proof_commits.specs.Vocabulary.{Call, Reply, Ref, Commit, Operation, Outcome, Step, State, operation_of, action_of, gone, ended, operation_after, marked, settled, begin_denial, go_denial}
+use Rattle.proof_commits.specs.Vocabulary.{with_begin, swept, Record, commits_after, noted, noted_end, noted_progress, begin_told, entrant_of, progress_of, told_in, Begins, Ends, Sweeps, GivesUp}
+use Rattle.proof_commits.specs.Vocabulary.{Moves, GoesOn, begun_operation, turns, Turn, noted_turn, given_up, gave_up, with_operation}
 use Rattle.proof_commits.specs.Beneath.machine_model.specs.declared.actions.Action.TheVariants as act
-use Rattle.proof_commits.specs.Beneath.machine_model.specs.declared.records.Commit.{Commit}
-use Rattle.proof_commits.specs.Beneath.machine_model.specs.declared.operations.Operation.{Operation}
-use Rattle.proof_commits.specs.Beneath.machine_model.specs.declared.steps.Outcome.{Outcome}
-use Rattle.proof_commits.specs.Beneath.machine_model.specs.declared.steps.Step.{Step}
 use Rattle.proof_commits.specs.Beneath.machine_model.specs.declared.steps.Step.TheVariants as step
-use Rattle.proof_commits.specs.Beneath.machine_model.specs.States.{State, operation_of}
-use Rattle.proof_commits.specs.Beneath.machine_model.specs.Operations.{action_of}
-use Rattle.proof_commits.specs.Beneath.machine_model.specs.Acting.{gone, ended, operation_after, marked}
-use Rattle.proof_commits.specs.Beneath.machine_model.specs.Counting.{settled}
-use Rattle.proof_commits.specs.Beneath.machine_model.specs.Machine.{begin_denial, go_denial, with_begin, swept}
-use Rattle.proof_commits.specs.Beneath.machine_model.specs.Records.{Record, commits_after, noted, noted_end, noted_progress}
-use Rattle.proof_commits.specs.Beneath.machine_model.specs.Tellings.{begin_told, entrant_of, progress_of, told_in}
-use Rattle.proof_commits.specs.Beneath.machine_model.specs.Moves.{Begins, Goes, Ends, Sweeps, GivesUp}
-use Rattle.proof_commits.specs.Beneath.machine_model.specs.Moves.{Moves, GoesOn, begun_operation}
-use Rattle.proof_commits.specs.Beneath.machine_model.specs.Times.{turns}
-use Rattle.proof_commits.specs.Beneath.machine_model.specs.Times.{Turn, noted_turn}
+use Rattle.proof_commits.specs.Beneath.machine_model.specs.Moves.{Goes}
 use Rattle.proof_commits.specs.Beneath.machine_model.proofs.Notes.{noted_ending, noted_going}
 use Rattle.proof_commits.specs.Beneath.machine_model.proofs.Found.{found_elsewhere, found_here, found_within}
 use Rattle.proof_commits.specs.Beneath.machine_model.proofs.Actors.{after_marks, marks_by, gone_actors, begin_actors}
-use Rattle.proof_commits.specs.Beneath.machine_model.specs.GivingUp.{given_up, gave_up}
-use Rattle.proof_commits.specs.Beneath.machine_model.specs.States.{with_operation}
 use Rattle.proof_commits.specs.Stages.{stage_of_actor}
 use Rattle.proof_commits.specs.Words.{commit_of}
 

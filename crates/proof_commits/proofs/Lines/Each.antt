@@ -2,26 +2,11 @@
 -- stays so, is so of those that its line remembers. This needs nothing of memory.
 use Rattle.std.proofs.Common.{◌≡◌, ℕ, zero, suc, ◌<◌, ◌≤◌, ◌⊎◌, Bool, true, false, cond, ◌==◌, Option, Some, None, inl, inr, sym, ◌∙◌, ap, subst, arith}
 use Rattle.std.proofs.lemmas.Bool.{cases_eq}
-use Rattle.proof_commits.specs.Beneath.history.specs.declared.calls.Access.TheVariants.{Writable}
-use Rattle.proof_commits.specs.Beneath.history.specs.declared.calls.Call.{Call}
-use Rattle.proof_commits.specs.Beneath.slot_arena.specs.declared.refs.Ref.{Ref}
-use Rattle.proof_commits.specs.Beneath.machine_model.specs.declared.operations.Operation.{Operation}
-use Rattle.proof_commits.specs.Beneath.machine_model.specs.declared.reading.After.TheVariants.{Gives}
-use Rattle.proof_commits.specs.Beneath.machine_model.specs.declared.reading.ReadLine.{ReadLine}
-use Rattle.proof_commits.specs.Beneath.machine_model.specs.declared.steps.Bounds.{Bounds}
-use Rattle.proof_commits.specs.Beneath.machine_model.specs.declared.steps.Outcome.{Outcome}
+use Rattle.proof_commits.specs.Vocabulary.{Writable, Call, Ref, Operation, Gives, ReadLine, Bounds, Outcome, handle_of, State, operation_of, word_at, read_after, first_line, marked, operation_after}
+use Rattle.proof_commits.specs.Vocabulary.{noted_progress, progress_of, begun_operation, IsRun}
 use Rattle.proof_commits.specs.Beneath.machine_model.specs.declared.steps.Step.TheVariants as step
-use Rattle.proof_commits.specs.Beneath.machine_model.specs.Calls.{handle_of}
-use Rattle.proof_commits.specs.Beneath.machine_model.specs.States.{State, operation_of, word_at}
-use Rattle.proof_commits.specs.Beneath.machine_model.specs.Reading.{read_after}
-use Rattle.proof_commits.specs.Beneath.machine_model.specs.Operations.{first_line}
-use Rattle.proof_commits.specs.Beneath.machine_model.specs.Acting.{marked, operation_after}
-use Rattle.proof_commits.specs.Beneath.machine_model.specs.Records.{noted_progress}
-use Rattle.proof_commits.specs.Beneath.machine_model.specs.Tellings.{progress_of}
 use Rattle.proof_commits.specs.Beneath.machine_model.proofs.Actors.{marks_by, begin_counts}
 use Rattle.proof_commits.specs.Beneath.machine_model.specs.Moves as Machine
-use Rattle.proof_commits.specs.Beneath.machine_model.specs.Moves.{begun_operation}
-use Rattle.proof_commits.specs.Beneath.machine_model.specs.Times.{IsRun}
 use Rattle.proof_commits.specs.Protocol.{Reads}
 use Rattle.proof_commits.proofs.Course.Finals.{from_time}
 use Rattle.proof_commits.proofs.Lines.Stages.{Remembers, remembers_still}

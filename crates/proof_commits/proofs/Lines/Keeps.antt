@@ -1,63 +1,25 @@
 -- What the line after a step remembers: whatever was so of each indirection and main node that the line remembers, and is so of
 -- what a READ gives now, is so of those that the next line remembers. This is of lines alone.
 use Rattle.std.proofs.Common.{◌≡◌, ◌-◌, Bool, true, false, ◌==◌, ◌++◌, Option, Some, None, refl, subst}
-use Rattle.proof_commits.specs.Beneath.history.specs.declared.calls.Access.TheVariants.{Writable}
-use Rattle.proof_commits.specs.Beneath.slot_arena.specs.declared.refs.Ref.{Ref}
-use Rattle.proof_commits.specs.Beneath.slot_arena.specs.declared.nodes.Prev.{Prev}
+use Rattle.proof_commits.specs.Vocabulary.{Writable, Ref, Prev, Heap, node_at, entry_at, entries_of, Operation, After, Gives, ReadLine, BuildLine, KeyLine, RenewLine, CleanLine, Climb, ClimbLine}
+use Rattle.proof_commits.specs.Vocabulary.{CopyLine, WalkLine, RootLine, RootWord, Descriptor, Purpose, Line, State, current, renew_after_link, renew_after_branch, next_entry, build_if_made}
+use Rattle.proof_commits.specs.Vocabulary.{clean_after_contracted, climb_after_contracted, climb_after_root, copy_if_made, first_of, rest_of, after_root, main_at, prev_at, next_ref, Swap, SwapLine}
+use Rattle.proof_commits.specs.Vocabulary.{CompleteLine, handle_of, word_at, read_after, at_indirection, after_deciding as swap_deciding, on_line, after_check, after_publish, after_reading}
+use Rattle.proof_commits.specs.Vocabulary.{of_offer, after_completing, is_carried_out, is_plain, renew_after_read, key_after_read, clean_after_read, after_child, climb_after_read, copy_after_read}
+use Rattle.proof_commits.specs.Vocabulary.{copy_after_complete, walk_after_read, line_after}
 use Rattle.proof_commits.specs.Beneath.slot_arena.specs.declared.nodes.Prev.TheVariants as over
-use Rattle.proof_commits.specs.Beneath.slot_arena.specs.Heaps.{Heap, node_at, entry_at, entries_of}
-use Rattle.proof_commits.specs.Beneath.machine_model.specs.declared.operations.Operation.{Operation}
-use Rattle.proof_commits.specs.Beneath.machine_model.specs.declared.reading.After.{After}
-use Rattle.proof_commits.specs.Beneath.machine_model.specs.declared.reading.After.TheVariants.{Goes, Gives}
-use Rattle.proof_commits.specs.Beneath.machine_model.specs.declared.reading.ReadLine.{ReadLine}
-use Rattle.proof_commits.specs.Beneath.machine_model.specs.declared.building.BuildLine.{BuildLine}
-use Rattle.proof_commits.specs.Beneath.machine_model.specs.declared.finding.KeyLine.{KeyLine}
+use Rattle.proof_commits.specs.Beneath.machine_model.specs.declared.reading.After.TheVariants.{Goes}
 use Rattle.proof_commits.specs.Beneath.machine_model.specs.declared.finding.KeyLine.TheVariants as key
-use Rattle.proof_commits.specs.Beneath.machine_model.specs.declared.repairs.RenewLine.{RenewLine}
 use Rattle.proof_commits.specs.Beneath.machine_model.specs.declared.repairs.RenewLine.TheVariants as renew
-use Rattle.proof_commits.specs.Beneath.machine_model.specs.declared.repairs.CleanLine.{CleanLine}
 use Rattle.proof_commits.specs.Beneath.machine_model.specs.declared.repairs.CleanLine.TheVariants as clean
-use Rattle.proof_commits.specs.Beneath.machine_model.specs.declared.repairs.Climb.{Climb}
-use Rattle.proof_commits.specs.Beneath.machine_model.specs.declared.repairs.ClimbLine.{ClimbLine}
 use Rattle.proof_commits.specs.Beneath.machine_model.specs.declared.repairs.ClimbLine.TheVariants as climb
-use Rattle.proof_commits.specs.Beneath.machine_model.specs.declared.copying.CopyLine.{CopyLine}
 use Rattle.proof_commits.specs.Beneath.machine_model.specs.declared.copying.CopyLine.TheVariants as copy
-use Rattle.proof_commits.specs.Beneath.machine_model.specs.declared.walking.WalkLine.{WalkLine}
 use Rattle.proof_commits.specs.Beneath.machine_model.specs.declared.walking.WalkLine.TheVariants as walk
-use Rattle.proof_commits.specs.Beneath.machine_model.specs.declared.roots.RootLine.{RootLine}
 use Rattle.proof_commits.specs.Beneath.machine_model.specs.declared.roots.RootLine.TheVariants as root
-use Rattle.proof_commits.specs.Beneath.machine_model.specs.declared.roots.RootWord.{RootWord}
-use Rattle.proof_commits.specs.Beneath.machine_model.specs.declared.roots.Descriptor.{Descriptor}
-use Rattle.proof_commits.specs.Beneath.machine_model.specs.declared.lines.Purpose.{Purpose}
-use Rattle.proof_commits.specs.Beneath.machine_model.specs.declared.lines.Line.{Line}
 use Rattle.proof_commits.specs.Beneath.machine_model.specs.declared.lines.Line.TheVariants as line
-use Rattle.proof_commits.specs.Beneath.machine_model.specs.States.{State}
-use Rattle.proof_commits.specs.Beneath.machine_model.specs.Paths.{current}
-use Rattle.proof_commits.specs.Beneath.machine_model.specs.Renewing.{renew_after_link, renew_after_branch, next_entry}
-use Rattle.proof_commits.specs.Beneath.machine_model.specs.Building.{build_if_made}
-use Rattle.proof_commits.specs.Beneath.machine_model.specs.Cleaning.{clean_after_contracted}
-use Rattle.proof_commits.specs.Beneath.machine_model.specs.Climbing.{climb_after_contracted, climb_after_root}
-use Rattle.proof_commits.specs.Beneath.machine_model.specs.Copying.{copy_if_made}
-use Rattle.proof_commits.specs.Beneath.machine_model.specs.Walking.{first_of, rest_of}
-use Rattle.proof_commits.specs.Beneath.machine_model.specs.Operations.{after_root}
-use Rattle.proof_commits.specs.Beneath.slot_arena.specs.Heaps.{main_at, prev_at, next_ref}
-use Rattle.proof_commits.specs.Beneath.machine_model.specs.declared.reading.Swap.{Swap}
-use Rattle.proof_commits.specs.Beneath.machine_model.specs.declared.reading.SwapLine.{SwapLine}
 use Rattle.proof_commits.specs.Beneath.machine_model.specs.declared.reading.SwapLine.TheVariants as swap
-use Rattle.proof_commits.specs.Beneath.machine_model.specs.declared.roots.CompleteLine.{CompleteLine}
 use Rattle.proof_commits.specs.Beneath.machine_model.specs.declared.roots.CompleteLine.TheVariants as complete
-use Rattle.proof_commits.specs.Beneath.machine_model.specs.Calls.{handle_of}
-use Rattle.proof_commits.specs.Beneath.machine_model.specs.States.{word_at}
-use Rattle.proof_commits.specs.Beneath.machine_model.specs.Reading.{read_after, at_indirection}
-use Rattle.proof_commits.specs.Beneath.machine_model.specs.Swapping.{after_deciding as swap_deciding, on_line, after_check, after_publish, after_reading, of_offer}
-use Rattle.proof_commits.specs.Beneath.machine_model.specs.Swapping.{after_completing, is_carried_out, is_plain}
-use Rattle.proof_commits.specs.Beneath.machine_model.specs.Renewing.{renew_after_read}
-use Rattle.proof_commits.specs.Beneath.machine_model.specs.Finding.{key_after_read}
-use Rattle.proof_commits.specs.Beneath.machine_model.specs.Cleaning.{clean_after_read, after_child}
-use Rattle.proof_commits.specs.Beneath.machine_model.specs.Climbing.{climb_after_read}
-use Rattle.proof_commits.specs.Beneath.machine_model.specs.Copying.{copy_after_read, copy_after_complete}
-use Rattle.proof_commits.specs.Beneath.machine_model.specs.Walking.{walk_after_read}
-use Rattle.proof_commits.specs.Beneath.machine_model.specs.Operations.{line_after, after_swap}
+use Rattle.proof_commits.specs.Beneath.machine_model.specs.Operations.{after_swap}
 use Rattle.proof_commits.proofs.Lines.Resting
 use Rattle.proof_commits.proofs.Lines.Resting.{AtRest, AfterMade}
 use Rattle.proof_commits.specs.Protocol.{Reads}

@@ -3,30 +3,15 @@ use Rattle.std.proofs.Common.{◌≡◌, ℕ, suc, ◌<◌, ◌≤◌, ◌⊎◌
 use Rattle.std.specs.Prelude.{is_some, nat_eq}
 use Rattle.std.specs.Option.{option_eq}
 use Rattle.std.proofs.lemmas.Bool.{cases_eq, true≢false, eq-eqb}
-use Rattle.proof_commits.specs.Beneath.history.specs.declared.calls.Access.{Access}
-use Rattle.proof_commits.specs.Beneath.history.specs.declared.calls.Access.TheVariants.{Writable, ReadOnly}
-use Rattle.proof_commits.specs.Beneath.slot_arena.specs.declared.refs.Ref.{Ref}
-use Rattle.proof_commits.specs.Beneath.slot_arena.specs.declared.nodes.Node.{Node}
-use Rattle.proof_commits.specs.Beneath.slot_arena.specs.declared.nodes.Prev.{Prev}
-use Rattle.proof_commits.specs.Beneath.slot_arena.specs.declared.nodes.Slot.{Slot}
+use Rattle.proof_commits.specs.Vocabulary.{Access, Writable, ReadOnly, Ref, Node, Prev, Slot, node_of, main_at, prev_at, generation_at, generation_of, main_changed, prev_changed, next_ref, Heap}
+use Rattle.proof_commits.specs.Vocabulary.{Action, ReadLine, RootWord, Plain, Offer, Bounds, State, Verdict, Commits, Fails, Overtaken, verdict, verdict_by, is_licensed, is_pending, read_action}
+use Rattle.proof_commits.specs.Vocabulary.{read_after, after_prev, after_ask, after_decide, after_restore, committed_by, committed_so, action_of, commits_after, grown, node_under, prev_word}
 use Rattle.proof_commits.specs.Beneath.slot_arena.specs.declared.nodes.Prev.TheVariants as over
-use Rattle.proof_commits.specs.Beneath.slot_arena.specs.Heaps.{node_of, main_at, prev_at, generation_at, generation_of, main_changed, prev_changed, next_ref, Heap}
-use Rattle.proof_commits.specs.Beneath.machine_model.specs.declared.actions.Action.{Action}
 use Rattle.proof_commits.specs.Beneath.machine_model.specs.declared.actions.Action.TheVariants as act
 use Rattle.proof_commits.specs.Beneath.machine_model.specs.declared.reading.After.TheVariants.{Goes}
-use Rattle.proof_commits.specs.Beneath.machine_model.specs.declared.reading.ReadLine.{ReadLine}
 use Rattle.proof_commits.specs.Beneath.machine_model.specs.declared.reading.ReadLine.TheVariants as read
-use Rattle.proof_commits.specs.Beneath.machine_model.specs.declared.roots.RootWord.{RootWord}
-use Rattle.proof_commits.specs.Beneath.machine_model.specs.declared.roots.RootWord.TheVariants.{Plain, Offer}
-use Rattle.proof_commits.specs.Beneath.machine_model.specs.declared.steps.Bounds.{Bounds}
 use Rattle.proof_commits.specs.Beneath.machine_model.specs.declared.steps.Step.TheVariants as step
-use Rattle.proof_commits.specs.Beneath.machine_model.specs.States.{State}
-use Rattle.proof_commits.specs.Beneath.machine_model.specs.Reading.{Verdict, Commits, Fails, Overtaken, verdict, verdict_by, is_licensed, is_pending, read_action, read_after}
-use Rattle.proof_commits.specs.Beneath.machine_model.specs.Reading.{after_prev, after_ask, after_decide, after_restore, committed_by, committed_so}
-use Rattle.proof_commits.specs.Beneath.machine_model.specs.Operations.{action_of}
-use Rattle.proof_commits.specs.Beneath.machine_model.specs.Records.{commits_after}
 use Rattle.proof_commits.specs.Beneath.machine_model.proofs.Times.{steps_at}
-use Rattle.proof_commits.specs.Beneath.machine_model.specs.Grown.{grown, node_under, prev_word}
 use Rattle.proof_commits.specs.Protocol.{Words, Kept, Leaves, ReadTurn, ReadsMain, FindsDecided, FindsFailed, FindsPending, DecidesAtOnce, Asks, FindsOffer, Aborts}
 use Rattle.proof_commits.specs.Protocol.{Commits as CommitsTurn, Fails as FailsTurn, Overtaken as OvertakenTurn, Restores, FindsAnother}
 use Rattle.proof_commits.proofs.Course.Finals.{from_time}

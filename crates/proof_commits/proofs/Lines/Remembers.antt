@@ -1,18 +1,10 @@
 -- A READ asks for the root on a writable handle alone.
 use Rattle.std.proofs.Common.{◌≡◌, Bool, true, false, ◌==◌, refl}
-use Rattle.proof_commits.specs.Beneath.history.specs.declared.calls.Access.{Access}
-use Rattle.proof_commits.specs.Beneath.history.specs.declared.calls.Access.TheVariants.{Writable, ReadOnly}
-use Rattle.proof_commits.specs.Beneath.slot_arena.specs.declared.refs.Ref.{Ref}
-use Rattle.proof_commits.specs.Beneath.slot_arena.specs.declared.nodes.Prev.{Prev}
+use Rattle.proof_commits.specs.Vocabulary.{Access, Writable, ReadOnly, Ref, Prev, Heap, main_at, prev_at, After, Gives, ReadLine, RootWord, Plain, Offer, Verdict, Commits, Fails, Overtaken, verdict}
+use Rattle.proof_commits.specs.Vocabulary.{read_after, after_prev, after_ask, after_decide, after_restore}
 use Rattle.proof_commits.specs.Beneath.slot_arena.specs.declared.nodes.Prev.TheVariants as over
-use Rattle.proof_commits.specs.Beneath.slot_arena.specs.Heaps.{Heap, main_at, prev_at}
-use Rattle.proof_commits.specs.Beneath.machine_model.specs.declared.reading.After.{After}
-use Rattle.proof_commits.specs.Beneath.machine_model.specs.declared.reading.After.TheVariants.{Goes, Gives}
-use Rattle.proof_commits.specs.Beneath.machine_model.specs.declared.reading.ReadLine.{ReadLine}
+use Rattle.proof_commits.specs.Beneath.machine_model.specs.declared.reading.After.TheVariants.{Goes}
 use Rattle.proof_commits.specs.Beneath.machine_model.specs.declared.reading.ReadLine.TheVariants as read
-use Rattle.proof_commits.specs.Beneath.machine_model.specs.declared.roots.RootWord.{RootWord}
-use Rattle.proof_commits.specs.Beneath.machine_model.specs.declared.roots.RootWord.TheVariants.{Plain, Offer}
-use Rattle.proof_commits.specs.Beneath.machine_model.specs.Reading.{Verdict, Commits, Fails, Overtaken, verdict, read_after, after_prev, after_ask, after_decide, after_restore}
 use Rattle.proof_commits.proofs.Lines.Stages.{ReadRemembers}
 
 -- of what comes after a step

@@ -2,43 +2,19 @@
 -- remembers.
 use Rattle.std.proofs.Common.{◌≡◌, ℕ, ◌-◌, Bool, true, false, List, [], ◌∷◌, ◌++◌, length, get_or, Option, Some, refl, sym, ◌∙◌, ap, length-append, arith}
 use Rattle.std.proofs.Math.Seq.{get_or-append_seam}
-use Rattle.proof_commits.specs.Beneath.history.specs.declared.calls.Access.{Access}
-use Rattle.proof_commits.specs.Beneath.history.specs.declared.calls.Access.TheVariants.{Writable, ReadOnly}
-use Rattle.proof_commits.specs.Beneath.history.specs.declared.calls.Call.{Call}
-use Rattle.proof_commits.specs.Beneath.history.specs.declared.calls.Call.TheVariants.{Get, Put, PutIfAbsent, Replace, ReplaceIf, Remove, RemoveIf, Clear, Snapshot, Freeze, Close, Entries, Count}
-use Rattle.proof_commits.specs.Beneath.slot_arena.specs.declared.refs.Ref.{Ref}
-use Rattle.proof_commits.specs.Beneath.slot_arena.specs.declared.nodes.Node.{Node}
-use Rattle.proof_commits.specs.Beneath.slot_arena.specs.declared.nodes.Node.TheVariants.{Indirection, Branch, Single, Tomb, List as Listed}
-use Rattle.proof_commits.specs.Beneath.slot_arena.specs.Heaps.{no_ref, node_at, entry_at, entries_of}
-use Rattle.proof_commits.specs.Beneath.machine_model.specs.declared.operations.Operation.{Operation}
-use Rattle.proof_commits.specs.Beneath.machine_model.specs.declared.reading.After.TheVariants.{Gives}
-use Rattle.proof_commits.specs.Beneath.machine_model.specs.declared.building.Site.{Site}
+use Rattle.proof_commits.specs.Vocabulary.{Access, Writable, ReadOnly, Call, Get, Put, PutIfAbsent, Replace, ReplaceIf, Remove, RemoveIf, Clear, Snapshot, Freeze, Close, Entries, Count, Ref, Node}
+use Rattle.proof_commits.specs.Vocabulary.{Indirection, Branch, Single, Tomb, List as Listed, no_ref, node_at, entry_at, entries_of, Operation, Gives, Site, BuildLine, WhenFound, Answers, Sets}
+use Rattle.proof_commits.specs.Vocabulary.{Removes, Climb, RootWord, Plain, Offer, Descriptor, Purpose, Line, when_found, State, current, above, after_root_word, renew_next, renew_after_entry}
+use Rattle.proof_commits.specs.Vocabulary.{renew_after_link, next_entry, absent, absent_beside, absent_listed, removing, found_so, after_tomb, key_after_main, key_after_entry, after_listed}
+use Rattle.proof_commits.specs.Vocabulary.{after_sibling, after_single, build_after_made, clean_next, clean_after_main, clean_after_entry, clean_after_tomb, climbing, higher, climb_after_main}
+use Rattle.proof_commits.specs.Vocabulary.{climb_after_root, after_given, after_successor, copy_after_made, copy_after_complete, after_offer, walk_next, walk_after_entry, after_root, after_update}
+use Rattle.proof_commits.specs.Vocabulary.{climbed_on, swapped}
 use Rattle.proof_commits.specs.Beneath.machine_model.specs.declared.building.Site.TheVariants as site
-use Rattle.proof_commits.specs.Beneath.machine_model.specs.declared.building.BuildLine.{BuildLine}
 use Rattle.proof_commits.specs.Beneath.machine_model.specs.declared.building.BuildLine.TheVariants as build
-use Rattle.proof_commits.specs.Beneath.machine_model.specs.declared.finding.WhenFound.{WhenFound}
-use Rattle.proof_commits.specs.Beneath.machine_model.specs.declared.finding.WhenFound.TheVariants.{Answers, Sets, Removes}
-use Rattle.proof_commits.specs.Beneath.machine_model.specs.declared.repairs.Climb.{Climb}
 use Rattle.proof_commits.specs.Beneath.machine_model.specs.declared.copying.CopyLine.TheVariants as copy
-use Rattle.proof_commits.specs.Beneath.machine_model.specs.declared.roots.RootWord.{RootWord}
-use Rattle.proof_commits.specs.Beneath.machine_model.specs.declared.roots.RootWord.TheVariants.{Plain, Offer}
-use Rattle.proof_commits.specs.Beneath.machine_model.specs.declared.roots.Descriptor.{Descriptor}
-use Rattle.proof_commits.specs.Beneath.machine_model.specs.declared.lines.Purpose.{Purpose}
 use Rattle.proof_commits.specs.Beneath.machine_model.specs.declared.lines.Purpose.TheVariants as purpose
-use Rattle.proof_commits.specs.Beneath.machine_model.specs.declared.lines.Line.{Line}
 use Rattle.proof_commits.specs.Beneath.machine_model.specs.declared.lines.Line.TheVariants as line
-use Rattle.proof_commits.specs.Beneath.machine_model.specs.Calls.{when_found}
-use Rattle.proof_commits.specs.Beneath.machine_model.specs.States.{State}
-use Rattle.proof_commits.specs.Beneath.machine_model.specs.Paths.{current, above}
-use Rattle.proof_commits.specs.Beneath.machine_model.specs.Swapping.{after_root_word}
-use Rattle.proof_commits.specs.Beneath.machine_model.specs.Renewing.{renew_next, renew_after_entry, renew_after_link, next_entry}
-use Rattle.proof_commits.specs.Beneath.machine_model.specs.Finding.{absent, absent_beside, absent_listed, removing, found_so, after_tomb, key_after_main, key_after_entry, after_listed, after_sibling}
-use Rattle.proof_commits.specs.Beneath.machine_model.specs.Building.{after_single, build_after_made}
-use Rattle.proof_commits.specs.Beneath.machine_model.specs.Cleaning.{clean_next, clean_after_main, clean_after_entry, clean_after_tomb}
-use Rattle.proof_commits.specs.Beneath.machine_model.specs.Climbing.{climbing, higher, climb_after_main, climb_after_root}
-use Rattle.proof_commits.specs.Beneath.machine_model.specs.Copying.{after_given, after_successor, copy_after_made, copy_after_complete, after_offer}
-use Rattle.proof_commits.specs.Beneath.machine_model.specs.Walking.{walk_next, walk_after_entry}
-use Rattle.proof_commits.specs.Beneath.machine_model.specs.Operations.{from_root, after_root, after_update, climbed_on, swapped}
+use Rattle.proof_commits.specs.Beneath.machine_model.specs.Operations.{from_root}
 use Rattle.proof_commits.specs.Protocol.{IsAtRest, HasMade}
 use Rattle.proof_commits.proofs.Lines.Stages.{Remembers}
 use Rattle.proof_commits.specs.Stages.{stage_of}

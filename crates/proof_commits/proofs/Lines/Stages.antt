@@ -1,50 +1,23 @@
 -- What an operation on a line is about with main words, and what the line remembers.
 use Rattle.std.proofs.Common.{◌≡◌, ℕ, List, arith, refl, Some}
-use Rattle.proof_commits.specs.Beneath.slot_arena.specs.declared.refs.Ref.{Ref}
-use Rattle.proof_commits.specs.Beneath.machine_model.specs.declared.operations.Operation.{Operation}
-use Rattle.proof_commits.specs.Beneath.machine_model.specs.declared.reading.ReadLine.{ReadLine}
+use Rattle.proof_commits.specs.Vocabulary.{Ref, Operation, ReadLine, SwapLine, Descriptor, CompleteLine, RootLine, KeyLine, BuildLine, RenewLine, CleanLine, ClimbLine, CopyLine, WalkLine, Line}
+use Rattle.proof_commits.specs.Vocabulary.{current, above, After, key_after_read, renew_after_read, clean_after_read, after_child, climb_after_read, walk_after_read, copy_after_read}
+use Rattle.proof_commits.specs.Vocabulary.{copy_after_complete, after_given, after_root, first_line, at_indirection, of_offer, after_completing, after_reading, Climb, Gives, given_up, Reply, Call}
 use Rattle.proof_commits.specs.Beneath.machine_model.specs.declared.reading.ReadLine.TheVariants as read
-use Rattle.proof_commits.specs.Beneath.machine_model.specs.declared.reading.SwapLine.{SwapLine}
 use Rattle.proof_commits.specs.Beneath.machine_model.specs.declared.reading.SwapLine.TheVariants as swap
-use Rattle.proof_commits.specs.Beneath.machine_model.specs.declared.roots.Descriptor.{Descriptor}
-use Rattle.proof_commits.specs.Beneath.machine_model.specs.declared.roots.CompleteLine.{CompleteLine}
 use Rattle.proof_commits.specs.Beneath.machine_model.specs.declared.roots.CompleteLine.TheVariants as complete
-use Rattle.proof_commits.specs.Beneath.machine_model.specs.declared.roots.RootLine.{RootLine}
 use Rattle.proof_commits.specs.Beneath.machine_model.specs.declared.roots.RootLine.TheVariants as root
-use Rattle.proof_commits.specs.Beneath.machine_model.specs.declared.finding.KeyLine.{KeyLine}
 use Rattle.proof_commits.specs.Beneath.machine_model.specs.declared.finding.KeyLine.TheVariants as key
-use Rattle.proof_commits.specs.Beneath.machine_model.specs.declared.building.BuildLine.{BuildLine}
 use Rattle.proof_commits.specs.Beneath.machine_model.specs.declared.building.BuildLine.TheVariants as build
-use Rattle.proof_commits.specs.Beneath.machine_model.specs.declared.repairs.RenewLine.{RenewLine}
 use Rattle.proof_commits.specs.Beneath.machine_model.specs.declared.repairs.RenewLine.TheVariants as renew
-use Rattle.proof_commits.specs.Beneath.machine_model.specs.declared.repairs.CleanLine.{CleanLine}
 use Rattle.proof_commits.specs.Beneath.machine_model.specs.declared.repairs.CleanLine.TheVariants as clean
-use Rattle.proof_commits.specs.Beneath.machine_model.specs.declared.repairs.ClimbLine.{ClimbLine}
 use Rattle.proof_commits.specs.Beneath.machine_model.specs.declared.repairs.ClimbLine.TheVariants as climb
-use Rattle.proof_commits.specs.Beneath.machine_model.specs.declared.copying.CopyLine.{CopyLine}
 use Rattle.proof_commits.specs.Beneath.machine_model.specs.declared.copying.CopyLine.TheVariants as copy
-use Rattle.proof_commits.specs.Beneath.machine_model.specs.declared.walking.WalkLine.{WalkLine}
 use Rattle.proof_commits.specs.Beneath.machine_model.specs.declared.walking.WalkLine.TheVariants as walk
-use Rattle.proof_commits.specs.Beneath.machine_model.specs.declared.lines.Line.{Line}
 use Rattle.proof_commits.specs.Beneath.machine_model.specs.declared.lines.Line.TheVariants as line
-use Rattle.proof_commits.specs.Beneath.machine_model.specs.Paths.{current, above}
 use Rattle.proof_commits.specs.Protocol.{Rests, after_read, IsFree}
 use Rattle.proof_commits.specs.Stages.{stage_of, stage_of_complete}
-use Rattle.proof_commits.specs.Beneath.machine_model.specs.declared.reading.After.{After}
-use Rattle.proof_commits.specs.Beneath.machine_model.specs.Finding.{key_after_read}
-use Rattle.proof_commits.specs.Beneath.machine_model.specs.Renewing.{renew_after_read}
-use Rattle.proof_commits.specs.Beneath.machine_model.specs.Cleaning.{clean_after_read, after_child}
-use Rattle.proof_commits.specs.Beneath.machine_model.specs.Climbing.{climb_after_read}
-use Rattle.proof_commits.specs.Beneath.machine_model.specs.Walking.{walk_after_read}
-use Rattle.proof_commits.specs.Beneath.machine_model.specs.Copying.{copy_after_read, copy_after_complete, after_given}
-use Rattle.proof_commits.specs.Beneath.machine_model.specs.Operations.{after_root, first_line}
-use Rattle.proof_commits.specs.Beneath.machine_model.specs.Reading.{at_indirection}
-use Rattle.proof_commits.specs.Beneath.machine_model.specs.Swapping.{of_offer, after_completing, after_reading}
-use Rattle.proof_commits.specs.Beneath.machine_model.specs.declared.repairs.Climb.{Climb}
-use Rattle.proof_commits.specs.Beneath.machine_model.specs.declared.reading.After.TheVariants.{Goes, Gives}
-use Rattle.proof_commits.specs.Beneath.machine_model.specs.GivingUp.{given_up}
-use Rattle.proof_commits.specs.Beneath.history.specs.declared.replies.Reply.{Reply}
-use Rattle.proof_commits.specs.Beneath.history.specs.declared.calls.Call.{Call}
+use Rattle.proof_commits.specs.Beneath.machine_model.specs.declared.reading.After.TheVariants.{Goes}
 
 -- ---- what an operation is about
 

@@ -1,17 +1,9 @@
 -- From what an actor is about back to its line.
 use Rattle.std.proofs.Common.{◌≡◌, Option, Some, None, refl, sym, ◌∙◌, ap, subst, arith, ◌⊎◌, inl, inr}
 use Rattle.std.proofs.lemmas.Option.{none-some}
-use Rattle.proof_commits.specs.Beneath.slot_arena.specs.declared.refs.Ref.{Ref}
-use Rattle.proof_commits.specs.Beneath.machine_model.specs.declared.operations.Operation.{Operation}
-use Rattle.proof_commits.specs.Beneath.machine_model.specs.declared.reading.Read.{Read}
-use Rattle.proof_commits.specs.Beneath.machine_model.specs.declared.reading.ReadLine.{ReadLine}
-use Rattle.proof_commits.specs.Beneath.machine_model.specs.declared.reading.Swap.{Swap}
-use Rattle.proof_commits.specs.Beneath.machine_model.specs.declared.reading.SwapLine.{SwapLine}
+use Rattle.proof_commits.specs.Vocabulary.{Ref, Operation, Read, ReadLine, Swap, SwapLine, Purpose, Line, read_of}
 use Rattle.proof_commits.specs.Beneath.machine_model.specs.declared.reading.SwapLine.TheVariants as swap
-use Rattle.proof_commits.specs.Beneath.machine_model.specs.declared.lines.Purpose.{Purpose}
-use Rattle.proof_commits.specs.Beneath.machine_model.specs.declared.lines.Line.{Line}
 use Rattle.proof_commits.specs.Beneath.machine_model.specs.declared.lines.Line.TheVariants as line
-use Rattle.proof_commits.specs.Beneath.machine_model.specs.Operations.{read_of}
 use Rattle.proof_commits.specs.Protocol.{Stage, Reads, Publishes, Decides, Checks}
 use Rattle.proof_commits.proofs.Known.Owners.{HasFresh}
 use Rattle.proof_commits.specs.Stages.{stage_of, stage_of_swap, stage_of_actor}

@@ -1,72 +1,28 @@
 -- Each line of each program is a turn of the protocol.
 use Rattle.std.proofs.Common.{◌≡◌, ℕ, suc, ◌-◌, ◌<◌, ◌≤◌, Bool, true, false, ◌==◌, List, [], ◌++◌, Option, Some, None, inl, inr, refl, sym, ◌∙◌, ap, subst, eqb-true, arith}
 use Rattle.std.proofs.lemmas.Bool.{true≢false}
-use Rattle.proof_commits.specs.Beneath.history.specs.declared.calls.Access.TheVariants.{Writable}
-use Rattle.proof_commits.specs.Beneath.slot_arena.specs.declared.refs.Ref.{Ref}
-use Rattle.proof_commits.specs.Beneath.slot_arena.specs.declared.nodes.Node.{Node}
-use Rattle.proof_commits.specs.Beneath.slot_arena.specs.declared.nodes.Prev.{Prev}
+use Rattle.proof_commits.specs.Vocabulary.{Writable, Ref, Node, Prev, Heap, node_at, entry_at, entries_of, Operation, After, Gives, ReadLine, BuildLine, KeyLine, RenewLine, CleanLine, Climb}
+use Rattle.proof_commits.specs.Vocabulary.{ClimbLine, CopyLine, WalkLine, RootLine, RootWord, Plain, Descriptor, Purpose, Line, State, renew_after_link, renew_after_branch, next_entry, found}
+use Rattle.proof_commits.specs.Vocabulary.{after_single, after_link, build_if_made, clean_after_contracted, climb_after_contracted, climb_after_root, copy_if_made, first_of, rest_of, after_root}
+use Rattle.proof_commits.specs.Vocabulary.{main_at, prev_at, generation_at, node_of, main_of, next_ref, Swap, SwapLine, CompleteLine, Bounds, handle_of, word_at, root_of, read_action, read_after}
+use Rattle.proof_commits.specs.Vocabulary.{at_indirection, committed_by, reading, committed_in, after_deciding as swap_deciding, on_line, after_check, after_publish, after_reading, of_offer}
+use Rattle.proof_commits.specs.Vocabulary.{after_completing, is_carried_out, is_plain, renew_after_read, key_after_read, clean_after_read, after_child, climb_after_read, copy_after_read}
+use Rattle.proof_commits.specs.Vocabulary.{copy_after_complete, walk_after_read, line_action, line_after, read_of, commits_after, node_under, GoesOn, Site}
 use Rattle.proof_commits.specs.Beneath.slot_arena.specs.declared.nodes.Prev.TheVariants as over
-use Rattle.proof_commits.specs.Beneath.slot_arena.specs.Heaps.{Heap, node_at, entry_at, entries_of}
-use Rattle.proof_commits.specs.Beneath.machine_model.specs.declared.operations.Operation.{Operation}
-use Rattle.proof_commits.specs.Beneath.machine_model.specs.declared.reading.After.{After}
-use Rattle.proof_commits.specs.Beneath.machine_model.specs.declared.reading.After.TheVariants.{Goes, Gives}
-use Rattle.proof_commits.specs.Beneath.machine_model.specs.declared.reading.ReadLine.{ReadLine}
+use Rattle.proof_commits.specs.Beneath.machine_model.specs.declared.reading.After.TheVariants.{Goes}
 use Rattle.proof_commits.specs.Beneath.machine_model.specs.declared.reading.ReadLine.TheVariants as read
-use Rattle.proof_commits.specs.Beneath.machine_model.specs.declared.building.BuildLine.{BuildLine}
 use Rattle.proof_commits.specs.Beneath.machine_model.specs.declared.building.BuildLine.TheVariants as build
-use Rattle.proof_commits.specs.Beneath.machine_model.specs.declared.finding.KeyLine.{KeyLine}
 use Rattle.proof_commits.specs.Beneath.machine_model.specs.declared.finding.KeyLine.TheVariants as key
-use Rattle.proof_commits.specs.Beneath.machine_model.specs.declared.repairs.RenewLine.{RenewLine}
 use Rattle.proof_commits.specs.Beneath.machine_model.specs.declared.repairs.RenewLine.TheVariants as renew
-use Rattle.proof_commits.specs.Beneath.machine_model.specs.declared.repairs.CleanLine.{CleanLine}
 use Rattle.proof_commits.specs.Beneath.machine_model.specs.declared.repairs.CleanLine.TheVariants as clean
-use Rattle.proof_commits.specs.Beneath.machine_model.specs.declared.repairs.Climb.{Climb}
-use Rattle.proof_commits.specs.Beneath.machine_model.specs.declared.repairs.ClimbLine.{ClimbLine}
 use Rattle.proof_commits.specs.Beneath.machine_model.specs.declared.repairs.ClimbLine.TheVariants as climb
-use Rattle.proof_commits.specs.Beneath.machine_model.specs.declared.copying.CopyLine.{CopyLine}
 use Rattle.proof_commits.specs.Beneath.machine_model.specs.declared.copying.CopyLine.TheVariants as copy
-use Rattle.proof_commits.specs.Beneath.machine_model.specs.declared.walking.WalkLine.{WalkLine}
 use Rattle.proof_commits.specs.Beneath.machine_model.specs.declared.walking.WalkLine.TheVariants as walk
-use Rattle.proof_commits.specs.Beneath.machine_model.specs.declared.roots.RootLine.{RootLine}
 use Rattle.proof_commits.specs.Beneath.machine_model.specs.declared.roots.RootLine.TheVariants as root
-use Rattle.proof_commits.specs.Beneath.machine_model.specs.declared.roots.RootWord.{RootWord}
-use Rattle.proof_commits.specs.Beneath.machine_model.specs.declared.roots.RootWord.TheVariants.{Plain}
-use Rattle.proof_commits.specs.Beneath.machine_model.specs.declared.roots.Descriptor.{Descriptor}
-use Rattle.proof_commits.specs.Beneath.machine_model.specs.declared.lines.Purpose.{Purpose}
-use Rattle.proof_commits.specs.Beneath.machine_model.specs.declared.lines.Line.{Line}
 use Rattle.proof_commits.specs.Beneath.machine_model.specs.declared.lines.Line.TheVariants as line
-use Rattle.proof_commits.specs.Beneath.machine_model.specs.States.{State}
-use Rattle.proof_commits.specs.Beneath.machine_model.specs.Renewing.{renew_after_link, renew_after_branch, next_entry}
-use Rattle.proof_commits.specs.Beneath.machine_model.specs.Finding.{found}
-use Rattle.proof_commits.specs.Beneath.machine_model.specs.Building.{after_single, after_link, build_if_made}
-use Rattle.proof_commits.specs.Beneath.machine_model.specs.Cleaning.{clean_after_contracted}
-use Rattle.proof_commits.specs.Beneath.machine_model.specs.Climbing.{climb_after_contracted, climb_after_root}
-use Rattle.proof_commits.specs.Beneath.machine_model.specs.Copying.{copy_if_made}
-use Rattle.proof_commits.specs.Beneath.machine_model.specs.Walking.{first_of, rest_of}
-use Rattle.proof_commits.specs.Beneath.machine_model.specs.Operations.{after_root}
-use Rattle.proof_commits.specs.Beneath.slot_arena.specs.Heaps.{main_at, prev_at, generation_at, node_of, main_of, next_ref}
-use Rattle.proof_commits.specs.Beneath.machine_model.specs.declared.reading.Swap.{Swap}
-use Rattle.proof_commits.specs.Beneath.machine_model.specs.declared.reading.SwapLine.{SwapLine}
 use Rattle.proof_commits.specs.Beneath.machine_model.specs.declared.reading.SwapLine.TheVariants as swap
-use Rattle.proof_commits.specs.Beneath.machine_model.specs.declared.roots.CompleteLine.{CompleteLine}
 use Rattle.proof_commits.specs.Beneath.machine_model.specs.declared.roots.CompleteLine.TheVariants as complete
-use Rattle.proof_commits.specs.Beneath.machine_model.specs.declared.steps.Bounds.{Bounds}
-use Rattle.proof_commits.specs.Beneath.machine_model.specs.Calls.{handle_of}
-use Rattle.proof_commits.specs.Beneath.machine_model.specs.States.{word_at, root_of}
-use Rattle.proof_commits.specs.Beneath.machine_model.specs.Reading.{read_action, read_after, at_indirection, committed_by, reading}
-use Rattle.proof_commits.specs.Beneath.machine_model.specs.Tellings.{committed_in}
-use Rattle.proof_commits.specs.Beneath.machine_model.specs.Swapping.{after_deciding as swap_deciding, on_line, after_check, after_publish, after_reading, of_offer}
-use Rattle.proof_commits.specs.Beneath.machine_model.specs.Swapping.{after_completing, is_carried_out, is_plain}
-use Rattle.proof_commits.specs.Beneath.machine_model.specs.Renewing.{renew_after_read}
-use Rattle.proof_commits.specs.Beneath.machine_model.specs.Finding.{key_after_read}
-use Rattle.proof_commits.specs.Beneath.machine_model.specs.Cleaning.{clean_after_read, after_child}
-use Rattle.proof_commits.specs.Beneath.machine_model.specs.Climbing.{climb_after_read}
-use Rattle.proof_commits.specs.Beneath.machine_model.specs.Copying.{copy_after_read, copy_after_complete}
-use Rattle.proof_commits.specs.Beneath.machine_model.specs.Walking.{walk_after_read}
-use Rattle.proof_commits.specs.Beneath.machine_model.specs.Operations.{line_action, line_after, read_of, after_swap}
-use Rattle.proof_commits.specs.Beneath.machine_model.specs.Records.{commits_after}
-use Rattle.proof_commits.specs.Beneath.machine_model.specs.Grown.{node_under}
-use Rattle.proof_commits.specs.Beneath.machine_model.specs.Moves.{GoesOn}
+use Rattle.proof_commits.specs.Beneath.machine_model.specs.Operations.{after_swap}
 use Rattle.proof_commits.specs.Protocol.{Words, HasMade, Stage, Rests, Reads, Builds, Publishes, Decides, Checks, IsFree, MayName, Given, ReadTurn, Moves, Idles, MakesNode}
 use Rattle.proof_commits.specs.Protocol.{SwapsNode, ReadsOn, DecidesOn, after_read}
 use Rattle.proof_commits.proofs.Lines.Stages.{ReadRemembers, Remembers, key_stage, renew_stage, clean_stage, child_stage, climb_stage, walk_stage, copy_stage}
@@ -77,7 +33,6 @@ use Rattle.proof_commits.proofs.Words.OfRuns.{leaves_words, swaps_words, makes_w
 use Rattle.proof_commits.specs.Words.{words_of}
 use Rattle.proof_commits.proofs.Lines.Read.{no_commit, solid_stays, read_turn}
 use Rattle.std.specs.Prelude.{is_some}
-use Rattle.proof_commits.specs.Beneath.machine_model.specs.declared.building.Site.{Site}
 use Rattle.proof_commits.specs.Beneath.machine_model.specs.declared.building.Site.TheVariants as site
 use Rattle.proof_commits.proofs.Lines.Reads.{ReadsSo, on_stage}
 use Rattle.proof_commits.proofs.Lines.Resting

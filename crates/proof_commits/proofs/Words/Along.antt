@@ -1,30 +1,13 @@
 -- The words of a run are those of a protocol; and each line remembers as main nodes what READs gave.
 use Rattle.std.proofs.Common.{◌≡◌, ℕ, suc, ◌<◌, ◌≤◌, ◌⊎◌, ◌==◌, Option, Some, None, option_map, find, inl, inr, sym, ◌∙◌, ap, subst, arith}
-use Rattle.proof_commits.specs.Beneath.history.specs.declared.calls.Access.TheVariants.{Writable}
-use Rattle.proof_commits.specs.Beneath.history.specs.declared.calls.Call.{Call}
-use Rattle.proof_commits.specs.Beneath.slot_arena.specs.declared.refs.Ref.{Ref}
-use Rattle.proof_commits.specs.Beneath.machine_model.specs.declared.records.Commit.{Commit}
-use Rattle.proof_commits.specs.Beneath.machine_model.specs.declared.operations.Operation.{Operation}
-use Rattle.proof_commits.specs.Beneath.machine_model.specs.declared.reading.ReadLine.{ReadLine}
-use Rattle.proof_commits.specs.Beneath.machine_model.specs.declared.steps.Bounds.{Bounds}
+use Rattle.proof_commits.specs.Vocabulary.{Writable, Call, Ref, Commit, Operation, ReadLine, Bounds, State, operation_of, word_at, read_after, line_after, action_of, Moment, Record, commits_after}
+use Rattle.proof_commits.specs.Vocabulary.{moment_after, moment_at, no_moment, noted_progress, read_at_after, committed_now, counts_from, progress_of, gone, operation_after, settled}
+use Rattle.proof_commits.specs.Vocabulary.{begun_operation, Outcome, Gives, handle_of, IsRun, go_denial}
 use Rattle.proof_commits.specs.Beneath.machine_model.specs.declared.steps.Step.TheVariants as step
-use Rattle.proof_commits.specs.Beneath.machine_model.specs.States.{State, operation_of, word_at}
-use Rattle.proof_commits.specs.Beneath.machine_model.specs.Reading.{read_after}
-use Rattle.proof_commits.specs.Beneath.machine_model.specs.Operations.{line_after, action_of}
-use Rattle.proof_commits.specs.Beneath.machine_model.specs.declared.records.Moment.{Moment}
-use Rattle.proof_commits.specs.Beneath.machine_model.specs.Records.{Record, commits_after, moment_after, moment_at, no_moment, noted_progress, read_at_after}
-use Rattle.proof_commits.specs.Beneath.machine_model.specs.Tellings.{committed_now, counts_from, progress_of}
 use Rattle.proof_commits.specs.Beneath.machine_model.proofs.Alike.{alike, go_actor, moment_others, moment_own}
-use Rattle.proof_commits.specs.Beneath.machine_model.specs.Acting.{gone, operation_after}
-use Rattle.proof_commits.specs.Beneath.machine_model.specs.Counting.{settled}
-use Rattle.proof_commits.specs.Beneath.machine_model.specs.Moves.{begun_operation}
 use Rattle.proof_commits.specs.Beneath.machine_model.specs.Moves as Machine
-use Rattle.proof_commits.specs.Beneath.machine_model.specs.declared.steps.Outcome.{Outcome}
-use Rattle.proof_commits.specs.Beneath.machine_model.specs.declared.reading.After.TheVariants.{Gives}
-use Rattle.proof_commits.specs.Beneath.machine_model.specs.Calls.{handle_of}
 use Rattle.proof_commits.specs.Beneath.machine_model.proofs.Actors.{marks_by, begin_counts}
 use Rattle.proof_commits.specs.Beneath.machine_model.proofs.Times.{steps_at}
-use Rattle.proof_commits.specs.Beneath.machine_model.specs.Times.{IsRun}
 use Rattle.proof_memory.proofs.Safety.Held.{idle_before}
 use Rattle.proof_commits.specs.Protocol.{Words, Stage, Rests, Reads, Leaves, Given, ReadTurn, IsFree, IsAtRest, Moves, Idles, Counts, IsSame, Turn, Acts, Passes, Protocol}
 use Rattle.proof_commits.proofs.Known.Owners.{given_later}
@@ -40,7 +23,6 @@ use Rattle.proof_commits.proofs.Lines.Turns.{LineFacts, NextLine, line_turn, own
 use Rattle.proof_commits.proofs.Lines.Each.{OfActor, each_remembers}
 use Rattle.proof_commits.proofs.Lines.Reads.{CountsTo, line_counts, ends_at_end}
 use Rattle.proof_commits.proofs.Words.First.{prev_at_first, made_at_first, idle_at_first}
-use Rattle.proof_commits.specs.Beneath.machine_model.specs.Machine.{go_denial}
 use Rattle.proof_commits.proofs.Lines.Stages.{given_up_free}
 
 -- ---- what a READ gives

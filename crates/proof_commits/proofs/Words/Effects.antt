@@ -1,7 +1,7 @@
 -- What one step does to words, with what is known of the nodes that it writes; and that what is known of words stays known.
 use Rattle.std.proofs.Common.{◌≡◌, ℕ, suc, ◌⊎◌, true, inl, inr, sym, ◌∙◌, ap, subst}
 use Rattle.std.proofs.lemmas.Bool.{cases_eq}
-use Rattle.proof_commits.specs.Beneath.slot_arena.specs.declared.refs.Ref.{Ref}
+use Rattle.proof_commits.specs.Vocabulary.{Ref}
 use Rattle.proof_commits.specs.Beneath.slot_arena.specs.declared.nodes.Prev.TheVariants as over
 use Rattle.proof_commits.specs.Protocol.{Words, Leaves, Makes, SwapsIn, PutsBack, CommitsNode, FailsNode}
 use Rattle.proof_commits.proofs.Words.Stood.{Stood, Decided, Private, IsOver, StandsOver, AreSound, stood_later, stands_now, stood_cases, none≢pending, pending≢failed}

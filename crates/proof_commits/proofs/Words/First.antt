@@ -2,17 +2,10 @@
 use Rattle.std.proofs.Common.{◌≡◌, ℕ, zero, suc, ◌-◌, ◌≤◌, Bool, true, false, cond, ◌==◌, List, ◌∷◌, get_or, replicate, Option, Some, None, refl, sym, ◌∙◌, ap, arith}
 use Rattle.std.specs.Prelude.{is_some}
 use Rattle.std.proofs.lemmas.Bool.{true≢false}
-use Rattle.proof_commits.specs.Beneath.slot_arena.specs.Refs.{ref_to, slot_of, birth_of}
-use Rattle.proof_commits.specs.Beneath.slot_arena.specs.declared.refs.Ref.{Ref}
-use Rattle.proof_commits.specs.Beneath.slot_arena.specs.declared.nodes.Node.TheVariants.{Indirection}
+use Rattle.proof_commits.specs.Vocabulary.{ref_to, slot_of, birth_of, Ref, Indirection, Slot, stored, node_of, prev_of, main_of, taken, empty_branch, Bounds, State, first_state, first_heap}
+use Rattle.proof_commits.specs.Vocabulary.{operation_of, AreBounds, grown, standing, of_birth}
 use Rattle.proof_commits.specs.Beneath.slot_arena.specs.declared.nodes.Prev.TheVariants as over
-use Rattle.proof_commits.specs.Beneath.slot_arena.specs.declared.nodes.Slot.{Slot}
-use Rattle.proof_commits.specs.Beneath.slot_arena.specs.Heaps.{stored, node_of, prev_of, main_of, taken, empty_branch}
-use Rattle.proof_commits.specs.Beneath.machine_model.specs.declared.steps.Bounds.{Bounds}
-use Rattle.proof_commits.specs.Beneath.machine_model.specs.States.{State, first_state, first_heap, operation_of}
-use Rattle.proof_commits.specs.Beneath.machine_model.specs.Machine.{AreBounds}
 use Rattle.proof_commits.specs.Beneath.machine_model.proofs.Found.{none_found}
-use Rattle.proof_commits.specs.Beneath.machine_model.specs.Grown.{grown, standing, of_birth}
 use Rattle.proof_memory.specs.Wants.{is_indirection}
 
 -- the slots of the first heap

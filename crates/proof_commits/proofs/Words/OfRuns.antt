@@ -2,21 +2,14 @@
 use Rattle.std.proofs.Common.{◌≡◌, ℕ, suc, ◌⊎◌, true, Option, Some, None, option_map, inl, inr, refl, sym, ◌∙◌, ap}
 use Rattle.std.specs.Prelude.{is_some}
 use Rattle.std.proofs.lemmas.Bool.{cases_eq, true≢false}
-use Rattle.proof_commits.specs.Beneath.slot_arena.specs.declared.refs.Ref.{Ref}
-use Rattle.proof_commits.specs.Beneath.slot_arena.specs.declared.nodes.Node.{Node}
-use Rattle.proof_commits.specs.Beneath.slot_arena.specs.declared.nodes.Node.TheVariants.{Indirection, Branch, Single, Tomb, List as Listed}
-use Rattle.proof_commits.specs.Beneath.slot_arena.specs.declared.nodes.Prev.{Prev}
+use Rattle.proof_commits.specs.Vocabulary.{Ref, Node, Indirection, Branch, Single, Tomb, List as Listed, Prev, Slot, node_of, prev_of, main_of, generation_of, with_main_word, main_changed}
+use Rattle.proof_commits.specs.Vocabulary.{prev_changed, State, grown, node_under, main_word, prev_word, Record}
 use Rattle.proof_commits.specs.Beneath.slot_arena.specs.declared.nodes.Prev.TheVariants as over
-use Rattle.proof_commits.specs.Beneath.slot_arena.specs.declared.nodes.Slot.{Slot}
-use Rattle.proof_commits.specs.Beneath.slot_arena.specs.Heaps.{node_of, prev_of, main_of, generation_of, with_main_word, main_changed, prev_changed}
-use Rattle.proof_commits.specs.Beneath.machine_model.specs.States.{State}
-use Rattle.proof_commits.specs.Beneath.machine_model.specs.Grown.{grown, node_under, main_word, prev_word}
 use Rattle.proof_commits.specs.Protocol.{Words, Kept, Written, MakesNothing, Leaves, Makes, SwapsIn, PutsBack, CommitsNode, FailsNode}
 use Rattle.proof_commits.proofs.Known.Given.{GrownStays, GrownChanges, GrownSwaps, GrownTakes}
 use Rattle.proof_memory.specs.Wants.{is_indirection, is_branch_or_list}
 use Rattle.proof_commits.specs.Words.{words_of}
 use Rattle.proof_commits.specs.Beneath.machine_model.proofs.Slots.{change_kept}
-use Rattle.proof_commits.specs.Beneath.machine_model.specs.Records.{Record}
 
 -- ---- a slot with another main word, or another prev word
 

@@ -1,54 +1,21 @@
 -- A call's own change takes away a value with which the call answers that it changed its key.
 use Rattle.std.proofs.Common.{◌≡◌, ℕ, suc, ◌+◌, ◌-◌, ◌≤◌, ◌<◌, ◌==◌, ◌&&◌, Bool, true, false, nat_lt, nat_le, List, [], length, Option, Some, None, refl, sym, ap, ◌∙◌, subst, arith}
 use Rattle.std.proofs.lemmas.Bool.{cond_both}
-use Rattle.proof_order.specs.Beneath.history.specs.declared.calls.Access.{Access}
-use Rattle.proof_order.specs.Beneath.history.specs.declared.calls.Access.TheVariants.{Writable, ReadOnly}
-use Rattle.proof_order.specs.Beneath.history.specs.declared.calls.Call.{Call}
-use Rattle.proof_order.specs.Beneath.slot_arena.specs.declared.refs.Ref.{Ref}
-use Rattle.proof_order.specs.Beneath.slot_arena.specs.declared.nodes.Node.{Node}
-use Rattle.proof_order.specs.Beneath.slot_arena.specs.declared.nodes.Node.TheVariants.{Indirection, Branch, Single, Tomb, List as Listed}
-use Rattle.proof_order.specs.Beneath.slot_arena.specs.Heaps.{node_at, entry_at, entries_of, next_ref}
-use Rattle.proof_order.specs.Beneath.nodes.specs.Levels.{has_flag}
-use Rattle.proof_order.specs.Beneath.machine_model.specs.declared.building.Site.{Site}
+use Rattle.proof_order.specs.Vocabulary.{Access, Writable, ReadOnly, Call, Ref, Node, Indirection, Branch, Single, Tomb, List as Listed, node_at, entry_at, entries_of, next_ref, has_flag, Site}
+use Rattle.proof_order.specs.Vocabulary.{BuildLine, CopyLine, KeyLine, WhenFound, Answers, Sets, Removes, Line, Purpose, Operation, After, Gives, Read, Swap, CleanLine, ClimbLine, RenewLine}
+use Rattle.proof_order.specs.Vocabulary.{RootLine, Bounds, Step, WalkLine, State, word_at, key_of, inserts, when_found, handle_of, depth_of, flag_in, is_below_root, absent, removing, found_so}
+use Rattle.proof_order.specs.Vocabulary.{key_after_read, key_after_main, key_after_entry, after_listed, after_sibling, after_tomb, is_passable, renew_next, after_single, after_link}
+use Rattle.proof_order.specs.Vocabulary.{build_after_made, build_if_made, swap_after, read_step, first_line, line_after, swapped, operation_after, turns, IsRun, Turn}
 use Rattle.proof_order.specs.Beneath.machine_model.specs.declared.building.Site.TheVariants as site
-use Rattle.proof_order.specs.Beneath.machine_model.specs.declared.building.BuildLine.{BuildLine}
 use Rattle.proof_order.specs.Beneath.machine_model.specs.declared.building.BuildLine.TheVariants as build
-use Rattle.proof_order.specs.Beneath.machine_model.specs.declared.copying.CopyLine.{CopyLine}
 use Rattle.proof_order.specs.Beneath.machine_model.specs.declared.copying.CopyLine.TheVariants as copy
-use Rattle.proof_order.specs.Beneath.machine_model.specs.declared.finding.KeyLine.{KeyLine}
 use Rattle.proof_order.specs.Beneath.machine_model.specs.declared.finding.KeyLine.TheVariants as key
-use Rattle.proof_order.specs.Beneath.machine_model.specs.declared.finding.WhenFound.{WhenFound}
-use Rattle.proof_order.specs.Beneath.machine_model.specs.declared.finding.WhenFound.TheVariants.{Answers, Sets, Removes}
-use Rattle.proof_order.specs.Beneath.machine_model.specs.declared.lines.Line.{Line}
 use Rattle.proof_order.specs.Beneath.machine_model.specs.declared.lines.Line.TheVariants as line
-use Rattle.proof_order.specs.Beneath.machine_model.specs.declared.lines.Purpose.{Purpose}
 use Rattle.proof_order.specs.Beneath.machine_model.specs.declared.lines.Purpose.TheVariants as purpose
-use Rattle.proof_order.specs.Beneath.machine_model.specs.declared.operations.Operation.{Operation}
-use Rattle.proof_order.specs.Beneath.machine_model.specs.declared.reading.After.{After}
-use Rattle.proof_order.specs.Beneath.machine_model.specs.declared.reading.After.TheVariants.{Goes as Continues, Gives}
-use Rattle.proof_order.specs.Beneath.machine_model.specs.declared.reading.Read.{Read}
-use Rattle.proof_order.specs.Beneath.machine_model.specs.declared.reading.Swap.{Swap}
-use Rattle.proof_order.specs.Beneath.machine_model.specs.declared.repairs.CleanLine.{CleanLine}
-use Rattle.proof_order.specs.Beneath.machine_model.specs.declared.repairs.ClimbLine.{ClimbLine}
-use Rattle.proof_order.specs.Beneath.machine_model.specs.declared.repairs.RenewLine.{RenewLine}
-use Rattle.proof_order.specs.Beneath.machine_model.specs.declared.roots.RootLine.{RootLine}
-use Rattle.proof_order.specs.Beneath.machine_model.specs.declared.steps.Bounds.{Bounds}
-use Rattle.proof_order.specs.Beneath.machine_model.specs.declared.steps.Step.{Step}
-use Rattle.proof_order.specs.Beneath.machine_model.specs.declared.walking.WalkLine.{WalkLine}
-use Rattle.proof_order.specs.Beneath.machine_model.specs.States.{State, word_at}
-use Rattle.proof_order.specs.Beneath.machine_model.specs.Calls.{key_of, inserts, when_found, handle_of}
-use Rattle.proof_order.specs.Beneath.machine_model.specs.Paths.{depth_of, flag_in, is_below_root}
-use Rattle.proof_order.specs.Beneath.machine_model.specs.Finding.{absent, removing, found_so, key_after_read, key_after_main, key_after_entry, after_listed, after_sibling, after_tomb, is_passable}
-use Rattle.proof_order.specs.Beneath.machine_model.specs.Renewing.{renew_next}
-use Rattle.proof_order.specs.Beneath.machine_model.specs.Building.{after_single, after_link, build_after_made, build_if_made}
-use Rattle.proof_order.specs.Beneath.machine_model.specs.Swapping.{swap_after}
-use Rattle.proof_order.specs.Beneath.machine_model.specs.Reading.{read_step}
-use Rattle.proof_order.specs.Beneath.machine_model.specs.Operations.{first_line, line_after, after_swap, swapped}
-use Rattle.proof_order.specs.Beneath.machine_model.specs.Acting.{operation_after}
+use Rattle.proof_order.specs.Beneath.machine_model.specs.declared.reading.After.TheVariants.{Goes as Continues}
+use Rattle.proof_order.specs.Beneath.machine_model.specs.Operations.{after_swap}
 use Rattle.proof_order.specs.Beneath.machine_model.proofs.Actors.{mark_only, marks_in}
 use Rattle.proof_order.specs.Beneath.machine_model.proofs.Times.{along_run}
-use Rattle.proof_order.specs.Beneath.machine_model.specs.Times.{turns}
-use Rattle.proof_order.specs.Beneath.machine_model.specs.Times.{IsRun, Turn}
 use Rattle.proof_generations.proofs.Handles.Running.{Comes, began, rested, went, gave, comes}
 use Rattle.proof_order.specs.Facts.{Runs}
 use Rattle.proof_order.specs.Phases.{TellsEffect}

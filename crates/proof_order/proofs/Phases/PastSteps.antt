@@ -2,23 +2,12 @@
 use Rattle.std.proofs.Common.{◌≡◌, ℕ, suc, ◌<◌, ◌≤◌, List, Option, Some, sym, ap, ◌∙◌, subst, arith}
 use Rattle.std.proofs.lemmas.Option.{none-some, same_Some}
 use Rattle.proof_order.specs.Beneath.slot_arena.specs.declared.nodes.Prev.TheVariants as prev
-use Rattle.proof_order.specs.Beneath.slot_arena.specs.declared.refs.Ref.{Ref}
-use Rattle.proof_order.specs.Beneath.slot_arena.specs.Heaps.{prev_at}
-use Rattle.proof_order.specs.Beneath.machine_model.specs.declared.lines.Line.{Line}
+use Rattle.proof_order.specs.Vocabulary.{Ref, prev_at, Line, Operation, Swap, Bounds, Step, State, action_of, operation_after, GoesOn, prev_word, IsRun, given_up, gave_up, swap_given_up}
+use Rattle.proof_order.specs.Vocabulary.{unless_effect, tells_effect, SwapLine, Climb, changed_reply, Call, Reply}
 use Rattle.proof_order.specs.Beneath.machine_model.specs.declared.lines.Line.TheVariants as line
 use Rattle.proof_order.specs.Beneath.machine_model.specs.declared.lines.Purpose.TheVariants as purpose
-use Rattle.proof_order.specs.Beneath.machine_model.specs.declared.operations.Operation.{Operation}
-use Rattle.proof_order.specs.Beneath.machine_model.specs.declared.reading.Swap.{Swap}
 use Rattle.proof_order.specs.Beneath.machine_model.specs.declared.reading.SwapLine.TheVariants as swap
-use Rattle.proof_order.specs.Beneath.machine_model.specs.declared.steps.Bounds.{Bounds}
-use Rattle.proof_order.specs.Beneath.machine_model.specs.declared.steps.Step.{Step}
-use Rattle.proof_order.specs.Beneath.machine_model.specs.States.{State}
-use Rattle.proof_order.specs.Beneath.machine_model.specs.Operations.{action_of}
-use Rattle.proof_order.specs.Beneath.machine_model.specs.Acting.{operation_after}
-use Rattle.proof_order.specs.Beneath.machine_model.specs.Moves.{GoesOn}
 use Rattle.proof_order.specs.Beneath.machine_model.proofs.Actors.{mark_one, mark_only, marks_in, marks_by}
-use Rattle.proof_order.specs.Beneath.machine_model.specs.Grown.{prev_word}
-use Rattle.proof_order.specs.Beneath.machine_model.specs.Times.{IsRun}
 use Rattle.proof_generations.proofs.Handles.Running.{one_at}
 use Rattle.proof_order.specs.Facts.{Runs}
 use Rattle.proof_order.proofs.Offers.Known.{running_below}
@@ -28,12 +17,6 @@ use Rattle.proof_order.specs.Phases.{IsPast, IsPastAt, TellsEffect, IsPublished}
 use Rattle.proof_order.proofs.Phases.PastLines.{past_after}
 use Rattle.proof_order.proofs.Phases.Published.{stays_none, seen}
 use Rattle.proof_order.specs.Beneath.machine_model.proofs.Alike.{alike}
-use Rattle.proof_order.specs.Beneath.machine_model.specs.GivingUp.{given_up, gave_up, swap_given_up, unless_effect, tells_effect}
-use Rattle.proof_order.specs.Beneath.machine_model.specs.declared.reading.SwapLine.{SwapLine}
-use Rattle.proof_order.specs.Beneath.machine_model.specs.declared.repairs.Climb.{Climb}
-use Rattle.proof_order.specs.Beneath.machine_model.specs.Calls.{changed_reply}
-use Rattle.proof_order.specs.Beneath.history.specs.declared.calls.Call.{Call}
-use Rattle.proof_order.specs.Beneath.history.specs.declared.replies.Reply.{Reply}
 
 -- what the SWAP of its own change needs
 abbrev Keeps : (ℕ → State) → ℕ → Option ℕ → Line → Type 0
