@@ -1,4 +1,5 @@
 -- The states of a run are those after lists of steps: so what holds after each list of steps holds at each time.
+use Rattle.proof_shape.specs.Beneath.machine_model.specs.Moves.{GivesUp}
 use Rattle.std.proofs.lemmas.Bool.{true≢false}
 use Rattle.std.proofs.Common.{◌≡◌, ℕ, suc, ◌<◌, ◌≤◌, true, cond, List, [], ◌∷◌, ◌++◌, Some, Ok, Err, refl, sym, ◌∙◌, ap, subst, arith}
 use Rattle.proof_shape.specs.Vocabulary.{Ref, node_at, list_depth, Action, Operation, Bounds, Outcome, kind_of, settled, gone, Node, Indirection, Branch, Single, Tomb, List as Listed, Step, State}
@@ -19,6 +20,7 @@ use Rattle.proof_shape.specs.Beneath.machine_model.proofs.Along.{run_push}
 use Rattle.proof_shape.specs.Beneath.machine_model.specs.Moves.{Goes}
 use Rattle.proof_shape.specs.Beneath.machine_model.proofs.Times.{along_run}
 use Rattle.proof_shape.specs.Beneath.machine_model.proofs.Grown.{node_standing}
+use Rattle.proof_shape.specs.Beneath.machine_model.specs.Machine.{give_up_unless, give_up_on, give_up_by}
 
 -- ---- a move is what the step comes to
 
@@ -33,6 +35,7 @@ comes_to state s o after (Begins {actor} {call} d) = ap (begin_unless state acto
 comes_to state s o after (Goes {actor} {operation} {action} d is a g) =
     ap (go_unless state actor) d ∙ ap (go_on state actor) is ∙ ap (step_by state actor operation) a ∙ goes_by state actor operation action g
 comes_to state s o after (Ends {actor} {operation} {answer} d is a) = ap (go_unless state actor) d ∙ ap (go_on state actor) is ∙ ap (step_by state actor operation) a
+comes_to state s o after (GivesUp {actor} {operation} {answer} d is a) = ap (give_up_unless state actor) d ∙ ap (give_up_on state actor) is ∙ ap (give_up_by state actor operation) a
 comes_to state s o after (Sweeps spent) = ap (λ b. cond b (Err refuse.Spent) (settled_after state (swept state))) spent
 
 -- ---- each state of a run is that after a list of steps

@@ -1,4 +1,5 @@
 -- Sites after each step.
+use Rattle.proof_shape.specs.Beneath.machine_model.specs.Moves.{GivesUp}
 use Rattle.std.proofs.Common.{◌≡◌, ℕ, suc, ◌*◌, ◌^◌, ◌<◌, true, is_some, get_or, Option, Some, None, refl, sym, ap, ◌∙◌, subst, ◌⊎◌, inl, inr}
 use Rattle.std.proofs.lemmas.Bool.{cases_eq, or_cases, false≢true}
 use Rattle.std.proofs.lemmas.Option.{none-some, same_Some}
@@ -9,7 +10,7 @@ use Rattle.proof_shape.specs.Beneath.slot_arena.specs.declared.nodes.Prev.TheVar
 use Rattle.proof_shape.specs.Beneath.machine_model.specs.declared.actions.Action.TheVariants as act
 use Rattle.proof_shape.specs.Beneath.machine_model.specs.declared.steps.Step.TheVariants as step
 use Rattle.proof_shape.specs.Beneath.machine_model.specs.Moves.{Goes}
-use Rattle.proof_shape.specs.Beneath.machine_model.proofs.Actors.{IsOf, is_of, mark_one, mark_only, marks_in, marks_by, of_others, of_itself, of_begin, of_end}
+use Rattle.proof_shape.specs.Beneath.machine_model.proofs.Actors.{IsOf, is_of, mark_one, mark_only, marks_in, marks_by, of_others, of_itself, of_begin, of_end, of_giving_up}
 use Rattle.proof_shape.specs.Beneath.proof_memory.specs.Laws.{IsInUse}
 use Rattle.proof_shape.specs.Beneath.proof_memory.proofs.Heap.Under.{fresh_slot, taken_all}
 use Rattle.proof_shape.specs.Beneath.proof_memory.proofs.Safety.EachStep.{at_place}
@@ -203,6 +204,8 @@ module _ (s : Sites) (fits : (i : Ref) → s.path i < 2 ^ (5 * depth_at (s.level
         (h.lines k operation at_was).1,
       ))
   lines_after x o after (Ends {actor} d is a) key gives paths bare_after k (yes own) found at_k = absurd (of_end state actor k own found at_k)
+  lines_after x o after (GivesUp {actor} {operation} {answer} d is a) key gives paths bare_after k (yes own) found at_k =
+      subst OperationSite (of_giving_up state actor operation answer k own found at_k) (tt, (h.lines k operation (at_place state actor k operation own is)).1)
   lines_after x o after (Sweeps spent) key gives paths bare_after k (yes own) found at_k = absurd own
 
   pub sites_after : (x : Step) (o : Outcome) (after : State) → Moves state x o after → FitsKey x → GivesLevel s.level state x → GivesPath s state x →

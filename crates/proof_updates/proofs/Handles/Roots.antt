@@ -20,7 +20,7 @@ use Rattle.proof_updates.specs.Beneath.machine_model.specs.Counting.{settled}
 use Rattle.proof_updates.specs.Beneath.machine_model.specs.Machine.{with_begin}
 use Rattle.proof_updates.specs.Beneath.machine_model.specs.States.{State, root_at, root_of, rewritten}
 use Rattle.proof_updates.specs.Beneath.machine_model.proofs.Found.{found_within, found_elsewhere}
-use Rattle.proof_updates.specs.Beneath.machine_model.specs.Moves.{Begins, Goes, Ends, Sweeps}
+use Rattle.proof_updates.specs.Beneath.machine_model.specs.Moves.{Begins, Goes, Ends, Sweeps, GivesUp}
 use Rattle.proof_updates.specs.Beneath.machine_model.specs.Moves.{Moves, begun_operation}
 use Rattle.proof_updates.specs.Beneath.machine_model.specs.Times.{IsRun}
 use Rattle.proof_order.specs.Facts.{CarriesOut}
@@ -222,4 +222,5 @@ closed_handle state s o after (Begins {actor} {call} d) closer handle e =
     ]
 closed_handle state s o after (Goes d is a g) closer handle e = let wrong : ⊥ = cc e in absurd wrong
 closed_handle state s o after (Ends d is a) closer handle e = let wrong : ⊥ = cc e in absurd wrong
+closed_handle state s o after (GivesUp d is a) closer handle e = let wrong : ⊥ = cc e in absurd wrong
 closed_handle state s o after (Sweeps spent) closer handle e = let wrong : ⊥ = cc e in absurd wrong
