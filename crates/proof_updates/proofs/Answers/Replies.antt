@@ -1,5 +1,5 @@
 -- What an operation answers that has no place is right.
-use Rattle.std.proofs.Common.{◌≡◌, ◌≢◌, ℕ, suc, ◌<◌, ◌≤◌, ◌^◌, Bool, true, false, true≢false, ◌∷◌, inl, None, refl, sym, ap, subst, ◌∙◌, arith, []}
+use Rattle.std.proofs.Common.{◌≡◌, ◌≢◌, ℕ, suc, ◌<◌, ◌≤◌, ◌^◌, Bool, true, false, true≢false, ◌∷◌, inl, None, refl, sym, ap, subst, ◌∙◌, arith, [], Some}
 use Rattle.std.proofs.lemmas.Option.{none-some}
 use Rattle.proof_updates.specs.Beneath.history.specs.declared.calls.Access.{Access}
 use Rattle.proof_updates.specs.Beneath.history.specs.declared.calls.Access.TheVariants.{Writable, ReadOnly}
@@ -141,17 +141,14 @@ module _ (limits : Bounds) (states : ℕ → State) (last : ℕ) (depth path : R
       IsAnswering states run.records trie (suc t) k (gave_up operation answer)
   answering_gave_up t k lt operation answer runs may o m same before = record {
     closes = λ e. still operation.id (before.closes e);
-    behind = λ e. ends (behind_given_up states run.records t operation.id _ Right (WalksAt states trie t operation.access operation.call) operation.call operation.line answer may (before.behind e));
+    behind = λ e. ends (behind_given_up states run.records t operation.id _ _ (WalksAt states trie t operation.access operation.call) operation.call operation.line answer may (before.behind e));
     its = λ e read_only g generation h stands. before.its e read_only g generation h (stood_before limits states last run t k lt operation runs e read_only h stands);
   }
     where
       still : (id : ℕ) → is_placed (run.records t) id ≡ true → is_placed (run.records (suc t)) id ≡ true
       still id is = subst (λ (q : Record). is_placed q id ≡ true) (sym same) is
 
-      abbrev Right : Reply → Type 0
-      Right = RightAt states trie (suc t) operation.access operation.generation (moment_at (run.records (suc t)) (suc k)).moment operation.call
-
-      ends : EndsSo run.records t operation.id Right answer → EndsSo run.records (suc t) operation.id Right answer
+      ends : {Right : Reply → Type 0} → EndsSo run.records t operation.id Right answer → EndsSo run.records (suc t) operation.id Right answer
       ends (refused is) = refused is
       ends (has_place is) = has_place (still operation.id is)
       ends (is_right h) = is_right h

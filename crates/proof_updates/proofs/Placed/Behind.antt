@@ -1,6 +1,6 @@
 -- On which lines an operation has its place, and what it may be about to answer: that no slot was free, the reply of what has its place, or a reply that is
 -- right.
-use Rattle.std.proofs.Common.{◌≡◌, ℕ, ◌-◌, List, true, false, true≢false, Bool, Option, sym, arith}
+use Rattle.std.proofs.Common.{◌≡◌, ℕ, ◌-◌, List, true, false, true≢false, Bool, Option, sym, arith, Some, refl}
 use Rattle.proof_updates.specs.Beneath.history.specs.declared.replies.Reply.{Reply}
 use Rattle.proof_updates.specs.Beneath.history.specs.declared.replies.Reply.TheVariants as reply
 use Rattle.proof_updates.specs.Beneath.slot_arena.specs.declared.refs.Ref.{Ref}
@@ -42,6 +42,7 @@ use Rattle.proof_updates.specs.Beneath.machine_model.specs.Grown.{prev_word}
 use Rattle.proof_order.specs.Phases.{IsPublished}
 use Rattle.proof_updates.specs.Beneath.machine_model.specs.Records.{is_placed, Record}
 use Rattle.proof_updates.specs.Beneath.machine_model.specs.GivingUp.{given_up, swap_given_up, unless_effect, tells_effect}
+use Rattle.proof_updates.specs.Beneath.machine_model.specs.declared.lines.Purpose.{Purpose}
 use Rattle.proof_updates.specs.Beneath.history.specs.declared.calls.Call.{Call}
 use Rattle.std.proofs.lemmas.Option.{none-some, same_Some}
 
