@@ -2,7 +2,7 @@
 use Rattle.std.proofs.Common.{◌≡◌, ℕ, ◌<◌, true, List, Some, Ok, refl, sym, ap, ◌∙◌, subst, append-nil}
 use Rattle.std.specs.Prelude.{Contains}
 use Rattle.std.proofs.lemmas.Bool.{false≢true}
-use Rattle.std.proofs.lemmas.Option.{same_Some}
+use Rattle.std.proofs.lemmas.Option.{same_Some, none-some}
 use Rattle.proof_obstruction_free.specs.Beneath.ctrie_base.specs.declared.kinds.Kind.{Kind}
 use Rattle.proof_obstruction_free.specs.Beneath.history.specs.declared.calls.Call.{Call}
 use Rattle.proof_obstruction_free.specs.Beneath.history.specs.declared.calls.Call.TheVariants.{Close}
@@ -26,6 +26,8 @@ use Rattle.proof_obstruction_free.specs.Beneath.machine_model.proofs.Along.{limi
 use Rattle.proof_obstruction_free.specs.Beneath.machine_model.proofs.Actors.{mark_only}
 use Rattle.proof_obstruction_free.specs.Beneath.machine_model.proofs.EachOperation.{OfEach, of_each_along, of_running}
 use Rattle.proof_obstruction_free.specs.Beneath.machine_model.proofs.Moves.{ending, moved}
+use Rattle.proof_obstruction_free.specs.Beneath.machine_model.specs.GivingUp.{given_up}
+use Rattle.proof_obstruction_free.specs.Beneath.machine_model.specs.declared.lines.Line.{Line}
 use Rattle.proof_obstruction_free.specs.Closes.{ClosesEnd}
 use Rattle.proof_obstruction_free.specs.Laws.{HasEnded, alone_after, history_after}
 use Rattle.proof_obstruction_free.proofs.Ends.Actors.{is_one}
@@ -43,10 +45,15 @@ begun_closes call e = absurd (false≢true e)
 no_step : (state : State) (operation : Operation) → operation.line ≡ line.End Closed → GoesOn (action_of state operation) → ⊥
 no_step state operation e g = subst GoesOn (ap (line_action state operation) e) g
 
+-- so it doesn't give up
+stays_closing : (call : Call) (l : Line) (answer : Reply) → given_up call l ≡ Some answer → l ≡ line.End Closed → ⊥
+stays_closing call l answer may e = none-some answer (subst (λ x. given_up call x ≡ Some answer) e may)
+
 each_closes : (limits : Bounds) (steps : List Step) → OfEach Closes (run limits steps)
 each_closes limits =
     of_each_along limits Closes (λ steps actor call d e. begun_closes call e)
     (λ steps actor operation found g h. rw (mark_only _ _) (λ e. absurd (no_step (run limits steps) operation (h e) g)))
+    (λ steps actor operation answer found may h e. absurd (stays_closing operation.call operation.line answer may (h e)))
     (λ steps s o after m k other operation found h. rw (mark_only _ operation) h)
 
 goes_on : (state : State) (actor : ℕ) (kind : Kind) (after : State) → Moves state (step.Go actor) (Went kind) after →

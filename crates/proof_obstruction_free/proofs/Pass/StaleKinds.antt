@@ -77,7 +77,7 @@ by_coming state s k found all (began call is d it) = subst IsDown (sym it) (firs
 by_coming state s k found all (rested was at_k it other_step) = subst IsDown (sym it) (marked_down (marks_in state s) was (all k was at_k))
 by_coming state s k found all (went was is at_k g it) =
     subst IsDown (sym it) (marked_down (marks_in state s) (operation_after state was) (λ on. down_after state was on was.line (all k was at_k on)))
-by_coming state s k found all (gave was answer is at_k may it) = subst IsDown (sym it) (λ on. tt)
+by_coming state s k found all (gave was answer is at_k may it) = subst IsDown (sym it) (λ on. refl)
 
 at_first : (limits : Bounds) → AllDown (first_state limits)
 unfolding first_state
