@@ -26,6 +26,7 @@ use Rattle.proof_operations.specs.Beneath.machine_model.specs.declared.walking.W
 use Rattle.proof_operations.specs.Beneath.machine_model.specs.Moves.{Goes}
 use Rattle.proof_operations.specs.Beneath.machine_model.proofs.Along.{along}
 use Rattle.proof_operations.specs.Beneath.machine_model.proofs.HeapMoves.{aborted_heap, begin_heap, completed_heap, offered_heap}
+use Rattle.proof_operations.specs.Beneath.machine_model.specs.Moves.{GivesUp}
 
 abbrev HasFew : Node → Type 0
 HasFew node = length (entries_of node) ≤ 32
@@ -229,6 +230,7 @@ moved_few state s o after (Begins {actor} {call} d) h = subst AreFew (sym (begin
 moved_few state s o after (Goes {actor} {operation} d is a g) h =
     acted_few _ (handle_of operation.call) (action_of state operation) (makes_few state operation operation.line) h
 moved_few state s o after (Ends d is a) h = h
+moved_few state s o after (GivesUp d is a) h = h
 moved_few state s o after (Sweeps spent) h = swept_few _ (reclaimer_of state) (ripe state.epoch state.limbo) h
 
 -- ---- along each run
