@@ -1,8 +1,12 @@
 -- The bounds of a machine that keeps its record are in range, where its limits are.
-use Rattle.std.proofs.Common.{arith}
+use Rattle.std.proofs.Common.{◌≤◌, arith}
 use Rattle.proof_runs.specs.Beneath.machine_model.specs.declared.steps.Limits.{Limits}
 use Rattle.proof_runs.specs.Beneath.machine_model.specs.Limits.{AreLimits, bounded}
-use Rattle.proof_runs.specs.Beneath.machine_model.specs.Machine.{AreBounds}
+use Rattle.proof_runs.specs.Beneath.machine_model.specs.Machine.{AreBounds, longest_life}
 
 pub in_bounds : (limits : Limits) → AreLimits limits → AreBounds (bounded limits)
-in_bounds limits ok = (ok.0, omega arith, ok.2, ok.3, omega arith)
+in_bounds limits ok = (ok.0, omega arith, ok.2, ok.3)
+
+-- its life too
+pub in_life : (limits : Limits) → AreLimits limits → (bounded limits).steps ≤ longest_life
+in_life limits ok = omega arith

@@ -24,8 +24,9 @@ use Rattle.proof_runs.specs.Beneath.machine_model.proofs.Along.{run_push}
 use Rattle.proof_runs.specs.Beneath.machine_model.proofs.Notes.{noted_going}
 use Rattle.proof_runs.specs.Beneath.machine_model.proofs.Recorded.{record_push}
 use Rattle.proof_runs.specs.Beneath.machine_model.proofs.Moves.{moved}
-use Rattle.proof_runs.specs.Beneath.machine_model.specs.Moves.{Begins, Goes, Ends, Sweeps}
+use Rattle.proof_runs.specs.Beneath.machine_model.specs.Moves.{Begins, Goes, Ends, Sweeps, GivesUp}
 use Rattle.proof_runs.specs.Beneath.machine_model.specs.Moves.{Moves, begun_operation}
+use Rattle.proof_runs.specs.Beneath.machine_model.specs.Moves.{GivesUp}
 use Rattle.proof_runs.specs.Beneath.proof_generations.proofs.Handles.Running.{place_of_actor}
 use Rattle.proof_runs.specs.Beneath.proof_order.proofs.History.Running.{runs_on}
 use Rattle.proof_runs.specs.Beneath.proof_order.proofs.History.Books.{Books, ended_below}
@@ -95,6 +96,7 @@ by_move : (n actor : ℕ) (m : Taken) (s : Step) (o : Outcome) (state : State) �
     GoesTo n actor → (after : Taken) (answer : Reply) (operation : Operation) → operation_of (state_of m) actor ≡ Some operation →
     after_outcome (going_on n actor) (with_step m (step.Go actor)) o ≡ (Ok (Some answer), after) → Led m after (End operation.id answer ∷ [])
 by_move n actor m s o state e is (Begins {actor = who} {call} d) rest after answer operation runs goes = cc is
+by_move n actor m s o state e is (GivesUp d found a) rest after answer operation runs goes = cc is
 by_move n actor m s o state e is (Sweeps d) rest after answer operation runs goes = cc is
 by_move n actor m s o state e is (Goes {actor = who} {operation = own} {action} d found a g) rest after answer operation runs goes =
     let quiet = ap (λ (r : Record). r.events) (noted_going (state_of m) (past_of m) who own action found a g) in

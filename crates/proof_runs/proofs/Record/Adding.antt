@@ -13,7 +13,7 @@ use Rattle.proof_runs.specs.Beneath.machine_model.specs.declared.steps.Outcome.{
 use Rattle.proof_runs.specs.Beneath.machine_model.specs.declared.steps.Step.{Step}
 use Rattle.proof_runs.specs.Beneath.machine_model.specs.Calls.{handle_of}
 use Rattle.proof_runs.specs.Beneath.machine_model.specs.Machine.{run}
-use Rattle.proof_runs.specs.Beneath.machine_model.specs.Moves.{Moves, Begins, Ends, Goes, Sweeps, begun_operation}
+use Rattle.proof_runs.specs.Beneath.machine_model.specs.Moves.{Moves, Begins, Ends, Goes, Sweeps, GivesUp, begun_operation}
 use Rattle.proof_runs.specs.Beneath.machine_model.specs.Operations.{action_of}
 use Rattle.proof_runs.specs.Beneath.machine_model.specs.States.{State, first_state}
 use Rattle.proof_runs.specs.Beneath.proof_order.proofs.Phases.Quiet.{NoComplete, commits_complete}
@@ -25,6 +25,7 @@ use Rattle.proof_runs.specs.Beneath.machine_model.specs.declared.records.Carried
 use Rattle.proof_runs.specs.Beneath.machine_model.specs.declared.records.Entrant.{Entrant}
 use Rattle.proof_runs.specs.Beneath.machine_model.proofs.Recorded.{record_push, kept_by_notes}
 use Rattle.proof_runs.specs.Beneath.machine_model.proofs.Notes.{noted_going, noted_ending}
+use Rattle.proof_runs.specs.Beneath.machine_model.specs.Moves.{GivesUp}
 
 -- the places grow by one at most
 abbrev Grow : List Place → List Place → Type 0
@@ -82,6 +83,7 @@ moved_grows state past s o after (Goes {actor} {operation} {action} d is a g) =
 moved_grows state past s o after (Ends {actor} {operation} {answer} d is a) =
     subst (λ (r : Record). Grow past.places r.places) (sym (noted_ending state past actor operation answer is a))
     (grow_by past.places (entered_at_end past (entrant_of operation) (moment_at past actor).moment answer) (ended_few past (entrant_of operation) (moment_at past actor).moment answer))
+moved_grows state past s o after (GivesUp d is a) = grow_same past.places past.places refl
 moved_grows state past s o after (Sweeps spent) = grow_same past.places past.places refl
 
 pub one_place : OnePlaceAStep

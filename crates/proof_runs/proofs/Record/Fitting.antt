@@ -32,7 +32,7 @@ use Rattle.proof_runs.specs.Beneath.machine_model.specs.Acting.{operation_after}
 use Rattle.proof_runs.specs.Beneath.machine_model.specs.Calls.{handle_of}
 use Rattle.proof_runs.specs.Beneath.machine_model.specs.Grown.{of_birth}
 use Rattle.proof_runs.specs.Beneath.machine_model.specs.Machine.{AreBounds, is_actor, run}
-use Rattle.proof_runs.specs.Beneath.machine_model.specs.Moves.{Begins, Ends, Goes, Moves, Sweeps}
+use Rattle.proof_runs.specs.Beneath.machine_model.specs.Moves.{Begins, Ends, Goes, Moves, Sweeps, GivesUp}
 use Rattle.proof_runs.specs.Beneath.machine_model.specs.Operations.{action_of}
 use Rattle.proof_runs.specs.Beneath.machine_model.specs.States.{State, first_state, operation_of, with_operation, word_at}
 use Rattle.proof_runs.specs.Beneath.machine_model.specs.Swapping.{is_carried_out}
@@ -43,6 +43,7 @@ use Rattle.proof_runs.specs.Beneath.machine_model.proofs.Found.{found_within}
 use Rattle.proof_runs.specs.Beneath.machine_model.proofs.Frames.{acted_framed, limits_kept, steps_counted}
 use Rattle.proof_runs.specs.Beneath.machine_model.proofs.Grown.{node_standing}
 use Rattle.proof_runs.specs.Beneath.machine_model.proofs.Slots.{sound_along}
+use Rattle.proof_runs.specs.Beneath.machine_model.specs.Moves.{GivesUp}
 use Rattle.proof_memory.specs.Laws.{IsInUse}
 use Rattle.proof_memory.specs.Wants.{AllHold, action_wants}
 use Rattle.proof_memory.proofs.Claims.Uses.{safe_of}
@@ -69,6 +70,7 @@ begins_after state s o after (Begins d) = omega arith
 begins_after state s o after (Goes {actor} {operation} d is a g) =
     let framed = acted_framed (with_operation state actor (Some (operation_after state operation))) (handle_of operation.call) (action_of state operation) in omega (arith, framed.begun)
 begins_after state s o after (Ends d is a) = omega arith
+begins_after state s o after (GivesUp d is a) = omega arith
 begins_after state s o after (Sweeps spent) = omega arith
 
 none_begun : (limits : Bounds) → (first_state limits).begun ≤ (first_state limits).steps

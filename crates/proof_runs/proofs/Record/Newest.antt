@@ -23,7 +23,7 @@ use Rattle.proof_runs.specs.Beneath.machine_model.specs.States.{State, first_sta
 use Rattle.proof_runs.specs.Beneath.machine_model.specs.Swapping.{action_at}
 use Rattle.proof_runs.specs.Beneath.machine_model.specs.Operations.{action_of, line_action}
 use Rattle.proof_runs.specs.Beneath.machine_model.specs.Machine.{AreBounds, run}
-use Rattle.proof_runs.specs.Beneath.machine_model.specs.Moves.{Moves, Begins, Ends, Goes, Sweeps}
+use Rattle.proof_runs.specs.Beneath.machine_model.specs.Moves.{Moves, Begins, Ends, Goes, Sweeps, GivesUp}
 use Rattle.proof_runs.specs.Beneath.machine_model.specs.Records.{Record, commits_after, noted, record_of}
 use Rattle.proof_runs.specs.Beneath.machine_model.specs.Tellings.{changer_for, committed_now, published_at, published_by, told_in}
 use Rattle.proof_runs.specs.Beneath.machine_model.proofs.Notes.{noted_ending, noted_going}
@@ -40,6 +40,7 @@ use Rattle.proof_runs.specs.Beneath.proof_order.proofs.Phases.Commits.{line_deci
 use Rattle.proof_runs.specs.Laws.{CommittedAreNewest, PublishedAreNewest}
 use Rattle.proof_runs.specs.Beneath.proof_order.proofs.Phases.Commits.{Decides}
 use Rattle.proof_runs.specs.Beneath.machine_model.specs.declared.actions.Action.{Action}
+use Rattle.proof_runs.specs.Beneath.machine_model.specs.Moves.{GivesUp}
 
 -- the node is no newer than the one in use that stands in its slot
 abbrev IsBehind : Ref → Ref → Type 0
@@ -163,6 +164,10 @@ newest_after state I past s o after (Ends {actor} {operation} {answer} d is a) h
       commits = still state I _ _ _ (Ends d is a) committed_main past.commits h.commits;
       published = still state I _ _ _ (Ends d is a) published_main past.published h.published;
     })
+newest_after state I past s o after (GivesUp d is a) h = record {
+  commits = still state I _ _ _ (GivesUp d is a) committed_main past.commits h.commits;
+  published = still state I _ _ _ (GivesUp d is a) published_main past.published h.published;
+}
 newest_after state I past s o after (Sweeps spent) h = record {
   commits = still state I _ _ _ (Sweeps spent) committed_main past.commits h.commits;
   published = still state I _ _ _ (Sweeps spent) published_main past.published h.published;
