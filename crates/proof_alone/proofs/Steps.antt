@@ -16,10 +16,11 @@ use Rattle.proof_alone.specs.Beneath.machine_model.specs.declared.steps.Step.The
 use Rattle.proof_alone.specs.Beneath.machine_model.specs.Acting.{gone, operation_after}
 use Rattle.proof_alone.specs.Beneath.machine_model.specs.Counting.{settled}
 use Rattle.proof_alone.specs.Beneath.machine_model.specs.Machine.{Answer, begin_denial, begin_unless, begun_operation, next, state_after, with_begin}
-use Rattle.proof_alone.specs.Beneath.machine_model.specs.Moves.{Begins, Ends, Goes, Moves, Sweeps}
+use Rattle.proof_alone.specs.Beneath.machine_model.specs.Moves.{Begins, Ends, Goes, Moves, Sweeps, GivesUp}
 use Rattle.proof_alone.specs.Beneath.machine_model.specs.States.{State, operation_of}
 use Rattle.proof_alone.specs.Beneath.machine_model.proofs.Actors.{begin_actor, begin_actors, begin_counts, mark_one, marks_by}
 use Rattle.proof_alone.specs.Beneath.machine_model.proofs.Moves.{moved}
+use Rattle.proof_alone.specs.Beneath.machine_model.specs.Moves.{GivesUp}
 use Rattle.proof_alone.specs.Beneath.proof_commits.proofs.Known.StepsAt.{after_mark, go_own}
 use Rattle.proof_alone.specs.Beneath.proof_order.specs.Running.{IsSame}
 use Rattle.proof_alone.specs.Beneath.proof_order.proofs.History.Running.{after_same}
@@ -84,6 +85,7 @@ mark_found (Some id) operation = refl
 on_by : (state : State) (s : Step) (o : Outcome) (after : State) → Moves state s o after → (actor : ℕ) (kind : Kind) → s ≡ Go actor → o ≡ Went kind → (operation : Operation) →
     operation_of state actor ≡ Some operation → RunsOn state after actor operation
 on_by state s o after (Begins d) actor kind is told operation runs = cc is
+on_by state s o after (GivesUp d found a) actor kind is told operation runs = cc is
 on_by state s o after (Sweeps d) actor kind is told operation runs = cc is
 on_by state s o after (Ends d found a) actor kind is told operation runs = cc told
 on_by state s o after (Goes {actor = who} {operation = own} d found a g) actor kind is told operation runs =
@@ -105,6 +107,7 @@ runs_on state actor kind after e = on_by state (Go actor) (Went kind) after (mov
 -- who runs nothing takes no step
 waits_by : (state : State) (s : Step) (o : Outcome) (after : State) → Moves state s o after → (actor : ℕ) → s ≡ Go actor → operation_of state actor ≡ None → ⊥
 waits_by state s o after (Begins d) actor own idle = cc own
+waits_by state s o after (GivesUp d found a) actor own idle = cc own
 waits_by state s o after (Sweeps d) actor own idle = cc own
 waits_by state s o after (Goes {actor = who} {operation} d found a g) actor own idle =
     let same : who ≡ actor = cc own in none-some operation (sym idle ∙ subst (λ k. operation_of state k ≡ Some operation) same found)
@@ -117,6 +120,7 @@ idle_waits state actor o after e = waits_by state (Go actor) o after (moved stat
 -- it leaves the heap
 leaves_by : (state : State) (s : Step) (o : Outcome) (after : State) → Moves state s o after → (id : ℕ) (answer : Reply) → o ≡ Ended id answer → after.heap ≡ state.heap
 leaves_by state s o after (Begins d) id answer told = cc told
+leaves_by state s o after (GivesUp d found a) id answer told = cc told
 leaves_by state s o after (Sweeps d) id answer told = cc told
 leaves_by state s o after (Goes d found a g) id answer told = cc told
 leaves_by state s o after (Ends d found a) id answer told = refl

@@ -13,12 +13,13 @@ use Rattle.proof_alone.specs.Beneath.machine_model.specs.declared.steps.Outcome.
 use Rattle.proof_alone.specs.Beneath.machine_model.specs.declared.steps.Step.{Step}
 use Rattle.proof_alone.specs.Beneath.machine_model.specs.declared.steps.Step.TheVariants.{Begin, Go}
 use Rattle.proof_alone.specs.Beneath.machine_model.specs.Machine.{begun_operation, is_taken_step, next, run}
-use Rattle.proof_alone.specs.Beneath.machine_model.specs.Moves.{Begins, Ends, Goes, Moves, Sweeps}
+use Rattle.proof_alone.specs.Beneath.machine_model.specs.Moves.{Begins, Ends, Goes, Moves, Sweeps, GivesUp}
 use Rattle.proof_alone.specs.Beneath.machine_model.specs.Records.{Record, next_record, noted, record_of}
 use Rattle.proof_alone.specs.Beneath.machine_model.specs.States.{State}
 use Rattle.proof_alone.specs.Beneath.machine_model.specs.Tellings.{told_in}
 use Rattle.proof_alone.specs.Beneath.machine_model.proofs.Moves.{moved}
 use Rattle.proof_alone.specs.Beneath.machine_model.proofs.Notes.{noted_going}
+use Rattle.proof_alone.specs.Beneath.machine_model.specs.Moves.{GivesUp}
 use Rattle.proof_alone.specs.Beneath.proof_order.proofs.History.Recalling.{end_event}
 use Rattle.proof_obstruction_free.specs.Laws.{GoesOnAt}
 use Rattle.proof_obstruction_free.proofs.Ends.Lists.{one_more_recorded, record_after}
@@ -36,6 +37,7 @@ taken_noted state past s o after e = ap (λ answer. cond (is_taken_step answer) 
 quiet_by : (state : State) (past : Record) (s : Step) (o : Outcome) (after : State) → Moves state s o after → (actor : ℕ) (kind : Kind) → s ≡ Go actor → o ≡ Went kind →
     (noted past state.steps (told_in state s)).events ≡ past.events
 quiet_by state past s o after (Begins d) actor kind is told = cc
+quiet_by state past s o after (GivesUp d found a) actor kind is told = cc is
 quiet_by state past s o after (Sweeps d) actor kind is told = cc
 quiet_by state past s o after (Ends d found a) actor kind is told = cc told
 quiet_by state past s o after (Goes {actor = who} {operation = own} {action} d found a g) actor kind is told =
@@ -51,6 +53,7 @@ quiet state past actor kind after e =
 told_by : (state : State) (past : Record) (s : Step) (o : Outcome) (after : State) → Moves state s o after → (actor id : ℕ) (answer : Reply) → s ≡ Go actor → o ≡ Ended id answer →
     (noted past state.steps (told_in state s)).events ≡ past.events ++ event.End id answer ∷ []
 told_by state past s o after (Begins d) actor id answer is told = cc is
+told_by state past s o after (GivesUp d found a) actor id answer is told = cc is
 told_by state past s o after (Sweeps d) actor id answer is told = cc is
 told_by state past s o after (Goes d found a g) actor id answer is told = cc told
 told_by state past s o after (Ends {actor = who} {operation = own} {answer = said} d found a) actor id answer is told =
