@@ -16,10 +16,11 @@ use Rattle.machine_model.specs.States.{State, operation_of, Runs}
 use Rattle.machine_model.specs.Operations.{action_of}
 use Rattle.machine_model.specs.Acting.{operation_after, marked}
 use Rattle.machine_model.specs.Machine.{begin_denial, begun_operation}
-use Rattle.machine_model.specs.Moves.{Begins, Goes, Ends, Sweeps, Moves, GoesOn}
+use Rattle.machine_model.specs.Moves.{Begins, Goes, Ends, Sweeps, GivesUp, Moves, GoesOn}
+use Rattle.machine_model.specs.GivingUp.{given_up, gave_up}
 use Rattle.machine_model.proofs.Found.{found_within, found_elsewhere}
 use Rattle.machine_model.proofs.Actors.{mark_one, marks_by, marks_in, marks_of, after_marks, gone_actors, begin_actors, IsOf, is_of, of_others, go_counts, begin_counts}
-use Rattle.machine_model.proofs.Actors.{of_itself, of_begin, of_end}
+use Rattle.machine_model.proofs.Actors.{of_itself, of_begin, of_end, of_giving_up}
 use Rattle.machine_model.proofs.Basics.{actor_at}
 
 -- an actor whose operation is told has a place
@@ -55,11 +56,12 @@ begin_not_running state k actor call operation d own is = denied (subst (λ a. o
     denied : operation_of state actor ≡ Some operation → ⊥
     denied e = grind arith
 
--- what becomes of an operation in a step: it rests while another actor or the sweep moves, goes on by its own step, or ends
+-- what becomes of an operation in a step: it rests while another actor or the sweep moves, goes on by its own step, ends, or gives up
 pub data Follows (state : State) (s : Step) (after : State) (k : ℕ) (operation : Operation) : Type 0 where
   rests : (s ≡ step.Go (suc k) → ⊥) → Runs after k (mark_one (marks_in state s) operation) → Follows state s after k operation
   steps : s ≡ step.Go (suc k) → GoesOn (action_of state operation) → Runs after k (mark_one (marks_in state s) (operation_after state operation)) → Follows state s after k operation
   ends : (answer : Reply) → s ≡ step.Go (suc k) → action_of state operation ≡ act.End answer → Follows state s after k operation
+  gives_up : (answer : Reply) → s ≡ step.GiveUp (suc k) → given_up operation.call operation.line ≡ Some answer → Runs after k (gave_up operation answer) → Follows state s after k operation
 
 not_place : (actor k : ℕ) → (k ≡ actor - 1 → ⊥) → step.Go actor ≡ step.Go (suc k) → ⊥
 not_place actor k apart e = let same : actor ≡ suc k = cc e in apart (omega arith)
@@ -96,13 +98,22 @@ follows state s o after (Ends {actor} {operation = own} {answer} d is a) k opera
       let unmarked : marks_in state (step.Go actor) ≡ None = ap (λ x. marks_by state x) is ∙ ap (λ x. marks_of state (handle_of own.call) x) a in
       rests (not_place actor k there.0) (subst (λ m. get_or (set state.actors (actor - 1) None) k None ≡ Some (mark_one m operation)) (sym unmarked) there.1)
 ]
+follows state s o after (GivesUp {actor} {operation = own} {answer} d is a) k operation at_k = elim (write_cases state.actors (actor - 1) k (Some (gave_up own answer)) operation at_k) [
+  | inl here ↦
+      let place = actor_at actor k (go_counts state actor d) here.0 in
+      let one = one_at state k own operation (at_place state actor k own place is) at_k in
+      gives_up answer (ap (λ x. step.GiveUp x) place) (subst (λ (x : Operation). given_up x.call x.line ≡ Some answer) one a)
+      (here.1 ∙ ap (λ x. Some (gave_up x answer)) one)
+  | inr there ↦ rests (λ e. let wrong : ⊥ = cc e in wrong) there.1
+]
 follows state s o after (Sweeps spent) k operation at_k = rests (λ e. let wrong : ⊥ = cc e in wrong) at_k
 
--- where what runs after a step comes from: the step begins it, or it rested, or went on
+-- where what runs after a step comes from: the step begins it, or it rested, or went on, or gave up
 pub data Comes (state : State) (s : Step) (k : ℕ) (found : Operation) : Type 0 where
   began : (call : Call) → s ≡ step.Begin (suc k) call → begin_denial state (suc k) call ≡ None → found ≡ begun_operation state call → Comes state s k found
   rested : (was : Operation) → Runs state k was → found ≡ mark_one (marks_in state s) was → (IsOf (suc k) s → ⊥) → Comes state s k found
   went : (was : Operation) → s ≡ step.Go (suc k) → Runs state k was → GoesOn (action_of state was) → found ≡ mark_one (marks_in state s) (operation_after state was) → Comes state s k found
+  gave : (was : Operation) (answer : Reply) → s ≡ step.GiveUp (suc k) → Runs state k was → given_up was.call was.line ≡ Some answer → found ≡ gave_up was answer → Comes state s k found
 
 comes_by : (state : State) (s : Step) (o : Outcome) (after : State) → Moves state s o after → (k : ℕ) (found : Operation) → Runs after k found → Dec (IsOf (suc k) s) → Comes state s k found
 comes_by state s o after m k found at_k (no other) = let (was, at_was, same) = of_others state s o after m k other found at_k in rested was at_was same other
@@ -112,6 +123,8 @@ comes_by state s o after (Goes {actor} {operation} d is a g) k found at_k (yes o
     went operation (ap (λ a. step.Go a) own) (at_place state actor k operation own is) (rw a g)
     (of_itself state actor operation k own found at_k ∙ ap (λ x. mark_one (marks_by state x) (operation_after state operation)) (sym is))
 comes_by state s o after (Ends {actor} d is a) k found at_k (yes own) = absurd (of_end state actor k own found at_k)
+comes_by state s o after (GivesUp {actor} {operation} {answer} d is a) k found at_k (yes own) =
+    gave operation answer (ap (λ x. step.GiveUp x) own) (at_place state actor k operation own is) a (sym (of_giving_up state actor operation answer k own found at_k))
 comes_by state s o after (Sweeps spent) k found at_k (yes own) = absurd own
 
 pub comes : (state : State) (s : Step) (o : Outcome) (after : State) → Moves state s o after → (k : ℕ) (found : Operation) → Runs after k found → Comes state s k found
@@ -130,3 +143,4 @@ actors_length state s o after (Goes {actor} {operation} d is a g) =
     ap (λ xs. length xs) (gone_actors state actor operation) ∙ marks_length (marks_by state (Some operation)) _ ∙ length-set state.actors _ _
 actors_length state s o after (Ends d is a) = length-set state.actors _ _
 actors_length state s o after (Sweeps spent) = refl
+actors_length state s o after (GivesUp d is a) = length-set state.actors _ _

@@ -36,6 +36,6 @@ pub mod Grown
 pub mod Numbered
 pub mod Basics
 pub mod Taking
-pub mod Spared
 pub mod Fates
+pub mod GivingUp
 pub mod Edges

@@ -17,6 +17,7 @@ pub use Rattle.proof_generations.specs.Beneath.history.specs.declared.calls.Acce
 pub use Rattle.proof_generations.specs.Beneath.history.specs.declared.calls.Access.TheVariants.{ReadOnly, Writable}
 pub use Rattle.proof_generations.specs.Beneath.history.specs.declared.calls.Call.{Call}
 pub use Rattle.proof_generations.specs.Beneath.history.specs.declared.calls.Call.TheVariants.{Clear, Close, Count, Entries, Freeze, Snapshot}
+pub use Rattle.proof_generations.specs.Beneath.history.specs.declared.replies.Reply.{Reply}
 pub use Rattle.proof_generations.specs.Beneath.machine_model.specs.Acting.{aborted, acted, attempt_after, carried_out, completed, decided, gone, if_changed, mark_after, new_root_taken, offered}
 pub use Rattle.proof_generations.specs.Beneath.machine_model.specs.Acting.{opened, opened_root, operation_after}
 pub use Rattle.proof_generations.specs.Beneath.machine_model.specs.Building.{changed}
@@ -27,13 +28,14 @@ pub use Rattle.proof_generations.specs.Beneath.machine_model.specs.Copying.{afte
 pub use Rattle.proof_generations.specs.Beneath.machine_model.specs.Copying.{copy_after_read, copy_if_made}
 pub use Rattle.proof_generations.specs.Beneath.machine_model.specs.Counting.{settled}
 pub use Rattle.proof_generations.specs.Beneath.machine_model.specs.Finding.{absent, absent_beside, after_listed, after_tomb, found_so, key_after_entry, key_after_main, key_after_read, passes}
+pub use Rattle.proof_generations.specs.Beneath.machine_model.specs.GivingUp.{gave_up, given_up}
 pub use Rattle.proof_generations.specs.Beneath.machine_model.specs.Grown.{main_before, main_word, node_under, or_before, prev_word, standing}
 unfoldable pub use Rattle.proof_generations.specs.Beneath.machine_model.specs.Grown.{grown}
 pub use Rattle.proof_generations.specs.Beneath.machine_model.specs.Lines.{new_try}
 pub use Rattle.proof_generations.specs.Beneath.machine_model.specs.Machine.{AreBounds, access_of, begin_denial, begun_operation, handle_closed, handles_taken, is_actor, is_number, is_taken}
 pub use Rattle.proof_generations.specs.Beneath.machine_model.specs.Machine.{least_free, next_state, pin_of, reclaimer_of, reserved_by, run, runs_on, taken_steps, with_begin}
 unfoldable pub use Rattle.proof_generations.specs.Beneath.machine_model.specs.Machine.{least_from, run_from, taken_below}
-pub use Rattle.proof_generations.specs.Beneath.machine_model.specs.Moves.{Begins, Ends, GoesOn, Moves, Sweeps}
+pub use Rattle.proof_generations.specs.Beneath.machine_model.specs.Moves.{Begins, Ends, GivesUp, GoesOn, Moves, Sweeps}
 pub use Rattle.proof_generations.specs.Beneath.machine_model.specs.Operations.{action_of, after_root, completing_read, first_line, generation_from, given_root, line_action, line_after, read_of}
 pub use Rattle.proof_generations.specs.Beneath.machine_model.specs.Operations.{rooting_read}
 pub use Rattle.proof_generations.specs.Beneath.machine_model.specs.Paths.{above, current, flag_in, is_below_root, is_start, start_of}

@@ -35,14 +35,15 @@ pub use Rattle.proof_shape.specs.Beneath.machine_model.specs.Copying.{copy_after
 pub use Rattle.proof_shape.specs.Beneath.machine_model.specs.Counting.{refs_of_root, settled}
 pub use Rattle.proof_shape.specs.Beneath.machine_model.specs.Finding.{absent_listed, after_listed, after_sibling, found, going_down, is_passable, key_after, key_after_entry, key_after_main}
 pub use Rattle.proof_shape.specs.Beneath.machine_model.specs.Finding.{key_after_read}
+pub use Rattle.proof_shape.specs.Beneath.machine_model.specs.GivingUp.{gave_up, given_up}
 pub use Rattle.proof_shape.specs.Beneath.machine_model.specs.Grown.{main_before, main_word, node_under, or_before, prev_word, standing}
 unfoldable pub use Rattle.proof_shape.specs.Beneath.machine_model.specs.Grown.{grown}
 pub use Rattle.proof_shape.specs.Beneath.machine_model.specs.Keys.{FitsKey, KeysFit}
 pub use Rattle.proof_shape.specs.Beneath.machine_model.specs.Lines.{new_try}
-pub use Rattle.proof_shape.specs.Beneath.machine_model.specs.Machine.{Answer, AreBounds, begin_denial, begin_unless, begun_operation, go_on, go_unless, is_number, is_taken_step, next_state, pin_of}
-pub use Rattle.proof_shape.specs.Beneath.machine_model.specs.Machine.{run, settled_after, state_after, step_by, swept, taken_steps, with_begin}
+pub use Rattle.proof_shape.specs.Beneath.machine_model.specs.Machine.{Answer, AreBounds, begin_denial, begin_unless, begun_operation, give_up_by, give_up_on, give_up_unless, go_on, go_unless}
+pub use Rattle.proof_shape.specs.Beneath.machine_model.specs.Machine.{is_number, is_taken_step, next_state, pin_of, run, settled_after, state_after, step_by, swept, taken_steps, with_begin}
 unfoldable pub use Rattle.proof_shape.specs.Beneath.machine_model.specs.Machine.{next, run_from, taken_from}
-pub use Rattle.proof_shape.specs.Beneath.machine_model.specs.Moves.{Begins, Ends, GoesOn, Moves, MovesIfTaken, Sweeps}
+pub use Rattle.proof_shape.specs.Beneath.machine_model.specs.Moves.{Begins, Ends, GivesUp, GoesOn, Moves, MovesIfTaken, Sweeps}
 pub use Rattle.proof_shape.specs.Beneath.machine_model.specs.Operations.{action_of, after_root, after_update, climbed_on, first_line, generation_from, given_root, kind_of, line_action, line_after}
 pub use Rattle.proof_shape.specs.Beneath.machine_model.specs.Operations.{read_of, swapped}
 pub use Rattle.proof_shape.specs.Beneath.machine_model.specs.Pairs.{by_key}

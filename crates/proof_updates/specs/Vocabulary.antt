@@ -30,13 +30,14 @@ unfoldable pub use Rattle.proof_updates.specs.Beneath.machine_model.specs.Conten
 pub use Rattle.proof_updates.specs.Beneath.machine_model.specs.Copying.{copied_reply, copy_after, copy_after_complete}
 pub use Rattle.proof_updates.specs.Beneath.machine_model.specs.Counting.{settled}
 pub use Rattle.proof_updates.specs.Beneath.machine_model.specs.Finding.{after_listed, after_sibling, found, is_passable, key_after, key_after_entry, key_after_main, key_after_read, passes}
+pub use Rattle.proof_updates.specs.Beneath.machine_model.specs.GivingUp.{gave_up, given_up, swap_given_up, tells_effect, unless_effect}
 pub use Rattle.proof_updates.specs.Beneath.machine_model.specs.Grown.{node_under, prev_word}
 unfoldable pub use Rattle.proof_updates.specs.Beneath.machine_model.specs.Grown.{grown}
 pub use Rattle.proof_updates.specs.Beneath.machine_model.specs.Keys.{KeysFit}
 pub use Rattle.proof_updates.specs.Beneath.machine_model.specs.Lines.{new_try}
 pub use Rattle.proof_updates.specs.Beneath.machine_model.specs.Machine.{AreBounds, begin_denial, begun_operation, is_taken_step, run, state_after, taken_steps, with_begin}
 unfoldable pub use Rattle.proof_updates.specs.Beneath.machine_model.specs.Machine.{next, taken_from}
-pub use Rattle.proof_updates.specs.Beneath.machine_model.specs.Moves.{Begins, Ends, GoesOn, Moves, Sweeps}
+pub use Rattle.proof_updates.specs.Beneath.machine_model.specs.Moves.{Begins, Ends, GivesUp, GoesOn, Moves, Sweeps}
 pub use Rattle.proof_updates.specs.Beneath.machine_model.specs.Operations.{action_of, after_root, after_update, climbed_on, first_line, generation_after, generation_from, given_root, line_action}
 pub use Rattle.proof_updates.specs.Beneath.machine_model.specs.Operations.{line_after, read_of, swapped}
 pub use Rattle.proof_updates.specs.Beneath.machine_model.specs.Pairs.{by_key}

@@ -14,7 +14,7 @@ use Rattle.proof_generations.specs.Beneath.proof_memory.proofs.Safety.AtEachTime
 use Rattle.proof_generations.specs.Beneath.proof_memory.proofs.Claims.Uses.{safe_of}
 use Rattle.proof_generations.proofs.Roots.Open.{no_close_at}
 use Rattle.proof_generations.proofs.Roots.Along.{ordered_at}
-use Rattle.proof_generations.proofs.Handles.Running.{Comes, began, rested, went, comes}
+use Rattle.proof_generations.proofs.Handles.Running.{Comes, began, rested, went, comes, gave}
 use Rattle.proof_generations.proofs.Roots.Rooted.{root_given}
 use Rattle.proof_generations.proofs.Falling.Nodes.{used_generation}
 use Rattle.proof_generations.proofs.Lines.Knows.{Knows, IsInner}
@@ -154,6 +154,7 @@ module _ (limits : Bounds) (states : ℕ → State) (last : ℕ) (run : IsRun li
         subst (KnowsGenerations states run.records last (suc t) (moment_at (run.records (suc t)) (suc k))) (sym it)
         (marked_knows states run.records last (suc t) (moment_at (run.records (suc t)) (suc k)) (marks_in (states t) s) (operation_after (states t) was)
         (goes_knows k was at_was o (subst (λ x. Moves (states t) x o (states (suc t))) is m) g goes_noted))
+    comes_knows k found (gave was answer is at_was may it) = subst (KnowsGenerations states run.records last (suc t) (moment_at (run.records (suc t)) (suc k))) (sym it) ((λ w i. absurd i), (λ r. tt))
 
     pub lines_next : AllKnow states run.records last (suc t)
     lines_next k found runs = comes_knows k found (comes (states t) s o (states (suc t)) m k found runs)

@@ -10,7 +10,7 @@ use Rattle.proof_generations.specs.Beneath.machine_model.specs.declared.copying.
 use Rattle.proof_generations.specs.Beneath.machine_model.specs.declared.roots.CompleteLine.TheVariants as complete
 use Rattle.proof_generations.specs.Beneath.machine_model.specs.declared.lines.Line.TheVariants as line
 use Rattle.proof_generations.specs.Beneath.machine_model.proofs.Actors.{mark_one, mark_only}
-use Rattle.proof_generations.proofs.Handles.Running.{Comes, began, rested, went, comes}
+use Rattle.proof_generations.proofs.Handles.Running.{Comes, began, rested, went, comes, gave}
 use Rattle.proof_generations.specs.Beneath.machine_model.proofs.Edges.Lines.{edge}
 use Rattle.proof_generations.specs.Beneath.machine_model.specs.Edges.Building.{BuildEdge, SwappedEdge, entombed, climbs_on, SwapEdge, succeeds, is_undecided}
 use Rattle.proof_generations.specs.Beneath.machine_model.specs.Edges.Key.{FoundEdge, KeyEdge, answers, finds, finds_listed}
@@ -237,6 +237,7 @@ own_by : (state : State) (s : Step) → AllOwn state → (k : ℕ) (found : Oper
 own_by state s all k found (began call is d it) = subst HasOwn (sym it) (first_fits call _ _ 0)
 own_by state s all k found (rested was at_k it other_step) = subst HasOwn (sym it) (marked_has _ was (all k was at_k))
 own_by state s all k found (went was is at_k g it) = subst HasOwn (sym it) (marked_has _ (operation_after state was) (line_fits state was was.line (all k was at_k)))
+own_by state s all k found (gave was answer is at_k may it) = subst HasOwn (sym it) tt
 
 pub own_after : (state : State) (s : Step) (o : Outcome) (after : State) → Moves state s o after → AllOwn state → AllOwn after
 own_after state s o after m all k found at_k = own_by state s all k found (comes state s o after m k found at_k)
