@@ -17,6 +17,7 @@ use Rattle.lock_runner.proofs.ActorHistory.Steps.{denied_push, others_leave_the_
 abbrev pub IsDoneBy : ℕ → Step → Type 0
 IsDoneBy actor (step.Begin other call) = other ≡ actor
 IsDoneBy actor (step.Go other) = other ≡ actor
+IsDoneBy actor (step.GiveUp other) = other ≡ actor
 IsDoneBy actor step.Sweep = Unit {0}
 
 -- one such step stands behind the others, or none
@@ -68,6 +69,7 @@ has_worked_same actor board = record { limits = refl; steps = inl refl }
 not_anothers : (actor other : ℕ) (s : Step) → IsDoneBy actor s → (other ≡ actor → ⊥) → IsStepOf other s → ⊥
 not_anothers actor other (step.Begin owner call) own apart is = apart (sym is ∙ own)
 not_anothers actor other (step.Go owner) own apart is = apart (sym is ∙ own)
+not_anothers actor other (step.GiveUp owner) own apart is = apart (sym is ∙ own)
 not_anothers actor other step.Sweep own apart is = is
 
 followed_more : (actor other : ℕ) (a b c : List Step) → (other ≡ actor → ⊥) → GoesOnWithout other a b → AddsOneAtMost actor b c → GoesOnWithout other a c

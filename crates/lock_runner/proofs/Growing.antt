@@ -40,7 +40,7 @@ noted_grows : (past : Record) (number : ℕ) (t : Told) → length past.events �
 noted_grows past number (told.Began id actor call opens) = omega (arith, length-append past.events (Begin id actor call opens ∷ []))
 noted_grows past number (told.Went actor progress) = omega arith
 noted_grows past number (told.Ended actor e answer) = omega (arith, length-append past.events (End e.id answer ∷ []))
-noted_grows past number told.Swept = omega arith
+noted_grows past number told.Nothing = omega arith
 
 recorded_grows : (base : ℕ) (state : State) (past : Record) (steps : List Step) → base ≤ length past.events → base ≤ length (record_from state past steps).events
 unfolding record_from

@@ -1,6 +1,7 @@
 -- What lies below this crate, named through the nearest crates alone: crates.txt lists only these, since the toolchain goes along each of its paths.
 pub use Rattle.step_machine as step_machine
 pub use Rattle.step_machine.specs.Beneath.machine_model as machine_model
+pub use Rattle.step_machine.specs.Beneath.machine_core as machine_core
 pub use Rattle.step_machine.specs.Beneath.epochs as epochs
 pub use Rattle.step_machine.specs.Beneath.slot_arena as slot_arena
 pub use Rattle.step_machine.specs.Beneath.proof_generations as proof_generations

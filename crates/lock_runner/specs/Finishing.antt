@@ -2,6 +2,7 @@
 use Rattle.std.specs.Prelude.{◌≡◌, ℕ, ◌≤◌, List, Some, slice_get, sum_by, All, Result, Ok, Err}
 use Rattle.step_machine.specs.declared.records.Record.{Record}
 use Rattle.lock_runner.specs.Beneath.proof_runs.specs.Machines.{Taken, past_of, AreTaken}
+use Rattle.lock_runner.specs.Beneath.machine_core.specs.Asking.{asked_all}
 use Rattle.step_machine.specs.Records.{IsRecordOf, IsLegalRecord}
 use Rattle.lock_runner.specs.ActorHistory.Answers.{AreAnswersOf, RunsJust}
 use Rattle.lock_runner.specs.ActorHistory.Laws.{IsStepOf}
@@ -38,12 +39,12 @@ pub record IsGathered (runner : Room) (seats : List Seated) (machine : Taken) : 
 
 -- the machine that a record tells of
 abbrev pub recorded : Record → Taken
-recorded made = record { limits = made.limits; steps = made.steps.items }
+recorded made = record { limits = made.limits; steps = asked_all made.steps.items }
 
 -- The record is that of the machine, which took each of its steps, and its order is legal for its history; where the order found no memory the machine
 -- comes back, and where a seat isn't there all that was handed in.
 abbrev pub IsFinished : Room → List Seated → Result Record Unfinished → Type 0
 IsFinished runner seats (Ok made) =
-    AreHere runner.seats seats × IsRecordOf (recorded made) made × IsGathered runner seats (recorded made) × AreTaken made.limits made.steps.items × IsLegalRecord made
+    AreHere runner.seats seats × IsRecordOf (recorded made) made × IsGathered runner seats (recorded made) × AreTaken made.limits (asked_all made.steps.items) × IsLegalRecord made
 IsFinished runner seats (Err (Memory machine)) = AreHere runner.seats seats × IsGathered runner seats machine
 IsFinished runner seats (Err (Missing back handed)) = IsMissing runner.seats seats × (back ≡ runner) × (handed.items ≡ seats)

@@ -1,5 +1,6 @@
 //! One hold of the gate: one step of the machine at most.
 ghost use Rattle.std.specs.Prelude.{◌≡◌};
+ghost use Rattle.lock_runner.specs.Beneath.machine_core.specs.Asking.{asked};
 ghost use Rattle.lock_runner.specs.Asks.{step_of};
 ghost use Rattle.lock_runner.specs.Holds.{Answers, Worked};
 
@@ -27,7 +28,7 @@ impl Object<Ask, Told> for Shared {
 /// The step of the actor whose seat has this number.
 #[inline(always)]
 fn step_of(seat: u8, work: Work) -> Step
-    ensures { result ≡ step_of seat work }
+    ensures { asked result ≡ step_of seat work }
 {
     match work {
         Work::Begin(call) => Step::Begin { actor: seat, call },
@@ -39,7 +40,7 @@ fn step_of(seat: u8, work: Work) -> Step
 /// A step on the machine, or none where fewer events are recorded than were heard of.
 #[inline(always)]
 fn work(machine: &mut Machine, step: Step, heard: u64) -> Told
-    ensures { Worked result machine.old step heard machine.new }
+    ensures { Worked result machine.old (asked step) heard machine.new }
 {
     let place = machine.events().len() as u64;
     if place < heard {

@@ -5,6 +5,7 @@ pub mod Able
 pub mod Tying
 pub mod Tied
 pub mod Held
+pub mod Stopped
 pub mod Steps
 pub mod Ends
 pub mod Reclaimed

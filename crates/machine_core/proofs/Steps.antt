@@ -10,6 +10,7 @@ use Rattle.machine_model.specs.declared.steps.Step.TheVariants as step
 use Rattle.machine_model.proofs.Frames.{acted_framed}
 use Rattle.proof_core.specs.Bounds.{Answers, Applies, Leads, Walks}
 use Rattle.machine_core.specs.Told.{TellsBegin, stepped}
+use Rattle.machine_core.proofs.Stopped.{giving_up_denied, giving_up_taken}
 use Rattle.machine_core.specs.declared.telling.Begun.{Begun}
 use Rattle.machine_core.specs.declared.telling.Stepped.{Stepped}
 use Rattle.machine_model.specs.declared.records.Told.TheVariants as told
@@ -27,6 +28,7 @@ unfolding next
 denied state (step.Begin actor call) why e = ap (λ d. begin_unless state actor call d) e
 denied state (step.Go actor) why e = ap (λ d. go_unless state actor d) e
 denied state step.Sweep why e = sweep_denied state (is_spent state) why e
+denied state (step.GiveUp actor) why e = giving_up_denied state actor why e
 
 -- a denied step is refused as such
 pub refused : (state : State) (s : Step) (why : Refusal) → denial_of state s ≡ Some why → Answers (Err why) state (next state s) state
@@ -73,6 +75,7 @@ allowed : (state : State) (s : Step) → denial_of state s ≡ None → is_taken
 allowed state (step.Begin actor call) d = ap is_taken_step (begin_answer state actor call d)
 allowed state (step.Go actor) d = let (operation, found) = running state actor d in ap is_taken_step (go_answer state actor operation d found)
 allowed state step.Sweep d = ap is_taken_step (sweep_answer state (sweep_unspent state d))
+allowed state (step.GiveUp actor) d = giving_up_taken state actor d
 
 -- a step of an operation that isn't denied applies, be it taken or not
 pub applies_stepped : (before after : State) (actor : ℕ) (r : Result Stepped Refusal) → go_denial before actor ≡ None →

@@ -37,11 +37,12 @@ pub use Rattle.machine_model.specs.Contents.{content_at, most_levels}
 unfoldable pub use Rattle.machine_model.specs.Contents.{pairs_below}
 pub use Rattle.machine_model.specs.Counting.{outside, refs_of_operation, refs_of_root, settled}
 pub use Rattle.machine_model.specs.Finding.{passes}
+pub use Rattle.machine_model.specs.GivingUp.{given_up}
 pub use Rattle.machine_model.specs.Grown.{standing}
 pub use Rattle.machine_model.specs.Keys.{FitsKey}
-pub use Rattle.machine_model.specs.Machine.{access_of, begin_denial, begin_unless, begun_operation, denial_of, first_reason, go_denial, go_on, go_unless, handle_closed, is_actor, is_busy, is_number}
-pub use Rattle.machine_model.specs.Machine.{is_running, is_spent, is_taken, is_taken_step, least_free, longest_life, names, next_kind, pin_of, reclaimer_of, reserved_by, run, settled_after, swept}
-pub use Rattle.machine_model.specs.Machine.{swept_with, went, with_begin}
+pub use Rattle.machine_model.specs.Machine.{access_of, answer_given_up, begin_denial, begin_unless, begun_operation, denial_of, first_reason, give_up_by, give_up_denial, give_up_on, give_up_unless}
+pub use Rattle.machine_model.specs.Machine.{go_denial, go_on, go_unless, handle_closed, is_actor, is_busy, is_number, is_running, is_spent, is_taken, is_taken_step, least_free, longest_life, names}
+pub use Rattle.machine_model.specs.Machine.{next_kind, pin_of, reclaimer_of, reserved_by, run, settled_after, swept, swept_with, went, with_begin}
 unfoldable pub use Rattle.machine_model.specs.Machine.{next}
 pub use Rattle.machine_model.specs.Moves.{GoesOn}
 pub use Rattle.machine_model.specs.Operations.{action_of, completing_read, first_line, generation_from, kind_of, line_action, read_of, rooting_read, swapping_read}

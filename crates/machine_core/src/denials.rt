@@ -5,17 +5,18 @@ ghost use Rattle.machine_model.specs.Machine.{is_spent, is_access, begin_denial,
 ghost use Rattle.machine_model.specs.declared.steps.Step.TheVariants as steps;
 ghost use Rattle.machine_core.specs.Beneath.proof_straight.specs.Resting.{IsOfRun};
 ghost use Rattle.proof_core.specs.Numbering.{KnowsNumbers};
+ghost use Rattle.machine_core.specs.Asking.{asked};
 ghost use Rattle.machine_core.specs.Seen.{seen};
 ghost use Rattle.proof_core.specs.Going.{goes_on};
 
 use crate::actors::is_actor;
+use crate::asked::Step;
 use crate::calls::{is_close, needs_read_only, needs_writable, opens_handle};
 use crate::handles::runs_on;
 use crate::parts::Parts;
 use ctrie_base::Refusal;
 use handle_table::HANDLE_LIMIT;
 use history::{Access, Call};
-use machine_model::Step;
 
 /// Whether the machine has taken all its steps.
 pub fn is_spent(parts: &Parts) -> bool
@@ -100,7 +101,7 @@ pub fn spent_denial(parts: &Parts, _actor: u8) -> Option<Refusal>
 #[inline(always)]
 pub fn denial_of(parts: &Parts, step: Step) -> Option<Refusal>
     requires { KnowsNumbers parts.now.handles (seen parts.now) }
-    ensures { result ≡ denial_of (seen parts.now) step }
+    ensures { result ≡ denial_of (seen parts.now) (asked step) }
 {
     match step {
         Step::Begin { actor, call } => begin_denial(parts, actor, call),

@@ -17,6 +17,7 @@
 #![tactic(auto)]
 
 mod actors;
+mod asked;
 mod beginning;
 mod calls;
 mod changing;
@@ -53,6 +54,7 @@ mod straight;
 mod sweeping;
 mod telling;
 
+pub use asked::Step;
 pub use calls::key_fits;
 pub use differing::Difference;
 pub use machine::Core;

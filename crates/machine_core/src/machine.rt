@@ -5,10 +5,11 @@ ghost use Rattle.slot_arena.specs.Heaps.{in_use};
 ghost use Rattle.machine_model.specs.declared.steps.Step.TheVariants as steps;
 ghost use Rattle.machine_model.specs.States.{first_state, root_at};
 ghost use Rattle.machine_model.specs.Contents.{content_at};
-ghost use Rattle.machine_model.specs.Machine.{next, is_running, is_busy, next_kind, runs_on, begin_denial, denial_of, is_access, is_spent, access_of, handles_taken, AreBounds};
+ghost use Rattle.machine_model.specs.Machine.{next, is_running, is_busy, next_kind, runs_on, begin_denial, denial_of, is_access, is_spent, access_of, handles_taken};
 ghost use Rattle.machine_model.specs.Refusing.{RefusesContent};
-ghost use Rattle.proof_core.specs.Bounds.{Answers, Applies, RefusesBounds};
+ghost use Rattle.proof_core.specs.Bounds.{Answers, Applies, AreInRange, RefusesBounds};
 ghost use Rattle.machine_core.specs.Beneath.proof_straight.specs.Resting.{IsOfRun};
+ghost use Rattle.machine_core.specs.Asking.{asked};
 ghost use Rattle.machine_core.specs.Finding.{found_along};
 ghost use Rattle.machine_core.specs.Straight.{CarriesOut};
 ghost use Rattle.machine_core.specs.Sweeping.{Reclaims};
@@ -18,6 +19,7 @@ ghost use Rattle.proof_core.specs.Going.{goes_on};
 ghost use Rattle.running.specs.Places.{are_pairs};
 ghost use Rattle.proof_core.specs.Work.{WorksLittle};
 
+use crate::asked::Step;
 use crate::actors::{copied_reply, is_busy, next_kind};
 use crate::contents::content_of;
 use crate::denials::{begin_denial, denial_of, go_denial, is_access, spent_denial, sweep_denial};
@@ -33,7 +35,7 @@ use crate::sweeping::{reclaim, sweep_once};
 use crate::telling::{Begun, Ended, Stepped};
 use ctrie_base::{Kind, Refusal, Ticks};
 use history::{Access, Call, Pairs, Reply};
-use machine_model::{Bounds, Outcome, Publication, Step};
+use machine_model::{Bounds, Outcome, Publication};
 use std::alloc::Global;
 use std::marker::Model;
 
@@ -68,7 +70,7 @@ impl Core {
         ensures made { IfOk result (λ core. core.state ≡ first_state bounds) }
         ensures work { IfOk result (λ core. core.work ≤ bounds.slots + ticks_of_a_start) }
         ensures refused { IfErr result (λ refusal. RefusesBounds bounds refusal) }
-        ensures in_range { OnOk result (AreBounds bounds) }
+        ensures in_range { OnOk result (AreInRange bounds) }
     {
         if !are_bounds(bounds) {
             return Err(Refusal::BadLimits);
@@ -194,7 +196,7 @@ impl Core {
     /// Why the step is denied, where it is.
     #[inline(always)]
     pub fn denial(&self, step: Step) -> Option<Refusal>
-        ensures { result ≡ denial_of self.now.state step }
+        ensures { result ≡ denial_of self.now.state (asked step) }
     {
         denial_of(&self.parts, step)
     }

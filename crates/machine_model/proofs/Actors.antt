@@ -5,6 +5,7 @@ use native.Mathlib.Decide.{ℕ_discrete}
 use Rattle.std.proofs.Math.ListN.{get_or-map}
 use Rattle.std.proofs.lemmas.Option.{none-some, same_Some}
 use Rattle.history.specs.declared.calls.Call.{Call}
+use Rattle.history.specs.declared.replies.Reply.{Reply}
 use Rattle.machine_model.specs.Beneath.slot_arena.specs.declared.refs.Ref.{Ref}
 use Rattle.machine_model.specs.declared.operations.Operation.{Operation}
 use Rattle.machine_model.specs.declared.actions.Action.{Action}
@@ -19,8 +20,9 @@ use Rattle.machine_model.specs.Calls.{handle_of}
 use Rattle.machine_model.specs.Swapping.{is_carried_out}
 use Rattle.machine_model.specs.Acting.{acted, aborted, offered, completed, new_root_taken, marked, operation_after, gone}
 use Rattle.machine_model.specs.Machine.{with_begin, begin_denial, go_denial, is_actor}
+use Rattle.machine_model.specs.GivingUp.{gave_up}
 use Rattle.machine_model.proofs.Found.{found_elsewhere, found_here}
-use Rattle.machine_model.specs.Moves.{Begins, Goes, Ends, Sweeps}
+use Rattle.machine_model.specs.Moves.{Begins, Goes, Ends, Sweeps, GivesUp}
 use Rattle.machine_model.specs.Moves.{Moves}
 
 -- a number from 1 to the limit is that of an actor
@@ -108,12 +110,14 @@ abbrev pub IsOf : ℕ → Step → Type 0
 IsOf actor (step.Begin other call) = other ≡ actor
 IsOf actor (step.Go other) = other ≡ actor
 IsOf actor step.Sweep = ⊥
+IsOf actor (step.GiveUp other) = other ≡ actor
 
 -- a step is of an actor or not
 pub is_of : (actor : ℕ) (s : Step) → Dec (IsOf actor s)
 is_of actor (step.Begin other call) = ℕ_discrete other actor
 is_of actor (step.Go other) = ℕ_discrete other actor
 is_of actor step.Sweep = no (λ h. h)
+is_of actor (step.GiveUp other) = ℕ_discrete other actor
 
 -- a step that isn't the actor's isn't its next one
 pub not_own_go : (actor : ℕ) (s : Step) → (IsOf actor s → ⊥) → s ≡ step.Go actor → ⊥
@@ -124,6 +128,7 @@ abbrev pub marks_in : State → Step → Option ℕ
 marks_in state (step.Begin actor call) = None
 marks_in state (step.Go actor) = marks_by state (operation_of state actor)
 marks_in state step.Sweep = None
+marks_in state (step.GiveUp actor) = None
 
 -- an actor whose step is taken isn't 0
 pub begin_counts : (state : State) (actor : ℕ) (call : Call) → begin_denial state actor call ≡ None → 0 < actor
@@ -159,6 +164,7 @@ of_others state s o after (Ends {actor} {operation} d is a) k other found h =
     let none = ap (λ x. marks_by state x) is ∙ ap (λ x. marks_of state (handle_of operation.call) x) a in
     (found, found_of_other state.actors actor k _ (go_counts state actor d) other ∙ h, ap (λ m. mark_one m found) (sym none))
 of_others state s o after (Sweeps spent) k other found h = (found, h, refl)
+of_others state s o after (GivesUp {actor} {operation} d is a) k other found h = (found, found_of_other state.actors actor k _ (go_counts state actor d) other ∙ h, refl)
 
 -- after a write at its own place an actor runs what was put there
 found_of_own : (xs : List (Option Operation)) (actor k : ℕ) (put : Option Operation) (found : Operation) → actor ≡ suc k →
@@ -184,3 +190,8 @@ of_begin state actor call operation k own found h =
 -- after its end it runs nothing
 pub of_end : (state : State) (actor : ℕ) (k : ℕ) → actor ≡ suc k → (found : Operation) → get_or (set state.actors (actor - 1) None) k None ≡ Some found → ⊥
 of_end state actor k own found h = none-some found (found_of_own state.actors actor k None found own h)
+
+-- and once its operation has given up, that one so
+pub of_giving_up : (state : State) (actor : ℕ) (operation : Operation) (answer : Reply) (k : ℕ) → actor ≡ suc k → (found : Operation) →
+    get_or (set state.actors (actor - 1) (Some (gave_up operation answer))) k None ≡ Some found → gave_up operation answer ≡ found
+of_giving_up state actor operation answer k own found h = same_Some _ _ (found_of_own state.actors actor k (Some (gave_up operation answer)) found own h)

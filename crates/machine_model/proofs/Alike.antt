@@ -26,7 +26,7 @@ use Rattle.machine_model.specs.declared.steps.Outcome.{Outcome}
 use Rattle.machine_model.specs.declared.steps.Step.{Step}
 use Rattle.machine_model.specs.declared.steps.Step.TheVariants as step
 use Rattle.machine_model.specs.States.{State, first_state}
-use Rattle.machine_model.specs.Moves.{Moves, Begins, Goes, Ends, Sweeps}
+use Rattle.machine_model.specs.Moves.{Moves, Begins, Goes, Ends, Sweeps, GivesUp}
 use Rattle.machine_model.specs.Records.{Record, noted}
 use Rattle.machine_model.specs.Tellings.{told_in}
 
@@ -52,6 +52,7 @@ noted_alike state past s o after (Ends {actor} {operation} {answer} d is a) k =
       moments = k.moments;
     })
 noted_alike state past s o after (Sweeps spent) k = record { begun_are = k.begun_are; moments = k.moments }
+noted_alike state past s o after (GivesUp d is a) k = record { begun_are = k.begun_are; moments = k.moments }
 
 first_alike : (limits : Bounds) → AreAlike (first_state limits) (first_record limits)
 unfolding first_state
@@ -100,6 +101,7 @@ moment_rests state past s o after (Goes {actor} {operation} {action} d is a g) k
     ap (λ r. moment_at r (suc k)) (noted_going state past actor operation action is a g) ∙ moment_others past actor (suc k) _ (go_counts state actor d) (λ e. other (sym e))
 moment_rests state past s o after (Ends {actor} {operation} {answer} d is a) k other = ap (λ r. moment_at r (suc k)) (noted_ending state past actor operation answer is a)
 moment_rests state past s o after (Sweeps spent) k other = refl
+moment_rests state past s o after (GivesUp d is a) k other = refl
 
 -- what is known of them after a step of its own
 pub moment_goes : (state : State) (past : Record) (actor : ℕ) (operation : Operation) → AreAlike state past → is_actor state actor ≡ true →

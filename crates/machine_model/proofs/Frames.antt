@@ -13,7 +13,7 @@ use Rattle.machine_model.specs.States.{State}
 use Rattle.machine_model.specs.Operations.{action_of}
 use Rattle.machine_model.specs.Acting.{acted, aborted, offered, completed, new_root_taken}
 use Rattle.machine_model.specs.Machine.{with_begin, swept}
-use Rattle.machine_model.specs.Moves.{Begins, Goes, Ends, Sweeps}
+use Rattle.machine_model.specs.Moves.{Begins, Goes, Ends, Sweeps, GivesUp}
 use Rattle.machine_model.specs.Moves.{Moves, begun_operation}
 
 -- what stays the same, whatever the action does
@@ -67,6 +67,7 @@ limits_kept state s o after (Begins {actor} {call} d) = begin_limits state actor
 limits_kept state s o after (Goes {actor} {operation} d found a g) = (acted_framed _ _ (action_of state operation)).limits
 limits_kept state s o after (Ends d found a) = refl
 limits_kept state s o after (Sweeps spent) = sweep_limits state
+limits_kept state s o after (GivesUp d is a) = refl
 
 -- each step that is taken is counted
 pub steps_counted : (state : State) (s : Step) (o : Outcome) (after : State) → Moves state s o after → after.steps ≡ state.steps + 1
@@ -74,6 +75,7 @@ steps_counted state s o after (Begins d) = refl
 steps_counted state s o after (Goes d found a g) = refl
 steps_counted state s o after (Ends d found a) = refl
 steps_counted state s o after (Sweeps spent) = refl
+steps_counted state s o after (GivesUp d is a) = refl
 
 -- a begin is counted
 pub begin_counted : (state : State) (actor : ℕ) (call : Call) (operation : Operation) → (with_begin state actor call operation).begun ≡ state.begun + 1

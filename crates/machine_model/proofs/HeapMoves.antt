@@ -18,7 +18,7 @@ use Rattle.machine_model.specs.Operations.{action_of}
 use Rattle.machine_model.specs.Acting.{acted, aborted, offered, completed, decided, new_root_taken, if_changed}
 use Rattle.epochs.specs.Sweeping.{Reclaimer, ripe, sweep_by}
 use Rattle.machine_model.specs.Machine.{with_begin, pin_of, reclaimer_of}
-use Rattle.machine_model.specs.Moves.{Begins, Goes, Ends, Sweeps}
+use Rattle.machine_model.specs.Moves.{Begins, Goes, Ends, Sweeps, GivesUp}
 use Rattle.machine_model.specs.Moves.{Moves, begun_operation}
 
 -- the effects, where this slot is due to be freed, if one is
@@ -100,4 +100,5 @@ pub heap_moves : (state : State) (s : Step) (o : Outcome) (after : State) → Mo
 heap_moves state s o after (Begins {actor} {call} d) = same_heap _ (begin_heap state actor call (begun_operation state call))
 heap_moves state s o after (Goes {actor} {operation} d is a g) = acted_heap _ _ (handle_of operation.call) (action_of state operation)
 heap_moves state s o after (Ends d is a) = Stays
+heap_moves state s o after (GivesUp d is a) = Stays
 heap_moves state s o after (Sweeps spent) = sweep_heap (map pin_of state.actors) (reclaimer_of state) (ripe state.epoch state.limbo)

@@ -2,7 +2,9 @@
 --
 -- A step: `moves` and `moved` (Moves) give the kind of move that a taken step is; `limits_kept`, `steps_counted`, `begin_events` and IsFramed (Frames) what
 -- no action touches; `begin_heap`, `aborted_heap`, `offered_heap`, `completed_heap` (HeapMoves) what leaves the heap alone. Who runs where: Actors (a begin,
--- a step, an end and marks, seen at one place of the list of actors); `of_running` (EachOperation) shows a fact of each running operation.
+-- a step, an end and marks, seen at one place of the list of actors); `of_running` (EachOperation) shows a fact of each running operation; `comes`, `follows`
+-- (Fates) where the operation at a place comes from and what becomes of it, `place_of_actor` which place an actor has. `edge` (Edges.Lines) says which way a
+-- line is left, beside it one lemma for each program.
 --
 -- A list of steps: `along` (Along) is the induction, `run-append` and `run_push` take runs apart, `limits_along` keeps limits; denied steps go by `run-taken`
 -- (Taken). A run as states over time: `run_is` and `run_ends` (Times) lead to it from a list of steps; `at_each_time` and `along_run` are its inductions,
@@ -34,5 +36,6 @@ pub mod Grown
 pub mod Numbered
 pub mod Basics
 pub mod Taking
-pub mod Spared
+pub mod Fates
+pub mod GivingUp
 pub mod Edges

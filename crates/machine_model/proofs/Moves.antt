@@ -14,8 +14,9 @@ use Rattle.machine_model.specs.declared.steps.Outcome.{Outcome}
 use Rattle.machine_model.specs.declared.steps.Outcome.TheVariants as outcome
 use Rattle.machine_model.specs.States.{State, operation_of}
 use Rattle.machine_model.specs.Operations.{action_of}
-use Rattle.machine_model.specs.Machine.{next, begin_denial, begin_unless, go_denial, go_unless, go_on, step_by, is_spent, swept, settled_after}
-use Rattle.machine_model.specs.Moves.{Moves, Begins, Goes, Ends, Sweeps, MovesIfTaken, IsTaken}
+use Rattle.machine_model.specs.Machine.{next, begin_denial, begin_unless, go_denial, go_unless, go_on, step_by, is_spent, swept, settled_after, give_up_by, give_up_on, give_up_unless}
+use Rattle.machine_model.specs.GivingUp.{given_up}
+use Rattle.machine_model.specs.Moves.{Moves, Begins, Goes, Ends, Sweeps, GivesUp, MovesIfTaken, IsTaken}
 
 -- a begin, by why it is denied
 begin_moves : (state : State) (actor : ℕ) (call : Call) (denial : Option Refusal) → begin_denial state actor call ≡ denial →
@@ -47,12 +48,28 @@ sweep_moves : (state : State) (spent : Bool) → is_spent state ≡ spent →
 sweep_moves state true e = tt
 sweep_moves state false e = Sweeps e
 
+-- giving up, by what the operation answers then, if it may
+give_up_by_moves : (state : State) (actor : ℕ) → go_denial state actor ≡ None → (operation : Operation) → operation_of state actor ≡ Some operation → (answer : Option Reply) →
+    given_up operation.call operation.line ≡ answer → MovesIfTaken state (step.GiveUp actor) (give_up_by state actor operation answer)
+give_up_by_moves state actor d operation is None e = tt
+give_up_by_moves state actor d operation is (Some answer) e = GivesUp d is e
+
+give_up_on_moves : (state : State) (actor : ℕ) → go_denial state actor ≡ None → (found : Option Operation) → operation_of state actor ≡ found →
+    MovesIfTaken state (step.GiveUp actor) (give_up_on state actor found)
+give_up_on_moves state actor d None is = tt
+give_up_on_moves state actor d (Some operation) is = give_up_by_moves state actor d operation is (given_up operation.call operation.line) refl
+
+give_up_moves : (state : State) (actor : ℕ) (denial : Option Refusal) → go_denial state actor ≡ denial → MovesIfTaken state (step.GiveUp actor) (give_up_unless state actor denial)
+give_up_moves state actor None d = give_up_on_moves state actor d (operation_of state actor) refl
+give_up_moves state actor (Some refusal) d = tt
+
 -- each step that is taken is a move
 pub moves : (state : State) (s : Step) → MovesIfTaken state s (next state s)
 unfolding next
 moves state (step.Begin actor call) = begin_moves state actor call (begin_denial state actor call) refl
 moves state (step.Go actor) = go_moves state actor (go_denial state actor) refl
 moves state step.Sweep = sweep_moves state (is_spent state) refl
+moves state (step.GiveUp actor) = give_up_moves state actor (go_denial state actor) refl
 
 -- a step that comes to this is a move
 pub moved : (state : State) (s : Step) (o : Outcome) (after : State) → next state s ≡ Ok (o, after) → Moves state s o after

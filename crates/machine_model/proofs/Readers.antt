@@ -3,6 +3,7 @@ use Rattle.std.proofs.Common.{◌≡◌, ℕ, false, List, Option, Some, None, a
 use Rattle.machine_model.specs.Beneath.ctrie_base.specs.declared.kinds.Kind.TheVariants as kind
 use Rattle.history.specs.declared.calls.Access.TheVariants.{ReadOnly}
 use Rattle.history.specs.declared.calls.Call.{Call}
+use Rattle.history.specs.declared.replies.Reply.{Reply}
 use Rattle.history.specs.declared.replies.Reply.TheVariants as reply
 use Rattle.machine_model.specs.Beneath.slot_arena.specs.declared.refs.Ref.{Ref}
 use Rattle.machine_model.specs.declared.reading.Read.{Read}
@@ -23,6 +24,7 @@ use Rattle.machine_model.specs.Operations.{kind_of, line_action, line_after, fir
 use Rattle.machine_model.specs.Finding.{key_action, key_after}
 use Rattle.machine_model.specs.Walking.{walk_action, walk_after}
 use Rattle.machine_model.specs.Acting.{operation_after}
+use Rattle.machine_model.specs.GivingUp.{gave_up}
 use Rattle.machine_model.specs.Machine.{begin_denial, run}
 use Rattle.machine_model.specs.Moves.{begun_operation}
 use Rattle.machine_model.proofs.Actors.{mark_one, mark_only}
@@ -161,6 +163,10 @@ gone_reads state operation h a = let (n, r) = h a in (n, readers state operation
 marked_reads : (m : Option ℕ) (operation : Operation) → ReadsIfReadOnly operation → ReadsIfReadOnly (mark_one m operation)
 marked_reads m operation h = rw (mark_only m operation) h
 
+-- nor where it gives up
+given_up_reads : (operation : Operation) (answer : Reply) → ReadsIfReadOnly operation → ReadsIfReadOnly (gave_up operation answer)
+given_up_reads operation answer h a = ((h a).0, tt)
+
 -- the same in the form of what holds of each operation after a run
 abbrev Reads : State → Operation → Type 0
 Reads state operation = ReadsIfReadOnly operation
@@ -170,6 +176,7 @@ pub each_reads : (limits : Bounds) (steps : List Step) → OfEach Reads (run lim
 each_reads limits =
     of_each_along limits Reads (λ steps. begun_reads (run limits steps))
     (λ steps actor operation found g h. marked_reads _ (operation_after (run limits steps) operation) (gone_reads (run limits steps) operation h))
+    (λ steps actor operation answer found may h. given_up_reads operation answer h)
     (λ steps s o after m k other operation found h. marked_reads _ operation h)
 
 -- so no step of it makes a node

@@ -19,7 +19,7 @@ use Rattle.machine_model.specs.States.{State, first_state, empty_heap}
 use Rattle.epochs.specs.Sweeping.{ripe}
 use Rattle.machine_model.specs.Machine.{run, AreBounds}
 use Rattle.machine_model.proofs.Along.{along}
-use Rattle.machine_model.specs.Moves.{Begins, Goes, Ends, Sweeps}
+use Rattle.machine_model.specs.Moves.{Begins, Goes, Ends, Sweeps, GivesUp}
 use Rattle.machine_model.specs.Moves.{Moves}
 use Rattle.machine_model.proofs.HeapMoves.{HeapMoves, Stays, Takes, Publishes, Restores, Commit, Fail, Frees, heap_moves}
 use Rattle.machine_model.proofs.Rest.{IsRest, take_one, free_one, all_free}
@@ -115,6 +115,7 @@ settled_limbo state s o after (Begins d) = limbo_in_use _ _ _ _
 settled_limbo state s o after (Goes d is a g) = limbo_in_use _ _ _ _
 settled_limbo state s o after (Ends d is a) = limbo_in_use _ _ _ _
 settled_limbo state s o after (Sweeps spent) = limbo_in_use _ _ _ _
+settled_limbo state s o after (GivesUp d is a) = limbo_in_use _ _ _ _
 
 -- each step keeps that
 pub sound_after : (slots : ℕ) → slots ≤ most_slots → (state : State) (s : Step) → IsSound slots state → (o : Outcome) (after : State) → Moves state s o after → IsSound slots after

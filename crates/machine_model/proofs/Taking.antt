@@ -17,7 +17,7 @@ use Rattle.machine_model.specs.Operations.{action_of, kind_of}
 use Rattle.machine_model.specs.Acting.{acted, decided, new_root_taken, if_changed}
 use Rattle.machine_model.specs.Reading.{Verdict, Commits, Fails, Overtaken}
 use Rattle.machine_model.specs.Machine.{Answer, next, state_after, pin_of, reclaimer_of}
-use Rattle.machine_model.specs.Moves.{Moves, Begins, Goes, Ends, Sweeps, MovesIfTaken, begun_operation}
+use Rattle.machine_model.specs.Moves.{Moves, Begins, Goes, Ends, Sweeps, GivesUp, MovesIfTaken, begun_operation}
 use Rattle.machine_model.specs.Taking.{IsMake, OneSlotAStep}
 use Rattle.machine_model.proofs.HeapMoves.{aborted_heap, offered_heap, completed_heap, begin_heap}
 use Rattle.machine_model.proofs.Moves.{moves}
@@ -109,6 +109,7 @@ move_takes state s o after (Begins {actor} {call} d) = same_heap _ _ _ (begin_he
 move_takes state s o after (Goes {actor} {operation} d is a g) =
     takes_so _ _ _ _ (λ e. (operation, is, e)) (acted_one _ (handle_of operation.call) (action_of state operation))
 move_takes state s o after (Ends d is a) = same_heap _ _ _ refl
+move_takes state s o after (GivesUp d is a) = same_heap _ _ _ refl
 move_takes state s o after (Sweeps spent) = swept_one (map pin_of state.actors) (reclaimer_of state) (ripe state.epoch state.limbo) _
 
 -- each step, be it taken or denied

@@ -48,11 +48,11 @@ opens_handle (Freeze h) = true
 opens_handle call = false
 
 -- the call copies the map, or makes it empty: by an offer in its root word
-abbrev pub is_copy : Call → Bool
-is_copy (Clear h) = true
-is_copy (Snapshot h) = true
-is_copy (Freeze h) = true
-is_copy call = false
+abbrev pub copies : Call → Bool
+copies (Clear h) = true
+copies (Snapshot h) = true
+copies (Freeze h) = true
+copies call = false
 
 abbrev pub is_clear : Call → Bool
 is_clear (Clear h) = true

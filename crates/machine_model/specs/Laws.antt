@@ -1,12 +1,12 @@
 -- Laws of the machine, for every list of steps.
-use Rattle.std.specs.Prelude.{◌≡◌, ℕ, ◌+◌, List, [], ◌∷◌, ◌++◌, length, Contains, Some, Ok}
+use Rattle.std.specs.Prelude.{◌≡◌, ℕ, ◌+◌, ◌⊎◌, List, [], ◌∷◌, ◌++◌, length, Contains, Some, Ok}
 use Rattle.machine_model.specs.Beneath.ctrie_base.specs.declared.kinds.Kind.TheVariants as kind
 use Rattle.history.specs.declared.calls.Access.TheVariants.{ReadOnly}
 use Rattle.history.specs.declared.replies.Reply.TheVariants as reply
 use Rattle.machine_model.specs.declared.operations.Operation.{Operation}
 use Rattle.machine_model.specs.declared.steps.Bounds.{Bounds}
 use Rattle.machine_model.specs.declared.steps.Step.{Step}
-use Rattle.machine_model.specs.declared.steps.Step.TheVariants.{Go}
+use Rattle.machine_model.specs.declared.steps.Step.TheVariants.{Go, GiveUp}
 use Rattle.machine_model.specs.declared.steps.Outcome.TheVariants.{Ended}
 use Rattle.machine_model.specs.Beneath.slot_arena.specs.Heaps.{in_use}
 use Rattle.machine_model.specs.States.{State, operation_of}
@@ -25,11 +25,29 @@ FindsNoSlot state actor id =
     (operation : Operation) × (operation_of state actor ≡ Some operation) × (operation.id ≡ id)
     × (kind_of (action_of state operation) ≡ kind.Make) × (state.heap.free ≡ [])
 
--- an operation is refused for want of slots only where its step before was to make a node, and no slot was free before it
+-- the actor runs the operation of this id
+abbrev pub RunsThis : State → ℕ → ℕ → Type 0
+RunsThis state actor id = (operation : Operation) × (operation_of state actor ≡ Some operation) × (operation.id ≡ id)
+
+-- the actor's step before was to make a node for this operation, and no slot was free before it
+abbrev pub FoundNone : Bounds → List Step → ℕ → ℕ → Type 0
+FoundNone limits steps actor id =
+    (before between : List Step) × (steps ≡ before ++ Go actor ∷ between) × ¬ Contains between (Go actor) × FindsNoSlot (run limits before) actor id
+
+-- this operation of the actor gave up, and has taken no step since
+abbrev pub GaveUp : Bounds → List Step → ℕ → ℕ → Type 0
+GaveUp limits steps actor id =
+    (before between : List Step) × (steps ≡ before ++ GiveUp actor ∷ between) × ¬ Contains between (Go actor) × RunsThis (run limits before) actor id
+
+-- an operation is refused for want of slots only where its step before was to make a node, and no slot was free before it, or where it gave up
 abbrev pub RefusedForWantAlone : Type 0
 RefusedForWantAlone =
     (limits : Bounds) (steps : List Step) (actor id : ℕ) (after : State) → next (run limits steps) (Go actor) ≡ Ok (Ended id reply.NoSlots, after) →
-    (before between : List Step) × (steps ≡ before ++ Go actor ∷ between) × ¬ Contains between (Go actor) × FindsNoSlot (run limits before) actor id
+    FoundNone limits steps actor id ⊎ GaveUp limits steps actor id
+
+-- to give up is to find no free slot: where none is free for the node that an operation is to make, both come to the same
+abbrev pub GivingUpIsFindingNone : Type 0
+GivingUpIsFindingNone = (state : State) (actor id : ℕ) → FindsNoSlot state actor id → next state (GiveUp actor) ≡ next state (Go actor)
 
 -- an operation on a read-only handle makes no node
 abbrev pub ReadersMakeNothing : Type 0

@@ -21,6 +21,7 @@ pub mod Limits
 pub mod Tellings
 pub mod Records
 pub mod Contents
+pub mod GivingUp
 pub mod Going
 pub mod Keys
 pub mod Refusing

@@ -1,13 +1,15 @@
 -- The machine: one atomic step, and runs of steps.
-use Rattle.std.specs.Prelude.{ℕ, zero, suc, ◌+◌, ◌-◌, ◌==◌, ◌≤◌, ◌^◌, ◌||◌, ◌&&◌, Bool, true, false, not, nat_lt, nat_le, is_some, List, [], ◌∷◌, map, Option, Some, None, option_map}
+use Rattle.std.specs.Prelude.{ℕ, zero, suc, ◌+◌, ◌-◌, ◌==◌, ◌≤◌, ◌^◌, ◌||◌, ◌&&◌, Bool, true, false, not, nat_lt, nat_le, is_some, List, [], ◌∷◌, map, Option, Some, None, option_map, option_and_then}
 use Rattle.std.specs.Prelude.{unwrap_or, Result, Ok, Err, if◌then◌else◌}
 use Rattle.std.specs.List.{list_any}
 use Rattle.machine_model.specs.Beneath.ctrie_base.specs.declared.kinds.Kind.{Kind}
+use Rattle.machine_model.specs.Beneath.ctrie_base.specs.declared.kinds.Kind.TheVariants as kind
 use Rattle.machine_model.specs.Beneath.ctrie_base.specs.declared.refusals.Refusal.{Refusal}
 use Rattle.machine_model.specs.Beneath.ctrie_base.specs.declared.refusals.Refusal.TheVariants as refuse
 use Rattle.history.specs.declared.calls.Access.{Access}
 use Rattle.history.specs.declared.calls.Access.TheVariants.{Writable, ReadOnly}
 use Rattle.history.specs.declared.calls.Call.{Call}
+use Rattle.history.specs.declared.replies.Reply.{Reply}
 use Rattle.machine_model.specs.declared.operations.Operation.{Operation}
 use Rattle.machine_model.specs.declared.actions.Action.{Action}
 use Rattle.machine_model.specs.declared.actions.Action.TheVariants as act
@@ -22,6 +24,7 @@ use Rattle.machine_model.specs.declared.steps.Outcome.TheVariants as outcome
 use Rattle.machine_model.specs.Calls.{handle_of, needs_writable, needs_read_only, opens_handle, is_close}
 use Rattle.machine_model.specs.States.{State, first_state, handle_limit, root_at, operation_of, with_root, with_operation}
 use Rattle.machine_model.specs.Operations.{first_line, action_of, kind_of}
+use Rattle.machine_model.specs.GivingUp.{given_up, gave_up}
 use Rattle.machine_model.specs.Acting.{gone, ended}
 use Rattle.machine_model.specs.Counting.{settled}
 use Rattle.machine_model.specs.Beneath.slot_arena.specs.Refs.{most_slots}
@@ -205,6 +208,34 @@ swept state = swept_with state (swept_once (map pin_of state.actors) (reclaimer_
 abbrev pub sweep : State → Answer
 sweep state = if is_spent state then Err refuse.Spent else settled_after state (swept state)
 
+-- ---- giving up
+
+-- what the actor's operation answers once it gives up, if one runs and may
+abbrev pub answer_given_up : State → ℕ → Option Reply
+answer_given_up state actor = option_and_then (λ operation. given_up operation.call operation.line) (operation_of state actor)
+
+-- why giving up is denied
+abbrev pub give_up_denial : State → ℕ → Option Refusal
+give_up_denial state actor = first_reason (
+    (not (is_actor state actor), refuse.NoActor) ∷ (not (is_running state actor), refuse.Idle) ∷ (is_spent state, refuse.Spent)
+    ∷ (not (is_some (answer_given_up state actor)), refuse.Busy) ∷ [])
+
+abbrev pub give_up_by : State → ℕ → Operation → Option Reply → Answer
+give_up_by state actor operation None = Err refuse.Busy
+give_up_by state actor operation (Some answer) = Ok (outcome.Went kind.Make, settled state (with_operation state actor (Some (gave_up operation answer))))
+
+abbrev pub give_up_on : State → ℕ → Option Operation → Answer
+give_up_on state actor None = Err refuse.Idle
+give_up_on state actor (Some operation) = give_up_by state actor operation (given_up operation.call operation.line)
+
+abbrev pub give_up_unless : State → ℕ → Option Refusal → Answer
+give_up_unless state actor (Some refusal) = Err refusal
+give_up_unless state actor None = give_up_on state actor (operation_of state actor)
+
+-- the actor's operation gives up: as by a step that is to make a node and finds no free slot
+abbrev pub give_up : State → ℕ → Answer
+give_up state actor = give_up_unless state actor (go_denial state actor)
+
 -- ---- steps and runs
 
 -- one atomic step
@@ -212,12 +243,14 @@ unfoldable pub next : State → Step → Answer
 next state (step.Begin actor call) = begin state actor call
 next state (step.Go actor) = go state actor
 next state step.Sweep = sweep state
+next state (step.GiveUp actor) = give_up state actor
 
 -- why a step is denied, where it is
 abbrev pub denial_of : State → Step → Option Refusal
 denial_of state (step.Begin actor call) = begin_denial state actor call
 denial_of state (step.Go actor) = go_denial state actor
 denial_of state step.Sweep = if is_spent state then Some refuse.Spent else None
+denial_of state (step.GiveUp actor) = give_up_denial state actor
 
 abbrev pub state_after : State → Answer → State
 state_after state (Ok done) = done.1
@@ -254,4 +287,4 @@ longest_life = 2 ^ 45 - 2 ^ 21
 
 -- the bounds are in range
 abbrev pub AreBounds : Bounds → Type 0
-AreBounds limits = (2 ≤ limits.slots) × (limits.slots ≤ most_slots) × (1 ≤ limits.actors) × (limits.actors ≤ 64) × (limits.steps ≤ longest_life)
+AreBounds limits = (2 ≤ limits.slots) × (limits.slots ≤ most_slots) × (1 ≤ limits.actors) × (limits.actors ≤ 64)

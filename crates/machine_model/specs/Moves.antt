@@ -9,11 +9,13 @@ use Rattle.machine_model.specs.declared.steps.Step.{Step}
 use Rattle.machine_model.specs.declared.steps.Step.TheVariants as step
 use Rattle.machine_model.specs.declared.steps.Outcome.{Outcome}
 use Rattle.machine_model.specs.declared.steps.Outcome.TheVariants as outcome
-use Rattle.machine_model.specs.States.{State, operation_of}
+use Rattle.machine_model.specs.Beneath.ctrie_base.specs.declared.kinds.Kind.TheVariants as kind
+use Rattle.machine_model.specs.States.{State, operation_of, with_operation}
 use Rattle.machine_model.specs.Operations.{action_of, kind_of}
 use Rattle.machine_model.specs.Acting.{gone, ended}
 use Rattle.machine_model.specs.Counting.{settled}
 use Rattle.machine_model.specs.Machine.{Answer, begin_denial, with_begin, go_denial, is_spent, swept}
+use Rattle.machine_model.specs.GivingUp.{given_up, gave_up}
 pub use Rattle.machine_model.specs.Machine.{begun_operation}
 
 -- the action isn't the end of an operation
@@ -31,6 +33,9 @@ pub data Moves (state : State) : Step → Outcome → State → Type 0 where
       action_of state operation ≡ act.End answer →
       Moves state (step.Go actor) (outcome.Ended operation.id answer) (settled state (ended state actor))
   Sweeps : is_spent state ≡ false → Moves state step.Sweep (swept state).0 (settled state (swept state).1)
+  GivesUp : {actor : ℕ} {operation : Operation} {answer : Reply} → go_denial state actor ≡ None → operation_of state actor ≡ Some operation →
+      given_up operation.call operation.line ≡ Some answer →
+      Moves state (step.GiveUp actor) (outcome.Went kind.Make) (settled state (with_operation state actor (Some (gave_up operation answer))))
 
 -- the step is a move where it is taken
 abbrev pub MovesIfTaken : State → Step → Answer → Type 0

@@ -184,7 +184,7 @@ abbrev pub noted : Record → ℕ → Told → Record
 noted past step (told.Began id actor call opens) = noted_begin past step id actor call opens
 noted past step (told.Went actor p) = noted_progress past step actor p
 noted past step (told.Ended actor e answer) = noted_end past actor e answer
-noted past step told.Swept = past
+noted past step told.Nothing = past
 
 -- ---- the record of a run
 

@@ -1,5 +1,5 @@
 -- The state of a machine: all that a step reads. What is recorded of a run stands beside it (Records).
-use Rattle.std.specs.Prelude.{ℕ, zero, suc, ◌-◌, List, [], Option, Some, None, slice_index_or, slice_set, replicate}
+use Rattle.std.specs.Prelude.{◌≡◌, ℕ, zero, suc, ◌-◌, List, [], Option, Some, None, slice_index_or, slice_set, get_or, replicate}
 use Rattle.std.specs.List.{range_with_len}
 use Rattle.machine_model.specs.Beneath.ctrie_base.specs.Hashes.{hash_of}
 use Rattle.history.specs.declared.calls.Access.TheVariants.{Writable}
@@ -88,6 +88,10 @@ with_root state handle root = record state { roots = slice_set state.roots handl
 abbrev pub operation_of : State → ℕ → Option Operation
 operation_of state zero = None
 operation_of state (suc n) = slice_index_or state.actors n None
+
+-- the actor k + 1 runs this operation
+abbrev pub Runs : State → ℕ → Operation → Type 0
+Runs state k operation = get_or state.actors k None ≡ Some operation
 
 abbrev pub with_operation : State → ℕ → Option Operation → State
 with_operation state actor operation = record state { actors = slice_set state.actors (actor - 1) operation }

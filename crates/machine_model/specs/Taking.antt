@@ -12,6 +12,7 @@ use Rattle.machine_model.specs.declared.steps.Step.TheVariants.{Go}
 use Rattle.machine_model.specs.States.{State, operation_of}
 use Rattle.machine_model.specs.Operations.{action_of, kind_of}
 use Rattle.machine_model.specs.Machine.{next, next_state, run}
+use Rattle.machine_model.specs.Laws.{GaveUp}
 
 -- the step is an operation's, and is to make a node
 abbrev pub IsMake : State → Step → Type 0
@@ -25,8 +26,9 @@ OneSlotAStep =
     (length state.heap.free ≤ length (next_state state s).heap.free + 1)
     × (length (next_state state s).heap.free < length state.heap.free → IsMake state s)
 
--- an operation on a read-only handle is never refused for want of slots
+-- an operation on a read-only handle is never refused for want of slots, unless it gave up
 abbrev pub ReadersNeverRefused : Type 0
 ReadersNeverRefused =
     (limits : Bounds) (steps : List Step) (actor id : ℕ) (operation : Operation) (answer : Reply) (after : State) →
-    operation_of (run limits steps) actor ≡ Some operation → operation.access ≡ ReadOnly → next (run limits steps) (Go actor) ≡ Ok (Ended id answer, after) → answer ≢ NoSlots
+    operation_of (run limits steps) actor ≡ Some operation → operation.access ≡ ReadOnly → next (run limits steps) (Go actor) ≡ Ok (Ended id answer, after) →
+    ¬ GaveUp limits steps actor id → answer ≢ NoSlots

@@ -96,7 +96,7 @@ told_by state actor operation action = told.Went actor (progress_of state operat
 
 -- what a step of what the actor runs tells; where it runs nothing no step is taken
 abbrev pub told_of : State → ℕ → Option Operation → Told
-told_of state actor None = told.Swept
+told_of state actor None = told.Nothing
 told_of state actor (Some operation) = told_by state actor operation (action_of state operation)
 
 abbrev pub begin_told : ℕ → Call → Operation → Told
@@ -106,4 +106,5 @@ begin_told actor call operation = told.Began operation.id actor call operation.o
 abbrev pub told_in : State → Step → Told
 told_in state (step.Begin actor call) = begin_told actor call (begun_operation state call)
 told_in state (step.Go actor) = told_of state actor (operation_of state actor)
-told_in state step.Sweep = told.Swept
+told_in state step.Sweep = told.Nothing
+told_in state (step.GiveUp actor) = told.Nothing

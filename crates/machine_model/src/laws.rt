@@ -1,6 +1,6 @@
 //! Laws of the definition, for every list of steps.
 
-ghost use Rattle.machine_model.specs.Laws.{SlotsAddUp, RefusedForWantAlone, ReadersMakeNothing, TakenStepsSuffice};
+ghost use Rattle.machine_model.specs.Laws.{SlotsAddUp, RefusedForWantAlone, GivingUpIsFindingNone, ReadersMakeNothing, TakenStepsSuffice};
 ghost use Rattle.machine_model.specs.Taking.{OneSlotAStep, ReadersNeverRefused};
 
 /// A law: the slots in use and the free ones are all slots.
@@ -9,9 +9,14 @@ pub fn slots_add_up()
 {}
 
 /// A law: an operation is refused for want of slots only where its step before was to make a node, and no
-/// slot was free before that step.
+/// slot was free before that step, or where it gave up.
 pub fn refused_for_want_alone()
     ensures { RefusedForWantAlone }
+{}
+
+/// A law: where an operation is to make a node and no slot is free, to give up comes to the same as to go on.
+pub fn giving_up_is_finding_none()
+    ensures { GivingUpIsFindingNone }
 {}
 
 /// A law: an operation on a read-only handle makes no node.
@@ -29,7 +34,7 @@ pub fn one_slot_a_step()
     ensures { OneSlotAStep }
 {}
 
-/// A law: an operation on a read-only handle is never refused for want of slots.
+/// A law: an operation on a read-only handle is never refused for want of slots, unless it gave up.
 pub fn readers_never_refused()
     ensures { ReadersNeverRefused }
 {}

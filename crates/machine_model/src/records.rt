@@ -66,8 +66,8 @@ pub enum Told {
         entrant: Entrant,
         reply: Reply,
     },
-    /// A step of the sweep, of which nothing is recorded.
-    Swept,
+    /// A step of which nothing is recorded: one of the sweep, or one in which an operation gives up.
+    Nothing,
 }
 
 /// The step in which a main node was committed.

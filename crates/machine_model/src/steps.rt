@@ -37,6 +37,9 @@ pub enum Step {
     Go { actor: u8 },
     /// A step of the sweep.
     Sweep,
+    /// The actor's operation gives up, where it has published nothing of its own. No program asks for it: threads
+    /// on memory words meet it.
+    GiveUp { actor: u8 },
 }
 
 /// What a step did.

@@ -1,8 +1,9 @@
 -- States that runs lead to, and one step from there.
-use Rattle.std.specs.Prelude.{◌≡◌, List, [], ◌∷◌, ◌++◌, Ok}
+use Rattle.std.specs.Prelude.{◌≡◌, ◌≤◌, List, [], ◌∷◌, ◌++◌, Ok}
 use Rattle.std.proofs.Common.{cond, sym, ap, subst, ◌∙◌}
 use Rattle.std.proofs.lemmas.List.Elements.{All-push}
-use Rattle.proof_alone.specs.Vocabulary.{Bounds, Outcome, Step, FitsKey, KeysFit, AreBounds, is_taken_step, next, run, state_after, first_record, noted, record_of, State, first_state, told_in}
+use Rattle.proof_alone.specs.Vocabulary.{Bounds, Outcome, Step, FitsKey, KeysFit, AreBounds, longest_life, is_taken_step, next, run, state_after, first_record, noted, record_of, State, first_state}
+use Rattle.proof_alone.specs.Vocabulary.{told_in}
 use Rattle.proof_alone.specs.Beneath.machine_model.proofs.Along.{limits_along, run_push}
 use Rattle.proof_alone.specs.Beneath.machine_model.proofs.Recorded.{record_push}
 use Rattle.proof_straight.specs.Resting.{IsOfRun}
@@ -12,11 +13,12 @@ pub by_run : (P : State → Type 0) → ((limits : Bounds) (steps : List Step) �
 by_run P each state h = subst P (sym h.is) (each state.limits h.steps h.limits h.keys)
 
 -- a run leads to the state behind it
-pub of_run : (limits : Bounds) (steps : List Step) → AreBounds limits → KeysFit steps → IsOfRun (run limits steps)
-of_run limits steps ok fit = record {
+pub of_run : (limits : Bounds) (steps : List Step) → AreBounds limits → limits.steps ≤ longest_life → KeysFit steps → IsOfRun (run limits steps)
+of_run limits steps ok life fit = record {
   steps = steps;
   is = ap (λ l. run l steps) (sym (limits_along limits steps));
   limits = subst AreBounds (sym (limits_along limits steps)) ok;
+  life = subst (λ (l : Bounds). l.steps ≤ longest_life) (sym (limits_along limits steps)) life;
   keys = fit;
 }
 
@@ -35,6 +37,6 @@ abbrev LeadsBehind : State → Type 0
 LeadsBehind state = (s : Step) (o : Outcome) (after : State) → FitsKey s → next state s ≡ Ok (o, after) → IsOfRun after
 
 pub of_run_behind : (state : State) → IsOfRun state → LeadsBehind state
-of_run_behind =
-    by_run LeadsBehind
-    (λ limits steps ok fit s o after fits e. subst IsOfRun (stepped limits steps s o after e) (of_run limits (steps ++ s ∷ []) ok (All-push FitsKey steps s fit fits)))
+of_run_behind state h =
+    subst LeadsBehind (sym h.is)
+    (λ s o after fits e. subst IsOfRun (stepped state.limits h.steps s o after e) (of_run state.limits (h.steps ++ s ∷ []) h.limits h.life (All-push FitsKey h.steps s h.keys fits)))

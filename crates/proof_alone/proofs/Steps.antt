@@ -5,7 +5,7 @@ use Rattle.std.proofs.lemmas.Bool.{true≢false}
 use Rattle.std.proofs.lemmas.List.{get_or-set_same}
 use Rattle.std.proofs.lemmas.Option.{none-some, same_Some}
 use Rattle.proof_alone.specs.Vocabulary.{Kind, Call, Reply, Closed, Operation, Outcome, Began, Ended, Went, Step, Go, gone, operation_after, settled, Answer, begin_denial, begin_unless}
-use Rattle.proof_alone.specs.Vocabulary.{begun_operation, next, state_after, with_begin, Begins, Ends, Moves, Sweeps, State, operation_of}
+use Rattle.proof_alone.specs.Vocabulary.{begun_operation, next, state_after, with_begin, Begins, Ends, Moves, Sweeps, GivesUp, State, operation_of}
 use Rattle.proof_alone.specs.Beneath.machine_model.specs.declared.steps.Step.TheVariants.{Begin}
 use Rattle.proof_alone.specs.Beneath.machine_model.specs.Moves.{Goes}
 use Rattle.proof_alone.specs.Beneath.machine_model.proofs.Actors.{begin_actor, begin_actors, begin_counts, mark_one, marks_by}
@@ -74,6 +74,7 @@ mark_found (Some id) operation = refl
 on_by : (state : State) (s : Step) (o : Outcome) (after : State) → Moves state s o after → (actor : ℕ) (kind : Kind) → s ≡ Go actor → o ≡ Went kind → (operation : Operation) →
     operation_of state actor ≡ Some operation → RunsOn state after actor operation
 on_by state s o after (Begins d) actor kind is told operation runs = cc is
+on_by state s o after (GivesUp d found a) actor kind is told operation runs = cc is
 on_by state s o after (Sweeps d) actor kind is told operation runs = cc is
 on_by state s o after (Ends d found a) actor kind is told operation runs = cc told
 on_by state s o after (Goes {actor = who} {operation = own} d found a g) actor kind is told operation runs =
@@ -95,6 +96,7 @@ runs_on state actor kind after e = on_by state (Go actor) (Went kind) after (mov
 -- who runs nothing takes no step
 waits_by : (state : State) (s : Step) (o : Outcome) (after : State) → Moves state s o after → (actor : ℕ) → s ≡ Go actor → operation_of state actor ≡ None → ⊥
 waits_by state s o after (Begins d) actor own idle = cc own
+waits_by state s o after (GivesUp d found a) actor own idle = cc own
 waits_by state s o after (Sweeps d) actor own idle = cc own
 waits_by state s o after (Goes {actor = who} {operation} d found a g) actor own idle =
     let same : who ≡ actor = cc own in none-some operation (sym idle ∙ subst (λ k. operation_of state k ≡ Some operation) same found)
@@ -107,6 +109,7 @@ idle_waits state actor o after e = waits_by state (Go actor) o after (moved stat
 -- it leaves the heap
 leaves_by : (state : State) (s : Step) (o : Outcome) (after : State) → Moves state s o after → (id : ℕ) (answer : Reply) → o ≡ Ended id answer → after.heap ≡ state.heap
 leaves_by state s o after (Begins d) id answer told = cc told
+leaves_by state s o after (GivesUp d found a) id answer told = cc told
 leaves_by state s o after (Sweeps d) id answer told = cc told
 leaves_by state s o after (Goes d found a g) id answer told = cc told
 leaves_by state s o after (Ends d found a) id answer told = refl

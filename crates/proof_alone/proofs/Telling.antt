@@ -2,8 +2,8 @@
 use Rattle.std.specs.Prelude.{◌≡◌, ◌<◌, ℕ, zero, suc, List, [], ◌∷◌, ◌++◌, Option, Ok}
 use Rattle.std.proofs.Common.{cond, refl, ap, arith, ◌∙◌}
 use Rattle.std.proofs.lemmas.List.{append-nil, append_assoc}
-use Rattle.proof_alone.specs.Vocabulary.{Kind, Call, Event, Reply, Bounds, Outcome, Began, Ended, Went, Step, Go, begun_operation, is_taken_step, next, run, Begins, Ends, Moves, Sweeps, Record}
-use Rattle.proof_alone.specs.Vocabulary.{next_record, noted, record_of, State, told_in}
+use Rattle.proof_alone.specs.Vocabulary.{Kind, Call, Event, Reply, Bounds, Outcome, Began, Ended, Went, Step, Go, begun_operation, is_taken_step, next, run, Begins, Ends, Moves, Sweeps, GivesUp}
+use Rattle.proof_alone.specs.Vocabulary.{Record, next_record, noted, record_of, State, told_in}
 use Rattle.proof_alone.specs.Beneath.history.specs.declared.events.Event.TheVariants as event
 use Rattle.proof_alone.specs.Beneath.machine_model.specs.declared.steps.Step.TheVariants.{Begin}
 use Rattle.proof_alone.specs.Beneath.machine_model.specs.Moves.{Goes}
@@ -26,6 +26,7 @@ taken_noted state past s o after e = ap (λ answer. cond (is_taken_step answer) 
 quiet_by : (state : State) (past : Record) (s : Step) (o : Outcome) (after : State) → Moves state s o after → (actor : ℕ) (kind : Kind) → s ≡ Go actor → o ≡ Went kind →
     (noted past state.steps (told_in state s)).events ≡ past.events
 quiet_by state past s o after (Begins d) actor kind is told = cc
+quiet_by state past s o after (GivesUp d found a) actor kind is told = cc is
 quiet_by state past s o after (Sweeps d) actor kind is told = cc
 quiet_by state past s o after (Ends d found a) actor kind is told = cc told
 quiet_by state past s o after (Goes {actor = who} {operation = own} {action} d found a g) actor kind is told =
@@ -41,6 +42,7 @@ quiet state past actor kind after e =
 told_by : (state : State) (past : Record) (s : Step) (o : Outcome) (after : State) → Moves state s o after → (actor id : ℕ) (answer : Reply) → s ≡ Go actor → o ≡ Ended id answer →
     (noted past state.steps (told_in state s)).events ≡ past.events ++ event.End id answer ∷ []
 told_by state past s o after (Begins d) actor id answer is told = cc is
+told_by state past s o after (GivesUp d found a) actor id answer is told = cc is
 told_by state past s o after (Sweeps d) actor id answer is told = cc is
 told_by state past s o after (Goes d found a g) actor id answer is told = cc told
 told_by state past s o after (Ends {actor = who} {operation = own} {answer = said} d found a) actor id answer is told =

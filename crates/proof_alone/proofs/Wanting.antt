@@ -1,11 +1,11 @@
 -- When a call that runs alone from rest is refused for want of slots.
 use Rattle.std.specs.Prelude.{◌≡◌, ◌≢◌, ◌≤◌, ◌+◌, ℕ, suc, true, List, [], ◌∷◌, ◌++◌, Contains, length, replicate, Ok}
-use Rattle.std.proofs.Common.{refl, sym, ap, subst, arith, ◌∙◌}
+use Rattle.std.proofs.Common.{refl, sym, ap, subst, arith, ◌∙◌, inl, inr}
 use Rattle.std.proofs.lemmas.List.{append_assoc, replicate-append-replicate}
 use Rattle.std.proofs.lemmas.List.Elements.{Contains-push}
 use Rattle.std.proofs.lemmas.Option.{same_Some}
-use Rattle.proof_alone.specs.Vocabulary.{Call, Clear, Close, Count, Entries, Freeze, Snapshot, Reply, Closed, NoSlots, Operation, Bounds, Ended, Step, Go, is_close, KeysFit, FindsNoSlot, AreBounds}
-use Rattle.proof_alone.specs.Vocabulary.{next, run, State}
+use Rattle.proof_alone.specs.Vocabulary.{Call, Clear, Close, Count, Entries, Freeze, Snapshot, Reply, Closed, NoSlots, Operation, Bounds, Ended, Step, Go, GiveUp, is_close, KeysFit, FindsNoSlot}
+use Rattle.proof_alone.specs.Vocabulary.{AreBounds, next, run, State}
 use Rattle.proof_alone.specs.Beneath.machine_model.proofs.Moves.{ending, moved}
 use Rattle.proof_alone.specs.Beneath.machine_model.proofs.Refusals.{IsRefusal, end_line, first_refusal}
 use Rattle.proof_alone.specs.Beneath.machine_model.proofs.Refused.{refused_alone}
@@ -40,6 +40,15 @@ last_one x (a ∷ xs) (b ∷ ys) zs e without =
     let rest : xs ++ x ∷ [] ≡ ys ++ x ∷ zs = cc e in
     ap (λ h. h ∷ xs) head ∙ ap (λ l. b ∷ l) (last_one x xs ys zs rest without)
 
+-- nor is it one that something else comes behind
+other_last : (x y : Step) (xs ys zs : List Step) → xs ++ x ∷ [] ≡ ys ++ y ∷ zs → ¬ Contains zs x → x ≢ y → ⊥
+other_last x y [] [] zs e without apart = let head : x ≡ y = cc e in apart head
+other_last x y [] (z ∷ ys) zs e without apart = not_empty ys y zs (cc e)
+other_last x y (a ∷ xs) [] zs e without apart = let rest : xs ++ x ∷ [] ≡ zs = cc e in without (subst (λ l. Contains l x) rest (Contains-push xs x))
+other_last x y (a ∷ xs) (b ∷ ys) zs e without apart =
+    let rest : xs ++ x ∷ [] ≡ ys ++ y ∷ zs = cc e in
+    other_last x y xs ys zs rest without apart
+
 one_longer : (n : ℕ) (x : Step) (xs : List Step) → (xs ++ replicate n x) ++ x ∷ [] ≡ xs ++ replicate (suc n) x
 one_longer n x xs =
     let one : n + 1 ≡ suc n = omega arith in
@@ -62,9 +71,16 @@ module _ (limits : Bounds) (steps : List Step) (ok : AreBounds limits) (keys : K
   -- its last step found none
   finds_none : (m : ℕ) (after : State) → next (there limits steps actor call (suc m)) (Go actor) ≡ Ok (Ended id NoSlots, after) → FindsNoSlot (there limits steps actor call m) actor id
   finds_none m after e =
-      let (before, between, is, without, finds) = refused_alone limits (began limits steps actor call ++ replicate (suc m) (Go actor)) actor id after e in
-      let front = last_one (Go actor) (began limits steps actor call ++ replicate m (Go actor)) before between (one_longer m (Go actor) (began limits steps actor call) ∙ is) without in
-      subst (λ l. FindsNoSlot (run limits l) actor id) (sym front) finds
+      elim (refused_alone limits (began limits steps actor call ++ replicate (suc m) (Go actor)) actor id after e) [
+        | inl (before, between, is, without, finds) ↦
+          let front = last_one (Go actor) (began limits steps actor call ++ replicate m (Go actor)) before between (longer m ∙ is) without in
+          subst (λ l. FindsNoSlot (run limits l) actor id) (sym front) finds
+        | inr (before, between, is, without, runs) ↦
+          absurd (other_last (Go actor) (GiveUp actor) (began limits steps actor call ++ replicate m (Go actor)) before between (longer m ∙ is) without (λ same. cc same))
+      ]
+    where
+      longer : (m : ℕ) → (began limits steps actor call ++ replicate m (Go actor)) ++ Go actor ∷ [] ≡ began limits steps actor call ++ replicate (suc m) (Go actor)
+      longer m = one_longer m (Go actor) (began limits steps actor call)
 
   runs_out : (n : ℕ) (last : State) → GoesOn (run limits steps) actor call n last → (after : State) → next last (Go actor) ≡ Ok (Ended id NoSlots, after) →
       RunsOut (run limits steps) actor call

@@ -15,10 +15,10 @@ pub use Rattle.proof_alone.specs.Beneath.machine_model.specs.Contents.{content_a
 pub use Rattle.proof_alone.specs.Beneath.machine_model.specs.Counting.{settled}
 pub use Rattle.proof_alone.specs.Beneath.machine_model.specs.Keys.{FitsKey, KeysFit}
 pub use Rattle.proof_alone.specs.Beneath.machine_model.specs.Laws.{FindsNoSlot}
-pub use Rattle.proof_alone.specs.Beneath.machine_model.specs.Machine.{Answer, AreBounds, begin_denial, begin_unless, begun_operation, is_busy, is_taken_step, next_state, run, state_after}
-pub use Rattle.proof_alone.specs.Beneath.machine_model.specs.Machine.{with_begin}
+pub use Rattle.proof_alone.specs.Beneath.machine_model.specs.Machine.{Answer, AreBounds, begin_denial, begin_unless, begun_operation, is_busy, is_taken_step, longest_life, next_state, run}
+pub use Rattle.proof_alone.specs.Beneath.machine_model.specs.Machine.{state_after, with_begin}
 unfoldable pub use Rattle.proof_alone.specs.Beneath.machine_model.specs.Machine.{next}
-pub use Rattle.proof_alone.specs.Beneath.machine_model.specs.Moves.{Begins, Ends, Moves, Sweeps}
+pub use Rattle.proof_alone.specs.Beneath.machine_model.specs.Moves.{Begins, Ends, GivesUp, Moves, Sweeps}
 pub use Rattle.proof_alone.specs.Beneath.machine_model.specs.Records.{Record, first_record, next_record, noted, record_of}
 pub use Rattle.proof_alone.specs.Beneath.machine_model.specs.States.{State, operation_of, root_at}
 unfoldable pub use Rattle.proof_alone.specs.Beneath.machine_model.specs.States.{first_state}
@@ -29,4 +29,4 @@ pub use Rattle.proof_alone.specs.Beneath.machine_model.specs.declared.steps.Boun
 pub use Rattle.proof_alone.specs.Beneath.machine_model.specs.declared.steps.Outcome.{Outcome}
 pub use Rattle.proof_alone.specs.Beneath.machine_model.specs.declared.steps.Outcome.TheVariants.{Began, Ended, Went}
 pub use Rattle.proof_alone.specs.Beneath.machine_model.specs.declared.steps.Step.{Step}
-pub use Rattle.proof_alone.specs.Beneath.machine_model.specs.declared.steps.Step.TheVariants.{Go, Sweep}
+pub use Rattle.proof_alone.specs.Beneath.machine_model.specs.declared.steps.Step.TheVariants.{GiveUp, Go, Sweep}

@@ -4,7 +4,7 @@ use Rattle.std.specs.List.{list_any}
 use Rattle.std.proofs.Common.{refl, sym, ap, subst, ◌∙◌, get_or}
 use Rattle.std.proofs.lemmas.Bool.{false≢true}
 use Rattle.std.proofs.lemmas.Option.{none-some}
-use Rattle.proof_commits.specs.Vocabulary.{Reply, Operation, Outcome, Ended, Step, Go, Sweep, ended, settled, is_busy, next, Moves, Begins, Ends, Sweeps, State, operation_of}
+use Rattle.proof_commits.specs.Vocabulary.{Reply, Operation, Outcome, Ended, Step, Go, Sweep, GiveUp, ended, settled, is_busy, next, Moves, Begins, Ends, Sweeps, GivesUp, State, operation_of}
 use Rattle.proof_commits.specs.Beneath.machine_model.specs.declared.steps.Step.TheVariants.{Begin}
 use Rattle.proof_commits.specs.Beneath.machine_model.specs.Moves.{Goes}
 use Rattle.proof_commits.specs.Beneath.machine_model.proofs.Actors.{IsOf, is_of, of_others}
@@ -17,6 +17,7 @@ idle_by : (state : State) (s : Step) (o : Outcome) (after : State) → Moves sta
     operation_of after actor ≡ None
 idle_by state s o after (Begins d) actor id answer is told = cc is
 idle_by state s o after (Sweeps d) actor id answer is told = cc is
+idle_by state s o after (GivesUp d found a) actor id answer is told = cc is
 idle_by state s o after (Goes d found a g) actor id answer is told = cc told
 idle_by state s o after (Ends {actor = who} {operation} {answer = said} d found a) actor id answer is told =
     let whose : who ≡ actor = cc is in subst (λ k. operation_of (settled state (ended state who)) k ≡ None) whose (end_own state who operation said)
@@ -56,6 +57,7 @@ one_actor : (a b : ℕ) (s : Step) → IsOf a s → IsOf b s → a ≡ b
 one_actor a b (Begin actor call) x y = sym x ∙ y
 one_actor a b (Go actor) x y = sym x ∙ y
 one_actor a b Sweep x y = absurd x
+one_actor a b (GiveUp actor) x y = sym x ∙ y
 
 only_by : (actor : ℕ) (state : State) (s : Step) (o : Outcome) (after : State) → Moves state s o after → IsOf actor s → OnlyRuns actor state → (k : ℕ) → Dec (IsOf (suc k) s) →
     (operation : Operation) → operation_of after (suc k) ≡ Some operation → suc k ≡ actor

@@ -211,9 +211,9 @@ pub record IsSame (w : Words) (t : ℕ) (j : ℕ) : Type 0 where
   pub stage : w.stage (suc t) j ≡ w.stage t j
   pub from : w.from (suc t) j ≡ w.from t j
 
--- a step of the run: one actor's, or nobody's
+-- a step of the run: one actor's, or nobody's; whence its READ counts is told unless it is let go of
 pub data Turn (w : Words) (t : ℕ) : Type 0 where
-  Acts : (k : ℕ) → Moves w t k (w.stage t k) (w.stage (suc t) k) → Counts w t k (w.stage t k) → ((j : ℕ) → (j ≡ k → ⊥) → IsSame w t j) → Turn w t
+  Acts : (k : ℕ) → Moves w t k (w.stage t k) (w.stage (suc t) k) → IsAtRest (w.stage (suc t) k) ⊎ Counts w t k (w.stage t k) → ((j : ℕ) → (j ≡ k → ⊥) → IsSame w t j) → Turn w t
   Passes : Leaves w t → ((j : ℕ) → IsSame w t j) → Turn w t
 
 -- the words of a run of so many steps

@@ -23,11 +23,12 @@ pub use Rattle.proof_commits.specs.Beneath.machine_model.specs.Copying.{after_gi
 pub use Rattle.proof_commits.specs.Beneath.machine_model.specs.Counting.{settled}
 pub use Rattle.proof_commits.specs.Beneath.machine_model.specs.Finding.{absent, absent_beside, absent_listed, after_listed, after_sibling, after_tomb, found, found_so, key_after_entry}
 pub use Rattle.proof_commits.specs.Beneath.machine_model.specs.Finding.{key_after_main, key_after_read, removing}
+pub use Rattle.proof_commits.specs.Beneath.machine_model.specs.GivingUp.{gave_up, given_up}
 pub use Rattle.proof_commits.specs.Beneath.machine_model.specs.Grown.{main_word, node_under, of_birth, or_before, prev_word, standing}
 unfoldable pub use Rattle.proof_commits.specs.Beneath.machine_model.specs.Grown.{grown}
 pub use Rattle.proof_commits.specs.Beneath.machine_model.specs.Machine.{AreBounds, begin_denial, begun_operation, go_denial, is_busy, reclaimer_of, run, swept, taken_steps, with_begin}
 unfoldable pub use Rattle.proof_commits.specs.Beneath.machine_model.specs.Machine.{next}
-pub use Rattle.proof_commits.specs.Beneath.machine_model.specs.Moves.{Begins, Ends, GoesOn, Moves, Sweeps}
+pub use Rattle.proof_commits.specs.Beneath.machine_model.specs.Moves.{Begins, Ends, GivesUp, GoesOn, Moves, Sweeps}
 pub use Rattle.proof_commits.specs.Beneath.machine_model.specs.Operations.{action_of, after_root, after_update, climbed_on, first_line, generation_from, line_action, line_after, read_of, swapped}
 pub use Rattle.proof_commits.specs.Beneath.machine_model.specs.Paths.{above, current}
 pub use Rattle.proof_commits.specs.Beneath.machine_model.specs.Reading.{Commits, Fails, Overtaken, Verdict, after_ask, after_decide, after_prev, after_restore, at_indirection, committed_by}
@@ -35,7 +36,7 @@ pub use Rattle.proof_commits.specs.Beneath.machine_model.specs.Reading.{committe
 pub use Rattle.proof_commits.specs.Beneath.machine_model.specs.Records.{Record, changer_of, closed_at, commit_step, commits_after, moment_after, moment_at, moment_given, no_moment, noted, noted_end}
 pub use Rattle.proof_commits.specs.Beneath.machine_model.specs.Records.{noted_progress, read_at_after, record_of, step_of_commit}
 pub use Rattle.proof_commits.specs.Beneath.machine_model.specs.Renewing.{next_entry, renew_after_branch, renew_after_entry, renew_after_link, renew_after_read, renew_next}
-pub use Rattle.proof_commits.specs.Beneath.machine_model.specs.States.{State, first_heap, operation_of, root_of, word_at}
+pub use Rattle.proof_commits.specs.Beneath.machine_model.specs.States.{State, first_heap, operation_of, root_of, with_operation, word_at}
 unfoldable pub use Rattle.proof_commits.specs.Beneath.machine_model.specs.States.{first_state}
 pub use Rattle.proof_commits.specs.Beneath.machine_model.specs.Swapping.{after_check, after_completing, after_deciding, after_publish, after_reading, after_root_word, is_carried_out, is_plain}
 pub use Rattle.proof_commits.specs.Beneath.machine_model.specs.Swapping.{of_offer, on_line, swap_after}
@@ -77,5 +78,5 @@ pub use Rattle.proof_commits.specs.Beneath.machine_model.specs.declared.steps.Bo
 pub use Rattle.proof_commits.specs.Beneath.machine_model.specs.declared.steps.Outcome.{Outcome}
 pub use Rattle.proof_commits.specs.Beneath.machine_model.specs.declared.steps.Outcome.TheVariants.{Ended}
 pub use Rattle.proof_commits.specs.Beneath.machine_model.specs.declared.steps.Step.{Step}
-pub use Rattle.proof_commits.specs.Beneath.machine_model.specs.declared.steps.Step.TheVariants.{Go, Sweep}
+pub use Rattle.proof_commits.specs.Beneath.machine_model.specs.declared.steps.Step.TheVariants.{GiveUp, Go, Sweep}
 pub use Rattle.proof_commits.specs.Beneath.machine_model.specs.declared.walking.WalkLine.{WalkLine}

@@ -10,7 +10,7 @@
 -- What a step does: `update_acts` (Changes.Generations), `copy_opens`, `empty_opens` (Changes.Openings). What keeps shape: Shapes.Builders, Shapes.Lists;
 -- `branch_shape`, `list_shape`, `tomb_shape` (Shapes.Nodes) read a node's shape off. The pairs that are reached: `content_is` (Pairs.Heap).
 --
--- What lines know: `tomb_comes`, `removing_comes`, `renew_comes` (Lines.Coming) say which lines may come; `key_knows` (Lines.Key.Knows), `build_knows` (Lines.Build),
+-- What lines know: `key_knows` (Lines.Key.Knows), `build_knows` (Lines.Build),
 -- `renew_..` and `clean_..` (Lines.Repair) hand it on; `EndsRight` (Lines.Key.Ends) and Lines.Answers say what is answered, Lines.Readers what a reader finds out.
 pub mod Nodes
 pub mod Values

@@ -1,5 +1,4 @@
 -- What the lines of each program know of the nodes that they have seen and made, and so answer.
-pub mod Coming
 pub mod Readers
 pub mod Updates
 pub mod Key

@@ -28,13 +28,12 @@ pub use Rattle.machine_model.specs.Cleaning.{after_child, clean_after_entry, cle
 pub use Rattle.machine_model.specs.Contents.{IsReached, content_at, from_slot, most_levels, pairs_at}
 unfoldable pub use Rattle.machine_model.specs.Contents.{pairs_below}
 pub use Rattle.machine_model.specs.Counting.{refs_of_root, refs_of_word}
-pub use Rattle.machine_model.specs.Finding.{absent, absent_beside, absent_listed, after_listed, after_sibling, after_tomb, found, found_so, going_down, is_passable, key_after, key_after_entry}
-pub use Rattle.machine_model.specs.Finding.{key_after_main, key_after_read, removing}
+pub use Rattle.machine_model.specs.Finding.{found, key_after}
 pub use Rattle.machine_model.specs.Grown.{main_before, main_word, node_under, of_birth, or_before, prev_word, standing}
 unfoldable pub use Rattle.machine_model.specs.Grown.{grown}
-pub use Rattle.machine_model.specs.Lines.{impossible, new_try}
+pub use Rattle.machine_model.specs.Lines.{new_try}
 pub use Rattle.machine_model.specs.Pairs.{by_key, comes_before, put_pair}
-pub use Rattle.machine_model.specs.Paths.{above, current, depth_of, hash_in, is_below_root, is_start, start_of}
+pub use Rattle.machine_model.specs.Paths.{depth_of, hash_in, is_below_root, is_start, start_of}
 pub use Rattle.machine_model.specs.Reading.{at_indirection, read_after, read_step, reading}
 pub use Rattle.machine_model.specs.Renewing.{branch_of, next_entry, renew_after_entry, renew_after_read, renew_next}
 pub use Rattle.machine_model.specs.States.{State, first_heap, root_of, word_at}

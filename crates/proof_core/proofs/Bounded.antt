@@ -2,8 +2,8 @@
 use Rattle.std.proofs.Common.{◌≡◌, ℕ, ◌+◌, ◌*◌, ◌≤◌, false, length, List, [], ◌∷◌, ◌++◌, Option, Some, None, Ok, refl, sym, ap, ◌∙◌, subst, arith, leb-false, map}
 use Rattle.proof_core.specs.Vocabulary.{Call, Ref, Node, Action, Operation, Bounds, Outcome, Step, handle_of, Heap, empty_branch, with_main, with_prev, taken, take_from, freed, ref_to, Indirection}
 use Rattle.proof_core.specs.Vocabulary.{State, empty_heap, first_state, action_of, Prev, Reclaimer, ripe, sweep_by, acted, new_root_taken, attempt_after, operation_after, next, next_state}
-use Rattle.proof_core.specs.Vocabulary.{state_after, is_spent, begin_denial, go_denial, with_begin, pin_of, reclaimer_of, run, run_from, AreBounds, Begins, Ends, Sweeps, Moves, begun_operation}
-use Rattle.proof_core.specs.Vocabulary.{FitsKey}
+use Rattle.proof_core.specs.Vocabulary.{state_after, is_spent, begin_denial, go_denial, with_begin, pin_of, reclaimer_of, run, run_from, AreBounds, longest_life, Begins, Ends, Sweeps, Moves}
+use Rattle.proof_core.specs.Vocabulary.{begun_operation, FitsKey, GivesUp}
 use Rattle.proof_core.specs.Beneath.machine_model.specs.declared.actions.Action.TheVariants as act
 use Rattle.proof_core.specs.Beneath.machine_model.specs.declared.steps.Step.TheVariants as step
 use Rattle.std.proofs.lemmas.List.FromFn.{length-range_with_len}
@@ -17,7 +17,7 @@ use Rattle.proof_core.specs.Beneath.machine_model.specs.Moves.{Goes}
 use Rattle.proof_core.specs.Beneath.machine_model.proofs.Slots.{sound_along}
 use Rattle.proof_core.specs.Beneath.proof_memory.proofs.Safety.Steps.{gone_epoch}
 use Rattle.proof_core.specs.Beneath.proof_generations.proofs.Counter.Drawn.{aborted_generations, completed_generations, offered_generations}
-use Rattle.proof_core.specs.Bounds.{IsBounded}
+use Rattle.proof_core.specs.Bounds.{IsBounded, AreInRange}
 use Rattle.std.proofs.lemmas.List.Elements.{All-nil, All-push}
 use Rattle.proof_straight.specs.Resting.{IsOfRun}
 
@@ -36,6 +36,7 @@ unspent : (state : State) (s : Step) (o : Outcome) (after : State) → Moves sta
 unspent state s o after (Begins {actor} {call} d) = begin_unspent state actor call d
 unspent state s o after (Goes {actor} d is a g) = go_unspent state actor d
 unspent state s o after (Ends {actor} d is a) = go_unspent state actor d
+unspent state s o after (GivesUp {actor} d is a) = go_unspent state actor d
 unspent state s o after (Sweeps spent) = spent
 
 -- then one step more is within the limit
@@ -113,6 +114,7 @@ generations_after : (state : State) (s : Step) (o : Outcome) (after : State) →
 generations_after state s o after (Begins {actor} {call} d) = omega (arith, begin_generations state actor call (begun_operation state call))
 generations_after state s o after (Goes {actor} {operation} d is a g) = acted_generations _ (handle_of operation.call) (action_of state operation)
 generations_after state s o after (Ends d is a) = omega arith
+generations_after state s o after (GivesUp d is a) = omega arith
 generations_after state s o after (Sweeps spent) = omega arith
 
 -- ---- the epoch
@@ -127,6 +129,7 @@ epoch_after : (state : State) (s : Step) (o : Outcome) (after : State) → Moves
 epoch_after state s o after (Begins {actor} {call} d) = omega (arith, begin_epoch state actor call (begun_operation state call))
 epoch_after state s o after (Goes {actor} {operation} d is a g) = omega (arith, gone_epoch state actor operation)
 epoch_after state s o after (Ends d is a) = omega arith
+epoch_after state s o after (GivesUp d is a) = omega arith
 epoch_after state s o after (Sweeps spent) = sweep_epoch (map pin_of state.actors) (reclaimer_of state) (ripe state.epoch state.limbo)
 
 -- ---- begins
@@ -135,6 +138,7 @@ epoch_after state s o after (Sweeps spent) = sweep_epoch (map pin_of state.actor
 abbrev pub one_if_begin : Step → ℕ
 one_if_begin (step.Begin actor call) = 1
 one_if_begin (step.Go actor) = 0
+one_if_begin (step.GiveUp actor) = 0
 one_if_begin step.Sweep = 0
 
 -- a begin is one more, and nothing else is
@@ -143,12 +147,14 @@ begins_after state s o after (Begins {actor} {call} d) = omega arith
 begins_after state s o after (Goes {actor} {operation} d is a g) =
     (acted_framed _ (handle_of operation.call) (action_of state operation)).begun ∙ (let none : state.begun ≡ state.begun + 0 = omega arith in none)
 begins_after state s o after (Ends d is a) = omega arith
+begins_after state s o after (GivesUp d is a) = omega arith
 begins_after state s o after (Sweeps spent) = omega arith
 
 -- at most one
 one_if_begin_most : (s : Step) → one_if_begin s ≤ 1
 one_if_begin_most (step.Begin actor call) = omega arith
 one_if_begin_most (step.Go actor) = omega arith
+one_if_begin_most (step.GiveUp actor) = omega arith
 one_if_begin_most step.Sweep = omega arith
 
 -- ---- attempts
@@ -178,6 +184,7 @@ few_attempts limits =
       attempt_most operation.attempt (action_of (run limits steps) operation),
       h,
     ))
+    (λ steps actor operation answer is may h. omega (arith, h))
     (λ steps s o after m k other operation at_k h.
     omega (arith, mark_attempt (marks_in (run limits steps) s) operation, steps_counted (run limits steps) s o after m, h))
 
@@ -225,13 +232,13 @@ grows_along : (limits : Bounds) (steps : List Step) → Grows limits (run limits
 grows_along limits = along limits (Grows limits) (grows_at_first limits) (λ steps s o after m h. grows_after limits (run limits steps) s o after m h)
 
 -- after each run the numbers are bounded
-bounded_along : (limits : Bounds) → AreBounds limits → (steps : List Step) → IsBounded (run limits steps)
-bounded_along limits ok steps =
+bounded_along : (limits : Bounds) → AreBounds limits → limits.steps ≤ longest_life → (steps : List Step) → IsBounded (run limits steps)
+bounded_along limits ok life steps =
     let h = grows_along limits steps in
     let sound = sound_along limits ok steps in
     record {
       slots = omega (arith, sound.heap.size, ok.1);
-      steps = omega (arith, h.steps, ok.4);
+      steps = omega (arith, h.steps, life);
       births = omega (arith, h.births, sound.heap.size);
       generations = h.generations;
       epoch = h.epoch;
@@ -241,7 +248,7 @@ bounded_along limits ok steps =
 
 -- the state of a run is bounded
 pub bounded : (state : State) → IsOfRun state → IsBounded state
-bounded state h = subst IsBounded (sym h.is) (bounded_along state.limits h.limits h.steps)
+bounded state h = subst IsBounded (sym h.is) (bounded_along state.limits h.limits h.life h.steps)
 
 -- ---- a step from a state of a run
 
@@ -257,6 +264,7 @@ run_on state s fits h =
       steps = h.steps ++ s ∷ [];
       is = ap (λ x. next_state x s) h.is ∙ sym (run_push (first_state state.limits) h.steps s) ∙ ap (λ l. run l (h.steps ++ s ∷ [])) (sym same);
       limits = subst (λ l. AreBounds l) (sym same) h.limits;
+      life = subst (λ (l : Bounds). l.steps ≤ longest_life) (sym same) h.life;
       keys = All-push FitsKey h.steps s h.keys fits;
     }
 
@@ -265,12 +273,13 @@ pub taken_run : (before after : State) (s : Step) (o : Outcome) → next before 
 taken_run before after s o e fits h = subst IsOfRun (ap (λ a. state_after before a) e) (run_on before s fits h)
 
 -- the first state is one of a run
-pub first_run : (limits : Bounds) (state : State) → AreBounds limits → state ≡ first_state limits → IsOfRun state
+pub first_run : (limits : Bounds) (state : State) → AreInRange limits → state ≡ first_state limits → IsOfRun state
 unfolding first_state run_from
 first_run limits state ok e = record {
   steps = [];
   is = e ∙ ap first_state (sym (ap (λ x. x.limits) e));
-  limits = subst (λ l. AreBounds l) (sym (ap (λ x. x.limits) e)) ok;
+  limits = subst (λ l. AreBounds l) (sym (ap (λ x. x.limits) e)) ok.0;
+  life = subst (λ (l : Bounds). l.steps ≤ longest_life) (sym (ap (λ x. x.limits) e)) ok.1;
   keys = All-nil FitsKey;
 }
 

@@ -13,9 +13,13 @@ pub record IsBounded (state : State) : Type 0 where
   pub attempts : (actor : ℕ) (operation : Operation) → operation_of state actor ≡ Some operation → operation.attempt ≤ state.steps
   pub begins : state.begun ≤ state.steps
 
+-- the bounds with which a program's machine begins: it ends before its counters outgrow their types
+abbrev pub AreInRange : Bounds → Type 0
+AreInRange bounds = AreBounds bounds × (bounds.steps ≤ longest_life)
+
 -- the bounds are out of range, or memory was lacking for bounds in range
 abbrev pub RefusesBounds : Bounds → Refusal → Type 0
-RefusesBounds bounds refusal = ((¬ AreBounds bounds) × (refusal ≡ refuse.BadLimits)) ⊎ (AreBounds bounds × (refusal ≡ refuse.Memory))
+RefusesBounds bounds refusal = ((¬ AreInRange bounds) × (refusal ≡ refuse.BadLimits)) ⊎ (AreInRange bounds × (refusal ≡ refuse.Memory))
 
 -- What a step comes to, by what the definition answers: where it is taken, its outcome and the state are those; where it is
 -- refused nothing has changed, and the refusal is that of the definition.

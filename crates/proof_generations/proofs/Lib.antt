@@ -6,7 +6,7 @@
 --
 -- Offers: `step_kind` (Offers.Swaps) parts root swaps from all other steps; StandsBy and `own_numbers` (Offers.Standing) say whose a standing offer is,
 -- `carried_stands` (Offers.Marks) that what is carried out stands, `same_offer` (Offers.Same) that it is the very same one. Which offer a line is to settle:
--- Lines.Offers; where it has it from: Lines.Completes.
+-- Lines.Offers; where it has it from: `abort_after`, `completes_after` (Lines.Completes).
 --
 -- Roots: `ordered_at` (Roots.Along) gives IsOrdered, all invariants of offers, handles and roots, at each time of a run; `root_kept`, `safe_kept`, `fresh_of`
 -- (Roots.Kept) that a generation stays under a root, `no_close_at` and `open_root` (Roots.Open) that a root was open while it was asked for.

@@ -1,5 +1,4 @@
 -- The words of the definition, for the files of this crate.
-pub use Rattle.proof_generations.specs.Beneath.ctrie_base.specs.Paths.{position_of}
 pub use Rattle.proof_generations.specs.Beneath.ctrie_base.specs.declared.hashes.HashKind.{HashKind}
 pub use Rattle.proof_generations.specs.Beneath.slot_arena.specs.Heaps.{Heap, bitmap_of, empty_branch, entries_of, entry_at, generation_at, generation_of, logical, logical_main, main_at}
 pub use Rattle.proof_generations.specs.Beneath.slot_arena.specs.Heaps.{main_changed, main_of, next_ref, no_ref, node_of, prev_changed, prev_of, refs_of_option, take_from, with_main_word, written}
@@ -19,46 +18,43 @@ pub use Rattle.proof_generations.specs.Beneath.history.specs.declared.calls.Acce
 pub use Rattle.proof_generations.specs.Beneath.history.specs.declared.calls.Call.{Call}
 pub use Rattle.proof_generations.specs.Beneath.history.specs.declared.calls.Call.TheVariants.{Clear, Close, Count, Entries, Freeze, Snapshot}
 pub use Rattle.proof_generations.specs.Beneath.history.specs.declared.replies.Reply.{Reply}
-pub use Rattle.proof_generations.specs.Beneath.machine_model.specs.Acting.{aborted, acted, attempt_after, carried_out, completed, decided, gone, if_changed, mark_after, marked, new_root_taken}
-pub use Rattle.proof_generations.specs.Beneath.machine_model.specs.Acting.{offered, opened, opened_root, operation_after}
-pub use Rattle.proof_generations.specs.Beneath.machine_model.specs.Building.{after_single, build_after_made, build_if_made, changed}
-pub use Rattle.proof_generations.specs.Beneath.machine_model.specs.Calls.{absent_reply, handle_of, inserts, is_close, key_of, needs_writable, opens_handle, when_found}
-pub use Rattle.proof_generations.specs.Beneath.machine_model.specs.Cleaning.{after_child, clean_after_contracted, clean_after_entry, clean_after_main, clean_after_read, clean_after_tomb, clean_next}
+pub use Rattle.proof_generations.specs.Beneath.machine_model.specs.Acting.{aborted, acted, attempt_after, carried_out, completed, decided, gone, if_changed, mark_after, new_root_taken, offered}
+pub use Rattle.proof_generations.specs.Beneath.machine_model.specs.Acting.{opened, opened_root, operation_after}
+pub use Rattle.proof_generations.specs.Beneath.machine_model.specs.Building.{changed}
+pub use Rattle.proof_generations.specs.Beneath.machine_model.specs.Calls.{copies, handle_of, inserts, is_clear, is_close, is_snapshot, key_of, needs_writable, opens_handle, when_found}
 pub use Rattle.proof_generations.specs.Beneath.machine_model.specs.Cleaning.{leaves_single}
-pub use Rattle.proof_generations.specs.Beneath.machine_model.specs.Climbing.{climb_after_contracted, climb_after_main, climb_after_read, climb_after_root, climbed, climbing, higher, holds_it}
-pub use Rattle.proof_generations.specs.Beneath.machine_model.specs.Climbing.{place_in}
-pub use Rattle.proof_generations.specs.Beneath.machine_model.specs.Copying.{after_given, after_offer, after_successor, copied_reply, copy_action, copy_after, copy_after_complete, copy_after_made}
-pub use Rattle.proof_generations.specs.Beneath.machine_model.specs.Copying.{copy_after_read, copy_if_made, offering}
+pub use Rattle.proof_generations.specs.Beneath.machine_model.specs.Climbing.{higher, place_in}
+pub use Rattle.proof_generations.specs.Beneath.machine_model.specs.Copying.{after_given, after_offer, after_successor, copied_reply, copy_action, copy_after_complete, copy_after_made}
+pub use Rattle.proof_generations.specs.Beneath.machine_model.specs.Copying.{copy_after_read, copy_if_made}
 pub use Rattle.proof_generations.specs.Beneath.machine_model.specs.Counting.{settled}
-pub use Rattle.proof_generations.specs.Beneath.machine_model.specs.Finding.{absent, absent_beside, absent_listed, after_listed, after_sibling, after_tomb, found, found_so, key_after}
-pub use Rattle.proof_generations.specs.Beneath.machine_model.specs.Finding.{key_after_entry, key_after_main, key_after_read, passes}
+pub use Rattle.proof_generations.specs.Beneath.machine_model.specs.Finding.{absent, absent_beside, after_listed, after_tomb, found_so, key_after_entry, key_after_main, key_after_read, passes}
+pub use Rattle.proof_generations.specs.Beneath.machine_model.specs.GivingUp.{gave_up, given_up}
 pub use Rattle.proof_generations.specs.Beneath.machine_model.specs.Grown.{main_before, main_word, node_under, or_before, prev_word, standing}
 unfoldable pub use Rattle.proof_generations.specs.Beneath.machine_model.specs.Grown.{grown}
 pub use Rattle.proof_generations.specs.Beneath.machine_model.specs.Lines.{new_try}
 pub use Rattle.proof_generations.specs.Beneath.machine_model.specs.Machine.{AreBounds, access_of, begin_denial, begun_operation, handle_closed, handles_taken, is_actor, is_number, is_taken}
 pub use Rattle.proof_generations.specs.Beneath.machine_model.specs.Machine.{least_free, next_state, pin_of, reclaimer_of, reserved_by, run, runs_on, taken_steps, with_begin}
 unfoldable pub use Rattle.proof_generations.specs.Beneath.machine_model.specs.Machine.{least_from, run_from, taken_below}
-pub use Rattle.proof_generations.specs.Beneath.machine_model.specs.Moves.{Begins, Ends, GoesOn, Moves, Sweeps}
-pub use Rattle.proof_generations.specs.Beneath.machine_model.specs.Operations.{action_of, after_root, after_update, climbed_on, first_line, generation_from, given_root, line_action, line_after}
-pub use Rattle.proof_generations.specs.Beneath.machine_model.specs.Operations.{read_of, swapped}
-pub use Rattle.proof_generations.specs.Beneath.machine_model.specs.Paths.{above, current, depth_of, flag_in, is_below_root, is_start, start_of}
+pub use Rattle.proof_generations.specs.Beneath.machine_model.specs.Moves.{Begins, Ends, GivesUp, GoesOn, Moves, Sweeps}
+pub use Rattle.proof_generations.specs.Beneath.machine_model.specs.Operations.{action_of, after_root, completing_read, first_line, generation_from, given_root, line_action, line_after, read_of}
+pub use Rattle.proof_generations.specs.Beneath.machine_model.specs.Operations.{rooting_read}
+pub use Rattle.proof_generations.specs.Beneath.machine_model.specs.Paths.{above, current, flag_in, is_below_root, is_start, start_of}
 pub use Rattle.proof_generations.specs.Beneath.machine_model.specs.Reading.{Commits, Fails, Overtaken, Verdict, read_action, read_after, read_step, reading, verdict}
 pub use Rattle.proof_generations.specs.Beneath.machine_model.specs.Records.{Record, closed_at, closed_by, first_record, moment_after, moment_at, next_record, noted, noted_progress, read_at_after}
 pub use Rattle.proof_generations.specs.Beneath.machine_model.specs.Records.{record_of, step_of}
 unfoldable pub use Rattle.proof_generations.specs.Beneath.machine_model.specs.Records.{record_from}
-pub use Rattle.proof_generations.specs.Beneath.machine_model.specs.Renewing.{next_entry, renew_after_branch, renew_after_entry, renew_after_link, renew_after_read, renew_next}
-pub use Rattle.proof_generations.specs.Beneath.machine_model.specs.States.{State, empty_heap, first_heap, handle_limit, operation_of, rewritten, root_at, root_of, with_operation, with_word, word_at}
-pub use Rattle.proof_generations.specs.Beneath.machine_model.specs.States.{word_of}
+pub use Rattle.proof_generations.specs.Beneath.machine_model.specs.Renewing.{next_entry}
+pub use Rattle.proof_generations.specs.Beneath.machine_model.specs.States.{Runs, State, empty_heap, first_heap, handle_limit, operation_of, rewritten, root_at, root_of, with_operation, with_word}
+pub use Rattle.proof_generations.specs.Beneath.machine_model.specs.States.{word_at, word_of}
 unfoldable pub use Rattle.proof_generations.specs.Beneath.machine_model.specs.States.{first_state}
 pub use Rattle.proof_generations.specs.Beneath.machine_model.specs.Swapping.{after_complete, after_completing, after_reading, after_root_word, complete_action, complete_after, completing}
-pub use Rattle.proof_generations.specs.Beneath.machine_model.specs.Swapping.{is_carried_out, is_plain, is_try, of_offer, on_line, root_after, stands_in}
+pub use Rattle.proof_generations.specs.Beneath.machine_model.specs.Swapping.{is_carried_out, is_plain, is_try, of_offer, root_after, stands_in}
 pub use Rattle.proof_generations.specs.Beneath.machine_model.specs.Tellings.{carried_by, counts_from, progress_of, told_in}
 pub use Rattle.proof_generations.specs.Beneath.machine_model.specs.Times.{IsRun, Turn, last_of, noted_turn, records_of, states_of, turns}
 pub use Rattle.proof_generations.specs.Beneath.machine_model.specs.Walking.{first_of, rest_of, walk_after, walk_after_entry, walk_after_read, walk_next}
 pub use Rattle.proof_generations.specs.Beneath.machine_model.specs.declared.actions.Action.{Action}
 pub use Rattle.proof_generations.specs.Beneath.machine_model.specs.declared.building.BuildLine.{BuildLine}
 pub use Rattle.proof_generations.specs.Beneath.machine_model.specs.declared.building.Change.{Change}
-pub use Rattle.proof_generations.specs.Beneath.machine_model.specs.declared.building.Site.{Site}
 pub use Rattle.proof_generations.specs.Beneath.machine_model.specs.declared.copying.CopyLine.{CopyLine}
 pub use Rattle.proof_generations.specs.Beneath.machine_model.specs.declared.finding.KeyLine.{KeyLine}
 pub use Rattle.proof_generations.specs.Beneath.machine_model.specs.declared.finding.WhenFound.{WhenFound}

@@ -27,6 +27,7 @@ pub use Rattle.proof_memory.specs.Beneath.history.specs.declared.calls.Access.{A
 pub use Rattle.proof_memory.specs.Beneath.history.specs.declared.calls.Access.TheVariants.{ReadOnly, Writable}
 pub use Rattle.proof_memory.specs.Beneath.history.specs.declared.calls.Call.{Call}
 pub use Rattle.proof_memory.specs.Beneath.history.specs.declared.calls.Call.TheVariants.{Clear, Close, Count, Entries, Freeze, Get, Snapshot}
+pub use Rattle.proof_memory.specs.Beneath.history.specs.declared.replies.Reply.{Reply}
 pub use Rattle.machine_model.specs.Acting.{acted, carried_out, decided, gone, if_changed, new_root_taken, opened, opened_root, operation_after, private_after, published, restored, with_made}
 pub use Rattle.machine_model.specs.Building.{after_link, after_single, build_action, build_after, build_after_made, build_if_made, changed, old_hash, pair_depth}
 pub use Rattle.machine_model.specs.Calls.{handle_of, inserts, is_close, key_of, needs_writable, when_found}
@@ -39,12 +40,13 @@ pub use Rattle.machine_model.specs.Copying.{after_given, after_offer, after_succ
 pub use Rattle.machine_model.specs.Counting.{outside, refs_of_operation, refs_of_root, refs_of_word, settled}
 pub use Rattle.machine_model.specs.Finding.{absent, absent_beside, absent_listed, after_listed, after_sibling, after_tomb, found_so, is_passable, key_action, key_after, key_after_entry}
 pub use Rattle.machine_model.specs.Finding.{key_after_main, key_after_read, removing}
+pub use Rattle.machine_model.specs.GivingUp.{gave_up, given_up}
 pub use Rattle.machine_model.specs.Grown.{main_word, node_under, of_birth, or_before, prev_word, standing}
 unfoldable pub use Rattle.machine_model.specs.Grown.{grown}
 pub use Rattle.machine_model.specs.Machine.{Answer, AreBounds, begin_denial, begun_operation, handle_closed, is_busy, is_number, is_taken_step, names, next_state, pin_of, reclaimer_of, run, runs_on}
 pub use Rattle.machine_model.specs.Machine.{state_after, swept_with, taken_steps, with_begin}
 unfoldable pub use Rattle.machine_model.specs.Machine.{next, run_from}
-pub use Rattle.machine_model.specs.Moves.{Begins, Ends, GoesOn, Moves, MovesIfTaken, Sweeps}
+pub use Rattle.machine_model.specs.Moves.{Begins, Ends, GivesUp, GoesOn, Moves, MovesIfTaken, Sweeps}
 pub use Rattle.machine_model.specs.Operations.{action_of, after_root, after_update, climbed_on, completing_read, first_line, generation_from, given_root, line_action, line_after, read_of}
 pub use Rattle.machine_model.specs.Operations.{rooting_read, swapped, swapping_read}
 pub use Rattle.machine_model.specs.Pairs.{by_key}
@@ -52,7 +54,7 @@ pub use Rattle.machine_model.specs.Paths.{above, current, depth_of, flag_in, has
 pub use Rattle.machine_model.specs.Reading.{Commits, Fails, Overtaken, Verdict, after_ask, after_decide, after_prev, after_restore, at_indirection, read_action, read_after, read_step, verdict}
 pub use Rattle.machine_model.specs.Records.{next_record, record_of}
 pub use Rattle.machine_model.specs.Renewing.{next_entry, renew_after, renew_after_branch, renew_after_entry, renew_after_link, renew_after_read, renew_next}
-pub use Rattle.machine_model.specs.States.{State, empty_heap, first_heap, handle_limit, operation_of, rewritten, root_at, root_of, with_root, with_word, word_at, word_of}
+pub use Rattle.machine_model.specs.States.{State, empty_heap, first_heap, handle_limit, operation_of, rewritten, root_at, root_of, with_operation, with_root, with_word, word_at, word_of}
 unfoldable pub use Rattle.machine_model.specs.States.{first_state}
 pub use Rattle.machine_model.specs.Swapping.{action_at, after_check, after_complete, after_completing, after_deciding, after_publish, after_reading, after_root_word, complete_action_at}
 pub use Rattle.machine_model.specs.Swapping.{complete_after, completing, is_plain, of_offer, on_line, root_action, root_after, swap_after}

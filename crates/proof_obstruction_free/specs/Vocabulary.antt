@@ -34,6 +34,7 @@ pub use Rattle.proof_obstruction_free.specs.Beneath.machine_model.specs.Copying.
 pub use Rattle.proof_obstruction_free.specs.Beneath.machine_model.specs.Counting.{settled}
 pub use Rattle.proof_obstruction_free.specs.Beneath.machine_model.specs.Finding.{absent, absent_beside, absent_listed, after_listed, after_sibling, after_tomb, found, found_so, going_down}
 pub use Rattle.proof_obstruction_free.specs.Beneath.machine_model.specs.Finding.{is_passable, key_after_entry, key_after_main, key_after_read, passes, removing}
+pub use Rattle.proof_obstruction_free.specs.Beneath.machine_model.specs.GivingUp.{given_up}
 pub use Rattle.proof_obstruction_free.specs.Beneath.machine_model.specs.Grown.{main_word, node_under, prev_word}
 unfoldable pub use Rattle.proof_obstruction_free.specs.Beneath.machine_model.specs.Grown.{grown}
 pub use Rattle.proof_obstruction_free.specs.Beneath.machine_model.specs.Keys.{FitsKey, KeysFit}
@@ -41,7 +42,7 @@ pub use Rattle.proof_obstruction_free.specs.Beneath.machine_model.specs.Lines.{i
 pub use Rattle.proof_obstruction_free.specs.Beneath.machine_model.specs.Machine.{Answer, AreBounds, begun_operation, first_reason, go_denial, go_on, go_unless, is_actor, is_running, is_spent}
 pub use Rattle.proof_obstruction_free.specs.Beneath.machine_model.specs.Machine.{is_taken_step, next_kind, next_state, run, state_after, step_by, taken_steps}
 unfoldable pub use Rattle.proof_obstruction_free.specs.Beneath.machine_model.specs.Machine.{next, taken_from}
-pub use Rattle.proof_obstruction_free.specs.Beneath.machine_model.specs.Moves.{Begins, Ends, GoesOn, Moves, MovesIfTaken, Sweeps}
+pub use Rattle.proof_obstruction_free.specs.Beneath.machine_model.specs.Moves.{Begins, Ends, GivesUp, GoesOn, Moves, MovesIfTaken, Sweeps}
 pub use Rattle.proof_obstruction_free.specs.Beneath.machine_model.specs.Operations.{EmbedsRead, action_of, after_root, after_update, climbed_on, completing_read, first_line, generation_from}
 pub use Rattle.proof_obstruction_free.specs.Beneath.machine_model.specs.Operations.{given_root, kind_of, line_action, line_after, read_of, rooting_read, swapped, swapping_read}
 pub use Rattle.proof_obstruction_free.specs.Beneath.machine_model.specs.Paths.{above, current, depth_of, flag_in, hash_in, is_below_root, is_start}

@@ -8,7 +8,7 @@ use Rattle.proof_operations.specs.Vocabulary.{Prev, Slot, Ref, slot_of, Heap, en
 use Rattle.proof_operations.specs.Vocabulary.{BuildLine, Change, CopyLine, KeyLine, Line, Operation, ReadLine, SwapLine, CleanLine, ClimbLine, RenewLine, CompleteLine, Descriptor, RootLine, Bounds}
 use Rattle.proof_operations.specs.Vocabulary.{Outcome, Step, WalkLine, acted, decided, if_changed, new_root_taken, build_action, changed, handle_of, clean_action, climb_action, copy_action}
 use Rattle.proof_operations.specs.Vocabulary.{key_action, reclaimer_of, run, Moves, Begins, Ends, Sweeps, begun_operation, action_of, line_action, Verdict, Commits, Fails, Overtaken, read_action}
-use Rattle.proof_operations.specs.Vocabulary.{renew_action, State, empty_heap, first_state, action_at, complete_action_at, root_action, walk_action}
+use Rattle.proof_operations.specs.Vocabulary.{renew_action, State, empty_heap, first_state, action_at, complete_action_at, root_action, walk_action, GivesUp}
 use Rattle.proof_operations.specs.Beneath.machine_model.specs.declared.actions.Action.TheVariants as act
 use Rattle.proof_operations.specs.Beneath.machine_model.specs.declared.building.BuildLine.TheVariants as build
 use Rattle.proof_operations.specs.Beneath.machine_model.specs.declared.building.Change.TheVariants as change
@@ -229,6 +229,7 @@ moved_few state s o after (Begins {actor} {call} d) h = subst AreFew (sym (begin
 moved_few state s o after (Goes {actor} {operation} d is a g) h =
     acted_few _ (handle_of operation.call) (action_of state operation) (makes_few state operation operation.line) h
 moved_few state s o after (Ends d is a) h = h
+moved_few state s o after (GivesUp d is a) h = h
 moved_few state s o after (Sweeps spent) h = swept_few _ (reclaimer_of state) (ripe state.epoch state.limbo) h
 
 -- ---- along each run

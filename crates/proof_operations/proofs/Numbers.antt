@@ -19,7 +19,7 @@ use Rattle.proof_operations.specs.Beneath.machine_model.proofs.Found.{found_with
 use Rattle.proof_generations.specs.Running.{Runs}
 use Rattle.proof_generations.proofs.Handles.Footings.{ActionCarriesOut}
 use Rattle.proof_generations.proofs.Handles.Operations.{HasHandles, ran_or_began, stays, stays_none}
-use Rattle.proof_generations.proofs.Handles.Running.{Follows, rests, steps, ends, at_place, comes, follows, one_at}
+use Rattle.proof_generations.proofs.Handles.Running.{Follows, rests, steps, ends, at_place, comes, follows, one_at, gives_up}
 use Rattle.proof_generations.proofs.Offers.Marks.{Marks, carried_stands, marked_in, mark_cases}
 use Rattle.proof_generations.proofs.Offers.Same.{HasOffers}
 use Rattle.proof_generations.proofs.Offers.Standing.{own_numbers}
@@ -148,6 +148,7 @@ module _ (state : State) (I : HasOffers state) (H : HasHandles state) (actor : �
   reserved_still k was at_k unmarked opens (ends answer own ends_so) =
       let one = one_at state k operation was (at_place state actor k operation (same_actor (suc k) own) is) at_k in
       absurd (subst (λ a. GoesOn a) (ap (action_of state) one ∙ ends_so) g)
+  reserved_still k was at_k unmarked opens (gives_up answer own may now) = let wrong : ⊥ = cc own in absurd wrong
 
   still_taken : is_taken state handle ≡ true → is_taken after handle ≡ true
   still_taken e = by (root_at state handle) refl

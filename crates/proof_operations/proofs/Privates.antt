@@ -22,6 +22,7 @@ each_holds limits =
     of_each_along limits HoldsFew (λ steps actor call d. first_holds call)
     (λ steps actor operation is g h. rw (mark_only (marks_by (run limits steps) (Some operation)) (operation_after (run limits steps) operation))
     (holds_after (run limits steps) (few_entries limits steps) operation operation.private operation.line h))
+    (λ steps actor operation answer is may h. omega arith)
     (λ steps s o after m k other operation found h. rw (mark_only (marks_in (run limits steps) s) operation) h)
 
 pub made_fits : (limits : Bounds) (steps : List Step) (actor : ℕ) (operation : Operation) → operation_of (run limits steps) actor ≡ Some operation →

@@ -29,7 +29,7 @@ pub use Rattle.proof_operations.specs.Beneath.machine_model.specs.Counting.{sett
 pub use Rattle.proof_operations.specs.Beneath.machine_model.specs.Finding.{absent, absent_beside, absent_listed, after_listed, after_sibling, after_tomb, found_so, is_passable, key_action}
 pub use Rattle.proof_operations.specs.Beneath.machine_model.specs.Finding.{key_after, key_after_entry, key_after_main, key_after_read, removing}
 pub use Rattle.proof_operations.specs.Beneath.machine_model.specs.Machine.{AreBounds, begun_operation, go_denial, is_number, is_taken, reclaimer_of, reserved_by, run}
-pub use Rattle.proof_operations.specs.Beneath.machine_model.specs.Moves.{Begins, Ends, GoesOn, Moves, Sweeps}
+pub use Rattle.proof_operations.specs.Beneath.machine_model.specs.Moves.{Begins, Ends, GivesUp, GoesOn, Moves, Sweeps}
 pub use Rattle.proof_operations.specs.Beneath.machine_model.specs.Operations.{action_of, after_root, after_update, climbed_on, first_line, kind_of, line_action, line_after, swapped}
 pub use Rattle.proof_operations.specs.Beneath.machine_model.specs.Paths.{depth_of, flag_in, hash_in, is_below_root, is_start}
 pub use Rattle.proof_operations.specs.Beneath.machine_model.specs.Reading.{Commits, Fails, Overtaken, Verdict, read_action}

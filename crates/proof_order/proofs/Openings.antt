@@ -6,7 +6,6 @@ pub mod Fresh
 pub mod NeverStood
 pub mod OneRoot
 pub mod RootOf
-pub mod NextComplete
 pub mod CompleteTimes
 pub mod SwapState
 pub mod OfferStood

@@ -15,6 +15,7 @@ pub mod NewPlaces
 pub mod Placed
 pub mod PastAnswers
 pub mod Writers
+pub mod Formers
 pub mod OwnUpdates
 pub mod Closers
 pub mod Behind

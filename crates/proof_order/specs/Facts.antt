@@ -43,6 +43,7 @@ abbrev pub committed_by_step : State → Step → Option Ref
 committed_by_step state (step.Begin actor call) = None
 committed_by_step state (step.Go actor) = committed_of state (operation_of state actor)
 committed_by_step state step.Sweep = None
+committed_by_step state (step.GiveUp actor) = None
 
 -- the places of the operations whose own change the step commits
 abbrev pub entered_by_step : Record → State → Step → List Place

@@ -1,7 +1,7 @@
 -- When an operation has its place in the order, along a run. State t is the state before step t.
 use Rattle.std.specs.Prelude.{◌≡◌, ◌≢◌, ℕ, suc, ◌≤◌, ◌<◌, true, false, List, ◌∷◌, Contains, Option, Some, []}
 use Rattle.proof_order.specs.Vocabulary.{Writable, Call, Reply, Ref, Place, Line, Purpose, Operation, Swap, SwapLine, ClimbLine, Complete, Descriptor, Outcome, Step, handle_of, changed_reply, State}
-use Rattle.proof_order.specs.Vocabulary.{operation_of, action_of, Moves, prev_word, place_of, is_placed, Record, entrant_of}
+use Rattle.proof_order.specs.Vocabulary.{operation_of, former_of, tells_effect, action_of, Moves, prev_word, place_of, is_placed, Record, entrant_of}
 use Rattle.proof_order.specs.Beneath.history.specs.declared.replies.Reply.TheVariants as reply
 use Rattle.proof_order.specs.Beneath.slot_arena.specs.declared.nodes.Prev.TheVariants as prev
 use Rattle.proof_order.specs.Beneath.machine_model.specs.declared.actions.Action.TheVariants as act
@@ -19,12 +19,6 @@ abbrev pub IsPublished : SwapLine → Type 0
 IsPublished swap.Publish = ⊥
 IsPublished l = Unit {0}
 
-abbrev pub former_of : ClimbLine → Option ℕ
-former_of (climb.Read c r) = c.former
-former_of (climb.Main c main) = c.former
-former_of (climb.Contracted c main) = c.former
-former_of (climb.Root c l) = c.former
-
 abbrev pub IsPastSwap : (ℕ → State) → ℕ → Option ℕ → Purpose → Swap → Type 0
 IsPastSwap states t former (purpose.Update path was) s = (was ≡ former) × IsPublished s.line × (prev_word states t s.fresh ≡ prev.None)
 IsPastSwap states t former (purpose.Climb c) s = c.former ≡ former
@@ -39,8 +33,12 @@ IsPastAt states t call former (line.End answer) = answer ≡ changed_reply call 
 IsPastAt states t call former line.Impossible = Unit {0}
 IsPastAt states t call former l = ⊥
 
+-- the reply with which the call tells of its change is one that tells of an effect
+abbrev pub TellsEffect : Call → Option ℕ → Type 0
+TellsEffect call former = tells_effect call (changed_reply call former) ≡ true
+
 abbrev pub IsPast : (ℕ → State) → ℕ → Operation → Option ℕ → Type 0
-IsPast states t operation former = IsPastAt states t operation.call former operation.line
+IsPast states t operation former = IsPastAt states t operation.call former operation.line × TellsEffect operation.call former
 
 -- Where an operation stands that has its place.
 pub data Phase (states : ℕ → State) (t : ℕ) (operation : Operation) : Type 0 where
@@ -49,7 +47,7 @@ pub data Phase (states : ℕ → State) (t : ℕ) (operation : Operation) : Type
   -- its offer was carried out, and it completes it still
   completes : (c : Complete) → operation.is_marked ≡ true → operation.line ≡ line.Copy (copy.Complete c) → Phase states t operation
   -- a close, or its offer was carried out: it is about to answer so
-  answers : (answer : Reply) → operation.line ≡ line.End answer → answer ≢ reply.NoSlots → Phase states t operation
+  answers : (answer : Reply) → operation.line ≡ line.End answer → tells_effect operation.call answer ≡ true → Phase states t operation
 
 -- a running operation that has a place is in such a phase
 abbrev pub PlacedPhase : (ℕ → State) → (ℕ → Record) → ℕ → Type 0

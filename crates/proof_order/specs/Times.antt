@@ -1,6 +1,6 @@
 -- Since when a running operation runs, since when it has its root, and where its moment lies. State t is the state before step t.
 use Rattle.std.specs.Prelude.{◌≡◌, ℕ, suc, ◌≤◌, ◌<◌, Bool, true, false, Some}
-use Rattle.proof_order.specs.Vocabulary.{Writable, ReadOnly, CopyLine, KeyLine, Line, Operation, ReadLine, WalkLine, handle_of, is_close, State, Record, moment_at}
+use Rattle.proof_order.specs.Vocabulary.{Reply, NoSlots, Writable, ReadOnly, CopyLine, KeyLine, Line, Operation, ReadLine, WalkLine, handle_of, is_close, State, Record, moment_at}
 use Rattle.proof_order.specs.Beneath.machine_model.specs.declared.copying.CopyLine.TheVariants as copy
 use Rattle.proof_order.specs.Beneath.machine_model.specs.declared.finding.KeyLine.TheVariants as key
 use Rattle.proof_order.specs.Beneath.machine_model.specs.declared.lines.Line.TheVariants as line
@@ -36,12 +36,18 @@ walk_counts walk.Root = false
 walk_counts (walk.Read r todo pairs) = read_counts r.line
 walk_counts l = true
 
+-- who is refused may have read nothing
+abbrev pub is_answered : Reply → Bool
+is_answered NoSlots = false
+is_answered answer = true
+
 -- on this line a READ of the running try has read a main word
 abbrev pub counts : Line → Bool
 counts (line.Root l) = false
 counts (line.Key l) = key_counts l
 counts (line.Copy l) = copy_counts l
 counts (line.Walk l) = walk_counts l
+counts (line.End answer) = is_answered answer
 counts l = true
 
 abbrev pub key_has_read : KeyLine → Bool
@@ -63,6 +69,7 @@ has_read (line.Root l) = false
 has_read (line.Key l) = key_has_read l
 has_read (line.Copy l) = copy_has_read l
 has_read (line.Walk l) = walk_has_read l
+has_read (line.End answer) = is_answered answer
 has_read l = true
 
 -- step n lies behind the step at, and before now; it closes nothing

@@ -1,6 +1,10 @@
 -- The bounds of a machine that keeps its record are in range, where its limits are.
-use Rattle.std.proofs.Common.{arith}
-use Rattle.proof_runs.specs.Vocabulary.{Limits, AreLimits, bounded, AreBounds}
+use Rattle.std.proofs.Common.{◌≤◌, arith}
+use Rattle.proof_runs.specs.Vocabulary.{Limits, AreLimits, bounded, AreBounds, longest_life}
 
 pub in_bounds : (limits : Limits) → AreLimits limits → AreBounds (bounded limits)
-in_bounds limits ok = (ok.0, omega arith, ok.2, ok.3, omega arith)
+in_bounds limits ok = (ok.0, omega arith, ok.2, ok.3)
+
+-- its life too
+pub in_life : (limits : Limits) → AreLimits limits → (bounded limits).steps ≤ longest_life
+in_life limits ok = omega arith

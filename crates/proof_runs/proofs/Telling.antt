@@ -4,7 +4,7 @@ use Rattle.std.proofs.Common.{cond, refl, sym, ap, subst, ◌∙◌, inl, inr, a
 use Rattle.std.proofs.lemmas.List.{append_assoc}
 use Rattle.std.proofs.lemmas.Option.{same_Some}
 use Rattle.proof_runs.specs.Vocabulary.{Refusal, Call, Event, End, Reply, BeginsAt, HasEnded, Operation, Step, Outcome, State, first_state, operation_of, gone, settled, bounded, Answer}
-use Rattle.proof_runs.specs.Vocabulary.{is_taken_step, next, state_after, Record, first_record, noted, told_in, Begins, Ends, Sweeps, Moves, begun_operation}
+use Rattle.proof_runs.specs.Vocabulary.{is_taken_step, next, state_after, Record, first_record, noted, told_in, Begins, Ends, Sweeps, GivesUp, Moves, begun_operation}
 use Rattle.proof_runs.specs.Beneath.history.specs.declared.events.Event.TheVariants.{Begin}
 use Rattle.proof_runs.specs.Beneath.machine_model.specs.declared.steps.Step.TheVariants as step
 use Rattle.proof_runs.specs.Beneath.machine_model.proofs.Along.{run_push}
@@ -81,6 +81,7 @@ by_move : (n actor : ℕ) (m : Taken) (s : Step) (o : Outcome) (state : State) �
     GoesTo n actor → (after : Taken) (answer : Reply) (operation : Operation) → operation_of (state_of m) actor ≡ Some operation →
     after_outcome (going_on n actor) (with_step m (step.Go actor)) o ≡ (Ok (Some answer), after) → Led m after (End operation.id answer ∷ [])
 by_move n actor m s o state e is (Begins {actor = who} {call} d) rest after answer operation runs goes = cc is
+by_move n actor m s o state e is (GivesUp d found a) rest after answer operation runs goes = cc is
 by_move n actor m s o state e is (Sweeps d) rest after answer operation runs goes = cc is
 by_move n actor m s o state e is (Goes {actor = who} {operation = own} {action} d found a g) rest after answer operation runs goes =
     let quiet = ap (λ (r : Record). r.events) (noted_going (state_of m) (past_of m) who own action found a g) in

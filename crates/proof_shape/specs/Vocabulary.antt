@@ -24,26 +24,26 @@ pub use Rattle.proof_shape.specs.Beneath.history.specs.declared.calls.Call.TheVa
 pub use Rattle.proof_shape.specs.Beneath.history.specs.declared.replies.Reply.{Reply}
 pub use Rattle.proof_shape.specs.Beneath.machine_model.specs.Acting.{gone, operation_after}
 pub use Rattle.proof_shape.specs.Beneath.machine_model.specs.Building.{after_link, after_single, build_action, build_after, build_after_made, build_if_made, changed, key_in, old_hash}
-pub use Rattle.proof_shape.specs.Beneath.machine_model.specs.Calls.{handle_of, inserts, key_of, needs_writable, value_of, when_found}
+pub use Rattle.proof_shape.specs.Beneath.machine_model.specs.Calls.{handle_of, key_of, needs_writable, value_of}
 pub use Rattle.proof_shape.specs.Beneath.machine_model.specs.Cleaning.{after_child, clean_after, clean_after_contracted, clean_after_entry, clean_after_main, clean_after_read, clean_after_tomb}
 pub use Rattle.proof_shape.specs.Beneath.machine_model.specs.Cleaning.{clean_next, cleaned, is_single, leaves_single}
 pub use Rattle.proof_shape.specs.Beneath.machine_model.specs.Climbing.{climb_after, climb_after_contracted, climb_after_main, climb_after_read, climb_after_root, climbed, climbed_node, climbing}
 pub use Rattle.proof_shape.specs.Beneath.machine_model.specs.Climbing.{higher, holds_it, place_in}
 pub use Rattle.proof_shape.specs.Beneath.machine_model.specs.Contents.{IsReached, content_at, from_slot, most_levels}
 unfoldable pub use Rattle.proof_shape.specs.Beneath.machine_model.specs.Contents.{pairs_below}
-pub use Rattle.proof_shape.specs.Beneath.machine_model.specs.Copying.{after_given, after_offer, after_successor, copied_reply, copy_after, copy_after_complete, copy_after_made, copy_after_read}
-pub use Rattle.proof_shape.specs.Beneath.machine_model.specs.Copying.{copy_if_made}
+pub use Rattle.proof_shape.specs.Beneath.machine_model.specs.Copying.{copy_after}
 pub use Rattle.proof_shape.specs.Beneath.machine_model.specs.Counting.{refs_of_root, settled}
-pub use Rattle.proof_shape.specs.Beneath.machine_model.specs.Finding.{absent, absent_listed, after_listed, after_sibling, found, found_so, going_down, is_passable, key_after, key_after_entry}
-pub use Rattle.proof_shape.specs.Beneath.machine_model.specs.Finding.{key_after_main, key_after_read, removing}
+pub use Rattle.proof_shape.specs.Beneath.machine_model.specs.Finding.{absent_listed, after_listed, after_sibling, found, going_down, is_passable, key_after, key_after_entry, key_after_main}
+pub use Rattle.proof_shape.specs.Beneath.machine_model.specs.Finding.{key_after_read}
+pub use Rattle.proof_shape.specs.Beneath.machine_model.specs.GivingUp.{gave_up, given_up}
 pub use Rattle.proof_shape.specs.Beneath.machine_model.specs.Grown.{main_before, main_word, node_under, or_before, prev_word, standing}
 unfoldable pub use Rattle.proof_shape.specs.Beneath.machine_model.specs.Grown.{grown}
 pub use Rattle.proof_shape.specs.Beneath.machine_model.specs.Keys.{FitsKey, KeysFit}
 pub use Rattle.proof_shape.specs.Beneath.machine_model.specs.Lines.{new_try}
-pub use Rattle.proof_shape.specs.Beneath.machine_model.specs.Machine.{Answer, AreBounds, begin_denial, begin_unless, begun_operation, go_on, go_unless, is_number, is_taken_step, next_state, pin_of}
-pub use Rattle.proof_shape.specs.Beneath.machine_model.specs.Machine.{run, settled_after, state_after, step_by, swept, taken_steps, with_begin}
+pub use Rattle.proof_shape.specs.Beneath.machine_model.specs.Machine.{Answer, AreBounds, begin_denial, begin_unless, begun_operation, give_up_by, give_up_on, give_up_unless, go_on, go_unless}
+pub use Rattle.proof_shape.specs.Beneath.machine_model.specs.Machine.{is_number, is_taken_step, next_state, pin_of, run, settled_after, state_after, step_by, swept, taken_steps, with_begin}
 unfoldable pub use Rattle.proof_shape.specs.Beneath.machine_model.specs.Machine.{next, run_from, taken_from}
-pub use Rattle.proof_shape.specs.Beneath.machine_model.specs.Moves.{Begins, Ends, GoesOn, Moves, MovesIfTaken, Sweeps}
+pub use Rattle.proof_shape.specs.Beneath.machine_model.specs.Moves.{Begins, Ends, GivesUp, GoesOn, Moves, MovesIfTaken, Sweeps}
 pub use Rattle.proof_shape.specs.Beneath.machine_model.specs.Operations.{action_of, after_root, after_update, climbed_on, first_line, generation_from, given_root, kind_of, line_action, line_after}
 pub use Rattle.proof_shape.specs.Beneath.machine_model.specs.Operations.{read_of, swapped}
 pub use Rattle.proof_shape.specs.Beneath.machine_model.specs.Pairs.{by_key}
@@ -56,7 +56,7 @@ pub use Rattle.proof_shape.specs.Beneath.machine_model.specs.Renewing.{branch_of
 pub use Rattle.proof_shape.specs.Beneath.machine_model.specs.States.{State, operation_of, root_at, root_of, word_at, word_of}
 unfoldable pub use Rattle.proof_shape.specs.Beneath.machine_model.specs.States.{first_state}
 pub use Rattle.proof_shape.specs.Beneath.machine_model.specs.Swapping.{action_at, after_check, after_complete, after_completing, after_deciding, after_publish, after_root_word, complete_action_at}
-pub use Rattle.proof_shape.specs.Beneath.machine_model.specs.Swapping.{completing, is_plain, of_offer, on_line, root_action, root_after}
+pub use Rattle.proof_shape.specs.Beneath.machine_model.specs.Swapping.{completing, of_offer, on_line, root_action, root_after}
 pub use Rattle.proof_shape.specs.Beneath.machine_model.specs.Tellings.{changer_for, committed_in, committed_now, entrant_of, progress_of, told_in}
 pub use Rattle.proof_shape.specs.Beneath.machine_model.specs.Times.{IsRun, Turn, last_of, noted_turn, states_of, turns}
 unfoldable pub use Rattle.proof_shape.specs.Beneath.machine_model.specs.Times.{states_from}
@@ -67,8 +67,6 @@ pub use Rattle.proof_shape.specs.Beneath.machine_model.specs.declared.building.C
 pub use Rattle.proof_shape.specs.Beneath.machine_model.specs.declared.building.Site.{Site}
 pub use Rattle.proof_shape.specs.Beneath.machine_model.specs.declared.copying.CopyLine.{CopyLine}
 pub use Rattle.proof_shape.specs.Beneath.machine_model.specs.declared.finding.KeyLine.{KeyLine}
-pub use Rattle.proof_shape.specs.Beneath.machine_model.specs.declared.finding.WhenFound.{WhenFound}
-pub use Rattle.proof_shape.specs.Beneath.machine_model.specs.declared.finding.WhenFound.TheVariants.{Answers, Removes, Sets}
 pub use Rattle.proof_shape.specs.Beneath.machine_model.specs.declared.lines.Line.{Line}
 pub use Rattle.proof_shape.specs.Beneath.machine_model.specs.declared.lines.Purpose.{Purpose}
 pub use Rattle.proof_shape.specs.Beneath.machine_model.specs.declared.operations.Operation.{Operation}

@@ -33,12 +33,13 @@ pub use Rattle.machine_model.specs.Copying.{after_given, after_offer, copied_rep
 pub use Rattle.machine_model.specs.Counting.{outside, refs_of_operation, refs_of_root, settled}
 pub use Rattle.machine_model.specs.Finding.{absent, absent_beside, absent_listed, after_listed, after_sibling, found, found_so, going_down, key_action, key_after, key_after_entry, key_after_main}
 pub use Rattle.machine_model.specs.Finding.{key_after_read, passes, removing}
+pub use Rattle.machine_model.specs.GivingUp.{gave_up}
 pub use Rattle.machine_model.specs.Keys.{KeysFit}
 pub use Rattle.machine_model.specs.Lines.{new_try}
 pub use Rattle.machine_model.specs.Machine.{Answer, AreBounds, access_of, begin_denial, begin_unless, begun_operation, first_reason, go_denial, go_on, go_unless, handles_taken, is_access, is_actor}
-pub use Rattle.machine_model.specs.Machine.{is_busy, is_running, is_taken_step, least_free, run, runs_on, state_after, step_by, swept, with_begin}
+pub use Rattle.machine_model.specs.Machine.{is_busy, is_running, is_taken_step, least_free, longest_life, run, runs_on, state_after, step_by, swept, with_begin}
 unfoldable pub use Rattle.machine_model.specs.Machine.{next, run_from}
-pub use Rattle.machine_model.specs.Moves.{Begins, Ends, GoesOn, Moves, Sweeps}
+pub use Rattle.machine_model.specs.Moves.{Begins, Ends, GivesUp, GoesOn, Moves, Sweeps}
 pub use Rattle.machine_model.specs.Operations.{action_of, after_root, after_update, first_line, generation_after, given_root, kind_of, line_after, swapped}
 pub use Rattle.machine_model.specs.Paths.{above, current}
 pub use Rattle.machine_model.specs.Reading.{Commits, after_ask, after_decide, after_prev, at_indirection, committed_so, is_pending, read_action, reading, verdict, verdict_by}

@@ -21,32 +21,32 @@ pub use Rattle.proof_updates.specs.Beneath.history.specs.declared.calls.Call.{Ca
 pub use Rattle.proof_updates.specs.Beneath.history.specs.declared.calls.Call.TheVariants.{Clear, Close, Count, Entries, Freeze, Get, Put, PutIfAbsent, Remove, RemoveIf, Replace, ReplaceIf, Snapshot}
 pub use Rattle.proof_updates.specs.Beneath.history.specs.declared.replies.Reply.{Reply}
 pub use Rattle.proof_updates.specs.Beneath.machine_model.specs.Acting.{gone, opened_root, operation_after}
-pub use Rattle.proof_updates.specs.Beneath.machine_model.specs.Building.{build_after, build_after_made, build_if_made}
-pub use Rattle.proof_updates.specs.Beneath.machine_model.specs.Calls.{changed_reply, handle_of, inserts, is_close, key_of, needs_read_only, when_found}
+pub use Rattle.proof_updates.specs.Beneath.machine_model.specs.Building.{build_after}
+pub use Rattle.proof_updates.specs.Beneath.machine_model.specs.Calls.{changed_reply, handle_of, is_close, key_of, needs_read_only}
 pub use Rattle.proof_updates.specs.Beneath.machine_model.specs.Cleaning.{clean_after}
 pub use Rattle.proof_updates.specs.Beneath.machine_model.specs.Climbing.{climb_after, climb_after_contracted, climb_after_main, climb_after_read, climb_after_root}
 pub use Rattle.proof_updates.specs.Beneath.machine_model.specs.Contents.{content_at, pairs_at}
 unfoldable pub use Rattle.proof_updates.specs.Beneath.machine_model.specs.Contents.{pairs_below}
 pub use Rattle.proof_updates.specs.Beneath.machine_model.specs.Copying.{copied_reply, copy_after, copy_after_complete}
 pub use Rattle.proof_updates.specs.Beneath.machine_model.specs.Counting.{settled}
-pub use Rattle.proof_updates.specs.Beneath.machine_model.specs.Finding.{absent, absent_beside, absent_listed, after_listed, after_sibling, after_tomb, found, found_so, going_down, is_passable}
-pub use Rattle.proof_updates.specs.Beneath.machine_model.specs.Finding.{key_after, key_after_entry, key_after_main, key_after_read, passes}
+pub use Rattle.proof_updates.specs.Beneath.machine_model.specs.Finding.{after_listed, after_sibling, found, is_passable, key_after, key_after_entry, key_after_main, key_after_read, passes}
+pub use Rattle.proof_updates.specs.Beneath.machine_model.specs.GivingUp.{gave_up, given_up, swap_given_up, tells_effect, unless_effect}
 pub use Rattle.proof_updates.specs.Beneath.machine_model.specs.Grown.{node_under, prev_word}
 unfoldable pub use Rattle.proof_updates.specs.Beneath.machine_model.specs.Grown.{grown}
 pub use Rattle.proof_updates.specs.Beneath.machine_model.specs.Keys.{KeysFit}
 pub use Rattle.proof_updates.specs.Beneath.machine_model.specs.Lines.{new_try}
 pub use Rattle.proof_updates.specs.Beneath.machine_model.specs.Machine.{AreBounds, begin_denial, begun_operation, is_taken_step, run, state_after, taken_steps, with_begin}
 unfoldable pub use Rattle.proof_updates.specs.Beneath.machine_model.specs.Machine.{next, taken_from}
-pub use Rattle.proof_updates.specs.Beneath.machine_model.specs.Moves.{Begins, Ends, GoesOn, Moves, Sweeps}
+pub use Rattle.proof_updates.specs.Beneath.machine_model.specs.Moves.{Begins, Ends, GivesUp, GoesOn, Moves, Sweeps}
 pub use Rattle.proof_updates.specs.Beneath.machine_model.specs.Operations.{action_of, after_root, after_update, climbed_on, first_line, generation_after, generation_from, given_root, line_action}
 pub use Rattle.proof_updates.specs.Beneath.machine_model.specs.Operations.{line_after, read_of, swapped}
 pub use Rattle.proof_updates.specs.Beneath.machine_model.specs.Pairs.{by_key}
-pub use Rattle.proof_updates.specs.Beneath.machine_model.specs.Paths.{above, current, depth_of, is_below_root, is_start}
-pub use Rattle.proof_updates.specs.Beneath.machine_model.specs.Reading.{read_after, read_step, reading}
+pub use Rattle.proof_updates.specs.Beneath.machine_model.specs.Paths.{current, depth_of, is_start}
+pub use Rattle.proof_updates.specs.Beneath.machine_model.specs.Reading.{read_after, read_step}
 pub use Rattle.proof_updates.specs.Beneath.machine_model.specs.Records.{Record, closing_for, entered, is_placed, moment_after, moment_at, moment_given, noted, noted_progress, place_of, placed_by}
 pub use Rattle.proof_updates.specs.Beneath.machine_model.specs.Records.{read_at_after}
-pub use Rattle.proof_updates.specs.Beneath.machine_model.specs.Renewing.{renew_after, renew_after_branch, renew_after_entry, renew_after_link, renew_after_read, renew_next}
-pub use Rattle.proof_updates.specs.Beneath.machine_model.specs.States.{State, operation_of, rewritten, root_at, root_of, word_at, word_of}
+pub use Rattle.proof_updates.specs.Beneath.machine_model.specs.Renewing.{renew_after}
+pub use Rattle.proof_updates.specs.Beneath.machine_model.specs.States.{Runs, State, operation_of, rewritten, root_at, root_of, word_at, word_of}
 unfoldable pub use Rattle.proof_updates.specs.Beneath.machine_model.specs.States.{first_state}
 pub use Rattle.proof_updates.specs.Beneath.machine_model.specs.Swapping.{after_check, after_complete, after_deciding, after_publish, after_reading, complete_action_at, complete_after}
 pub use Rattle.proof_updates.specs.Beneath.machine_model.specs.Swapping.{is_carried_out, of_offer, on_line, root_after, swap_after}
@@ -58,8 +58,6 @@ pub use Rattle.proof_updates.specs.Beneath.machine_model.specs.declared.building
 pub use Rattle.proof_updates.specs.Beneath.machine_model.specs.declared.building.Change.{Change}
 pub use Rattle.proof_updates.specs.Beneath.machine_model.specs.declared.copying.CopyLine.{CopyLine}
 pub use Rattle.proof_updates.specs.Beneath.machine_model.specs.declared.finding.KeyLine.{KeyLine}
-pub use Rattle.proof_updates.specs.Beneath.machine_model.specs.declared.finding.WhenFound.{WhenFound}
-pub use Rattle.proof_updates.specs.Beneath.machine_model.specs.declared.finding.WhenFound.TheVariants.{Answers, Removes, Sets}
 pub use Rattle.proof_updates.specs.Beneath.machine_model.specs.declared.lines.Line.{Line}
 pub use Rattle.proof_updates.specs.Beneath.machine_model.specs.declared.lines.Purpose.{Purpose}
 pub use Rattle.proof_updates.specs.Beneath.machine_model.specs.declared.operations.Operation.{Operation}

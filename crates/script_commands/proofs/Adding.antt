@@ -2,7 +2,7 @@
 use Rattle.std.proofs.Common.{◌≡◌, ℕ, zero, suc, ◌+◌, ◌≤◌, Bool, true, false, cond, ◌⊎◌, inl, inr, List, [], ◌∷◌, ◌++◌, length, Option, Some, None, Ok, Err, refl, sym, ap, ◌∙◌, length-append, arith}
 use Rattle.std.specs.Prelude.{replicate, option_map}
 use Rattle.script_commands.specs.Vocabulary.{Kind, Refusal, Event, Operation, Outcome, Step, State, operation_of, action_of, kind_of, Answer, next, run_from, next_kind, begin_denial, Begins, Ends}
-use Rattle.script_commands.specs.Vocabulary.{Sweeps, Moves, MovesIfTaken, go_limit, Record, noted, record_from, told_in}
+use Rattle.script_commands.specs.Vocabulary.{Sweeps, GivesUp, Moves, MovesIfTaken, go_limit, Record, noted, record_from, told_in}
 use Rattle.history.proofs.Places.{option_unfound}
 use Rattle.script_commands.specs.Beneath.machine_model.specs.declared.steps.Step.TheVariants as step
 use Rattle.script_commands.specs.Beneath.machine_model.proofs.Moves.{moves}
@@ -37,6 +37,7 @@ move_adds : (state : State) (past : Record) (s : Step) (o : Outcome) (after : St
 move_adds state past s o after (Begins {actor} {call} d) = one_more past.events _ _ refl
 move_adds state past s o after (Goes {actor} {operation} {action} d is a g) = none_more past.events _ (ap (λ (r : Record). r.events) (noted_going state past actor operation action is a g))
 move_adds state past s o after (Ends {actor} {operation} {answer} d is a) = one_more past.events _ _ (end_event state past actor operation answer is a)
+move_adds state past s o after (GivesUp d is a) = none_more past.events _ refl
 move_adds state past s o after (Sweeps spent) = none_more past.events _ refl
 
 step_adds : (before : Recorded) (s : Step) (answer : Answer) → next before.state s ≡ answer → MovesIfTaken before.state s answer → Adds 1 before (recorded_next before s)
@@ -70,6 +71,7 @@ by_move state past s o after (Ends {actor = own} {operation} {answer} d is a) ac
       one_more past.events _ _ (end_event state past own operation answer is a),
       ap (operation_of after) same ∙ option_unfound (operation_of after (suc k)) (λ found at. of_end state own k place found at),
     )
+by_move state past s o after (GivesUp d is a) actor e = cc e
 by_move state past s o after (Sweeps spent) actor e = cc e
 
 by_answer : (before : Recorded) (actor : ℕ) (answer : Answer) → next before.state (step.Go actor) ≡ answer → MovesIfTaken before.state (step.Go actor) answer →

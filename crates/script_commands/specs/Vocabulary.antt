@@ -17,7 +17,7 @@ pub use Rattle.script_commands.specs.Beneath.machine_model.specs.Keys.{FitsKey, 
 pub use Rattle.script_commands.specs.Beneath.machine_model.specs.Limits.{AreLimits, bounded}
 pub use Rattle.script_commands.specs.Beneath.machine_model.specs.Machine.{Answer, AreBounds, begin_denial, begin_unless, begun_operation, go_denial, go_on, go_unless, next_kind, next_state, run}
 unfoldable pub use Rattle.script_commands.specs.Beneath.machine_model.specs.Machine.{next, run_from}
-pub use Rattle.script_commands.specs.Beneath.machine_model.specs.Moves.{Begins, Ends, Moves, MovesIfTaken, Sweeps}
+pub use Rattle.script_commands.specs.Beneath.machine_model.specs.Moves.{Begins, Ends, GivesUp, Moves, MovesIfTaken, Sweeps}
 pub use Rattle.script_commands.specs.Beneath.machine_model.specs.Operations.{action_of, kind_of}
 pub use Rattle.script_commands.specs.Beneath.machine_model.specs.Records.{Record, first_record, next_record, noted, order_of, record_of}
 unfoldable pub use Rattle.script_commands.specs.Beneath.machine_model.specs.Records.{record_from}

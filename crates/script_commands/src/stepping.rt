@@ -3,6 +3,7 @@
 ghost use Rattle.std.specs.Prelude.{◌≡◌, ◌∷◌, [], IfOk, OnOk, None, replicate};
 ghost use Rattle.script_commands.specs.Beneath.machine_model.specs.Machine.{next, begin_denial, go_denial};
 ghost use Rattle.script_commands.specs.Beneath.machine_model.specs.declared.steps.Step.TheVariants.{Begin, Sweep};
+ghost use Rattle.script_commands.specs.Beneath.machine_core.specs.Asking.{asked};
 ghost use Rattle.script_text.specs.Steps.{stops, going, doing, denial_of};
 ghost use Rattle.script_commands.specs.Beneath.proof_runs.specs.Machines.{state_of};
 ghost use Rattle.script_commands.specs.Denials.{denial_in};
@@ -34,8 +35,8 @@ pub fn carry_out(machine: &mut Machine, command: Command) -> Result<Option<Refus
 /// Takes a step, and gives why it is denied, if it is.
 #[tactic(auto, using(crate::proofs::Carrying::taken))]
 fn take(machine: &mut Machine, step: Step) -> Result<Option<Refusal>, AllocError>
-    ensures state { OnOk result (recorded_in machine.new ≡ recorded_next (recorded_in machine.old) step) }
-    ensures denial { IfOk result (λ denial. denial ≡ denial_in (next (state_of machine.old) step)) }
+    ensures state { OnOk result (recorded_in machine.new ≡ recorded_next (recorded_in machine.old) (asked step)) }
+    ensures denial { IfOk result (λ denial. denial ≡ denial_in (next (state_of machine.old) (asked step))) }
 {
     match machine.apply(step) {
         Ok(_) => Ok(None),

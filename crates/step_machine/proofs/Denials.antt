@@ -1,8 +1,8 @@
 -- Denials.
 use Rattle.std.specs.Prelude.{◌≡◌, ◌⊎◌, ℕ, Bool, true, false, List, [], ◌∷◌, Option, Some, None, Err, cond, unwrap_or}
-use Rattle.std.proofs.Common.{refl, sym, subst, arith, inl, inr}
-use Rattle.step_machine.specs.Vocabulary.{Refusal, Call, Operation, Step, State, operation_of, next, denial_of, begin_denial, begin_unless, go_denial, go_unless, first_reason, is_spent}
-use Rattle.step_machine.specs.Vocabulary.{is_taken_step}
+use Rattle.std.proofs.Common.{refl, sym, ap, ◌∙◌, subst, arith, inl, inr}
+use Rattle.step_machine.specs.Vocabulary.{Refusal, Call, Reply, Operation, Step, given_up, State, operation_of, next, denial_of, begin_denial, begin_unless, go_denial, go_unless, give_up_by}
+use Rattle.step_machine.specs.Vocabulary.{give_up_on, give_up_unless, first_reason, is_spent, is_taken_step}
 use Rattle.ctrie_base.specs.declared.refusals.Refusal.TheVariants as refuse
 use Rattle.machine_model.specs.declared.steps.Step.TheVariants as step
 use Rattle.proof_runs.specs.Machines.{Taken, state_of, Applied}
@@ -33,6 +33,10 @@ begin_reasons a b c d f g h i e = not_memory ((a, refuse.NoActor) ∷ (b, refuse
 go_reasons : (a b c : Bool) → first_reason ((a, refuse.NoActor) ∷ (b, refuse.Idle) ∷ (c, refuse.Spent) ∷ []) ≡ Some refuse.Memory → ⊥
 go_reasons a b c e = not_memory ((a, refuse.NoActor) ∷ (b, refuse.Idle) ∷ (c, refuse.Spent) ∷ []) ((λ m. grind (arith, m)), ((λ m. grind (arith, m)), ((λ m. grind (arith, m)), tt))) e
 
+give_up_reasons : (a b c d : Bool) → first_reason ((a, refuse.NoActor) ∷ (b, refuse.Idle) ∷ (c, refuse.Spent) ∷ (d, refuse.Busy) ∷ []) ≡ Some refuse.Memory → ⊥
+give_up_reasons a b c d e = not_memory ((a, refuse.NoActor) ∷ (b, refuse.Idle) ∷ (c, refuse.Spent) ∷ (d, refuse.Busy) ∷ [])
+    ((λ m. grind (arith, m)), ((λ m. grind (arith, m)), ((λ m. grind (arith, m)), ((λ m. grind (arith, m)), tt)))) e
+
 spent_alone : (spent : Bool) → cond spent (Some refuse.Spent) None ≡ Some refuse.Memory → ⊥
 spent_alone true e = grind (arith, e)
 spent_alone false e = grind (arith, e)
@@ -42,6 +46,7 @@ pub not_for_memory : (state : State) (s : Step) → denial_of state s ≡ Some r
 not_for_memory state (step.Begin actor call) e = begin_reasons _ _ _ _ _ _ _ _ e
 not_for_memory state (step.Go actor) e = go_reasons _ _ _ e
 not_for_memory state step.Sweep e = spent_alone (is_spent state) e
+not_for_memory state (step.GiveUp actor) e = give_up_reasons _ _ _ _ e
 
 -- nothing is refused for want of memory
 
@@ -56,6 +61,17 @@ go_refused state actor (Some refusal) operation is other e = other (let same : r
 go_refused state actor None None is other e = let idle = rw is at e in grind (arith, idle)
 go_refused state actor None (Some operation) is other e = let went = rw is at e in grind (arith, went)
 
+given_up_refused : (state : State) (actor : ℕ) (operation : Operation) (answer : Option Reply) → give_up_by state actor operation answer ≡ Err refuse.Memory → ⊥
+given_up_refused state actor operation None e = grind (arith, e)
+given_up_refused state actor operation (Some answer) e = grind (arith, e)
+
+give_up_refused : (state : State) (actor : ℕ) (denial : Option Refusal) (operation : Option Operation) → operation_of state actor ≡ operation →
+    (denial ≡ Some refuse.Memory → ⊥) → give_up_unless state actor denial ≡ Err refuse.Memory → ⊥
+give_up_refused state actor (Some refusal) operation is other e = other (let same : refusal ≡ refuse.Memory = grind (arith, e) in rw same refl)
+give_up_refused state actor None None is other e = let idle = rw is at e in grind (arith, idle)
+give_up_refused state actor None (Some operation) is other e =
+    given_up_refused state actor operation (given_up operation.call operation.line) (sym (ap (λ o. give_up_on state actor o) is) ∙ e)
+
 sweep_refused : (state : State) (spent : Bool) → is_spent state ≡ spent → next state step.Sweep ≡ Err refuse.Memory → ⊥
 unfolding next
 sweep_refused state true is e = let d = rw is at e in grind (arith, d)
@@ -66,6 +82,7 @@ unfolding next
 never_memory state (step.Begin actor call) e = begin_refused state actor call (begin_denial state actor call) (not_for_memory state (step.Begin actor call)) e
 never_memory state (step.Go actor) e = go_refused state actor (go_denial state actor) (operation_of state actor) refl (not_for_memory state (step.Go actor)) e
 never_memory state step.Sweep e = sweep_refused state (is_spent state) refl e
+never_memory state (step.GiveUp actor) e = give_up_refused state actor (go_denial state actor) (operation_of state actor) refl (not_for_memory state (step.Go actor)) e
 
 -- nothing denies what is taken
 allowed_by : (state : State) (s : Step) (denial : Option Refusal) → denial_of state s ≡ denial → is_taken_step (next state s) ≡ true → denial ≡ None

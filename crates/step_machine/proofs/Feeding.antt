@@ -117,7 +117,7 @@ wanting_kept state kept s refusal is =
 
 pub sweep_told : (result : Result Outcome Refusal) (before after : State) (kept : Chronicled) → Answers result before (next before step.Sweep) after →
     TakesAndTells result before kept step.Sweep after kept
-sweep_told (Ok o) before after kept e = (e, sym (recorded_so before kept.past step.Sweep o after told.Swept e refl), refl)
+sweep_told (Ok o) before after kept e = (e, sym (recorded_so before kept.past step.Sweep o after told.Nothing e refl), refl)
 sweep_told (Err refusal) before after kept e = denied_kept before after kept step.Sweep refusal e.0 e.1
 
 -- ---- what a step tells

@@ -1,4 +1,5 @@
 pub mod Bounds
+pub mod Asked
 pub mod Steps
 pub mod Denials
 pub mod Feeding

@@ -1,5 +1,6 @@
 -- What lies below this crate, named through the nearest crates alone: crates.txt lists only these, since the toolchain goes along each of its paths.
 pub use Rattle.machine_model as machine_model
+pub use Rattle.machine_core as machine_core
 pub use Rattle.epochs as epochs
 pub use Rattle.proof_runs as proof_runs
 pub use Rattle.proof_runs.specs.Beneath.proof_memory as proof_memory

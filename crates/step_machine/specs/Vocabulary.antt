@@ -8,10 +8,14 @@ pub use Rattle.history.specs.Orders.{Explains}
 pub use Rattle.history.specs.Worlds.{HandleMap}
 pub use Rattle.history.specs.declared.calls.Call.{Call}
 pub use Rattle.history.specs.declared.replies.Reply.{Reply}
+pub use Rattle.history.specs.declared.replies.Reply.TheVariants.{NoSlots}
 pub use Rattle.machine_model.specs.Contents.{content_at, most_levels}
+pub use Rattle.machine_model.specs.GivingUp.{given_up}
 pub use Rattle.machine_model.specs.Keys.{FitsKey, KeysFit}
+pub use Rattle.machine_model.specs.Laws.{RefusedForWantAlone}
 pub use Rattle.machine_model.specs.Limits.{AreLimits, bounded}
-pub use Rattle.machine_model.specs.Machine.{AreBounds, begin_denial, begin_unless, denial_of, first_reason, go_denial, go_unless, is_actor, is_spent, is_taken_step, next_state, run, taken_steps}
+pub use Rattle.machine_model.specs.Machine.{AreBounds, begin_denial, begin_unless, denial_of, first_reason, give_up_by, give_up_on, give_up_unless, go_denial, go_unless, is_actor, is_spent}
+pub use Rattle.machine_model.specs.Machine.{is_taken_step, next_state, run, taken_steps}
 unfoldable pub use Rattle.machine_model.specs.Machine.{next, run_from, taken_from}
 pub use Rattle.machine_model.specs.Operations.{action_of}
 pub use Rattle.machine_model.specs.Records.{Record, first_record, next_record, noted, order_of, record_of}
@@ -29,5 +33,5 @@ pub use Rattle.machine_model.specs.declared.roots.Root.{Root}
 pub use Rattle.machine_model.specs.declared.steps.Bounds.{Bounds}
 pub use Rattle.machine_model.specs.declared.steps.Limits.{Limits}
 pub use Rattle.machine_model.specs.declared.steps.Outcome.{Outcome}
-pub use Rattle.machine_model.specs.declared.steps.Outcome.TheVariants.{Went}
+pub use Rattle.machine_model.specs.declared.steps.Outcome.TheVariants.{Ended, Went}
 pub use Rattle.machine_model.specs.declared.steps.Step.{Step}

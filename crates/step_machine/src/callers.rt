@@ -2,7 +2,9 @@
 
 ghost use Rattle.std.specs.Prelude.{◌≡◌, false, true, List, [], ◌∷◌, ◌++◌, OnOk, OnErr, IsOkUnless};
 ghost use Rattle.machine_model.specs.declared.steps.Limits.{Limits};
-ghost use Rattle.machine_model.specs.declared.steps.Step.{Step};
+ghost use Rattle.machine_model.specs.declared.steps.Step.{Step as AnyStep};
+ghost use Rattle.machine_model.specs.declared.steps.Step.TheVariants as steps;
+ghost use Rattle.machine_core.specs.Asking.{asked};
 ghost use Rattle.step_machine.specs.Records.{IsAfter};
 ghost use Rattle.step_machine.specs.Taking.{outcome_of_kind};
 ghost use Rattle.history.specs.declared.calls.Call.{Call};
@@ -19,7 +21,8 @@ ghost use Rattle.proof_runs.specs.Ending.{CompletesIfSure, IsSpared, ResumesIfSu
 use crate::machine::Machine;
 use ctrie_base::{Kind, Refusal};
 use history::{Call, Reply};
-use machine_model::{Outcome, Publication, Step};
+use machine_core::Step;
+use machine_model::{Outcome, Publication};
 
 /// How many steps of an operation one call takes at most.
 pub const GO_LIMIT: u32 = 16_384;
@@ -116,7 +119,7 @@ impl Machine {
     #[inline(always)]
     fn go(&mut self, actor: u8) -> Result<Kind, Refusal>
         requires { goes_on (next_kind (state_of self.old) actor) ≡ true }
-        ensures { Applied (outcome_of_kind result) self.old (Step.Go actor) self.new }
+        ensures { Applied (outcome_of_kind result) self.old (steps.Go actor) self.new }
     {
         match self.published(actor) {
             None => self.go_publishing(actor, None),
@@ -182,7 +185,7 @@ impl Machine {
     /// Takes a step, if nothing denies it. Only `Memory` is refused, and nothing has changed then.
     #[tactic(auto, using(crate::proofs::Recording::kept_taken, crate::proofs::Recording::kept_denied))]
     pub(crate) fn take_unless_denied(&mut self, step: Step) -> Result<(), Refusal>
-        ensures taken { OnOk result ((limits : Limits) (steps : List Step) → IsAfter limits steps self.old → IsAfter limits (steps ++ step ∷ []) self.new) }
+        ensures taken { OnOk result ((limits : Limits) (before : List AnyStep) → IsAfter limits before self.old → IsAfter limits (before ++ asked step ∷ []) self.new) }
         ensures unchanged { OnErr result (self.new ≡ self.old) }
         ensures only_memory { IsOkUnless result Refusal.Memory }
     {
@@ -194,7 +197,7 @@ impl Machine {
 
     /// Takes a step whose outcome isn't asked for. Where it is refused nothing has changed.
     fn take(&mut self, step: Step) -> Result<(), Refusal>
-        ensures { Stepped result self.old step self.new }
+        ensures { Stepped result self.old (asked step) self.new }
     {
         self.apply(step)?;
         Ok(())

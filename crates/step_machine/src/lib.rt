@@ -16,6 +16,7 @@ mod taking;
 pub use callers::GO_LIMIT;
 pub use epochs::Swept;
 pub use machine::Machine;
-pub use machine_model::{Limits, Outcome, Step};
+pub use machine_core::Step;
+pub use machine_model::{Limits, Outcome};
 pub use proof_runs::{alone_it_ends, closes_end};
 pub use records::{Record, run};

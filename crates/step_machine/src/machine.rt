@@ -7,10 +7,12 @@ ghost use Rattle.ctrie_base.specs.declared.kinds.Kind.TheVariants.{Make};
 ghost use Rattle.history.specs.declared.calls.Access.TheVariants.{ReadOnly};
 ghost use Rattle.history.specs.declared.replies.Reply.TheVariants.{NoSlots};
 ghost use Rattle.machine_model.specs.declared.operations.Operation.{Operation};
+ghost use Rattle.machine_model.specs.declared.steps.Step.TheVariants as steps;
 ghost use Rattle.machine_model.specs.States.{root_at, operation_of};
 ghost use Rattle.machine_model.specs.Limits.{AreLimits};
 ghost use Rattle.machine_model.specs.Records.{order_of};
 ghost use Rattle.machine_model.specs.Contents.{content_at};
+ghost use Rattle.machine_core.specs.Asking.{asked, asked_all};
 ghost use Rattle.machine_core.specs.Finding.{found_along};
 ghost use Rattle.machine_core.specs.Told.{published_in};
 ghost use Rattle.step_machine.specs.Beneath.proof_core.specs.Going.{goes_on};
@@ -30,8 +32,8 @@ use crate::taking::{go, take};
 use chronicle::Chronicle;
 use ctrie_base::{Kind, Refusal, Ticks};
 use history::{Access, Event};
-use machine_core::Core;
-use machine_model::{Limits, Outcome, Publication, Step};
+use machine_core::{Core, Step};
+use machine_model::{Limits, Outcome, Publication};
 use std::alloc::Global;
 use std::marker::Model;
 
@@ -58,12 +60,13 @@ impl Drop for Machine {
 impl Model for Machine {
     ghost use Rattle.proof_runs.specs.Machines.{Taken};
     ghost use Rattle.step_machine.specs.Taking.{HasTaken};
+    ghost use Rattle.machine_core.specs.Asking.{asked_all};
 
     ghost Value = { Taken };
 
-    ghost view = { λ m. record { limits = m.limits; steps = m.steps.items } };
+    ghost view = { λ m. record { limits = m.limits; steps = asked_all m.steps.items } };
 
-    ghost invariant = { λ m. HasTaken m.limits m.steps.items m.body.state m.kept };
+    ghost invariant = { λ m. HasTaken m.limits (asked_all m.steps.items) m.body.state m.kept };
 }
 
 impl Machine {
@@ -111,17 +114,18 @@ impl Machine {
     /// that is taken leaves one less (`nearer`). What `ticks` counts grows by at most one.
     #[inline(always)]
     pub fn apply(&mut self, step: Step) -> Result<Outcome, Refusal>
-        ensures applied { Applied result self.old step self.new }
+        ensures applied { Applied result self.old (asked step) self.new }
         ensures want { (actor id : ℕ) → step ≡ Step.Go actor → result ≡ Ok (Outcome.Ended id NoSlots) → FoundNoSlot self.old actor id }
         ensures used { UsesWhatItNames self.old }
-        ensures frees { FreesLate self.old step self.new }
+        ensures frees { FreesLate self.old (asked step) self.new }
         ensures draws { DrawsNew self.old self.new }
-        ensures contents { OnOk result (ChangesContents self.old step self.new) }
+        ensures contents { OnOk result (ChangesContents self.old (asked step) self.new) }
         ensures ends { (actor : ℕ) → EndsIfSure self.new actor }
-        ensures nearer { OnOk result (IsNearer self.old step self.new) }
+        ensures nearer { OnOk result (IsNearer self.old (asked step) self.new) }
         ensures ticks { length (past_of self.new).places ≤ length (past_of self.old).places + 1 }
     {
         let _ = self.limits();
+        let _ = self.steps();
         let result = self.take_step(step);
         let _ = self.limits();
         let _ = self.steps();
@@ -139,7 +143,7 @@ impl Machine {
     #[tactic(auto, using(crate::proofs::Steps::one_more, crate::proofs::Denials::not_taken))]
     #[inline(always)]
     fn take_step(&mut self, step: Step) -> Result<Outcome, Refusal>
-        ensures { Applied result self.old step self.new }
+        ensures { Applied result self.old (asked step) self.new }
     {
         // The room is made first, so that a step that was taken can be recorded.
         if make_room(&mut self.steps, &mut self.kept, self.body.generations()).is_err() {
@@ -162,7 +166,7 @@ impl Machine {
     ) -> Result<Kind, Refusal>
         requires goes_on { goes_on (next_kind (state_of self.old) actor) ≡ true }
         requires told { published ≡ published_in (state_of self.old) actor }
-        ensures { Applied (outcome_of_kind result) self.old (Step.Go actor) self.new }
+        ensures { Applied (outcome_of_kind result) self.old (steps.Go actor) self.new }
     {
         if make_room(&mut self.steps, &mut self.kept, self.body.generations()).is_err() {
             return Err(self.wanting_to_go(actor));
@@ -178,7 +182,7 @@ impl Machine {
     #[cold]
     #[inline(never)]
     fn wanting(&self, step: Step) -> Refusal
-        ensures { result ≡ unwrap_or (denial_of (state_of self.now) step) Refusal.Memory }
+        ensures { result ≡ unwrap_or (denial_of (state_of self.now) (asked step)) Refusal.Memory }
     {
         self.denial(step).unwrap_or(Refusal::Memory)
     }
@@ -187,14 +191,14 @@ impl Machine {
     #[cold]
     #[inline(never)]
     fn wanting_to_go(&self, actor: u8) -> Refusal
-        ensures { result ≡ unwrap_or (denial_of (state_of self.now) (Step.Go actor)) Refusal.Memory }
+        ensures { result ≡ unwrap_or (denial_of (state_of self.now) (steps.Go actor)) Refusal.Memory }
     {
         self.wanting(Step::Go { actor })
     }
 
     /// Why a step is denied, if it is: what `apply` answers, but for want of memory.
     pub fn denial(&self, step: Step) -> Option<Refusal>
-        ensures { result ≡ denial_of (state_of self.now) step }
+        ensures { result ≡ denial_of (state_of self.now) (asked step) }
     {
         self.body.denial(step)
     }
@@ -211,7 +215,7 @@ impl Machine {
     /// The steps that were taken, in order of time. The definition takes each of them, in the state that
     /// those before it lead to. Their keys have 64 bits.
     pub fn steps(&self) -> &[Step]
-        ensures steps { result.now ≡ self.now.steps }
+        ensures steps { asked_all result.now ≡ self.now.steps }
         ensures taken { AreTaken self.now.limits self.now.steps }
         ensures keys { KeysFit self.now.steps }
     {
@@ -368,7 +372,7 @@ impl Machine {
 
     /// The steps and the history, handed out. It takes no memory.
     pub fn into_parts(self) -> (Vec<Step>, Vec<Event>)
-        ensures steps { result.0.items ≡ self.steps }
+        ensures steps { asked_all result.0.items ≡ self.steps }
         ensures taken { AreTaken self.limits self.steps }
         ensures events { result.1.items ≡ (past_of self).events }
     {

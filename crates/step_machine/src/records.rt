@@ -3,13 +3,15 @@
 ghost use Rattle.std.specs.Prelude.{◌≡◌, IfOk, IfErr, OnOk};
 ghost use Rattle.machine_model.specs.Limits.{AreLimits};
 ghost use Rattle.machine_model.specs.Refusing.{RefusesLimits};
+ghost use Rattle.machine_core.specs.Asking.{asked_all};
 ghost use Rattle.proof_runs.specs.Machines.{AreTaken};
 ghost use Rattle.step_machine.specs.Records.{IsAfter, IsRecordOf, IsRecord, IsLegalRecord};
 
 use crate::machine::Machine;
 use ctrie_base::Refusal;
 use history::Event;
-use machine_model::{Limits, Step};
+use machine_core::Step;
+use machine_model::Limits;
 use std::alloc::Global;
 
 /// What is kept of a run.
@@ -33,7 +35,7 @@ pub struct Record {
 /// The record of a machine that takes these steps, those left out that are denied. Its order is legal for
 /// its history. `BadLimits` exactly where a limit is out of range, and else only `Memory`.
 pub fn run(alloc: Global, limits: Limits, steps: &[Step]) -> Result<Record, Refusal>
-    ensures record { IfOk result (IsRecord limits steps.now) }
+    ensures record { IfOk result (IsRecord limits (asked_all steps.now)) }
     ensures legal { IfOk result IsLegalRecord }
     ensures in_range { OnOk result (AreLimits limits) }
     ensures refused { IfErr result (λ refusal. RefusesLimits limits refusal) }
@@ -48,7 +50,7 @@ pub fn run(alloc: Global, limits: Limits, steps: &[Step]) -> Result<Record, Refu
 /// A machine that has taken these steps, but for those that are denied.
 #[tactic(auto, using(crate::proofs::Recording::none_kept))]
 fn machine_after(alloc: Global, limits: Limits, steps: &[Step]) -> Result<Machine, Refusal>
-    ensures after { IfOk result (IsAfter limits steps.now) }
+    ensures after { IfOk result (IsAfter limits (asked_all steps.now)) }
     ensures in_range { OnOk result (AreLimits limits) }
     ensures refused { IfErr result (λ refusal. RefusesLimits limits refusal) }
 {

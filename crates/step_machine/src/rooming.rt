@@ -4,7 +4,7 @@ ghost use Rattle.std.specs.Prelude.{◌≡◌, ◌<◌, ◌≤◌, OnOk, vec_len
 
 use chronicle::Chronicle;
 use ctrie_base::Refusal;
-use machine_model::Step;
+use machine_core::Step;
 use std::alloc::AllocError;
 
 /// Makes room for one more step, and for what it tells, of a machine that has drawn so many generations. What is kept stays.

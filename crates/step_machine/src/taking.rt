@@ -1,7 +1,9 @@
 //! Steps of the state that are told to its record.
 
 ghost use Rattle.std.specs.Prelude.{◌≡◌, ◌<◌, false, true};
+ghost use Rattle.machine_core.specs.Asking.{asked};
 ghost use Rattle.machine_core.specs.Told.{published_in};
+ghost use Rattle.machine_model.specs.declared.steps.Step.TheVariants as steps;
 ghost use Rattle.step_machine.specs.Beneath.proof_core.specs.Going.{goes_on};
 ghost use Rattle.machine_model.specs.Machine.{next_kind};
 ghost use Rattle.proof_runs.specs.Tellings.{CanTell};
@@ -10,8 +12,8 @@ ghost use Rattle.step_machine.specs.Taking.{TakesAndTells, outcome_of_kind};
 use chronicle::Chronicle;
 use ctrie_base::{Kind, Refusal};
 use history::Call;
-use machine_core::Core;
-use machine_model::{Outcome, Publication, Step};
+use machine_core::{Core, Step};
+use machine_model::{Outcome, Publication};
 
 /// Takes a step and tells it, unless it is denied or memory is wanting for it: then nothing has changed.
 #[tactic(auto, using(crate::proofs::Feeding::feeds))]
@@ -19,7 +21,7 @@ use machine_model::{Outcome, Publication, Step};
 pub fn take(body: &mut Core, kept: &mut Chronicle, step: Step) -> Result<Outcome, Refusal>
     requires fits { CanTell body.old.state kept.old }
     requires room { 0 < kept.old.room }
-    ensures { TakesAndTells result body.old.state kept.old step body.new.state kept.new }
+    ensures { TakesAndTells result body.old.state kept.old (asked step) body.new.state kept.new }
 {
     match step {
         Step::Begin { actor, call } => begin(body, kept, actor, call),
@@ -34,7 +36,7 @@ pub fn take(body: &mut Core, kept: &mut Chronicle, step: Step) -> Result<Outcome
 fn begin(body: &mut Core, kept: &mut Chronicle, actor: u8, call: Call) -> Result<Outcome, Refusal>
     requires fits { CanTell body.old.state kept.old }
     requires room { 0 < kept.old.room }
-    ensures { TakesAndTells result body.old.state kept.old (Step.Begin actor call) body.new.state kept.new }
+    ensures { TakesAndTells result body.old.state kept.old (steps.Begin actor call) body.new.state kept.new }
 {
     let step = body.steps_taken();
     let begun = body.begin(actor, call)?;
@@ -46,7 +48,7 @@ fn begin(body: &mut Core, kept: &mut Chronicle, actor: u8, call: Call) -> Result
 fn go_or_end(body: &mut Core, kept: &mut Chronicle, actor: u8) -> Result<Outcome, Refusal>
     requires fits { CanTell body.old.state kept.old }
     requires room { 0 < kept.old.room }
-    ensures { TakesAndTells result body.old.state kept.old (Step.Go actor) body.new.state kept.new }
+    ensures { TakesAndTells result body.old.state kept.old (steps.Go actor) body.new.state kept.new }
 {
     if body.goes_on(actor) {
         let published = body.published(actor);
@@ -69,7 +71,7 @@ pub fn go(
     requires told { published ≡ published_in body.old.state actor }
     requires fits { CanTell body.old.state kept.old }
     requires room { 0 < kept.old.room }
-    ensures { TakesAndTells (outcome_of_kind result) body.old.state kept.old (Step.Go actor) body.new.state kept.new }
+    ensures { TakesAndTells (outcome_of_kind result) body.old.state kept.old (steps.Go actor) body.new.state kept.new }
 {
     let step = body.steps_taken();
     let stepped = body.go_publishing(actor, published)?;
@@ -83,7 +85,7 @@ fn end(body: &mut Core, kept: &mut Chronicle, actor: u8) -> Result<Outcome, Refu
     requires ends { goes_on (next_kind body.old.state actor) ≡ false }
     requires fits { CanTell body.old.state kept.old }
     requires room { 0 < kept.old.room }
-    ensures { TakesAndTells result body.old.state kept.old (Step.Go actor) body.new.state kept.new }
+    ensures { TakesAndTells result body.old.state kept.old (steps.Go actor) body.new.state kept.new }
 {
     let Ok(copy) = body.copy_reply(actor) else {
         return Err(body.denial(Step::Go { actor }).unwrap_or(Refusal::Memory));

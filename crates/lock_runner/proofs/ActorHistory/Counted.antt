@@ -17,7 +17,7 @@ use Rattle.lock_runner.proofs.ActorHistory.Sound.{Sound, sound_along, fits_after
 use Rattle.lock_runner.proofs.ActorHistory.Steps.{others_leave, own_step}
 use Rattle.lock_runner.proofs.ActorHistory.Told.{answers_are_those_of_the_history}
 use Rattle.lock_runner.proofs.ActorHistory.Totals.{total, total_least, total_more, total_twice}
-use Rattle.lock_runner.proofs.ActorHistory.Turns.{Recorded, recorded, recorded_of, Shown, ran, shown, Turns, Comes, Stays, Leaves, Rests, turns}
+use Rattle.lock_runner.proofs.ActorHistory.Turns.{Recorded, recorded, recorded_of, Shown, ran, shown, Turns, Comes, Stays, Quits, Leaves, Rests, turns}
 
 -- ---- the events of an account
 
@@ -81,6 +81,7 @@ told_after limits before after s o sound fits (Comes k call opens below idle her
     (events_begun (account_of (suc k) before.events) (account_of (suc k) after.events) _ own.0 own.1)
     (λ j apart. others_leave before after s o sound fits turn (suc j) (λ e. apart (omega (arith, e)))) so
 told_after limits before after s o sound fits (Stays k p kind had others events) same so = none_told limits before after events so
+told_after limits before after s o sound fits (Quits k p kind had others events) same so = none_told limits before after events so
 told_after limits before after s o sound fits (Leaves k p answer had none others events) same so =
     let turn = Leaves k p answer had none others events in
     let own = own_step before after s o sound fits turn (suc k) refl in

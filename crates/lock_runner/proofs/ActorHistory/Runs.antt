@@ -12,7 +12,7 @@ use Rattle.lock_runner.specs.Beneath.machine_model.proofs.Recorded.{along_with}
 use Rattle.lock_runner.specs.declared.accounts.Running.{Running}
 use Rattle.lock_runner.specs.ActorHistory.{account_of, begun_at}
 use Rattle.lock_runner.specs.ActorHistory.Answers.{RunsNoOther, RunsJust}
-use Rattle.lock_runner.proofs.ActorHistory.Turns.{Recorded, recorded, recorded_of, Turns, Comes, Stays, Leaves, Rests, turns}
+use Rattle.lock_runner.proofs.ActorHistory.Turns.{Recorded, recorded, recorded_of, Turns, Comes, Stays, Quits, Leaves, Rests, turns}
 use Rattle.lock_runner.proofs.ActorHistory.Sound.{Sound, IsAnswered, sound_along, fits_after, later_own, later_other, leave_other, leave_own}
 use Rattle.lock_runner.proofs.ActorHistory.Steps.{none_told}
 use Rattle.lock_runner.proofs.ActorHistory.Told.{told_along, same_begin, apart_events}
@@ -89,6 +89,7 @@ after_all : (before after : Recorded) (s : Step) (o : Outcome) → Sound before 
 after_all before after s o sound fits (Comes k call opens within idle here others events) all =
     subst RunAll (sym events) (begin_all before.events all (suc k) call opens (none_told _ (sym (sound.match (suc k)) ∙ idle)))
 after_all before after s o sound fits (Stays k p kind had same events) all = subst RunAll (sym events) all
+after_all before after s o sound fits (Quits k p kind had same events) all = subst RunAll (sym events) all
 after_all before after s o sound fits (Leaves k p answer had none others events) all =
     let Own : List Event → Type 0 = λ es. IsAnswered (account_of (suc k) before.events) (account_of (suc k) before.events).running (length before.events) p.0 answer (account_of (suc k) es) in
     let Others : List Event → Type 0 = λ es. (actor : ℕ) → (suc k ≡ actor → ⊥) → account_of actor es ≡ account_of actor before.events in

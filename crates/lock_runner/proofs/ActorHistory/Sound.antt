@@ -14,7 +14,7 @@ use Rattle.lock_runner.specs.ActorHistory.{Account, account_of, account_after, a
 use Rattle.history.proofs.Begins.{begun_push, begun_same}
 use Rattle.lock_runner.specs.Beneath.proof_generations.proofs.Handles.Running.{actors_length}
 use Rattle.lock_runner.proofs.ActorHistory.Pushes.{account_push}
-use Rattle.lock_runner.proofs.ActorHistory.Turns.{Recorded, recorded, recorded_of, Shown, shown, ran, Turns, Comes, Stays, Leaves, Rests, turns}
+use Rattle.lock_runner.proofs.ActorHistory.Turns.{Recorded, recorded, recorded_of, Shown, shown, ran, Turns, Comes, Stays, Quits, Leaves, Rests, turns}
 
 abbrev pub told : Option Running → Option Shown
 told None = None
@@ -200,6 +200,7 @@ module _ (before after : Recorded) (sound : Sound before) (fits : length after.s
 pub kept : (before after : Recorded) (s : Step) (o : Outcome) → Sound before → length after.state.actors ≡ after.state.limits.actors → Turns before after s o → Sound after
 kept before after s o sound fits (Comes k call opens within idle here others events) = come_sound before after sound fits k call opens here others events
 kept before after s o sound fits (Stays k p kind had same events) = stay_sound before after sound fits same events
+kept before after s o sound fits (Quits k p kind had same events) = stay_sound before after sound fits same events
 kept before after s o sound fits (Leaves k p answer had none others events) = leave_sound before after sound fits k p answer had none others events
 kept before after s o sound fits (Rests swept same events) = stay_sound before after sound fits same events
 

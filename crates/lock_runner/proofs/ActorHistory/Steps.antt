@@ -9,7 +9,7 @@ use Rattle.lock_runner.specs.Beneath.machine_model.proofs.Moves.{moved}
 use Rattle.lock_runner.specs.declared.accounts.Running.{Running}
 use Rattle.lock_runner.specs.ActorHistory.{account_of}
 use Rattle.lock_runner.specs.ActorHistory.Laws.{IsStepOf, IsMadeBy, RunningIdsDiffer, OthersLeaveTheAccount, OwnStepsMakeTheAccount}
-use Rattle.lock_runner.proofs.ActorHistory.Turns.{Recorded, recorded, recorded_of, Shown, shown, Turns, Comes, Stays, Leaves, Rests, turns}
+use Rattle.lock_runner.proofs.ActorHistory.Turns.{Recorded, recorded, recorded_of, Shown, shown, Turns, Comes, Stays, Quits, Leaves, Rests, turns}
 use Rattle.lock_runner.proofs.ActorHistory.Sound.{told, Sound, sound_along, fits_after, begin_own, begin_other, come_account, leave_other, leave_own}
 
 differ : (state : State) (past : Record) → Sound (recorded state past) → (i j : ℕ) (a b : Operation) → operation_of state i ≡ Some a → operation_of state j ≡ Some b → a.id ≡ b.id → i ≡ j
@@ -27,6 +27,7 @@ others_leave before after s o sound fits (Comes k call opens within idle here ot
     come_account before after sound fits k call opens here others events actor
     ∙ begin_other actor (length before.events) (account_of actor before.events) _ (suc k) call opens other
 others_leave before after s o sound fits (Stays k p kind had same events) actor other = ap (λ es. account_of actor es) events
+others_leave before after s o sound fits (Quits k p kind had same events) actor other = ap (λ es. account_of actor es) events
 others_leave before after s o sound fits (Leaves k p answer had none others events) actor other =
     leave_other before after sound fits k p answer had none others events actor (λ j e f. other (sym (e ∙ ap (λ n. suc n) f)))
 others_leave before after s o sound fits (Rests swept same events) actor other = ap (λ es. account_of actor es) events
@@ -84,6 +85,10 @@ own_step before after s o sound fits (Comes k call opens within idle here others
     ∙ begin_own (suc k) (length before.events) (account_of (suc k) before.events) _ call opens in
     subst (λ a. IsMadeBy before.events a (account_of a before.events) s o (account_of a after.events)) own (none, made)
 own_step before after s o sound fits (Stays k p kind had same events) actor own = (
+  ap (λ es. account_of actor es) events,
+  subst (λ a. (account_of a before.events).running ≡ None → ⊥) own (some_told _ p (sym (sound.match (suc k)) ∙ had)),
+)
+own_step before after s o sound fits (Quits k p kind had same events) actor own = (
   ap (λ es. account_of actor es) events,
   subst (λ a. (account_of a before.events).running ≡ None → ⊥) own (some_told _ p (sym (sound.match (suc k)) ∙ had)),
 )

@@ -13,7 +13,7 @@ use Rattle.lock_runner.specs.declared.accounts.Running.{Running}
 use Rattle.lock_runner.specs.ActorHistory.{account_of, account_from, begun_at, answered_at}
 use Rattle.lock_runner.specs.ActorHistory.Answers.{IsOperationOf, IsToldIn, AreAnswersOf}
 use Rattle.lock_runner.specs.ActorHistory.Laws.{AnswersAreThoseOfTheHistory}
-use Rattle.lock_runner.proofs.ActorHistory.Turns.{Recorded, recorded, recorded_of, Turns, Comes, Stays, Leaves, Rests, turns}
+use Rattle.lock_runner.proofs.ActorHistory.Turns.{Recorded, recorded, recorded_of, Turns, Comes, Stays, Quits, Leaves, Rests, turns}
 use Rattle.history.proofs.Begins.{begun_push, begun_same}
 use Rattle.history.proofs.Places.{at_cases, at_front, at_seam}
 use Rattle.lock_runner.proofs.ActorHistory.Sound.{Sound, IsAnswered, sound_along, fits_after, later_own, later_other, leave_other, leave_own}
@@ -298,6 +298,7 @@ module _ (history : List Event) (told : Told history) (owner id : ℕ) (reply : 
 told_after : (before after : Recorded) (s : Step) (o : Outcome) → Sound before → length after.state.actors ≡ after.state.limits.actors → Turns before after s o → Told before.events → Told after.events
 told_after before after s o sound fits (Comes k call opens within idle here others events) told = subst Told (sym events) (later_told before.events told (suc k) call opens)
 told_after before after s o sound fits (Stays k p kind had same events) told = subst Told (sym events) told
+told_after before after s o sound fits (Quits k p kind had same events) told = subst Told (sym events) told
 told_after before after s o sound fits (Leaves k p answer had none others events) told =
     let Own : List Event → Type 0 = λ es. IsAnswered (account_of (suc k) before.events) (account_of (suc k) before.events).running (length before.events) p.0 answer (account_of (suc k) es) in
     let Others : List Event → Type 0 = λ es. (actor : ℕ) → (suc k ≡ actor → ⊥) → account_of actor es ≡ account_of actor before.events in

@@ -5,8 +5,8 @@ use Rattle.std.proofs.Math.ListN.{get_or-map}
 use Rattle.std.proofs.lemmas.List.{get_or_past, get_or-set_same, get_or-set_other, length-set}
 use Rattle.std.proofs.lemmas.Bool.{cases_lt}
 use Rattle.std.proofs.Common.{inl, inr}
-use Rattle.lock_runner.specs.Vocabulary.{Call, Reply, Event, End, begun, Operation, Step, Outcome, State, operation_of, marked, operation_after, gone, ended, begin_denial, with_begin, swept, Begins}
-use Rattle.lock_runner.specs.Vocabulary.{Ends, Sweeps, Moves, begun_operation, Bounds, run, Record, noted, record_of, told_in}
+use Rattle.lock_runner.specs.Vocabulary.{Call, Reply, Event, End, begun, Operation, Step, Outcome, State, operation_of, with_operation, gave_up, marked, operation_after, gone, ended, begin_denial}
+use Rattle.lock_runner.specs.Vocabulary.{with_begin, swept, Begins, Ends, Sweeps, GivesUp, Moves, begun_operation, Bounds, run, Record, noted, record_of, told_in}
 use Rattle.history.specs.declared.events.Event.TheVariants.{Begin}
 use Rattle.lock_runner.specs.Beneath.machine_model.specs.declared.steps.Step.TheVariants as step
 use Rattle.lock_runner.specs.Beneath.machine_model.specs.declared.steps.Outcome.TheVariants as outcome
@@ -76,6 +76,8 @@ pub data Turns (before after : Recorded) : Step → Outcome → Type 0 where
       Turns before after (step.Begin (suc k) call) (outcome.Began (begun before.events))
   Stays : (k : ℕ) (p : Shown) (kind : _) → ran before.state.actors k ≡ Some p → ((j : ℕ) → ran after.state.actors j ≡ ran before.state.actors j) →
       after.events ≡ before.events → Turns before after (step.Go (suc k)) (outcome.Went kind)
+  Quits : (k : ℕ) (p : Shown) (kind : _) → ran before.state.actors k ≡ Some p → ((j : ℕ) → ran after.state.actors j ≡ ran before.state.actors j) →
+      after.events ≡ before.events → Turns before after (step.GiveUp (suc k)) (outcome.Went kind)
   Leaves : (k : ℕ) (p : Shown) (answer : Reply) → ran before.state.actors k ≡ Some p → ran after.state.actors k ≡ None →
       ((j : ℕ) → (j ≡ k → ⊥) → ran after.state.actors j ≡ ran before.state.actors j) → after.events ≡ before.events ++ End p.0 answer ∷ [] →
       Turns before after (step.Go (suc k)) (outcome.Ended p.0 answer)
@@ -121,6 +123,12 @@ gone_ran state k operation is j =
     ∙ ap (λ i. ran (set state.actors i (Some (operation_after state operation))) j) (back k)
     ∙ ran_same state.actors k j (Some (operation_after state operation)) (shown_after state operation ∙ ap shown (sym is))
 
+given_up_ran : (state : State) (k : ℕ) (operation : Operation) (answer : Reply) → operation_of state (suc k) ≡ Some operation → (j : ℕ) →
+    ran (with_operation state (suc k) (Some (gave_up operation answer))).actors j ≡ ran state.actors j
+given_up_ran state k operation answer is j =
+    ap (λ i. ran (set state.actors i (Some (gave_up operation answer))) j) (back k)
+    ∙ ran_same state.actors k j (Some (gave_up operation answer)) (ap shown (sym is))
+
 leave : (state : State) (past now : Record) (k : ℕ) (operation : Operation) (answer : Reply) → operation_of state (suc k) ≡ Some operation → (after : State) →
     after.actors ≡ (ended state (suc k)).actors → now.events ≡ past.events ++ End operation.id answer ∷ [] →
     Turns (recorded state past) (recorded after now) (step.Go (suc k)) (outcome.Ended operation.id answer)
@@ -149,4 +157,7 @@ turns state past s o after fits count (Goes {actor = suc k} {operation = operati
 turns state past s o after fits count (Ends {actor = zero} {operation = operation} d is a) = absurd (none-some operation is)
 turns state past s o after fits count (Ends {actor = suc k} {operation = operation} {answer = answer} d is a) =
     leave state past (noted past state.steps (told_in state (step.Go (suc k)))) k operation answer is _ refl (end_event state past (suc k) operation answer is a)
+turns state past s o after fits count (GivesUp {actor = zero} {operation = operation} d is a) = absurd (none-some operation is)
+turns state past s o after fits count (GivesUp {actor = suc k} {operation = operation} {answer = answer} d is a) =
+    Quits k (operation.id, operation.call) _ (ap shown is) (given_up_ran state k operation answer is) refl
 turns state past s o after fits count (Sweeps spent) = rest state _ past refl

@@ -11,6 +11,7 @@ use Rattle.lock_runner.specs.ActorHistory.Answers.{AreAnswersOf}
 abbrev pub IsStepOf : ℕ → Step → Type 0
 IsStepOf actor (step.Begin other call) = other ≡ actor
 IsStepOf actor (step.Go other) = other ≡ actor
+IsStepOf actor (step.GiveUp other) = other ≡ actor
 IsStepOf actor step.Sweep = ⊥
 
 -- operations of two actors have two ids
@@ -34,6 +35,7 @@ IsMadeBy history actor before (step.Go owner) (outcome.Ended id answer) after =
     (operation : Running) × (before.running ≡ Some operation) × (operation.id ≡ id)
     × (after ≡ record { answers = before.answers ++ answered_at operation (length history) answer ∷ []; running = None })
 IsMadeBy history actor before (step.Go owner) (outcome.Went kind) after = (after ≡ before) × ¬ (before.running ≡ None)
+IsMadeBy history actor before (step.GiveUp owner) (outcome.Went kind) after = (after ≡ before) × ¬ (before.running ≡ None)
 IsMadeBy history actor before s o after = ⊥
 
 abbrev pub OwnStepsMakeTheAccount : Type 0

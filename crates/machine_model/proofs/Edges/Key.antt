@@ -1,5 +1,5 @@
 -- A step of KEY is one of its ways.
-use Rattle.std.proofs.Common.{◌≡◌, ◌+◌, ◌-◌, ◌==◌, ◌&&◌, ℕ, false, nat_lt, nat_le, List, [], length, refl}
+use Rattle.std.proofs.Common.{◌≡◌, ◌+◌, ◌-◌, ◌==◌, ◌&&◌, ℕ, false, nat_lt, nat_le, List, length, refl}
 use Rattle.std.proofs.lemmas.Bool.{cond_both}
 use Rattle.history.specs.declared.calls.Access.{Access}
 use Rattle.history.specs.declared.calls.Access.TheVariants.{Writable, ReadOnly}
@@ -22,9 +22,9 @@ use Rattle.machine_model.specs.Paths.{flag_in, is_below_root}
 use Rattle.machine_model.specs.Reading.{read_step}
 use Rattle.machine_model.specs.Finding.{is_passable, removing, found_so, absent_listed, after_tomb, after_listed, after_sibling, key_after, key_after_entry, key_after_main, key_after_read}
 use Rattle.machine_model.specs.Edges.Key.{FoundEdge, answers, sets, asks_sibling, removes, entombs_listed, removes_listed, KeyEdge, reads_on, gives, enters, puts_absent, misses_absent}
-use Rattle.machine_model.specs.Edges.Key.{cleans, looks_tombed, looks_listed, goes_down, renews, finds, puts_beside, misses_beside, finds_listed, looks_on, crowds, puts_listed, misses_listed}
+use Rattle.machine_model.specs.Edges.Key.{cleans, looks_tombed, looks_listed, goes_down, renews, renews_none, finds, puts_beside, misses_beside, finds_listed, looks_on, crowds, puts_listed}
+use Rattle.machine_model.specs.Edges.Key.{misses_listed}
 use Rattle.machine_model.specs.Edges.Key.{entombs_sibling, keeps_sibling}
-use Rattle.machine_model.proofs.Edges.Repairs.{renew_next_edge}
 
 module _ (state : State) (operation : Operation) where
   -- ---- where the key is found
@@ -68,7 +68,8 @@ module _ (state : State) (operation : Operation) where
       KeyEdge state operation (key.Entry path main position) (key_after_entry state operation path main position n)
   seen_entry path main position (Indirection g w) e =
       cond_both (is_passable operation g) _ _ (KeyEdge state operation (key.Entry path main position)) (goes_down path main position g w e)
-      (λ older. renews path main position g w _ e older (renew_next_edge state path main []))
+      (λ older. cond_both (nat_lt 0 (length (entries_of (node_at state.heap main)))) _ _ (KeyEdge state operation (key.Entry path main position)) (renews path main position g w e older)
+      (renews_none path main position g w e older))
   seen_entry path main position (Single k v) e =
       cond_both (k == key_of operation.call) _ _ (KeyEdge state operation (key.Entry path main position))
       (λ same. finds path main position k v _ e same (found_edge path main position v _ refl))

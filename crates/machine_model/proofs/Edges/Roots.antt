@@ -14,7 +14,7 @@ use Rattle.machine_model.specs.declared.reading.Read.{Read}
 use Rattle.machine_model.specs.declared.roots.Complete.{Complete}
 use Rattle.machine_model.specs.declared.roots.Descriptor.{Descriptor}
 use Rattle.machine_model.specs.declared.roots.RootLine.{RootLine}
-use Rattle.machine_model.specs.Calls.{handle_of, is_copy, is_clear, is_snapshot}
+use Rattle.machine_model.specs.Calls.{handle_of, copies, is_clear, is_snapshot}
 use Rattle.machine_model.specs.States.{State, word_at}
 use Rattle.machine_model.specs.Reading.{read_step}
 use Rattle.machine_model.specs.Swapping.{is_plain}
@@ -27,10 +27,10 @@ module _ (state : State) (operation : Operation) where
   -- ---- ROOT
 
   given_root : (l : RootLine) (r : Ref) → root_step state operation l ≡ Gives r → (call : Call) → operation.call ≡ call → RootEdge state operation l (from_root call r)
-  given_root l r e (Clear h) is = begins_copy l r e (ap is_copy is)
-  given_root l r e (Snapshot h) is = begins_copy l r e (ap is_copy is)
-  given_root l r e (Freeze h) is = begins_copy l r e (ap is_copy is)
-  given_root l r e call is = begins_key l r e (ap is_copy is)
+  given_root l r e (Clear h) is = begins_copy l r e (ap copies is)
+  given_root l r e (Snapshot h) is = begins_copy l r e (ap copies is)
+  given_root l r e (Freeze h) is = begins_copy l r e (ap copies is)
+  given_root l r e call is = begins_key l r e (ap copies is)
 
   seen_root : (l : RootLine) (a : After RootLine Ref) → root_step state operation l ≡ a → RootEdge state operation l (after_root operation a)
   seen_root l (Goes next) e = RootEdge.completes_on l next e

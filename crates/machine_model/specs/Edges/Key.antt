@@ -20,12 +20,12 @@ use Rattle.machine_model.specs.declared.lines.Line.TheVariants as line
 use Rattle.machine_model.specs.declared.reading.After.TheVariants.{Goes, Gives}
 use Rattle.machine_model.specs.declared.reading.Read.{Read}
 use Rattle.machine_model.specs.declared.repairs.CleanLine.TheVariants as clean
+use Rattle.machine_model.specs.declared.repairs.RenewLine.TheVariants as renew
 use Rattle.machine_model.specs.Calls.{key_of, inserts, absent_reply, when_found}
 use Rattle.machine_model.specs.States.{State}
 use Rattle.machine_model.specs.Paths.{above, current, flag_in, is_below_root}
 use Rattle.machine_model.specs.Reading.{read_step, reading}
 use Rattle.machine_model.specs.Finding.{going_down, is_passable}
-use Rattle.machine_model.specs.Edges.Repairs.{RenewNext}
 
 -- the key stands at this position of the main node, with this value
 pub data FoundEdge (state : State) (operation : Operation) (path : List Ref) (main : Ref) (position v : ℕ) : Line → Type 0 where
@@ -61,8 +61,12 @@ pub data KeyEdge (state : State) (operation : Operation) : KeyLine → Line → 
   -- at an entry of a branch
   goes_down : (path : List Ref) (main : Ref) (position g w : ℕ) → node_at state.heap (entry_at state.heap main position) ≡ Indirection g w →
       is_passable operation g ≡ true → KeyEdge state operation (key.Entry path main position) (going_down path (entry_at state.heap main position))
-  renews : (path : List Ref) (main : Ref) (position g w : ℕ) (next : Line) → node_at state.heap (entry_at state.heap main position) ≡ Indirection g w →
-      is_passable operation g ≡ false → RenewNext state path main [] next → KeyEdge state operation (key.Entry path main position) next
+  renews : (path : List Ref) (main : Ref) (position g w : ℕ) → node_at state.heap (entry_at state.heap main position) ≡ Indirection g w →
+      is_passable operation g ≡ false → nat_lt 0 (length (entries_of (node_at state.heap main))) ≡ true →
+      KeyEdge state operation (key.Entry path main position) (line.Renew (renew.Entry path main []))
+  renews_none : (path : List Ref) (main : Ref) (position g w : ℕ) → node_at state.heap (entry_at state.heap main position) ≡ Indirection g w →
+      is_passable operation g ≡ false → nat_lt 0 (length (entries_of (node_at state.heap main))) ≡ false →
+      KeyEdge state operation (key.Entry path main position) (line.Renew (renew.Branch path main []))
   finds : (path : List Ref) (main : Ref) (position k v : ℕ) (next : Line) → node_at state.heap (entry_at state.heap main position) ≡ Single k v →
       (k == key_of operation.call) ≡ true → FoundEdge state operation path main position v next → KeyEdge state operation (key.Entry path main position) next
   puts_beside : (path : List Ref) (main : Ref) (position k v : ℕ) → node_at state.heap (entry_at state.heap main position) ≡ Single k v →

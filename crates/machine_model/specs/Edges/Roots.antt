@@ -14,7 +14,7 @@ use Rattle.machine_model.specs.declared.reading.Read.{Read}
 use Rattle.machine_model.specs.declared.roots.Complete.{Complete}
 use Rattle.machine_model.specs.declared.roots.Descriptor.{Descriptor}
 use Rattle.machine_model.specs.declared.roots.RootLine.{RootLine}
-use Rattle.machine_model.specs.Calls.{handle_of, is_copy, is_clear, is_snapshot}
+use Rattle.machine_model.specs.Calls.{handle_of, copies, is_clear, is_snapshot}
 use Rattle.machine_model.specs.States.{State, word_at}
 use Rattle.machine_model.specs.Lines.{new_try}
 use Rattle.machine_model.specs.Reading.{read_step, reading}
@@ -32,8 +32,8 @@ complete_step state operation c = complete_after state.heap operation.access (wo
 
 pub data RootEdge (state : State) (operation : Operation) : RootLine → Line → Type 0 where
   completes_on : (l next : RootLine) → root_step state operation l ≡ Goes next → RootEdge state operation l (line.Root next)
-  begins_key : (l : RootLine) (r : Ref) → root_step state operation l ≡ Gives r → is_copy operation.call ≡ false → RootEdge state operation l (going_down [] r)
-  begins_copy : (l : RootLine) (r : Ref) → root_step state operation l ≡ Gives r → is_copy operation.call ≡ true →
+  begins_key : (l : RootLine) (r : Ref) → root_step state operation l ≡ Gives r → copies operation.call ≡ false → RootEdge state operation l (going_down [] r)
+  begins_copy : (l : RootLine) (r : Ref) → root_step state operation l ≡ Gives r → copies operation.call ≡ true →
       RootEdge state operation l (line.Copy (copy.Read r (reading r)))
 
 pub data CopyEdge (state : State) (operation : Operation) : CopyLine → Line → Type 0 where

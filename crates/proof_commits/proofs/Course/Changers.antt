@@ -6,7 +6,7 @@ use Rattle.std.proofs.Common.{ne_eqb}
 use Rattle.std.proofs.lemmas.Option.{none-some, same_Some}
 use Rattle.proof_commits.specs.Vocabulary.{Ref, Call, node_at, Line, Purpose, SwapLine, Operation, After, Gives, ReadLine, Swap, Entrant, Publication, Bounds, Outcome, State, operation_of, word_at}
 use Rattle.proof_commits.specs.Vocabulary.{handle_of, swap_after, action_of, line_after, generation_from, first_line, operation_after, GoesOn, begun_operation, Record, changer_of, noted_progress}
-use Rattle.proof_commits.specs.Vocabulary.{changer_for, progress_of, published_at, published_by}
+use Rattle.proof_commits.specs.Vocabulary.{changer_for, progress_of, published_at, published_by, Reply}
 use Rattle.proof_commits.specs.Beneath.machine_model.specs.declared.lines.Line.TheVariants as line
 use Rattle.proof_commits.specs.Beneath.machine_model.specs.declared.lines.Purpose.TheVariants as purpose
 use Rattle.proof_commits.specs.Beneath.machine_model.specs.declared.reading.After.TheVariants.{Goes}
@@ -22,7 +22,8 @@ use Rattle.proof_commits.specs.Words.{words_of}
 use Rattle.proof_commits.proofs.Known.Given.{Known}
 use Rattle.proof_commits.proofs.Known.Owners.{HasFresh}
 use Rattle.proof_commits.proofs.Known.Sounds.{sound_at}
-use Rattle.proof_commits.proofs.Known.StepsAt.{NotedAt, NotesBegin, NotesGo, NotesEnd, NotesSweep, noted_at, after_mark, go_others, go_own, end_others, end_own, begin_others, begin_own, actor_counts}
+use Rattle.proof_commits.proofs.Known.StepsAt.{NotedAt, NotesBegin, NotesGo, NotesEnd, NotesSweep, noted_at, after_mark, go_others, go_own, end_others, end_own, begin_others, begin_own}
+use Rattle.proof_commits.proofs.Known.StepsAt.{actor_counts, NotesGivingUp, give_up_own, give_up_others}
 use Rattle.proof_commits.proofs.Lines.Resting.{swapped_rest}
 use Rattle.proof_commits.proofs.Lines.Swap.{line_decides, line_publishes}
 use Rattle.proof_commits.proofs.Lines.Turns.{line_turn}
@@ -231,6 +232,17 @@ module _ (limits : Bounds) (states : ℕ → State) (last : ℕ) (known : Known 
         rests t all k None (ap (λ (s : State). operation_of s k) e ∙ end_others (states t) actor ending answer (actor_counts (states t) actor ending ran) k other)
         (known.run.records (suc t)) (λ g. ap (λ past. changer_of past g) notes) operation runs why i a f l is
   ]
+  at_next t h all (NotesGivingUp actor was answer o m ran may e notes) k operation runs why i a f l is = elim (cases_eq k actor) [
+    | inl same ↦
+        let own = ap (λ (s : State). operation_of s actor) e ∙ give_up_own (states t) actor was answer ran in
+        absurd (not_ending answer (ap (λ (x : Operation). x.line) (same_Some _ _ (sym own ∙ subst (λ j. operation_of (states (suc t)) j ≡ Some operation) same runs)) ∙ is))
+    | inr other ↦
+        rests t all k None (ap (λ (s : State). operation_of s k) e ∙ give_up_others (states t) actor was answer (actor_counts (states t) actor was ran) k other)
+        (known.run.records (suc t)) (λ g. ap (λ past. changer_of past g) notes) operation runs why i a f l is
+  ]
+    where
+      not_ending : (x : Reply) → line.End x ≡ line.Swap why (in_swap i a f l) → ⊥
+      not_ending x same = cc same
   at_next t h all (NotesSweep o m e notes) k operation runs why i a f l is =
       rests t all k None (ap (λ (s : State). operation_of s k) e) (known.run.records (suc t)) (λ g. ap (λ past. changer_of past g) notes) operation runs why i a f l is
 

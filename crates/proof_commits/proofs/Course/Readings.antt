@@ -122,7 +122,11 @@ from_others w t k so_far same own j (inr other) = same_from w t j (same j other)
 from_turn : (w : Words) (t : ℕ) → IsSound w t → ((j : ℕ) → FromIn w t (w.from t j) (w.stage t j)) → Turn w t → (j : ℕ) → FromIn w (suc t) (w.from (suc t) j) (w.stage (suc t) j)
 from_turn w t h so_far (Passes e same) j = same_from w t j (same j) (so_far j)
 from_turn w t h so_far (Acts k m counts same) j =
-    from_others w t k so_far same (from_moves w t k h (w.stage t k) (w.stage (suc t) k) (h.staged k) m counts (so_far k)) j (cases_eq j k)
+    from_others w t k so_far same (own counts) j (cases_eq j k)
+  where
+    own : IsAtRest (w.stage (suc t) k) ⊎ Counts w t k (w.stage t k) → FromIn w (suc t) (w.from (suc t) k) (w.stage (suc t) k)
+    own (inl rests) = rest_from w (suc t) (w.from (suc t) k) (w.stage (suc t) k) rests
+    own (inr told) = from_moves w t k h (w.stage t k) (w.stage (suc t) k) (h.staged k) m told (so_far k)
 
 pub from_at : (p : Protocol) (t : ℕ) → t ≤ p.last → (j : ℕ) → FromIn p.words t (p.words.from t j) (p.words.stage t j)
 from_at p t h =

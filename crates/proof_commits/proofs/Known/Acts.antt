@@ -5,7 +5,8 @@ use Rattle.std.proofs.lemmas.Bool.{true≢false}
 use Rattle.std.proofs.lemmas.Option.{none-some, same_Some}
 use Rattle.proof_commits.specs.Vocabulary.{Ref, Node, Indirection, Prev, Slot, Heap, node_of, main_of, main_at, generation_of, main_changed, prev_changed, with_main, with_prev, taken, next_ref}
 use Rattle.proof_commits.specs.Vocabulary.{Reclaimer, ripe, sweep_by, Action, Operation, Bounds, Outcome, Step, handle_of, State, operation_of, Verdict, Commits, Fails, Overtaken, verdict}
-use Rattle.proof_commits.specs.Vocabulary.{action_of, acted, decided, new_root_taken, if_changed, reclaimer_of, Begins, Ends, Sweeps, Moves, begun_operation, IsRun, standing, or_before, grown}
+use Rattle.proof_commits.specs.Vocabulary.{action_of, acted, decided, new_root_taken, if_changed, reclaimer_of, Begins, Ends, Sweeps, GivesUp, Moves, begun_operation, IsRun, standing, or_before}
+use Rattle.proof_commits.specs.Vocabulary.{grown}
 use Rattle.proof_commits.specs.Beneath.slot_arena.specs.declared.nodes.Prev.TheVariants as over
 use Rattle.proof_commits.specs.Beneath.machine_model.specs.declared.actions.Action.TheVariants as act
 use Rattle.proof_commits.specs.Beneath.machine_model.specs.declared.steps.Step.TheVariants as step
@@ -36,6 +37,7 @@ fewer : (before : State) (s : Step) (o : Outcome) (after : State) → Moves befo
 fewer before s o after (Begins {actor} {call} d) n q slot e = subst (λ x. standing x q ≡ Some slot) (begin_heap before actor call (begun_operation before call)) e
 fewer before s o after (Goes d is a g) n q slot e = absurd n
 fewer before s o after (Ends d is a) n q slot e = absurd n
+fewer before s o after (GivesUp d is a) n q slot e = e
 fewer before s o after (Sweeps spent) n q slot e = fewer_swept _ (reclaimer_of before) (ripe before.epoch before.limbo) q slot e
 
 module _ (states : ℕ → State) (t : ℕ) where

@@ -8,8 +8,8 @@ use Rattle.std.proofs.lemmas.List.{get_or-set_same}
 use Rattle.std.proofs.lemmas.List.Folds.{find-append}
 use Rattle.std.proofs.lemmas.Option.{none-some}
 use Rattle.proof_commits.specs.Vocabulary.{Call, Reply, Ref, Commit, Operation, Outcome, Step, State, operation_of, action_of, gone, ended, operation_after, marked, settled, begin_denial, go_denial}
-use Rattle.proof_commits.specs.Vocabulary.{with_begin, swept, Record, commits_after, noted, noted_end, noted_progress, begin_told, entrant_of, progress_of, told_in, Begins, Ends, Sweeps, Moves}
-use Rattle.proof_commits.specs.Vocabulary.{GoesOn, begun_operation, turns, Turn, noted_turn}
+use Rattle.proof_commits.specs.Vocabulary.{with_begin, swept, Record, commits_after, noted, noted_end, noted_progress, begin_told, entrant_of, progress_of, told_in, Begins, Ends, Sweeps, GivesUp}
+use Rattle.proof_commits.specs.Vocabulary.{Moves, GoesOn, begun_operation, turns, Turn, noted_turn, given_up, gave_up, with_operation}
 use Rattle.proof_commits.specs.Beneath.machine_model.specs.declared.actions.Action.TheVariants as act
 use Rattle.proof_commits.specs.Beneath.machine_model.specs.declared.steps.Step.TheVariants as step
 use Rattle.proof_commits.specs.Beneath.machine_model.specs.Moves.{Goes}
@@ -29,12 +29,15 @@ pub data StepAt (before after : State) : Type 0 where
   IsEnd : (actor : ℕ) (operation : Operation) (answer : Reply) (o : Outcome) → Moves before (step.Go actor) o after → operation_of before actor ≡ Some operation →
       action_of before operation ≡ act.End answer → after ≡ settled before (ended before actor) → StepAt before after
   IsSweep : (o : Outcome) → Moves before step.Sweep o after → after ≡ settled before (swept before).1 → StepAt before after
+  IsGivingUp : (actor : ℕ) (operation : Operation) (answer : Reply) (o : Outcome) → Moves before (step.GiveUp actor) o after → operation_of before actor ≡ Some operation →
+      given_up operation.call operation.line ≡ Some answer → after ≡ settled before (with_operation before actor (Some (gave_up operation answer))) → StepAt before after
 
 pub of_move : (before : State) (s : Step) (o : Outcome) (after : State) → Moves before s o after → StepAt before after
 of_move before s o after (Begins {actor} {call} d) = IsBegin actor call _ (Begins d) d refl
 of_move before s o after (Goes {actor} {operation} {action} d is a g) = IsGo actor operation _ (Goes d is a g) is (subst GoesOn (sym a) g) refl
 of_move before s o after (Ends {actor} {operation} {answer} d is a) = IsEnd actor operation answer _ (Ends d is a) is a refl
 of_move before s o after (Sweeps spent) = IsSweep _ (Sweeps spent) refl
+of_move before s o after (GivesUp {actor} {operation} {answer} d is a) = IsGivingUp actor operation answer _ (GivesUp d is a) is a refl
 
 pub step_at : (before after : State) → Turn before after → StepAt before after
 step_at before after (turns s o m) = of_move before s o after m
@@ -51,6 +54,9 @@ pub data NotedAt (before : State) (past : Record) (after : State) (now : Record)
       action_of before operation ≡ act.End answer → after ≡ settled before (ended before actor) → now ≡ noted_end past actor (entrant_of operation) answer →
       NotedAt before past after now
   NotesSweep : (o : Outcome) → Moves before step.Sweep o after → after ≡ settled before (swept before).1 → now ≡ past → NotedAt before past after now
+  NotesGivingUp : (actor : ℕ) (operation : Operation) (answer : Reply) (o : Outcome) → Moves before (step.GiveUp actor) o after → operation_of before actor ≡ Some operation →
+      given_up operation.call operation.line ≡ Some answer → after ≡ settled before (with_operation before actor (Some (gave_up operation answer))) → now ≡ past →
+      NotedAt before past after now
 
 notes_by : (before : State) (past : Record) (s : Step) (o : Outcome) (after : State) (now : Record) → Moves before s o after → now ≡ noted past before.steps (told_in before s) →
     NotedAt before past after now
@@ -60,6 +66,7 @@ notes_by before past s o after now (Goes {actor} {operation} {action} d is a g) 
 notes_by before past s o after now (Ends {actor} {operation} {answer} d is a) e =
     NotesEnd actor operation answer _ (Ends d is a) is a refl (e ∙ noted_ending before past actor operation answer is a)
 notes_by before past s o after now (Sweeps spent) e = NotesSweep _ (Sweeps spent) refl e
+notes_by before past s o after now (GivesUp {actor} {operation} {answer} d is a) e = NotesGivingUp actor operation answer _ (GivesUp d is a) is a refl e
 
 pub noted_at : {before after : State} {past now : Record} (turn : Turn before after) → now ≡ noted_turn turn past → NotedAt before past after now
 noted_at {before} {after} {past} {now} (turns s o m) e = notes_by before past s o after now m e
@@ -164,6 +171,20 @@ go_own before (suc k) operation found =
     let at : suc k - 1 ≡ k = omega arith in
     own_place before (settled before (gone before (suc k) operation)) (marks_by before (Some operation)) k operation (operation_after before operation) found
     (gone_actors before (suc k) operation ∙ ap (λ x. after_marks (marks_by before (Some operation)) (set before.actors x (Some (operation_after before operation)))) at)
+
+-- once it has given up it runs the operation so
+pub give_up_own : (before : State) (actor : ℕ) (operation : Operation) (answer : Reply) → operation_of before actor ≡ Some operation →
+    operation_of (settled before (with_operation before actor (Some (gave_up operation answer)))) actor ≡ Some (gave_up operation answer)
+give_up_own before zero operation answer found = absurd (none-some operation found)
+give_up_own before (suc k) operation answer found =
+    let at : suc k - 1 ≡ k = omega arith in
+    own_place before (settled before (with_operation before (suc k) (Some (gave_up operation answer)))) None k operation (gave_up operation answer) found
+    (ap (λ x. set before.actors x (Some (gave_up operation answer))) at)
+
+pub give_up_others : (before : State) (actor : ℕ) (operation : Operation) (answer : Reply) → 0 < actor → (j : ℕ) → (j ≡ actor → ⊥) →
+    operation_of (settled before (with_operation before actor (Some (gave_up operation answer)))) j ≡ operation_of before j
+give_up_others before actor operation answer pos j apart =
+    same_place before (settled before (with_operation before actor (Some (gave_up operation answer)))) None actor j (Some (gave_up operation answer)) pos refl apart
 
 -- after its end it runs nothing
 nothing_by : (xs : List (Option Operation)) (k : ℕ) (x : Option Operation) → get_or (set xs k None) k None ≡ x → x ≡ None

@@ -11,7 +11,8 @@ use Rattle.proof_commits.specs.Protocol.{Reads}
 use Rattle.proof_commits.proofs.Course.Finals.{from_time}
 use Rattle.proof_commits.proofs.Lines.Stages.{Remembers, remembers_still}
 use Rattle.proof_commits.specs.Stages.{stage_of}
-use Rattle.proof_commits.proofs.Known.StepsAt.{NotedAt, NotesBegin, NotesGo, NotesEnd, NotesSweep, noted_at, after_mark, go_others, go_own, end_others, end_own, begin_others, begin_own, actor_counts}
+use Rattle.proof_commits.proofs.Known.StepsAt.{NotedAt, NotesBegin, NotesGo, NotesEnd, NotesSweep, noted_at, after_mark, go_others, go_own, end_others, end_own, begin_others, begin_own}
+use Rattle.proof_commits.proofs.Known.StepsAt.{actor_counts, NotesGivingUp, give_up_own, give_up_others}
 use Rattle.proof_commits.proofs.Lines.Keeps.{line_keeps}
 use Rattle.proof_commits.proofs.Words.First.{idle_at_first}
 
@@ -85,6 +86,10 @@ module _ (limits : Bounds) (states : ℕ → State) (last : ℕ) (run : IsRun li
       each_by t None actor so_far
       (λ j apart. ap (λ (s : State). operation_of s j) e ∙ end_others (states t) actor operation answer (actor_counts (states t) actor operation is) j apart)
       (subst (λ x. OfActor (G (suc t) actor) x) (sym (ap (λ (s : State). operation_of s actor) e ∙ end_own (states t) actor operation answer)) tt) k (cases_eq k actor)
+  each_next t h so_far (NotesGivingUp actor operation answer o m is a e noted) k =
+      each_by t None actor so_far
+      (λ j apart. ap (λ (s : State). operation_of s j) e ∙ give_up_others (states t) actor operation answer (actor_counts (states t) actor operation is) j apart)
+      (subst (λ x. OfActor (G (suc t) actor) x) (sym (ap (λ (s : State). operation_of s actor) e ∙ give_up_own (states t) actor operation answer is)) tt) k (cases_eq k actor)
   each_next t h so_far (NotesSweep o m e noted) k = same_actor t k None (ap (λ (s : State). operation_of s k) e) (so_far k)
 
   -- then it is so of all that the lines of running operations remember

@@ -18,7 +18,7 @@ use Rattle.proof_commits.proofs.Course.Finals.{from_time}
 use Rattle.proof_commits.proofs.Known.Given.{GrownStays, GrownChanges, GrownSwaps, GrownTakes, FindsMain, FindsPrev, Either, Decided, Taken, ActsOn, Known}
 use Rattle.proof_commits.proofs.Words.OfRuns.{leaves_words, commits_words, fails_words, puts_back_words, slot_generation, slot_main_link, slot_prev_node, slot_solid}
 use Rattle.proof_commits.specs.Words.{words_of}
-use Rattle.proof_commits.proofs.Known.StepsAt.{StepAt, IsBegin, IsGo, IsEnd, IsSweep, step_at, commit_here, commit_elsewhere, commit_kept}
+use Rattle.proof_commits.proofs.Known.StepsAt.{StepAt, IsBegin, IsGo, IsEnd, IsSweep, step_at, commit_here, commit_elsewhere, commit_kept, IsGivingUp}
 use Rattle.proof_memory.specs.Wants.{is_indirection, is_branch_or_list}
 use Rattle.proof_commits.specs.Beneath.machine_model.proofs.Slots.{change_kept}
 
@@ -68,6 +68,7 @@ grown_step_of limits states last k t h (IsBegin actor call o m d e) = Stays (k.s
 grown_step_of limits states last k t h (IsGo actor operation o m is g e) = step_of_action states t (action_of (states t) operation) (k.acts t h actor o m operation is)
 grown_step_of limits states last k t h (IsEnd actor operation answer o m is a e) = step_of_action states t (action_of (states t) operation) (k.acts t h actor o m operation is)
 grown_step_of limits states last k t h (IsSweep o m e) = Stays (k.stays t h step.Sweep o m tt)
+grown_step_of limits states last k t h (IsGivingUp actor operation answer o m is a e) = Stays (k.stays t h (step.GiveUp actor) o m tt)
 
 -- what an indirection keeps
 abbrev KeepsLink : (ℕ → State) → ℕ → Ref → Type 0

@@ -1,8 +1,8 @@
 -- What an operation on a line is about with main words, and what the line remembers.
-use Rattle.std.proofs.Common.{◌≡◌, ℕ, List, arith, refl}
+use Rattle.std.proofs.Common.{◌≡◌, ℕ, List, arith, refl, Some}
 use Rattle.proof_commits.specs.Vocabulary.{Ref, Operation, ReadLine, SwapLine, Descriptor, CompleteLine, RootLine, KeyLine, BuildLine, RenewLine, CleanLine, ClimbLine, CopyLine, WalkLine, Line}
 use Rattle.proof_commits.specs.Vocabulary.{current, above, After, key_after_read, renew_after_read, clean_after_read, after_child, climb_after_read, walk_after_read, copy_after_read}
-use Rattle.proof_commits.specs.Vocabulary.{copy_after_complete, after_given, after_root, first_line, at_indirection, of_offer, after_completing, after_reading, Climb, Gives, Call}
+use Rattle.proof_commits.specs.Vocabulary.{copy_after_complete, after_given, after_root, first_line, at_indirection, of_offer, after_completing, after_reading, Climb, Gives, given_up, Reply, Call}
 use Rattle.proof_commits.specs.Beneath.machine_model.specs.declared.reading.ReadLine.TheVariants as read
 use Rattle.proof_commits.specs.Beneath.machine_model.specs.declared.reading.SwapLine.TheVariants as swap
 use Rattle.proof_commits.specs.Beneath.machine_model.specs.declared.roots.CompleteLine.TheVariants as complete
@@ -15,8 +15,8 @@ use Rattle.proof_commits.specs.Beneath.machine_model.specs.declared.repairs.Clim
 use Rattle.proof_commits.specs.Beneath.machine_model.specs.declared.copying.CopyLine.TheVariants as copy
 use Rattle.proof_commits.specs.Beneath.machine_model.specs.declared.walking.WalkLine.TheVariants as walk
 use Rattle.proof_commits.specs.Beneath.machine_model.specs.declared.lines.Line.TheVariants as line
-use Rattle.proof_commits.specs.Protocol.{Rests, after_read}
-use Rattle.proof_commits.specs.Stages.{stage_of}
+use Rattle.proof_commits.specs.Protocol.{Rests, after_read, IsFree}
+use Rattle.proof_commits.specs.Stages.{stage_of, stage_of_complete}
 use Rattle.proof_commits.specs.Beneath.machine_model.specs.declared.reading.After.TheVariants.{Goes}
 
 -- ---- what an operation is about
@@ -222,3 +222,22 @@ root_completing_stage operation offer (Gives m) = refl
 -- the first line
 pub first_rests : (call : Call) → stage_of (first_line call) ≡ Rests
 first_rests call = grind arith
+
+-- where an operation may give up it isn't deciding the node of a SWAP
+pub given_up_free : (call : Call) (l : Line) (answer : Reply) → given_up call l ≡ Some answer → IsFree (stage_of l)
+given_up_free call (line.Root root.Read) answer e = tt
+given_up_free call (line.Root (root.Completing c)) answer e = completing_free c.offer c.line
+  where
+    completing_free : (offer : Descriptor) (l : CompleteLine) → IsFree (stage_of_complete offer l)
+    completing_free offer (complete.Reading x) = tt
+    completing_free offer (complete.Swap main) = tt
+given_up_free call (line.Key l) answer e = grind arith
+given_up_free call (line.Build l) answer e = grind arith
+given_up_free call (line.Swap why s) answer e = grind (arith, e)
+given_up_free call (line.Renew l) answer e = grind arith
+given_up_free call (line.Clean l) answer e = grind arith
+given_up_free call (line.Climb l) answer e = grind arith
+given_up_free call (line.Copy l) answer e = grind arith
+given_up_free call (line.Walk l) answer e = grind arith
+given_up_free call (line.End x) answer e = tt
+given_up_free call line.Impossible answer e = tt

@@ -9,7 +9,7 @@ use Rattle.proof_commits.specs.Beneath.machine_model.specs.Moves as Machine
 use Rattle.proof_commits.specs.Beneath.machine_model.proofs.Actors.{marks_by, begin_counts}
 use Rattle.proof_commits.specs.Beneath.machine_model.proofs.Times.{steps_at}
 use Rattle.proof_memory.proofs.Safety.Held.{idle_before}
-use Rattle.proof_commits.specs.Protocol.{Words, Stage, Rests, Reads, Leaves, Given, ReadTurn, Moves, Idles, Counts, IsSame, Turn, Acts, Passes, Protocol}
+use Rattle.proof_commits.specs.Protocol.{Words, Stage, Rests, Reads, Leaves, Given, ReadTurn, IsFree, IsAtRest, Moves, Idles, Counts, IsSame, Turn, Acts, Passes, Protocol}
 use Rattle.proof_commits.proofs.Known.Owners.{given_later}
 use Rattle.proof_commits.proofs.Lines.Stages.{Remembers, first_rests}
 use Rattle.proof_commits.specs.Stages.{stage_of, stage_of_actor}
@@ -17,12 +17,13 @@ use Rattle.proof_commits.proofs.Known.Given.{ActsOn, Known}
 use Rattle.proof_commits.proofs.Words.OfRuns.{leaves_words}
 use Rattle.proof_commits.specs.Words.{words_of}
 use Rattle.proof_commits.proofs.Lines.Read.{no_commit}
-use Rattle.proof_commits.proofs.Known.StepsAt.{NotedAt, NotesBegin, NotesGo, NotesEnd, NotesSweep, noted_at, after_mark, mark_stage, go_others, go_own}
-use Rattle.proof_commits.proofs.Known.StepsAt.{end_others, end_own, begin_others, begin_own, actor_counts}
+use Rattle.proof_commits.proofs.Known.StepsAt.{NotedAt, NotesBegin, NotesGo, NotesEnd, NotesSweep, noted_at, after_mark, mark_stage, go_others, go_own, NotesGivingUp}
+use Rattle.proof_commits.proofs.Known.StepsAt.{end_others, end_own, begin_others, begin_own, actor_counts, give_up_own, give_up_others}
 use Rattle.proof_commits.proofs.Lines.Turns.{LineFacts, NextLine, line_turn, own_turn}
 use Rattle.proof_commits.proofs.Lines.Each.{OfActor, each_remembers}
 use Rattle.proof_commits.proofs.Lines.Reads.{CountsTo, line_counts, ends_at_end}
 use Rattle.proof_commits.proofs.Words.First.{prev_at_first, made_at_first, idle_at_first}
+use Rattle.proof_commits.proofs.Lines.Stages.{given_up_free}
 
 -- ---- what a READ gives
 
@@ -109,8 +110,8 @@ module _ (limits : Bounds) (states : ℕ → State) (last : ℕ) (known : Known 
       let others_noted : (j : ℕ) → (j ≡ actor → ⊥) → moment_at (known.run.records (suc t)) j ≡ moment_at (known.run.records t) j =
       λ j apart. ap (λ r. moment_at r j) noted ∙ moment_others (known.run.records t) actor j made (actor_counts (states t) actor operation is) apart in
       Acts actor (subst (λ s. Moves w t actor s (w.stage (suc t) actor)) (sym before) (subst (λ s. Moves w t actor (stage_of operation.line) s) (sym after) next))
-      (counts_so actor (w.stage t actor) (stage_of operation.line) before
-      (subst (λ n. CountsTo (stage_of operation.line) t (w.from t actor) n) (sym from_after) (line_counts (states t) operation operation.line t (w.from t actor))))
+      (inr (counts_so actor (w.stage t actor) (stage_of operation.line) before
+      (subst (λ n. CountsTo (stage_of operation.line) t (w.from t actor) n) (sym from_after) (line_counts (states t) operation operation.line t (w.from t actor)))))
       (λ j apart. same_actor m j (others j apart) (others_noted j apart))
     where
       counts_so : (k : ℕ) (s s' : Stage) → s ≡ s' → CountsTo s' t (w.from t k) (w.from (suc t) k) → Counts w t k s
@@ -127,7 +128,14 @@ module _ (limits : Bounds) (states : ℕ → State) (last : ℕ) (known : Known 
       ((j : ℕ) → (j ≡ actor → ⊥) → moment_at (known.run.records (suc t)) j ≡ moment_at (known.run.records t) j) → Turn w t
   idle_turn actor leaves before after others noted =
       Acts actor (subst (λ s. Moves w t actor s (w.stage (suc t) actor)) (sym before) (subst (λ s. Moves w t actor Rests s) (sym after) (Idles leaves tt tt)))
-      (subst (λ s. Counts w t actor s) (sym before) tt) (λ j apart. same_actor None j (others j apart) (noted j apart))
+      (inr (subst (λ s. Counts w t actor s) (sym before) tt)) (λ j apart. same_actor None j (others j apart) (noted j apart))
+
+  -- a step in which one gives up
+  letting_go : (actor : ℕ) → Leaves w t → IsFree (w.stage t actor) → w.stage (suc t) actor ≡ Rests →
+      ((j : ℕ) → (j ≡ actor → ⊥) → operation_of (states (suc t)) j ≡ operation_of (states t) j) →
+      ((j : ℕ) → moment_at (known.run.records (suc t)) j ≡ moment_at (known.run.records t) j) → Turn w t
+  letting_go actor leaves free after others noted =
+      Acts actor (Idles leaves free (subst IsAtRest (sym after) tt)) (inl (subst IsAtRest (sym after) tt)) (λ j apart. same_actor None j (others j apart) (noted j))
 
   begun_stage : (call : Call) (x : Option Operation) → (x ≡ None) ⊎ (x ≡ Some (begun_operation (states t) call)) → stage_of_actor x ≡ Rests
   begun_stage call x (inl e) = ap stage_of_actor e
@@ -154,6 +162,13 @@ module _ (limits : Bounds) (states : ℕ → State) (last : ℕ) (known : Known 
       idle_turn actor (leaves_words states known.run.records last known.closing t stays kept) (ap stage_of_actor is ∙ ends_at_end (states t) operation operation.line answer a) (ap stage_of_actor own)
       (λ j apart. ap (λ (s : State). operation_of s j) e ∙ end_others (states t) actor operation answer (actor_counts (states t) actor operation is) j apart)
       (λ j apart. ap (λ r. moment_at r j) notes)
+  turn_by (NotesGivingUp actor operation answer o m is a e notes) =
+      let kept = no_commit limits states last known t h (ap (λ (r : Record). r.commits) notes) in
+      let own = ap (λ (s : State). operation_of s actor) e ∙ give_up_own (states t) actor operation answer is in
+      letting_go actor (leaves_words states known.run.records last known.closing t (known.stays t h (step.GiveUp actor) o m tt) kept)
+      (subst (λ x. IsFree (stage_of_actor x)) (sym is) (given_up_free operation.call operation.line answer a)) (ap stage_of_actor own)
+      (λ j apart. ap (λ (s : State). operation_of s j) e ∙ give_up_others (states t) actor operation answer (actor_counts (states t) actor operation is) j apart)
+      (λ j. ap (λ r. moment_at r j) notes)
   turn_by (NotesSweep o m e notes) =
       let kept = no_commit limits states last known t h (ap (λ (r : Record). r.commits) notes) in
       let same : (j : ℕ) → operation_of (states (suc t)) j ≡ operation_of (states t) j = λ j. ap (λ (s : State). operation_of s j) e in

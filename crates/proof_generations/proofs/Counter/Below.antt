@@ -7,7 +7,7 @@ use Rattle.proof_generations.specs.Vocabulary.{Call, Swept, Reclaimer, ripe, swe
 use Rattle.proof_generations.specs.Vocabulary.{node_of, with_main, with_prev, written, main_changed, prev_changed, freed, next_ref, Action, Operation, Bounds, Outcome, Step, handle_of, Closing}
 use Rattle.proof_generations.specs.Vocabulary.{Line, After, Gives, RootLine, root_after, is_carried_out, State, first_state, operation_of, word_at, turns, IsRun, Turn, start_of, Verdict, Commits}
 use Rattle.proof_generations.specs.Vocabulary.{Fails, Overtaken, verdict, action_of, generation_from, given_root, acted, aborted, offered, completed, decided, new_root_taken, if_changed}
-use Rattle.proof_generations.specs.Vocabulary.{operation_after, with_begin, pin_of, reclaimer_of, Begins, Ends, Sweeps, Moves, begun_operation, step_of, Record, closed_by, noted, Carried}
+use Rattle.proof_generations.specs.Vocabulary.{operation_after, with_begin, pin_of, reclaimer_of, Begins, Ends, Sweeps, GivesUp, Moves, begun_operation, step_of, Record, closed_by, noted, Carried}
 use Rattle.proof_generations.specs.Vocabulary.{carried_by, told_in}
 use Rattle.proof_generations.specs.Beneath.slot_arena.specs.declared.nodes.Prev.TheVariants as prev
 use Rattle.proof_generations.specs.Beneath.machine_model.specs.declared.actions.Action.TheVariants as act
@@ -17,7 +17,7 @@ use Rattle.proof_generations.specs.Beneath.machine_model.proofs.Actors.{mark_onl
 use Rattle.proof_generations.specs.Beneath.machine_model.proofs.EachOperation.{of_running}
 use Rattle.proof_generations.specs.Beneath.machine_model.proofs.Times.{along_run}
 use Rattle.proof_generations.specs.Beneath.proof_memory.proofs.Safety.AtEachTime.{safe_at}
-use Rattle.proof_generations.proofs.Handles.Running.{Comes, began, rested, went, comes}
+use Rattle.proof_generations.proofs.Handles.Running.{Comes, began, rested, went, comes, gave}
 use Rattle.proof_generations.specs.Running.{Runs}
 use Rattle.proof_generations.specs.Beneath.machine_model.specs.Moves.{Goes}
 use Rattle.proof_generations.specs.Beneath.machine_model.proofs.HeapMoves.{aborted_heap, offered_heap, completed_heap}
@@ -132,6 +132,7 @@ nodes_below_after state I pos h start s o after (Goes {actor} {operation} d is a
     (λ node e. made_below state operation node pos (start actor operation is)
     (subst (λ x. MadeOf state operation x node) e (made_of state operation (IsInUse state.heap) operation.line (line_finds state I actor operation is) node (ap (made_node state) e))))
 nodes_below_after state I pos h start s o after (Ends d is a) = h
+nodes_below_after state I pos h start s o after (GivesUp d is a) = h
 nodes_below_after state I pos h start s o after (Sweeps spent) = sweep_below state.generations (map pin_of state.actors) (reclaimer_of state) (ripe state.epoch state.limbo) h
 
 -- ---- generations of operations
@@ -165,6 +166,7 @@ starts_by state s n pos more h all k found (began call is d it) = omega (arith, 
 starts_by state s n pos more h all k found (rested was at_k it other_step) = omega (arith, ap start_of (it ∙ mark_only (marks_in state s) was), all k was at_k)
 starts_by state s n pos more h all k found (went was is at_k g it) =
     omega (arith, ap start_of (it ∙ mark_only (marks_in state s) (operation_after state was)), start_after state was was.line pos h (all k was at_k))
+starts_by state s n pos more h all k found (gave was answer is at_k may it) = omega (arith, ap start_of it, all k was at_k)
 
 -- ---- closings
 
@@ -224,6 +226,7 @@ closings_after state past s o after (Goes {actor} {operation} {action} d is a g)
     (carried_below state.generations state.steps past.closings _ (carried_root state (handle_of operation.call) (action_of state operation) root) h)
 closings_after state past s o after (Ends {actor} {operation} {answer} d is a) root h =
     subst (λ (r : Record). ClosingsBelow state.generations r.closings) (sym (noted_ending state past actor operation answer is a)) h
+closings_after state past s o after (GivesUp d is a) root h = h
 closings_after state past s o after (Sweeps spent) root h = h
 
 -- ---- all of it

@@ -4,7 +4,7 @@ use Rattle.std.proofs.lemmas.Bool.{cases_eq}
 use Rattle.std.proofs.lemmas.Option.{none-some, same_Some}
 use Rattle.proof_generations.specs.Vocabulary.{ref_to, Ref, Node, Indirection, Slot, Heap, taken, take_from, generation_of, node_of, with_main_word, next_ref, empty_branch, Action, Operation}
 use Rattle.proof_generations.specs.Vocabulary.{Descriptor, Bounds, Outcome, Step, handle_of, State, first_heap, empty_heap, operation_of, action_of, acted, aborted, offered, completed}
-use Rattle.proof_generations.specs.Vocabulary.{new_root_taken, with_begin, Begins, Ends, Sweeps, Moves, begun_operation, IsRun, grown, node_under}
+use Rattle.proof_generations.specs.Vocabulary.{new_root_taken, with_begin, Begins, Ends, Sweeps, GivesUp, Moves, begun_operation, IsRun, grown, node_under}
 use Rattle.proof_generations.specs.Beneath.slot_arena.specs.declared.nodes.Prev.TheVariants as prev
 use Rattle.proof_generations.specs.Beneath.machine_model.specs.declared.actions.Action.TheVariants as act
 use Rattle.proof_generations.specs.Beneath.machine_model.specs.Moves.{Goes}
@@ -44,6 +44,7 @@ pub counter_rises : (state : State) (s : Step) (o : Outcome) (after : State) →
 counter_rises state s o after (Begins {actor} {call} d) = omega (arith, begin_counts state actor call (begun_operation state call))
 counter_rises state s o after (Goes {actor} {operation} d is a g) = acted_counts _ (handle_of operation.call) (action_of state operation)
 counter_rises state s o after (Ends d is a) = omega arith
+counter_rises state s o after (GivesUp d is a) = omega arith
 counter_rises state s o after (Sweeps spent) = omega arith
 
 -- ---- an indirection keeps its generation

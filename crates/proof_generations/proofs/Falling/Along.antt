@@ -25,7 +25,7 @@ use Rattle.proof_generations.proofs.Handles.Operations.{ran_or_began}
 use Rattle.proof_generations.proofs.Offers.Marks.{unmarked_before}
 use Rattle.proof_generations.proofs.Roots.Along.{ordered_at}
 use Rattle.proof_generations.proofs.Roots.Kept.{fresh_in, fresh_from, FreshFrom, had, new}
-use Rattle.proof_generations.proofs.Handles.Running.{Comes, began, rested, went, comes, one_at}
+use Rattle.proof_generations.proofs.Handles.Running.{Comes, began, rested, went, comes, one_at, gave}
 use Rattle.proof_generations.specs.Running.{Runs}
 use Rattle.proof_generations.proofs.Roots.Own.{first_none}
 use Rattle.proof_generations.proofs.Falling.KnownRoots.{words, protocol_of}
@@ -143,6 +143,7 @@ module _ (limits : Bounds) (states : ℕ → State) (last : ℕ) (run : IsRun li
         let same = it ∙ mark_only (marks_in (states t) s) (operation_after (states t) was) in
         went_falls k was found x r runs g is (unmarked_then k found was (went was is runs g it) is runs unmarked) (ap (λ (y : Operation). y.generation) same)
         (fresh_from (states t) was was.line x r (ap (λ (y : Operation). fresh_in x y.line) (sym same) ∙ e))
+    fresh_by k found x r (gave was answer is runs may it) unmarked e = absurd (none-some r (ap (λ (y : Operation). fresh_in x y.line) (sym it) ∙ e))
 
     all_next : AllFalls states run.records last (suc t)
     all_next = record {

@@ -3,7 +3,7 @@ use Rattle.std.proofs.Common.{◌≡◌, ℕ, suc, ◌<◌, List, ◌∷◌, ◌
 use Rattle.proof_generations.specs.Vocabulary.{Writable, Call, Entries, Count, Close, Ref, Node, Indirection, Branch, Single, Tomb, List as Listed, node_at, generation_at, entries_of, Line}
 use Rattle.proof_generations.specs.Vocabulary.{Operation, After, Gives, Read, RootLine, Plain, Bounds, Outcome, Step, WalkLine, handle_of, State, root_of, word_of, word_at, read_step, root_after}
 use Rattle.proof_generations.specs.Vocabulary.{walk_after, walk_after_read, walk_next, walk_after_entry, first_of, rest_of, action_of, line_after, first_line, after_root, given_root}
-use Rattle.proof_generations.specs.Vocabulary.{generation_from, operation_after, Moves, GoesOn, begun_operation, IsRun, noted_progress, noted, moment_at, Moment, progress_of, told_in}
+use Rattle.proof_generations.specs.Vocabulary.{generation_from, operation_after, Moves, GoesOn, begun_operation, IsRun, noted_progress, noted, moment_at, Moment, progress_of, told_in, Runs}
 use Rattle.proof_generations.specs.Beneath.machine_model.specs.declared.lines.Line.TheVariants as line
 use Rattle.proof_generations.specs.Beneath.machine_model.specs.declared.reading.After.TheVariants.{Goes as Continues}
 use Rattle.proof_generations.specs.Beneath.machine_model.specs.declared.steps.Step.TheVariants as step
@@ -14,12 +14,11 @@ use Rattle.proof_generations.specs.Beneath.proof_memory.proofs.Safety.AtEachTime
 use Rattle.proof_generations.specs.Beneath.proof_memory.proofs.Claims.Uses.{safe_of}
 use Rattle.proof_generations.proofs.Roots.Open.{no_close_at}
 use Rattle.proof_generations.proofs.Roots.Along.{ordered_at}
-use Rattle.proof_generations.proofs.Handles.Running.{Comes, began, rested, went, comes}
-use Rattle.proof_generations.specs.Running.{Runs}
+use Rattle.proof_generations.proofs.Handles.Running.{Comes, began, rested, went, comes, gave}
 use Rattle.proof_generations.proofs.Roots.Rooted.{root_given}
 use Rattle.proof_generations.proofs.Falling.Nodes.{used_generation}
 use Rattle.proof_generations.proofs.Lines.Knows.{Knows, IsInner}
-use Rattle.proof_generations.proofs.Lines.Climb.{root_falls}
+use Rattle.proof_generations.proofs.Lines.Own.{begins_falls}
 use Rattle.proof_generations.proofs.Lines.Reader.{KnowsReader}
 use Rattle.proof_generations.proofs.Falling.Runs.{IsOwn, FitsBelow, FallsBelow, LateBelow, Ends, Shut, LateEnd, MainsFall, AllKnow, KnowsGenerations, KnowsWritable, knows_next, marked_knows}
 use Rattle.proof_generations.proofs.Lines.OwnKnows.{inner_knows, inner_generation}
@@ -101,9 +100,8 @@ module _ (limits : Bounds) (states : ℕ → State) (last : ℕ) (run : IsRun li
         let own : IsOwn states last g r = used_generation limits states last run t (omega arith) r (root_found r (root_given (states t) operation l r e)) in (
           g,
           refl,
-          root_falls (states t) operation (IsOwn states last g) (FitsBelow states run.records last (suc t) g) (FallsBelow states run.records last (suc t) g)
-              (LateBelow states run.records last (suc t) now_read g) (Gives r)
-              (λ q same. let one : r ≡ q = cc same in subst (IsOwn states last g) one own),
+          begins_falls (IsOwn states last g) (FitsBelow states run.records last (suc t) g) (FallsBelow states run.records last (suc t) g) (LateBelow states run.records last (suc t) now_read g)
+              operation.call r own,
         )
 
     inner_by : (w : operation.access ≡ Writable) → IsInner operation.line → KnowsWritable states run.records last t was_read operation → KnowsWritable states run.records last (suc t) now_read now
@@ -156,6 +154,7 @@ module _ (limits : Bounds) (states : ℕ → State) (last : ℕ) (run : IsRun li
         subst (KnowsGenerations states run.records last (suc t) (moment_at (run.records (suc t)) (suc k))) (sym it)
         (marked_knows states run.records last (suc t) (moment_at (run.records (suc t)) (suc k)) (marks_in (states t) s) (operation_after (states t) was)
         (goes_knows k was at_was o (subst (λ x. Moves (states t) x o (states (suc t))) is m) g goes_noted))
+    comes_knows k found (gave was answer is at_was may it) = subst (KnowsGenerations states run.records last (suc t) (moment_at (run.records (suc t)) (suc k))) (sym it) ((λ w i. absurd i), (λ r. tt))
 
     pub lines_next : AllKnow states run.records last (suc t)
     lines_next k found runs = comes_knows k found (comes (states t) s o (states (suc t)) m k found runs)

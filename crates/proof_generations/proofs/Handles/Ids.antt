@@ -1,13 +1,13 @@
 -- Ids: each is given once, in the order of begins, so no two running operations have one id.
 use Rattle.std.proofs.Common.{◌≡◌, ℕ, suc, ◌+◌, ◌<◌, ◌≤◌, sym, ap, ◌∙◌, subst, arith, Some}
-use Rattle.proof_generations.specs.Vocabulary.{Call, Operation, Bounds, Outcome, Step, handle_of, State, first_state, with_operation, action_of, operation_after, Begins, Ends, Sweeps, Moves}
-use Rattle.proof_generations.specs.Vocabulary.{begun_operation}
+use Rattle.proof_generations.specs.Vocabulary.{Call, Operation, Bounds, Outcome, Step, handle_of, State, first_state, with_operation, action_of, operation_after, Begins, Ends, Sweeps, GivesUp}
+use Rattle.proof_generations.specs.Vocabulary.{Moves, begun_operation}
 use Rattle.proof_generations.specs.Beneath.machine_model.specs.declared.steps.Step.TheVariants as step
 use Rattle.proof_generations.specs.Beneath.machine_model.specs.Moves.{Goes}
 use Rattle.proof_generations.specs.Beneath.machine_model.proofs.Found.{none_found}
 use Rattle.proof_generations.specs.Beneath.machine_model.proofs.Frames.{acted_framed, begin_counted}
 use Rattle.proof_generations.specs.Beneath.machine_model.proofs.Actors.{mark_one, mark_only}
-use Rattle.proof_generations.proofs.Handles.Running.{Comes, began, rested, went, comes, one_at}
+use Rattle.proof_generations.proofs.Handles.Running.{Comes, began, rested, went, comes, one_at, gave}
 use Rattle.proof_generations.specs.Running.{Runs}
 
 -- ---- how many have begun
@@ -18,6 +18,7 @@ begun_kept state s o after (Begins {actor} {call} d) = omega (arith, begin_count
 begun_kept state s o after (Goes {actor} {operation} d is a g) =
     omega (arith, (acted_framed (with_operation state actor (Some (operation_after state operation))) (handle_of operation.call) (action_of state operation)).begun)
 begun_kept state s o after (Ends d is a) = omega arith
+begun_kept state s o after (GivesUp d is a) = omega arith
 begun_kept state s o after (Sweeps spent) = omega arith
 
 -- one more with a begin
@@ -25,6 +26,7 @@ pub begun_more : (state : State) (s : Step) (o : Outcome) (after : State) → Mo
 begun_more state s o after (Begins {actor} {call} d) other c e = begin_counted state actor call (begun_operation state call)
 begun_more state s o after (Goes d is a g) other c e = let wrong : ⊥ = cc e in absurd wrong
 begun_more state s o after (Ends d is a) other c e = let wrong : ⊥ = cc e in absurd wrong
+begun_more state s o after (GivesUp d is a) other c e = let wrong : ⊥ = cc e in absurd wrong
 begun_more state s o after (Sweeps spent) other c e = let wrong : ⊥ = cc e in absurd wrong
 
 -- ---- ids
@@ -49,6 +51,7 @@ id_from : (state : State) (s : Step) (k : ℕ) (found : Operation) → Comes sta
 id_from state s k found (began call is d it) = new call is (ap (λ (o : Operation). o.id) it)
 id_from state s k found (rested was at_k it other_step) = old (was, at_k, sym (ap (λ (o : Operation). o.id) it ∙ marked_id _ was))
 id_from state s k found (went was is at_k g it) = old (was, at_k, sym (ap (λ (o : Operation). o.id) it ∙ marked_id _ (operation_after state was)))
+id_from state s k found (gave was answer is at_k may it) = old (was, at_k, sym (ap (λ (o : Operation). o.id) it))
 
 below_by : (state : State) (s : Step) (o : Outcome) (after : State) → Moves state s o after → HasIds state → (k id : ℕ) → IdFrom state s k id → id < after.begun
 below_by state s o after m h k id (new call is it) = omega (arith, begun_more state s o after m (suc k) call is)

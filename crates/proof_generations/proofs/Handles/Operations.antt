@@ -6,15 +6,16 @@ use Rattle.std.proofs.lemmas.Bool.{true≢false, false≢true, cond_both, or_par
 use Rattle.std.proofs.lemmas.Option.{none-some, same_Some}
 use Rattle.proof_generations.specs.Vocabulary.{Access, Writable, Call, Operation, Descriptor, Root, Bounds, Outcome, Step, handle_of, is_close, opens_handle, State, first_state, root_at, word_of}
 use Rattle.proof_generations.specs.Vocabulary.{word_at, operation_of, handle_limit, action_of, line_action, line_after, operation_after, gone, mark_after, begin_denial, handle_closed, access_of}
-use Rattle.proof_generations.specs.Vocabulary.{runs_on, is_taken, is_number, reserved_by, taken_below, handles_taken, least_from, least_free, Begins, Ends, Sweeps, Moves, GoesOn, begun_operation}
-use Rattle.proof_generations.specs.Vocabulary.{IsRun, is_carried_out}
+use Rattle.proof_generations.specs.Vocabulary.{runs_on, is_taken, is_number, reserved_by, taken_below, handles_taken, least_from, least_free, Begins, Ends, Sweeps, GivesUp, Moves, GoesOn}
+use Rattle.proof_generations.specs.Vocabulary.{begun_operation, IsRun, is_carried_out, gave_up, Reply}
 use Rattle.proof_generations.specs.Beneath.machine_model.specs.declared.steps.Step.TheVariants as step
 use Rattle.proof_generations.specs.Beneath.machine_model.specs.Moves.{Goes}
 use Rattle.proof_generations.specs.Beneath.machine_model.proofs.Actors.{mark_one, mark_only, marks_in, marks_by, marks_of}
 use Rattle.proof_generations.specs.Beneath.machine_model.proofs.Found.{found_elsewhere, found_here, none_found}
 use Rattle.proof_generations.specs.Beneath.machine_model.proofs.Times.{at_each_time}
+use Rattle.proof_generations.specs.Beneath.machine_model.specs.declared.lines.Line.TheVariants as line
 use Rattle.proof_generations.specs.Beneath.proof_memory.proofs.Safety.Base.{running_on, closed_root, close_denied, handle_given}
-use Rattle.proof_generations.proofs.Handles.Running.{Comes, began, rested, went, comes, one_at}
+use Rattle.proof_generations.proofs.Handles.Running.{Comes, began, rested, went, comes, one_at, gave}
 use Rattle.proof_generations.specs.Running.{Runs}
 use Rattle.proof_generations.proofs.Offers.Standing.{own_numbers}
 use Rattle.proof_generations.proofs.Offers.Same.{HasOffers, same_offer, has_offers_after, no_offers_at_first}
@@ -120,15 +121,15 @@ pub record Ran (state : State) (s : Step) (k : ℕ) (found : Operation) : Type 0
   pub call : found.call ≡ was.call
   pub access : found.access ≡ was.access
   pub opens : found.opens ≡ was.opens
-  -- it stands where it stood, or where its step leads
-  pub line : (found.line ≡ was.line) ⊎ ((s ≡ step.Go (suc k)) × (found.line ≡ line_after state was was.line))
+  -- it stands where it stood, or where its step leads, or it gave up
+  pub line : (found.line ≡ was.line) ⊎ (((s ≡ step.Go (suc k)) × (found.line ≡ line_after state was was.line)) ⊎ ((answer : Reply) × (found.line ≡ line.End answer)))
   -- not marked: it wasn't before, and the step doesn't mark it
   pub unmarked : found.is_marked ≡ false → was.is_marked ≡ false
   pub not_marked : found.is_marked ≡ false → marks_in state s ≡ Some was.id → ⊥
 
 module _ (state : State) (I : HasOffers state) (H : HasHandles state) where
   ran_so : (s : Step) (k : ℕ) (was next found : Operation) → Runs state k was → next.id ≡ was.id → next.call ≡ was.call → next.access ≡ was.access → next.opens ≡ was.opens →
-      ((next.line ≡ was.line) ⊎ ((s ≡ step.Go (suc k)) × (next.line ≡ line_after state was was.line))) → (next.is_marked ≡ false → was.is_marked ≡ false) →
+      ((next.line ≡ was.line) ⊎ (((s ≡ step.Go (suc k)) × (next.line ≡ line_after state was was.line)) ⊎ ((answer : Reply) × (next.line ≡ line.End answer)))) → (next.is_marked ≡ false → was.is_marked ≡ false) →
       found ≡ mark_one (marks_in state s) next → Ran state s k found
   ran_so s k was next found at_k id call access opening from unmarked it =
       let same = it ∙ mark_only (marks_in state s) next in
@@ -141,7 +142,8 @@ module _ (state : State) (I : HasOffers state) (H : HasHandles state) where
         opens = ap (λ (x : Operation). x.opens) same ∙ opening;
         line = elim from [
           | inl stays ↦ inl (ap (λ (x : Operation). x.line) same ∙ stays)
-          | inr goes ↦ inr (goes.0, ap (λ (x : Operation). x.line) same ∙ goes.1)
+          | inr (inl goes) ↦ inr (inl (goes.0, ap (λ (x : Operation). x.line) same ∙ goes.1))
+          | inr (inr ended) ↦ inr (inr (ended.0, ap (λ (x : Operation). x.line) same ∙ ended.1))
         ];
         unmarked = λ e. unmarked (unmarked_before (marks_in state s) next (ap (λ (x : Operation). x.is_marked) (sym it) ∙ e));
         not_marked = λ e m. true≢false (sym (marks_mark (marks_in state s) next (m ∙ ap Some (sym id))) ∙ ap (λ (x : Operation). x.is_marked) (sym it) ∙ e);
@@ -161,7 +163,9 @@ module _ (state : State) (I : HasOffers state) (H : HasHandles state) where
       Ran state s k found ⊎ ((call : Call) × (s ≡ step.Begin (suc k) call) × (begin_denial state (suc k) call ≡ None) × (found ≡ begun_operation state call))
   ran_or_began s k found (began call is d it) = inr (call, is, d, it)
   ran_or_began s k found (rested was at_k it other_step) = inl (ran_so s k was was found at_k refl refl refl refl (inl refl) (λ e. e) it)
-  ran_or_began s k found (went was is at_k g it) = inl (ran_so s k was (operation_after state was) found at_k refl refl refl refl (inr (is, refl)) (kept_mark k was at_k g) it)
+  ran_or_began s k found (went was is at_k g it) = inl (ran_so s k was (operation_after state was) found at_k refl refl refl refl (inr (inl (is, refl))) (kept_mark k was at_k g) it)
+  ran_or_began s k found (gave was answer is at_k may it) =
+      inl (ran_so s k was (gave_up was answer) found at_k refl refl refl refl (inr (inr (answer, refl))) (λ e. e) (it ∙ ap (λ q. mark_one (marks_in state q) (gave_up was answer)) (sym is)))
 
   -- ---- open handles
 
@@ -183,6 +187,7 @@ module _ (state : State) (I : HasOffers state) (H : HasHandles state) where
   stays s o after (Goes {actor} {operation} d is a g) handle root e not_closed =
       stays_open _ (handle_of operation.call) handle root e (action_of state operation) (λ offer c. opens_new actor operation handle root is e offer (here actor operation _ offer refl c))
   stays s o after (Ends d is a) handle root e not_closed = (root, e, refl)
+  stays s o after (GivesUp d is a) handle root e not_closed = (root, e, refl)
   stays s o after (Sweeps spent) handle root e not_closed = (root, e, refl)
 
   pub stays_none : (s : Step) (o : Outcome) (after : State) → Moves state s o after → (n : ℕ) → root_at state n ≡ None →
@@ -203,6 +208,7 @@ module _ (state : State) (I : HasOffers state) (H : HasHandles state) where
           absurd (from _ refl now (root_from _ (handle_of operation.call) n now (action_of state operation)
           (λ own settled stands. same_offer state I actor operation own is settled (handle_of operation.call) stands) e))
   stays_none s o after (Ends d is a) n none not_opened = none
+  stays_none s o after (GivesUp d is a) n none not_opened = none
   stays_none s o after (Sweeps spent) n none not_opened = none
 
   same_call : (s : Step) (a b : ℕ) (x y : Call) → s ≡ step.Begin a x → s ≡ step.Begin b y → x ≡ y

@@ -1,27 +1,44 @@
 -- A step of an operation on a writable handle hands on what its line knows of generations.
-use Rattle.std.proofs.Common.{◌≡◌, ℕ, ◌-◌, true, List, length, Some, sym, ap, subst, ltb-true}
+use Rattle.std.proofs.Common.{◌≡◌, ℕ, ◌∷◌, ◌++◌, [], Bool, true, false, List, length, Some, sym, ap, subst, ◌∙◌, ltb-true, arith}
 use Rattle.std.specs.List.{All}
-use Rattle.std.proofs.lemmas.List.Elements.{All-get_or}
-use Rattle.proof_generations.specs.Vocabulary.{Writable, Ref, Indirection, node_at, entry_at, entries_of, next_ref, no_ref, CopyLine, KeyLine, Line, Operation, Gives, Read, CleanLine, ClimbLine}
-use Rattle.proof_generations.specs.Vocabulary.{RenewLine, handle_of, State, word_at, is_start, read_step, reading, next_entry, is_plain, after_complete, root_after, line_action, line_after}
+use Rattle.std.proofs.lemmas.List.Elements.{All-append, All-get_or, All-head, All-nil}
+use Rattle.proof_generations.specs.Vocabulary.{Call, Clear, Snapshot, Freeze, Writable, Ref, Node, Indirection, node_at, entry_at, entries_of, next_ref, no_ref, BuildLine, CopyLine, KeyLine, Line}
+use Rattle.proof_generations.specs.Vocabulary.{Purpose, Operation, Gives, Read, Swap, SwapLine, Climb, CleanLine, ClimbLine, RenewLine, Descriptor, State, is_start, passes, read_step, reading}
+use Rattle.proof_generations.specs.Vocabulary.{next_entry, above, higher, line_action, line_after}
+use Rattle.proof_generations.specs.Beneath.machine_model.specs.Operations.{from_root}
+use Rattle.proof_generations.specs.Beneath.machine_model.specs.declared.building.BuildLine.TheVariants as build
 use Rattle.proof_generations.specs.Beneath.machine_model.specs.declared.copying.CopyLine.TheVariants as copy
-use Rattle.proof_generations.specs.Beneath.machine_model.specs.declared.finding.KeyLine.TheVariants as key
 use Rattle.proof_generations.specs.Beneath.machine_model.specs.declared.lines.Line.TheVariants as line
 use Rattle.proof_generations.specs.Beneath.machine_model.specs.declared.reading.After.TheVariants.{Goes}
 use Rattle.proof_generations.specs.Beneath.machine_model.specs.declared.repairs.CleanLine.TheVariants as clean
 use Rattle.proof_generations.specs.Beneath.machine_model.specs.declared.repairs.ClimbLine.TheVariants as climb
 use Rattle.proof_generations.specs.Beneath.machine_model.specs.declared.repairs.RenewLine.TheVariants as renew
-use Rattle.proof_generations.specs.Beneath.machine_model.specs.Swapping.{after_swap}
+use Rattle.proof_generations.specs.Beneath.machine_model.specs.Edges.Key.{FoundEdge, KeyEdge, answers, sets, asks_sibling, misses_absent, cleans, goes_down, renews, renews_none, finds}
+use Rattle.proof_generations.specs.Beneath.machine_model.specs.Edges.Key.{misses_beside, finds_listed, crowds, misses_listed}
+use Rattle.proof_generations.specs.Beneath.machine_model.specs.Edges.Key.{entombs_sibling, keeps_sibling}
+use Rattle.proof_generations.specs.Beneath.machine_model.specs.Edges.Roots.{CopyEdge, gives_clear, wants_second, offers_one, offers_two, empty_made, offers_cleared}
+use Rattle.proof_generations.specs.Beneath.machine_model.specs.Edges.Repairs.{RenewNext, RenewEdge, meets_older, keeps_own, links, branches, CleanNext, unchanged, CleanEdge, meets_link, child_on}
+use Rattle.proof_generations.specs.Beneath.machine_model.specs.Edges.Repairs.{child_given, untombs, keeps_link}
+use Rattle.proof_generations.specs.Beneath.machine_model.specs.Edges.Repairs.{ClimbingEdge, climbs, ClimbEdge, goes_up, holds, root_on, again}
+use Rattle.proof_generations.specs.Beneath.machine_model.specs.Edges.Building.{BuildEdge, single_absent, single_at, single_beside, pair_made, link_top, link_below, rung_made, main_made, SwappedEdge}
+use Rattle.proof_generations.specs.Beneath.machine_model.specs.Edges.Building.{entombed, renewed, climbs_on, climb_lost, SwapEdge}
+use Rattle.proof_generations.specs.Beneath.machine_model.specs.Edges.Building.{succeeds, is_undecided}
+use Rattle.proof_generations.specs.Beneath.machine_model.specs.Edges.Lines.{Edge, of_key, of_build, of_swap, of_renew, of_clean, of_climb, of_copy, of_root, of_walk, stays}
+use Rattle.proof_generations.specs.Beneath.machine_model.proofs.Edges.Lines.{edge}
 use Rattle.proof_generations.specs.Beneath.proof_memory.specs.Wants.{WithEntry, Is, Holds, AllHold, line_wants, action_wants}
 use Rattle.proof_generations.specs.Beneath.proof_memory.proofs.Claims.Uses.{safe_of, meets_of}
 use Rattle.proof_commits.specs.Protocol.{Reads}
 use Rattle.proof_commits.specs.Stages.{stage_of}
-use Rattle.proof_generations.proofs.Lines.Knows.{Knows, IsInner, KnowsKey, KnowsRenew, KnowsClean, KnowsClimb, KnowsCopy}
-use Rattle.proof_generations.proofs.Lines.Key.{key_read_falls, key_main_falls, key_entry_falls, key_listed_falls, key_sibling_falls}
-use Rattle.proof_generations.proofs.Lines.Build.{build_falls, BuildMakes, swap_falls}
-use Rattle.proof_generations.proofs.Lines.Repair.{renew_entry_falls, renew_read_falls, renew_link_falls, renew_branch_falls, clean_read_falls, clean_main_falls, clean_entry_falls}
-use Rattle.proof_generations.proofs.Lines.Repair.{clean_child_falls, clean_tomb_falls, clean_contracted_falls}
-use Rattle.proof_generations.proofs.Lines.Climb.{climb_read_falls, climb_main_falls, climb_contracted_falls, climb_root_falls, copy_read_falls, copy_made_falls, CopyMakes, offer_falls, complete_falls}
+use Rattle.proof_generations.proofs.Lines.Copy.{same_offer_after}
+use Rattle.proof_generations.proofs.Lines.Knows.{Knows, IsInner, KnowsKey, KnowsBuild, KnowsRenew, KnowsClean, KnowsClimb, KnowsCopy, KnowsDone, FallsOn, OwnPath, own_current, own_pushed}
+use Rattle.proof_generations.proofs.Lines.Knows.{own_above, one_of}
+
+-- where a try begins
+pub begins_falls : (Own Fits Falls : Ref → Type 0) (Late : Read → Type 0) (call : Call) (r : Ref) → Own r → Knows Own Fits Falls Late (from_root call r)
+begins_falls Own Fits Falls Late (Clear h) r own = (own, own)
+begins_falls Own Fits Falls Late (Snapshot h) r own = (own, own)
+begins_falls Own Fits Falls Late (Freeze h) r own = (own, own)
+begins_falls Own Fits Falls Late call r own = ((omega arith, one_of Own r own), own)
 
 -- Own, Fits and Falls speak of the time after the step; of the READ in which the line is, Was speaks of the time before it, and Late of that after it. A READ goes
 -- on with its indirection, and gives what falls.
@@ -46,34 +63,97 @@ module _ (state : State) (operation : Operation) (Own Fits Falls : Ref → Type 
   abbrev Acts : Line → Type 0
   Acts l = AllHold S state.heap (action_wants (line_action state operation l))
 
-  -- what is known of a node that the line makes
+  -- what is known of a node that the line makes: a clear makes a branch without entries
   abbrev pub LineMakes : Line → Ref → Type 0
-  LineMakes (line.Build l) made = BuildMakes state operation Own Fits Falls Late l made
+  LineMakes (line.Build (build.Single path main site former)) made = Fits made
+  LineMakes (line.Build (build.Pair path main position single depth)) made = Falls made
+  LineMakes (line.Build (build.Link path main position below depth)) made = Own made
+  LineMakes (line.Build (build.Rung path main position below depth)) made = Falls made
+  LineMakes (line.Build (build.Main path main c former)) made = Falls made
   LineMakes (line.Renew (renew.Link path main done child)) made = Fits made
   LineMakes (line.Renew (renew.Branch path main done)) made = Falls made
   LineMakes (line.Clean (clean.Contracted path main done)) made = Falls made
   LineMakes (line.Climb (climb.Contracted c main)) made = Falls made
-  LineMakes (line.Copy l) made = CopyMakes state operation Own Fits Falls Late l made
+  LineMakes (line.Copy (copy.Empty root main)) made = Falls made
   LineMakes l made = Unit {0}
 
   abbrev pub Makes : Line → Type 0
   Makes l = (made : Ref) → next_ref state.heap ≡ Some made → LineMakes l made
 
   -- a READ of the operation's own path
-  own_goes : (r : Read) → Own r.indirection → (next : Read) → read_step state operation r ≡ Goes next → Own next.indirection
-  own_goes r own next e = subst Own (sym (step.goes r next e)) own
+  own_goes : (r next : Read) → read_step state operation r ≡ Goes next → Own r.indirection → Own next.indirection
+  own_goes r next e own = subst Own (sym (step.goes r next e)) own
 
-  key_own : (l : KeyLine) → operation.line ≡ line.Key l → KnowsKey Own Fits Falls Was l → Acts (line.Key l) → K (line_after state operation (line.Key l))
-  key_own (key.Read path r) is k a =
-      key_read_falls state operation Own Fits Falls Late path k.0 (read_step state operation r) (own_goes r k.1) (λ m e. step.own_gives r m (ap stage_of is) k.1 e)
-  key_own (key.Main path main) is k a = key_main_falls state operation Own Fits Falls Late path main k (node_at state.heap main)
-  key_own (key.Entry path main position) is k a =
-      key_entry_falls state operation Own Fits Falls Late path main k position step.writable (node_at state.heap (entry_at state.heap main position))
-      (λ h word e same. step.looked (entry_at state.heap main position) h word (safe_of a.0) e same)
-  key_own (key.Listed path main position) is k a =
-      key_listed_falls state operation Own Fits Falls Late path main k position (node_at state.heap (entry_at state.heap main position))
-  key_own (key.Sibling path main position former) is k a =
-      key_sibling_falls state operation Own Fits Falls Late path main k position former (entry_at state.heap main (1 - position)) (node_at state.heap (entry_at state.heap main (1 - position)))
+  -- ---- KEY and BUILD
+
+  found_own : (path : List Ref) (main : Ref) (position v : ℕ) (next : Line) → FoundEdge state operation path main position v next → FallsOn Own Fits Falls Was path main → K next
+  found_own path main position v next (answers answer e) k = tt
+  found_own path main position v next (sets e) k = k
+  found_own path main position v next (asks_sibling takes b es e two) k = k
+  found_own path main position v next FoundEdge.strays k = tt
+  found_own path main position v next edge k = (k, tt)
+
+  -- a writable operation goes down to an indirection of its own generation alone
+  key_own : (l : KeyLine) (next : Line) → KeyEdge state operation l next → operation.line ≡ line.Key l → KnowsKey Own Fits Falls Was l → Acts (line.Key l) → K next
+  key_own l next (KeyEdge.reads_on path r n e) is k a = (k.0, own_goes r n e k.1)
+  key_own l next (KeyEdge.gives path r main e) is k a = (k.0, step.own_gives r main (ap stage_of is) k.1 e)
+  key_own l next (misses_absent path main b es e none out) is k a = tt
+  key_own l next (cleans path main single e w below) is k a = (own_above Own path k.0 below, own_current Own _ (own_above Own path k.0 below))
+  key_own l next (goes_down path main position h word e pass) is k a =
+      let mine = step.looked (entry_at state.heap main position) h word (safe_of a.0) e (sym (ap (λ x. passes x (is_start operation h)) step.writable) ∙ pass) in
+      (own_pushed Own path k.0 _ mine, mine)
+  key_own l next (renews path main position h word e older some) is k a = (k, All-nil Fits)
+  key_own l next (renews_none path main position h word e older none) is k a = (k, All-nil Fits)
+  key_own l next (finds path main position old v n e same found) is k a = found_own path main position v next found k
+  key_own l next (misses_beside path main position old v e apart out) is k a = tt
+  key_own l next (finds_listed path main position old v n e same found) is k a = found_own path main position v next found k
+  key_own l next (crowds path main position old v e apart last full) is k a = tt
+  key_own l next (misses_listed path main position old v e apart last out) is k a = tt
+  key_own l next (entombs_sibling path main position former old v e) is k a = (k, tt)
+  key_own l next (keeps_sibling path main position former h word e) is k a = (k, tt)
+  key_own l next (KeyEdge.strays m) is k a = tt
+  key_own l next edge is k a = k
+
+  build_own : (l : BuildLine) (next : Line) → BuildEdge state operation l next → KnowsBuild Own Fits Falls Was l → Makes (line.Build l) → K next
+  build_own l next (BuildEdge.no_slot m e) k makes = tt
+  build_own l next (single_absent path main former made e) k makes = (k, tt)
+  build_own l next (single_at path main former position made e) k makes = (k, makes made e)
+  build_own l next (single_beside path main former position made e) k makes = k
+  build_own l next (pair_made path main position single depth made e) k makes = (k, makes made e)
+  build_own l next (link_top path main position below depth made e top) k makes = (k.0, step.own_fits made (makes made e))
+  build_own l next (link_below path main position below depth made e lower) k makes = (k.0, makes made e)
+  build_own l next (rung_made path main position below depth made e) k makes = (k.0, makes made e)
+  build_own l next (main_made path main c former made e) k makes = (own_current Own path k.0.0, makes made e, k.0.0)
+
+  -- ---- CLIMB, and after a SWAP
+
+  climbing_own : (c : Climb) (next : Line) → ClimbingEdge operation c next → OwnPath Own c.path → K next
+  climbing_own c next (climbs below) own = ((own, own_above Own c.path own below), own_current Own _ (own_above Own c.path own below))
+  climbing_own c next edge own = tt
+
+  climb_own : (l : ClimbLine) (next : Line) → ClimbEdge state operation l next → operation.line ≡ line.Climb l → KnowsClimb Own Fits Falls Was l → Makes (line.Climb l) → K next
+  climb_own l next (ClimbEdge.reads_on c r n e) is k makes = (k.0, own_goes r n e k.1)
+  climb_own l next (ClimbEdge.gives c r main e) is k makes = (k.0, step.own_gives r main (ap stage_of is) k.1 e)
+  climb_own l next (goes_up c main single n e up) is k makes = climbing_own (higher c single) next up k.0.1
+  climb_own l next (holds c main b es e it) is k makes = k
+  climb_own l next (ClimbEdge.contracts c main made e) is k makes = (own_current Own (above c.path) k.0.1, makes made e, k.0)
+  climb_own l next (root_on c m n e) is k makes = k
+  climb_own l next (again c m r n e own up) is k makes = climbing_own c next up k.0
+  climb_own l next edge is k makes = tt
+
+  swapped_own : (s : Swap) (node : Node) (why : Purpose) (done : Bool) (next : Line) → SwappedEdge operation node why done next → K (line.Swap why s) → K next
+  swapped_own s node why done next (entombed path former single n e up) k = climbing_own _ next up k.2
+  swapped_own s node why done next (renewed path) k = (k.2, own_current Own path k.2)
+  swapped_own s node why done next (climbs_on c single n e up) k = climbing_own (higher c c.single) next up k.2.1
+  swapped_own s node why done next (climb_lost c) k = k.2
+  swapped_own s node why done next edge k = tt
+
+  swap_own : (why : Purpose) (s : Swap) (l : SwapLine) (next : Line) → SwapEdge state operation why s l next → K (line.Swap why s) → K next
+  swap_own why s l next (SwapEdge.comes_late n e swapped) k = swapped_own s _ why false next swapped k
+  swap_own why s l next (succeeds n e swapped) k = swapped_own s _ why true next swapped k
+  swap_own why s l next (is_undecided previous n e swapped) k = swapped_own s _ why false next swapped k
+  swap_own why s l next (SwapEdge.fails previous n e swapped) k = swapped_own s _ why false next swapped k
+  swap_own why s l next edge k = k
 
   -- ---- RENEW and CLEAN
 
@@ -83,65 +163,78 @@ module _ (state : State) (operation : Operation) (Own Fits Falls : Ref → Type 
       All-get_or Fits (entries_of (node_at state.heap main)) (length done) no_ref
       (ltb-true (length done) (length (entries_of (node_at state.heap main))) (meets_of within)) (step.entries_fit main used falls)
 
-  renew_own : (l : RenewLine) → operation.line ≡ line.Renew l → KnowsRenew Own Fits Falls Was l → Wants (line.Renew l) → Acts (line.Renew l) →
-      Makes (line.Renew l) → K (line_after state operation (line.Renew l))
-  renew_own (renew.Entry path main done) is k w a makes =
-      let fits = next_fits main done (safe_of w.1.1.0) k.0.1 w.1.1.1.1.0 in
-      renew_entry_falls state operation Own Fits Falls Late path main done k fits (node_at state.heap (next_entry state main done))
-      (λ h word e other. step.begins (next_entry state main done) h word (safe_of a.0) e fits)
-  renew_own (renew.Read path main done r) is k w a makes =
-      renew_read_falls state operation Own Fits Falls Late path main done k.0 (read_step state operation r) (λ next e. step.late_goes r next (ap stage_of is) k.1 e)
-      (λ m e. step.late_gives r m (ap stage_of is) k.1 e)
-  renew_own (renew.Link path main done child) is k w a makes = renew_link_falls state operation Own Fits Falls Late path main done k.0 (next_ref state.heap) makes
-  renew_own (renew.Branch path main done) is k w a makes = renew_branch_falls state operation Own Fits Falls Late path main done k (next_ref state.heap) makes
+  -- with one more
+  one_more : (path : List Ref) (main : Ref) (done : List Ref) (other : Ref) → KnowsDone Own Fits Falls Was path main done → Fits other → All Fits (done ++ other ∷ [])
+  one_more path main done other k fits = All-append Fits done (other ∷ []) k.1 (one_of Fits other fits)
 
-  clean_own : (l : CleanLine) → operation.line ≡ line.Clean l → KnowsClean Own Fits Falls Was l → Wants (line.Clean l) → Acts (line.Clean l) →
-      Makes (line.Clean l) → K (line_after state operation (line.Clean l))
-  clean_own (clean.Read path r) is k w a makes =
-      clean_read_falls state operation Own Fits Falls Late path k.0 (read_step state operation r) (own_goes r k.1) (λ m e. step.own_gives r m (ap stage_of is) k.1 e)
-  clean_own (clean.Main path main) is k w a makes = clean_main_falls state operation Own Fits Falls Late path main k (node_at state.heap main)
-  clean_own (clean.Entry path main done) is k w a makes =
-      let fits = next_fits main done (safe_of w.1.1.0) k.0.1 w.1.1.1.1.0 in
-      clean_entry_falls state operation Own Fits Falls Late path main done k fits (node_at state.heap (next_entry state main done))
-      (λ h word e. step.begins (next_entry state main done) h word (safe_of a.0) e fits)
-  clean_own (clean.Child path main done r) is k w a makes =
-      clean_child_falls state operation Own Fits Falls Late path main done k.0 (read_step state operation r)
-      (λ next e. step.late_goes r next (ap stage_of is) k.1 e) (λ m e. step.late_gives r m (ap stage_of is) k.1 e)
-  clean_own (clean.Tomb path main done child) is k w a makes =
-      clean_tomb_falls state operation Own Fits Falls Late path main done k.0 (next_fits main done (safe_of w.1.1.0) k.0.0.1 w.1.1.1.1.0) (node_at state.heap child)
-      (step.entries_fit child (safe_of w.1.1.1.1.1.0) k.1)
-  clean_own (clean.Contracted path main done) is k w a makes = clean_contracted_falls state operation Own Fits Falls Late path main done k (next_ref state.heap) makes
+  renew_next_own : (path : List Ref) (main : Ref) (done : List Ref) (next : Line) → RenewNext state path main done next → FallsOn Own Fits Falls Was path main → All Fits done → K next
+  renew_next_own path main done next (RenewNext.more e) k fits = (k, fits)
+  renew_next_own path main done next edge k fits = (k, fits)
 
-  -- ---- CLIMB and COPY
+  renew_own : (l : RenewLine) (next : Line) → RenewEdge state operation l next → operation.line ≡ line.Renew l → KnowsRenew Own Fits Falls Was l → Wants (line.Renew l) → Acts (line.Renew l) →
+      Makes (line.Renew l) → K next
+  renew_own l next (meets_older path main done h word e older) is k w a makes =
+      (k, step.begins (next_entry state main done) h word (safe_of a.0) e (next_fits main done (safe_of w.1.1.0) k.0.1 w.1.1.1.1.0))
+  renew_own l next (keeps_own path main done h word n e own on) is k w a makes =
+      renew_next_own path main _ next on k.0 (one_more path main done _ k (next_fits main done (safe_of w.1.1.0) k.0.1 w.1.1.1.1.0))
+  renew_own l next (RenewEdge.keeps_single path main done old v n e on) is k w a makes =
+      renew_next_own path main _ next on k.0 (one_more path main done _ k (next_fits main done (safe_of w.1.1.0) k.0.1 w.1.1.1.1.0))
+  renew_own l next (RenewEdge.reads_on path main done r n e) is k w a makes = (k.0, step.late_goes r n (ap stage_of is) k.1 e)
+  renew_own l next (RenewEdge.gives path main done r child e) is k w a makes = (k.0, step.late_gives r child (ap stage_of is) k.1 e)
+  renew_own l next (links path main done child made n e on) is k w a makes = renew_next_own path main _ next on k.0.0 (one_more path main done made k.0 (makes made e))
+  renew_own l next (branches path main done made e) is k w a makes = (own_current Own path k.0.0, makes made e, k.0.0)
+  renew_own l next edge is k w a makes = tt
 
-  climb_own : (l : ClimbLine) → operation.line ≡ line.Climb l → KnowsClimb Own Fits Falls Was l → Makes (line.Climb l) → K (line_after state operation (line.Climb l))
-  climb_own (climb.Read c r) is k makes =
-      climb_read_falls state operation Own Fits Falls Late c k.0 (read_step state operation r) (own_goes r k.1) (λ m e. step.own_gives r m (ap stage_of is) k.1 e)
-  climb_own (climb.Main c main) is k makes = climb_main_falls state operation Own Fits Falls Late c k.0 main k.1 (node_at state.heap main)
-  climb_own (climb.Contracted c main) is k makes = climb_contracted_falls state operation Own Fits Falls Late c k.0 main (next_ref state.heap) makes
-  climb_own (climb.Root c l) is k makes = climb_root_falls state operation Own Fits Falls Late c k (root_after state.heap operation.access (word_at state (handle_of operation.call)) l)
+  clean_next_own : (path : List Ref) (main : Ref) (done : List Ref) (next : Line) → CleanNext state path main done next → FallsOn Own Fits Falls Was path main → All Fits done → K next
+  clean_next_own path main done next (unchanged e same) k fits = tt
+  clean_next_own path main done next edge k fits = (k, fits)
 
-  copy_own : (l : CopyLine) → operation.line ≡ line.Copy l → KnowsCopy Own Fits Falls Was l → Makes (line.Copy l) → K (line_after state operation (line.Copy l))
-  copy_own (copy.Read root r) is k makes =
-      copy_read_falls state operation Own Fits Falls Late root k.0 (read_step state operation r) (own_goes r k.1) (λ m e. step.own_gives r m (ap stage_of is) k.1 e)
-  copy_own (copy.Successor root main) is k makes = copy_made_falls state operation Own Fits Falls Late (copy.Successor root main) k (next_ref state.heap) makes
-  copy_own (copy.Second root main successor) is k makes = copy_made_falls state operation Own Fits Falls Late (copy.Second root main successor) k (next_ref state.heap) makes
-  copy_own (copy.Empty root main) is k makes = copy_made_falls state operation Own Fits Falls Late (copy.Empty root main) k (next_ref state.heap) makes
-  copy_own (copy.Cleared root main branch) is k makes = copy_made_falls state operation Own Fits Falls Late (copy.Cleared root main branch) k (next_ref state.heap) makes
-  copy_own (copy.Offer offer) is k makes = offer_falls state operation Own Fits Falls Late offer k (is_plain (word_at state (handle_of operation.call)) offer.root)
-  copy_own (copy.Complete c) is k makes =
-      complete_falls state operation Own Fits Falls Late c.offer k (after_complete state.heap operation.access (word_at state (handle_of operation.call)) c.offer c.line)
+  clean_own : (l : CleanLine) (next : Line) → CleanEdge state operation l next → operation.line ≡ line.Clean l → KnowsClean Own Fits Falls Was l → Wants (line.Clean l) → Acts (line.Clean l) →
+      Makes (line.Clean l) → K next
+  clean_own l next (CleanEdge.reads_on path r n e) is k w a makes = (k.0, own_goes r n e k.1)
+  clean_own l next (CleanEdge.gives path r main e) is k w a makes = (k.0, step.own_gives r main (ap stage_of is) k.1 e)
+  clean_own l next (CleanEdge.begins path main b es n e on) is k w a makes = clean_next_own path main [] next on k (All-nil Fits)
+  clean_own l next (meets_link path main done h word e) is k w a makes =
+      (k, step.begins (next_entry state main done) h word (safe_of a.0) e (next_fits main done (safe_of w.1.1.0) k.0.1 w.1.1.1.1.0))
+  clean_own l next (CleanEdge.keeps_single path main done old v n e on) is k w a makes =
+      clean_next_own path main _ next on k.0 (one_more path main done _ k (next_fits main done (safe_of w.1.1.0) k.0.1 w.1.1.1.1.0))
+  clean_own l next (child_on path main done r n e) is k w a makes = (k.0, step.late_goes r n (ap stage_of is) k.1 e)
+  clean_own l next (child_given path main done r child e) is k w a makes = (k.0, step.late_gives r child (ap stage_of is) k.1 e)
+  clean_own l next (untombs path main done child single n e on) is k w a makes =
+      let below : All Fits (single ∷ []) = subst (λ x. All Fits (entries_of x)) e (step.entries_fit child (safe_of w.1.1.1.1.1.0) k.1) in
+      clean_next_own path main _ next on k.0.0 (one_more path main done single k.0 (All-head Fits single [] below))
+  clean_own l next (keeps_link path main done child n on) is k w a makes =
+      clean_next_own path main _ next on k.0.0 (one_more path main done _ k.0 (next_fits main done (safe_of w.1.1.0) k.0.0.1 w.1.1.1.1.0))
+  clean_own l next (CleanEdge.contracts path main done made e) is k w a makes = (own_current Own path k.0.0, makes made e, tt)
+  clean_own l next edge is k w a makes = tt
+
+  -- ---- COPY
+
+  copy_own : (l : CopyLine) (next : Line) → CopyEdge state operation l next → operation.line ≡ line.Copy l → KnowsCopy Own Fits Falls Was l → Makes (line.Copy l) → K next
+  copy_own l next (CopyEdge.reads_on root r n e) is k makes = (k.0, own_goes r n e k.1)
+  copy_own l next (CopyEdge.gives root r main e other) is k makes = (k.0, step.own_gives r main (ap stage_of is) k.1 e)
+  copy_own l next (gives_clear root r main e clear) is k makes = k.0
+  copy_own l next (wants_second root main made e snapshot) is k makes = k
+  copy_own l next (offers_one root main made e other) is k makes = k.0
+  copy_own l next (offers_two root main successor made e) is k makes = k.0
+  copy_own l next (empty_made root main made e) is k makes = (k, makes made e)
+  copy_own l next (offers_cleared root main branch made e) is k makes = k.0
+  copy_own l next (CopyEdge.offers offer e) is k makes = k
+  copy_own l next (CopyEdge.completes_on c n e) is k makes = subst (λ (d : Descriptor). Own d.root) (sym (same_offer_after state operation c n e)) k
+  copy_own l next edge is k makes = tt
+
+  own_by : (l next : Line) → Edge state operation l next → operation.line ≡ l → IsInner l → Knows Own Fits Falls Was l → Wants l → Acts l → Makes l → K next
+  own_by l next (of_key m n edge) is i k w a makes = key_own m next edge is k a
+  own_by l next (of_build m n edge) is i k w a makes = build_own m next edge k makes
+  own_by l next (of_swap why s n edge) is i k w a makes = swap_own why s s.line next edge k
+  own_by l next (of_renew m n edge) is i k w a makes = renew_own m next edge is k w a makes
+  own_by l next (of_clean m n edge) is i k w a makes = clean_own m next edge is k w a makes
+  own_by l next (of_climb m n edge) is i k w a makes = climb_own m next edge is k makes
+  own_by l next (of_copy m n edge) is i k w a makes = copy_own m next edge is k makes
+  own_by l next (of_root m n edge) is i k w a makes = absurd i
+  own_by l next (of_walk m n edge) is i k w a makes = absurd i
+  own_by l next (stays answer) is i k w a makes = absurd i
+  own_by l next Edge.strays is i k w a makes = absurd i
 
   pub own_falls : (l : Line) → operation.line ≡ l → IsInner l → Knows Own Fits Falls Was l → Wants l → Acts l → Makes l → K (line_after state operation l)
-  own_falls (line.Key l) is i k w a makes = key_own l is k a
-  own_falls (line.Build l) is i k w a makes = build_falls state operation Own Fits Falls Late step.own_fits l k (next_ref state.heap) makes
-  own_falls (line.Swap why s) is i k w a makes =
-      swap_falls state operation Own Fits Falls Late why s k (after_swap state.heap operation.access (word_at state (handle_of operation.call)) s s.line)
-  own_falls (line.Renew l) is i k w a makes = renew_own l is k w a makes
-  own_falls (line.Clean l) is i k w a makes = clean_own l is k w a makes
-  own_falls (line.Climb l) is i k w a makes = climb_own l is k makes
-  own_falls (line.Copy l) is i k w a makes = copy_own l is k makes
-  own_falls (line.Root l) is i k w a makes = absurd i
-  own_falls (line.Walk l) is i k w a makes = absurd i
-  own_falls (line.End answer) is i k w a makes = absurd i
-  own_falls line.Impossible is i k w a makes = absurd i
+  own_falls l = own_by l _ (edge state operation l)

@@ -12,7 +12,7 @@ use Rattle.proof_generations.specs.Beneath.machine_model.specs.declared.reading.
 use Rattle.proof_generations.specs.Beneath.machine_model.specs.declared.roots.CompleteLine.TheVariants as complete
 use Rattle.proof_generations.specs.Beneath.machine_model.specs.declared.steps.Step.TheVariants as step
 use Rattle.proof_generations.specs.Beneath.machine_model.proofs.Actors.{mark_one, mark_only, marks_in, marks_by, marks_of}
-use Rattle.proof_generations.proofs.Handles.Running.{Comes, began, rested, went, comes}
+use Rattle.proof_generations.proofs.Handles.Running.{Comes, began, rested, went, comes, gave}
 use Rattle.proof_generations.specs.Running.{Runs}
 use Rattle.proof_generations.proofs.Handles.Ids.{one_of_id}
 use Rattle.proof_generations.specs.Laws.Roots.{settles}
@@ -75,6 +75,7 @@ module _ (state : State) (I : HasOffers state) where
   marked_in (step.Begin actor call) k owner at_k e = absurd (none-some owner.id e)
   marked_in (step.Go actor) k owner at_k e = marked_by k owner at_k actor (operation_of state actor) refl e
   marked_in step.Sweep k owner at_k e = absurd (none-some owner.id e)
+  marked_in (step.GiveUp actor) k owner at_k e = absurd (none-some owner.id e)
 
 -- ---- what is marked is done
 
@@ -151,6 +152,7 @@ module _ (state : State) (I : HasOffers state) (all : AllDone state) (s : Step) 
         | inl set ↦ all k was at_k set
         | inr not_yet ↦ let h = marked_in state I s k was at_k (mark_cases (marks_in state s) was (ap (λ (x : Operation). x.is_marked) (sym it) ∙ e) not_yet) in done_of was.line h.offer h.completes
       ]
+  done_by k found (gave was answer is at_k may it) e = ap (λ (x : Operation). is_done x.line) it
   done_by k found (went was is at_k g it) e =
       ap (λ (x : Operation). is_done x.line) (it ∙ mark_only (marks_in state s) (operation_after state was)) ∙
       elim (cases_Bool was.is_marked) [

@@ -5,7 +5,7 @@ use Rattle.std.proofs.lemmas.Option.{none-some, same_Some}
 use Rattle.proof_generations.specs.Vocabulary.{Call, Clear, Snapshot, Freeze, Close, Entries, Count, Ref, next_ref, Action, CopyLine, Line, Operation, After, Gives, Read, Complete, Descriptor}
 use Rattle.proof_generations.specs.Vocabulary.{RootLine, Offer, Bounds, Outcome, Step, handle_of, State, first_state, word_at, operation_of, new_try, read_step, is_plain, stands_in, complete_after}
 use Rattle.proof_generations.specs.Vocabulary.{root_after, copy_after_read, copy_if_made, after_given, after_offer, copy_after_complete, copied_reply, action_of, line_action, line_after, first_line}
-use Rattle.proof_generations.specs.Vocabulary.{after_root, operation_after, attempt_after, Moves, IsRun}
+use Rattle.proof_generations.specs.Vocabulary.{after_root, operation_after, attempt_after, Moves, IsRun, Runs, Reply}
 use Rattle.proof_generations.specs.Beneath.machine_model.specs.declared.actions.Action.TheVariants as act
 use Rattle.proof_generations.specs.Beneath.machine_model.specs.declared.copying.CopyLine.TheVariants as copy
 use Rattle.proof_generations.specs.Beneath.machine_model.specs.declared.lines.Line.TheVariants as line
@@ -14,14 +14,13 @@ use Rattle.proof_generations.specs.Beneath.machine_model.specs.Operations.{from_
 use Rattle.proof_generations.specs.Beneath.machine_model.proofs.Found.{none_found}
 use Rattle.proof_generations.specs.Beneath.machine_model.proofs.Actors.{mark_only, marks_in}
 use Rattle.proof_generations.specs.Beneath.machine_model.proofs.Times.{at_each_time}
-use Rattle.proof_generations.proofs.Handles.Running.{Comes, began, rested, went, comes, place_of_actor}
-use Rattle.proof_generations.specs.Running.{Runs}
+use Rattle.proof_generations.proofs.Handles.Running.{Comes, began, rested, went, comes, place_of_actor, gave}
 use Rattle.proof_generations.proofs.Handles.Ids.{HasIds, one_of_id, begun_kept, ids_after, ids_at_first}
 use Rattle.proof_generations.proofs.Lines.Copy.{AllOwn, own_after, is_copy, no_copy_after, complete_tries, same_offer_after}
 use Rattle.proof_generations.specs.Laws.Roots.{settles}
 use Rattle.proof_generations.proofs.Offers.Standing.{own_offer, own_numbers, OffersStand, stands_as, offers_after, none_offered}
-use Rattle.proof_generations.proofs.Lines.Offers.{HoldsOffer, completing_of, abort_after, settles_held}
-use Rattle.proof_generations.proofs.Lines.Completes.{CompletesFrom, completes_after}
+use Rattle.proof_generations.proofs.Lines.Offers.{HoldsOffer, completing_of, settles_held}
+use Rattle.proof_generations.proofs.Lines.Completes.{CompletesFrom, goes_on, finds_offer, has_offered, abort_after, completes_after}
 
 -- ---- where an operation has its own offer from
 
@@ -134,6 +133,8 @@ module _ (state : State) (s : Step) (o : Outcome) (after : State) (m : Moves sta
   tried_by k found (went was is at_k g it) id =
       let same = it ∙ mark_only (marks_in state s) (operation_after state was) in
       omega (arith, h.tried k was at_k (ap (λ (x : Operation). x.id) (sym same) ∙ id), ap (λ (x : Operation). x.attempt) same, tries_rise was.attempt (action_of state was))
+  tried_by k found (gave was answer is at_k may it) id =
+      omega (arith, h.tried k was at_k (ap (λ (x : Operation). x.id) (sym it) ∙ id), ap (λ (x : Operation). x.attempt) it)
 
   went_same : (k : ℕ) (was : Operation) → Runs state k was → was.id ≡ offer.operation → offer.attempt ≡ attempt_after was.attempt (action_of state was) → (d : Descriptor) →
       OwnFrom was was.line d → d ≡ offer
@@ -152,6 +153,7 @@ module _ (state : State) (s : Step) (o : Outcome) (after : State) (m : Moves sta
       let same = it ∙ mark_only (marks_in state s) (operation_after state was) in
       went_same k was at_k (ap (λ (x : Operation). x.id) (sym same) ∙ id) (try ∙ ap (λ (x : Operation). x.attempt) same) d
       (own_from state was was.line d (ap (λ (x : Operation). own_offer x.line) (sym same) ∙ own))
+  same_by k found (gave was answer is at_k may it) id try d own = absurd (none-some d (ap (λ (x : Operation). own_offer x.line) (sym it) ∙ own))
 
   pub known_kept : IsKnown after offer
   known_kept = record {
@@ -170,6 +172,11 @@ first_holds (Close h) offer (inl e) = none-some offer e
 first_holds (Close h) offer (inr (c, e, f)) = none-some c e
 first_holds call offer (inl e) = none-some offer e
 first_holds call offer (inr (c, e, f)) = none-some c e
+
+-- nor does one that is about to end
+ended_holds : (answer : Reply) (offer : Descriptor) → HoldsOffer (line.End answer) offer → ⊥
+ended_holds answer offer (inl e) = none-some offer e
+ended_holds answer offer (inr (c, e, f)) = none-some c e
 
 -- ---- all of it
 
@@ -191,9 +198,10 @@ module _ (state : State) (I : HasOffers state) (s : Step) (o : Outcome) (after :
 
   completing_known : (k : ℕ) (was found : Operation) → Runs state k was → Runs after k found → found.line ≡ line_after state was was.line → (c : Complete) →
       completing_of (line_after state was was.line) ≡ Some c → CompletesFrom state was was.line c → IsKnown after c.offer
-  completing_known k was found at_k now line_is c e (inl (before, held, same)) = known_kept state s o after m c.offer (I.known k was at_k c.offer (inr (before, held, same)))
-  completing_known k was found at_k now line_is c e (inr (inl word)) = known_kept state s o after m c.offer (known_standing state I.ids I.own I.offers (handle_of was.call) c.offer word)
-  completing_known k was found at_k now line_is c e (inr (inr offers)) =
+  completing_known k was found at_k now line_is c e (goes_on before held on) =
+      known_kept state s o after m c.offer (I.known k was at_k c.offer (inr (before, held, sym (same_offer_after state was before c on))))
+  completing_known k was found at_k now line_is c e (finds_offer word first) = known_kept state s o after m c.offer (known_standing state I.ids I.own I.offers (handle_of was.call) c.offer word)
+  completing_known k was found at_k now line_is c e (has_offered offers first) =
       known_own after (ids_after state s o after m I.ids) (own_after state s o after m I.own) k found c.offer now (ap own_offer line_is ∙ own_line was c offers e)
 
   went_known : (k : ℕ) (was found : Operation) → Runs state k was → Runs after k found → found.line ≡ line_after state was was.line → (offer : Descriptor) →
@@ -210,6 +218,7 @@ module _ (state : State) (I : HasOffers state) (s : Step) (o : Outcome) (after :
   known_by k found now (went was is at_k g it) offer held =
       let same = it ∙ mark_only (marks_in state s) (operation_after state was) in
       went_known k was found at_k now (ap (λ (x : Operation). x.line) same) offer (subst (λ (x : Operation). HoldsOffer x.line offer) same held)
+  known_by k found now (gave was answer is at_k may it) offer held = absurd (ended_holds answer offer (subst (λ (x : Operation). HoldsOffer x.line offer) it held))
 
   pub has_offers_after : HasOffers after
   has_offers_after = record {

@@ -8,7 +8,7 @@ use Rattle.proof_generations.specs.Vocabulary.{Writable, Call, Ref, ref_to, Acti
 use Rattle.proof_generations.specs.Vocabulary.{Outcome, Step, handle_of, is_close, State, first_state, root_at, word_of, word_at, operation_of, rewritten, with_word, handle_limit, read_action}
 use Rattle.proof_generations.specs.Vocabulary.{read_after, stands_in, is_try, is_plain, is_carried_out, complete_action, of_offer, after_reading, copy_after_complete, after_offer, action_of}
 use Rattle.proof_generations.specs.Vocabulary.{line_action, line_after, acted, carried_out, opened, opened_root, new_root_taken, if_changed, operation_after, mark_after, handle_closed, Begins, Ends}
-use Rattle.proof_generations.specs.Vocabulary.{Sweeps, Moves}
+use Rattle.proof_generations.specs.Vocabulary.{Sweeps, GivesUp, Moves, given_up}
 use Rattle.proof_generations.specs.Beneath.machine_model.specs.declared.actions.Action.TheVariants as act
 use Rattle.proof_generations.specs.Beneath.machine_model.specs.declared.copying.CopyLine.TheVariants as copy
 use Rattle.proof_generations.specs.Beneath.machine_model.specs.declared.lines.Line.TheVariants as line
@@ -18,7 +18,7 @@ use Rattle.proof_generations.specs.Beneath.machine_model.specs.declared.steps.St
 use Rattle.proof_generations.specs.Beneath.machine_model.specs.Moves.{Goes}
 use Rattle.proof_generations.specs.Beneath.machine_model.proofs.Found.{found_elsewhere}
 use Rattle.proof_generations.specs.Beneath.machine_model.proofs.Actors.{mark_one, mark_only, marks_in, marks_by, marks_of}
-use Rattle.proof_generations.proofs.Handles.Running.{place_of_actor, Follows, rests, steps, ends, follows}
+use Rattle.proof_generations.proofs.Handles.Running.{place_of_actor, Follows, rests, steps, ends, follows, gives_up}
 use Rattle.proof_generations.specs.Running.{Runs}
 use Rattle.proof_generations.specs.Laws.Roots.{settles}
 use Rattle.proof_generations.proofs.Handles.Ids.{HasIds, one_of_id}
@@ -221,6 +221,7 @@ module _ (state : State) (ids : HasIds state) (own : AllOwn state) (all : Offers
   not_marked (step.Begin actor call) handle k owner at_k on free e = none-some owner.id e
   not_marked (step.Go actor) handle k owner at_k on free e = not_marked_by handle k owner at_k on actor free (operation_of state actor) refl e
   not_marked step.Sweep handle k owner at_k on free e = none-some owner.id e
+  not_marked (step.GiveUp actor) handle k owner at_k on free e = none-some owner.id e
 
   -- its own step reads on, for the same offer
   line_kept : (s : Step) (handle k : ℕ) (offer : Descriptor) (owner : Operation) → Runs state k owner → handle_of owner.call ≡ handle → s ≡ step.Go (suc k) → word_at state handle ≡ Offer offer →
@@ -260,6 +261,9 @@ module _ (state : State) (ids : HasIds state) (own : AllOwn state) (all : Offers
   stays_by s after handle offer word free b (ends answer is a) =
       let (c, at_line, its) = completes_it b.owner.line offer b.completes in
       absurd (complete_no_end c answer (ap (λ l. line_action state b.owner l) (sym at_line) ∙ a))
+  stays_by s after handle offer word free b (gives_up answer is a at_k) =
+      let (c, at_line, its) = completes_it b.owner.line offer b.completes in
+      absurd (none-some answer (ap (given_up b.owner.call) (sym at_line) ∙ a))
 
   stays : (s : Step) (o : Outcome) (after : State) → Moves state s o after → (handle : ℕ) (offer : Descriptor) → word_at state handle ≡ Offer offer → NotSettled s handle → StandsBy after handle offer
   stays s o after m handle offer word free = let b = all handle offer word in stays_by s after handle offer word free b (follows state s o after m b.k b.owner b.runs)
@@ -285,6 +289,7 @@ module _ (state : State) (ids : HasIds state) (own : AllOwn state) (all : Offers
       offered_line : (offer : Descriptor) (b : Bool) → b ≡ true → own_offer (after_offer offer b) ≡ Some offer
       offered_line offer true e = refl
       offered_line offer false e = absurd (false≢true e)
+  put_by actor operation after handle k offer place is a here plain (gives_up answer go e at_k) = let wrong : ⊥ = cc go in absurd wrong
   put_by actor operation after handle k offer place is a here plain (ends answer go e) = let wrong : ⊥ = grind arith in absurd wrong
 
   gone_by : (actor : ℕ) (operation : Operation) (o : Outcome) (after : State) → Moves state (step.Go actor) o after → operation_of state actor ≡ Some operation → (handle : ℕ) (offer : Descriptor) →
@@ -324,6 +329,7 @@ module _ (state : State) (ids : HasIds state) (own : AllOwn state) (all : Offers
     where
       same_go : (other : ℕ) → step.Go actor ≡ step.Go other → other ≡ actor
       same_go other e = cc e
+  offers_after s o after (GivesUp d is a) handle offer word = stays s o after (GivesUp d is a) handle offer word (λ other operation d' e is settled here stands. let wrong : ⊥ = cc e in wrong)
   offers_after s o after (Sweeps spent) handle offer word = stays s o after (Sweeps spent) handle offer word (λ other operation d' e is settled here stands. let wrong : ⊥ = cc e in wrong)
 
 -- at first none stands

@@ -4,8 +4,8 @@ use Rattle.std.proofs.Common.{eqb-true, eq-eqb, ne_eqb, []}
 use Rattle.std.proofs.lemmas.Bool.{true≢false, cond_both}
 use Rattle.std.proofs.lemmas.Option.{none-some, same_Some}
 use Rattle.proof_generations.specs.Vocabulary.{Call, Ref, generation_at, Action, Closing, Operation, Descriptor, Root, Outcome, Step, handle_of, is_close, State, root_at, root_of, word_at, word_of}
-use Rattle.proof_generations.specs.Vocabulary.{operation_of, with_operation, is_carried_out, action_of, gone, operation_after, settled, handle_closed, Begins, Ends, Sweeps, Moves, step_of, Record}
-use Rattle.proof_generations.specs.Vocabulary.{noted_progress, noted, closed_by, carried_by, progress_of, told_in, Carried}
+use Rattle.proof_generations.specs.Vocabulary.{operation_of, with_operation, is_carried_out, action_of, gone, operation_after, settled, handle_closed, Begins, Ends, Sweeps, GivesUp, Moves, step_of}
+use Rattle.proof_generations.specs.Vocabulary.{Record, noted_progress, noted, closed_by, carried_by, progress_of, told_in, Carried}
 use Rattle.proof_generations.specs.Beneath.machine_model.specs.declared.actions.Action.TheVariants as act
 use Rattle.proof_generations.specs.Beneath.machine_model.specs.declared.steps.Step.TheVariants as step
 use Rattle.proof_generations.specs.Beneath.machine_model.specs.Moves.{Goes}
@@ -187,4 +187,5 @@ step_kind state I past now s o after (Goes {actor} {operation} {action} d is a g
     (gone_kind state I past actor operation is (carries_or_not state (handle_of operation.call) (action_of state operation)))
 step_kind state I past now s o after (Ends {actor} {operation} {answer} d is a) e =
     quiet (ap (λ (r : Record). r.closings) (e ∙ noted_ending state past actor operation answer is a)) (λ handle root at_it. (root, at_it, refl, refl))
+step_kind state I past now s o after (GivesUp d is a) e = quiet (ap (λ (r : Record). r.closings) e) (λ handle root at_it. (root, at_it, refl, refl))
 step_kind state I past now s o after (Sweeps spent) e = quiet (ap (λ (r : Record). r.closings) e) (λ handle root at_it. (root, at_it, refl, refl))

@@ -9,7 +9,7 @@ use Rattle.proof_generations.specs.Beneath.machine_model.proofs.Found.{none_foun
 use Rattle.proof_generations.specs.Beneath.machine_model.proofs.Times.{at_each_time, steps_at}
 use Rattle.proof_generations.specs.Beneath.proof_memory.specs.Laws.{is_end}
 use Rattle.proof_generations.specs.Beneath.proof_memory.proofs.Safety.Base.{close_ends, goes_no_end}
-use Rattle.proof_generations.proofs.Handles.Running.{Comes, began, rested, went, comes, place_of_actor}
+use Rattle.proof_generations.proofs.Handles.Running.{Comes, began, rested, went, comes, place_of_actor, gave}
 use Rattle.proof_generations.specs.Running.{Runs}
 use Rattle.proof_generations.proofs.Offers.Swaps.{StepKind, quiet, swaps, step_kind, closing_of, closed_in, closed_new}
 use Rattle.proof_generations.proofs.Roots.Own.{gen}
@@ -28,6 +28,7 @@ closes_by state s all k found (rested was at_k it other_step) e =
 closes_by state s all k found (went was is at_k g it) e =
     let same = it ∙ mark_only (marks_in state s) (operation_after state was) in
     absurd (goes_no_end state was was.line g (all k was at_k (ap (λ (x : Operation). is_close x.call) (sym same) ∙ e)))
+closes_by state s all k found (gave was answer is at_k may it) e = ap (λ (x : Operation). is_end x.line) it
 
 no_closes : (limits : Bounds) → ClosesEnd (first_state limits)
 unfolding first_state

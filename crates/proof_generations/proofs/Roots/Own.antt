@@ -5,7 +5,7 @@ use Rattle.std.proofs.lemmas.Bool.{true≢false, false≢true}
 use Rattle.std.proofs.lemmas.Option.{none-some, same_Some}
 use Rattle.proof_generations.specs.Vocabulary.{Access, Writable, ReadOnly, Call, Clear, Snapshot, Freeze, Close, Entries, Count, Ref, Indirection, generation_at, generation_of, next_ref, Line}
 use Rattle.proof_generations.specs.Vocabulary.{Operation, Descriptor, Root, Outcome, Step, handle_of, is_close, needs_writable, State, root_at, root_of, word_of, operation_of, action_of, first_line}
-use Rattle.proof_generations.specs.Vocabulary.{opened_root, Begins, Ends, Sweeps, Moves, Record, closed_at, noted, told_in}
+use Rattle.proof_generations.specs.Vocabulary.{opened_root, Begins, Ends, Sweeps, GivesUp, Moves, Record, closed_at, noted, told_in}
 use Rattle.proof_generations.specs.Beneath.machine_model.specs.declared.actions.Action.TheVariants as act
 use Rattle.proof_generations.specs.Beneath.machine_model.specs.declared.copying.CopyLine.TheVariants as copy
 use Rattle.proof_generations.specs.Beneath.machine_model.specs.declared.lines.Line.TheVariants as line
@@ -79,6 +79,7 @@ drawn_by state S s o after (Ends {actor} {operation} {answer} d is action) k was
     let both : act.End answer ≡ act.MakeRoot main = sym action ∙ ap (action_of state) one ∙ a in
     let wrong : ⊥ = cc both in
     absurd wrong
+drawn_by state S s o after (GivesUp d is action) k was e at_k main r a n = let wrong : ⊥ = cc e in absurd wrong
 drawn_by state S s o after (Sweeps spent) k was e at_k main r a n = let wrong : ⊥ = cc e in absurd wrong
 
 -- a call that offers needs a writable handle, and is no close
@@ -105,7 +106,8 @@ module _ (state : State) (S : IsSafe state) (I : HasOffers state) (H : HasHandle
   fresh_had k found at_k x r e = elim (ran_or_began state I H s k found (comes state s o after m k found at_k)) [
     | inl ran ↦ elim ran.line [
       | inl same ↦ old ran (ap (fresh_in x) (sym same) ∙ e)
-      | inr goes ↦ from_line k found x r ran goes.0 (fresh_from state ran.was ran.was.line x r (ap (fresh_in x) (sym goes.1) ∙ e))
+      | inr (inl goes) ↦ from_line k found x r ran goes.0 (fresh_from state ran.was ran.was.line x r (ap (fresh_in x) (sym goes.1) ∙ e))
+      | inr (inr ended) ↦ absurd (none-some r (sym (ap (fresh_in x) ended.1) ∙ e))
     ]
     | inr (call, is, d, it) ↦ absurd (first_none call x r (ap (λ (y : Operation). fresh_in x y.line) (sym it) ∙ e))
   ]

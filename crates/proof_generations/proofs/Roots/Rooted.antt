@@ -13,7 +13,7 @@ use Rattle.proof_generations.specs.Beneath.machine_model.proofs.Times.{along_run
 use Rattle.proof_generations.specs.Beneath.proof_memory.proofs.Safety.States.{IsSafe}
 use Rattle.proof_generations.specs.Beneath.proof_memory.proofs.Safety.AtEachTime.{safe_at}
 use Rattle.proof_generations.specs.Standing.{standing_of, standing, On, IsRooted}
-use Rattle.proof_generations.proofs.Handles.Running.{Comes, began, rested, went, comes}
+use Rattle.proof_generations.proofs.Handles.Running.{Comes, began, rested, went, comes, gave}
 use Rattle.proof_generations.specs.Running.{Runs}
 use Rattle.proof_generations.proofs.Roots.Own.{gen, root_goes_on}
 use Rattle.proof_generations.proofs.Roots.Along.{IsOrdered, ordered_at, ordered_after, closed_stays}
@@ -113,6 +113,9 @@ module _ (states : ℕ → State) (records : ℕ → Record) (t : ℕ) (S : IsSa
       subst (λ c. IsRooted states records t (handle_of c) g) (sym (ap (λ (x : Operation). x.call) same))
       (before_by k was g at_k (ap (λ (x : Operation). is_close x.call) (sym same) ∙ no_close) (ap (λ (x : Operation). x.access) (sym same) ∙ w)
       (generation_so (states t) was was.line g (ap (λ (x : Operation). x.generation) (sym same) ∙ e)))
+  from_before k found g (gave was answer is at_k may it) no_close w e =
+      subst (λ c. IsRooted states records t (handle_of c) g) (sym (ap (λ (x : Operation). x.call) it))
+      (all k was g at_k (ap (λ (x : Operation). is_close x.call) (sym it) ∙ no_close) (ap (λ (x : Operation). x.access) (sym it) ∙ w) (ap (λ (x : Operation). x.generation) (sym it) ∙ e))
 
   rooted_after : AllRooted states records (suc t)
   rooted_after k found g at_k no_close w e =

@@ -6,8 +6,8 @@ use Rattle.std.proofs.lemmas.Bool.{cases_eq, cond_both}
 use Rattle.std.proofs.lemmas.Option.{none-some, same_Some}
 use Rattle.proof_memory.specs.Vocabulary.{Swept, Reclaimer, ripe, sweep_by, birth_of, Ref, Node, Indirection, Slot, Heap, main_at, main_of, with_main, with_prev, main_changed, prev_changed, taken}
 use Rattle.proof_memory.specs.Vocabulary.{freed, next_ref, Action, Operation, Bounds, Outcome, Step, handle_of, State, operation_of, Verdict, Commits, Fails, Overtaken, verdict, action_of, acted}
-use Rattle.proof_memory.specs.Vocabulary.{gone, published, restored, decided, new_root_taken, if_changed, settled, Begins, Ends, Sweeps, Moves, begun_operation, pin_of, reclaimer_of, turns, IsRun}
-use Rattle.proof_memory.specs.Vocabulary.{Turn, standing, grown, or_before}
+use Rattle.proof_memory.specs.Vocabulary.{gone, published, restored, decided, new_root_taken, if_changed, settled, Begins, Ends, Sweeps, GivesUp, Moves, begun_operation, pin_of, reclaimer_of, turns}
+use Rattle.proof_memory.specs.Vocabulary.{IsRun, Turn, standing, grown, or_before}
 use Rattle.proof_memory.specs.Beneath.slot_arena.specs.declared.nodes.Prev.TheVariants as prev
 use Rattle.machine_model.specs.declared.actions.Action.TheVariants as act
 use Rattle.machine_model.specs.Moves.{Goes}
@@ -174,6 +174,7 @@ standing_move state I s o after (Goes {actor} {operation} d is a g) =
     let (k, found) = of_actor state (λ k operation. get_or state.actors k None ≡ Some operation) (λ k operation e. e) actor operation is in
     inl (gone_move state I actor k operation is found)
 standing_move state I s o after (Ends d is a) = inl (keeps (λ r. refl))
+standing_move state I s o after (GivesUp d is a) = inl (keeps (λ r. refl))
 standing_move state I s o after (Sweeps spent) =
     inr (sweep_goes state I (map pin_of state.actors) (ripe state.epoch state.limbo)
     (λ q due. stands_in_use state.heap q (omega (arith, I.small, I.sound.heap.size)) (ripe_in_use (InUse state.heap) state.epoch state.limbo (I.sound.limbo) q due)))

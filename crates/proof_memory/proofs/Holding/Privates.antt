@@ -54,6 +54,7 @@ module _ (limits : Bounds) (ok : AreBounds limits) where
       of_each_along limits (λ state operation. Once operation.private) (λ steps actor call d r. omega arith)
       (λ steps actor operation is g h. rw (mark_only (marks_by (run limits steps) (Some operation)) (operation_after (run limits steps) operation))
       (gone_once steps actor operation (action_of (run limits steps) operation) is h))
+      (λ steps actor operation answer is a h r. omega arith)
       (λ steps s o after m k other operation found h. rw (mark_only (marks_in (run limits steps) s) operation) h)
 
 pub privates_once : PrivatesOnce

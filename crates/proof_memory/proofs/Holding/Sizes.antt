@@ -2,7 +2,8 @@
 use Rattle.std.proofs.Common.{◌≡◌, ℕ, ◌==◌, ◌-◌, Bool, true, false, cond, Option, Some, None, length, refl, ◌∙◌, length-set}
 use Rattle.std.proofs.lemmas.List.{length-map, length-replicate}
 use Rattle.proof_memory.specs.Vocabulary.{Ref, Call, Action, Operation, Descriptor, RootWord, Plain, Offer, Bounds, Outcome, Step, handle_of, is_close, State, first_state, handle_limit, with_word}
-use Rattle.proof_memory.specs.Vocabulary.{with_root, action_of, acted, carried_out, opened, new_root_taken, if_changed, run, handle_closed, with_begin, Moves, Begins, Ends, Sweeps, begun_operation}
+use Rattle.proof_memory.specs.Vocabulary.{with_root, action_of, acted, carried_out, opened, new_root_taken, if_changed, run, handle_closed, with_begin, Moves, Begins, Ends, Sweeps, GivesUp}
+use Rattle.proof_memory.specs.Vocabulary.{begun_operation}
 use Rattle.machine_model.specs.declared.actions.Action.TheVariants as act
 use Rattle.machine_model.specs.Moves.{Goes}
 use Rattle.machine_model.proofs.Along.{along}
@@ -70,6 +71,7 @@ moved_sizes state s o after (Begins {actor} {call} d) =
 moved_sizes state s o after (Goes {actor} {operation} d is a g) =
     let went = acted_sizes _ (handle_of operation.call) (action_of state operation) in record { roots = went.roots; actors = went.actors ∙ length-set state.actors (actor - 1) _ }
 moved_sizes state s o after (Ends {actor} d is a) = record { roots = refl; actors = length-set state.actors (actor - 1) None }
+moved_sizes state s o after (GivesUp {actor} d is a) = record { roots = refl; actors = length-set state.actors (actor - 1) _ }
 moved_sizes state s o after (Sweeps spent) = record { roots = refl; actors = refl }
 
 first_sizes : (limits : Bounds) → (length (first_state limits).roots ≡ handle_limit) × (length (first_state limits).actors ≡ limits.actors)

@@ -29,6 +29,7 @@ never_after state I strange before s o after m =
     (λ i. strange k operation found
     (impossible_strange state operation (Safe state operation.epoch) (heaped state I operation.epoch) (I.fits k operation found) operation.line
     (I.lines k operation found) (before k operation found) i)))
+    (λ actor operation answer k own is a found i. i)
     (λ s o after m k other operation found e. marked_possible _ operation (before k operation found)) s o after m
 
 pub none_at_first : (limits : Bounds) → NoneRuns (λ state operation. IsImpossible operation.line) (first_state limits)

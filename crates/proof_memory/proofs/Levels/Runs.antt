@@ -4,7 +4,7 @@ use Rattle.std.proofs.lemmas.Bool.{cond_both, false≢true}
 use Rattle.std.proofs.lemmas.Option.{none-some}
 use Rattle.std.proofs.lemmas.List.Elements.{All-nil}
 use Rattle.proof_memory.specs.Vocabulary.{ref_to, birth_of, Ref, Node, Heap, next_ref, Operation, Bounds, Outcome, Step, handle_of, State, first_state, operation_of, action_of, gone, Answer}
-use Rattle.proof_memory.specs.Vocabulary.{AreBounds, run, run_from, next, next_state, state_after, is_number, taken_steps, states_from, states_of, Begins, Ends, Sweeps, Moves, MovesIfTaken}
+use Rattle.proof_memory.specs.Vocabulary.{AreBounds, run, run_from, next, next_state, state_after, is_number, taken_steps, states_from, states_of, Begins, Ends, Sweeps, GivesUp, Moves, MovesIfTaken}
 use Rattle.machine_model.specs.declared.steps.Step.TheVariants as step
 use Rattle.machine_model.proofs.Found.{none_found}
 use Rattle.machine_model.proofs.Moves.{moves}
@@ -45,6 +45,7 @@ pub made_next : (state : State) (s : Step) (r : Ref) → made_now state s ≡ So
 made_next state (step.Go actor) r e = made_next_of state (operation_of state actor) r e
 made_next state (step.Begin actor call) r e = absurd (none-some r e)
 made_next state step.Sweep r e = absurd (none-some r e)
+made_next state (step.GiveUp actor) r e = absurd (none-some r e)
 
 -- the number is that of the reference that is made
 pub number_is : (r : Ref) (o : Option Ref) → is_number r o ≡ true → o ≡ Some r
@@ -70,6 +71,7 @@ births_made state I s o after (Goes {actor} {operation} d is a g) r e = by_node 
         let next = sym (ap (λ x. if_made x (next_ref state.heap)) n) ∙ made in enough (drawn_birth state I r next) (drawn node n next)
 births_made state I s o after (Ends {actor} {operation} d is a) r e =
     absurd (none-some r (sym (ap (λ x. if_made x (next_ref state.heap)) (ap (made_node state) a)) ∙ ap (made_by state) (sym is) ∙ e))
+births_made state I s o after (GivesUp d is a) r e = absurd (none-some r e)
 births_made state I s o after (Sweeps spent) r e = absurd (none-some r e)
 
 -- ---- a run from a safe state

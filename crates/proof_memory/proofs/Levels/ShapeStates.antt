@@ -6,7 +6,7 @@ use Rattle.std.proofs.lemmas.Option.{none-some, same_Some}
 use Rattle.std.proofs.lemmas.List.{length-take-le}
 use Rattle.proof_memory.specs.Vocabulary.{HashKind, Access, Call, Close, Entries, ref_to, Ref, Node, Indirection, Branch, Single, Tomb, List as Listed, Slot, node_at, with_main_word, main_changed}
 use Rattle.proof_memory.specs.Vocabulary.{prev_changed, next_ref, no_ref, list_depth, ripe, Action, Operation, Line, Bounds, Outcome, Step, handle_of, State, first_state, operation_of, above}
-use Rattle.proof_memory.specs.Vocabulary.{depth_of, action_of, first_line, operation_after, gone, settled, AreBounds, run, pin_of, taken_steps, states_of, Begins, Ends, Sweeps, Moves}
+use Rattle.proof_memory.specs.Vocabulary.{depth_of, action_of, first_line, operation_after, gone, settled, AreBounds, run, pin_of, taken_steps, states_of, Begins, Ends, Sweeps, GivesUp, Moves}
 use Rattle.proof_memory.specs.Vocabulary.{begun_operation, standing}
 use Rattle.proof_memory.specs.Beneath.slot_arena.specs.declared.nodes.Prev.TheVariants as prev
 use Rattle.machine_model.specs.declared.actions.Action.TheVariants as act
@@ -140,6 +140,7 @@ module _ (lv : Ref → ℕ) (state : State) (I : IsSafe state) (h : HasLevels lv
       subst (λ l. ShapeAt deep l node) (sym (gives actor operation node made refl is its e))
       (makes_shape operation (line_finds state I actor operation is) (h.lines k operation found) (g.lines k operation found) (action_of state operation) refl node its)
   fresh_shape s o after (Ends d is a) gives = nothing_new after (λ r. inl refl)
+  fresh_shape s o after (GivesUp d is a) gives = nothing_new after (λ r. inl refl)
   fresh_shape s o after (Sweeps spent) gives =
       nothing_new after (sweep_goes state I (map pin_of state.actors) (ripe state.epoch state.limbo)
       (λ q due. stands_in_use state.heap q (omega (arith, I.small, I.sound.heap.size)) (ripe_in_use (InUse state.heap) state.epoch state.limbo (I.sound.limbo) q due)))
@@ -167,6 +168,7 @@ module _ (lv : Ref → ℕ) (state : State) (I : IsSafe state) (h : HasLevels lv
       (λ actor operation k own is goes found. marked_shape _ (operation_after state operation)
       (line_shape_next lv state operation (IsInUse state.heap) (heaped_in_use state I) shape_under operation.line (line_finds state I actor operation is)
       (h.lines k operation found) (g.lines k operation found)))
+      (λ actor operation answer k own is a found. tt)
       (λ s o after m k other operation found e. marked_shape _ operation (g.lines k operation found))
 
   pub shapes_after : (s : Step) (o : Outcome) (after : State) → Moves state s o after → GivesLevel lv state s → HasShapes lv after

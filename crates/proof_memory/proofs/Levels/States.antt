@@ -6,7 +6,7 @@ use Rattle.std.proofs.lemmas.List.Elements.{All-head}
 use Rattle.proof_memory.specs.Vocabulary.{Call, Close, Entries, birth_of, Ref, Node, Indirection, Branch, Single, Tomb, List as Listed, Slot, Heap, node_at, prev_at, main_at, with_main, with_prev}
 use Rattle.proof_memory.specs.Vocabulary.{with_main_word, main_changed, prev_changed, next_ref, refs_of_option, Action, Operation, Root, Outcome, Step, handle_of, State, root_at, word_of}
 use Rattle.proof_memory.specs.Vocabulary.{operation_of, action_of, first_line, operation_after, gone, acted, decided, if_changed, Verdict, Commits, Fails, Overtaken, verdict, settled, pin_of, ripe}
-use Rattle.proof_memory.specs.Vocabulary.{Begins, Ends, Sweeps, Moves, GoesOn, begun_operation, standing}
+use Rattle.proof_memory.specs.Vocabulary.{Begins, Ends, Sweeps, GivesUp, Moves, GoesOn, begun_operation, standing}
 use Rattle.proof_memory.specs.Beneath.slot_arena.specs.declared.nodes.Prev.TheVariants as prev
 use Rattle.machine_model.specs.declared.actions.Action.TheVariants as act
 use Rattle.machine_model.specs.declared.steps.Step.TheVariants as step
@@ -14,7 +14,7 @@ use Rattle.machine_model.proofs.HeapMoves.{aborted_heap, offered_heap, completed
 use Rattle.machine_model.proofs.InUse.{InUse}
 use Rattle.machine_model.proofs.Slots.{ripe_in_use}
 use Rattle.machine_model.specs.Moves.{Goes}
-use Rattle.machine_model.proofs.Actors.{IsOf, is_of, mark_one, mark_only, marks_in, marks_by, of_others, of_itself, of_begin, of_end}
+use Rattle.machine_model.proofs.Actors.{IsOf, is_of, mark_one, mark_only, marks_in, marks_by, of_others, of_itself, of_begin, of_end, of_giving_up}
 use Rattle.proof_memory.specs.Wants.{is_formed, AllHold, node_wants, prev_wants}
 use Rattle.proof_memory.specs.Laws.{IsInUse}
 use Rattle.proof_memory.proofs.Claims.Uses.{first_hold, last_hold}
@@ -185,6 +185,7 @@ module _ (lv : Ref → ℕ) (state : State) (I : IsSafe state) (h : HasLevels lv
       put_words (WordLevel lv) _ (handle_of operation.call) (action_of state operation) (h.words)
       (puts_level lv (made_level operation.line) (action_of state operation) (acts_level actor operation is))
   words_after s o after (Ends d is a) = h.words
+  words_after s o after (GivesUp d is a) = h.words
   words_after s o after (Sweeps spent) = h.words
 
   -- ---- what is made
@@ -225,6 +226,7 @@ module _ (lv : Ref → ℕ) (state : State) (I : IsSafe state) (h : HasLevels lv
       let (k, found) = of_actor state (λ k operation. get_or state.actors k None ≡ Some operation) (λ k operation e. e) actor operation is in
       gone_made actor operation k is found gives (made_node state (action_of state operation)) refl
   fresh_after s o after (Ends d is a) gives = nothing_made after (λ r. inl refl)
+  fresh_after s o after (GivesUp d is a) gives = nothing_made after (λ r. inl refl)
   fresh_after s o after (Sweeps spent) gives =
       nothing_made after (sweep_goes state I (map pin_of state.actors) (ripe state.epoch state.limbo)
       (λ q due. stands_in_use state.heap q (omega (arith, I.small, I.sound.heap.size)) (ripe_in_use (InUse state.heap) state.epoch state.limbo (I.sound.limbo) q due)))
@@ -260,6 +262,8 @@ module _ (lv : Ref → ℕ) (state : State) (I : IsSafe state) (h : HasLevels lv
       (word_by (root_at state (handle_of operation.call)) (handle_of operation.call) refl is_open) older operation.line
       (line_finds state I actor operation is) (h.lines k operation at_was) (λ node made m e. gives actor operation node made refl is m e)))
   lines_after s o after (Ends {actor} d is a) gives k (yes own) found at_k = absurd (of_end state actor k own found at_k)
+  lines_after s o after (GivesUp {actor} {operation} {answer} d is a) gives k (yes own) found at_k =
+      subst (λ (x : Operation). LineLevel lv x.line) (of_giving_up state actor operation answer k own found at_k) tt
   lines_after s o after (Sweeps spent) gives k (yes own) found at_k = absurd own
 
   pub levels_after : (s : Step) (o : Outcome) (after : State) → Moves state s o after → GivesLevel lv state s → HasLevels lv after

@@ -5,7 +5,7 @@ use Rattle.std.proofs.lemmas.Bool.{cond_both, cases_Bool}
 use Rattle.std.proofs.lemmas.Option.{none-some}
 use Rattle.std.proofs.lemmas.List.Elements.{All-nil, All-cons, All-head, All-tail, All-append, All-filter, All-map, All-weaker}
 use Rattle.proof_memory.specs.Vocabulary.{Ref, Heap, Zeroed, Swept, is_zero, is_in_use, newly_zero, limbo_after, Reclaimer, ripe, sweep_by, Bounds, Outcome, Step, State, first_state, outside, run}
-use Rattle.proof_memory.specs.Vocabulary.{pin_of, reclaimer_of, Begins, Ends, Sweeps, Moves, begun_operation}
+use Rattle.proof_memory.specs.Vocabulary.{pin_of, reclaimer_of, Begins, Ends, Sweeps, GivesUp, Moves, begun_operation}
 use Rattle.machine_model.proofs.Along.{along}
 use Rattle.machine_model.specs.Moves.{Goes}
 use Rattle.proof_memory.specs.Laws.{IsRising}
@@ -62,6 +62,7 @@ epoch_step : (state : State) (s : Step) (o : Outcome) (after : State) → Moves 
 epoch_step state s o after (Begins {actor} {call} d) = inl (ap (λ (p : ℕ × ℕ). p.0) (begin_times state actor call (begun_operation state call)))
 epoch_step state s o after (Goes {actor} {operation} d is a g) = inl (gone_epoch state actor operation)
 epoch_step state s o after (Ends d is a) = inl refl
+epoch_step state s o after (GivesUp d is a) = inl refl
 epoch_step state s o after (Sweeps spent) = swept_step state (map pin_of state.actors) (ripe state.epoch state.limbo) refl
 
 -- ---- along a run

@@ -7,7 +7,7 @@ use Rattle.std.proofs.lemmas.Bool.{and_from, false≢true, lt-ltb}
 use Rattle.std.proofs.lemmas.List.{length-map}
 use Rattle.std.proofs.lemmas.List.Elements.{All-head}
 use Rattle.proof_memory.specs.Vocabulary.{Ref, freed, in_use, most_slots, times, Swept, Zeroed, is_in_use, is_zero, limbo_after, newly_zero, Reclaimer, advanced, is_passed, ripe, scanned, sweep_by}
-use Rattle.proof_memory.specs.Vocabulary.{Operation, Bounds, Outcome, Step, gone, handle_of, outside, settled, is_busy, pin_of, reclaimer_of, run, swept_with, Moves, Begins, Ends, Sweeps}
+use Rattle.proof_memory.specs.Vocabulary.{Operation, Bounds, Outcome, Step, gone, handle_of, outside, settled, is_busy, pin_of, reclaimer_of, run, swept_with, Moves, Begins, Ends, Sweeps, GivesUp}
 use Rattle.proof_memory.specs.Vocabulary.{begun_operation, action_of, State, first_state}
 use Rattle.proof_memory.specs.Beneath.epochs.proofs.InUse.{live_in_use}
 use Rattle.proof_memory.specs.Beneath.epochs.proofs.Staying.{any_times}
@@ -164,6 +164,7 @@ cursor_counts state s o after (Begins {actor} {call} d) h = omega (arith, h, ap 
 cursor_counts state s o after (Goes {actor} {operation} d is a g) h =
     let same : (gone state actor operation).cursor ≡ state.cursor = (acted_framed _ (handle_of operation.call) (action_of state operation)).cursor in omega (arith, h, same)
 cursor_counts state s o after (Ends d is a) h = h
+cursor_counts state s o after (GivesUp d is a) h = h
 cursor_counts state s o after (Sweeps spent) h = swept_counts (map pin_of state.actors) (reclaimer_of state) (ripe state.epoch state.limbo) h
 
 pub counts_along : (limits : Bounds) (steps : List Step) → 1 ≤ (run limits steps).cursor

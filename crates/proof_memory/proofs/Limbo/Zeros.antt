@@ -157,6 +157,7 @@ only_sweep : (state : State) (s : Step) (r : Ref) → due_in state s ≡ Some r 
 only_sweep state (step.Begin actor call) r e = absurd (none-some r e)
 only_sweep state (step.Go actor) r e = absurd (none-some r e)
 only_sweep state step.Sweep r e = refl
+only_sweep state (step.GiveUp actor) r e = absurd (none-some r e)
 
 pub freed_late : (limits : Bounds) → AreBounds limits → (steps : List Step) (s : Step) (r : Ref) → IsInUse (run limits steps).heap r → (IsInUse (next_state (run limits steps) s).heap r → ⊥) →
     (s ≡ step.Sweep)

@@ -10,7 +10,7 @@ use Rattle.std.specs.List.{list_any}
 use Rattle.proof_memory.specs.Vocabulary.{ReadOnly, Call, Close, Swept, Reclaimer, sweep_by, is_passed, ripe, Ref, Operation, Action, Line, Root, RootWord, Plain, Offer, Descriptor, Outcome, Step}
 use Rattle.proof_memory.specs.Vocabulary.{handle_of, needs_writable, is_close, State, root_at, operation_of, with_word, with_root, rewritten, action_of, line_action, first_line, operation_after}
 use Rattle.proof_memory.specs.Vocabulary.{gone, acted, opened, opened_root, carried_out, new_root_taken, if_changed, settled, begin_denial, with_begin, handle_closed, runs_on, names, pin_of}
-use Rattle.proof_memory.specs.Vocabulary.{reclaimer_of, Begins, Ends, Sweeps, Moves, GoesOn, begun_operation}
+use Rattle.proof_memory.specs.Vocabulary.{reclaimer_of, Begins, Ends, Sweeps, GivesUp, Moves, GoesOn, begun_operation}
 use Rattle.machine_model.specs.declared.actions.Action.TheVariants as act
 use Rattle.machine_model.specs.declared.lines.Line.TheVariants as line
 use Rattle.machine_model.specs.Moves.{Goes}
@@ -149,10 +149,11 @@ module _ (state : State) (all : (k : ℕ) (operation : Operation) → get_or sta
       (kept_handle after operation (λ handle same open_now. acted_open _ (handle_of mover.call) (action_of state mover) handle open_now) h)
   other_handle s o after (Ends {actor} {operation = mover} d is a) k other operation found h =
       rw (mark_only (marks_in state s) operation) (kept_handle after operation (λ handle same open_now. open_now) h)
+  other_handle s o after (GivesUp d is a) k other operation found h = kept_handle after operation (λ handle same open_now. open_now) h
   other_handle s o after (Sweeps spent) k other operation found h = kept_handle after operation (λ handle same open_now. open_now) h
 
   pub handles_after : (s : Step) (o : Outcome) (after : State) → Moves state s o after → (k : ℕ) (found : Operation) → get_or after.actors k None ≡ Some found → HasHandle after found
-  handles_after = each_after state (λ k operation. HasHandle state operation) (λ after k operation. HasHandle after operation) all begun_handle gone_handle other_handle
+  handles_after = each_after state (λ k operation. HasHandle state operation) (λ after k operation. HasHandle after operation) all begun_handle gone_handle (λ actor operation answer k own is a h. refl) other_handle
 
 -- ---- a reader stays one
 
@@ -160,7 +161,7 @@ pub fits_after : (state : State) → ((k : ℕ) (operation : Operation) → get_
     (s : Step) (o : Outcome) (after : State) → Moves state s o after → (k : ℕ) (found : Operation) → get_or after.actors k None ≡ Some found → Fits found
 fits_after state all =
     each_after state (λ k operation. Fits operation) (λ after k operation. Fits operation) all (λ actor call k own d. begun_fits state actor call d)
-    (λ actor operation k own is g h. marked_fits _ (operation_after state operation) h) (λ s o after m k other operation found h. marked_fits _ operation h)
+    (λ actor operation k own is g h. marked_fits _ (operation_after state operation) h) (λ actor operation answer k own is a h. h) (λ s o after m k other operation found h. marked_fits _ operation h)
 
 -- ---- epochs
 
@@ -219,9 +220,10 @@ module _ (state : State) (all : (k : ℕ) (operation : Operation) → get_or sta
   other_recent s o after (Goes {actor} {operation = mover} d is a g) k other operation found h =
       rw (mark_only (marks_in state s) operation) (framed_recent _ _ (acted_framed _ (handle_of mover.call) (action_of state mover)) k operation.epoch h)
   other_recent s o after (Ends {actor} {operation = mover} d is a) k other operation found h = rw (mark_only (marks_in state s) operation) h
+  other_recent s o after (GivesUp d is a) k other operation found h = h
   other_recent s o after (Sweeps spent) k other operation found h =
       swept_recent (map pin_of state.actors) (reclaimer_of state) (ripe state.epoch state.limbo) k operation.epoch
       (omega (arith, found_within state.actors k operation found, length-map state.actors pin_of)) (get_or-map pin_of state.actors k None ∙ ap pin_of found) h
 
   pub recent_after : (s : Step) (o : Outcome) (after : State) → Moves state s o after → (k : ℕ) (found : Operation) → get_or after.actors k None ≡ Some found → IsRecent after k found
-  recent_after = each_after state (IsRecent state) IsRecent all begun_recent gone_recent other_recent
+  recent_after = each_after state (IsRecent state) IsRecent all begun_recent gone_recent (λ actor operation answer k own is a h. h) other_recent

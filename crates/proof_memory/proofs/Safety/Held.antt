@@ -6,14 +6,14 @@ use Rattle.std.proofs.lemmas.List.Elements.{All-nil, All-cons, All-append, All-w
 use Rattle.proof_memory.specs.Vocabulary.{Refusal, Call, Ref, Node, Indirection, Branch, Single, Tomb, List as Listed, Prev, Heap, node_at, prev_at, main_at, next_ref, refs_of_node, refs_of_prev}
 use Rattle.proof_memory.specs.Vocabulary.{refs_of_option, Operation, Action, RootWord, Plain, Offer, Bounds, Outcome, Step, handle_of, State, first_state, operation_of, word_at, action_of, gone}
 use Rattle.proof_memory.specs.Vocabulary.{settled, refs_of_word, got_by, got_in, got_of, while_running, held_from, held, Answer, AreBounds, begin_denial, next, next_state, state_after}
-use Rattle.proof_memory.specs.Vocabulary.{is_taken_step, run_from, run, Begins, Ends, Sweeps, Moves, GoesOn, MovesIfTaken}
+use Rattle.proof_memory.specs.Vocabulary.{is_taken_step, run_from, run, Begins, Ends, Sweeps, GivesUp, Moves, GoesOn, MovesIfTaken}
 use Rattle.proof_memory.specs.Beneath.slot_arena.specs.declared.nodes.Prev.TheVariants as prev
 use Rattle.machine_model.specs.declared.actions.Action.TheVariants as act
 use Rattle.machine_model.specs.declared.steps.Step.TheVariants as step
 use Rattle.machine_model.proofs.Found.{none_found}
 use Rattle.machine_model.proofs.Moves.{moves}
 use Rattle.machine_model.specs.Moves.{Goes}
-use Rattle.machine_model.proofs.Actors.{IsOf, is_of, mark_only, marks_in, marks_by, of_others, of_itself, of_end}
+use Rattle.machine_model.proofs.Actors.{IsOf, is_of, mark_only, marks_in, marks_by, of_others, of_itself, of_end, of_giving_up}
 use Rattle.proof_memory.specs.Wants.{Wanted, Is, Each, Holds, AllHold, node_wants, prev_wants, word_wants, action_wants}
 use Rattle.proof_memory.specs.Laws.{IsInUse}
 use Rattle.proof_memory.proofs.Claims.Uses.{Meets, safe_of, all_of}
@@ -104,6 +104,7 @@ module _ (state : State) (I : IsSafe state) (k : ℕ) (refs : List Ref) (h : Hol
       cond_both (other == suc k && is_taken_step (next state (step.Go other))) _ _ (λ (rs : List Ref). rs ≡ [])
       (λ e. absurd (not_own (eqb-true other (suc k) (and_parts (other == suc k) _ e).0))) (λ e. refl)
   nothing_got step.Sweep not_own = refl
+  nothing_got (step.GiveUp other) not_own = refl
 
   by_owner : (s : Step) (o : Outcome) (after : State) → Moves state s o after → Dec (IsOf (suc k) s) → (found : Operation) → get_or after.actors k None ≡ Some found →
       All (Safe after found.epoch) (refs ++ got_of state (suc k) s)
@@ -126,6 +127,12 @@ module _ (state : State) (I : IsSafe state) (k : ℕ) (refs : List Ref) (h : Hol
       (cond_both (actor == suc k && is_taken_step (next state (step.Go actor))) _ _ (All (Safe after operation.epoch))
       (λ e. subst (λ o. All (Safe after operation.epoch) (got_in state o)) (sym at_was) got) (λ e. All-nil (Safe after operation.epoch))))
   by_owner s o after (Ends {actor} d is a) (yes own) found at_k = absurd (of_end state actor k own found at_k)
+  by_owner s o after (GivesUp {actor} {operation} {answer} d is a) (yes own) found at_k =
+      let at_was = at_place state actor k operation own is in
+      let kept = All-weaker (Safe state operation.epoch) (Safe after operation.epoch)
+      (λ r x. (step_carries state I s o after (GivesUp d is a) operation.epoch (I.recent k operation at_was).0 (I.recent k operation at_was).1 r x).0) refs (h.safe operation at_was) in
+      subst (λ (x : Operation). All (Safe after x.epoch) (refs ++ [])) (of_giving_up state actor operation answer k own found at_k)
+      (subst (All (Safe after operation.epoch)) (sym (append-nil refs)) kept)
   by_owner s o after (Sweeps spent) (yes own) found at_k = absurd own
 
 -- ---- along a run
@@ -143,6 +150,7 @@ denied_gives state k (step.Go other) why e =
     cond_both (other == suc k && is_taken_step (next state (step.Go other))) _ _ (λ (rs : List Ref). rs ≡ [])
     (λ t. absurd (false≢true (sym (ap is_taken_step e) ∙ (and_parts (other == suc k) _ t).1))) (λ t. refl)
 denied_gives state k step.Sweep why e = refl
+denied_gives state k (step.GiveUp other) why e = refl
 
 held_by : (state : State) (I : IsSafe state) (k : ℕ) (refs : List Ref) → HoldsSafe state k refs → (s : Step) (answer : Answer) → next state s ≡ answer → MovesIfTaken state s answer →
     HoldsSafe (state_after state answer) k (while_running (operation_of (state_after state answer) (suc k)) (refs ++ got_of state (suc k) s))

@@ -40,4 +40,5 @@ pub known_after : (state : State) → ((k : ℕ) (operation : Operation) → get
 known_after state all =
     each_after state (λ k operation. KnowsRoot operation) (λ after k operation. KnowsRoot operation) all (λ actor call k own d e. absurd (first_not_past call e))
     (λ actor operation k own is g h. marked_known _ (operation_after state operation) (line_known state operation operation.line h))
+    (λ actor operation answer k own is a h e. absurd (false≢true e))
     (λ s o after m k other operation found h. marked_known _ operation h)

@@ -5,8 +5,8 @@ use Rattle.std.proofs.lemmas.Option.{none-some, same_Some}
 use Rattle.std.proofs.lemmas.List.Elements.{All-weaker, All-push, All-nil}
 use Rattle.proof_memory.specs.Vocabulary.{HashKind, Access, Call, Close, Entries, Ref, Node, Slot, Heap, node_at, next_ref, taken, Swept, limbo_after, is_zero, Reclaimer, ripe, sweep_by, Operation}
 use Rattle.proof_memory.specs.Vocabulary.{Action, Bounds, Outcome, Step, handle_of, State, word_at, operation_of, action_of, line_after, first_line, gone, acted, operation_after, private_after}
-use Rattle.proof_memory.specs.Vocabulary.{with_made, new_root_taken, outside, settled, begin_denial, with_begin, pin_of, reclaimer_of, Begins, Ends, Sweeps, Moves, GoesOn, begun_operation, standing}
-use Rattle.proof_memory.specs.Vocabulary.{most_slots}
+use Rattle.proof_memory.specs.Vocabulary.{with_made, new_root_taken, outside, settled, begin_denial, with_begin, pin_of, reclaimer_of, Begins, Ends, Sweeps, GivesUp, Moves, GoesOn, begun_operation}
+use Rattle.proof_memory.specs.Vocabulary.{standing, most_slots}
 use Rattle.machine_model.specs.declared.actions.Action.TheVariants as act
 use Rattle.machine_model.specs.declared.steps.Step.TheVariants as step
 use Rattle.machine_model.specs.Moves.{Goes}
@@ -38,6 +38,7 @@ pub limbo_is : (state : State) (s : Step) (o : Outcome) (after : State) → Move
 limbo_is state s o after (Begins d) = refl
 limbo_is state s o after (Goes d is a g) = refl
 limbo_is state s o after (Ends d is a) = refl
+limbo_is state s o after (GivesUp d is a) = refl
 limbo_is state s o after (Sweeps spent) = refl
 
 pub gone_epoch : (state : State) (actor : ℕ) (operation : Operation) → (gone state actor operation).epoch ≡ state.epoch
@@ -47,6 +48,7 @@ pub epoch_grows : (state : State) (s : Step) (o : Outcome) (after : State) → M
 epoch_grows state s o after (Begins {actor} {call} d) = omega (arith, ap (λ (p : ℕ × ℕ). p.0) (begin_times state actor call (begun_operation state call)))
 epoch_grows state s o after (Goes {actor} {operation} d is a g) = omega (arith, gone_epoch state actor operation)
 epoch_grows state s o after (Ends d is a) = omega arith
+epoch_grows state s o after (GivesUp d is a) = omega arith
 epoch_grows state s o after (Sweeps spent) = sweep_rises (map pin_of state.actors) (reclaimer_of state) (ripe state.epoch state.limbo)
 
 -- ---- the effect of a step
@@ -81,6 +83,7 @@ due_ripe state step.Sweep r e = e
 due_ripe state (step.Begin actor call) r e = absurd (none-some r e)
 due_ripe state (step.Go actor) r e = absurd (none-some r e)
 
+due_ripe state (step.GiveUp actor) r e = absurd (none-some r e)
 module _ (state : State) (I : IsSafe state) where
   abbrev Effects : ℕ → Option Ref → State → Type 0
   Effects epoch due after = Effect (AllHold (Safe state epoch) state.heap) (standing state.heap) (standing after.heap) state.heap.births after.heap.births due
@@ -118,6 +121,7 @@ module _ (state : State) (I : IsSafe state) where
       let (k, recent) = of_actor state (λ k operation. IsRecent state k operation × (get_or state.actors k None ≡ Some operation)) (λ k operation e. (I.recent k operation e, e)) actor operation is in
       (operation.epoch, recent.0.0, recent.0.1, gone_effect actor k operation recent.1)
   step_effect s o after (Ends d is a) = (state.epoch, omega arith, omega arith, same (Safe state state.epoch) state.heap None (used_of state state.epoch))
+  step_effect s o after (GivesUp d is a) = (state.epoch, omega arith, omega arith, same (Safe state state.epoch) state.heap None (used_of state state.epoch))
   step_effect s o after (Sweeps spent) = (state.epoch, omega arith, omega arith, sweep_effect (map pin_of state.actors) (ripe state.epoch state.limbo) refl)
 
   -- ---- what a step carries over
@@ -153,6 +157,7 @@ module _ (state : State) (I : IsSafe state) where
         acted_words (Safe state operation.epoch) state.heap _ (handle_of operation.call) (action_of state operation) (word_in state I operation.epoch) (step_claims k operation recent.1),
       )
   words_between s o after (Ends d is a) = (state.epoch, omega arith, omega arith, word_in state I state.epoch)
+  words_between s o after (GivesUp d is a) = (state.epoch, omega arith, omega arith, word_in state I state.epoch)
   words_between s o after (Sweeps spent) = (state.epoch, omega arith, omega arith, word_in state I state.epoch)
 
   words_after : (s : Step) (o : Outcome) (after : State) → Moves state s o after → WordsHold (IsInUse after.heap) after.heap after
@@ -241,7 +246,7 @@ module _ (state : State) (I : IsSafe state) where
       (sym (limits_kept state s o after m)) (I.lines k operation found)))
 
   lines_after : (s : Step) (o : Outcome) (after : State) → Moves state s o after → (k : ℕ) (operation : Operation) → get_or after.actors k None ≡ Some operation → Lines after k operation
-  lines_after = each_after state (λ k operation. get_or state.actors k None ≡ Some operation) Lines (λ k operation e. e) begun_line own_line other_line
+  lines_after = each_after state (λ k operation. get_or state.actors k None ≡ Some operation) Lines (λ k operation e. e) begun_line own_line (λ actor operation answer k own is a e. tt) other_line
 
   abbrev Privates : State → ℕ → Operation → Type 0
   Privates after k operation = All (IsInUse after.heap) operation.private
@@ -261,7 +266,8 @@ module _ (state : State) (I : IsSafe state) where
 
   privates_after : (s : Step) (o : Outcome) (after : State) → Moves state s o after → (k : ℕ) (operation : Operation) → get_or after.actors k None ≡ Some operation → Privates after k operation
   privates_after =
-      each_after state (λ k operation. get_or state.actors k None ≡ Some operation) Privates (λ k operation e. e) (λ actor call k own d. All-nil _) own_private other_private
+      each_after state (λ k operation. get_or state.actors k None ≡ Some operation) Privates (λ k operation e. e) (λ actor call k own d. All-nil _) own_private
+      (λ actor operation answer k own is a e. All-nil _) other_private
 
   -- ---- all of it
 

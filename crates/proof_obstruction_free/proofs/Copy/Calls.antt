@@ -10,7 +10,7 @@ use Rattle.proof_obstruction_free.specs.Beneath.machine_model.specs.Operations.{
 use Rattle.proof_obstruction_free.specs.Beneath.machine_model.proofs.Actors.{mark_only, marks_in}
 use Rattle.proof_obstruction_free.specs.Beneath.machine_model.proofs.Found.{none_found}
 use Rattle.proof_obstruction_free.specs.Beneath.machine_model.proofs.Times.{at_each_time}
-use Rattle.proof_obstruction_free.specs.Beneath.proof_generations.proofs.Handles.Running.{Comes, began, rested, went, comes, place_of_actor}
+use Rattle.proof_obstruction_free.specs.Beneath.proof_generations.proofs.Handles.Running.{Comes, began, rested, went, comes, place_of_actor, gave}
 use Rattle.proof_obstruction_free.specs.Beneath.proof_generations.specs.Running.{Runs}
 use Rattle.proof_obstruction_free.specs.Alone.{Lone}
 use Rattle.proof_obstruction_free.specs.Copies.{IsCopying}
@@ -107,6 +107,7 @@ so_by state s all k found (went was is at_k g it) copies =
     let same = it ∙ mark_only (marks_in state s) (operation_after state was) in
     let before : IsCopying was.call = subst (λ (x : Operation). IsCopying x.call) same copies in
     subst (λ (x : Operation). OfCopy x.line) (sym same) (line_so state was before was.line (all k was at_k before))
+so_by state s all k found (gave was answer is at_k may it) copies = subst (λ (x : Operation). OfCopy x.line) (sym it) tt
 
 none_so : (limits : Bounds) → AllSo (first_state limits)
 unfolding first_state

@@ -5,7 +5,7 @@ use Rattle.proof_obstruction_free.specs.Vocabulary.{Operation, Bounds, Step, is_
 use Rattle.proof_obstruction_free.specs.Beneath.machine_model.proofs.Along.{along}
 use Rattle.proof_obstruction_free.specs.Beneath.machine_model.proofs.Found.{none_found}
 use Rattle.proof_obstruction_free.specs.Beneath.machine_model.proofs.Frames.{limits_kept}
-use Rattle.proof_obstruction_free.specs.Beneath.proof_generations.proofs.Handles.Running.{Comes, began, comes, place_of_actor, rested, went}
+use Rattle.proof_obstruction_free.specs.Beneath.proof_generations.proofs.Handles.Running.{Comes, began, comes, place_of_actor, rested, went, gave}
 use Rattle.proof_obstruction_free.specs.Beneath.proof_generations.specs.Running.{Runs}
 use Rattle.proof_obstruction_free.specs.Beneath.machine_model.proofs.Actors.{begin_actor}
 
@@ -19,6 +19,7 @@ by_coming : (before : State) (s : Step) (k : ℕ) (found : Operation) → Comes 
 by_coming before s k found (began call e d same) all = begin_actor before (suc k) call d
 by_coming before s k found (rested was runs same other_step) all = all k was runs
 by_coming before s k found (went was e runs g same) all = all k was runs
+by_coming before s k found (gave was answer e runs may same) all = all k was runs
 
 at_first : (limits : Bounds) → AllActors (first_state limits)
 unfolding first_state

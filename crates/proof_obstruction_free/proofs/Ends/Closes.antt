@@ -2,9 +2,9 @@
 use Rattle.std.proofs.Common.{◌≡◌, ℕ, ◌<◌, true, List, Some, Ok, refl, sym, ap, ◌∙◌, subst, append-nil}
 use Rattle.std.specs.Prelude.{Contains}
 use Rattle.std.proofs.lemmas.Bool.{false≢true}
-use Rattle.std.proofs.lemmas.Option.{same_Some}
+use Rattle.std.proofs.lemmas.Option.{same_Some, none-some}
 use Rattle.proof_obstruction_free.specs.Vocabulary.{Kind, Call, Close, End, Reply, Closed, Operation, Bounds, Ended, Went, Step, is_close, next, next_state, run, Moves, GoesOn, action_of}
-use Rattle.proof_obstruction_free.specs.Vocabulary.{first_line, line_action, State, operation_of, Record, next_record, record_of}
+use Rattle.proof_obstruction_free.specs.Vocabulary.{first_line, line_action, State, operation_of, Record, next_record, record_of, given_up, Line}
 use Rattle.proof_obstruction_free.specs.Beneath.machine_model.specs.declared.actions.Action.TheVariants as act
 use Rattle.proof_obstruction_free.specs.Beneath.machine_model.specs.declared.lines.Line.TheVariants as line
 use Rattle.proof_obstruction_free.specs.Beneath.machine_model.specs.declared.steps.Step.TheVariants as step
@@ -30,10 +30,15 @@ begun_closes call e = absurd (false≢true e)
 no_step : (state : State) (operation : Operation) → operation.line ≡ line.End Closed → GoesOn (action_of state operation) → ⊥
 no_step state operation e g = subst GoesOn (ap (line_action state operation) e) g
 
+-- so it doesn't give up
+stays_closing : (call : Call) (l : Line) (answer : Reply) → given_up call l ≡ Some answer → l ≡ line.End Closed → ⊥
+stays_closing call l answer may e = none-some answer (subst (λ x. given_up call x ≡ Some answer) e may)
+
 each_closes : (limits : Bounds) (steps : List Step) → OfEach Closes (run limits steps)
 each_closes limits =
     of_each_along limits Closes (λ steps actor call d e. begun_closes call e)
     (λ steps actor operation found g h. rw (mark_only _ _) (λ e. absurd (no_step (run limits steps) operation (h e) g)))
+    (λ steps actor operation answer found may h e. absurd (stays_closing operation.call operation.line answer may (h e)))
     (λ steps s o after m k other operation found h. rw (mark_only _ operation) h)
 
 goes_on : (state : State) (actor : ℕ) (kind : Kind) (after : State) → Moves state (step.Go actor) (Went kind) after →

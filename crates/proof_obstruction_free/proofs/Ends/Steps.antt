@@ -15,7 +15,7 @@ use Rattle.proof_obstruction_free.specs.Beneath.machine_model.proofs.Actors.{mar
 use Rattle.proof_obstruction_free.specs.Beneath.machine_model.proofs.Found.{found_within}
 use Rattle.proof_obstruction_free.specs.Beneath.machine_model.proofs.Moves.{moved}
 use Rattle.proof_obstruction_free.specs.Beneath.machine_model.proofs.Notes.{noted_ending}
-use Rattle.proof_obstruction_free.specs.Beneath.proof_generations.proofs.Handles.Running.{Follows, follows, rests, steps, ends}
+use Rattle.proof_obstruction_free.specs.Beneath.proof_generations.proofs.Handles.Running.{Follows, follows, rests, steps, ends, gives_up}
 use Rattle.proof_obstruction_free.specs.Beneath.proof_generations.specs.Running.{Runs}
 
 -- ---- nothing denies it
@@ -51,6 +51,7 @@ after_going : (state : State) (k : ℕ) (operation : Operation) (o : Outcome) (a
 after_going state k operation o after g (rests other found) = absurd (other refl)
 after_going state k operation o after g (steps own on found) = (_, found, mark_id (marks_in state (step.Go (suc k))) (operation_after state operation))
 after_going state k operation o after g (ends answer own is) = absurd (subst GoesOn is g)
+after_going state k operation o after g (gives_up answer own may found) = let wrong : ⊥ = cc own in absurd wrong
 
 idle_after : (state : State) (k : ℕ) (operation : Operation) (answer : Reply) → Runs state k operation → operation_of (settled state (ended state (suc k))) (suc k) ≡ None
 idle_after state k operation answer runs =

@@ -8,7 +8,7 @@ use Rattle.proof_obstruction_free.specs.Beneath.machine_model.specs.declared.rea
 use Rattle.proof_obstruction_free.specs.Beneath.machine_model.proofs.Actors.{mark_one, mark_only, marks_in}
 use Rattle.proof_obstruction_free.specs.Beneath.machine_model.proofs.Found.{none_found}
 use Rattle.proof_obstruction_free.specs.Beneath.machine_model.proofs.Times.{at_each_time}
-use Rattle.proof_obstruction_free.specs.Beneath.proof_generations.proofs.Handles.Running.{Comes, began, comes, place_of_actor, rested, went}
+use Rattle.proof_obstruction_free.specs.Beneath.proof_generations.proofs.Handles.Running.{Comes, began, comes, place_of_actor, rested, went, gave}
 use Rattle.proof_obstruction_free.specs.Beneath.proof_generations.specs.Running.{Runs}
 use Rattle.proof_obstruction_free.specs.Beneath.proof_shape.proofs.Lines.Leads.{is_down, key_leads, build_leads, swap_leads, renew_leads, clean_leads, climb_leads}
 use Rattle.proof_obstruction_free.specs.Keys.{IsOnKey}
@@ -64,6 +64,7 @@ by_coming state s k found all (began call is d it) = subst IsDown (sym it) (firs
 by_coming state s k found all (rested was at_k it other_step) = subst IsDown (sym it) (marked_down (marks_in state s) was (all k was at_k))
 by_coming state s k found all (went was is at_k g it) =
     subst IsDown (sym it) (marked_down (marks_in state s) (operation_after state was) (λ on. down_after state was on was.line (all k was at_k on)))
+by_coming state s k found all (gave was answer is at_k may it) = subst IsDown (sym it) (λ on. refl)
 
 at_first : (limits : Bounds) → AllDown (first_state limits)
 unfolding first_state

@@ -10,7 +10,7 @@ use Rattle.proof_obstruction_free.specs.Beneath.machine_model.proofs.Found.{none
 use Rattle.proof_obstruction_free.specs.Beneath.machine_model.proofs.Times.{along_run}
 use Rattle.proof_obstruction_free.specs.Beneath.proof_memory.proofs.Safety.AtEachTime.{safe_at}
 use Rattle.proof_obstruction_free.specs.Beneath.proof_memory.proofs.Safety.States.{IsSafe}
-use Rattle.proof_obstruction_free.specs.Beneath.proof_generations.proofs.Handles.Running.{Comes, began, rested, went, comes, place_of_actor}
+use Rattle.proof_obstruction_free.specs.Beneath.proof_generations.proofs.Handles.Running.{Comes, began, rested, went, comes, place_of_actor, gave}
 use Rattle.proof_obstruction_free.specs.Beneath.proof_generations.specs.Running.{Runs}
 use Rattle.proof_obstruction_free.specs.Alone.{Lone, Stands}
 use Rattle.proof_obstruction_free.specs.Keys.{IsOnKey}
@@ -84,6 +84,7 @@ so_by state I s all k found (went was is at_k g it) reads on =
     let on_key : IsOnKey was.call = subst (λ (x : Operation). IsOnKey x.call) same on in
     subst (λ (x : Operation). OfReader x.line) (sym same)
     (line_so state was (record { read_only = read_only; on_key = on_key; reads = I.fits k was at_k read_only }) was.line (all k was at_k read_only on_key))
+so_by state I s all k found (gave was answer is at_k may it) reads on = subst (λ (x : Operation). OfReader x.line) (sym it) tt
 
 none_so : (limits : Bounds) → AllSo (first_state limits)
 unfolding first_state

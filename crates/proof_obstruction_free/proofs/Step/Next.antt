@@ -2,14 +2,14 @@
 use Rattle.std.proofs.Common.{◌≡◌, ℕ, zero, suc, ◌<◌, ◌≤◌, Option, Some, refl, sym, ap, ◌∙◌, subst, arith}
 use Rattle.std.proofs.lemmas.Option.{same_Some}
 use Rattle.proof_obstruction_free.specs.Vocabulary.{Reply, Line, Operation, Outcome, Step, operation_after, action_of, line_action, line_after, generation_from, Record, first_record, noted, State}
-use Rattle.proof_obstruction_free.specs.Vocabulary.{operation_of, told_in, IsRun, turns, Begins, Ends, Sweeps, Moves, GoesOn}
+use Rattle.proof_obstruction_free.specs.Vocabulary.{operation_of, told_in, IsRun, turns, Begins, Ends, Sweeps, GivesUp, Moves, GoesOn}
 use Rattle.proof_obstruction_free.specs.Beneath.machine_model.specs.declared.actions.Action.TheVariants as act
 use Rattle.proof_obstruction_free.specs.Beneath.machine_model.specs.declared.lines.Line.TheVariants as line
 use Rattle.proof_obstruction_free.specs.Beneath.machine_model.specs.declared.steps.Step.TheVariants as step
 use Rattle.proof_obstruction_free.specs.Beneath.machine_model.proofs.Actors.{mark_one, mark_only, marks_in, of_end}
 use Rattle.proof_obstruction_free.specs.Beneath.machine_model.specs.Moves.{Goes}
 use Rattle.proof_obstruction_free.specs.Beneath.proof_commits.proofs.Lines.Reads.{only_end}
-use Rattle.proof_obstruction_free.specs.Beneath.proof_generations.proofs.Handles.Running.{Follows, rests, steps, ends, follows, place_of_actor}
+use Rattle.proof_obstruction_free.specs.Beneath.proof_generations.proofs.Handles.Running.{Follows, rests, steps, ends, follows, place_of_actor, gives_up}
 use Rattle.proof_obstruction_free.specs.Beneath.proof_generations.specs.Running.{Runs}
 use Rattle.proof_obstruction_free.specs.Alone.{Lone, Stands}
 use Rattle.proof_obstruction_free.specs.Stepping.{IsNoEnd}
@@ -30,6 +30,7 @@ ends_so state s o after (Goes {actor} {operation = own} d is a goes) k operation
     subst GoesOn (sym a ∙ ap (action_of state) one ∙ at_end) goes
 ends_so state s o after (Ends {actor} d is a) k operation found answer e at_k at_end at_found =
     let place : actor ≡ suc k = cc e in of_end state actor k place found at_found
+ends_so state s o after (GivesUp d is a) k operation found answer e at_k at_end at_found = let wrong : ⊥ = cc e in wrong
 ends_so state s o after (Sweeps spent) k operation found answer e at_k at_end at_found = let wrong : ⊥ = cc e in wrong
 
 module _ (a : Lone) where
@@ -92,6 +93,7 @@ module _ (a : Lone) where
       (ap (operation_of (a.states (suc t))) place ∙ runs) (mark_only (marks_in (a.states t) (step.Go a.actor)) (operation_after (a.states t) s.operation))
   by_follows t g l s more not k place (ends answer own is) =
       absurd (no_end (a.states t) s.operation l not answer (ap (line_action (a.states t) s.operation) (sym s.line) ∙ is))
+  by_follows t g l s more not k place (gives_up answer own may runs) = let wrong : ⊥ = cc own in absurd wrong
 
   pub next : (t : ℕ) (g : Option ℕ) (l : Line) (s : Stands a t g l) → t < a.last → IsNoEnd l →
       Stands a (suc t) (generation_from (a.states t) s.operation l) (line_after (a.states t) s.operation l)

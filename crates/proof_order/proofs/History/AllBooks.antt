@@ -1,8 +1,8 @@
 -- At each time of a run the history is well formed, and says which operations run.
 use Rattle.std.proofs.Common.{◌≡◌, ℕ, suc, ◌-◌, ◌≤◌, inl, inr, List, [], ◌∷◌, ◌++◌, set, get_or, length, Some, None, refl, sym, ap, ◌∙◌, subst, length-set}
 use Rattle.std.proofs.lemmas.List.{length-replicate}
-use Rattle.proof_order.specs.Vocabulary.{Reply, Event, End, IsRunning, MayFollow, IsWellFormed, Operation, Bounds, Outcome, Step, State, first_state, Begins, Ends, Sweeps, Moves, begun_operation}
-use Rattle.proof_order.specs.Vocabulary.{IsRun, Record, first_record, noted, no_moment, told_in}
+use Rattle.proof_order.specs.Vocabulary.{Reply, Event, End, IsRunning, MayFollow, IsWellFormed, Operation, Bounds, Outcome, Step, State, first_state, Begins, Ends, Sweeps, GivesUp, Moves}
+use Rattle.proof_order.specs.Vocabulary.{begun_operation, IsRun, Record, first_record, noted, no_moment, told_in}
 use Rattle.proof_order.specs.Beneath.history.specs.Histories.{Operation as Told}
 use Rattle.proof_order.specs.Beneath.history.proofs.Places.{at_old, at_push, at_cases}
 use Rattle.proof_order.specs.Beneath.history.proofs.Begins.{well_formed_push}
@@ -103,6 +103,9 @@ books_kept state past s o after (Goes {actor} {operation} {action} d is a g) boo
 books_kept state past s o after (Ends {actor} {operation} {answer} d is a) books =
     let (k, own, at_k) = place_of_actor state actor operation is in
     ends_books state past actor k operation answer _ _ (Ends d is a) own at_k refl refl (ap (λ (r : Record). r.events) (noted_ending state past actor operation answer is a)) books
+books_kept state past s o after (GivesUp {actor} d is a) books =
+    quiet_books state past (step.GiveUp actor) _ _ (GivesUp d is a) (length-set state.actors (actor - 1) _) refl refl (λ k found new. let is = new.is_step in cc is)
+    (no_end state past (step.GiveUp actor) past refl) books
 books_kept state past s o after (Sweeps spent) books =
     quiet_books state past step.Sweep _ _ (Sweeps spent) refl refl refl (λ k found new. let is = new.is_step in cc is) (no_end state past step.Sweep past refl) books
 

@@ -1,7 +1,7 @@
 -- An operation whose offer was carried out answers so, if it ends.
 use Rattle.std.proofs.Common.{◌≡◌, ℕ, suc, ◌<◌, ◌≤◌, ◌⊎◌, inl, inr, cond, true, Option, Some, None, sym, ap, ◌∙◌, subst, arith}
 use Rattle.proof_order.specs.Vocabulary.{Call, Reply, End, HasEnded, begun, Operation, Descriptor, Complete, Outcome, Step, Bounds, handle_of, State, first_state, word_at, complete_action}
-use Rattle.proof_order.specs.Vocabulary.{is_carried_out, copied_reply, action_of, line_action, operation_after, Begins, Ends, Sweeps, Moves, IsRun, Record, first_record, noted, told_in}
+use Rattle.proof_order.specs.Vocabulary.{is_carried_out, copied_reply, action_of, line_action, operation_after, Begins, Ends, Sweeps, GivesUp, Moves, IsRun, Record, first_record, noted, told_in}
 use Rattle.proof_order.specs.Beneath.machine_model.specs.declared.actions.Action.TheVariants as act
 use Rattle.proof_order.specs.Beneath.machine_model.specs.declared.copying.CopyLine.TheVariants as copy
 use Rattle.proof_order.specs.Beneath.machine_model.specs.declared.lines.Line.TheVariants as line
@@ -17,7 +17,7 @@ use Rattle.proof_order.proofs.History.Growing.{ended_before, events_grow, holds_
 use Rattle.proof_order.proofs.History.Recalling.{begun_more_or_same}
 use Rattle.proof_order.proofs.Offers.Known.{Offers, running_below}
 use Rattle.proof_order.proofs.Offers.Standing.{offers_kept, first_offers, nobody}
-use Rattle.proof_order.proofs.History.OneStep.{From, began, kept, stepped, from}
+use Rattle.proof_order.proofs.History.OneStep.{From, began, kept, stepped, from, gave}
 use Rattle.proof_order.proofs.History.Copies.{IsDone, done_by, stays_marked, mark_kept, own_marks}
 use Rattle.proof_order.specs.Beneath.machine_model.proofs.Recorded.{KeptByNotes, at_each_record}
 use Rattle.proof_order.specs.Beneath.machine_model.proofs.Notes.{noted_going, noted_ending}
@@ -42,6 +42,7 @@ ended_now state past s o after (Ends {actor} {operation} {answer = told} d is a)
           let (k, actors, runs) = place_of_actor state actor operation is in
           inr (k, operation, ap step.Go actors, runs, same_id, a ∙ ap act.End same_reply)
     ]
+ended_now state past s o after (GivesUp d is a) id answer ended = inl ended
 ended_now state past s o after (Sweeps spent) id answer ended = inl ended
 
 -- ---- at each time
@@ -114,6 +115,7 @@ module _ (id : ℕ) (call : Call) (opens : Option ℕ) where
       let (marked, calls, number) = h.marked k operation runs its in
       let keeps = mark_kept operation.is_marked (action_of state operation) (no_offer state operation (h.phased.done k operation runs) marked) in
       subst (λ x. Fits x) (sym is) (marked_fits m next (keeps ∙ marked, calls, number))
+  fits_by state s h k found same (gave operation answer runs e may is) = subst (λ x. Fits x) (sym is) (h.marked k operation runs (ap (λ (x : Operation). x.id) (sym is) ∙ same))
 
   settled_kept : KeptByNotes (Settled id call opens)
   unfolding Fits
@@ -170,6 +172,8 @@ module _ (state : State) (past : Record) (s : Step) (o : Outcome) (after : State
       let one = (one_by_id state past phased.offers.books j k operation offerer there runs (its ∙ sym id)).1 in
       let marked : marks ≡ Some offer.operation = sym (own_marks state s j operation e there) ∙ carried_marks state s handle offer carries in
       subst (λ x. NowFits x) (sym is) (now_marked next marks marked its (ap (λ (x : Operation). x.call) one) (ap (λ (x : Operation). x.opens) one))
+  now_by j found same (gave operation answer there e may is) =
+      let (actor, other, main, step_is, is_other, completes, on, out) = carries in let wrong : step.Go actor ≡ step.GiveUp (suc j) = sym step_is ∙ e in absurd (cc wrong)
 
   carries_not_ends : (j : ℕ) (operation : Operation) (answer : Reply) → s ≡ step.Go (suc j) → Runs state j operation → action_of state operation ≡ act.End answer → ⊥
   carries_not_ends j operation answer e there does =

@@ -3,7 +3,7 @@ use Rattle.std.proofs.Common.{◌≡◌, ℕ, zero, suc, ◌+◌, ◌<◌, ◌�
 use Rattle.std.proofs.lemmas.Bool.{cases_lt}
 use Rattle.std.proofs.lemmas.Option.{same_Some, slice_get_within}
 use Rattle.proof_order.specs.Vocabulary.{KeyMap, Reply, End, BeginsAt, EndsAt, HasBegun, HasEnded, OrderedAt, IsCandidate, KeepsTime, Place, Operation, Bounds, Outcome, Step, State, operation_of}
-use Rattle.proof_order.specs.Vocabulary.{action_of, Begins, Ends, Sweeps, Moves, IsRun, entered_at_end, closing_for, Record, moment_at, noted, told_in, entrant_of}
+use Rattle.proof_order.specs.Vocabulary.{action_of, Begins, Ends, Sweeps, GivesUp, Moves, IsRun, entered_at_end, closing_for, Record, moment_at, noted, told_in, entrant_of}
 use Rattle.proof_order.specs.Beneath.history.specs.declared.replies.Reply.TheVariants as reply
 use Rattle.proof_order.specs.Beneath.history.specs.declared.events.Event.TheVariants.{Begin}
 use Rattle.proof_order.specs.Beneath.history.specs.Histories.{Operation as Told}
@@ -83,6 +83,7 @@ refused_now state past s o after (Ends {actor} {operation} {answer = told} d is 
                 ∙ append-nil past.places,
           )
     ]
+refused_now state past s o after (GivesUp d is a) id ended = inl ended
 refused_now state past s o after (Sweeps spent) id ended = inl ended
 
 module _ (limits : Bounds) (states : ℕ → State) (last : ℕ) (r : IsRun limits states last) (V : ℕ → ℕ → KeyMap) (facts : Facts limits states r.records last V) where

@@ -1,7 +1,8 @@
 -- A close is answered with Closed, if it ends.
 use Rattle.std.proofs.Common.{◌≡◌, ℕ, suc, ◌≤◌, inl, inr, Option, Some, slice_get, sym, ap, ◌∙◌, subst, arith}
+use Rattle.std.proofs.lemmas.Option.{none-some}
 use Rattle.proof_order.specs.Vocabulary.{Call, Close, Reply, Event, End, HasEnded, Operation, Action, Bounds, Outcome, Step, State, first_state, action_of, line_action, first_line, operation_after}
-use Rattle.proof_order.specs.Vocabulary.{Begins, Ends, Sweeps, Moves, GoesOn, begun_operation, IsRun, Record, first_record, noted, told_in}
+use Rattle.proof_order.specs.Vocabulary.{Begins, Ends, Sweeps, GivesUp, Moves, GoesOn, begun_operation, IsRun, Record, first_record, noted, told_in, given_up}
 use Rattle.proof_order.specs.Beneath.history.specs.declared.replies.Reply.TheVariants as reply
 use Rattle.proof_order.specs.Beneath.history.specs.declared.events.Event.TheVariants.{Begin}
 use Rattle.proof_order.specs.Beneath.history.specs.Histories.{Operation as Told}
@@ -11,7 +12,7 @@ use Rattle.proof_order.specs.Beneath.machine_model.specs.declared.actions.Action
 use Rattle.proof_order.specs.Beneath.machine_model.specs.declared.lines.Line.TheVariants as line
 use Rattle.proof_order.specs.Beneath.machine_model.specs.Moves.{Goes}
 use Rattle.proof_order.specs.Beneath.machine_model.proofs.Found.{none_found}
-use Rattle.proof_order.specs.Beneath.machine_model.proofs.Actors.{IsOf, is_of, mark_one, mark_only, of_others, of_itself, of_begin, of_end}
+use Rattle.proof_order.specs.Beneath.machine_model.proofs.Actors.{IsOf, is_of, mark_one, mark_only, of_others, of_itself, of_begin, of_end, of_giving_up}
 use Rattle.proof_generations.proofs.Handles.Running.{place_of_actor, at_place}
 use Rattle.proof_order.specs.Facts.{Runs}
 use Rattle.proof_order.proofs.History.Books.{Books, ended_below}
@@ -49,6 +50,9 @@ closed_by state s o after (Goes {actor} {operation} {action} d is a g) k found a
     subst EndsClosed (sym (of_itself state actor operation k own found at_k)) (marked_closed _ (operation_after state operation) (λ handle e.
     absurd (goes_not_closed state operation action a g (h k operation (at_place state actor k operation own is) handle e))))
 closed_by state s o after (Ends {actor} d is a) k found at_k h (yes own) = absurd (of_end state actor k own found at_k)
+closed_by state s o after (GivesUp {actor} {operation} {answer} d is a) k found at_k h (yes own) =
+    subst EndsClosed (of_giving_up state actor operation answer k own found at_k) (λ handle e. absurd (none-some answer
+    (subst (λ l. given_up (Close handle) l ≡ Some answer) (h k operation (at_place state actor k operation own is) handle e) (subst (λ x. given_up x operation.line ≡ Some answer) e a))))
 closed_by state s o after (Sweeps spent) k found at_k h (yes own) = absurd own
 
 -- ---- so it is answered with that
@@ -107,6 +111,7 @@ answers_kept state past s o after (Ends {actor = a} {operation} {answer = told} 
       ]
       | inr new ↦ let event = new.1 in let wrong : ⊥ = cc event in absurd wrong
     ]
+answers_kept state past s o after (GivesUp d is b) c place id actor handle opens answer at ended = c.answers place id actor handle opens answer at ended
 answers_kept state past s o after (Sweeps spent) c place id actor handle opens answer at ended = c.answers place id actor handle opens answer at ended
 
 closing_kept : KeptByNotes Closing

@@ -2,9 +2,10 @@
 -- out.
 use Rattle.std.proofs.Common.{◌≡◌, ℕ, suc, ◌==◌, ◌⊎◌, inl, inr, cond, Bool, true, false, Option, Some, None, refl, sym, ap, ◌∙◌, subst, eqb-true, arith}
 use Rattle.std.proofs.lemmas.Bool.{false≢true}
-use Rattle.std.proofs.lemmas.Option.{same_Some}
+use Rattle.std.proofs.lemmas.Option.{same_Some, none-some}
 use Rattle.proof_order.specs.Vocabulary.{Ref, Action, Operation, Descriptor, Complete, After, Gives, Step, handle_of, State, word_at, operation_of, complete_after, complete_action, is_carried_out}
-use Rattle.proof_order.specs.Vocabulary.{copied_reply, copy_after_complete, action_of, line_action, line_after, mark_after, operation_after, GoesOn, Record}
+use Rattle.proof_order.specs.Vocabulary.{copied_reply, copy_after_complete, action_of, line_action, line_after, mark_after, operation_after, GoesOn, Record, given_up, tells_effect, unless_effect}
+use Rattle.proof_order.specs.Vocabulary.{Clear, Call, Reply}
 use Rattle.proof_order.specs.Beneath.machine_model.specs.declared.actions.Action.TheVariants as act
 use Rattle.proof_order.specs.Beneath.machine_model.specs.declared.reading.After.TheVariants.{Goes}
 use Rattle.proof_order.specs.Beneath.machine_model.specs.declared.copying.CopyLine.TheVariants as copy
@@ -15,7 +16,7 @@ use Rattle.proof_generations.proofs.Offers.Marks.{Marks, marked_in}
 use Rattle.proof_generations.proofs.Offers.Standing.{completes_it}
 use Rattle.proof_order.specs.Facts.{Runs}
 use Rattle.proof_order.proofs.Offers.Known.{Offers}
-use Rattle.proof_order.proofs.History.OneStep.{From, began, kept, stepped}
+use Rattle.proof_order.proofs.History.OneStep.{From, began, kept, stepped, gave}
 
 -- ---- what a marked operation does
 
@@ -76,6 +77,17 @@ pub mark_kept : (mark : Bool) (action : Action) → ((offer : Descriptor) → ac
 mark_kept mark (act.Offer offer) other = absurd (other offer refl)
 mark_kept mark action other = refl
 
+-- so it doesn't give up
+pub copied_tells : (call : Call) (opens : Option ℕ) → tells_effect call (copied_reply call opens) ≡ true
+copied_tells (Clear h) opens = refl
+copied_tells call opens = refl
+
+done_keeps : (operation : Operation) (answer : Reply) → given_up operation.call operation.line ≡ Some answer →
+    ((c : Complete) × (operation.line ≡ line.Copy (copy.Complete c))) ⊎ (operation.line ≡ line.End (copied_reply operation.call operation.opens)) → ⊥
+done_keeps operation answer may (inl (c, at)) = none-some answer (ap (given_up operation.call) (sym at) ∙ may)
+done_keeps operation answer may (inr at) =
+    none-some answer (ap unless_effect (sym (copied_tells operation.call operation.opens)) ∙ ap (given_up operation.call) (sym at) ∙ may)
+
 -- ---- each step keeps that
 
 -- the same operation but for the mark, at another line
@@ -119,6 +131,7 @@ done_by state s offers each k found (kept operation runs is other) e =
     by : (operation.is_marked ≡ true) ⊎ (marks_in state s ≡ Some operation.id) → IsDone (mark_one (marks_in state s) operation)
     by (inl marked) = done_as (marks_in state s) operation (each k operation runs marked)
     by (inr marked) = let (it, c, at) = marked_completes state s offers k operation runs marked in done_as (marks_in state s) operation (inl (c, at))
+done_by state s offers each k found (gave operation answer runs step_is may is) e = absurd (done_keeps operation answer may (each k operation runs (ap (λ (x : Operation). x.is_marked) (sym is) ∙ e)))
 done_by state s offers each k found (stepped operation runs step_is goes is) e =
     let next : Operation = operation_after state operation in
     let m = marks_by state (Some operation) in

@@ -3,9 +3,9 @@ use Rattle.std.proofs.Common.{◌≡◌, ◌≢◌, ℕ, zero, suc, ◌+◌, ◌
 use Rattle.std.proofs.Common.{append-nil, append_assoc, arith, eqb-true, []}
 use Rattle.std.specs.List.{list_any}
 use Rattle.std.proofs.lemmas.Bool.{false≢true, or_cases, or_parts, eqb-false}
-use Rattle.proof_order.specs.Vocabulary.{Reply, Event, End, HasEnded, Place, Bounds, Outcome, Step, State, ended, Begins, Ends, Sweeps, Moves, begun_operation, turns, noted_turn, IsRun, Turn}
-use Rattle.proof_order.specs.Vocabulary.{is_placed, place_of, entered, entered_at_end, Record, first_record, noted, noted_progress, placed_by, entered_at_begin, moment_at, told_in, progress_of}
-use Rattle.proof_order.specs.Vocabulary.{entrant_of, Progress, Entrant}
+use Rattle.proof_order.specs.Vocabulary.{Reply, Event, End, HasEnded, Place, Bounds, Outcome, Step, State, ended, Begins, Ends, Sweeps, GivesUp, Moves, begun_operation, turns, noted_turn, IsRun}
+use Rattle.proof_order.specs.Vocabulary.{Turn, is_placed, place_of, entered, entered_at_end, Record, first_record, noted, noted_progress, placed_by, entered_at_begin, moment_at, told_in}
+use Rattle.proof_order.specs.Vocabulary.{progress_of, entrant_of, Progress, Entrant}
 use Rattle.proof_order.specs.Beneath.history.specs.declared.replies.Reply.TheVariants as reply
 use Rattle.proof_order.specs.Beneath.history.proofs.Places.{at_cases, at_front}
 use Rattle.proof_order.specs.Beneath.machine_model.specs.Moves.{Goes}
@@ -62,6 +62,7 @@ places_grow state past s o after (Goes {actor} {operation} {action} d is a g) =
     subst (λ (r : Record). Grows past.places r.places) (sym (noted_going state past actor operation action is a g)) (progress_grows past state.steps actor (progress_of state operation))
 places_grow state past s o after (Ends {actor} {operation} {answer} d is a) =
     (_, ap (λ (r : Record). r.places) (noted_ending state past actor operation answer is a))
+places_grow state past s o after (GivesUp d is a) = grows_same _ _ refl
 places_grow state past s o after (Sweeps spent) = grows_same _ _ refl
 
 -- and the history
@@ -69,6 +70,7 @@ pub events_grow : (state : State) (past : Record) (s : Step) (o : Outcome) (afte
 events_grow state past s o after (Begins {actor} {call} d) = (_, refl)
 events_grow state past s o after (Goes {actor} {operation} {action} d is a g) = grows_same _ _ (ap (λ (r : Record). r.events) (noted_going state past actor operation action is a g))
 events_grow state past s o after (Ends {actor} {operation} {answer} d is a) = (_, ap (λ (r : Record). r.events) (noted_ending state past actor operation answer is a))
+events_grow state past s o after (GivesUp d is a) = grows_same _ _ refl
 events_grow state past s o after (Sweeps spent) = grows_same _ _ refl
 
 -- ---- each answered operation has a place
@@ -135,6 +137,7 @@ newly_ended state past s o after (Ends {actor} {operation} {answer = told} d is 
           let (p, within, its) = placed_at_end past (entrant_of operation) (moment_at past actor).moment told _ refl (subst (λ r. r ≢ reply.NoSlots) (sym same_reply) other) in
           inr (subst (λ r. HasPlace r id) (sym notes) (p, within, its ∙ same_id))
     ]
+newly_ended state past s o after (GivesUp d is a) id answer ended other = inl ended
 newly_ended state past s o after (Sweeps spent) id answer ended other = inl ended
 
 pub answered_kept : KeptByNotes (λ state past. Answered past)

@@ -4,7 +4,7 @@ use Rattle.std.proofs.Common.{◌∷◌, ◌++◌, length, Option, Some, None, �
 use Rattle.std.proofs.Common.{refl, sym, ap, ◌∙◌, subst}
 use Rattle.std.proofs.lemmas.Bool.{and_parts}
 use Rattle.proof_order.specs.Vocabulary.{Call, Close, Reply, Event, HasBegun, begun, OrderedAt, Ref, Place, rising, ids_by_place, Action, Operation, Descriptor, Bounds, Outcome, Step, handle_of}
-use Rattle.proof_order.specs.Vocabulary.{State, first_state, word_at, operation_of, action_of, stands_in, is_carried_out, run, Begins, Ends, Sweeps, Moves, begun_operation, IsRun, place_of}
+use Rattle.proof_order.specs.Vocabulary.{State, first_state, word_at, operation_of, action_of, stands_in, is_carried_out, run, Begins, Ends, Sweeps, GivesUp, Moves, begun_operation, IsRun, place_of}
 use Rattle.proof_order.specs.Vocabulary.{is_placed, closing_for, order_of, entered, entered_by, entered_at_end, Record, entered_at_begin, first_record, record_of, changer_of, noted, placed_by}
 use Rattle.proof_order.specs.Vocabulary.{moment_at, carried_by, told_in, progress_of, published_by, entrant_of, published_at, changer_for, Publication, Carried, Entrant, Progress, Line}
 use Rattle.proof_order.specs.Vocabulary.{generation_at, Purpose, SwapLine}
@@ -186,6 +186,7 @@ place_begun state past s o after (Ends {actor} {operation} {answer} d is b) h p 
       | inr new ↦ inr (still_begun past.events _ p.id grown
           (subst (λ i. HasBegun past.events i) (sym (end_place past (entrant_of operation) (moment_at past actor).moment answer p new)) (runs_begun state past h.offers.books k operation runs)))
     ]
+place_begun state past s o after (GivesUp d is b) h p a = inl a
 place_begun state past s o after (Sweeps spent) h p a = inl a
 
 changers_begun : (state : State) (past : Record) (s : Step) (o : Outcome) (after : State) → Moves state s o after → Begun state past → ChangersBegun (noted past state.steps (told_in state s))
@@ -203,6 +204,7 @@ changers_begun state past s o after (Goes {actor} {operation} {action} d is b g)
 changers_begun state past s o after (Ends {actor} {operation} {answer} d is b) h p e a its =
     still_begun past.events _ e.id (events_grow state past s o after (Ends {actor = actor} {operation = operation} {answer = answer} d is b))
     (h.changers p e (subst (λ (r : Record). Among p r.published) (noted_ending state past actor operation answer is b) a) its)
+changers_begun state past s o after (GivesUp d is b) h p e a its = h.changers p e a its
 changers_begun state past s o after (Sweeps spent) h p e a its = h.changers p e a its
 
 begun_kept : KeptByNotes Begun

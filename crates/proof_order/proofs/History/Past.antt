@@ -1,9 +1,9 @@
 -- Moments, commits and closings lie in the past.
 use Rattle.std.proofs.Common.{◌≡◌, ℕ, suc, ◌+◌, ◌<◌, ◌≤◌, ◌==◌, max, Bool, true, false, cond, ◌⊎◌, inl, inr}
 use Rattle.std.proofs.Common.{List, ◌∷◌, ◌++◌, find, Option, Some, None, refl, sym, ap, ◌∙◌, subst, arith, [], append-nil}
-use Rattle.proof_order.specs.Vocabulary.{Ref, Commit, Closing, Operation, Bounds, Outcome, Step, State, first_state, Begins, Ends, Sweeps, Moves, IsRun, step_of_commit, read_at_after, commit_step}
-use Rattle.proof_order.specs.Vocabulary.{moment_given, moment_after, commits_after, Record, first_record, moment_at, noted, closed_by, no_moment, with_moment, noted_progress, committed_now, told_in}
-use Rattle.proof_order.specs.Vocabulary.{progress_of, Moment, Progress, Carried}
+use Rattle.proof_order.specs.Vocabulary.{Ref, Commit, Closing, Operation, Bounds, Outcome, Step, State, first_state, Begins, Ends, Sweeps, GivesUp, Moves, IsRun, step_of_commit, read_at_after}
+use Rattle.proof_order.specs.Vocabulary.{commit_step, moment_given, moment_after, commits_after, Record, first_record, moment_at, noted, closed_by, no_moment, with_moment, noted_progress}
+use Rattle.proof_order.specs.Vocabulary.{committed_now, told_in, progress_of, Moment, Progress, Carried}
 use Rattle.proof_order.specs.Beneath.machine_model.specs.Moves.{Goes}
 use Rattle.proof_order.specs.Beneath.machine_model.proofs.Frames.{steps_counted}
 use Rattle.proof_order.specs.Beneath.machine_model.proofs.Found.{none_found}
@@ -82,6 +82,8 @@ operations_past state past s o after (Goes {actor} {operation} {action} d is a g
     ∙ moment_goes state past actor operation h.alike (go_actor state actor d) ∙ ap (λ j. moment_after past state.steps (progress_of state operation) (moment_at past j)) own)
     (after_past past state.steps (progress_of state operation) (moment_at past (suc k)) h.commits c e)
 operations_past state past s o after (Ends {actor} d is a) h k found at_k (yes own) = absurd (of_end state actor k own found at_k)
+operations_past state past s o after (GivesUp {actor} {operation} d is a) h k found at_k (yes own) =
+    let (c, e) = h.operations k operation (at_place state actor k operation own is) in (omega (arith, c), omega (arith, e))
 operations_past state past s o after (Sweeps spent) h k found at_k (yes own) = absurd own
 
 among_commits : (past : Record) (n : ℕ) (now : Option Ref) (c : Commit) → Among c (commits_after past n now) → Among c past.commits ⊎ (c.step ≡ n)
@@ -105,6 +107,7 @@ newly_committed state past s o after (Goes {actor} {operation} {action} d is b g
     among_commits past state.steps (committed_now state operation) c (subst (λ (r : Record). Among c r.commits) (noted_going state past actor operation action is b g) a)
 newly_committed state past s o after (Ends {actor} {operation} {answer} d is b) c a =
     inl (subst (λ (r : Record). Among c r.commits) (noted_ending state past actor operation answer is b) a)
+newly_committed state past s o after (GivesUp d is b) c a = inl a
 newly_committed state past s o after (Sweeps spent) c a = inl a
 
 newly_closed : (state : State) (past : Record) (s : Step) (o : Outcome) (after : State) → Moves state s o after → (c : Closing) →
@@ -114,6 +117,7 @@ newly_closed state past s o after (Goes {actor} {operation} {action} d is b g) c
     among_closings past state.steps (progress_of state operation).carried c (subst (λ (r : Record). Among c r.closings) (noted_going state past actor operation action is b g) a)
 newly_closed state past s o after (Ends {actor} {operation} {answer} d is b) c a =
     inl (subst (λ (r : Record). Among c r.closings) (noted_ending state past actor operation answer is b) a)
+newly_closed state past s o after (GivesUp d is b) c a = inl a
 newly_closed state past s o after (Sweeps spent) c a = inl a
 
 pub past_kept : KeptByNotes Past

@@ -1,7 +1,7 @@
 -- Places and closings lie in the past.
 use Rattle.std.proofs.Common.{◌≡◌, ℕ, ◌+◌, ◌<◌, ◌≤◌, Bool, true, false, cond, nat_lt, List, [], ◌∷◌, ◌++◌, All, Option, Some, None, refl, sym, subst, arith, ltb-true, inl, inr}
 use Rattle.std.proofs.lemmas.List.Elements.{All-append, All-cons, All-nil, All-weaker}
-use Rattle.proof_order.specs.Vocabulary.{Call, Close, Reply, Ref, Place, late, on_time, place_by, Closing, Bounds, Outcome, Step, run, Begins, Ends, Moves, Sweeps, begun_operation, State}
+use Rattle.proof_order.specs.Vocabulary.{Call, Close, Reply, Ref, Place, late, on_time, place_by, Closing, Bounds, Outcome, Step, run, Begins, Ends, Moves, Sweeps, GivesUp, begun_operation, State}
 use Rattle.proof_order.specs.Vocabulary.{first_state, entered, is_placed, place_of, entered_at_end, entered_by, Record, entered_at_begin, first_record, record_of, changer_of, placed_by, noted}
 use Rattle.proof_order.specs.Vocabulary.{moment_at, told_in, progress_of, entrant_of, Carried, Entrant, Progress}
 use Rattle.proof_order.specs.Beneath.history.specs.declared.replies.Reply.TheVariants as reply
@@ -85,6 +85,7 @@ moved_below state past h below s o after (Ends {actor} {operation} {answer} d is
     let its : (moment_at past actor).moment < state.steps = subst (λ j. (moment_at past j).moment < state.steps) (sym place) low in
     subst (λ (r : Record). Below (state.steps + 1) r.places) (sym (noted_ending state past actor operation answer is a))
     (more_below state.steps past.places _ below (ended_below past (entrant_of operation) (moment_at past actor).moment answer (state.steps + 1) (omega (arith, its))))
+moved_below state past h below s o after (GivesUp d is a) = later state.steps (state.steps + 1) past.places (omega arith) below
 moved_below state past h below s o after (Sweeps spent) = later state.steps (state.steps + 1) past.places (omega arith) below
 
 -- ---- all of it

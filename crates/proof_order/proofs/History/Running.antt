@@ -1,11 +1,12 @@
 -- Which operations run before and after a step: each keeps its id, its call, its handle to open and its kind.
 use Rattle.std.proofs.Common.{◌≡◌, ℕ, suc, ◌-◌, ◌⊎◌, inl, inr, List, ◌∷◌, ◌++◌, set, get_or, Option, Some, None, refl, sym, ap, ◌∙◌, subst, []}
 use Rattle.std.proofs.Math.ListN.{get_or-map}
-use Rattle.proof_order.specs.Vocabulary.{Call, Reply, End, Operation, action_of, Outcome, Step, State, operation_after, marked, Begins, Ends, Sweeps, Moves, begun_operation, Record, noted, told_in}
+use Rattle.proof_order.specs.Vocabulary.{Call, Reply, End, Operation, action_of, Outcome, Step, State, operation_after, marked, Begins, Ends, Sweeps, GivesUp, Moves, begun_operation, Record, noted}
+use Rattle.proof_order.specs.Vocabulary.{told_in, gave_up}
 use Rattle.proof_order.specs.Beneath.machine_model.specs.declared.actions.Action.TheVariants as act
 use Rattle.proof_order.specs.Beneath.machine_model.specs.declared.steps.Step.TheVariants as step
 use Rattle.proof_order.specs.Beneath.machine_model.specs.Moves.{Goes}
-use Rattle.proof_order.specs.Beneath.machine_model.proofs.Actors.{IsOf, is_of, mark_one, mark_only, marks_by, after_marks, of_others, of_itself, of_begin, of_end, gone_actors}
+use Rattle.proof_order.specs.Beneath.machine_model.proofs.Actors.{IsOf, is_of, mark_one, mark_only, marks_by, after_marks, of_others, of_itself, of_begin, of_end, gone_actors, of_giving_up}
 use Rattle.proof_order.specs.Beneath.machine_model.proofs.Actors.{begin_actors, go_counts, begin_counts}
 use Rattle.proof_generations.proofs.Handles.Running.{one_at, at_place, write_cases, begin_not_running}
 use Rattle.proof_order.specs.Facts.{Runs}
@@ -25,6 +26,10 @@ marked_same m operation = record {
 -- and after its step
 pub after_same : (state : State) (m : Option ℕ) (operation : Operation) → IsSame operation (mark_one m (operation_after state operation))
 after_same state m operation = let s = marked_same m (operation_after state operation) in record { id = s.id; call = s.call; opens = s.opens; access = s.access }
+
+-- and once it has given up
+pub gave_up_same : (operation : Operation) (answer : Reply) → IsSame operation (gave_up operation answer)
+gave_up_same operation answer = record { id = refl; call = refl; opens = refl; access = refl }
 
 -- ---- backwards
 
@@ -47,6 +52,8 @@ ran_by state s o after (Begins {actor} {call} d) k found at_k (yes own) =
 ran_by state s o after (Goes {actor} {operation} d is a g) k found at_k (yes own) =
     inr (operation, at_place state actor k operation own is, subst (λ f. IsSame operation f) (sym (of_itself state actor operation k own found at_k)) (after_same state _ operation))
 ran_by state s o after (Ends {actor} d is a) k found at_k (yes own) = absurd (of_end state actor k own found at_k)
+ran_by state s o after (GivesUp {actor} {operation} {answer} d is a) k found at_k (yes own) =
+    inr (operation, at_place state actor k operation own is, subst (λ f. IsSame operation f) (of_giving_up state actor operation answer k own found at_k) (gave_up_same operation answer))
 ran_by state s o after (Sweeps spent) k found at_k (yes own) = absurd own
 
 -- what runs after a step ran before, or begins with it
@@ -103,6 +110,12 @@ runs_on state past s o after (Ends {actor} {operation = own} {answer} d is a) k 
         ap (λ (r : Record). r.events)
             (noted_ending state past actor own answer is a) ∙ ap (λ (x : Operation). past.events ++ End x.id answer ∷ []) one,
       )
+  | inr there ↦ inr (operation, there.1, record { id = refl; call = refl; opens = refl; access = refl })
+]
+runs_on state past s o after (GivesUp {actor} {operation = own} {answer} d is a) k operation at_k = elim (write_cases state.actors (actor - 1) k (Some (gave_up own answer)) operation at_k) [
+  | inl here ↦
+      let at_own = at_place state actor k own (actor_at actor k (go_counts state actor d) here.0) is in
+      inr (gave_up own answer, here.1, subst (λ (x : Operation). IsSame x (gave_up own answer)) (one_at state k own operation at_own at_k) (gave_up_same own answer))
   | inr there ↦ inr (operation, there.1, record { id = refl; call = refl; opens = refl; access = refl })
 ]
 runs_on state past s o after (Sweeps spent) k operation at_k = inr (operation, at_k, record { id = refl; call = refl; opens = refl; access = refl })

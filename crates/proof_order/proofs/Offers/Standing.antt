@@ -48,6 +48,7 @@ pub marks_says : (state : State) (s : Step) (id : ℕ) → marks_in state s ≡ 
 marks_says state (step.Begin actor call) id e = absurd (none-some id e)
 marks_says state (step.Go actor) id e = marks_go state actor id (operation_of state actor) refl e
 marks_says state step.Sweep id e = absurd (none-some id e)
+marks_says state (step.GiveUp actor) id e = absurd (none-some id e)
 
 -- ---- at each time
 

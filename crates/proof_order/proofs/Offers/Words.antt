@@ -2,7 +2,7 @@
 use Rattle.std.proofs.Common.{◌≡◌, ℕ, suc, true, set, get_or, Option, Some, None, refl, sym, ap, ◌∙◌, subst}
 use Rattle.std.proofs.lemmas.Option.{none-some, same_Some}
 use Rattle.proof_order.specs.Vocabulary.{Call, Close, Operation, Root, Offer, Descriptor, Outcome, Step, handle_of, State, word_at, word_of, operation_of, action_of, is_plain, stands_in, with_begin}
-use Rattle.proof_order.specs.Vocabulary.{Begins, Ends, Sweeps, Moves, begun_operation}
+use Rattle.proof_order.specs.Vocabulary.{Begins, Ends, Sweeps, GivesUp, Moves, begun_operation}
 use Rattle.proof_order.specs.Beneath.machine_model.specs.declared.actions.Action.TheVariants as act
 use Rattle.proof_order.specs.Beneath.machine_model.specs.declared.steps.Step.TheVariants as step
 use Rattle.proof_order.specs.Beneath.machine_model.proofs.Found.{found_here, found_elsewhere}
@@ -61,4 +61,5 @@ words_after state s o after (Begins {actor} {call} d) handle offer e =
 words_after state s o after (Goes {actor} {operation} d is a g) handle offer e =
     go_by state actor operation is handle offer (offer_from _ (handle_of operation.call) handle offer (action_of state operation) e)
 words_after state s o after (Ends {actor} {operation} {answer} d is a) handle offer e = end_by state actor operation is handle offer (ap settles a) e
+words_after state s o after (GivesUp d is a) handle offer e = stood e (λ k operation mine is. let wrong : ⊥ = cc is in absurd wrong)
 words_after state s o after (Sweeps spent) handle offer e = stood e (λ k operation mine is. let wrong : ⊥ = cc is in absurd wrong)

@@ -89,7 +89,8 @@ module _ (limits : Bounds) (states : ℕ → State) (last : ℕ) (run : IsRun li
         elim (ran_or_began (states t) I.offers I.handles s k found (comes (states t) s o (states (suc t)) m k found now)) [
           | inl ran ↦ elim ran.line [
             | inl same ↦ so_far k ran.was b ran.at_k (subst (λ l. IsCleared l b) same is)
-            | inr goes ↦ empty_by k ran.was b ran.at_k goes.0 (cleared_makes (states t) ran.was b ran.was.line (subst (λ l. IsCleared l b) goes.1 is))
+            | inr (inl goes) ↦ empty_by k ran.was b ran.at_k goes.0 (cleared_makes (states t) ran.was b ran.was.line (subst (λ l. IsCleared l b) goes.1 is))
+            | inr (inr ended) ↦ absurd (subst (λ l. IsCleared l b) ended.1 is)
           ]
           | inr (call, begins, d, it) ↦ absurd (first_not (states t) found b call (subst (λ (x : Operation). IsCleared x.line b) it is))
         ]

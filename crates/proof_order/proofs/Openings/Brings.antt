@@ -2,14 +2,14 @@
 use Rattle.std.proofs.Common.{◌≡◌, ℕ, suc, ◌≤◌, Bool, true, false, cond, Option, Some, None, is_some, refl, sym, ap, ◌∙◌, subst, arith}
 use Rattle.std.proofs.lemmas.Bool.{false≢true}
 use Rattle.proof_order.specs.Vocabulary.{Call, Clear, Snapshot, Freeze, Ref, generation_at, Operation, Descriptor, Bounds, Step, handle_of, opens_handle, State, first_state, operation_of}
-use Rattle.proof_order.specs.Vocabulary.{operation_after, least_free, run, IsRun}
+use Rattle.proof_order.specs.Vocabulary.{operation_after, least_free, run, IsRun, is_clear}
 use Rattle.proof_order.specs.Beneath.machine_model.proofs.Actors.{mark_only, marks_in}
 use Rattle.proof_order.specs.Beneath.machine_model.proofs.Found.{none_found}
 use Rattle.proof_order.specs.Beneath.machine_model.proofs.Times.{at_each_time}
-use Rattle.proof_generations.proofs.Handles.Running.{Comes, began, rested, went, comes, place_of_actor}
+use Rattle.proof_generations.proofs.Handles.Running.{Comes, began, rested, went, comes, place_of_actor, gave}
 use Rattle.proof_generations.specs.Running.{Runs}
 use Rattle.proof_generations.proofs.Handles.Ids.{one_of_id}
-use Rattle.proof_generations.proofs.Lines.Copy.{is_clear, second_fits}
+use Rattle.proof_generations.proofs.Lines.Copy.{second_fits}
 use Rattle.proof_generations.proofs.Offers.Standing.{StandsBy, completes_it}
 use Rattle.proof_generations.proofs.Roots.Own.{its_fresh}
 use Rattle.proof_generations.proofs.Roots.Kept.{fresh_of}
@@ -44,6 +44,7 @@ numbers_by state s all k found (rested was at_k it other_step) =
 numbers_by state s all k found (went was is at_k g it) =
     let same = it ∙ mark_only (marks_in state s) (operation_after state was) in
     ap (λ (x : Operation). is_some x.opens) same ∙ all k was at_k ∙ ap (λ (x : Operation). opens_handle x.call) (sym same)
+numbers_by state s all k found (gave was answer is at_k may it) = ap (λ (x : Operation). is_some x.opens) it ∙ all k was at_k ∙ ap (λ (x : Operation). opens_handle x.call) (sym it)
 
 numbers_at_first : (limits : Bounds) → HaveNumbers (first_state limits)
 unfolding first_state

@@ -2,8 +2,8 @@
 use Rattle.std.proofs.Common.{◌≡◌, ℕ, suc, ◌<◌, ◌≤◌, ◌⊎◌, inl, inr, Some, None, refl, sym, ap, ◌∙◌, subst, arith}
 use Rattle.std.proofs.lemmas.Option.{none-some, same_Some}
 use Rattle.proof_order.specs.Vocabulary.{Call, Ref, Line, Operation, After, Gives, ReadLine, Complete, CompleteLine, Descriptor, Bounds, Outcome, Step, handle_of, State, word_at, operation_of}
-use Rattle.proof_order.specs.Vocabulary.{read_after, complete_after, after_reading, of_offer, action_of, first_line, gone, operation_after, settled, Begins, Ends, Sweeps, Moves, GoesOn, IsRun}
-use Rattle.proof_order.specs.Vocabulary.{Moment, moment_at, noted_progress, noted, progress_of, told_in}
+use Rattle.proof_order.specs.Vocabulary.{read_after, complete_after, after_reading, of_offer, action_of, first_line, gone, operation_after, settled, Begins, Ends, Sweeps, GivesUp, Moves, GoesOn}
+use Rattle.proof_order.specs.Vocabulary.{IsRun, Moment, moment_at, noted_progress, noted, progress_of, told_in, Runs}
 use Rattle.proof_order.specs.Beneath.machine_model.specs.declared.copying.CopyLine.TheVariants as copy
 use Rattle.proof_order.specs.Beneath.machine_model.specs.declared.lines.Line.TheVariants as line
 use Rattle.proof_order.specs.Beneath.machine_model.specs.declared.reading.After.TheVariants.{Goes as Continues}
@@ -20,13 +20,12 @@ use Rattle.proof_order.specs.Beneath.proof_commits.specs.Moments.{IsMoment}
 use Rattle.proof_order.specs.Beneath.proof_commits.specs.Words.{words_of}
 use Rattle.proof_order.specs.Beneath.proof_commits.proofs.Course.Moments.{found, counted, moment_noted}
 use Rattle.proof_order.specs.Beneath.proof_commits.proofs.Known.Acts.{known_run}
-use Rattle.proof_generations.proofs.Handles.Running.{Comes, began, rested, went, comes}
-use Rattle.proof_generations.specs.Running.{Runs}
+use Rattle.proof_generations.proofs.Handles.Running.{Comes, began, rested, went, comes, gave}
 use Rattle.proof_generations.proofs.Lines.Offers.{completing_of}
 use Rattle.proof_generations.proofs.Offers.Same.{IsKnown}
 use Rattle.proof_generations.proofs.Roots.Along.{ordered_at}
 use Rattle.proof_order.proofs.Openings.AlongMoves.{along_moves}
-use Rattle.proof_order.proofs.Openings.NextComplete.{ComesFrom, starts, goes_on, comes_from}
+use Rattle.proof_generations.proofs.Lines.Completes.{CompletesFrom, goes_on, finds_offer, has_offered, completes_after}
 use Rattle.proof_order.specs.Beneath.machine_model.proofs.Alike.{moment_goes, moment_rests, alike, go_actor, not_denied}
 use Rattle.proof_order.specs.Beneath.machine_model.proofs.Notes.{noted_going}
 use Rattle.proof_order.specs.Facts.{Notes}
@@ -54,6 +53,7 @@ went_so before s o after (Ends {actor} {operation} {answer} d is a) k was e at_k
     let place : actor ≡ suc k = cc e in
     let one : operation ≡ was = same_Some _ _ (sym is ∙ ap (operation_of before) place ∙ at_k) in
     absurd (subst GoesOn (ap (action_of before) (sym one) ∙ a) g)
+went_so before s o after (GivesUp d is a) k was e at_k g = let wrong : ⊥ = cc e in absurd wrong
 went_so before s o after (Sweeps spent) k was e at_k g = let wrong : ⊥ = cc e in absurd wrong
 
 -- whence a READ counts after a step of it
@@ -161,15 +161,19 @@ module _ (limits : Bounds) (states : ℕ → State) (last : ℕ) (run : IsRun li
     same_complete k c same so =
         record { at = so.at; past = omega (arith, so.past); known = so.known; counts = counts_later t so.at (before_of k) (now_of k) same c.offer c.line so.counts }
 
-    went_by : (k : ℕ) (found was : Operation) (c : Complete) → Runs (states (suc t)) k found → completing_of found.line ≡ Some c → s ≡ step.Go (suc k) →
-        Runs (states t) k was → GoesOn (action_of (states t) was) → ComesFrom (states t) was was.line c → Since (suc t) k c
-    went_by k found was c now e go at_k g (starts first) = record {
+    begins : (k : ℕ) (found : Operation) (c : Complete) → Runs (states (suc t)) k found → completing_of found.line ≡ Some c → c.line ≡ complete.Reading read.Main → Since (suc t) k c
+    begins k found c now e first = record {
       at = suc t;
       past = omega arith;
       known = (ordered_at limits states last run (suc t) within).offers.known k found now c.offer (inr (c, e, refl));
       counts = subst (λ l. CountsSince (suc t) (suc t) (now_of k) c.offer l) (sym first) (inl refl);
     }
+
+    went_by : (k : ℕ) (found was : Operation) (c : Complete) → Runs (states (suc t)) k found → completing_of found.line ≡ Some c → s ≡ step.Go (suc k) →
+        Runs (states t) k was → GoesOn (action_of (states t) was) → CompletesFrom (states t) was was.line c → Since (suc t) k c
     went_by k found was c now e go at_k g (goes_on before is goes) = on_by k was go at_k g before c is goes before.line refl
+    went_by k found was c now e go at_k g (finds_offer word first) = begins k found c now e first
+    went_by k found was c now e go at_k g (has_offered offers first) = begins k found c now e first
 
     since_by : (k : ℕ) (found : Operation) (c : Complete) → Runs (states (suc t)) k found → completing_of found.line ≡ Some c → Comes (states t) s k found → Since (suc t) k c
     since_by k found c now e (began call is d it) = absurd (none-some c (sym (first_none call) ∙ ap (λ (x : Operation). completing_of x.line) (sym it) ∙ e))
@@ -179,7 +183,8 @@ module _ (limits : Bounds) (states : ℕ → State) (last : ℕ) (run : IsRun li
         (so_far k was c at_k (ap (λ (x : Operation). completing_of x.line) (sym same) ∙ e))
     since_by k found c now e (went was go at_k g it) =
         let same = it ∙ mark_only (marks_in (states t) s) (operation_after (states t) was) in
-        went_by k found was c now e go at_k g (comes_from (states t) was c was.line (ap (λ (x : Operation). completing_of x.line) (sym same) ∙ e))
+        went_by k found was c now e go at_k g (completes_after (states t) was was.line c (ap (λ (x : Operation). completing_of x.line) (sym same) ∙ e))
+    since_by k found c now e (gave was answer go at_k may it) = absurd (none-some c (ap (λ (x : Operation). completing_of x.line) (sym it) ∙ e))
 
     all_next : AllSince (suc t)
     all_next k found c now e = since_by k found c now e (comes (states t) s o (states (suc t)) m k found now)

@@ -1,8 +1,8 @@
 -- Where the fresh roots that an operation is to offer come from in a step: its line had them, or has just made them.
 use Rattle.std.proofs.Common.{◌≡◌, ℕ, suc, Bool, inl, inr, Some, sym, ap, ◌∙◌}
 use Rattle.std.proofs.lemmas.Option.{none-some, same_Some}
-use Rattle.proof_order.specs.Vocabulary.{Ref, Node, Indirection, node_at, generation_at, next_ref, Operation, Outcome, Step, State, operation_of, action_of, line_after, Begins, Ends, Sweeps, Moves}
-use Rattle.proof_order.specs.Vocabulary.{Record}
+use Rattle.proof_order.specs.Vocabulary.{Ref, Node, Indirection, node_at, generation_at, next_ref, Operation, Outcome, Step, State, operation_of, action_of, line_after, Begins, Ends, Sweeps}
+use Rattle.proof_order.specs.Vocabulary.{GivesUp, Moves, Record}
 use Rattle.proof_order.specs.Beneath.machine_model.specs.declared.actions.Action.TheVariants as act
 use Rattle.proof_order.specs.Beneath.machine_model.specs.declared.steps.Step.TheVariants as step
 use Rattle.proof_order.specs.Beneath.machine_model.specs.Moves.{Goes}
@@ -31,6 +31,7 @@ stands_made state S s o after (Ends {actor} {operation} {answer} d is action) k 
     let place : actor ≡ suc k = cc e in
     let one : operation ≡ was = same_Some _ _ (sym is ∙ ap (operation_of state) place ∙ at_k) in
     absurd (none-some node (ap (made_node state) (sym action ∙ ap (action_of state) one) ∙ a))
+stands_made state S s o after (GivesUp d is action) k was e at_k node r a n = let wrong : ⊥ = cc e in absurd wrong
 stands_made state S s o after (Sweeps spent) k was e at_k node r a n = let wrong : ⊥ = cc e in absurd wrong
 
 module _ (state : State) (past : Record) (S : IsSafe state) (I : IsOrdered state past) (s : Step) (o : Outcome) (after : State) (m : Moves state s o after) where
@@ -53,7 +54,8 @@ module _ (state : State) (past : Record) (S : IsSafe state) (I : IsOrdered state
   fresh_behind k found at_k x r e = elim (ran_or_began state I.offers I.handles s k found (comes state s o after m k found at_k)) [
     | inl ran ↦ elim ran.line [
       | inl same ↦ stays ran (ap (fresh_in x) (sym same) ∙ e) (fresh_kept state S s o after m k ran.was x r ran.at_k (ap (fresh_in x) (sym same) ∙ e))
-      | inr goes ↦ from_line k found x r ran goes.0 goes.1 (fresh_from state ran.was ran.was.line x r (ap (fresh_in x) (sym goes.1) ∙ e))
+      | inr (inl goes) ↦ from_line k found x r ran goes.0 goes.1 (fresh_from state ran.was ran.was.line x r (ap (fresh_in x) (sym goes.1) ∙ e))
+      | inr (inr ended) ↦ absurd (none-some r (sym (ap (fresh_in x) ended.1) ∙ e))
     ]
     | inr (call, is, d, it) ↦ absurd (first_none call x r (ap (λ (y : Operation). fresh_in x y.line) (sym it) ∙ e))
   ]

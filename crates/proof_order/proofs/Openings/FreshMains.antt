@@ -1,8 +1,9 @@
 -- A fresh root that is still to be offered or carried out has the main node over which it was made.
 use Rattle.std.proofs.Common.{◌≡◌, ℕ, suc, ◌<◌, ◌≤◌, Bool, true, false, inl, inr, Some, is_some, refl, sym, ap, ◌∙◌, subst, arith}
 use Rattle.std.proofs.lemmas.Bool.{true≢false}
+use Rattle.std.proofs.lemmas.Option.{none-some}
 use Rattle.proof_order.specs.Vocabulary.{Writable, Ref, Indirection, generation_at, generation_of, node_of, prev_of, main_of, logical, empty_branch, next_ref, Line, Operation, Bounds, Outcome, Step}
-use Rattle.proof_order.specs.Vocabulary.{State, action_of, grown, node_under, prev_word, Moves, IsRun}
+use Rattle.proof_order.specs.Vocabulary.{State, action_of, grown, node_under, prev_word, Moves, IsRun, Runs, is_clear}
 use Rattle.proof_order.specs.Beneath.slot_arena.specs.declared.nodes.Prev.TheVariants as over
 use Rattle.proof_order.specs.Beneath.machine_model.specs.declared.actions.Action.TheVariants as act
 use Rattle.proof_order.specs.Beneath.machine_model.specs.declared.steps.Step.TheVariants as step
@@ -18,9 +19,7 @@ use Rattle.proof_order.specs.Beneath.proof_commits.proofs.Known.Given.{ActsOn, T
 use Rattle.proof_order.specs.Beneath.proof_commits.proofs.Words.Along.{protocol, remembers_at}
 use Rattle.proof_order.specs.Beneath.proof_commits.proofs.Lines.Stages.{Remembers}
 use Rattle.proof_order.specs.Beneath.proof_commits.specs.Stages.{stage_of, stage_of_actor}
-use Rattle.proof_generations.specs.Running.{Runs}
 use Rattle.proof_generations.proofs.Counter.Drawn.{generation_stays}
-use Rattle.proof_generations.proofs.Lines.Copy.{is_clear}
 use Rattle.proof_generations.proofs.Roots.Own.{IsUnused}
 use Rattle.proof_generations.proofs.Roots.Kept.{fresh_in, fresh_safe}
 use Rattle.proof_generations.proofs.Roots.Along.{IsOrdered, ordered_at}
@@ -131,7 +130,8 @@ module _ (limits : Bounds) (states : ℕ → State) (last : ℕ) (run : IsRun li
         let before = so_far k ran.was x q ran.at_k (ran.unmarked unmarked) f in
         let same : copied found.line ≡ copied ran.was.line = elim ran.line [
           | inl stood ↦ ap copied stood
-          | inr goes ↦ ap copied goes.1 ∙ copied_kept (states t) ran.was ran.was.line x x q q f (ap (fresh_in x) (sym goes.1) ∙ e)
+          | inr (inl goes) ↦ ap copied goes.1 ∙ copied_kept (states t) ran.was ran.was.line x x q q f (ap (fresh_in x) (sym goes.1) ∙ e)
+          | inr (inr ended) ↦ absurd (none-some q (sym (ap (fresh_in x) ended.1) ∙ e))
         ] in
         record {
           link = link_stays (protocol limits states last (known_run limits states last run)) q t (suc t) (omega arith) within before.link;

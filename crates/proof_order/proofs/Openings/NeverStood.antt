@@ -73,7 +73,8 @@ module _ (limits : Bounds) (states : ℕ → State) (last : ℕ) (run : IsRun li
         copied found.line ≡ copied ran.was.line
     same k found x r ran f e = elim ran.line [
       | inl stood ↦ ap copied stood
-      | inr goes ↦ ap copied goes.1 ∙ copied_kept (states t) ran.was ran.was.line x x r r f (ap (fresh_in x) (sym goes.1) ∙ e)
+      | inr (inl goes) ↦ ap copied goes.1 ∙ copied_kept (states t) ran.was ran.was.line x x r r f (ap (fresh_in x) (sym goes.1) ∙ e)
+      | inr (inr ended) ↦ absurd (none-some r (sym (ap (fresh_in x) ended.1) ∙ e))
     ]
 
     new_by : (k : ℕ) (found : Operation) (x : Bool) (r : Ref) → Runs (states (suc t)) k found → found.is_marked ≡ false → fresh_in x found.line ≡ Some r →

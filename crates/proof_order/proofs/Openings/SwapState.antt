@@ -3,8 +3,8 @@ use Rattle.std.proofs.Common.{◌≡◌, ℕ, suc, ◌<◌, ◌≤◌, true, [],
 use Rattle.std.proofs.lemmas.List.{get_or-set_same, length-set}
 use Rattle.std.proofs.lemmas.Option.{none-some, same_Some}
 use Rattle.proof_order.specs.Vocabulary.{Writable, Ref, generation_at, Operation, Descriptor, Plain, Bounds, Outcome, Step, handle_of, State, root_at, root_of, word_at, operation_of, rewritten}
-use Rattle.proof_order.specs.Vocabulary.{with_operation, action_of, is_carried_out, acted, gone, carried_out, opened_root, operation_after, settled, Begins, Ends, Sweeps, Moves, IsRun, closed_at}
-use Rattle.proof_order.specs.Vocabulary.{noted, Record, noted_progress, closed_by, told_in, progress_of, carried_by}
+use Rattle.proof_order.specs.Vocabulary.{with_operation, action_of, is_carried_out, acted, gone, carried_out, opened_root, operation_after, settled, Begins, Ends, Sweeps, GivesUp, Moves, IsRun}
+use Rattle.proof_order.specs.Vocabulary.{closed_at, noted, Record, noted_progress, closed_by, told_in, progress_of, carried_by}
 use Rattle.proof_order.specs.Beneath.machine_model.specs.declared.actions.Action.TheVariants as act
 use Rattle.proof_order.specs.Beneath.machine_model.specs.Moves.{Goes}
 use Rattle.proof_order.specs.Beneath.machine_model.proofs.Found.{found_within, found_elsewhere}
@@ -57,6 +57,7 @@ swapped_by state past s o after handle offer (Ends {actor} {operation} {answer} 
     let both : act.End answer ≡ act.Complete offer c.main = sym a ∙ ap (action_of state) one ∙ c.completes in
     let wrong : ⊥ = cc both in
     absurd wrong
+swapped_by state past s o after handle offer (GivesUp d is a) c = let go = c.go in let wrong : ⊥ = cc go in absurd wrong
 swapped_by state past s o after handle offer (Sweeps spent) c = let go = c.go in let wrong : ⊥ = cc go in absurd wrong
 
 module _ (limits : Bounds) (states : ℕ → State) (last : ℕ) (r : IsRun limits states last) where

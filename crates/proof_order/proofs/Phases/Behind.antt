@@ -1,10 +1,11 @@
 -- Just behind the step of each place the operation with its id runs.
-use Rattle.std.proofs.Common.{◌≡◌, ℕ, zero, suc, ◌<◌, ◌≤◌, Bool, true, false, inl, inr, List, [], ◌∷◌, Option, Some, None, refl, sym, ap, ◌∙◌, subst, arith}
+use Rattle.std.proofs.Common.{◌≡◌, ℕ, zero, suc, ◌<◌, ◌≤◌, Bool, true, false, inl, inr, List, [], ◌∷◌, Option, Some, None, refl, sym, ap, ◌∙◌, subst, arith, ◌≢◌}
 use Rattle.std.proofs.lemmas.Bool.{true≢false, cases_Bool}
 use Rattle.std.proofs.lemmas.Option.{none-some}
 use Rattle.std.specs.Prelude.{Contains}
 use Rattle.proof_order.specs.Vocabulary.{Access, Writable, ReadOnly, Close, Place, Operation, Bounds, Outcome, Step, handle_of, is_close, State, action_of, operation_after, Moves, begun_operation}
 use Rattle.proof_order.specs.Vocabulary.{turns, noted_turn, IsRun, Turn, closed_at, place_of, is_placed, closing_for, closed_after, moment_at, noted, Record, entrant_of, told_in, Purpose, Swap}
+use Rattle.proof_order.specs.Vocabulary.{gave_up}
 use Rattle.proof_order.specs.Beneath.machine_model.specs.declared.actions.Action.TheVariants as act
 use Rattle.proof_order.specs.Beneath.machine_model.specs.declared.copying.CopyLine.TheVariants as copy
 use Rattle.proof_order.specs.Beneath.machine_model.specs.declared.lines.Line.TheVariants as line
@@ -12,7 +13,7 @@ use Rattle.proof_order.specs.Beneath.machine_model.proofs.Actors.{mark_one, mark
 use Rattle.proof_order.specs.Beneath.machine_model.proofs.Times.{along_run, steps_at}
 use Rattle.proof_generations.proofs.Roots.Open.{closed_from}
 use Rattle.proof_generations.proofs.Roots.Along.{ordered_at}
-use Rattle.proof_generations.proofs.Handles.Running.{Follows, rests, steps, ends, follows, place_of_actor}
+use Rattle.proof_generations.proofs.Handles.Running.{Follows, rests, steps, ends, follows, place_of_actor, gives_up}
 use Rattle.proof_order.specs.Facts.{Runs, Notes}
 use Rattle.proof_order.specs.Beneath.history.proofs.Among.{Among}
 use Rattle.proof_order.proofs.Views.EachStep.{changes}
@@ -26,6 +27,8 @@ use Rattle.proof_order.proofs.Phases.Entering.{Enters, commits, at_end, at_close
 use Rattle.proof_order.proofs.Phases.Since.{run_since}
 use Rattle.proof_generations.proofs.Roots.Rooted.{standing_root}
 use Rattle.proof_order.specs.Beneath.proof_commits.proofs.Lines.Reads.{only_end}
+use Rattle.proof_order.specs.Beneath.history.specs.declared.replies.Reply.TheVariants as reply
+use Rattle.proof_order.proofs.Phases.LineTimes.{answered_unless}
 use Rattle.proof_order.proofs.Phases.NewPlaces.{owns}
 
 module _ (limits : Bounds) (states : ℕ → State) (last : ℕ) (r : IsRun limits states last) where
@@ -93,14 +96,15 @@ module _ (limits : Bounds) (states : ℕ → State) (last : ℕ) (r : IsRun limi
               (mark_only (marks_in (states t) s) (operation_after (states t) operation)),
         )
         by (ends answer go does) = absurd (going answer (only_end (states t) operation operation.line answer does))
+        by (gives_up answer go may after) = (k, gave_up operation answer, after, refl)
 
     -- behind the moment of who ends without a place
     ended_behind : (k : ℕ) (operation : Operation) (answer : _) → Runs (states t) k operation → action_of (states t) operation ≡ act.End answer → is_placed (r.records t) operation.id ≡ false →
-        ((moment_at (r.records t) (suc k)).moment ≤ t) × RunsBehind (moment_at (r.records t) (suc k)).moment operation.id
-    ended_behind k operation answer runs does unplaced =
+        answer ≢ reply.NoSlots → ((moment_at (r.records t) (suc k)).moment ≤ t) × RunsBehind (moment_at (r.records t) (suc k)).moment operation.id
+    ended_behind k operation answer runs does unplaced other =
         let since = run_since limits states last r t k operation within runs in
         let at = only_end (states t) operation operation.line answer does in
-        let moment = (since.reads no_close).moment (ap has_read at) in
+        let moment = (since.reads no_close).moment (ap has_read at ∙ answered_unless answer other) in
         let (was, at_k, same) = since.runs (suc (moment_at (r.records t) (suc k)).moment) (omega (arith, moment.behind)) moment.past in
         (omega (arith, moment.past), (k, was, at_k, sym same.id))
       where
@@ -122,7 +126,7 @@ module _ (limits : Bounds) (states : ℕ → State) (last : ℕ) (r : IsRun limi
         swaps_no_end answer e = cc e
     behind_by q (at_end actor operation answer go is does unplaced other its) =
         let (k, actors, runs) = place_of_actor (states t) actor operation is in
-        let ended = ended_behind k operation answer runs does unplaced in
+        let ended = ended_behind k operation answer runs does unplaced other in
         let before : (moment_at (r.records t) actor).moment ≤ t = subst (λ j. (moment_at (r.records t) j).moment ≤ t) (sym actors) ended.0 in
         let now = subst (λ j. RunsBehind (moment_at (r.records t) j).moment operation.id) (sym actors) ended.1 in
         let id : q.id ≡ operation.id = ap (λ (x : Place). x.id) its ∙ (place_says (closing_for (r.records t) operation.generation operation.access)

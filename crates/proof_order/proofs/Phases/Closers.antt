@@ -2,12 +2,12 @@
 use Rattle.std.proofs.Common.{◌≡◌, ℕ, suc, ◌-◌, ◌<◌, ◌≤◌, true, false, inl, get_or, length, Some, None, refl, sym, ap, ◌∙◌, subst, arith, ◌++◌}
 use Rattle.std.proofs.lemmas.Bool.{false≢true}
 use Rattle.std.proofs.lemmas.List.{get_or-set_same}
-use Rattle.proof_order.specs.Vocabulary.{Call, Close, on_time, Operation, Bounds, Outcome, Step, is_close, State, operation_after, Begins, Ends, Sweeps, Moves, begun_operation, IsRun, is_placed}
-use Rattle.proof_order.specs.Vocabulary.{Record, noted, entered_at_begin, told_in}
+use Rattle.proof_order.specs.Vocabulary.{Call, Close, on_time, Operation, Bounds, Outcome, Step, is_close, State, operation_after, Begins, Ends, Sweeps, GivesUp, Moves, begun_operation, IsRun}
+use Rattle.proof_order.specs.Vocabulary.{is_placed, Record, noted, entered_at_begin, told_in}
 use Rattle.proof_order.specs.Beneath.machine_model.specs.declared.steps.Step.TheVariants as step
 use Rattle.proof_order.specs.Beneath.machine_model.specs.Moves.{Goes}
 use Rattle.proof_order.specs.Beneath.machine_model.proofs.Actors.{mark_only, marks_in, begin_actors}
-use Rattle.proof_generations.proofs.Handles.Running.{Comes, began, rested, went, comes}
+use Rattle.proof_generations.proofs.Handles.Running.{Comes, began, rested, went, comes, gave}
 use Rattle.proof_order.specs.Facts.{Runs}
 use Rattle.proof_order.specs.Beneath.history.proofs.Among.{Among, among_right}
 use Rattle.proof_order.proofs.History.Books.{Books, within_actors}
@@ -31,6 +31,7 @@ begun_runs state s o after (Begins {actor = own} {call = calls} d) books actor c
     )
 begun_runs state s o after (Goes d is a g) books actor call go = let wrong : ⊥ = cc go in absurd wrong
 begun_runs state s o after (Ends d is a) books actor call go = let wrong : ⊥ = cc go in absurd wrong
+begun_runs state s o after (GivesUp d is a) books actor call go = let wrong : ⊥ = cc go in absurd wrong
 begun_runs state s o after (Sweeps spent) books actor call go = let wrong : ⊥ = cc go in absurd wrong
 
 -- a close has its place
@@ -67,6 +68,9 @@ closes_by state past s o after m all k found (went was go at_k g it) e =
     let same = it ∙ mark_only (marks_in state s) (operation_after state was) in
     still_placed state past s o after m found.id
     (ap (is_placed past) (ap (λ (x : Operation). x.id) same) ∙ all k was at_k (ap (λ (x : Operation). is_close x.call) (sym same) ∙ e))
+closes_by state past s o after m all k found (gave was answer go at_k may it) e =
+    still_placed state past s o after m found.id
+    (ap (is_placed past) (ap (λ (x : Operation). x.id) it) ∙ all k was at_k (ap (λ (x : Operation). is_close x.call) (sym it) ∙ e))
 
 pub closes_placed : (limits : Bounds) (states : ℕ → State) (last : ℕ) (r : IsRun limits states last) → (t : ℕ) → t ≤ last → ClosesPlaced (states t) (r.records t)
 closes_placed limits states last r =

@@ -1,9 +1,11 @@
 -- What a line's step leaves of READs: from which step on they count, and which moment they have.
-use Rattle.std.proofs.Common.{◌≡◌, ℕ, max, true, false, ◌⊎◌, inl, inr, Option, Some, None, refl, sym, ap, ◌∙◌}
+use Rattle.std.proofs.Common.{◌≡◌, ℕ, max, true, false, ◌⊎◌, inl, inr, Option, Some, None, refl, sym, ap, ◌∙◌, Bool, ◌≢◌}
 use Rattle.std.proofs.lemmas.Bool.{false≢true}
+use Rattle.std.proofs.lemmas.Option.{none-some, same_Some}
 use Rattle.proof_order.specs.Vocabulary.{Call, Close, Clear, Snapshot, Freeze, Ref, Action, Line, Operation, After, Gives, Read, ReadLine, handle_of, is_close, State, word_at, read_action}
 use Rattle.proof_order.specs.Vocabulary.{read_after, read_step, at_indirection, key_after_read, copy_after_read, walk_after_read, first_line, line_action, line_after, after_root, read_of, action_of}
 use Rattle.proof_order.specs.Vocabulary.{read_at_after, commit_step, moment_after, moment_given, Record, committed_now, counts_from, progress_of, given_now, given_in, given_by, Progress, Moment}
+use Rattle.proof_order.specs.Vocabulary.{given_up, tells_effect, unless_effect, NoSlots, Reply}
 use Rattle.proof_order.specs.Beneath.machine_model.specs.declared.actions.Action.TheVariants as act
 use Rattle.proof_order.specs.Beneath.machine_model.specs.declared.copying.CopyLine.TheVariants as copy
 use Rattle.proof_order.specs.Beneath.machine_model.specs.declared.finding.KeyLine.TheVariants as key
@@ -12,7 +14,7 @@ use Rattle.proof_order.specs.Beneath.machine_model.specs.declared.reading.After.
 use Rattle.proof_order.specs.Beneath.machine_model.specs.declared.reading.ReadLine.TheVariants as read
 use Rattle.proof_order.specs.Beneath.machine_model.specs.declared.walking.WalkLine.TheVariants as walk
 use Rattle.proof_order.specs.Beneath.machine_model.specs.Operations.{from_root}
-use Rattle.proof_order.specs.Times.{counts, has_read, read_counts}
+use Rattle.proof_order.specs.Times.{counts, has_read, read_counts, is_answered}
 
 -- ---- whence a READ counts
 
@@ -46,6 +48,7 @@ counts_after state operation (line.Walk walk.Root) e = absurd (false≢true e)
 counts_after state operation (line.Walk l) e = inl refl
 counts_after state operation (line.Key l) e = inl refl
 counts_after state operation (line.Copy l) e = inl refl
+counts_after state operation (line.End answer) e = inl e
 counts_after state operation l e = inl refl
 
 -- from this step on, or from where it did
@@ -87,6 +90,13 @@ gives_by : (state : State) (operation : Operation) (l : Line) (r : Read) (next :
 gives_by state operation l r next is unread (Continues q) e h = absurd (unread q h)
 gives_by state operation l r next is unread (Gives main) e h = (gives_late state operation r.indirection r.line main e, (r, main, is, e))
 
+refused_unread : (answer : Reply) → Some NoSlots ≡ Some answer → is_answered answer ≡ true → ⊥
+refused_unread answer e h = false≢true (ap is_answered (same_Some _ _ e) ∙ h)
+
+ended_unread : (b : Bool) (answer : Reply) → unless_effect b ≡ Some answer → is_answered answer ≡ true → ⊥
+ended_unread true answer e h = none-some answer e
+ended_unread false answer e h = refused_unread answer e h
+
 -- where a READ has given after the step, it had begun to count; and it had given before, or gives now
 pub read_after_step : (state : State) (operation : Operation) (l : Line) → has_read (line_after state operation l) ≡ true → (counts l ≡ true) × ((has_read l ≡ true) ⊎ GivesNow state operation l)
 read_after_step state operation (line.Root l) h = absurd (after_root_unread operation _ h)
@@ -100,7 +110,27 @@ read_after_step state operation (line.Walk walk.Root) h = absurd (false≢true h
 read_after_step state operation (line.Walk l) h = (refl, inl refl)
 read_after_step state operation (line.Key l) h = (refl, inl refl)
 read_after_step state operation (line.Copy l) h = (refl, inl refl)
+read_after_step state operation (line.End answer) h = (h, inl h)
 read_after_step state operation l h = (refl, inl refl)
+
+pub answered_unless : (answer : Reply) → answer ≢ NoSlots → is_answered answer ≡ true
+answered_unless NoSlots other = absurd (other refl)
+answered_unless answer other = refl
+
+-- where an operation gives up and is answered, it had read
+pub gave_up_read : (call : Call) (l : Line) (answer : Reply) → given_up call l ≡ Some answer → is_answered answer ≡ true → (counts l ≡ true) × (has_read l ≡ true)
+gave_up_read call (line.Climb l) answer e h = (refl, refl)
+gave_up_read call (line.Swap why s) answer e h = (refl, refl)
+gave_up_read call (line.Build l) answer e h = (refl, refl)
+gave_up_read call (line.Renew l) answer e h = (refl, refl)
+gave_up_read call (line.Clean l) answer e h = (refl, refl)
+gave_up_read call (line.Root l) answer e h = absurd (refused_unread answer e h)
+gave_up_read call (line.Key l) answer e h = absurd (refused_unread answer e h)
+gave_up_read call (line.Walk l) answer e h = absurd (refused_unread answer e h)
+gave_up_read call (line.Copy (copy.Complete c)) answer e h = absurd (none-some answer e)
+gave_up_read call (line.Copy l) answer e h = absurd (refused_unread answer e h)
+gave_up_read call (line.End told) answer e h = absurd (ended_unread (tells_effect call told) answer e h)
+gave_up_read call line.Impossible answer e h = absurd (none-some answer e)
 
 -- ---- the moment
 

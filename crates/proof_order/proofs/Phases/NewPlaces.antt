@@ -19,16 +19,17 @@ use Rattle.proof_order.proofs.Offers.Honest.{offerer_of}
 use Rattle.proof_order.proofs.Places.Origins.{place_says}
 use Rattle.proof_order.proofs.Offers.Known.{Offers, running_below}
 use Rattle.proof_order.proofs.Offers.Standing.{offers_at}
-use Rattle.proof_order.proofs.History.OneStep.{From, began, kept, stepped, from}
+use Rattle.proof_order.proofs.History.OneStep.{From, began, kept, stepped, from, gave}
 use Rattle.proof_order.proofs.History.Copies.{own_marks}
 use Rattle.proof_order.proofs.History.Answering.{carried_marks}
-use Rattle.proof_order.specs.Phases.{Phase, past, answers, IsPast, IsPastAt, IsPublished}
+use Rattle.proof_order.specs.Phases.{Phase, past, answers, IsPast, IsPastAt, IsPublished, TellsEffect}
 use Rattle.proof_order.proofs.Phases.Entering.{SwapsIn, Owns, Enters, commits, at_end, at_close, carried}
 use Rattle.proof_order.proofs.Phases.PastLines.{past_swap}
 use Rattle.proof_order.proofs.Phases.PastSteps.{past_marked}
 use Rattle.proof_order.proofs.Phases.Steps.{marked_phase}
 use Rattle.proof_order.proofs.Phases.Published.{Committed, committed_so, pending_published, run_words}
 use Rattle.proof_order.specs.Beneath.history.proofs.Among.{Among}
+use Rattle.proof_order.proofs.Phases.Formers.{update_tells}
 use Rattle.proof_order.specs.Beneath.proof_commits.proofs.Known.Sounds.{sound_at}
 use Rattle.proof_order.specs.Beneath.proof_commits.proofs.Course.Changers.{changers_known}
 use Rattle.proof_order.specs.Beneath.proof_commits.proofs.Known.Acts.{known_run}
@@ -66,6 +67,7 @@ module _ (limits : Bounds) (states : ℕ → State) (last : ℕ) (r : IsRun limi
       by (step.Begin actor call) is e = absurd (none-some main e)
       by (step.Go actor) is e = found actor is (operation_of (states t) actor) refl e
       by step.Sweep is e = absurd (none-some main e)
+      by (step.GiveUp actor) is e = absurd (none-some main e)
 
   pub committed : (main : Ref) → committed_by_step (states t) s ≡ Some main → Committed limits states last r t main
   committed main e =
@@ -122,11 +124,15 @@ module _ (limits : Bounds) (states : ℕ → State) (last : ℕ) (r : IsRun limi
     none_now : prev_word states (suc t) line_so.its.fresh ≡ prev.None
     none_now = ap (prev_word states (suc t)) line_so.fresh ∙ commit_so.is
 
+    -- its call tells of such a change
+    tells : TellsEffect it.owner.call line_so.former
+    tells = update_tells limits states last r t it.k it.owner line_so.path line_so.former line_so.its within it.runs line_so.at
+
     -- while it rests
     past_resting : (marks : Option ℕ) → IsPast states (suc t) (mark_one marks it.owner) line_so.former
     past_resting marks =
         past_marked states (suc t) marks it.owner line_so.former
-        (subst (IsPastAt states (suc t) it.owner.call line_so.former) (sym line_so.at) (refl, published, none_now))
+        (subst (IsPastAt states (suc t) it.owner.call line_so.former) (sym line_so.at) (refl, published, none_now), tells)
 
     -- in its own step
     own_step : s ≡ step.Go (suc it.k) → committed_in (states t) (read_of it.owner.line) ≡ Some it.main
@@ -143,7 +149,7 @@ module _ (limits : Bounds) (states : ℕ → State) (last : ℕ) (r : IsRun limi
     past_going go marks =
         past_marked states (suc t) marks (operation_after (states t) it.owner) line_so.former
         (subst (λ l. IsPastAt states (suc t) it.owner.call line_so.former (line_after (states t) it.owner l)) (sym line_so.at)
-        (past_swap states t it.owner line_so.former line_so.path line_so.former refl line_so.its published none_now (λ is. absurd (deciding go is))))
+        (past_swap states t it.owner line_so.former line_so.path line_so.former refl line_so.its published none_now (λ is. absurd (deciding go is))), tells)
 
     pub past_owner : (k : ℕ) (found : Operation) → found.id ≡ it.owner.id → From (states t) s k found → IsPast states (suc t) found line_so.former
     past_owner k found same (began new) =
@@ -161,6 +167,7 @@ module _ (limits : Bounds) (states : ℕ → State) (last : ℕ) (r : IsRun limi
         let one = one_by_id (states t) (r.records t) books k it.k was it.owner at_k it.runs its in
         subst (λ x. IsPast states (suc t) x line_so.former) (sym (is ∙ ap (λ x. mark_one marks (operation_after (states t) x)) one.1))
         (past_going (go ∙ ap (λ j. step.Go (suc j)) one.0) marks)
+    past_owner k found same (gave was answer at_k go may is) = absurd (none-some it.main (ap (committed_by_step (states t)) (sym go) ∙ it.commits))
 
   -- ---- by the end of another operation: of none that runs on
 
@@ -183,6 +190,7 @@ module _ (limits : Bounds) (states : ℕ → State) (last : ℕ) (r : IsRun limi
           let its : was.id ≡ operation.id = sym (ap (λ (x : Operation). x.id) (is_it ∙ mark_only (marks_by (states t) (Some was)) (operation_after (states t) was))) ∙ same in
           let one = (one_by_id (states t) (r.records t) books k j was operation at_k runs its).1 in
           subst (λ x. GoesOn x) (ap (action_of (states t)) one ∙ does) goes
+      by j actors runs (gave was answer at_k own may is_it) = let wrong : step.Go actor ≡ step.GiveUp (suc k) = sym go ∙ own in cc wrong
 
   -- ---- by a close
 
@@ -190,7 +198,7 @@ module _ (limits : Bounds) (states : ℕ → State) (last : ℕ) (r : IsRun limi
   closed actor handle go k found same (began new) =
       let calls : step.Begin (suc k) new.call ≡ step.Begin actor (Close handle) = sym new.is_step ∙ go in
       let call : new.call ≡ Close handle = cc calls in
-      answers reply.Closed (ap (λ (x : Operation). x.line) new.is_it ∙ ap first_line call) (λ e. let wrong : ⊥ = cc e in wrong)
+      answers reply.Closed (ap (λ (x : Operation). x.line) new.is_it ∙ ap first_line call) refl
   closed actor handle go k found same (kept was at_k is other) =
       let low = running_below (states t) books k was at_k in
       let count = books.alike.begun_are in
@@ -201,6 +209,7 @@ module _ (limits : Bounds) (states : ℕ → State) (last : ℕ) (r : IsRun limi
       let count = books.alike.begun_are in
       let its : found.id ≡ was.id = ap (λ (x : Operation). x.id) (is ∙ mark_only (marks_by (states t) (Some was)) (operation_after (states t) was)) in
       absurd (omega arith)
+  closed actor handle go k found same (gave was answer at_k own may is) = let wrong : step.Begin actor (Close handle) ≡ step.GiveUp (suc k) = sym go ∙ own in absurd (cc wrong)
 
   -- ---- by its offer
 
@@ -222,6 +231,8 @@ module _ (limits : Bounds) (states : ℕ → State) (last : ℕ) (r : IsRun limi
       let its : next.id ≡ offer.operation = sym (ap (λ (x : Operation). x.id) (is ∙ mark_only marks next)) ∙ same in
       ap (λ (x : Operation). x.is_marked) is
       ∙ marks_mark marks next (sym (own_marks (states t) s k was go at_k) ∙ carried_marks (states t) s handle offer c ∙ ap Some (sym its))
+  marked_now handle offer c k found same (gave was answer at_k go may is) =
+      let (actor, operation, main, e, is_other, completes, on, out) = c in let wrong : step.Go actor ≡ step.GiveUp (suc k) = sym e ∙ go in absurd (cc wrong)
 
   -- ---- whichever
 

@@ -2,6 +2,7 @@
 use Rattle.std.proofs.Common.{◌≡◌, ◌≢◌, ℕ, suc, ◌<◌, ◌≤◌, false, inl, inr, List, [], ◌∷◌, Some, refl, sym}
 use Rattle.std.proofs.Common.{ap, ◌∙◌, subst, arith}
 use Rattle.std.proofs.lemmas.Bool.{cases_Bool}
+use Rattle.std.proofs.lemmas.Option.{none-some}
 use Rattle.proof_order.specs.Vocabulary.{Place, Operation, Bounds, Outcome, Step, changed_reply, State, operation_after, Moves, prev_word, IsRun, place_of, is_placed, entered, entered_by}
 use Rattle.proof_order.specs.Vocabulary.{entrant_of}
 use Rattle.proof_order.specs.Beneath.machine_model.specs.declared.copying.CopyLine.TheVariants as copy
@@ -9,7 +10,7 @@ use Rattle.proof_order.specs.Beneath.machine_model.specs.declared.lines.Line.The
 use Rattle.proof_order.specs.Beneath.machine_model.specs.declared.lines.Purpose.TheVariants as purpose
 use Rattle.proof_order.specs.Beneath.machine_model.proofs.Actors.{mark_one, mark_only, marks_in}
 use Rattle.proof_order.specs.Beneath.machine_model.proofs.Times.{steps_at}
-use Rattle.proof_generations.proofs.Handles.Running.{Follows, rests, steps, ends, follows}
+use Rattle.proof_generations.proofs.Handles.Running.{Follows, rests, steps, ends, follows, gives_up}
 use Rattle.proof_order.specs.Facts.{Runs, IsReply, entered_by_step, Notes}
 use Rattle.proof_order.specs.Beneath.history.proofs.Among.{Among}
 use Rattle.proof_order.proofs.History.OneStep.{from}
@@ -22,6 +23,7 @@ use Rattle.proof_order.proofs.Phases.Standing.{rooted_at}
 use Rattle.proof_order.proofs.Phases.Writers.{swaps_writable, swaps_rooted}
 use Rattle.proof_order.specs.Beneath.proof_commits.proofs.Lines.Reads.{only_end}
 use Rattle.proof_order.specs.Beneath.proof_commits.proofs.Words.Stood.{none≢pending}
+use Rattle.proof_order.specs.Facts.{committed_by_step}
 
 -- ---- the step
 
@@ -54,7 +56,7 @@ module _ (limits : Bounds) (states : ℕ → State) (last : ℕ) (r : IsRun limi
       by : Phase states t it.owner → ⊥
       by (past former h) =
           let c = commit_so limits states last r t lt s o m notes own it in
-          let now = subst (IsPastAt states t it.owner.call former) mine.at h in
+          let now = subst (IsPastAt states t it.owner.call former) mine.at h.0 in
           none≢pending now.2 (ap (prev_word states t) mine.fresh ∙ c.was)
       by (completes c marked on) =
           let wrong : line.Swap (purpose.Update mine.path mine.former) mine.its ≡ line.Copy (copy.Complete c) = sym mine.at ∙ on in
@@ -84,6 +86,7 @@ module _ (limits : Bounds) (states : ℕ → State) (last : ℕ) (r : IsRun limi
       by (ends answer go does) =
           let wrong : line.Swap (purpose.Update mine.path mine.former) mine.its ≡ line.End answer = sym mine.at ∙ only_end (states t) it.owner it.owner.line answer does in
           absurd (cc wrong)
+      by (gives_up answer go may runs) = absurd (none-some it.main (ap (committed_by_step (states t)) (sym go) ∙ it.commits))
 
   pub own_update : OwnUpdate states r.records last t s
   own_update =

@@ -11,7 +11,7 @@ use Rattle.proof_order.proofs.History.Growing.{events_grow, Grows}
 use Rattle.proof_order.proofs.History.Recalling.{begun_more_or_same}
 use Rattle.proof_order.proofs.Offers.Known.{running_below}
 use Rattle.proof_order.proofs.Offers.Standing.{offers_at}
-use Rattle.proof_order.proofs.History.OneStep.{From, began, kept, stepped, from}
+use Rattle.proof_order.proofs.History.OneStep.{From, began, kept, stepped, from, gave}
 use Rattle.proof_order.proofs.History.Answering.{ended_now}
 use Rattle.proof_order.specs.Phases.{IsPast, IsPastAt, PastAnswers}
 use Rattle.proof_order.proofs.Phases.PastSteps.{past_by}
@@ -29,7 +29,7 @@ module _ (limits : Bounds) (states : ℕ → State) (last : ℕ) (r : IsRun limi
   its_answer : (t : ℕ) (operation : Operation) (answer : Reply) → IsPast states t operation former → operation.call ≡ call → action_of (states t) operation ≡ act.End answer →
       answer ≡ changed_reply call former
   its_answer t operation answer h same does =
-      subst (IsPastAt states t operation.call former) (only_end (states t) operation operation.line answer does) h ∙ ap (λ c. changed_reply c former) same
+      subst (IsPastAt states t operation.call former) (only_end (states t) operation operation.line answer does) h.0 ∙ ap (λ c. changed_reply c former) same
 
   goes_on : (t : ℕ) (lt : t < last) (s : Step) (o : Outcome) → Moves (states t) s o (states (suc t)) → Notes states r.records t s → Answers t → (k : ℕ) (found : Operation) →
       found.id ≡ id → From (states t) s k found →
@@ -47,6 +47,9 @@ module _ (limits : Bounds) (states : ℕ → State) (last : ℕ) (r : IsRun limi
       let is = it ∙ mark_only (marks_by (states t) (Some was)) (operation_after (states t) was) in
       let (past, calls) = h.going k was at_k (sym (ap (λ (x : Operation). x.id) is) ∙ same) in
       (past_by limits states last r t lt s k was found former at_k past (ap (λ (x : Operation). x.id) is) (stepped was at_k go goes it), ap (λ (x : Operation). x.call) is ∙ calls)
+  goes_on t lt s o m notes h k found same (gave was answer at_k go may it) =
+      let (past, calls) = h.going k was at_k (sym (ap (λ (x : Operation). x.id) it) ∙ same) in
+      (past_by limits states last r t lt s k was found former at_k past (ap (λ (x : Operation). x.id) it) (gave was answer at_k go may it), ap (λ (x : Operation). x.call) it ∙ calls)
 
   answers_after : (t : ℕ) → t < last → (s : Step) (o : Outcome) → Moves (states t) s o (states (suc t)) → Notes states r.records t s → Answers t → Answers (suc t)
   answers_after t lt s o m notes h =

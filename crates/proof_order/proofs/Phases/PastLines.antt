@@ -3,7 +3,7 @@ use Rattle.std.proofs.Common.{◌≡◌, ℕ, suc, Bool, true, false, cond, List
 use Rattle.proof_order.specs.Vocabulary.{Ref, Node, Tomb, Branch, Prev, node_at, prev_at, generation_at, next_ref, Line, Operation, After, Gives, Read, ReadLine, Swap, SwapLine, Climb, ClimbLine}
 use Rattle.proof_order.specs.Vocabulary.{RootLine, handle_of, changed_reply, State, word_at, is_start, is_below_root, current, above, read_step, read_after, reading, after_deciding, on_line}
 use Rattle.proof_order.specs.Vocabulary.{root_after, after_check, climbing, climbed, climb_after_read, climb_after_main, climb_after_contracted, climb_after_root, holds_it, higher, line_after}
-use Rattle.proof_order.specs.Vocabulary.{line_action, after_update, climbed_on, GoesOn, prev_word}
+use Rattle.proof_order.specs.Vocabulary.{line_action, after_update, climbed_on, GoesOn, prev_word, former_of}
 use Rattle.proof_order.specs.Beneath.slot_arena.specs.declared.nodes.Prev.TheVariants as prev
 use Rattle.proof_order.specs.Beneath.machine_model.specs.declared.lines.Line.TheVariants as line
 use Rattle.proof_order.specs.Beneath.machine_model.specs.declared.lines.Purpose.TheVariants as purpose
@@ -12,7 +12,7 @@ use Rattle.proof_order.specs.Beneath.machine_model.specs.declared.reading.SwapLi
 use Rattle.proof_order.specs.Beneath.machine_model.specs.declared.repairs.ClimbLine.TheVariants as climb
 use Rattle.proof_order.specs.Beneath.machine_model.specs.Swapping.{after_swap as swap_line_after}
 use Rattle.proof_order.specs.Beneath.machine_model.specs.Operations.{after_swap}
-use Rattle.proof_order.specs.Phases.{IsPastAt, IsPublished, former_of}
+use Rattle.proof_order.specs.Phases.{IsPastAt, IsPublished}
 
 module _ (states : ℕ → State) (t : ℕ) (operation : Operation) (former : Option ℕ) where
   -- the line lies past the commit

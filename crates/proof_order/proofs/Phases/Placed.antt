@@ -1,10 +1,10 @@
 -- Where an operation stands that has its place, along a run; and who has none: who is refused for want of slots, and whose offer is being carried out.
 use Rattle.std.proofs.Common.{◌≡◌, ℕ, suc, ◌<◌, true, false, inl, inr, Option, sym, ap, ◌∙◌, subst, arith}
-use Rattle.std.proofs.lemmas.Bool.{true≢false, cases_Bool}
+use Rattle.std.proofs.lemmas.Bool.{true≢false, cases_Bool, false≢true}
 use Rattle.proof_order.specs.Beneath.history.specs.declared.replies.Reply.TheVariants as reply
 use Rattle.proof_order.specs.Beneath.machine_model.specs.declared.copying.CopyLine.TheVariants as copy
 use Rattle.proof_order.specs.Beneath.machine_model.specs.declared.lines.Line.TheVariants as line
-use Rattle.proof_order.specs.Vocabulary.{Operation, Complete, Bounds, Outcome, Step, changed_reply, State, Moves, turns, noted_turn, IsRun, Turn, is_placed, Record, noted, told_in}
+use Rattle.proof_order.specs.Vocabulary.{Operation, Complete, Bounds, Outcome, Step, changed_reply, State, Moves, turns, noted_turn, IsRun, Turn, is_placed, Record, noted, told_in, tells_effect}
 use Rattle.proof_order.specs.Beneath.machine_model.proofs.Times.{along_run}
 use Rattle.proof_generations.proofs.Handles.Running.{place_of_actor}
 use Rattle.proof_order.specs.Facts.{Runs, Notes}
@@ -64,9 +64,12 @@ refused_unplaced limits states last r t actor operation lt is does = elim (cases
     at = only_end (states t) operation operation.line reply.NoSlots does
 
     by : Phase states t operation → ⊥
-    by (past former h) = refused_reply operation.call former (subst (IsPastAt states t operation.call former) at h)
+    by (past former h) = refused_reply operation.call former (subst (IsPastAt states t operation.call former) at h.0)
     by (completes c marked on) = let wrong : line.End reply.NoSlots ≡ line.Copy (copy.Complete c) = sym at ∙ on in cc wrong
-    by (answers answer on other) = let ends : line.End reply.NoSlots ≡ line.End answer = sym at ∙ on in let same : answer ≡ reply.NoSlots = cc ends in other same
+    by (answers answer on tells) =
+        let ends : line.End reply.NoSlots ≡ line.End answer = sym at ∙ on in
+        let same : reply.NoSlots ≡ answer = cc ends in
+        false≢true (ap (tells_effect operation.call) same ∙ tells)
 
 pub offers_unplaced : (limits : Bounds) (states : ℕ → State) (last : ℕ) (r : IsRun limits states last) → OffersAreUnplaced states r.records last
 offers_unplaced limits states last r t s o lt m notes handle offer carries = elim (cases_Bool (is_placed (r.records t) offer.operation)) [
@@ -77,6 +80,6 @@ offers_unplaced limits states last r t s o lt m notes handle offer carries = eli
 ]
   where
     by : (offerer : Operation) (c : Complete) → offerer.is_marked ≡ false → offerer.line ≡ line.Copy (copy.Complete c) → Phase states t offerer → ⊥
-    by offerer c unmarked at (past former h) = subst (IsPastAt states t offerer.call former) at h
+    by offerer c unmarked at (past former h) = subst (IsPastAt states t offerer.call former) at h.0
     by offerer c unmarked at (completes d marked on) = true≢false (sym marked ∙ unmarked)
     by offerer c unmarked at (answers answer on other) = let wrong : line.Copy (copy.Complete c) ≡ line.End answer = sym at ∙ on in cc wrong

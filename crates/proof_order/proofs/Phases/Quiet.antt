@@ -8,7 +8,7 @@ use Rattle.proof_order.specs.Beneath.machine_model.specs.declared.steps.Step.The
 use Rattle.proof_order.specs.Beneath.machine_model.proofs.Times.{along_run, steps_at}
 use Rattle.proof_generations.proofs.Offers.Same.{HasOffers, has_offers_at}
 use Rattle.proof_generations.proofs.Offers.Swaps.{StepKind, quiet, swaps, step_kind}
-use Rattle.proof_order.specs.Beneath.proof_commits.proofs.Known.StepsAt.{NotedAt, NotesBegin, NotesGo, NotesEnd, NotesSweep, noted_at}
+use Rattle.proof_order.specs.Beneath.proof_commits.proofs.Known.StepsAt.{NotedAt, NotesBegin, NotesGo, NotesEnd, NotesSweep, noted_at, NotesGivingUp}
 use Rattle.proof_order.specs.Beneath.history.proofs.Among.{Among, among_either}
 use Rattle.proof_order.proofs.Views.Changes.{complete_commits}
 use Rattle.proof_order.specs.Times.{ClosesNone, IsWithin}
@@ -83,6 +83,7 @@ quiet_by states records t I count (NotesGo actor operation o m d is g e n) =
     (λ main now. closes_none (states t) I (records t) (records (suc t)) (step.Go actor) o (states (suc t)) m
     (n ∙ sym (noted_going (states t) (records t) actor operation (action_of (states t) operation) is refl g)) actor operation refl is (commits_complete (states t) operation main now))
 quiet_by states records t I count (NotesEnd actor operation answer o m is a e n) = none_more records t (ap (λ (r : Record). r.commits) n)
+quiet_by states records t I count (NotesGivingUp actor operation answer o m is a e n) = none_more records t (ap (λ (r : Record). r.commits) n)
 quiet_by states records t I count (NotesSweep o m e n) = none_more records t (ap (λ (r : Record). r.commits) n)
 
 pub quiet_commits : (limits : Bounds) (states : ℕ → State) (last : ℕ) (r : IsRun limits states last) → (t : ℕ) → t ≤ last → QuietCommits r.records t

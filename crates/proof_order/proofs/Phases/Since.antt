@@ -2,20 +2,20 @@
 use Rattle.std.proofs.Common.{◌≡◌, ℕ, suc, ◌<◌, ◌≤◌, true, inl, inr, Option, Some, None, get_or, refl, sym, ap, ◌∙◌, subst, arith}
 use Rattle.std.proofs.lemmas.Option.{none-some, same_Some}
 use Rattle.proof_order.specs.Vocabulary.{generation_at, Operation, Bounds, Outcome, Step, handle_of, is_close, State, first_state, root_of, word_of, action_of, operation_after, Moves, GoesOn, turns}
-use Rattle.proof_order.specs.Vocabulary.{noted_turn, IsRun, Turn, Record, moment_at}
+use Rattle.proof_order.specs.Vocabulary.{noted_turn, IsRun, Turn, Record, moment_at, given_up, gave_up, noted, told_in, Reply}
 use Rattle.proof_order.specs.Beneath.machine_model.specs.declared.steps.Step.TheVariants as step
 use Rattle.proof_order.specs.Beneath.machine_model.specs.Operations.{from_root}
 use Rattle.proof_order.specs.Beneath.machine_model.proofs.Actors.{mark_one, mark_only, marks_in}
 use Rattle.proof_order.specs.Beneath.machine_model.proofs.Found.{none_found}
 use Rattle.proof_order.specs.Beneath.machine_model.proofs.Times.{along_run}
-use Rattle.proof_generations.proofs.Handles.Running.{Comes, began, rested, went, comes}
+use Rattle.proof_generations.proofs.Handles.Running.{Comes, began, rested, went, comes, gave}
 use Rattle.proof_generations.proofs.Handles.Operations.{has_handles_at}
 use Rattle.proof_generations.proofs.Roots.Open.{no_close_at}
 use Rattle.proof_order.specs.Facts.{Runs, standing, standing_of, Notes}
-use Rattle.proof_order.proofs.History.Running.{marked_same, after_same, same_trans}
+use Rattle.proof_order.proofs.History.Running.{marked_same, after_same, same_trans, gave_up_same}
 use Rattle.proof_order.specs.Running.{IsSame}
 use Rattle.proof_order.specs.Times.{RunsAs, RunSince, Try, Since, ReadsWithin, counts, has_read}
-use Rattle.proof_order.proofs.Phases.LineTimes.{first_uncounted, root_uncounted, root_unread}
+use Rattle.proof_order.proofs.Phases.LineTimes.{first_uncounted, root_uncounted, root_unread, gave_up_read}
 use Rattle.proof_order.proofs.Phases.ReadSteps.{reads_later, reads_marked, reads_stepped}
 use Rattle.proof_order.proofs.Phases.RootSteps.{GetsRoot, root_or_same}
 use Rattle.proof_order.specs.Beneath.machine_model.proofs.Basics.{at_or_before}
@@ -66,6 +66,14 @@ module _ (states : ℕ → State) (records : ℕ → Record) (t k : ℕ) (found 
     runs = rooted_on its.at was generation same of_it its.runs;
     reads = reads;
   }
+
+-- what is noted of its READs holds of an operation that has given up
+reads_given_up : (records : ℕ → Record) (at t k : ℕ) (operation : Operation) (answer : Reply) → given_up operation.call operation.line ≡ Some answer → ReadsWithin records at t k operation →
+    ReadsWithin records at t k (gave_up operation answer)
+reads_given_up records at t k operation answer may h = record {
+  read_at = λ e. h.read_at (gave_up_read operation.call operation.line answer may e).0;
+  moment = λ e. h.moment (gave_up_read operation.call operation.line answer may e).1;
+}
 
 -- ---- a step of a run
 
@@ -151,6 +159,21 @@ module _ (limits : Bounds) (states : ℕ → State) (last : ℕ) (r : IsRun limi
             (reads_marked r.records since.at (suc t) k m' (operation_after (states t) was)
             (reads_stepped limits states last r since.at t since.past lt s o m notes k was go at_k g (since.reads (ap is_close (sym same.call) ∙ no_close))));
         tries = tries_on k was found go at_k g runs it since;
+      }
+  since_by k found runs before (gave was answer go at_k may it) =
+      let since = before was at_k in
+      let same = subst (IsSame was) (sym it) (gave_up_same was answer) in
+      let rests = ap (λ q. moment_at q (suc k)) (notes ∙ ap (λ q. noted (r.records t) (states t).steps (told_in (states t) q)) go) in
+      let later : (at : ℕ) → ReadsWithin r.records at t k was → ReadsWithin r.records at (suc t) k found =
+      λ at h. subst (ReadsWithin r.records at (suc t) k) (sym it) (reads_given_up r.records at (suc t) k was answer may (reads_later r.records at t k was rests h)) in
+      record {
+        at = since.at;
+        past = omega (arith, since.past);
+        runs = runs_on states r.records t k found runs since.at was same since.runs;
+        reads = λ no_close. later since.at (since.reads (ap is_close (sym same.call) ∙ no_close));
+        tries = λ generation its.
+            let old = since.tries generation (ap (λ (x : Operation). x.generation) (sym it) ∙ its) in
+            try_on states r.records t k found runs was generation same its old (later old.at old.reads);
       }
 
   pub since_after : ((k : ℕ) (was : Operation) → Runs (states t) k was → Since states r.records t k was) → (k : ℕ) (found : Operation) → Runs (states (suc t)) k found →

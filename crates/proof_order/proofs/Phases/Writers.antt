@@ -8,7 +8,7 @@ use Rattle.proof_order.specs.Beneath.machine_model.proofs.Times.{along_run}
 use Rattle.proof_order.specs.Beneath.proof_memory.specs.Laws.{is_past_root}
 use Rattle.proof_order.specs.Beneath.proof_memory.proofs.Safety.AtEachTime.{safe_at}
 use Rattle.proof_order.specs.Beneath.proof_memory.proofs.Safety.States.{IsSafe}
-use Rattle.proof_generations.proofs.Handles.Running.{Comes, began, rested, went, comes}
+use Rattle.proof_generations.proofs.Handles.Running.{Comes, began, rested, went, comes, gave}
 use Rattle.proof_order.specs.Facts.{Runs}
 use Rattle.proof_order.proofs.Offers.Standing.{nobody}
 use Rattle.proof_order.specs.Beneath.history.proofs.Places.{option_tested}
@@ -26,6 +26,7 @@ readers_by state s S all k found (went was go at_k g it) e =
     let same = it ∙ mark_only (marks_in state s) (operation_after state was) in
     let read_only = ap (λ (x : Operation). x.access) (sym same) ∙ e in
     subst IsReaders (sym (ap (λ (x : Operation). x.line) same)) (readers state was was.line read_only (S.fits k was at_k read_only) (all k was at_k read_only))
+readers_by state s S all k found (gave was answer go at_k may it) e = subst IsReaders (sym (ap (λ (x : Operation). x.line) it)) tt
 
 readers_at : (limits : Bounds) (states : ℕ → State) (last : ℕ) (r : IsRun limits states last) → (t : ℕ) → t ≤ last → AllReaders (states t)
 readers_at limits states last r =

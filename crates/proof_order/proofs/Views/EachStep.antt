@@ -3,8 +3,8 @@ use Rattle.std.proofs.Common.{◌≡◌, ℕ, Bool, true, false, [], ◌∷◌, 
 use Rattle.std.proofs.lemmas.List.{get_or-set_same}
 use Rattle.proof_order.specs.Vocabulary.{Call, Close, Reply, Ref, generation_at, on_time, Operation, Action, Root, Offer, Descriptor, Outcome, Step, handle_of, State, root_at, word_at}
 use Rattle.proof_order.specs.Vocabulary.{with_operation, operation_of, action_of, stands_in, is_carried_out, acted, carried_out, gone, operation_after, settled, begin_denial, with_begin, Begins}
-use Rattle.proof_order.specs.Vocabulary.{Ends, Sweeps, Moves, begun_operation, committed_now, entrant_of, told_in, progress_of, carried_by, entered, entered_at_end, Record, noted, noted_progress}
-use Rattle.proof_order.specs.Vocabulary.{moment_at, placed_by, closed_by}
+use Rattle.proof_order.specs.Vocabulary.{Ends, Sweeps, GivesUp, Moves, begun_operation, committed_now, entrant_of, told_in, progress_of, carried_by, entered, entered_at_end, Record, noted}
+use Rattle.proof_order.specs.Vocabulary.{noted_progress, moment_at, placed_by, closed_by}
 use Rattle.proof_order.specs.Beneath.machine_model.specs.declared.actions.Action.TheVariants as act
 use Rattle.proof_order.specs.Beneath.machine_model.specs.declared.steps.Step.TheVariants as step
 use Rattle.proof_order.specs.Beneath.machine_model.specs.Moves.{Goes}
@@ -122,4 +122,5 @@ changes state past s o after (Ends {actor} {operation} {answer} d is a) honest =
     let notes = noted_ending state past actor operation answer is a in
     ends actor operation answer refl is a (entered_is state past actor operation None is (end_commits state operation operation.line answer a))
     (ap (λ (r : Record). r.places) notes) (ap (λ (r : Record). r.closings) notes) (λ h. refl)
+changes state past s o after (GivesUp d is a) honest = quiet (sym (append-nil past.places)) refl (λ h. refl)
 changes state past s o after (Sweeps spent) honest = quiet (sym (append-nil past.places)) refl (λ h. refl)

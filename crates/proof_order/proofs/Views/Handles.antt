@@ -5,7 +5,7 @@ use Rattle.std.proofs.lemmas.List.{length-replicate}
 use Rattle.std.proofs.lemmas.Option.{none-some, same_Some}
 use Rattle.proof_order.specs.Vocabulary.{Writable, Call, Close, Ref, Operation, Action, Root, Plain, ref_to, Descriptor, Bounds, Outcome, Step, handle_of, opens_handle, State, first_state}
 use Rattle.proof_order.specs.Vocabulary.{handle_limit, action_of, acted, aborted, offered, completed, opened, new_root_taken, begin_denial, with_begin, is_taken, taken_below, handles_taken}
-use Rattle.proof_order.specs.Vocabulary.{least_from, least_free, Begins, Ends, Sweeps, Moves, begun_operation, IsRun}
+use Rattle.proof_order.specs.Vocabulary.{least_from, least_free, Begins, Ends, Sweeps, GivesUp, Moves, begun_operation, IsRun}
 use Rattle.proof_order.specs.Beneath.machine_model.specs.declared.actions.Action.TheVariants as act
 use Rattle.proof_order.specs.Beneath.machine_model.specs.declared.steps.Step.TheVariants as step
 use Rattle.proof_order.specs.Beneath.machine_model.specs.Moves.{Goes}
@@ -53,6 +53,7 @@ unfolding Sized
 sized_kept state s o after (Begins {actor} {call} d) size = begun_size state actor call (begun_operation state call) ∙ size
 sized_kept state s o after (Goes {actor} {operation} d is a g) size = acted_size _ (handle_of operation.call) (action_of state operation) ∙ size
 sized_kept state s o after (Ends d is a) size = size
+sized_kept state s o after (GivesUp d is a) size = size
 sized_kept state s o after (Sweeps spent) size = size
 
 first_sized : (limits : Bounds) → Sized (first_state limits)
@@ -114,6 +115,7 @@ in_range_of_begin state s o after (Begins {actor} {call} d) k other e n is =
     begun_in_range state actor call (opens_handle call) refl d n (ap (λ c. (begun_operation state c).opens) same ∙ is)
 in_range_of_begin state s o after (Goes d found a g) k other e n is = let wrong : ⊥ = cc e in absurd wrong
 in_range_of_begin state s o after (Ends d found a) k other e n is = let wrong : ⊥ = cc e in absurd wrong
+in_range_of_begin state s o after (GivesUp d found a) k other e n is = let wrong : ⊥ = cc e in absurd wrong
 in_range_of_begin state s o after (Sweeps spent) k other e n is = let wrong : ⊥ = cc e in absurd wrong
 
 in_range_kept : (state : State) (s : Step) (o : Outcome) (after : State) → Moves state s o after → InRange state → InRange after

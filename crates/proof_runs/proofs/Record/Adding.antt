@@ -1,7 +1,7 @@
 -- How many places a step adds.
 use Rattle.std.proofs.Common.{◌≡◌, ℕ, ◌+◌, ◌≤◌, Bool, true, false, cond, List, [], ◌∷◌, ◌++◌, length, Option, Some, None, refl, sym, ap, subst, arith, append-nil}
 use Rattle.std.proofs.lemmas.List.{length-append}
-use Rattle.proof_runs.specs.Vocabulary.{Call, Close, Reply, Place, Ref, Action, Outcome, Step, handle_of, run, Moves, Begins, Ends, Sweeps, begun_operation, action_of, State, first_state}
+use Rattle.proof_runs.specs.Vocabulary.{Call, Close, Reply, Place, Ref, Action, Outcome, Step, handle_of, run, Moves, Begins, Ends, Sweeps, GivesUp, begun_operation, action_of, State, first_state}
 use Rattle.proof_runs.specs.Vocabulary.{committed_now, carried_by, told_in, entrant_of, is_placed, place_of, entered_at_begin, Record, placed_by, noted, record_of, entered_by, changer_of}
 use Rattle.proof_runs.specs.Vocabulary.{first_record, moment_at, entered_at_end, entered, Carried, Entrant}
 use Rattle.proof_runs.specs.Beneath.history.specs.declared.replies.Reply.TheVariants as reply
@@ -68,6 +68,7 @@ moved_grows state past s o after (Goes {actor} {operation} {action} d is a g) =
 moved_grows state past s o after (Ends {actor} {operation} {answer} d is a) =
     subst (λ (r : Record). Grow past.places r.places) (sym (noted_ending state past actor operation answer is a))
     (grow_by past.places (entered_at_end past (entrant_of operation) (moment_at past actor).moment answer) (ended_few past (entrant_of operation) (moment_at past actor).moment answer))
+moved_grows state past s o after (GivesUp d is a) = grow_same past.places past.places refl
 moved_grows state past s o after (Sweeps spent) = grow_same past.places past.places refl
 
 pub one_place : OnePlaceAStep

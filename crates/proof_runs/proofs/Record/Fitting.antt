@@ -7,8 +7,8 @@ use Rattle.std.proofs.lemmas.List.Elements.{All-weaker}
 use Rattle.std.proofs.lemmas.Option.{none-some, same_Some}
 use Rattle.proof_runs.specs.Vocabulary.{begun, Slot, Ref, Heap, generation_at, generation_of, stored, birth_of, slot_of, Action, Line, Purpose, Operation, SwapLine, Carried, Entrant, Publication}
 use Rattle.proof_runs.specs.Vocabulary.{Descriptor, RootWord, Plain, Offer, Bounds, Outcome, Step, operation_after, handle_of, of_birth, AreBounds, is_actor, run, Begins, Ends, Moves, Sweeps}
-use Rattle.proof_runs.specs.Vocabulary.{action_of, State, first_state, operation_of, with_operation, word_at, is_carried_out, carried_by, changer_for, committed_now, given_now, published_at}
-use Rattle.proof_runs.specs.Vocabulary.{published_by, progress_of}
+use Rattle.proof_runs.specs.Vocabulary.{GivesUp, action_of, State, first_state, operation_of, with_operation, word_at, is_carried_out, carried_by, changer_for, committed_now, given_now}
+use Rattle.proof_runs.specs.Vocabulary.{published_at, published_by, progress_of}
 use Rattle.proof_runs.specs.Beneath.machine_model.specs.declared.actions.Action.TheVariants as act
 use Rattle.proof_runs.specs.Beneath.machine_model.specs.declared.lines.Line.TheVariants as line
 use Rattle.proof_runs.specs.Beneath.machine_model.specs.declared.lines.Purpose.TheVariants as purpose
@@ -46,6 +46,7 @@ begins_after state s o after (Begins d) = omega arith
 begins_after state s o after (Goes {actor} {operation} d is a g) =
     let framed = acted_framed (with_operation state actor (Some (operation_after state operation))) (handle_of operation.call) (action_of state operation) in omega (arith, framed.begun)
 begins_after state s o after (Ends d is a) = omega arith
+begins_after state s o after (GivesUp d is a) = omega arith
 begins_after state s o after (Sweeps spent) = omega arith
 
 none_begun : (limits : Bounds) → (first_state limits).begun ≤ (first_state limits).steps

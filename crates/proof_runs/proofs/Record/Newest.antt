@@ -4,8 +4,8 @@ use Rattle.std.specs.Prelude.{option_to_list}
 use Rattle.std.proofs.lemmas.Option.{none-some}
 use Rattle.std.proofs.lemmas.List.Elements.{All-cons, All-nil, All-push, All-weaker}
 use Rattle.proof_runs.specs.Vocabulary.{Ref, slot_of, birth_of, Heap, Line, Operation, SwapLine, Commit, Entrant, Publication, Bounds, Outcome, Step, State, first_state, operation_of, action_at}
-use Rattle.proof_runs.specs.Vocabulary.{action_of, line_action, AreBounds, run, Moves, Begins, Ends, Sweeps, Record, commits_after, noted, record_of, changer_for, committed_now, published_at}
-use Rattle.proof_runs.specs.Vocabulary.{published_by, told_in, Action}
+use Rattle.proof_runs.specs.Vocabulary.{action_of, line_action, AreBounds, run, Moves, Begins, Ends, Sweeps, GivesUp, Record, commits_after, noted, record_of, changer_for, committed_now}
+use Rattle.proof_runs.specs.Vocabulary.{published_at, published_by, told_in, Action}
 use Rattle.proof_runs.specs.Beneath.slot_arena.proofs.Live.{one_live}
 use Rattle.proof_runs.specs.Beneath.slot_arena.proofs.Reading.{live_seen}
 use Rattle.proof_runs.specs.Beneath.machine_model.specs.declared.lines.Line.TheVariants as line
@@ -147,6 +147,10 @@ newest_after state I past s o after (Ends {actor} {operation} {answer} d is a) h
       commits = still state I _ _ _ (Ends d is a) committed_main past.commits h.commits;
       published = still state I _ _ _ (Ends d is a) published_main past.published h.published;
     })
+newest_after state I past s o after (GivesUp d is a) h = record {
+  commits = still state I _ _ _ (GivesUp d is a) committed_main past.commits h.commits;
+  published = still state I _ _ _ (GivesUp d is a) published_main past.published h.published;
+}
 newest_after state I past s o after (Sweeps spent) h = record {
   commits = still state I _ _ _ (Sweeps spent) committed_main past.commits h.commits;
   published = still state I _ _ _ (Sweeps spent) published_main past.published h.published;

@@ -1,7 +1,7 @@
 -- Each step leaves all main nodes and commits nothing, or it commits one fresh node, whose owner knows what it made.
-use Rattle.std.proofs.Common.{◌≡◌, ℕ, suc, ◌<◌, ◌≤◌, List, Option, Some, None, refl, sym, ◌∙◌, ap, subst, arith}
-use Rattle.proof_shape.specs.Vocabulary.{Access, Writable, ReadOnly, Ref, Purpose, Operation, ReadLine, Swap, Reply, Bounds, Outcome, Step, State, operation_of, action_of, run as run_steps}
+use Rattle.proof_shape.specs.Vocabulary.{GivesUp, Access, Writable, ReadOnly, Ref, Purpose, Operation, ReadLine, Swap, Reply, Bounds, Outcome, Step, State, operation_of, action_of, run as run_steps}
 use Rattle.proof_shape.specs.Vocabulary.{node_under, Begins, Ends, Sweeps, Moves, GoesOn, IsRun, committed_now, told_in, Record, commits_after, noted}
+use Rattle.std.proofs.Common.{◌≡◌, ℕ, suc, ◌<◌, ◌≤◌, List, Option, Some, None, refl, sym, ◌∙◌, ap, subst, arith}
 use Rattle.proof_shape.specs.Beneath.machine_model.specs.declared.actions.Action.TheVariants as act
 use Rattle.proof_shape.specs.Beneath.machine_model.specs.declared.lines.Line.TheVariants as line
 use Rattle.proof_shape.specs.Beneath.machine_model.specs.declared.lines.Purpose.TheVariants as purpose
@@ -21,7 +21,7 @@ use Rattle.proof_shape.specs.Beneath.proof_contents.specs.Lines.Repairs.{KnowsRe
 use Rattle.proof_shape.specs.Lines.Given.{GaveBelow, Was}
 use Rattle.proof_shape.specs.Lines.Climbing.{KnowsClimbing}
 use Rattle.proof_shape.specs.Lines.Knowing.{known_with, first_main, IsPlaced}
-use Rattle.proof_shape.specs.Lines.Commits.{Firsts, made_with, KnowsFresh, OwnCommit, begins, goes, sweeps, MainStep, stays, changes, CommitsAt}
+use Rattle.proof_shape.specs.Lines.Commits.{Firsts, made_with, KnowsFresh, OwnCommit, begins, goes, sweeps, MainStep, stays, changes, CommitsAt, gives_up}
 use Rattle.proof_shape.proofs.Runs.EachAt.{GoesAt}
 use Rattle.proof_shape.proofs.Runs.RunOf.{run_of}
 use Rattle.proof_shape.proofs.Lines.Places.{places_at}
@@ -140,6 +140,7 @@ module _ (limits : Bounds) (states : ℕ → State) (last : ℕ) (run : IsRun li
     by_move s o after (Ends {actor} {operation} {answer} d is a) e notes =
         stays (goes actor operation is (ends_none operation answer a (committed_now (states t) operation) refl))
         (quiet_stays limits states last run t h (ap (λ (x : Record). x.commits) (notes ∙ noted_ending (states t) (run.records t) actor operation answer is a)))
+    by_move s o after (GivesUp {actor} d is a) e notes = stays (gives_up actor) (quiet_stays limits states last run t h (ap (λ (x : Record). x.commits) notes))
     by_move s o after (Sweeps spent) e notes = stays sweeps (quiet_stays limits states last run t h (ap (λ (x : Record). x.commits) notes))
 
   pub commits_by : (firsts : Firsts) → FreshKnown firsts → CommitsAt limits states run.records last firsts

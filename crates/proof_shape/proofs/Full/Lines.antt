@@ -1,18 +1,21 @@
 -- What lines know so that no branch below the root is left empty, or with one single alone: what KEY takes out of a pair leaves an indirection, and RENEW
 -- keeps indirections.
-use Rattle.std.proofs.Common.{◌≡◌, ℕ, ◌+◌, ◌-◌, ◌<◌, ◌==◌, ◌&&◌, true, false, nat_lt, nat_le, List, [], ◌∷◌, ◌++◌, length, slice_index_or, Option, Some, None, refl, sym, ap}
+use Rattle.std.proofs.Common.{◌≡◌, ℕ, ◌-◌, ◌<◌, ◌&&◌, true, List, [], ◌∷◌, ◌++◌, length, slice_index_or, Option, Some, None, sym, ap}
 use Rattle.std.proofs.Common.{ap₂, subst, ◌∙◌, inl, inr, eq-eqb, arith}
-use Rattle.std.proofs.lemmas.Bool.{cases_lt, false≢true, cond_both}
+use Rattle.std.proofs.lemmas.Bool.{cases_lt, false≢true}
 use Rattle.std.proofs.lemmas.List.{get_or_append_left, get_or_push, length-append}
 use Rattle.arrayvec.specs.ArrayVec.{ArrayVec}
-use Rattle.proof_shape.specs.Vocabulary.{Call, Ref, Node, Indirection, Branch, Single, List as Listed, node_at, entry_at, entries_of, next_ref, no_ref, WhenFound, Answers, Sets, Removes, Line}
-use Rattle.proof_shape.specs.Vocabulary.{Operation, After, Gives, Read, RenewLine, key_of, inserts, when_found, is_below_root, is_start, State, absent, removing, found_so, is_passable}
-use Rattle.proof_shape.specs.Vocabulary.{key_after_entry, after_listed, after_sibling, renew_next, next_entry, renew_after_entry, renew_after_read, renew_after_link, renew_after_branch, first_line}
+use Rattle.proof_shape.specs.Vocabulary.{Call, Ref, Branch, List as Listed, node_at, entry_at, entries_of, next_ref, no_ref, Line, Operation, After, Gives, Read, RenewLine, is_below_root, State}
+use Rattle.proof_shape.specs.Vocabulary.{next_entry, renew_after_read, renew_after_link, renew_after_branch, first_line}
 use Rattle.proof_shape.specs.Beneath.machine_model.specs.declared.building.BuildLine.TheVariants as build
 use Rattle.proof_shape.specs.Beneath.machine_model.specs.declared.building.Change.TheVariants as change
 use Rattle.proof_shape.specs.Beneath.machine_model.specs.declared.lines.Line.TheVariants as line
 use Rattle.proof_shape.specs.Beneath.machine_model.specs.declared.reading.After.TheVariants.{Goes}
 use Rattle.proof_shape.specs.Beneath.machine_model.specs.declared.repairs.RenewLine.TheVariants as renew
+use Rattle.proof_shape.specs.Beneath.machine_model.specs.declared.finding.KeyLine.TheVariants as key
+use Rattle.proof_shape.specs.Beneath.machine_model.specs.Edges.Key.{FoundEdge, removes, removes_listed, KeyEdge, renews, renews_none, finds, finds_listed, keeps_sibling}
+use Rattle.proof_shape.specs.Beneath.machine_model.specs.Edges.Repairs.{RenewNext, RenewEdge, meets_older, keeps_own}
+use Rattle.proof_shape.specs.Beneath.machine_model.proofs.Edges.Repairs.{renew_next_edge}
 use Rattle.proof_shape.specs.Beneath.proof_memory.specs.Wants.{is_indirection}
 use Rattle.proof_shape.specs.Sites.Lines.{Sites, bare}
 use Rattle.proof_shape.proofs.Lines.Leads.{keeps_entries, first_leads}
@@ -69,59 +72,40 @@ module _ (s : Sites) where
     entry_same main n u =
         ap (λ es. slice_index_or es n no_ref) (sym (bare_entries (node_at state.heap main)) ∙ ap entries_of (sym (same main u)) ∙ bare_entries (s.node main))
 
-    removing_full : (path : List Ref) (main : Ref) (position value : ℕ) (node : Node) → node_at state.heap main ≡ node → S main → L (removing state path main position value node)
-    removing_full path main position value (Branch bitmap entries) e u =
-        cond_both (is_below_root path && (length entries.items == 2)) _ _ L (λ x. tt) (λ x. spares x)
-      where
-        spares : (is_below_root path && (length entries.items == 2)) ≡ false → SparesLink path main position
-        spares other below b es is two =
-            let both : Branch bitmap entries ≡ Branch b es = sym e ∙ branch_same main u b es is in
-            let es_is : entries ≡ es = cc in
-            absurd (false≢true (sym other ∙ ap₂ (λ x y. x && y) below (eq-eqb (length entries.items) 2 (ap (λ (xs : ArrayVec Ref). length xs.items) es_is ∙ two))))
-    removing_full path main position value (Listed singles) e u =
-        cond_both (length singles.items == 2) _ _ L (λ x. tt) (λ x. spares)
-      where
-        spares : SparesLink path main position
-        spares below b es is two = absurd (let bad : Listed singles ≡ Branch b es = sym e ∙ branch_same main u b es is in cc)
-    removing_full path main position value node e u = tt
-
-    found_full : (path : List Ref) (main : Ref) (position value : ℕ) (todo : WhenFound) → S main → L (found_so state path main position value todo)
-    found_full path main position value (Answers answer) u = tt
-    found_full path main position value Sets u = tt
-    found_full path main position value Removes u = removing_full path main position value (node_at state.heap main) refl u
-
-    absent_full : (path : List Ref) (main : Ref) → L (absent operation path main)
-    absent_full path main = cond_both (inserts operation.call) _ _ L (λ x. tt) (λ x. tt)
+    found_full : (path : List Ref) (main : Ref) (position v : ℕ) (next : Line) → FoundEdge state operation path main position v next → S main → L next
+    found_full path main position v next (removes takes bitmap entries e other) u = λ below b es is two.
+        let both : Branch bitmap entries ≡ Branch b es = sym e ∙ branch_same main u b es is in
+        let es_is : entries ≡ es = cc in
+        absurd (false≢true (sym other ∙ ap₂ (λ x y. x && y) below (eq-eqb (length entries.items) 2 (ap (λ (xs : ArrayVec Ref). length xs.items) es_is ∙ two))))
+    found_full path main position v next (removes_listed takes singles e others) u = λ below b es is two.
+        absurd (let bad : Listed singles ≡ Branch b es = sym e ∙ branch_same main u b es is in cc)
+    found_full path main position v next edge u = tt
 
     none_done : (main : Ref) → KeepsLinks main []
     none_done main n lt link = absurd (omega (arith, lt))
 
-    renew_next_full : (path : List Ref) (main : Ref) (done : List Ref) → KeepsLinks main done → L (renew_next state path main done)
-    renew_next_full path main done k = cond_both (nat_lt (length done) (length (entries_of (node_at state.heap main)))) _ _ L (λ x. k) (λ x. k)
+    renew_next_full : (path : List Ref) (main : Ref) (done : List Ref) (next : Line) → RenewNext state path main done next → KeepsLinks main done → L next
+    renew_next_full path main done next (RenewNext.more e) k = k
+    renew_next_full path main done next edge k = k
 
-    pub entry_full : (path : List Ref) (main : Ref) (position : ℕ) (node : Node) → S main → L (key_after_entry state operation path main position node)
-    entry_full path main position (Indirection generation word) u = cond_both (is_passable operation generation) _ _ L (λ x. tt) (λ x. renew_next_full path main [] (none_done main))
-    entry_full path main position (Single k v) u =
-        cond_both (k == key_of operation.call) _ _ L (λ x. found_full path main position v (when_found operation.call v) u) (λ x. cond_both (inserts operation.call) _ _ L (λ y. tt) (λ y. tt))
-    entry_full path main position node u = tt
+    pub entry_full : (path : List Ref) (main : Ref) (position : ℕ) (next : Line) → KeyEdge state operation (key.Entry path main position) next → S main → L next
+    entry_full path main position next (renews route m q g w e older some) u = none_done main
+    entry_full path main position next (renews_none route m q g w e older none) u = none_done main
+    entry_full path main position next (finds route m q k v n e here found) u = found_full path main position v next found u
+    entry_full path main position next edge u = tt
 
-    pub listed_full : (path : List Ref) (main : Ref) (position : ℕ) (node : Node) → S main → L (after_listed state operation path main position node)
-    listed_full path main position (Single k v) u =
-        cond_both (k == key_of operation.call) _ _ L (λ x. found_full path main position v (when_found operation.call v) u)
-        (λ x. cond_both (nat_lt (position + 1) (length (entries_of (node_at state.heap main)))) _ _ L (λ y. tt)
-        (λ y. cond_both (inserts operation.call && nat_le 32 (length (entries_of (node_at state.heap main)))) _ _ L (λ z. tt) (λ z. absent_full path main)))
-    listed_full path main position node u = tt
+    pub listed_full : (path : List Ref) (main : Ref) (position : ℕ) (next : Line) → KeyEdge state operation (key.Listed path main position) next → S main → L next
+    listed_full path main position next (finds_listed route m q k v n e here found) u = found_full path main position v next found u
+    listed_full path main position next edge u = tt
 
-    pub sibling_full : (path : List Ref) (main : Ref) (position former : ℕ) (node : Node) → node_at state.heap (entry_at state.heap main (1 - position)) ≡ node →
-        S main → S (entry_at state.heap main (1 - position)) →
-        L (after_sibling path main position former (entry_at state.heap main (1 - position)) node)
-    sibling_full path main position former (Indirection generation word) e u v = λ below b es is two.
+    pub sibling_full : (path : List Ref) (main : Ref) (position former : ℕ) (next : Line) → KeyEdge state operation (key.Sibling path main position former) next →
+        S main → S (entry_at state.heap main (1 - position)) → L next
+    sibling_full path main position former next (keeps_sibling route m q old g w e) u v = λ below b es is two.
         let its : entry_at state.heap main (1 - position) ≡ slice_index_or es.items (1 - position) no_ref =
         entry_same main (1 - position) u ∙ ap (λ n. slice_index_or (entries_of n) (1 - position) no_ref) is in
         let other : Ref = entry_at state.heap main (1 - position) in
         ap (λ r. is_indirection (s.node r)) (sym its) ∙ link_alike (s.node other) (node_at state.heap other) (same other v) ∙ ap is_indirection e
-    sibling_full path main position former (Single k v) e u w = tt
-    sibling_full path main position former node e u v = tt
+    sibling_full path main position former next edge u v = tt
 
     -- ---- RENEW
 
@@ -141,12 +125,11 @@ module _ (s : Sites) where
     kept : (main : Ref) (done : List Ref) → S main → KeepsLinks main done → KeepsLinks main (done ++ next_entry state main done ∷ [])
     kept main done u k = keeps_more main done (next_entry state main done) k (λ link. subst (λ r. is_indirection (s.node r) ≡ true) (sym (entry_same main (length done) u)) link)
 
-    pub renew_entry_full : (path : List Ref) (main : Ref) (done : List Ref) (node : Node) → S main → KeepsLinks main done →
-        L (renew_after_entry state operation path main done (next_entry state main done) node)
-    renew_entry_full path main done (Indirection generation word) u k =
-        cond_both (is_start operation generation) _ _ L (λ x. renew_next_full path main (done ++ next_entry state main done ∷ []) (kept main done u k)) (λ x. k)
-    renew_entry_full path main done (Single x y) u k = renew_next_full path main (done ++ next_entry state main done ∷ []) (kept main done u k)
-    renew_entry_full path main done node u k = tt
+    pub renew_entry_full : (path : List Ref) (main : Ref) (done : List Ref) (next : Line) → RenewEdge state operation (renew.Entry path main done) next → S main → KeepsLinks main done → L next
+    renew_entry_full path main done next (meets_older route m d g w e older) u k = k
+    renew_entry_full path main done next (keeps_own route m d g w n e own on) u k = renew_next_full path main _ next on (kept main done u k)
+    renew_entry_full path main done next (RenewEdge.keeps_single route m d x y n e on) u k = renew_next_full path main _ next on (kept main done u k)
+    renew_entry_full path main done next edge u k = tt
 
     pub renew_read_full : (path : List Ref) (main : Ref) (done : List Ref) (a : After Read Ref) → KeepsLinks main done → L (renew_after_read path main done a)
     renew_read_full path main done (Goes r) k = k
@@ -156,7 +139,7 @@ module _ (s : Sites) where
         ((made : Ref) → next_ref state.heap ≡ Some made → is_indirection (s.node made) ≡ true) → (o : Option Ref) → next_ref state.heap ≡ o →
         L (renew_after_link state path main done o)
     link_full path main done k new None e = tt
-    link_full path main done k new (Some made) e = renew_next_full path main (done ++ made ∷ []) (keeps_more main done made k (λ link. new made e))
+    link_full path main done k new (Some made) e = renew_next_full path main (done ++ made ∷ []) _ (renew_next_edge state path main _) (keeps_more main done made k (λ link. new made e))
 
     pub branch_full : (path : List Ref) (main : Ref) (o : Option Ref) → L (renew_after_branch path main o)
     branch_full path main None = tt

@@ -1,8 +1,8 @@
 -- At each time no branch below the root is empty or has one single alone.
 use Rattle.std.proofs.Common.{◌≡◌, ℕ, zero, suc, ◌-◌, ◌<◌, ◌≤◌, true, Option, Some, None, refl, sym, ap, subst, ◌∙◌, arith}
 use Rattle.std.proofs.lemmas.Option.{none-some, same_Some}
-use Rattle.proof_shape.specs.Vocabulary.{hash_of, Ref, Node, Indirection, Branch, Single, Tomb, List as Listed, Slot, node_at, entry_at, next_ref, with_main_word, Action, Operation, Line, Bounds}
-use Rattle.proof_shape.specs.Vocabulary.{Step, handle_of, key_of, State, first_state, operation_of, start_of, read_step, action_of, line_action, line_after, IsRun, grown, standing, or_before}
+use Rattle.proof_shape.specs.Vocabulary.{hash_of, Ref, Node, Indirection, Branch, Single, Tomb, List as Listed, Slot, node_at, next_ref, with_main_word, Action, Operation, Line, Bounds, Step}
+use Rattle.proof_shape.specs.Vocabulary.{handle_of, key_of, State, first_state, operation_of, start_of, read_step, action_of, line_action, line_after, IsRun, grown, standing, or_before}
 use Rattle.proof_shape.specs.Beneath.machine_model.specs.declared.actions.Action.TheVariants as act
 use Rattle.proof_shape.specs.Beneath.machine_model.specs.declared.finding.KeyLine.TheVariants as key
 use Rattle.proof_shape.specs.Beneath.machine_model.specs.declared.repairs.RenewLine.TheVariants as renew
@@ -33,6 +33,8 @@ use Rattle.proof_shape.proofs.Sites.At.{lines_have_sites}
 use Rattle.proof_shape.proofs.Sites.Born.{IsBorn, born}
 use Rattle.proof_shape.proofs.Lines.Leads.{root_leads, swap_leads, build_leads, clean_leads, climb_leads, copy_leads, walk_leads, key_read_leads, key_main_leads}
 use Rattle.proof_shape.proofs.Full.Lines.{FullLine, free_full, first_full, entry_full, listed_full, sibling_full, renew_entry_full, renew_read_full, link_full, branch_full}
+use Rattle.proof_shape.specs.Beneath.machine_model.proofs.Edges.Key.{key_edge}
+use Rattle.proof_shape.specs.Beneath.machine_model.proofs.Edges.Repairs.{renew_edge}
 use Rattle.proof_shape.proofs.Full.Made.{FullNode, ActionFull}
 use Rattle.proof_shape.proofs.Full.Acts.{acts_full}
 use Rattle.proof_shape.specs.Beneath.machine_model.proofs.Grown.{node_standing, grown_in_use}
@@ -66,17 +68,17 @@ module _ (limits : Bounds) (states : ℕ → State) (steps : ℕ → Step) (last
       action_of (states t) operation ≡ line_action (states t) operation l → Wants t operation l →
       FullLine s l → FullLine s (line_after (states t) operation l)
   line_next t h actor operation go (line.Key (key.Entry path main position)) a w f =
-      entry_full s (states t) operation (S t) (same t (omega arith)) path main position (node_at (states t).heap (entry_at (states t).heap main position)) (safe_of w.1.1.0)
+      entry_full s (states t) operation (S t) (same t (omega arith)) path main position _ (key_edge (states t) operation (key.Entry path main position)) (safe_of w.1.1.0)
   line_next t h actor operation go (line.Key (key.Listed path main position)) a w f =
-      listed_full s (states t) operation (S t) (same t (omega arith)) path main position (node_at (states t).heap (entry_at (states t).heap main position)) (safe_of w.1.1.0)
+      listed_full s (states t) operation (S t) (same t (omega arith)) path main position _ (key_edge (states t) operation (key.Listed path main position)) (safe_of w.1.1.0)
   line_next t h actor operation go (line.Key (key.Sibling path main position former)) a w f =
-      sibling_full s (states t) operation (S t) (same t (omega arith)) path main position former (node_at (states t).heap (entry_at (states t).heap main (1 - position))) refl (safe_of w.1.1.0)
+      sibling_full s (states t) operation (S t) (same t (omega arith)) path main position former _ (key_edge (states t) operation (key.Sibling path main position former)) (safe_of w.1.1.0)
       (at_position (S t) (states t).heap AnEntry (1 - position) (branch_entries (S t) (states t).heap
       (heaped_in_use (states t) (safe_at limits states last run t (omega arith))) w.1.1.0) w.1.1.1.0).0
   line_next t h actor operation go (line.Key (key.Read path r)) a w f = free_full s _ (key_read_leads (states t) operation path r).2
   line_next t h actor operation go (line.Key (key.Main path main)) a w f = free_full s _ (key_main_leads (states t) operation path main (node_at (states t).heap main)).2
   line_next t h actor operation go (line.Renew (renew.Entry path main done)) a w f =
-      renew_entry_full s (states t) operation (S t) (same t (omega arith)) path main done (node_at (states t).heap _) (safe_of w.1.1.0) f
+      renew_entry_full s (states t) operation (S t) (same t (omega arith)) path main done _ (renew_edge (states t) operation (renew.Entry path main done)) (safe_of w.1.1.0) f
   line_next t h actor operation go (line.Renew (renew.Read path main done r)) a w f =
       renew_read_full s (states t) operation (S t) (same t (omega arith)) path main done (read_step (states t) operation r) f
   line_next t h actor operation go (line.Renew (renew.Link path main done child)) a w f =
@@ -95,7 +97,8 @@ module _ (limits : Bounds) (states : ℕ → State) (steps : ℕ → Step) (last
   full_lines : OfEachAt states last (λ t actor operation. FullLine s operation.line)
   full_lines =
       each_at (λ t actor operation. FullLine s operation.line) (λ t actor operation f. f) limits states last run (λ t h actor call d. first_full s call)
-      (λ t h actor operation go f. line_next t h actor operation go operation.line refl (line_at limits states last run t (omega arith) actor operation go.runs) f) (λ t h actor operation is f. f)
+      (λ t h actor operation go f. line_next t h actor operation go operation.line refl (line_at limits states last run t (omega arith) actor operation go.runs) f)
+      (λ t h actor operation answer is may f. tt) (λ t h actor operation is f. f)
 
   -- ---- what is made
 

@@ -1,6 +1,7 @@
 -- Which entries of a repair were kept, or are singles, or were made anew; and the fresh main node of them.
 use Rattle.std.proofs.Common.{◌≡◌, ℕ, suc, ◌<◌, nat_lt, nat_eq, Bool, true, false, cond, List, ◌∷◌, ◌++◌, length, slice_index_or, Some, refl, sym, ◌∙◌, ap, subst, subst₂, arith}
 use Rattle.std.proofs.Common.{length-append, ltb-true, ltb-false, []}
+use Rattle.std.proofs.lemmas.Bool.{cond_both}
 use Rattle.std.proofs.lemmas.List.{get_or_append_left}
 use Rattle.std.proofs.Math.Seq.{get_or-append_seam}
 use lib.Pointwise.{pointwise}
@@ -14,7 +15,6 @@ use Rattle.proof_shape.specs.Beneath.proof_memory.specs.Laws.{IsInUse}
 use Rattle.proof_shape.specs.Beneath.proof_memory.specs.Wants.{ABranch, Holds, Is}
 use Rattle.proof_shape.specs.Beneath.proof_contents.specs.Lines.Repairs.{IsDone, keeps, renews, cleans, AllDone, KnowsRepair}
 use Rattle.proof_shape.specs.Beneath.proof_memory.proofs.Claims.Nodes.{branch_main}
-use Rattle.proof_shape.specs.Beneath.proof_contents.proofs.Lines.Coming.{renew_comes}
 use Rattle.proof_shape.specs.Lines.Given.{GaveBelow}
 use Rattle.proof_shape.specs.Lines.Knowing.{first_main}
 use Rattle.proof_shape.proofs.Runs.EachAt.{GoesAt}
@@ -69,7 +69,7 @@ module _ (limits : Bounds) (states : ℕ → State) (last : ℕ) (run : IsRun li
   Next l = HeldIn limits states last run (suc t) actor operation.id start operation.call l
 
   pub renew_next_holds : (path : List Ref) (main : Ref) (done : List Ref) → AreCome limits states last run actor start (suc t) main done → Next (renew_next (states t) path main done)
-  renew_next_holds path main done all = renew_comes Next (states t) path main done all all
+  renew_next_holds path main done all = cond_both (nat_lt (length done) (length (entries_of (node_at (states t).heap main)))) _ _ Next (λ more. all) (λ last. all)
 
   pub clean_next_holds : (path : List Ref) (main : Ref) (done : List Ref) → AreCome limits states last run actor start (suc t) main done → Next (clean_next (states t) path main done)
   clean_next_holds path main done all = by_test (nat_lt (length done) (length (entries_of (node_at (states t).heap main)))) (pointwise nat_eq done (entries_of (node_at (states t).heap main)))

@@ -149,7 +149,8 @@ module _ (limits : Bounds) (states : ℕ → State) (last : ℕ) (run : IsRun li
         fits = line_fits (states t) operation operation.line s.fits;
         starts = line_starts (states t) operation operation.line s.starts;
         swaps = line_places (states t) operation operation.line s.swaps;
-      }) (λ t h actor operation is s. s)
+      })
+      (λ t h actor operation answer is may s. record { fits = tt; starts = λ b. absurd (true≢false (sym b)); swaps = tt }) (λ t h actor operation is s. s)
 
   placed : (generation : Option ℕ) (l : Line) → (is_below l ≡ true → (start : ℕ) × (generation ≡ Some start)) → SwapPlace l → IsPlaced generation l
   placed generation (line.Key l) s p = s refl

@@ -121,4 +121,5 @@ module _ (limits : Bounds) (states : ℕ → State) (last : ℕ) (run : IsRun li
       (λ t h actor call d start begun. not_repairing (suc t) actor _ start _ (first_not call))
       (λ t h actor operation go k start begun.
       step_repairs t h actor operation go start operation.line refl begun (λ b. repairs_later t actor operation.id start operation.line (k start b)))
+      (λ t h actor operation answer is may k start begun. tt)
       (λ t h actor operation is k start begun. repairs_later t actor operation.id start operation.line (k start begun))

@@ -1,9 +1,8 @@
 -- The indirections that a line may come to read: those of its paths, those that it reads, and what a walk still has to look at. O says of an indirection that it may be.
-use Rattle.std.proofs.Common.{◌≡◌, ℕ, ◌-◌, ◌<◌, nat_lt, Bool, true, false, cond, List, length, take, refl, sym, subst, arith, ltb-true, length-take-le}
+use Rattle.std.proofs.Common.{◌≡◌, ℕ, ◌-◌, ◌<◌, nat_lt, true, List, length, take, arith, ltb-true, length-take-le}
 use Rattle.std.specs.List.{All}
 use Rattle.std.proofs.lemmas.List.Elements.{All-take}
-use Rattle.proof_shape.specs.Vocabulary.{Ref, no_ref, BuildLine, CopyLine, KeyLine, Line, Purpose, Operation, CleanLine, Climb, ClimbLine, RenewLine, RootLine, WalkLine, current, above}
-use Rattle.proof_shape.specs.Vocabulary.{is_below_root, reading, climbing, climbed}
+use Rattle.proof_shape.specs.Vocabulary.{Ref, no_ref, BuildLine, CopyLine, KeyLine, Line, Purpose, CleanLine, ClimbLine, RenewLine, RootLine, WalkLine, current, above, is_below_root}
 use Rattle.proof_shape.specs.Beneath.machine_model.specs.declared.building.BuildLine.TheVariants as build
 use Rattle.proof_shape.specs.Beneath.machine_model.specs.declared.copying.CopyLine.TheVariants as copy
 use Rattle.proof_shape.specs.Beneath.machine_model.specs.declared.finding.KeyLine.TheVariants as key
@@ -104,73 +103,3 @@ module _ (O : Ref → Type 0) where
 
       long : (path : List Ref) → 1 < length path → nat_lt 0 (length (take (length path - 1) path)) ≡ true
       long path lt = positive (length (take (length path - 1) path)) (omega (arith, length-take-le (length path - 1) path (omega arith)))
-
-  pub climbing_opens : (operation : Operation) (c : Climb) → All O c.path → Opens (climbing operation c)
-  climbing_opens operation c all = by_test (is_below_root c.path) refl
-    where
-      by_test : (b : Bool) → is_below_root c.path ≡ b → Opens (cond b (line.Climb (climb.Read c (reading (current (above c.path))))) (climbed operation c.former))
-      by_test true e = (all, above_current c.path e all)
-      by_test false e = tt
-
-  -- ---- lines on the same path, that read nothing
-
-  abbrev pub OnPath : List Ref → Line → Type 0
-  OnPath p (line.Root root.Read) = Unit {0}
-  OnPath p (line.Key (key.Main path main)) = path ≡ p
-  OnPath p (line.Key (key.Entry path main position)) = path ≡ p
-  OnPath p (line.Key (key.Listed path main position)) = path ≡ p
-  OnPath p (line.Key (key.Sibling path main position former)) = path ≡ p
-  OnPath p (line.Build (build.Single path main site former)) = path ≡ p
-  OnPath p (line.Build (build.Pair path main position single depth)) = path ≡ p
-  OnPath p (line.Build (build.Link path main position below depth)) = path ≡ p
-  OnPath p (line.Build (build.Rung path main position below depth)) = path ≡ p
-  OnPath p (line.Build (build.Main path main c former)) = path ≡ p
-  OnPath p (line.Swap (purpose.Update path former) s) = path ≡ p
-  OnPath p (line.Swap (purpose.Renew path) s) = path ≡ p
-  OnPath p (line.Swap purpose.Clean s) = Unit {0}
-  OnPath p (line.Renew (renew.Entry path main done)) = path ≡ p
-  OnPath p (line.Renew (renew.Link path main done child)) = path ≡ p
-  OnPath p (line.Renew (renew.Branch path main done)) = path ≡ p
-  OnPath p (line.Clean (clean.Main path main)) = path ≡ p
-  OnPath p (line.Clean (clean.Entry path main done)) = path ≡ p
-  OnPath p (line.Clean (clean.Tomb path main done child)) = path ≡ p
-  OnPath p (line.Clean (clean.Contracted path main done)) = path ≡ p
-  OnPath p (line.End answer) = Unit {0}
-  OnPath p line.Impossible = Unit {0}
-  OnPath p l = ⊥
-
-  moved_all : (p q : List Ref) → q ≡ p → All O p → All O q
-  moved_all p q e all = subst (λ x. All O x) (sym e) all
-
-  pub on_path : (p : List Ref) (l : Line) → OnPath p l → All O p → Opens l
-  on_path p (line.Root root.Read) e all = tt
-  on_path p (line.Key (key.Main path main)) e all = moved_all p path e all
-  on_path p (line.Key (key.Entry path main position)) e all = moved_all p path e all
-  on_path p (line.Key (key.Listed path main position)) e all = moved_all p path e all
-  on_path p (line.Key (key.Sibling path main position former)) e all = moved_all p path e all
-  on_path p (line.Build (build.Single path main site former)) e all = moved_all p path e all
-  on_path p (line.Build (build.Pair path main position single depth)) e all = moved_all p path e all
-  on_path p (line.Build (build.Link path main position below depth)) e all = moved_all p path e all
-  on_path p (line.Build (build.Rung path main position below depth)) e all = moved_all p path e all
-  on_path p (line.Build (build.Main path main c former)) e all = moved_all p path e all
-  on_path p (line.Swap (purpose.Update path former) s) e all = moved_all p path e all
-  on_path p (line.Swap (purpose.Renew path) s) e all = moved_all p path e all
-  on_path p (line.Swap purpose.Clean s) e all = tt
-  on_path p (line.Swap (purpose.Climb c) s) e all = absurd e
-  on_path p (line.Renew (renew.Entry path main done)) e all = moved_all p path e all
-  on_path p (line.Renew (renew.Read path main done r)) e all = absurd e
-  on_path p (line.Renew (renew.Link path main done child)) e all = moved_all p path e all
-  on_path p (line.Renew (renew.Branch path main done)) e all = moved_all p path e all
-  on_path p (line.Clean (clean.Main path main)) e all = moved_all p path e all
-  on_path p (line.Clean (clean.Entry path main done)) e all = moved_all p path e all
-  on_path p (line.Clean (clean.Tomb path main done child)) e all = moved_all p path e all
-  on_path p (line.Clean (clean.Contracted path main done)) e all = moved_all p path e all
-  on_path p (line.Clean (clean.Read path r)) e all = absurd e
-  on_path p (line.Clean (clean.Child path main done r)) e all = absurd e
-  on_path p (line.End answer) e all = tt
-  on_path p line.Impossible e all = tt
-  on_path p (line.Root (root.Completing c)) e all = absurd e
-  on_path p (line.Key (key.Read path r)) e all = absurd e
-  on_path p (line.Climb l) e all = absurd e
-  on_path p (line.Copy l) e all = absurd e
-  on_path p (line.Walk l) e all = absurd e

@@ -31,7 +31,7 @@ use Rattle.proof_shape.proofs.Runs.EachAt.{GoesAt, each_at}
 use Rattle.proof_shape.proofs.Runs.Nodes.{node_known}
 use Rattle.proof_shape.proofs.Opened.Lines.{Opens}
 use Rattle.proof_shape.proofs.Opened.Later.{opens_more}
-use Rattle.proof_shape.proofs.Opened.Repair.{line_opens}
+use Rattle.proof_shape.proofs.Opened.Steps.{line_opens}
 use Rattle.proof_shape.proofs.Commits.At.{commits_at}
 use Rattle.proof_shape.specs.Beneath.proof_commits.proofs.Known.Acts.{known_run}
 
@@ -153,6 +153,7 @@ module _ (limits : Bounds) (states : ℕ → State) (last : ℕ) (run : IsRun li
   pub opens_at : OfEachAt states last (λ t actor operation. Opens (IsOpen t) operation.line)
   opens_at =
       each_at (λ t actor operation. Opens (IsOpen t) operation.line) (λ t actor operation o. o) limits states last run (λ t h actor call d. first_opens (IsOpen (suc t)) call) goes_opens
+      (λ t h actor operation answer is may o. tt)
       (λ t h actor operation is o. opens_more (IsOpen t) (IsOpen (suc t)) (open_still t (suc t) (omega arith)) operation.line o)
 
   -- ---- what is read may be

@@ -14,7 +14,7 @@ use Rattle.proof_shape.specs.Beneath.proof_memory.proofs.Safety.AtEachTime.{safe
 use Rattle.proof_shape.specs.Beneath.proof_memory.proofs.Safety.AtTimes.{action_at}
 use Rattle.proof_shape.specs.Beneath.proof_commits.proofs.Course.Finals.{from_time}
 use Rattle.proof_shape.specs.Beneath.proof_commits.proofs.Known.Given.{ActsOn, Either, Taken, GrownTakes, GrownStays, GrownChanges, GrownSwaps, Decided}
-use Rattle.proof_shape.specs.Beneath.proof_commits.proofs.Known.StepsAt.{NotedAt, NotesBegin, NotesGo, NotesEnd, NotesSweep}
+use Rattle.proof_shape.specs.Beneath.proof_commits.proofs.Known.StepsAt.{NotedAt, NotesBegin, NotesGo, NotesEnd, NotesSweep, NotesGivingUp}
 use Rattle.proof_shape.specs.Beneath.proof_contents.specs.Runs.{is_made}
 use Rattle.proof_shape.specs.Beneath.proof_contents.proofs.Values.Runs.{made_next}
 use Rattle.proof_shape.specs.Beneath.proof_contents.proofs.Values.Started.{node_stays, indirection_stays}
@@ -141,6 +141,8 @@ module _ (limits : Bounds) (states : ℕ → State) (last : ℕ) (run : IsRun li
           absurd (true≢false (sym after ∙ stays_made states t ((known_run limits states last run).stays t h (step.Begin actor call) o moves tt) m ∙ before))
       by_step (NotesEnd actor operation answer o moves is a e n) takes =
           absurd (true≢false (sym after ∙ stays_made states t (subst (λ x. ActsOn states t x) a ((known_run limits states last run).acts t h actor o moves operation is)) m ∙ before))
+      by_step (NotesGivingUp actor operation answer o moves is a e n) takes =
+          absurd (true≢false (sym after ∙ stays_made states t ((known_run limits states last run).stays t h (step.GiveUp actor) o moves tt) m ∙ before))
       by_step (NotesSweep o moves e n) takes =
           absurd (true≢false (sym after ∙ stays_made states t ((known_run limits states last run).stays t h step.Sweep o moves tt) m ∙ before))
 

@@ -1,9 +1,9 @@
 -- The states of a run are those after lists of steps: so what holds after each list of steps holds at each time.
+use Rattle.proof_shape.specs.Vocabulary.{GivesUp, Ref, node_at, list_depth, Action, Operation, Bounds, Outcome, kind_of, settled, gone, Node, Indirection, Branch, Single, Tomb, List as Listed, Step}
+use Rattle.proof_shape.specs.Vocabulary.{State, first_state, operation_of, begin_unless, go_unless, go_on, step_by, settled_after, swept, run_from, run, next, next_state, state_after, depth_of}
+use Rattle.proof_shape.specs.Vocabulary.{Begins, Ends, Sweeps, Moves, GoesOn, turns, IsRun, Turn, give_up_unless, give_up_on, give_up_by}
 use Rattle.std.proofs.lemmas.Bool.{true≢false}
 use Rattle.std.proofs.Common.{◌≡◌, ℕ, suc, ◌<◌, ◌≤◌, true, cond, List, [], ◌∷◌, ◌++◌, Some, Ok, Err, refl, sym, ◌∙◌, ap, subst, arith}
-use Rattle.proof_shape.specs.Vocabulary.{Ref, node_at, list_depth, Action, Operation, Bounds, Outcome, kind_of, settled, gone, Node, Indirection, Branch, Single, Tomb, List as Listed, Step, State}
-use Rattle.proof_shape.specs.Vocabulary.{first_state, operation_of, begin_unless, go_unless, go_on, step_by, settled_after, swept, run_from, run, next, next_state, state_after, depth_of, Begins}
-use Rattle.proof_shape.specs.Vocabulary.{Ends, Sweeps, Moves, GoesOn, turns, IsRun, Turn}
 use Rattle.proof_shape.specs.Beneath.machine_model.specs.declared.actions.Action.TheVariants as act
 use Rattle.proof_shape.specs.Beneath.machine_model.specs.declared.lines.Line.TheVariants as line
 use Rattle.proof_shape.specs.Beneath.machine_model.specs.declared.steps.Outcome.TheVariants as outcome
@@ -33,6 +33,7 @@ comes_to state s o after (Begins {actor} {call} d) = ap (begin_unless state acto
 comes_to state s o after (Goes {actor} {operation} {action} d is a g) =
     ap (go_unless state actor) d ∙ ap (go_on state actor) is ∙ ap (step_by state actor operation) a ∙ goes_by state actor operation action g
 comes_to state s o after (Ends {actor} {operation} {answer} d is a) = ap (go_unless state actor) d ∙ ap (go_on state actor) is ∙ ap (step_by state actor operation) a
+comes_to state s o after (GivesUp {actor} {operation} {answer} d is a) = ap (give_up_unless state actor) d ∙ ap (give_up_on state actor) is ∙ ap (give_up_by state actor operation) a
 comes_to state s o after (Sweeps spent) = ap (λ b. cond b (Err refuse.Spent) (settled_after state (swept state))) spent
 
 -- ---- each state of a run is that after a list of steps

@@ -4,16 +4,18 @@ use Rattle.std.proofs.Common.{Option, Some, None, inl, inr, refl, sym, ◌∙◌
 use Rattle.std.proofs.lemmas.Bool.{cases_eq}
 use Rattle.std.proofs.lemmas.Option.{none-some}
 use Rattle.proof_shape.specs.Vocabulary.{Call, Operation, Bounds, Outcome, action_of, gone, operation_after, GoesOn, begun_operation, State, operation_of, settled, begin_denial, with_begin, IsRun}
-use Rattle.proof_shape.specs.Vocabulary.{Record, noted_progress, moment_at, no_moment, with_moment, moment_after, progress_of, Moment}
+use Rattle.proof_shape.specs.Vocabulary.{Record, noted_progress, moment_at, no_moment, with_moment, moment_after, progress_of, Moment, given_up, gave_up, Reply}
 use Rattle.proof_shape.specs.Beneath.machine_model.specs.declared.steps.Step.TheVariants as step
 use Rattle.proof_shape.specs.Beneath.machine_model.specs.Moves as Machine
 use Rattle.proof_shape.specs.Beneath.machine_model.proofs.Actors.{marks_by, begin_counts}
 use Rattle.proof_shape.specs.Beneath.proof_commits.proofs.Course.Finals.{from_time}
 use Rattle.proof_shape.specs.Beneath.proof_commits.proofs.Known.StepsAt.{NotedAt, NotesBegin, NotesGo, NotesEnd, NotesSweep, noted_at, after_mark, go_others, go_own, end_others, end_own}
+use Rattle.proof_shape.specs.Beneath.proof_commits.proofs.Known.StepsAt.{NotesGivingUp, give_up_own, give_up_others}
 use Rattle.proof_shape.specs.Beneath.proof_commits.proofs.Known.StepsAt.{begin_others, begin_own, actor_counts}
 use Rattle.proof_shape.specs.Beneath.proof_commits.proofs.Words.First.{idle_at_first}
 use Rattle.proof_shape.specs.Lines.Knowing.{OfEachAt}
 use Rattle.proof_shape.specs.Beneath.machine_model.proofs.Alike.{moment_others}
+use Rattle.std.proofs.lemmas.Option.{same_Some}
 
 -- step t is the actor's operation's own, and not its end
 pub record GoesAt (states : ℕ → State) (records : ℕ → Record) (t actor : ℕ) (operation : Operation) : Type 0 where
@@ -35,6 +37,7 @@ taker_of (NotesBegin actor call o m d e n) = actor
 taker_of (NotesGo actor operation o m d is g e n) = actor
 taker_of (NotesEnd actor operation answer o m is a e n) = actor
 taker_of (NotesSweep o m e n) = 0
+taker_of (NotesGivingUp actor operation answer o m is a e n) = actor
 
 module _ (limits : Bounds) (states : ℕ → State) (last : ℕ) (run : IsRun limits states last) where
   taker_by : (t : ℕ) (b : Bool) → nat_lt t last ≡ b → ℕ
@@ -72,6 +75,7 @@ module _ (limits : Bounds) (states : ℕ → State) (last : ℕ) (run : IsRun li
       by_step (NotesEnd actor operation answer o m is a e n) takes =
           moment_in (run.records (suc t)) (run.records t) k (ap (λ (r : Record). r.moments) n)
       by_step (NotesSweep o m e n) takes = ap (λ r. moment_at r k) n
+      by_step (NotesGivingUp actor operation answer o m is a e n) takes = ap (λ r. moment_at r k) n
 
   module _ (P : ℕ → ℕ → Operation → Type 0) (with_mark : (t actor : ℕ) (operation : Operation) → P t actor operation → P t actor (record operation { is_marked = true })) where
     -- of each running operation before step t
@@ -82,6 +86,8 @@ module _ (limits : Bounds) (states : ℕ → State) (last : ℕ) (run : IsRun li
         states (suc t) ≡ settled (states t) (with_begin (states t) actor call (begun_operation (states t) call)) → P (suc t) actor (begun_operation (states t) call))
         (goes : (t : ℕ) → t < last → (actor : ℕ) (operation : Operation) → GoesAt states run.records t actor operation → taker t ≡ actor → AllAt t →
         P (suc t) actor (operation_after (states t) operation))
+        (gives_up : (t : ℕ) → t < last → (actor : ℕ) (operation : Operation) (answer : Reply) → operation_of (states t) actor ≡ Some operation →
+        given_up operation.call operation.line ≡ Some answer → AllAt t → P (suc t) actor (gave_up operation answer))
         (stays : (t : ℕ) → t < last → (actor : ℕ) (operation : Operation) → operation_of (states t) actor ≡ Some operation → (taker t ≡ actor → ⊥) → AllAt t → P (suc t) actor operation) where
       mark_by : (t k : ℕ) (x : Option Operation) → ((operation : Operation) → x ≡ Some operation → P t k operation) → (m : Option ℕ) (found : Operation) → after_mark m x ≡ Some found → P t k found
       mark_by t k x all None found e = all found e
@@ -143,6 +149,18 @@ module _ (limits : Bounds) (states : ℕ → State) (last : ℕ) (run : IsRun li
           by_actor (inr apart) =
               others t h so_far None k (λ it. apart (sym (sym takes ∙ it)))
               (ap (λ (s : State). operation_of s k) e ∙ end_others (states t) actor operation answer (actor_counts (states t) actor operation runs) k apart) found is
+      each_next t h so_far (NotesGivingUp actor operation answer o m runs a e n) takes k found is = by_actor (cases_eq k actor)
+        where
+          own : operation_of (states (suc t)) actor ≡ Some (gave_up operation answer)
+          own = ap (λ (s : State). operation_of s actor) e ∙ give_up_own (states t) actor operation answer runs
+
+          by_actor : (k ≡ actor) ⊎ (k ≡ actor → ⊥) → P (suc t) k found
+          by_actor (inl same) =
+              subst (λ q. P (suc t) q found) (sym same)
+              (subst (P (suc t) actor) (same_Some _ _ (sym own ∙ ap (operation_of (states (suc t))) (sym same) ∙ is)) (gives_up t h actor operation answer runs a so_far))
+          by_actor (inr apart) =
+              others t h so_far None k (λ it. apart (sym (sym takes ∙ it)))
+              (ap (λ (s : State). operation_of s k) e ∙ give_up_others (states t) actor operation answer (actor_counts (states t) actor operation runs) k apart) found is
       each_next t h so_far (NotesSweep o m e n) takes k found is =
           others t h so_far None k (λ it. not_zero (sym it ∙ takes) is) (ap (λ (s : State). operation_of s k) e) found is
         where

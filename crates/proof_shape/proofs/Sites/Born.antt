@@ -1,9 +1,9 @@
 -- What stands after a step and didn't before was made in it.
+use Rattle.proof_shape.specs.Vocabulary.{GivesUp, Ref, Node, Slot, next_ref, ripe, Operation, Outcome, Step, handle_of, State, operation_of, action_of, gone, settled, pin_of, Begins, Ends, Sweeps}
+use Rattle.proof_shape.specs.Vocabulary.{Moves, begun_operation, standing}
 use Rattle.std.proofs.Common.{◌≡◌, ℕ, ◌+◌, map, get_or, Option, Some, None, refl, sym, ap, ◌∙◌, ◌⊎◌, inl, inr, arith}
 use Rattle.std.proofs.lemmas.Bool.{cases_eq}
 use Rattle.std.proofs.lemmas.Option.{none-some, same_Some}
-use Rattle.proof_shape.specs.Vocabulary.{Ref, Node, Slot, next_ref, ripe, Operation, Outcome, Step, handle_of, State, operation_of, action_of, gone, settled, pin_of, Begins, Ends, Sweeps, Moves}
-use Rattle.proof_shape.specs.Vocabulary.{begun_operation, standing}
 use Rattle.proof_shape.specs.Beneath.machine_model.specs.declared.steps.Step.TheVariants as step
 use Rattle.proof_shape.specs.Beneath.machine_model.proofs.HeapMoves.{begin_heap}
 use Rattle.proof_shape.specs.Beneath.machine_model.proofs.InUse.{InUse}
@@ -58,6 +58,7 @@ pub born : (state : State) → IsSafe state → (x : Step) (o : Outcome) (after 
 born state I x o after (Begins {actor} {call} d) r slot none new =
     absurd (none-some slot (sym none ∙ sym (ap (λ heap. standing heap r) (begin_heap state actor call (begun_operation state call))) ∙ new))
 born state I x o after (Ends d is a) r slot none new = absurd (none-some slot (sym none ∙ new))
+born state I x o after (GivesUp d is a) r slot none new = absurd (none-some slot (sym none ∙ new))
 born state I x o after (Sweeps spent) r slot none new =
     elim (sweep_goes state I (map pin_of state.actors) (ripe state.epoch state.limbo)
     (λ q due. stands_in_use state.heap q (omega (arith, I.small, I.sound.heap.size)) (ripe_in_use (InUse state.heap) state.epoch state.limbo (I.sound.limbo) q due)) r) [

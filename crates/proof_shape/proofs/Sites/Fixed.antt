@@ -57,6 +57,7 @@ leads_same : (state : State) (f g : Ref → ℕ) → ((q : Ref) → f q ≡ g q)
 leads_same state f g same (step.Go actor) = leads_of_same state f g same (operation_of state actor)
 leads_same state f g same (step.Begin actor call) = refl
 leads_same state f g same step.Sweep = refl
+leads_same state f g same (step.GiveUp actor) = refl
 
 -- ---- sites go by the states and steps before alone
 

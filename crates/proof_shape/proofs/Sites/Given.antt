@@ -1,10 +1,10 @@
 -- What a step makes is given its level and its path there, and keeps them; so nodes stand at their levels at each time.
+use Rattle.proof_shape.specs.Vocabulary.{GivesUp, ref_to, Ref, Node, Slot, next_ref, list_depth, Bounds, Outcome, Step, handle_of, State, first_state, action_of, is_number, IsRun, grown, standing}
+use Rattle.proof_shape.specs.Vocabulary.{Begins, Ends, Sweeps, Moves}
 use Rattle.std.proofs.Common.{◌≡◌, ℕ, zero, suc, ◌+◌, ◌<◌, ◌≤◌, cond, Option, Some, None, refl, sym, ap, ◌∙◌, subst, inl, inr, ◌++◌, eq-eqb, arith}
 use Rattle.std.proofs.lemmas.Bool.{cases_eq, cond_both}
 use Rattle.std.proofs.lemmas.Option.{none-some}
 use Rattle.std.proofs.lemmas.List.Elements.{All-nil}
-use Rattle.proof_shape.specs.Vocabulary.{ref_to, Ref, Node, Slot, next_ref, list_depth, Bounds, Outcome, Step, handle_of, State, first_state, action_of, is_number, IsRun, grown, standing, Begins}
-use Rattle.proof_shape.specs.Vocabulary.{Ends, Sweeps, Moves}
 use Rattle.proof_shape.specs.Beneath.machine_model.specs.declared.steps.Step.TheVariants as step
 use Rattle.proof_shape.specs.Beneath.machine_model.proofs.Found.{none_found}
 use Rattle.proof_shape.specs.Beneath.machine_model.specs.Moves.{Goes}
@@ -47,6 +47,7 @@ made_stands state I s o after (Goes {actor} {operation} d is a g) r e = by_node 
     )
 made_stands state I s o after (Ends {actor} {operation} d is a) r e =
     absurd (none-some r (sym (ap (λ x. if_made x (next_ref state.heap)) (ap (made_node state) a)) ∙ sym (ap (made_by state) is) ∙ e))
+made_stands state I s o after (GivesUp d is a) r e = absurd (none-some r e)
 made_stands state I s o after (Sweeps spent) r e = absurd (none-some r e)
 
 module _ (limits : Bounds) (states : ℕ → State) (steps : ℕ → Step) (last : ℕ) (run : IsRun limits states last) (takes : TakesSteps states steps last) where

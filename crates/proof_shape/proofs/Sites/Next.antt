@@ -1,10 +1,8 @@
 -- Sites after any line's step.
-use Rattle.std.proofs.Common.{◌≡◌, ℕ, ◌-◌, ◌*◌, ◌^◌, ◌<◌, ◌||◌, Bool, true, false, List, [], ◌∷◌, ◌++◌, length, Option, Some, None, refl, sym, ◌∙◌, arith}
-use Rattle.std.proofs.lemmas.Bool.{cond_both}
-use Rattle.proof_shape.specs.Vocabulary.{HashKind, Call, Clear, Snapshot, Freeze, Ref, Node as SlotNode, Indirection, Single, node_at, prev_at, entry_at, entries_of, next_ref, Operation, After}
-use Rattle.proof_shape.specs.Vocabulary.{Gives, ReadLine, Swap, SwapLine, Complete, Descriptor, RootLine, BuildLine, CopyLine, Purpose, Line, handle_of, State, word_at, above, depth_of, hash_in}
-use Rattle.proof_shape.specs.Vocabulary.{at_indirection, read_after, copy_after_read, after_given, copy_if_made, copy_after_made, after_successor, after_offer, copy_after_complete, walk_next}
-use Rattle.proof_shape.specs.Vocabulary.{walk_after_read, walk_after_entry, first_of, rest_of, line_action, line_after, after_root}
+use Rattle.std.proofs.Common.{◌≡◌, ℕ, ◌*◌, ◌^◌, ◌<◌, List, [], ◌∷◌, ◌++◌, length, Some, refl, sym, ◌∙◌, arith}
+use Rattle.proof_shape.specs.Vocabulary.{HashKind, Call, Clear, Snapshot, Freeze, Ref, Node as SlotNode, Indirection, Single, node_at, prev_at, entries_of, next_ref, Operation, After, Gives}
+use Rattle.proof_shape.specs.Vocabulary.{ReadLine, Swap, SwapLine, RootLine, BuildLine, CopyLine, Purpose, Line, handle_of, State, word_at, above, depth_of, hash_in, at_indirection, read_after}
+use Rattle.proof_shape.specs.Vocabulary.{walk_next, walk_after_read, walk_after_entry, first_of, rest_of, line_action, line_after, after_root}
 use Rattle.proof_shape.specs.Beneath.machine_model.specs.declared.reading.After.TheVariants.{Goes}
 use Rattle.proof_shape.specs.Beneath.machine_model.specs.declared.reading.SwapLine.TheVariants as swap
 use Rattle.proof_shape.specs.Beneath.machine_model.specs.declared.building.BuildLine.TheVariants as build
@@ -12,7 +10,6 @@ use Rattle.proof_shape.specs.Beneath.machine_model.specs.declared.finding.KeyLin
 use Rattle.proof_shape.specs.Beneath.machine_model.specs.declared.repairs.RenewLine.TheVariants as renew
 use Rattle.proof_shape.specs.Beneath.machine_model.specs.declared.repairs.CleanLine.TheVariants as clean
 use Rattle.proof_shape.specs.Beneath.machine_model.specs.declared.repairs.ClimbLine.TheVariants as climb
-use Rattle.proof_shape.specs.Beneath.machine_model.specs.declared.copying.CopyLine.TheVariants as copy
 use Rattle.proof_shape.specs.Beneath.machine_model.specs.declared.walking.WalkLine.TheVariants as walk
 use Rattle.proof_shape.specs.Beneath.machine_model.specs.declared.lines.Purpose.TheVariants as purpose
 use Rattle.proof_shape.specs.Beneath.machine_model.specs.declared.lines.Line.TheVariants as line
@@ -39,6 +36,9 @@ use Rattle.proof_shape.proofs.Sites.Repair.{GivesLevel, more_left, renew_entry_s
 use Rattle.proof_shape.proofs.Sites.Repair.{clean_tomb_site, renewed_by, cleaned_by}
 use Rattle.proof_shape.proofs.Sites.Climb.{SwappedSite, PurposePath, publish_site, deciding_site, check_site, line_swap_site, climb_read_site, climb_main_site, climb_root_site, climbed_by}
 use Rattle.proof_shape.proofs.Sites.Acts.{root_path}
+use Rattle.proof_shape.specs.Beneath.machine_model.specs.Edges.Roots.{CopyEdge}
+use Rattle.proof_shape.specs.Beneath.machine_model.proofs.Edges.Key.{key_edge}
+use Rattle.proof_shape.specs.Beneath.machine_model.proofs.Edges.Roots.{copy_edge}
 
 module _ (s : Sites) (fits : (i : Ref) → s.path i < 2 ^ (5 * depth_at (s.level i))) (state : State) (operation : Operation) (S : Ref → Type 0)
     (H : Heaped S state.heap) (N : Sees s state S) (first : Ref → Ref) where
@@ -74,33 +74,9 @@ module _ (s : Sites) (fits : (i : Ref) → s.path i < 2 ^ (5 * depth_at (s.level
 
   -- ---- COPY and WALK
 
-  given_site : (call : Call) (r main : Ref) → L (after_given call r main)
-  given_site (Clear h) r main = tt
-  given_site call r main = tt
-
-  copy_read_site : (r i : Ref) (a : After ReadLine Ref) → L (copy_after_read operation r (at_indirection i a))
-  copy_read_site r i (Goes l) = tt
-  copy_read_site r i (Gives main) = given_site operation.call r main
-
-  successor_site : (call : Call) (r main made : Ref) → L (after_successor operation call r main made)
-  successor_site (Snapshot h) r main made = tt
-  successor_site call r main made = tt
-
-  copy_made_site : (l : CopyLine) (made : Ref) → L (copy_after_made operation l made)
-  copy_made_site (copy.Successor r main) made = successor_site operation.call r main made
-  copy_made_site l made = tt
-
-  copy_by : (l : CopyLine) (o : Option Ref) → L (copy_if_made operation l o)
-  copy_by l None = tt
-  copy_by l (Some made) = copy_made_site l made
-
-  offer_site : (offer : Descriptor) (b : Bool) → L (after_offer offer b)
-  offer_site offer true = tt
-  offer_site offer false = tt
-
-  complete_site : (a : After Complete Bool) → L (copy_after_complete operation a)
-  complete_site (Goes c) = tt
-  complete_site (Gives done) = cond_both (done || operation.is_marked) _ _ L (λ x. tt) (λ x. tt)
+  copy_site : (l : CopyLine) (next : Line) → CopyEdge state operation l next → L next
+  copy_site l next (CopyEdge.comes_late offer e) = tt
+  copy_site l next edge = tt
 
   walk_next_site : (todo : List Ref) (pairs : List (ℕ × ℕ)) → L (walk_next operation todo pairs)
   walk_next_site [] pairs = tt
@@ -155,13 +131,13 @@ module _ (s : Sites) (fits : (i : Ref) → s.path i < 2 ^ (5 * depth_at (s.level
     pub line_next : (l : Line) → Wants l → LineLevel s.level l → LineSite kind s hash l → KnowsLine K operation.call l → Made l → L (line_after state operation l)
     line_next (line.Root l) h e p knows m = root_line_site _ (level_root_next s.level state operation S N.levels W l h e)
     line_next (line.Key (key.Read path r)) h e p knows m = key_read_site s fits state operation S N path r.indirection _ p.0 p.1 (reads r.indirection r.line h.1.1 p.2)
-    line_next (line.Key (key.Main path main)) h e p knows m = key_main_site s fits state operation S N path main (node_at state.heap main) p
+    line_next (line.Key (key.Main path main)) h e p knows m = key_main_site s fits state operation S N path main _ p (key_edge state operation (key.Main path main))
     line_next (line.Key (key.Entry path main position)) h e p (b, es, f) m =
-        key_entry_site s fits state operation S N first path main position b es (node_at state.heap (entry_at state.heap main position)) refl (safe_of h.1.1.0)
-        ((at_position S state.heap AnEntry position (branch_entries S state.heap H h.1.1.0) h.1.1.1.0).0) (fact_of h.1.0) e.1 p f
-    line_next (line.Key (key.Listed path main position)) h e p knows m = listed_site s fits state operation S N path main position (node_at state.heap (entry_at state.heap main position)) p
+        key_entry_site s fits state operation S N first path main position b es _ (safe_of h.1.1.0)
+        ((at_position S state.heap AnEntry position (branch_entries S state.heap H h.1.1.0) h.1.1.1.0).0) (fact_of h.1.0) e.1 p f (key_edge state operation (key.Entry path main position))
+    line_next (line.Key (key.Listed path main position)) h e p knows m = listed_site s fits state operation S N path main position _ p (key_edge state operation (key.Listed path main position))
     line_next (line.Key (key.Sibling path main position former)) h e p knows m =
-        sibling_site s fits state operation S N path main position former _ (node_at state.heap (entry_at state.heap main (1 - position))) p
+        sibling_site s fits state operation S N path main position former _ p (key_edge state operation (key.Sibling path main position former))
     line_next (line.Build l) h e p knows m = build_next s fits state operation S N l h e p (build_at l m)
     line_next (line.Swap why w) h e p knows m =
         let its = first_hold S state.heap (swap_wants w) (purpose_wants why) h in
@@ -197,13 +173,7 @@ module _ (s : Sites) (fits : (i : Ref) → s.path i < 2 ^ (5 * depth_at (s.level
     line_next (line.Climb (climb.Contracted c main)) h e p knows m =
         climbed_by s fits state operation S N c main p.0 (fact_of h.1.0) p.1 (λ made n. on_way s kind hash (depth_of (above c.path)) made (m _ made refl n).0.1) (next_ref state.heap) refl
     line_next (line.Climb (climb.Root c l)) h e p knows m = climb_root_site s fits state operation S N c _ p
-    line_next (line.Copy (copy.Read r l)) h e p knows m = copy_read_site r l.indirection _
-    line_next (line.Copy (copy.Offer offer)) h e p knows m = offer_site offer _
-    line_next (line.Copy (copy.Complete c)) h e p knows m = complete_site _
-    line_next (line.Copy (copy.Successor r main)) h e p knows m = copy_by (copy.Successor r main) (next_ref state.heap)
-    line_next (line.Copy (copy.Second r main successor)) h e p knows m = copy_by (copy.Second r main successor) (next_ref state.heap)
-    line_next (line.Copy (copy.Empty r main)) h e p knows m = copy_by (copy.Empty r main) (next_ref state.heap)
-    line_next (line.Copy (copy.Cleared r main branch)) h e p knows m = copy_by (copy.Cleared r main branch) (next_ref state.heap)
+    line_next (line.Copy l) h e p knows m = copy_site l _ (copy_edge state operation l)
     line_next (line.Walk walk.Root) h e p knows m = tt
     line_next (line.Walk (walk.Read r todo pairs)) h e p knows m = walk_read_site todo pairs r.indirection _ (reads r.indirection r.line h.1 p)
     line_next (line.Walk (walk.Main main todo pairs)) h e p knows m = walk_next_site (entries_of (node_at state.heap main) ++ todo) pairs

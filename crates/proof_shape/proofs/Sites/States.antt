@@ -1,15 +1,15 @@
 -- Sites after each step.
+use Rattle.proof_shape.specs.Vocabulary.{GivesUp, hash_of, HashKind, Call, Close, Entries, Ref, Node, Indirection, Branch, Single, Tomb, List as Listed, Slot, with_main_word, main_changed}
+use Rattle.proof_shape.specs.Vocabulary.{prev_changed, next_ref, Action, Operation, Root, Outcome, Step, handle_of, key_of, State, root_at, word_of, operation_of, action_of, first_line}
+use Rattle.proof_shape.specs.Vocabulary.{operation_after, gone, settled, Begins, Ends, Sweeps, Moves, GoesOn, begun_operation, standing, FitsKey}
 use Rattle.std.proofs.Common.{◌≡◌, ℕ, suc, ◌*◌, ◌^◌, ◌<◌, true, is_some, get_or, Option, Some, None, refl, sym, ap, ◌∙◌, subst, ◌⊎◌, inl, inr}
 use Rattle.std.proofs.lemmas.Bool.{cases_eq, or_cases, false≢true}
 use Rattle.std.proofs.lemmas.Option.{none-some, same_Some}
-use Rattle.proof_shape.specs.Vocabulary.{hash_of, HashKind, Call, Close, Entries, Ref, Node, Indirection, Branch, Single, Tomb, List as Listed, Slot, with_main_word, main_changed, prev_changed}
-use Rattle.proof_shape.specs.Vocabulary.{next_ref, Action, Operation, Root, Outcome, Step, handle_of, key_of, State, root_at, word_of, operation_of, action_of, first_line, operation_after, gone}
-use Rattle.proof_shape.specs.Vocabulary.{settled, Begins, Ends, Sweeps, Moves, GoesOn, begun_operation, standing, FitsKey}
 use Rattle.proof_shape.specs.Beneath.slot_arena.specs.declared.nodes.Prev.TheVariants as prev
 use Rattle.proof_shape.specs.Beneath.machine_model.specs.declared.actions.Action.TheVariants as act
 use Rattle.proof_shape.specs.Beneath.machine_model.specs.declared.steps.Step.TheVariants as step
 use Rattle.proof_shape.specs.Beneath.machine_model.specs.Moves.{Goes}
-use Rattle.proof_shape.specs.Beneath.machine_model.proofs.Actors.{IsOf, is_of, mark_one, mark_only, marks_in, marks_by, of_others, of_itself, of_begin, of_end}
+use Rattle.proof_shape.specs.Beneath.machine_model.proofs.Actors.{IsOf, is_of, mark_one, mark_only, marks_in, marks_by, of_others, of_itself, of_begin, of_end, of_giving_up}
 use Rattle.proof_shape.specs.Beneath.proof_memory.specs.Laws.{IsInUse}
 use Rattle.proof_shape.specs.Beneath.proof_memory.proofs.Heap.Under.{fresh_slot, taken_all}
 use Rattle.proof_shape.specs.Beneath.proof_memory.proofs.Safety.EachStep.{at_place}
@@ -203,6 +203,8 @@ module _ (s : Sites) (fits : (i : Ref) → s.path i < 2 ^ (5 * depth_at (s.level
         (h.lines k operation at_was).1,
       ))
   lines_after x o after (Ends {actor} d is a) key gives paths bare_after k (yes own) found at_k = absurd (of_end state actor k own found at_k)
+  lines_after x o after (GivesUp {actor} {operation} {answer} d is a) key gives paths bare_after k (yes own) found at_k =
+      subst OperationSite (of_giving_up state actor operation answer k own found at_k) (tt, (h.lines k operation (at_place state actor k operation own is)).1)
   lines_after x o after (Sweeps spent) key gives paths bare_after k (yes own) found at_k = absurd own
 
   pub sites_after : (x : Step) (o : Outcome) (after : State) → Moves state x o after → FitsKey x → GivesLevel s.level state x → GivesPath s state x →

@@ -79,6 +79,7 @@ pub data CommitsNone (state : State) : Step → Type 0 where
   begins : (actor : ℕ) (call : Call) → CommitsNone state (step.Begin actor call)
   goes : (actor : ℕ) (operation : Operation) → operation_of state actor ≡ Some operation → committed_now state operation ≡ None → CommitsNone state (step.Go actor)
   sweeps : CommitsNone state step.Sweep
+  gives_up : (actor : ℕ) → CommitsNone state (step.GiveUp actor)
 
 pub data MainStep (limits : Bounds) (states : ℕ → State) (records : ℕ → Record) (last : ℕ) (firsts : Firsts) (t : ℕ) (s : Step) : Type 0 where
   stays : CommitsNone (states t) s → ((i : Ref) → counting_main states last (suc t) i ≡ counting_main states last t i) → MainStep limits states records last firsts t s

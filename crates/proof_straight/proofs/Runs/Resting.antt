@@ -5,7 +5,7 @@ use Rattle.std.proofs.Math.ListN.{get_or-map}
 use Rattle.std.proofs.lemmas.Bool.{true≢false}
 use Rattle.std.proofs.lemmas.List.{length-map}
 use Rattle.proof_straight.specs.Vocabulary.{Slot, Ref, count_of, taken, named_from, refs_of_slot, ref_to, times, Zeroed, by_birth, limbo_after, Bounds, Outcome, Step, ended, gone, settled, outside}
-use Rattle.proof_straight.specs.Vocabulary.{refs_of_operation, begun_operation, run, swept, with_begin, Moves, Begins, Ends, Sweeps, State, first_heap, first_state}
+use Rattle.proof_straight.specs.Vocabulary.{with_operation, refs_of_operation, begun_operation, run, swept, with_begin, Moves, Begins, Ends, Sweeps, State, first_heap, first_state, GivesUp, gave_up}
 use Rattle.machine_model.specs.Moves.{Goes}
 use Rattle.machine_model.proofs.Along.{along}
 use Rattle.machine_model.proofs.Basics.{two_or_more}
@@ -25,6 +25,7 @@ settled_up_to_date : (state : State) (s : Step) (o : Outcome) (after : State) �
 settled_up_to_date state s o after (Begins {actor} {call} d) = settled_well state (with_begin state actor call (begun_operation state call))
 settled_up_to_date state s o after (Goes {actor} {operation} d is a g) = settled_well state (gone state actor operation)
 settled_up_to_date state s o after (Ends {actor} d is a) = settled_well state (ended state actor)
+settled_up_to_date state s o after (GivesUp {actor} {operation} {answer} d is a) = settled_well state (with_operation state actor (Some (gave_up operation answer)))
 settled_up_to_date state s o after (Sweeps spent) = settled_well state (swept state).1
 
 none_named : (n k : ℕ) → named_from k (replicate n None) ≡ []

@@ -1,13 +1,10 @@
 -- Where a line of KEY ends its operation, the answer is right: of the content just behind the moment, on a read-only handle of that in the end.
-use Rattle.std.proofs.Common.{◌≡◌, ◌≢◌, ℕ, suc, Bool, cond, ◌-◌, ◌<◌, ◌≤◌, ◌^◌, true, false, true≢false, List, length, Some, inl, inr, refl, sym, ap, subst, ◌∙◌, arith}
+use Rattle.std.proofs.Common.{◌≡◌, ◌≢◌, ℕ, suc, ◌-◌, ◌<◌, ◌≤◌, ◌^◌, true, true≢false, List, length, Some, inl, inr, refl, sym, ap, subst, ◌∙◌, arith}
 use Rattle.proof_updates.specs.Vocabulary.{hash_of, Access, Writable, ReadOnly, Call, Get, Put, PutIfAbsent, Replace, ReplaceIf, Remove, RemoveIf, Clear, Snapshot, Freeze, Close, Entries, Count}
-use Rattle.proof_updates.specs.Vocabulary.{Reply, Ref, Node, Indirection, Branch, Single, Tomb, List as Listed, node_at, entry_at, KeyLine, Line, Operation, After, Gives, Read, Bounds, key_of}
-use Rattle.proof_updates.specs.Vocabulary.{current, above, depth_of, is_below_root, read_step, reading, key_after_read, key_after_main, after_tomb, key_after_entry, after_listed, after_sibling}
-use Rattle.proof_updates.specs.Vocabulary.{key_after, State, IsRun, node_under, moment_at}
+use Rattle.proof_updates.specs.Vocabulary.{Reply, Ref, Node, Branch, Tomb, List as Listed, node_at, entry_at, KeyLine, Line, Operation, Bounds, key_of, current, depth_of, key_after, State, IsRun}
+use Rattle.proof_updates.specs.Vocabulary.{node_under, moment_at}
 use Rattle.proof_updates.specs.Beneath.machine_model.specs.declared.finding.KeyLine.TheVariants as key
-use Rattle.proof_updates.specs.Beneath.machine_model.specs.declared.repairs.CleanLine.TheVariants as clean
 use Rattle.proof_updates.specs.Beneath.machine_model.specs.declared.lines.Line.TheVariants as line
-use Rattle.proof_updates.specs.Beneath.machine_model.specs.declared.reading.After.TheVariants.{Goes}
 use Rattle.proof_updates.specs.Beneath.proof_memory.specs.Laws.{IsInUse}
 use Rattle.proof_updates.specs.Beneath.proof_memory.specs.Wants.{ABranch, AList, AMain, Is, Holds, meets, listed}
 use Rattle.proof_updates.specs.Beneath.proof_memory.proofs.Claims.Uses.{meets_of}
@@ -21,6 +18,8 @@ use Rattle.proof_updates.specs.Beneath.proof_contents.specs.Runs.{trie_of}
 use Rattle.proof_updates.specs.Beneath.proof_contents.proofs.Values.Paths.{on-depth}
 use Rattle.proof_updates.specs.Beneath.proof_contents.proofs.Shapes.Nodes.{leads_below}
 use Rattle.proof_updates.specs.Beneath.proof_contents.proofs.Lines.Key.Knows.{Sees, SeesSingle}
+use Rattle.proof_updates.specs.Beneath.machine_model.specs.Edges.Key.{KeyEdge, misses_absent, reads_on}
+use Rattle.proof_updates.specs.Beneath.machine_model.proofs.Edges.Key.{key_edge}
 use Rattle.proof_updates.specs.Beneath.proof_contents.proofs.Lines.Key.Ends.{EndsRight, Answering, main_ends, entry_ends, listed_ends, tomb_ends}
 use Rattle.proof_updates.specs.Beneath.proof_contents.proofs.Lines.Answers.{writable_answers, read_only_answers}
 use Rattle.proof_updates.specs.Beneath.proof_memory.proofs.Claims.Nodes.{branch_main}
@@ -110,61 +109,30 @@ module _ (limits : Bounds) (states : ℕ → State) (last : ℕ) (depth path : R
   no_tomb : (main : Ref) (n : Node) → node main ≡ n → ((single : Ref) → n ≢ Tomb single) → operation.access ≡ Writable → (single : Ref) → node main ≢ Tomb single
   no_tomb main n is other w single e = other single (sym is ∙ e)
 
-  tomb_quiet : (p : List Ref) (main : Ref) → operation.access ≡ Writable → Ends (after_tomb operation.access p main)
-  tomb_quiet p main w = subst (λ a. Ends (after_tomb a p main)) (sym w) (by_root (is_below_root p))
-    where
-      by_root : (b : Bool) → Ends (cond b (line.Clean (clean.Read (above p) (reading (current (above p))))) line.Impossible)
-      by_root true = tt
-      by_root false = tt
-
-  sibling_quiet : (p : List Ref) (main : Ref) (position former : ℕ) (other : Ref) (n : Node) → Ends (after_sibling p main position former other n)
-  sibling_quiet p main position former other (Single k v) = tt
-  sibling_quiet p main position former other (Indirection h w) = tt
-  sibling_quiet p main position former other (Branch b es) = tt
-  sibling_quiet p main position former other (Tomb s) = tt
-  sibling_quiet p main position former other (Listed ss) = tt
-
   -- ---- line by line
 
-  main_right : (p : List Ref) (main : Ref) → operation.line ≡ line.Key (key.Main p main) → IsAt trie operation.access g (key_of operation.call) t moment p main →
-      Ends (key_after_main (states t) operation p main (node_at (states t).heap main))
-  main_right p main e at = by_node (node main) refl
-    where
-      seen : Sees (states t) operation node first main
-      seen = sees limits states last run t (omega arith) operation main AMain (λ n x. x) (claims limits states last run t lt actor operation go _ e).1.1.0
-
-      there : node main ≡ node_at (states t).heap main
-      there = sym seen.main_is
-
-      ends : (operation.access ≡ Writable → (single : Ref) → node main ≢ Tomb single) → Ends (key_after_main (states t) operation p main (node_at (states t).heap main))
-      ends stands = main_ends (states t) operation node first Right main seen p (rights p main at stands) (node_at (states t).heap main) there
-
-      tombed : (single : Ref) → node main ≡ Tomb single → (a : Access) → operation.access ≡ a → Ends (key_after_main (states t) operation p main (node_at (states t).heap main))
-      tombed single is Writable w = subst (λ n. Ends (key_after_main (states t) operation p main n)) (sym is ∙ there) (tomb_quiet p main w)
-      tombed single is ReadOnly r = ends (λ w. let bad : Writable ≡ ReadOnly = sym w ∙ r in cc)
-
-      by_node : (n : Node) → node main ≡ n → Ends (key_after_main (states t) operation p main (node_at (states t).heap main))
-      by_node (Tomb single) is = tombed single is operation.access refl
-      by_node (Branch b es) is = ends (no_tomb main (Branch b es) is (λ single bad. let wrong : Branch b es ≡ Tomb single = bad in cc))
-      by_node (Listed ss) is = ends (no_tomb main (Listed ss) is (λ single bad. let wrong : Listed ss ≡ Tomb single = bad in cc))
-      by_node (Indirection h w) is = ends (no_tomb main (Indirection h w) is (λ single bad. let wrong : Indirection h w ≡ Tomb single = bad in cc))
-      by_node (Single k v) is = ends (no_tomb main (Single k v) is (λ single bad. let wrong : Single k v ≡ Tomb single = bad in cc))
+  main_right : (p : List Ref) (main : Ref) → operation.line ≡ line.Key (key.Main p main) → IsAt trie operation.access g (key_of operation.call) t moment p main → (next : Line) →
+      KeyEdge (states t) operation (key.Main p main) next → Ends next
+  main_right p main e at next (misses_absent route m b es is f none) =
+      let seen = sees limits states last run t (omega arith) operation main AMain (λ n x. x) (claims limits states last run t lt actor operation go _ e).1.1.0 in
+      let stands = no_tomb main (Branch b es) (sym seen.main_is ∙ is) (λ single bad. let wrong : Branch b es ≡ Tomb single = bad in cc) in
+      main_ends (states t) operation node first Right main seen p (rights p main at stands) next (misses_absent route m b es is f none)
+  main_right p main e at next edge = tt
 
   entry_right : (p : List Ref) (main : Ref) (position : ℕ) → operation.line ≡ line.Key (key.Entry p main position) → IsAt trie operation.access g (key_of operation.call) t moment p main →
-      KnowsKey (known_with limits states last (first_main states last)) operation.call (key.Entry p main position) →
-      Ends (key_after_entry (states t) operation p main position (node_at (states t).heap (entry_at (states t).heap main position)))
-  entry_right p main position e at (b, es, f) =
+      KnowsKey (known_with limits states last (first_main states last)) operation.call (key.Entry p main position) → (next : Line) →
+      KeyEdge (states t) operation (key.Entry p main position) next → Ends next
+  entry_right p main position e at (b, es, f) next edge =
       let seen = sees limits states last run t (omega arith) operation main ABranch branch_main (claims limits states last run t lt actor operation go _ e).1.1.0 in
       let stands = no_tomb main (Branch b es) f.is (λ single bad. let wrong : Branch b es ≡ Tomb single = bad in cc) in
       entry_ends (states t) operation node first Right main seen p (rights p main at stands) position b es
       (λ k v is. single_seen limits states last run t (omega arith) (entry_at (states t).heap main position)
       (looks limits states last run t lt actor operation go _ e (entry_at (states t).heap main position) refl) k v is)
-      (subst (λ (k : Known). IsFlagged k (depth_of p) (key_of operation.call) main position b es) (sym (same_known limits states last run t lt actor operation go)) f)
-      (node_at (states t).heap (entry_at (states t).heap main position)) refl
+      (subst (λ (k : Known). IsFlagged k (depth_of p) (key_of operation.call) main position b es) (sym (same_known limits states last run t lt actor operation go)) f) next edge
 
   listed_right : (p : List Ref) (main : Ref) (position : ℕ) → operation.line ≡ line.Key (key.Listed p main position) → IsAt trie operation.access g (key_of operation.call) t moment p main →
-      KnowsKey (known_with limits states last (first_main states last)) operation.call (key.Listed p main position) →
-      Ends (after_listed (states t) operation p main position (node_at (states t).heap (entry_at (states t).heap main position)))
+      KnowsKey (known_with limits states last (first_main states last)) operation.call (key.Listed p main position) → (next : Line) →
+      KeyEdge (states t) operation (key.Listed p main position) next → Ends next
   listed_right p main position e at = by_known
     where
       claim : Holds (IsInUse (states t).heap) (states t).heap (Is main (listed operation.access))
@@ -181,26 +149,27 @@ module _ (limits : Bounds) (states : ℕ → State) (last : ℕ) (depth path : R
       not_tombed : (s : Ref) → node main ≡ Tomb s → operation.access ≡ Writable → ⊥
       not_tombed s is w = true≢false (sym (ap (meets AList) (sym (seen.main_is ∙ is)) ∙ ap (λ a. meets (listed a) (node_at (states t).heap main)) (sym w) ∙ meets_of claim))
 
-      by_known : KnowsKey (known_with limits states last (first_main states last)) operation.call (key.Listed p main position) →
-          Ends (after_listed (states t) operation p main position (node_at (states t).heap (entry_at (states t).heap main position)))
+      by_known : KnowsKey (known_with limits states last (first_main states last)) operation.call (key.Listed p main position) → (next : Line) →
+          KeyEdge (states t) operation (key.Listed p main position) next → Ends next
       by_known (inl (ss, go_through)) =
           listed_ends (states t) operation node first Right main seen p
           (rights p main at (no_tomb main (Listed ss) go_through.is (λ s bad. let wrong : Listed ss ≡ Tomb s = bad in cc))) position ss single
           (subst (λ (k : Known). GoesThrough k (key_of operation.call) main position ss) (sym (same_known limits states last run t lt actor operation go)) go_through)
-          (node_at (states t).heap (entry_at (states t).heap main position)) refl
       by_known (inr (s, is, at_first, get)) =
-          tomb_ends (states t) operation node first Right main seen p (rights p main at (λ w. absurd (not_tombed s is w))) position s single is at_first get
-          (node_at (states t).heap (entry_at (states t).heap main position)) refl
+          subst (λ q. (next : Line) → KeyEdge (states t) operation (key.Listed p main q) next → Ends next) (sym at_first)
+          (tomb_ends (states t) operation node first Right main seen p (rights p main at (λ w. absurd (not_tombed s is w))) s
+          (subst (SeesSingle (states t) operation node first main) at_first single) is get)
+
+  right_by : (l : KeyLine) → operation.line ≡ line.Key l → KeyRoute trie operation.access g (key_of operation.call) t (moment_at (run.records t) actor).read_at moment l →
+      KnowsKey (known_with limits states last (first_main states last)) operation.call l → (next : Line) → KeyEdge (states t) operation l next → Ends next
+  right_by (key.Read p r) e h knows next (reads_on route read n on) = tt
+  right_by (key.Read p r) e h knows next edge = tt
+  right_by (key.Main p main) e h knows next edge = main_right p main e h next edge
+  right_by (key.Entry p main position) e h knows next edge = entry_right p main position e h knows next edge
+  right_by (key.Listed p main position) e h knows next edge = listed_right p main position e h knows next edge
+  right_by (key.Sibling p main position former) e h knows next (KeyEdge.strays l) = tt
+  right_by (key.Sibling p main position former) e h knows next edge = tt
 
   pub key_right : (l : KeyLine) → operation.line ≡ line.Key l → KeyRoute trie operation.access g (key_of operation.call) t (moment_at (run.records t) actor).read_at moment l →
       KnowsKey (known_with limits states last (first_main states last)) operation.call l → Ends (key_after (states t) operation l)
-  key_right (key.Read p r) e h knows = by_read (read_step (states t) operation r)
-    where
-      by_read : (after : After Read Ref) → Ends (key_after_read p after)
-      by_read (Goes next) = tt
-      by_read (Gives main) = tt
-  key_right (key.Main p main) e h knows = main_right p main e h
-  key_right (key.Entry p main position) e h knows = entry_right p main position e h knows
-  key_right (key.Listed p main position) e h knows = listed_right p main position e h knows
-  key_right (key.Sibling p main position former) e h knows =
-      sibling_quiet p main position former (entry_at (states t).heap main (1 - position)) (node_at (states t).heap (entry_at (states t).heap main (1 - position)))
+  key_right l e h knows = right_by l e h knows (key_after (states t) operation l) (key_edge (states t) operation l)

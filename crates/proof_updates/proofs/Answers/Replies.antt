@@ -1,8 +1,9 @@
 -- What an operation answers that has no place is right.
-use Rattle.std.proofs.Common.{◌≡◌, ◌≢◌, ℕ, suc, ◌<◌, ◌≤◌, ◌^◌, Bool, true, false, true≢false, ◌∷◌, inl, None, refl, sym, ap, subst, ◌∙◌, arith, []}
+use Rattle.std.proofs.Common.{◌≡◌, ◌≢◌, ℕ, suc, ◌<◌, ◌≤◌, ◌^◌, Bool, true, false, true≢false, ◌∷◌, inl, None, refl, sym, ap, subst, ◌∙◌, arith, [], Some}
 use Rattle.std.proofs.lemmas.Option.{none-some}
 use Rattle.proof_updates.specs.Vocabulary.{Access, Writable, ReadOnly, Call, Close, Entries, Count, Reply, Ref, on_time, Line, Operation, Bounds, Outcome, Step, key_of, is_close, needs_read_only}
-use Rattle.proof_updates.specs.Vocabulary.{State, first_line, begin_denial, Moves, begun_operation, turns, noted_turn, IsRun, Turn, is_placed, Record, noted, moment_at, told_in, Moment}
+use Rattle.proof_updates.specs.Vocabulary.{State, first_line, begin_denial, Moves, begun_operation, turns, noted_turn, IsRun, Turn, is_placed, Record, noted, moment_at, told_in, Moment, given_up}
+use Rattle.proof_updates.specs.Vocabulary.{gave_up}
 use Rattle.proof_updates.specs.Beneath.history.specs.declared.replies.Reply.TheVariants as reply
 use Rattle.proof_updates.specs.Beneath.machine_model.specs.declared.lines.Purpose.TheVariants as purpose
 use Rattle.proof_updates.specs.Beneath.machine_model.specs.declared.lines.Line.TheVariants as line
@@ -20,13 +21,14 @@ use Rattle.proof_order.proofs.Phases.Standing.{rooted_at_moments, read_only_stan
 use Rattle.proof_order.proofs.Phases.Closers.{still_placed}
 use Rattle.proof_updates.specs.Updates.{RepliesRight}
 use Rattle.proof_updates.proofs.Answers.Each.{RightAt, WalksAt, IsAnswering, answering_goes}
-use Rattle.proof_updates.proofs.Placed.Behind.{EndsSo, refused, has_place, is_right, Behind, later_behind}
+use Rattle.proof_updates.proofs.Placed.Behind.{EndsSo, refused, has_place, is_right, Behind, later_behind, behind_given_up}
 use Rattle.proof_updates.proofs.Tries.EachOperation.{each_operation}
 use Rattle.proof_updates.proofs.Answers.ReaderRoots.{stood_before}
 use Rattle.proof_updates.proofs.Placed.Swap.{none_next}
 use Rattle.proof_updates.specs.Beneath.proof_commits.proofs.Lines.Reads.{only_end}
 use Rattle.proof_updates.specs.Beneath.proof_order.specs.Facts.{Notes}
 use Rattle.proof_updates.proofs.Answers.Given.{moment_of}
+use Rattle.proof_order.proofs.Phases.LineTimes.{answered_unless}
 
 -- ---- a begin
 
@@ -112,6 +114,25 @@ module _ (limits : Bounds) (states : ℕ → State) (last : ℕ) (depth path : R
       its = λ e read_only g generation h stands. before.its e read_only g generation h (stood_before limits states last run t k lt operation runs e read_only h stands);
     }
 
+  -- ---- where one gives up
+
+  answering_gave_up : (t k : ℕ) → t < last → (operation : Operation) (answer : Reply) → Runs (states t) k operation → given_up operation.call operation.line ≡ Some answer →
+      (o : Outcome) → Moves (states t) (step.GiveUp (suc k)) o (states (suc t)) → run.records (suc t) ≡ run.records t → IsAnswering states run.records trie t k operation →
+      IsAnswering states run.records trie (suc t) k (gave_up operation answer)
+  answering_gave_up t k lt operation answer runs may o m same before = record {
+    closes = λ e. still operation.id (before.closes e);
+    behind = λ e. ends (behind_given_up states run.records t operation.id _ _ (WalksAt states trie t operation.access operation.call) operation.call operation.line answer may (before.behind e));
+    its = λ e read_only g generation h stands. before.its e read_only g generation h (stood_before limits states last run t k lt operation runs e read_only h stands);
+  }
+    where
+      still : (id : ℕ) → is_placed (run.records t) id ≡ true → is_placed (run.records (suc t)) id ≡ true
+      still id is = subst (λ (q : Record). is_placed q id ≡ true) (sym same) is
+
+      ends : {Right : Reply → Type 0} → EndsSo run.records t operation.id Right answer → EndsSo run.records (suc t) operation.id Right answer
+      ends (refused is) = refused is
+      ends (has_place is) = has_place (still operation.id is)
+      ends (is_right h) = is_right h
+
   -- ---- along the run
 
   rests : (t k : ℕ) → t < last → (operation : Operation) → Runs (states t) k operation → moment_at (run.records (suc t)) (suc k) ≡ moment_at (run.records t) (suc k) →
@@ -124,7 +145,7 @@ module _ (limits : Bounds) (states : ℕ → State) (last : ℕ) (depth path : R
   pub answering_at : (t : ℕ) → t ≤ last → (k : ℕ) (operation : Operation) → Runs (states t) k operation → IsAnswering states run.records (trie_of limits states last depth path) t k operation
   answering_at =
       each_operation limits states last run (λ t k operation. IsAnswering states run.records trie t k operation)
-      (λ t k operation b h. record { closes = h.closes; behind = h.behind; its = h.its }) answering_begins rests
+      (λ t k operation b h. record { closes = h.closes; behind = h.behind; its = h.its }) answering_begins answering_gave_up rests
       (λ t k lt operation own h. answering_goes limits states last depth path run ok fits t k lt operation own h)
 
   -- ---- the end
@@ -136,17 +157,20 @@ module _ (limits : Bounds) (states : ℕ → State) (last : ℕ) (depth path : R
     since : Since states run.records t k operation
     since = run_since limits states last run t k operation within runs
 
-    replied : is_close operation.call ≡ false → RightAt states trie t operation.access operation.generation (moment_of limits states last run t k).moment operation.call answer →
+    replied : is_close operation.call ≡ false → answer ≢ reply.NoSlots → RightAt states trie t operation.access operation.generation (moment_of limits states last run t k).moment operation.call answer →
         Replied limits states run.records last (content trie) operation (moment_of limits states last run t k).moment answer
-    replied no_close h = by_access operation.access refl h
+    replied no_close other h = by_access operation.access refl h
       where
+        has : has_read operation.line ≡ true
+        has = ap has_read e ∙ answered_unless answer other
+
         moment : IsWithin run.records since.at t (moment_of limits states last run t k).moment
-        moment = (since.reads no_close).moment (ap has_read e)
+        moment = (since.reads no_close).moment has
 
         by_access : (a : Access) → operation.access ≡ a → RightAt states trie t a operation.generation (moment_of limits states last run t k).moment operation.call answer →
             Replied limits states run.records last (content trie) operation (moment_of limits states last run t k).moment answer
         by_access Writable is (g, generation, right) =
-            on_writable g is generation (rooted_at_moments limits states last run t k operation g within runs is generation (ap has_read e)) moment.closes_none right
+            on_writable g is generation (rooted_at_moments limits states last run t k operation g within runs is generation has) moment.closes_none right
         by_access ReadOnly is right =
             let stands = read_only_stands limits states last run t k operation within runs is no_close since in
             on_read_only stands.0 is (stands.1 (suc (moment_of limits states last run t k).moment) (omega (arith, moment.behind)) (omega (arith, moment.past)))
@@ -171,7 +195,7 @@ module _ (limits : Bounds) (states : ℕ → State) (last : ℕ) (depth path : R
             Replied limits states run.records last (content trie) operation (moment_of limits states last run t k).moment answer
         by_ending (refused is) = absurd (other is)
         by_ending (has_place is) = absurd (true≢false (sym is ∙ unplaced))
-        by_ending (is_right h) = replied (no_close_unplaced unplaced) h
+        by_ending (is_right h) = replied (no_close_unplaced unplaced) other h
 
   pub replies_right : RepliesRight limits states run.records last (trie_of limits states last depth path)
   replies_right t actor operation answer o lt m notes is does other unplaced =

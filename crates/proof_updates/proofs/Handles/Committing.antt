@@ -7,7 +7,7 @@ use Rattle.proof_updates.specs.Beneath.machine_model.specs.declared.lines.Purpos
 use Rattle.proof_updates.specs.Beneath.machine_model.specs.declared.steps.Step.TheVariants as step
 use Rattle.proof_order.specs.Facts.{CarriesOut, committed_of, committed_by_step}
 use Rattle.proof_order.proofs.Views.Changes.{complete_commits}
-use Rattle.proof_shape.specs.Lines.Commits.{OwnCommit, CommitsNone, begins, goes, sweeps, assigned_at}
+use Rattle.proof_shape.specs.Lines.Commits.{OwnCommit, CommitsNone, begins, goes, sweeps, assigned_at, gives_up}
 use Rattle.proof_updates.specs.Touching.{CommitsUpdate, CommitsRepair}
 
 module _ (limits : Bounds) (states : ℕ → State) (records : ℕ → Record) (last : ℕ) (t : ℕ) (s : Step) where
@@ -21,6 +21,7 @@ module _ (limits : Bounds) (states : ℕ → State) (records : ℕ → Record) (
       by_step x (begins actor call) = refl
       by_step x (goes actor operation runs nothing) = ap (committed_of (states t)) runs ∙ nothing
       by_step x sweeps = refl
+      by_step x (gives_up actor) = refl
 
   pub own_committed : (own : Own) → committed_by_step (states t) s ≡ Some own.fresh
   own_committed own = ap (committed_by_step (states t)) own.takes ∙ ap (committed_of (states t)) own.decides ∙ own.commits

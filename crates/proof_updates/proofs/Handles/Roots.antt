@@ -5,7 +5,7 @@ use Rattle.std.proofs.lemmas.Bool.{cases_lt}
 use Rattle.std.proofs.lemmas.List.{get_or_past, get_or-set_same, length-set}
 use Rattle.std.proofs.lemmas.Option.{none-some, same_Some, some_pair_parts}
 use Rattle.proof_updates.specs.Vocabulary.{Access, Writable, Close, Ref, Root, Plain, Descriptor, Bounds, Outcome, Step, opened_root, settled, with_begin, State, root_at, root_of, rewritten, Begins}
-use Rattle.proof_updates.specs.Vocabulary.{Ends, Sweeps, Moves, begun_operation, IsRun, noted, told_in}
+use Rattle.proof_updates.specs.Vocabulary.{Ends, Sweeps, GivesUp, Moves, begun_operation, IsRun, noted, told_in}
 use Rattle.proof_updates.specs.Beneath.machine_model.specs.declared.steps.Step.TheVariants as step
 use Rattle.proof_updates.specs.Beneath.machine_model.proofs.Found.{found_within, found_elsewhere}
 use Rattle.proof_updates.specs.Beneath.machine_model.specs.Moves.{Goes}
@@ -206,4 +206,5 @@ closed_handle state s o after (Begins {actor} {call} d) closer handle e =
     ]
 closed_handle state s o after (Goes d is a g) closer handle e = let wrong : ⊥ = cc e in absurd wrong
 closed_handle state s o after (Ends d is a) closer handle e = let wrong : ⊥ = cc e in absurd wrong
+closed_handle state s o after (GivesUp d is a) closer handle e = let wrong : ⊥ = cc e in absurd wrong
 closed_handle state s o after (Sweeps spent) closer handle e = let wrong : ⊥ = cc e in absurd wrong

@@ -1,10 +1,10 @@
 -- On which lines an operation has its place, and what it may be about to answer: that no slot was free, the reply of what has its place, or a reply that is
 -- right.
-use Rattle.std.proofs.Common.{◌≡◌, ℕ, ◌-◌, List, true, false, true≢false, Bool, Option, sym, arith}
+use Rattle.std.proofs.Common.{◌≡◌, ℕ, ◌-◌, List, true, false, true≢false, Bool, Option, sym, arith, Some, refl}
 use Rattle.proof_updates.specs.Vocabulary.{Reply, Ref, Node, node_at, entry_at, next_ref, BuildLine, CopyLine, KeyLine, After, Read, Climb, CleanLine, ClimbLine, RenewLine, WalkLine, SwapLine}
 use Rattle.proof_updates.specs.Vocabulary.{RootLine, Line, Operation, State, word_at, handle_of, read_step, root_after, build_after, clean_after, climb_after_read, climb_after_main}
 use Rattle.proof_updates.specs.Vocabulary.{climb_after_contracted, climb_after_root, climb_after, copy_after, key_after_read, key_after_main, key_after_entry, after_listed, after_sibling, key_after}
-use Rattle.proof_updates.specs.Vocabulary.{renew_after, line_after, after_update, swapped, prev_word, is_placed, Record}
+use Rattle.proof_updates.specs.Vocabulary.{renew_after, line_after, after_update, swapped, prev_word, is_placed, Record, given_up, swap_given_up, unless_effect, tells_effect, Purpose, Call}
 use Rattle.proof_updates.specs.Beneath.history.specs.declared.replies.Reply.TheVariants as reply
 use Rattle.proof_updates.specs.Beneath.slot_arena.specs.declared.nodes.Prev.TheVariants as prev
 use Rattle.proof_updates.specs.Beneath.machine_model.specs.declared.finding.KeyLine.TheVariants as key
@@ -14,6 +14,7 @@ use Rattle.proof_updates.specs.Beneath.machine_model.specs.declared.copying.Copy
 use Rattle.proof_updates.specs.Beneath.machine_model.specs.declared.lines.Purpose.TheVariants as purpose
 use Rattle.proof_updates.specs.Beneath.machine_model.specs.declared.lines.Line.TheVariants as line
 use Rattle.proof_order.specs.Phases.{IsPublished}
+use Rattle.std.proofs.lemmas.Option.{none-some, same_Some}
 
 -- ---- what an answer may be
 
@@ -31,6 +32,47 @@ Behind states records t id Right Walks (line.Climb l) = is_placed (records t) id
 Behind states records t id Right Walks (line.End answer) = EndsSo records t id Right answer
 Behind states records t id Right Walks (line.Walk l) = Walks l
 Behind states records t id Right Walks l = Unit {0}
+
+-- who gives up is refused, or answered in its climb, where it has its place
+swap_gave_up : (call : Call) (why : Purpose) (records : ℕ → Record) (t id : ℕ) (Right : Reply → Type 0) (answer : Reply) (l : SwapLine) → swap_given_up call why l ≡ Some answer →
+    ((c : Climb) → why ≡ purpose.Climb c → is_placed (records t) id ≡ true) → EndsSo records t id Right answer
+swap_gave_up call (purpose.Climb c) records t id Right answer swap.Publish e placed = has_place (placed c refl)
+swap_gave_up call (purpose.Climb c) records t id Right answer (swap.Deciding l) e placed = absurd (none-some answer e)
+swap_gave_up call (purpose.Climb c) records t id Right answer swap.Check e placed = absurd (none-some answer e)
+swap_gave_up call (purpose.Update path former) records t id Right answer swap.Publish e placed = refused (sym (same_Some _ _ e))
+swap_gave_up call (purpose.Update path former) records t id Right answer (swap.Deciding l) e placed = absurd (none-some answer e)
+swap_gave_up call (purpose.Update path former) records t id Right answer swap.Check e placed = absurd (none-some answer e)
+swap_gave_up call (purpose.Renew path) records t id Right answer swap.Publish e placed = refused (sym (same_Some _ _ e))
+swap_gave_up call (purpose.Renew path) records t id Right answer (swap.Deciding l) e placed = absurd (none-some answer e)
+swap_gave_up call (purpose.Renew path) records t id Right answer swap.Check e placed = absurd (none-some answer e)
+swap_gave_up call purpose.Clean records t id Right answer swap.Publish e placed = refused (sym (same_Some _ _ e))
+swap_gave_up call purpose.Clean records t id Right answer (swap.Deciding l) e placed = absurd (none-some answer e)
+swap_gave_up call purpose.Clean records t id Right answer swap.Check e placed = absurd (none-some answer e)
+
+end_gave_up : (records : ℕ → Record) (t id : ℕ) (Right : Reply → Type 0) (answer : Reply) (b : Bool) → unless_effect b ≡ Some answer → EndsSo records t id Right answer
+end_gave_up records t id Right answer true e = absurd (none-some answer e)
+end_gave_up records t id Right answer false e = refused (sym (same_Some _ _ e))
+
+pub behind_given_up : (states : ℕ → State) (records : ℕ → Record) (t id : ℕ) (Right Now : Reply → Type 0) (Walks : WalkLine → Type 0) (call : Call) (l : Line) (answer : Reply) →
+    given_up call l ≡ Some answer → Behind states records t id Right Walks l → EndsSo records t id Now answer
+behind_given_up states records t id Right Now Walks call (line.Swap (purpose.Climb c) s) answer e h = swap_gave_up call (purpose.Climb c) records t id Now answer s.line e (λ d same. h)
+behind_given_up states records t id Right Now Walks call (line.Swap (purpose.Update path former) s) answer e h =
+    swap_gave_up call (purpose.Update path former) records t id Now answer s.line e (λ c same. let wrong : ⊥ = cc same in absurd wrong)
+behind_given_up states records t id Right Now Walks call (line.Swap (purpose.Renew path) s) answer e h =
+    swap_gave_up call (purpose.Renew path) records t id Now answer s.line e (λ c same. let wrong : ⊥ = cc same in absurd wrong)
+behind_given_up states records t id Right Now Walks call (line.Swap purpose.Clean s) answer e h =
+    swap_gave_up call purpose.Clean records t id Now answer s.line e (λ c same. let wrong : ⊥ = cc same in absurd wrong)
+behind_given_up states records t id Right Now Walks call (line.Climb l) answer e h = has_place h
+behind_given_up states records t id Right Now Walks call (line.End told) answer e h = end_gave_up records t id Now answer (tells_effect call told) e
+behind_given_up states records t id Right Now Walks call (line.Copy (copy.Complete c)) answer e h = absurd (none-some answer e)
+behind_given_up states records t id Right Now Walks call (line.Copy l) answer e h = refused (sym (same_Some _ _ e))
+behind_given_up states records t id Right Now Walks call line.Impossible answer e h = absurd (none-some answer e)
+behind_given_up states records t id Right Now Walks call (line.Root l) answer e h = refused (sym (same_Some _ _ e))
+behind_given_up states records t id Right Now Walks call (line.Key l) answer e h = refused (sym (same_Some _ _ e))
+behind_given_up states records t id Right Now Walks call (line.Build l) answer e h = refused (sym (same_Some _ _ e))
+behind_given_up states records t id Right Now Walks call (line.Renew l) answer e h = refused (sym (same_Some _ _ e))
+behind_given_up states records t id Right Now Walks call (line.Clean l) answer e h = refused (sym (same_Some _ _ e))
+behind_given_up states records t id Right Now Walks call (line.Walk l) answer e h = refused (sym (same_Some _ _ e))
 
 -- ---- kinds of lines
 

@@ -10,7 +10,7 @@ use Rattle.proof_order.specs.Facts.{Runs}
 use Rattle.proof_updates.specs.Beneath.history.proofs.Among.{Among, among_right}
 use Rattle.proof_order.proofs.Views.Changes.{carries_some}
 use Rattle.proof_order.proofs.Offers.Standing.{marks_says, nobody}
-use Rattle.proof_order.proofs.History.OneStep.{From, began, kept, stepped, from}
+use Rattle.proof_order.proofs.History.OneStep.{From, began, kept, stepped, from, gave}
 use Rattle.proof_order.proofs.History.Copies.{own_marks, marked_or, marked_before}
 use Rattle.proof_order.proofs.Phases.Steps.{is_placed_so}
 use Rattle.proof_order.proofs.Phases.Closers.{still_placed}
@@ -78,6 +78,8 @@ module _ (limits : Bounds) (states : ℕ → State) (last : ℕ) (run : IsRun li
       by_mark (inl marked) =
           ap (is_placed (run.records (suc t))) id_is ∙ still t s o m notes was.id (all k was at_k (marked_before was.is_marked (action_of (states t) was) marked))
       by_mark (inr now) = ap (is_placed (run.records (suc t))) id_is ∙ marks_place t s o m notes was.id (own_marks (states t) s k was is_step at_k ∙ now)
+  marked_by t s o m notes all k found (gave was answer at_k is_step may is) e =
+      ap (is_placed (run.records (suc t))) (ap (λ (x : Operation). x.id) is) ∙ still t s o m notes was.id (all k was at_k (ap (λ (x : Operation). x.is_marked) (sym is) ∙ e))
 
   -- a marked operation has its place
   pub marked_placed : (t : ℕ) → t ≤ last → (k : ℕ) (operation : Operation) → Runs (states t) k operation → operation.is_marked ≡ true → is_placed (run.records t) operation.id ≡ true

@@ -5,7 +5,7 @@ use Rattle.std.proofs.lemmas.Option.{none-some, same_Some}
 use Rattle.proof_updates.specs.Vocabulary.{hash_of, position_of, Access, Writable, ReadOnly, Call, Clear, Snapshot, Freeze, Ref, Indirection, Branch, Single, Tomb, List as Listed, node_at, entry_at}
 use Rattle.proof_updates.specs.Vocabulary.{entries_of, no_ref, generation_of, generation_at, Node, flag_of, Line, Operation, After, Gives, Read, Bounds, key_of, handle_of, State, word_at, root_at}
 use Rattle.proof_updates.specs.Vocabulary.{root_of, word_of, current, is_start, read_after, read_step, passes as passes_by, is_passable, key_after_read, key_after, line_action, read_of, line_after}
-use Rattle.proof_updates.specs.Vocabulary.{after_root, generation_from, given_root, IsRun, KeyLine, Purpose, Swap, Root, RootLine, Plain, root_after, swap_after, Moment}
+use Rattle.proof_updates.specs.Vocabulary.{after_root, generation_from, given_root, IsRun, KeyLine, Purpose, Swap, Root, RootLine, Plain, root_after, swap_after, Moment, Runs}
 use Rattle.proof_updates.specs.Beneath.machine_model.specs.declared.finding.KeyLine.TheVariants as key
 use Rattle.proof_updates.specs.Beneath.machine_model.specs.declared.lines.Line.TheVariants as line
 use Rattle.proof_updates.specs.Beneath.machine_model.specs.declared.reading.After.TheVariants.{Goes}
@@ -32,7 +32,6 @@ use Rattle.proof_updates.specs.Beneath.proof_contents.proofs.Shapes.Nodes.{leads
 use Rattle.proof_updates.specs.Beneath.proof_contents.proofs.Lines.Repair.{read_stays}
 use Rattle.proof_updates.specs.Beneath.proof_generations.specs.Falling.{GivesAt}
 use Rattle.proof_updates.specs.Beneath.proof_generations.proofs.Falling.Final.{given_for_ever}
-use Rattle.proof_updates.specs.Beneath.proof_generations.specs.Running.{Runs}
 use Rattle.proof_updates.specs.Beneath.proof_generations.proofs.Roots.Along.{ordered_at}
 use Rattle.proof_updates.specs.Beneath.proof_generations.proofs.Roots.Open.{no_close_at}
 use Rattle.proof_updates.specs.Beneath.proof_generations.proofs.Roots.Rooted.{root_given}
@@ -45,6 +44,7 @@ use Rattle.proof_updates.proofs.Tries.EachOperation.{OwnStep, each_operation, ow
 use Rattle.proof_updates.proofs.Answers.Given.{GivenAt, given_at, moment_of, own_counts, quiet_moment}
 use Rattle.proof_updates.proofs.Routes.Times.{counts_since, since_next, later}
 use Rattle.proof_updates.proofs.Routes.Known.{IsGiven, IsOf, since, KeyRoute, LineRoute, route_later, IsAt, route_root}
+use Rattle.proof_updates.specs.Beneath.machine_model.proofs.Edges.Key.{key_edge}
 use Rattle.proof_updates.proofs.Routes.Key.{main_on, entry_on, listed_on, sibling_on}
 use Rattle.proof_updates.proofs.Routes.Lines.{clean_on, climb_on, copy_on, walk_on, build_on, renew_on, swap_on}
 
@@ -248,18 +248,16 @@ module _ (limits : Bounds) (states : ℕ → State) (last : ℕ) (depth path : R
         On (key_after state operation l)
     key_on (key.Read p r) e begun h = read_on p r e h (read_step state operation r) refl
     key_on (key.Main p main) e begun h =
-        main_on trie ok g state operation t ra mu lt p main (at_next (line.Key (key.Main p main)) e refl p main h) (node_at state.heap main)
+        main_on trie ok g state operation t ra mu lt p main (at_next (line.Key (key.Main p main)) e refl p main h) _ (key_edge state operation (key.Main p main))
     key_on (key.Entry p main position) e begun h =
         entry_on trie ok g state operation t ra mu lt p main (at_next (line.Key (key.Entry p main position)) e refl p main h) position
-        (node_at state.heap (entry_at state.heap main position))
-        (λ generation w is passes. leads_there p main position e generation w is passes begun)
+        (λ generation w is passes. leads_there p main position e generation w is passes begun) _ (key_edge state operation (key.Entry p main position))
     key_on (key.Listed p main position) e begun h =
-        listed_on trie ok g state operation t ra mu lt p main (at_next (line.Key (key.Listed p main position)) e refl p main h) position
-        (node_at state.heap (entry_at state.heap main position))
+        listed_on trie ok g state operation t ra mu lt p main (at_next (line.Key (key.Listed p main position)) e refl p main h) position _ (key_edge state operation (key.Listed p main position))
     key_on (key.Sibling p main position former) e begun h =
         sibling_on trie ok g state operation t ra mu lt p main
-        (at_next (line.Key (key.Sibling p main position former)) e refl p main h) position former
-        (entry_at state.heap main (1 - position)) (node_at state.heap (entry_at state.heap main (1 - position)))
+        (at_next (line.Key (key.Sibling p main position former)) e refl p main h) position former _
+        (key_edge state operation (key.Sibling p main position former))
 
     -- ---- all lines
 
@@ -295,6 +293,7 @@ module _ (limits : Bounds) (states : ℕ → State) (last : ℕ) (depth path : R
   pub has_route : (t : ℕ) → t ≤ last → (k : ℕ) (operation : Operation) → Runs (states t) k operation → HasRoute t k operation
   has_route =
       each_operation limits states last run HasRoute (λ t k operation b h. h) (λ t k lt call o m d notes g e. absurd (none-some g e))
+      (λ t k lt operation answer runs may o m same h g e. tt)
       (λ t k lt operation runs same h g e.
       subst (λ (n : Moment). LineRoute trie operation.access g (key_of operation.call) (suc t) n.read_at n.moment operation.line) (sym same)
       (later trie operation.access g (key_of operation.call) t (moment_of limits states last run t k).read_at (moment_of limits states last run t k).moment operation.line (h g e)))

@@ -1,18 +1,16 @@
 -- Lines of BUILD, RENEW and their swaps keep the path; those of CLEAN, CLIMB, COPY and WALK have none.
-use Rattle.std.proofs.Common.{◌≡◌, ℕ, suc, ◌+◌, ◌-◌, ◌==◌, nat_lt, Bool, true, false, cond, List, [], ◌∷◌, ◌++◌, length, Option, Some, None, refl, sym, arith}
+use Rattle.std.proofs.Common.{◌≡◌, ℕ, suc, Bool, true, false, List, Option, None, refl, sym, arith}
 use Rattle.std.proofs.lemmas.Option.{none-some}
-use Rattle.proof_updates.specs.Vocabulary.{Access, Ref, Node, Indirection, Branch, Single, Tomb, List as Listed, node_at, entries_of, next_ref, Operation, BuildLine, CleanLine, Climb, ClimbLine}
-use Rattle.proof_updates.specs.Vocabulary.{RenewLine, CopyLine, WalkLine, After, Gives, Read, Swap, Purpose, Line, State, depth_of, is_start, read_step, reading, renew_next, renew_after_entry}
-use Rattle.proof_updates.specs.Vocabulary.{renew_after_read, renew_after_link, renew_after_branch, renew_after, build_after_made, build_if_made, build_after, clean_after, climb_after, copy_after}
-use Rattle.proof_updates.specs.Vocabulary.{walk_after, after_update, climbed_on, swapped}
-use Rattle.proof_updates.specs.Beneath.machine_model.specs.declared.building.Site.TheVariants as site
-use Rattle.proof_updates.specs.Beneath.machine_model.specs.declared.building.Change.TheVariants as change
-use Rattle.proof_updates.specs.Beneath.machine_model.specs.declared.building.BuildLine.TheVariants as build
-use Rattle.proof_updates.specs.Beneath.machine_model.specs.declared.repairs.RenewLine.TheVariants as renew
+use Rattle.proof_updates.specs.Vocabulary.{Access, Ref, Node, node_at, Operation, BuildLine, CleanLine, Climb, ClimbLine, RenewLine, CopyLine, WalkLine, After, Gives, Swap, Purpose, Line, State}
+use Rattle.proof_updates.specs.Vocabulary.{renew_after, build_after, clean_after, climb_after, copy_after, walk_after, after_update, climbed_on, swapped}
 use Rattle.proof_updates.specs.Beneath.machine_model.specs.declared.reading.After.TheVariants.{Goes}
 use Rattle.proof_updates.specs.Beneath.machine_model.specs.declared.lines.Purpose.TheVariants as purpose
 use Rattle.proof_updates.specs.Beneath.machine_model.specs.declared.lines.Line.TheVariants as line
 use Rattle.proof_updates.specs.Beneath.machine_model.specs.Operations.{after_swap}
+use Rattle.proof_updates.specs.Beneath.machine_model.specs.Edges.Building.{BuildEdge}
+use Rattle.proof_updates.specs.Beneath.machine_model.specs.Edges.Repairs.{RenewNext, RenewEdge, keeps_own, links}
+use Rattle.proof_updates.specs.Beneath.machine_model.proofs.Edges.Building.{build_edge}
+use Rattle.proof_updates.specs.Beneath.machine_model.proofs.Edges.Repairs.{renew_edge}
 use Rattle.proof_updates.specs.Beneath.proof_contents.specs.Tries.{Trie}
 use Rattle.proof_updates.specs.Beneath.proof_contents.specs.Lines.Changes.{build_path}
 use Rattle.proof_updates.specs.Paths.{path_of}
@@ -76,63 +74,29 @@ module _ (trie : Trie) (access : Access) (g q t ra mu : ℕ) (state : State) (op
 
   -- ---- BUILD
 
-  made_on : (l : BuildLine) (made : Ref) → There (build_path l) → On (build_after_made state operation l made)
-  made_on (build.Single p main site.Absent former) made r = r
-  made_on (build.Single p main (site.At position) former) made r = r
-  made_on (build.Single p main (site.Beside position) former) made r = r
-  made_on (build.Pair p main position single depth) made r = r
-  made_on (build.Link p main position below depth) made r = by_test (depth == depth_of p + 1)
-    where
-      by_test : (b : Bool) → On (cond b (line.Build (build.Main p main (change.Update position made) None)) (line.Build (build.Rung p main position made (depth - 1))))
-      by_test true = r
-      by_test false = r
-  made_on (build.Rung p main position below depth) made r = r
-  made_on (build.Main p main c former) made r = r
+  built_on : (l : BuildLine) (next : Line) → BuildEdge state operation l next → There (build_path l) → On next
+  built_on l next (BuildEdge.no_slot m e) r = tt
+  built_on l next edge r = r
 
   pub build_on : (l : BuildLine) → There (build_path l) → On (build_after state operation l)
-  build_on l r = by_slot (next_ref state.heap)
-    where
-      by_slot : (o : Option Ref) → On (build_if_made state operation l o)
-      by_slot None = tt
-      by_slot (Some made) = made_on l made r
+  build_on l r = built_on l _ (build_edge state operation l) r
 
   -- ---- RENEW
 
-  next_on : (p : List Ref) (main : Ref) (done : List Ref) → There p → On (renew_next state p main done)
-  next_on p main done r = by_test (nat_lt (length done) (length (entries_of (node_at state.heap main))))
-    where
-      by_test : (b : Bool) → On (cond b (line.Renew (renew.Entry p main done)) (line.Renew (renew.Branch p main done)))
-      by_test true = r
-      by_test false = r
+  next_on : (p : List Ref) (main : Ref) (done : List Ref) (next : Line) → RenewNext state p main done next → There p → On next
+  next_on p main done next (RenewNext.more e) r = r
+  next_on p main done next edge r = r
 
-  renew_entry_on : (p : List Ref) (main : Ref) (done : List Ref) (entry : Ref) (n : Node) → There p → On (renew_after_entry state operation p main done entry n)
-  renew_entry_on p main done entry (Indirection h w) r = by_test (is_start operation h)
-    where
-      by_test : (b : Bool) → On (cond b (renew_next state p main (done ++ entry ∷ [])) (line.Renew (renew.Read p main done (reading entry))))
-      by_test true = next_on p main (done ++ entry ∷ []) r
-      by_test false = r
-  renew_entry_on p main done entry (Single k v) r = next_on p main (done ++ entry ∷ []) r
-  renew_entry_on p main done entry (Branch b es) r = tt
-  renew_entry_on p main done entry (Tomb s) r = tt
-  renew_entry_on p main done entry (Listed ss) r = tt
-
-  renew_read_on : (p : List Ref) (main : Ref) (done : List Ref) (after : After Read Ref) → There p → On (renew_after_read p main done after)
-  renew_read_on p main done (Goes read) r = r
-  renew_read_on p main done (Gives child) r = r
-
-  renew_link_on : (p : List Ref) (main : Ref) (done : List Ref) (o : Option Ref) → There p → On (renew_after_link state p main done o)
-  renew_link_on p main done None r = tt
-  renew_link_on p main done (Some made) r = next_on p main (done ++ made ∷ []) r
-
-  renew_branch_on : (p : List Ref) (main : Ref) (o : Option Ref) → There p → On (renew_after_branch p main o)
-  renew_branch_on p main None r = tt
-  renew_branch_on p main (Some made) r = r
+  renewing_on : (l : RenewLine) (next : Line) → RenewEdge state operation l next → There (renew_path l) → On next
+  renewing_on l next (keeps_own p main done h w n e own on) r = next_on p main _ next on r
+  renewing_on l next (RenewEdge.keeps_single p main done k v n e on) r = next_on p main _ next on r
+  renewing_on l next (links p main done child made n e on) r = next_on p main _ next on r
+  renewing_on l next (RenewEdge.no_slot m e) r = tt
+  renewing_on l next (RenewEdge.strays m) r = tt
+  renewing_on l next edge r = r
 
   pub renew_on : (l : RenewLine) → There (renew_path l) → On (renew_after state operation l)
-  renew_on (renew.Entry p main done) r = renew_entry_on p main done _ _ r
-  renew_on (renew.Read p main done read) r = renew_read_on p main done (read_step state operation read) r
-  renew_on (renew.Link p main done child) r = renew_link_on p main done (next_ref state.heap) r
-  renew_on (renew.Branch p main done) r = renew_branch_on p main (next_ref state.heap) r
+  renew_on l r = renewing_on l _ (renew_edge state operation l) r
 
   -- ---- SWAP: after that of a renewed node the path is gone on from
 

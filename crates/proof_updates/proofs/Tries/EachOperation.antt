@@ -1,12 +1,12 @@
 -- What holds of each running operation, along a run: with the move by which it goes on.
 use Rattle.std.proofs.Common.{◌≡◌, ℕ, zero, suc, ◌<◌, ◌≤◌, Bool, Option, None, Some, get_or, sym, subst, ap, ◌∙◌, refl}
 use Rattle.proof_updates.specs.Vocabulary.{Call, Operation, Bounds, Outcome, Step, State, first_state, action_of, operation_after, begin_denial, Moves, GoesOn, begun_operation, turns, noted_turn}
-use Rattle.proof_updates.specs.Vocabulary.{IsRun, Turn, Record, moment_at, noted_progress, noted, progress_of, told_in}
+use Rattle.proof_updates.specs.Vocabulary.{IsRun, Turn, Record, moment_at, noted_progress, noted, progress_of, told_in, given_up, gave_up, Reply}
 use Rattle.proof_updates.specs.Beneath.machine_model.specs.declared.steps.Step.TheVariants as step
 use Rattle.proof_updates.specs.Beneath.machine_model.proofs.Actors.{mark_one, mark_only, marks_in}
 use Rattle.proof_updates.specs.Beneath.machine_model.proofs.Found.{none_found}
 use Rattle.proof_updates.specs.Beneath.machine_model.proofs.Times.{along_run}
-use Rattle.proof_updates.specs.Beneath.proof_generations.proofs.Handles.Running.{Comes, began, rested, went, comes}
+use Rattle.proof_updates.specs.Beneath.proof_generations.proofs.Handles.Running.{Comes, began, rested, went, comes, gave}
 use Rattle.proof_updates.specs.Beneath.proof_generations.specs.Running.{Runs}
 use Rattle.proof_updates.specs.Beneath.proof_order.specs.Facts.{Notes}
 use Rattle.proof_updates.specs.Beneath.machine_model.proofs.Alike.{moment_rests}
@@ -24,11 +24,13 @@ pub record OwnStep (states : ℕ → State) (records : ℕ → Record) (t k : �
 pub own_notes : (states : ℕ → State) (records : ℕ → Record) (t k : ℕ) (operation : Operation) → OwnStep states records t k operation → Notes states records t (step.Go (suc k))
 own_notes states records t k operation own = own.noted ∙ sym (noted_going (states t) (records t) (suc k) operation (action_of (states t) operation) own.runs refl own.goes)
 
--- P of a time, a place and an operation, whatever its mark, holds of an operation that begins, and is kept by its own steps and by all others
+-- P of a time, a place and an operation, whatever its mark, holds of an operation that begins or gives up, and is kept by its own steps and by all others
 module _ (limits : Bounds) (states : ℕ → State) (last : ℕ) (run : IsRun limits states last) (P : ℕ → ℕ → Operation → Type 0)
     (marks : (t k : ℕ) (operation : Operation) (b : Bool) → P t k operation → P t k (record operation { is_marked = b }))
     (begins : (t k : ℕ) → t < last → (call : Call) (o : Outcome) → Moves (states t) (step.Begin (suc k) call) o (states (suc t)) → begin_denial (states t) (suc k) call ≡ None →
     Notes states run.records t (step.Begin (suc k) call) → P (suc t) k (begun_operation (states t) call))
+    (gives_up : (t k : ℕ) → t < last → (operation : Operation) (answer : Reply) → Runs (states t) k operation → given_up operation.call operation.line ≡ Some answer →
+    (o : Outcome) → Moves (states t) (step.GiveUp (suc k)) o (states (suc t)) → run.records (suc t) ≡ run.records t → P t k operation → P (suc t) k (gave_up operation answer))
     (rests : (t k : ℕ) → t < last → (operation : Operation) → Runs (states t) k operation →
     moment_at (run.records (suc t)) (suc k) ≡ moment_at (run.records t) (suc k) → P t k operation → P (suc t) k operation)
     (goes : (t k : ℕ) → t < last → (operation : Operation) → OwnStep states run.records t k operation → P t k operation → P (suc t) k (operation_after (states t) operation)) where
@@ -55,6 +57,10 @@ module _ (limits : Bounds) (states : ℕ → State) (last : ℕ) (run : IsRun li
         noted = notes ∙ ap (λ x. noted (run.records t) (states t).steps (told_in (states t) x)) is_step ∙ noted_going (states t) (run.records t) (suc k) was (action_of (states t) was) at_k refl g;
       } in
       subst (λ x. P (suc t) k x) (sym is) (but_for_mark (suc t) k (marks_in (states t) s) (operation_after (states t) was) (goes t k lt was own (all k was at_k)))
+  next_by t lt all s o m notes k found (gave was answer is_step at_k may is) =
+      subst (λ x. P (suc t) k x) (sym is)
+      (gives_up t k lt was answer at_k may o (subst (λ x. Moves (states t) x o (states (suc t))) is_step m)
+      (notes ∙ ap (λ x. noted (run.records t) (states t).steps (told_in (states t) x)) is_step) (all k was at_k))
 
   next : (t : ℕ) → t < last → (turn : Turn (states t) (states (suc t))) → run.records (suc t) ≡ noted_turn turn (run.records t) → AllAt t → AllAt (suc t)
   unfolding AllAt

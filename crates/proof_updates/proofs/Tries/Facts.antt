@@ -11,7 +11,7 @@ use Rattle.proof_updates.specs.Beneath.proof_contents.specs.Steps.{IsRepair, IsT
 use Rattle.proof_updates.specs.Beneath.proof_contents.specs.Runs.{trie_of}
 use Rattle.proof_updates.specs.Beneath.proof_contents.proofs.Changes.Generations.{nothing_still, repair_still}
 use Rattle.proof_order.specs.Facts.{act_in, Update, committed_of, entered_by_step}
-use Rattle.proof_shape.specs.Lines.Commits.{OwnCommit, MainStep, stays, changes, CommitsNone, begins, goes, sweeps, assigned_at, places_for}
+use Rattle.proof_shape.specs.Lines.Commits.{OwnCommit, MainStep, stays, changes, CommitsNone, begins, goes, sweeps, assigned_at, places_for, gives_up}
 use Rattle.proof_order.specs.Phases.{OwnUpdate}
 use Rattle.proof_order.proofs.Phases.OwnUpdates.{own_updates_enter}
 use Rattle.proof_shape.specs.Shaped.{HasShape}
@@ -34,6 +34,7 @@ module _ (limits : Bounds) (states : ℕ → State) (last : ℕ) (run : IsRun li
       by_step x (begins actor call) = refl
       by_step x (goes actor operation runs nothing) = ap (entered (run.records t) (states t).steps) (ap (committed_of (states t)) runs ∙ nothing)
       by_step x sweeps = refl
+      by_step x (gives_up actor) = refl
 
   pub own_enters : (own : Own) → entered_by_step (run.records t) (states t) s ≡ places_for (run.records t) own.owner t own.why
   own_enters own = ap (entered (run.records t) (states t).steps) (own_committed limits states run.records last t s own)

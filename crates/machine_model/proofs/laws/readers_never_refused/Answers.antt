@@ -1,4 +1,4 @@
-use Rattle.machine_model.proofs.Spared.{readers_never_refused as never}
+use Rattle.machine_model.proofs.Refused.{readers_never_refused as never}
 use Rattle.machine_model.proofs.laws.readers_never_refused.Goals as goal
 
 pub returns : goal.returns

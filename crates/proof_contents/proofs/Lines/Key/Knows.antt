@@ -1,28 +1,21 @@
 -- Each line of KEY hands on what it knows.
-use Rattle.std.proofs.Common.{◌≡◌, ◌≢◌, ℕ, ◌+◌, ◌-◌, ◌<◌, ◌==◌, ◌&&◌, nat_lt, nat_le, Bool, true, false, cond, List, [], ◌∷◌, length, take, slice_index_or, Option, Some, None, inl}
+use Rattle.std.proofs.Common.{◌≡◌, ◌≢◌, ℕ, ◌+◌, ◌-◌, ◌<◌, ◌==◌, ◌&&◌, nat_lt, nat_le, Bool, true, false, List, [], ◌∷◌, length, take, slice_index_or, Option, Some, None, inl}
 use Rattle.std.proofs.lemmas.Bool.{and_parts}
 use Rattle.std.proofs.Common.{inr, refl, sym, ap, ap₂, subst, ◌∙◌, eqb-true, take_all, ltb-true, ltb-false, leb-false}
 use Rattle.std.proofs.lemmas.Grind.{take_at_read}
 use Rattle.arrayvec.specs.ArrayVec.{ArrayVec}
-use Rattle.proof_contents.specs.Vocabulary.{position_of, ReadOnly, Call, Get, Ref, Node, Indirection, Branch, Single, Tomb, List as Listed, node_at, entry_at, entries_of, no_ref, has_flag}
-use Rattle.proof_contents.specs.Vocabulary.{Operation, After, Gives, Read, KeyLine, WhenFound, Answers, Sets, Removes, key_of, inserts, absent_reply, when_found, State, depth_of, is_below_root}
-use Rattle.proof_contents.specs.Vocabulary.{read_step, renew_next, going_down, absent, absent_beside, absent_listed, removing, found_so, found, key_after_read, key_after_main, is_passable}
-use Rattle.proof_contents.specs.Vocabulary.{key_after_entry, after_listed, after_sibling, key_after}
-use Rattle.machine_model.specs.declared.reading.After.TheVariants.{Goes}
-use Rattle.machine_model.specs.declared.building.Site.TheVariants as site
-use Rattle.machine_model.specs.declared.building.Change.TheVariants as change
-use Rattle.machine_model.specs.declared.building.BuildLine.TheVariants as build
+use Rattle.proof_contents.specs.Vocabulary.{ReadOnly, Call, Get, Ref, Node, Branch, Single, Tomb, List as Listed, node_at, entry_at, entries_of, no_ref, Line, Operation, KeyLine, Sets, Removes}
+use Rattle.proof_contents.specs.Vocabulary.{key_of, inserts, when_found, State, depth_of, is_below_root, found, key_after}
 use Rattle.machine_model.specs.declared.finding.KeyLine.TheVariants as key
-use Rattle.machine_model.specs.declared.lines.Line.TheVariants as line
-use Rattle.proof_contents.specs.Beneath.history.specs.declared.replies.Reply.TheVariants as reply
-use Rattle.machine_model.specs.Paths as path
 use Rattle.proof_contents.specs.Nodes.Looking.{Absent, look_among, or_else}
 use Rattle.proof_contents.proofs.Nodes.Branches.{differ}
 use Rattle.proof_contents.proofs.Nodes.Changes.{look-other}
 use Rattle.proof_contents.proofs.Nodes.Lists.{look_among-append}
-use Rattle.proof_contents.specs.Lines.Changes.{Known, IsFlagged, Absence, no_flag, not_listed, Presence, in_branch, in_list, Neighbour, GoesThrough, IsOther, of_branch, of_list}
+use Rattle.proof_contents.specs.Lines.Changes.{Known, IsFlagged, no_flag, not_listed, Presence, in_branch, in_list, GoesThrough, IsOther, of_branch, of_list}
 use Rattle.proof_contents.specs.Lines.Changes.{KnowsKey, KnowsLine, IsGet, main_of_key}
-use Rattle.proof_contents.proofs.Lines.Coming.{tomb_comes, renew_comes}
+use Rattle.machine_model.proofs.Edges.Key.{key_edge}
+use Rattle.machine_model.specs.Edges.Key.{FoundEdge, sets, asks_sibling, removes, entombs_listed, removes_listed, KeyEdge, reads_on, enters, puts_absent, looks_tombed, looks_listed, finds}
+use Rattle.machine_model.specs.Edges.Key.{puts_beside, finds_listed, looks_on, puts_listed, entombs_sibling, keeps_sibling}
 
 not_full : (a b : Bool) → a ≡ true → (a && b) ≡ false → b ≡ false
 not_full true b is e = e
@@ -65,193 +58,101 @@ module _ (state : State) (operation : Operation) (node : Ref → Node) (first : 
         node (slice_index_or (entries_of n) position no_ref) ≡ Single k v
     single_known n position k v single is e = ap node (sym (entry_is n position is)) ∙ single k v e
 
-    -- ---- where the key is absent
+    -- ---- where the key is found
 
-    absent_knows : Absence known (depth_of p) Key' main → KnowsLine known Call' (absent operation p main)
-    absent_knows absence = by_test (inserts operation.call) refl
-      where
-        by_test : (b : Bool) → inserts operation.call ≡ b → KnowsLine known Call' (cond b (line.Build (build.Single p main site.Absent None)) (line.End (absent_reply operation.call)))
-        by_test true e = ((refl, e), absence)
-        by_test false e = tt
+    sibling_asked : (position v b : ℕ) (es : ArrayVec Ref) → node main ≡ Branch b es → (is_below_root p && (length es.items == 2)) ≡ true → when_found operation.call v ≡ Removes →
+        Presence known (depth_of p) Key' main position v → KnowsKey known Call' (key.Sibling p main position v)
+    sibling_asked position v b es is both takes (in_branch b' es' f single) =
+        let same : Branch b es ≡ Branch b' es' = sym is ∙ f.is in
+        let es_is : es ≡ es' = cc in
+        (b', es', f, single, ap (λ (l : ArrayVec Ref). length l.items) (sym es_is) ∙ eqb-true (length es.items) 2 ((and_parts (is_below_root p) (length es.items == 2) both).1), takes)
+    sibling_asked position v b es is both takes (in_list ss is' lt single) = absurd (let bad : Branch b es ≡ Listed ss = sym is ∙ is' in cc)
 
-    beside_knows : (position : ℕ) → Neighbour known (depth_of p) Key' main position → KnowsLine known Call' (absent_beside operation p main position)
-    beside_knows position neighbour = by_test (inserts operation.call) refl
-      where
-        by_test : (b : Bool) → inserts operation.call ≡ b → KnowsLine known Call' (cond b (line.Build (build.Single p main (site.Beside position) None)) (line.End (absent_reply operation.call)))
-        by_test true e = ((refl, e), neighbour)
-        by_test false e = tt
+    other_listed : (position v : ℕ) (ss : ArrayVec Ref) → node main ≡ Listed ss → length ss.items ≡ 2 → Presence known (depth_of p) Key' main position v →
+        IsOther known (depth_of p) Key' main (entry_at state.heap main (1 - position)) v
+    other_listed position v ss is two (in_branch b es f single) = absurd (let bad : Listed ss ≡ Branch b es = sym is ∙ f.is in cc)
+    other_listed position v ss is two (in_list ss' is' lt single) =
+        let same : Listed ss ≡ Listed ss' = sym is ∙ is' in
+        let ss_is : ss ≡ ss' = cc in
+        of_list position ss' is' lt single (ap (λ (l : ArrayVec Ref). length l.items) (sym ss_is) ∙ two) (entry_is (Listed ss') (1 - position) is')
 
-    -- ---- where it is found
-
-    removing_knows : (position v : ℕ) → Presence known (depth_of p) Key' main position v → when_found operation.call v ≡ Removes →
-        (n : Node) → node main ≡ n → KnowsLine known Call' (removing state p main position v n)
-    removing_knows position v presence removes (Branch b es) is = by_test (is_below_root p && (length es.items == 2)) refl
-      where
-        by_presence : (is_below_root p && (length es.items == 2)) ≡ true → Presence known (depth_of p) Key' main position v → KnowsKey known Call' (key.Sibling p main position v)
-        by_presence both (in_branch b' es' f single) =
-            let same : Branch b es ≡ Branch b' es' = sym is ∙ f.is in
-            let es_is : es ≡ es' = cc in
-            (b', es', f, single, ap (λ (l : ArrayVec Ref). length l.items) (sym es_is) ∙ eqb-true (length es.items) 2 ((and_parts (is_below_root p) (length es.items == 2) both).1), removes)
-        by_presence both (in_list ss is' lt single) = absurd (let bad : Branch b es ≡ Listed ss = sym is ∙ is' in cc)
-
-        by_test : (t : Bool) → (is_below_root p && (length es.items == 2)) ≡ t →
-            KnowsLine known Call' (cond t (line.Key (key.Sibling p main position v)) (line.Build (build.Main p main (change.Remove position) (Some v))))
-        by_test true e = by_presence e presence
-        by_test false e = (v, refl, removes, presence)
-    removing_knows position v presence removes (Listed ss) is = by_test (length ss.items == 2) refl
-      where
-        by_presence : length ss.items ≡ 2 → Presence known (depth_of p) Key' main position v → IsOther known (depth_of p) Key' main (entry_at state.heap main (1 - position)) v
-        by_presence two (in_branch b es f single) = absurd (let bad : Listed ss ≡ Branch b es = sym is ∙ f.is in cc)
-        by_presence two (in_list ss' is' lt single) =
-            let same : Listed ss ≡ Listed ss' = sym is ∙ is' in
-            let ss_is : ss ≡ ss' = cc in
-            of_list position ss' is' lt single (ap (λ (l : ArrayVec Ref). length l.items) (sym ss_is) ∙ two) (entry_is (Listed ss') (1 - position) is')
-
-        by_test : (t : Bool) → (length ss.items == 2) ≡ t →
-            KnowsLine known Call'
-            (cond t (line.Build (build.Main p main (change.Entomb (entry_at state.heap main (1 - position))) (Some v))) (line.Build (build.Main p main (change.Remove position) (Some v))))
-        by_test true e = (v, refl, removes, by_presence (eqb-true (length ss.items) 2 e) presence)
-        by_test false e = (v, refl, removes, presence)
-    removing_knows position v presence removes (Indirection g w) is = tt
-    removing_knows position v presence removes (Single k w) is = tt
-    removing_knows position v presence removes (Tomb s) is = tt
-
-    found_knows : (position v : ℕ) → Presence known (depth_of p) Key' main position v → KnowsLine known Call' (found state operation p main position v)
-    found_knows position v presence = by_case (when_found operation.call v) refl
-      where
-        by_case : (w : WhenFound) → when_found operation.call v ≡ w → KnowsLine known Call' (found_so state p main position v w)
-        by_case (Answers answer) e = tt
-        by_case Sets e = (v, refl, e, presence)
-        by_case Removes e = removing_knows position v presence e (node_at state.heap main) (sym sees.main_is)
+    found_knows : (position v : ℕ) (next : Line) → Presence known (depth_of p) Key' main position v → FoundEdge state operation p main position v next → KnowsLine known Call' next
+    found_knows position v next presence (sets e) = (v, refl, e, presence)
+    found_knows position v next presence (asks_sibling takes b es e two) = sibling_asked position v b es (sym sees.main_is ∙ e) two takes presence
+    found_knows position v next presence (removes takes b es e others) = (v, refl, takes, presence)
+    found_knows position v next presence (entombs_listed takes ss e two) =
+        (v, refl, takes, other_listed position v ss (sym sees.main_is ∙ e) (eqb-true (length ss.items) 2 two) presence)
+    found_knows position v next presence (removes_listed takes ss e others) = (v, refl, takes, presence)
+    found_knows position v next presence edge = tt
 
     -- ---- line by line
 
-    main_knows : OnlyGets → (n : Node) → node main ≡ n → KnowsLine known Call' (key_after_main state operation p main n)
-    main_knows gets (Branch b es) is = by_test (has_flag b (path.flag_in state operation p)) refl
-      where
-        by_test : (t : Bool) → has_flag b (path.flag_in state operation p) ≡ t →
-            KnowsLine known Call' (cond t (line.Key (key.Entry p main (position_of (path.flag_in state operation p) b))) (absent operation p main))
-        by_test true e = (b, es, record { is = is; flagged = e; at = refl })
-        by_test false e = absent_knows (no_flag b es is e)
-    main_knows gets (Tomb s) is = tomb_comes (KnowsLine known Call') operation.access p main (λ e. tt) tt (λ e. inr (s, is, refl, gets e))
-    main_knows gets (Listed ss) is = inl (ss, record { is = is; within = sees.filled ss is; none = refl })
-    main_knows gets (Indirection g w) is = tt
-    main_knows gets (Single k v) is = tt
+    main_knows : OnlyGets → (next : Line) → KeyEdge state operation (key.Main p main) next → KnowsLine known Call' next
+    main_knows gets next (enters route m b es is some) = (b, es, record { is = sym sees.main_is ∙ is; flagged = some; at = refl })
+    main_knows gets next (puts_absent route m b es is none ins) = ((refl, ins), no_flag b es (sym sees.main_is ∙ is) none)
+    main_knows gets next (looks_tombed route m s is frozen) = inr (s, sym sees.main_is ∙ is, refl, gets frozen)
+    main_knows gets next (looks_listed route m ss is) =
+        let there : node main ≡ Listed ss = sym sees.main_is ∙ is in inl (ss, record { is = there; within = sees.filled ss there; none = refl })
+    main_knows gets next edge = tt
 
-    entry_knows : (position b : ℕ) (es : ArrayVec Ref) → SeesSingle main position → IsFlagged known (depth_of p) Key' main position b es → (n : Node) →
-        node_at state.heap (entry_at state.heap main position) ≡ n →
-        KnowsLine known Call' (key_after_entry state operation p main position n)
-    entry_knows position b es seen f (Indirection g w) e = by_test (is_passable operation g)
-      where
-        by_test : (t : Bool) → KnowsLine known Call' (cond t (going_down p (entry_at state.heap main position)) (renew_next state p main []))
-        by_test true = tt
-        by_test false = renew_comes (KnowsLine known Call') state p main [] tt tt
-    entry_knows position b es seen f (Single k v) e = by_test (k == Key') refl
-      where
-        known_single : node (slice_index_or es.items position no_ref) ≡ Single k v
-        known_single = single_known (Branch b es) position k v seen f.is e
-
-        by_test : (t : Bool) → (k == Key') ≡ t → KnowsLine known Call' (cond t (found state operation p main position v) (absent_beside operation p main position))
-        by_test true same = found_knows position v (in_branch b es f (known_single ∙ ap (λ n. Single n v) (eqb-true k Key' same)))
-        by_test false apart = beside_knows position (record { bitmap = b; entries = es; branch = f; other = k; own = v; is = known_single; apart = differ k Key' apart })
-    entry_knows position b es seen f (Branch b' es') e = tt
-    entry_knows position b es seen f (Tomb s) e = tt
-    entry_knows position b es seen f (Listed ss) e = tt
+    module _ (position b : ℕ) (es : ArrayVec Ref) (seen : SeesSingle main position) (f : IsFlagged known (depth_of p) Key' main position b es) where
+      entry_knows : (next : Line) → KeyEdge state operation (key.Entry p main position) next → KnowsLine known Call' next
+      entry_knows next (finds route m q k v n e same found) =
+          found_knows position v next (in_branch b es f (single_known (Branch b es) position k v seen f.is e ∙ ap (λ n. Single n v) (eqb-true k Key' same))) found
+      entry_knows next (puts_beside route m q k v e apart ins) =
+          ((refl, ins), record { bitmap = b; entries = es; branch = f; other = k; own = v; is = single_known (Branch b es) position k v seen f.is e; apart = differ k Key' apart })
+      entry_knows next edge = tt
 
     -- through a list
-    listed_knows : (position : ℕ) (ss : ArrayVec Ref) → SeesSingle main position → GoesThrough known Key' main position ss → (n : Node) → node_at state.heap (entry_at state.heap main position) ≡ n →
-        KnowsLine known Call' (after_listed state operation p main position n)
-    listed_knows position ss seen go (Single k v) e = by_test (k == Key') refl
-      where
-        known_single : node (slice_index_or ss.items position no_ref) ≡ Single k v
-        known_single = single_known (Listed ss) position k v seen go.is e
+    module _ (position : ℕ) (ss : ArrayVec Ref) (seen : SeesSingle main position) (go : GoesThrough known Key' main position ss) where
+      count : length (entries_of (node_at state.heap main)) ≡ length ss.items
+      count = ap (λ n. length (entries_of n)) (sees.main_is ∙ go.is)
 
-        count : length (entries_of (node_at state.heap main)) ≡ length ss.items
-        count = ap (λ n. length (entries_of n)) (sees.main_is ∙ go.is)
+      none_more : (k v : ℕ) → node_at state.heap (entry_at state.heap main position) ≡ Single k v → (k == Key') ≡ false → look_among node Key' (take (position + 1) ss.items) ≡ Absent
+      none_more k v e apart =
+          ap (look_among node Key') (take_at_read ss.items position no_ref go.within).1
+          ∙ look_among-append node Key' (take position ss.items) (slice_index_or ss.items position no_ref ∷ [])
+          ∙ ap₂ or_else go.none (ap (λ f. or_else f Absent)
+          (look-other node Key' k v (slice_index_or ss.items position no_ref) (single_known (Listed ss) position k v seen go.is e) (λ same. differ k Key' apart (sym same))))
 
-        none_more : k ≢ Key' → look_among node Key' (take (position + 1) ss.items) ≡ Absent
-        none_more apart =
-            ap (look_among node Key') (take_at_read ss.items position no_ref go.within).1
-            ∙ look_among-append node Key' (take position ss.items) (slice_index_or ss.items position no_ref ∷ [])
-            ∙ ap₂ or_else go.none (ap (λ f. or_else f Absent) (look-other node Key' k v (slice_index_or ss.items position no_ref) known_single (λ same. apart (sym same))))
-
-        by_room : k ≢ Key' → nat_lt (position + 1) (length ss.items) ≡ false → (t : Bool) → (inserts operation.call && nat_le 32 (length ss.items)) ≡ t →
-            KnowsLine known Call' (cond t (line.End reply.Crowded) (absent operation p main))
-        by_room apart past true full = tt
-        by_room apart past false full = by_insert (inserts operation.call) refl
-          where
-            all : take (position + 1) ss.items ≡ ss.items
-            all = take_all (position + 1) ss.items (ltb-false (position + 1) (length ss.items) past)
-
-            by_insert : (b : Bool) → inserts operation.call ≡ b → KnowsLine known Call' (cond b (line.Build (build.Single p main site.Absent None)) (line.End (absent_reply operation.call)))
-            by_insert true ins = (
-              (refl, ins),
-              not_listed ss go.is (leb-false 32 (length ss.items) (not_full (inserts operation.call) (nat_le 32 (length ss.items)) ins full))
-                  (ap (look_among node Key') (sym all) ∙ none_more apart),
-            )
-            by_insert false ins = tt
-
-        by_more : k ≢ Key' → (t : Bool) → nat_lt (position + 1) (length ss.items) ≡ t →
-            KnowsLine known Call' (cond t (line.Key (key.Listed p main (position + 1))) (absent_listed operation p main (length ss.items)))
-        by_more apart true more = inl (ss, record { is = go.is; within = ltb-true (position + 1) (length ss.items) more; none = none_more apart })
-        by_more apart false past = by_room apart past (inserts operation.call && nat_le 32 (length ss.items)) refl
-
-        by_test : (t : Bool) → (k == Key') ≡ t → KnowsLine known Call' (cond t (found state operation p main position v)
-            (cond (nat_lt (position + 1) (length (entries_of (node_at state.heap main)))) (line.Key (key.Listed p main (position + 1)))
-            (absent_listed operation p main (length (entries_of (node_at state.heap main))))))
-        by_test true same = found_knows position v (in_list ss go.is go.within (known_single ∙ ap (λ n. Single n v) (eqb-true k Key' same)))
-        by_test false apart =
-            subst (λ c. KnowsLine known Call' (cond (nat_lt (position + 1) c) (line.Key (key.Listed p main (position + 1))) (absent_listed operation p main c))) (sym count)
-            (by_more (differ k Key' apart) (nat_lt (position + 1) (length ss.items)) refl)
-    listed_knows position ss seen go (Indirection g w) e = tt
-    listed_knows position ss seen go (Branch b es) e = tt
-    listed_knows position ss seen go (Tomb s) e = tt
-    listed_knows position ss seen go (Listed ss') e = tt
+      listed_knows : (next : Line) → KeyEdge state operation (key.Listed p main position) next → KnowsLine known Call' next
+      listed_knows next (finds_listed route m q k v n e same found) =
+          found_knows position v next (in_list ss go.is go.within (single_known (Listed ss) position k v seen go.is e ∙ ap (λ n. Single n v) (eqb-true k Key' same))) found
+      listed_knows next (looks_on route m q k v e apart further) =
+          inl (ss, record { is = go.is; within = ltb-true (position + 1) (length ss.items) (ap (nat_lt (position + 1)) (sym count) ∙ further); none = none_more k v e apart })
+      listed_knows next (puts_listed route m q k v e apart last room ins) =
+          let all : take (position + 1) ss.items ≡ ss.items = take_all (position + 1) ss.items (ltb-false (position + 1) (length ss.items) (ap (nat_lt (position + 1)) (sym count) ∙ last)) in (
+            (refl, ins),
+            not_listed ss go.is (leb-false 32 (length ss.items) (ap (nat_le 32) (sym count) ∙ not_full (inserts operation.call) _ ins room))
+                (ap (look_among node Key') (sym all) ∙ none_more k v e apart),
+          )
+      listed_knows next edge = tt
 
     -- at a tomb a get alone looks
-    tomb_knows : (position : ℕ) (s : Ref) → node main ≡ Tomb s → position ≡ 0 → IsGet operation.call → (n : Node) → KnowsLine known Call' (after_listed state operation p main position n)
-    tomb_knows position s is at_first get (Single k v) = by_test (k == Key')
-      where
-        answers : (when_found operation.call v ≢ Sets) × (when_found operation.call v ≢ Removes) × (inserts operation.call ≡ false)
-        answers = get_answers operation.call v get
+    module _ (s : Ref) (is : node main ≡ Tomb s) (get : IsGet operation.call) where
+      tomb_found : (v : ℕ) (next : Line) → FoundEdge state operation p main 0 v next → KnowsLine known Call' next
+      tomb_found v next (sets e) = absurd ((get_answers operation.call v get).0 e)
+      tomb_found v next (asks_sibling takes b es e two) = absurd ((get_answers operation.call v get).1 takes)
+      tomb_found v next (removes takes b es e others) = absurd ((get_answers operation.call v get).1 takes)
+      tomb_found v next (entombs_listed takes ss e two) = absurd ((get_answers operation.call v get).1 takes)
+      tomb_found v next (removes_listed takes ss e others) = absurd ((get_answers operation.call v get).1 takes)
+      tomb_found v next edge = tt
 
-        count : length (entries_of (node_at state.heap main)) ≡ 1
-        count = ap (λ n. length (entries_of n)) (sees.main_is ∙ is)
-
-        by_case : (w : WhenFound) → when_found operation.call v ≡ w → KnowsLine known Call' (found_so state p main position v w)
-        by_case (Answers answer) e = tt
-        by_case Sets e = absurd (answers.0 e)
-        by_case Removes e = absurd (answers.1 e)
-
-        by_absent : (b : Bool) → b ≡ false →
-            KnowsLine known Call' (cond (b && nat_le 32 1) (line.End reply.Crowded) (cond b (line.Build (build.Single p main site.Absent None)) (line.End (absent_reply operation.call))))
-        by_absent true e = absurd (let bad : true ≡ false = e in cc)
-        by_absent false e = tt
-
-        by_test : (t : Bool) → KnowsLine known Call' (cond t (found state operation p main position v)
-            (cond (nat_lt (position + 1) (length (entries_of (node_at state.heap main)))) (line.Key (key.Listed p main (position + 1)))
-            (absent_listed operation p main (length (entries_of (node_at state.heap main))))))
-        by_test true = by_case (when_found operation.call v) refl
-        by_test false =
-            subst (λ c. KnowsLine known Call' (cond (nat_lt (position + 1) c) (line.Key (key.Listed p main (position + 1))) (absent_listed operation p main c))) (sym count)
-            (subst (λ q. KnowsLine known Call' (cond (nat_lt (q + 1) 1) (line.Key (key.Listed p main (q + 1))) (absent_listed operation p main 1))) (sym at_first)
-            (by_absent (inserts operation.call) answers.2))
-    tomb_knows position s is at_first get (Indirection g w) = tt
-    tomb_knows position s is at_first get (Branch b es) = tt
-    tomb_knows position s is at_first get (Tomb s') = tt
-    tomb_knows position s is at_first get (Listed ss) = tt
+      tomb_knows : (next : Line) → KeyEdge state operation (key.Listed p main 0) next → KnowsLine known Call' next
+      tomb_knows next (finds_listed route m q k v n e same found) = tomb_found v next found
+      tomb_knows next (looks_on route m q k v e apart further) =
+          let none : false ≡ true = sym (ap (λ n. nat_lt 1 (length (entries_of n))) (sees.main_is ∙ is)) ∙ further in cc
+      tomb_knows next (puts_listed route m q k v e apart last room ins) = let bad : true ≡ false = sym ins ∙ (get_answers operation.call v get).2 in cc
+      tomb_knows next edge = tt
 
     -- the other one of two entries
     sibling_knows : (position former b : ℕ) (es : ArrayVec Ref) → SeesSingle main (1 - position) → IsFlagged known (depth_of p) Key' main position b es →
-        node (slice_index_or es.items position no_ref) ≡ Single Key' former →
-        length es.items ≡ 2 → when_found operation.call former ≡ Removes → (n : Node) → node_at state.heap (entry_at state.heap main (1 - position)) ≡ n →
-        KnowsLine known Call' (after_sibling p main position former (entry_at state.heap main (1 - position)) n)
-    sibling_knows position former b es seen f single two removes (Single k v) e =
-        (former, refl, removes, of_branch b position k v es f single two (entry_is (Branch b es) (1 - position) f.is) (seen k v e))
-    sibling_knows position former b es seen f single two removes (Indirection g w) e = (former, refl, removes, in_branch b es f single)
-    sibling_knows position former b es seen f single two removes (Branch b' es') e = tt
-    sibling_knows position former b es seen f single two removes (Tomb s) e = tt
-    sibling_knows position former b es seen f single two removes (Listed ss) e = tt
+        node (slice_index_or es.items position no_ref) ≡ Single Key' former → length es.items ≡ 2 → when_found operation.call former ≡ Removes →
+        (next : Line) → KeyEdge state operation (key.Sibling p main position former) next → KnowsLine known Call' next
+    sibling_knows position former b es seen f single two takes next (entombs_sibling route m q old k v e) =
+        (former, refl, takes, of_branch b position k v es f single two (entry_is (Branch b es) (1 - position) f.is) (seen k v e))
+    sibling_knows position former b es seen f single two takes next (keeps_sibling route m q old g w e) = (former, refl, takes, in_branch b es f single)
+    sibling_knows position former b es seen f single two takes next edge = tt
 
   -- ---- the whole of KEY
 
@@ -263,19 +164,19 @@ module _ (state : State) (operation : Operation) (node : Ref → Node) (first : 
   position_in (key.Listed p main position) = Some (main, position)
   position_in (key.Sibling p main position former) = Some (main, 1 - position)
 
+  knows_by : (l : KeyLine) → OnlyGets → ((main : Ref) → main_of_key l ≡ Some main → Sees main) →
+      ((main : Ref) (position : ℕ) → position_in l ≡ Some (main, position) → SeesSingle main position) → KnowsKey known operation.call l → (next : Line) →
+      KeyEdge state operation l next → KnowsLine known operation.call next
+  knows_by (key.Read p read) gets sees seen knows next (reads_on route r n e) = tt
+  knows_by (key.Read p read) gets sees seen knows next edge = tt
+  knows_by (key.Main p main) gets sees seen knows next edge = main_knows main (sees main refl) p gets next edge
+  knows_by (key.Entry p main position) gets sees seen (b, es, f) next edge = entry_knows main (sees main refl) p position b es (seen main position refl) f next edge
+  knows_by (key.Listed p main position) gets sees seen (inl (ss, go)) next edge = listed_knows main (sees main refl) p position ss (seen main position refl) go next edge
+  knows_by (key.Listed p main position) gets sees seen (inr (s, is, at_first, get)) next edge =
+      tomb_knows main (sees main refl) p s is get next (subst (λ q. KeyEdge state operation (key.Listed p main q) next) at_first edge)
+  knows_by (key.Sibling p main position former) gets sees seen (b, es, f, single, two, takes) next edge =
+      sibling_knows main (sees main refl) p position former b es (seen main (1 - position) refl) f single two takes next edge
+
   pub key_knows : (l : KeyLine) → OnlyGets → ((main : Ref) → main_of_key l ≡ Some main → Sees main) →
       ((main : Ref) (position : ℕ) → position_in l ≡ Some (main, position) → SeesSingle main position) → KnowsKey known operation.call l → KnowsLine known operation.call (key_after state operation l)
-  key_knows (key.Read p read) gets sees single knows = by_read (read_step state operation read)
-    where
-      by_read : (after : After Read Ref) → KnowsLine known operation.call (key_after_read p after)
-      by_read (Goes r) = tt
-      by_read (Gives main) = tt
-  key_knows (key.Main p main) gets sees single knows = main_knows main (sees main refl) p gets (node_at state.heap main) (sym (sees main refl).main_is)
-  key_knows (key.Entry p main position) gets sees single (b, es, f) =
-      entry_knows main (sees main refl) p position b es (single main position refl) f (node_at state.heap (entry_at state.heap main position)) refl
-  key_knows (key.Listed p main position) gets sees single (inl (ss, go)) =
-      listed_knows main (sees main refl) p position ss (single main position refl) go (node_at state.heap (entry_at state.heap main position)) refl
-  key_knows (key.Listed p main position) gets sees single (inr (s, is, at_first, get)) =
-      tomb_knows main (sees main refl) p position s is at_first get (node_at state.heap (entry_at state.heap main position))
-  key_knows (key.Sibling p main position former) gets sees seen (b, es, f, single, two, removes) =
-      sibling_knows main (sees main refl) p position former b es (seen main (1 - position) refl) f single two removes (node_at state.heap (entry_at state.heap main (1 - position))) refl
+  key_knows l gets sees seen knows = knows_by l gets sees seen knows (key_after state operation l) (key_edge state operation l)

@@ -1,17 +1,19 @@
 use Rattle.std.proofs.Common.{arith, refl}
+use Rattle.machine_core.specs.Asking.{asked, asked_all}
+use Rattle.step_machine.proofs.Asked.{pushed}
 use Rattle.step_machine.proofs.Feeding.{can_tell}
 use Rattle.step_machine.proofs.Steps.{holds_after, holds_roomy}
 use Rattle.step_machine.proofs.machine.Machine.take_step.Goals as goal
 
 pub take-requires-clause-fits : goal.take-requires-clause-fits
 take-requires-clause-fits c =
-    can_tell c.tellings_fit.ensures c.self.inside.limits c.self.inside.steps.items c.self.inside.body.state c.self.inside.kept c.make_room.new.kept c.self.invariant
+    can_tell c.tellings_fit.ensures c.self.inside.limits (asked_all c.self.inside.steps.items) c.self.inside.body.state c.self.inside.kept c.make_room.new.kept c.self.invariant
     c.make_room.ensures.past c.make_room.ensures.slots (grind (arith, c.generations.ensures, c.make_room.ensures.generations, c.is_err.ensures, c.if-is_err.false))
 
 pub invariant_of-self-2 : goal.invariant_of-self-2
 invariant_of-self-2 c =
-    holds_after c.self.inside.limits c.self.inside.body.state c.take.new.body.state c.make_room.new.kept c.take.new.kept c.self.inside.steps.items c.push_reserved.new.self.items
-    c.args.step c.in_ok-outcome.outcome
-    (holds_roomy c.self.inside.limits c.self.inside.steps.items c.self.inside.steps.items c.self.inside.body.state c.self.inside.kept c.make_room.new.kept c.self.invariant
+    holds_after c.self.inside.limits c.self.inside.body.state c.take.new.body.state c.make_room.new.kept c.take.new.kept (asked_all c.self.inside.steps.items) (asked_all c.push_reserved.new.self.items)
+    (asked c.args.step) c.in_ok-outcome.outcome
+    (holds_roomy c.self.inside.limits (asked_all c.self.inside.steps.items) (asked_all c.self.inside.steps.items) c.self.inside.body.state c.self.inside.kept c.make_room.new.kept c.self.invariant
     c.make_room.ensures.past c.make_room.ensures.slots refl)
-    c.in_ok-outcome.ensures (grind (arith, c.push_reserved.ensures, c.make_room.ensures.steps)) c.fits.ensures
+    c.in_ok-outcome.ensures (pushed c.self.inside.steps.items c.push_reserved.new.self.items c.args.step (grind (arith, c.push_reserved.ensures, c.make_room.ensures.steps))) c.fits.ensures
