@@ -1,5 +1,5 @@
 -- An operation's giving up is denied as the definition says. No program asks for it; what is said of each step is said of this one too.
-use Rattle.std.proofs.Common.{option_and_then, true≢false, ◌≡◌, ◌×◌, ◌⊎◌, ℕ, inl, inr, true, false, not, List, [], ◌∷◌, Option, Some, None, Ok, Err, refl, sym, ap, ◌∙◌, Bool, is_some}
+use Rattle.std.proofs.Common.{option_and_then, true≢false, ◌≡◌, ◌⊎◌, ℕ, inl, inr, true, false, not, List, [], ◌∷◌, Option, Some, None, Ok, Err, refl, sym, ap, ◌∙◌, Bool, is_some}
 use Rattle.std.proofs.lemmas.Bool.{false≢true}
 use Rattle.std.proofs.lemmas.Option.{none-some, same_Some}
 use Rattle.ctrie_base.specs.declared.refusals.Refusal.{Refusal}
