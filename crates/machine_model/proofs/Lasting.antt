@@ -23,7 +23,8 @@ use Rattle.machine_model.specs.Swapping.{stands_in, is_plain}
 use Rattle.machine_model.specs.Operations.{action_of, kind_of}
 use Rattle.machine_model.specs.Acting.{acted, completed, carried_out, opened, marked, if_changed, new_root_taken, gone, operation_after}
 use Rattle.machine_model.specs.Calls.{handle_of, opens_handle, is_close, needs_writable, needs_read_only}
-use Rattle.machine_model.specs.Machine.{Answer, next, next_state, state_after, run, run_from, is_spent, is_taken, taken_below, least_from, settled_after, begin_denial, begin_unless, begun_operation, with_begin}
+use Rattle.machine_model.specs.Machine.{Answer, next, next_state, state_after, run, run_from, is_spent}
+use Rattle.machine_model.specs.Machine.{is_taken, taken_below, least_from, settled_after, begin_denial, begin_unless, begun_operation, with_begin}
 use Rattle.machine_model.specs.Machine.{access_of, first_reason, is_actor, is_running, is_access, runs_on, go_denial, go_unless, go_on, step_by, sweep, swept, give_up_unless, give_up_on, give_up_by}
 use Rattle.machine_model.proofs.Along.{run_push, kept_by_moves, limits_along}
 use Rattle.machine_model.proofs.Frames.{limits_kept, steps_counted}
@@ -266,6 +267,6 @@ life_changes_nothing limits m steps h g =
     let left : first.steps + length steps ≤ first.limits.steps = omega (arith, h, first_none limits, first_most limits) in (
       ap (λ s. run_from s steps) (first_lasting limits m) ∙ run_lasting m steps first few left,
       ap (λ s. record_from s (first_record (living limits m)) steps) (first_lasting limits m)
-      ∙ ap (λ r. record_from (lasting m first) r steps) (same_record limits m)
-      ∙ record_lasting m steps first (first_record limits) few left,
+          ∙ ap (λ r. record_from (lasting m first) r steps) (same_record limits m)
+          ∙ record_lasting m steps first (first_record limits) few left,
     )
