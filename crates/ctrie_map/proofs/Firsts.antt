@@ -7,10 +7,10 @@ use Rattle.std.proofs.lemmas.Bool.{cases_eq, cases_lt, true≢false}
 use Rattle.std.proofs.lemmas.List.{get_or-replicate, get_or_past, length-replicate}
 use Rattle.std.proofs.lemmas.List.Folds.{sum_by-replicate}
 use Rattle.std.proofs.lemmas.Option.{same_Some}
-use Rattle.ctrie_map.specs.Vocabulary.{Writable, HandleState, first_world, HashKind, Refusal, Bounds, AreBounds, longest_life, run_from, State, first_heap, first_state, taken, handle_limit}
+use Rattle.ctrie_map.specs.Vocabulary.{Writable, HandleState, first_world, HashKind, Refusal, Bounds, longest_life, run_from, State, first_heap, first_state, taken, handle_limit}
 use Rattle.std.proofs.lemmas.List.FromFn.{length-range_with_len}
 use Rattle.ctrie_map.specs.Beneath.map_worlds.proofs.First.{first_is_shown}
-use Rattle.ctrie_map.specs.Beneath.proof_core.specs.Bounds.{RefusesBounds}
+use Rattle.ctrie_map.specs.Beneath.proof_core.specs.Bounds.{AreInRange, RefusesBounds}
 use Rattle.ctrie_map.specs.declared.errors.MapError.{MapError}
 use Rattle.ctrie_map.specs.Beneath.proof_straight.specs.Resting.{IsOfRun}
 use Rattle.proof_sizes.specs.Nodes.{HandlesUseSlots}
@@ -101,9 +101,9 @@ module _ (slots : ℕ) (hash : HashKind) where
   unfolding first_state
   first_calm uses run = record { one = refl; life = refl; rest = refl; clean = refl; room = first_room uses run }
 
-  is_first : AreBounds sizes → world_of (first_state sizes) ≡ first_world
+  is_first : AreInRange sizes → world_of (first_state sizes) ≡ first_world
   unfolding run_from first_state
-  is_first ok = first_is_shown sizes ok
+  is_first ok = first_is_shown sizes ok.0
 
   -- it has one name
   named : AreNamesOf first_world first_names
@@ -118,7 +118,7 @@ module _ (slots : ℕ) (hash : HashKind) where
   abbrev map_of : MapState
   map_of = map_with (first_state sizes) first_names
 
-  first_new : AreBounds sizes → AreSlots slots → IsNew slots hash map_of
+  first_new : AreInRange sizes → AreSlots slots → IsNew slots hash map_of
   unfolding run_from first_state
   first_new ok asked = (
     refl,
@@ -128,22 +128,22 @@ module _ (slots : ℕ) (hash : HashKind) where
     let free = free_first (slots + reserve) (omega arith) in let low = asked.0 in omega (arith, free, low),
   )
 
-  first_whole : AreBounds sizes → HandlesUseSlots → IsOfRun (first_state sizes) → IsWhole map_of
+  first_whole : AreInRange sizes → HandlesUseSlots → IsOfRun (first_state sizes) → IsWhole map_of
   first_whole ok uses run = record { calm = first_calm uses run; named = subst (λ w. AreNamesOf w first_names) (sym (is_first ok)) named }
 
   same_map : (state : State) → state ≡ first_state sizes → (names : NameTable) → names ≡ first_names → map_with state names ≡ map_of
   same_map state is names same = ap (λ s. map_with s names) is ∙ ap (map_with (first_state sizes)) same
 
-  pub whole : (state : State) → state ≡ first_state sizes → AreBounds sizes → HandlesUseSlots → IsOfRun state → (names : NameTable) → names ≡ first_names →
+  pub whole : (state : State) → state ≡ first_state sizes → AreInRange sizes → HandlesUseSlots → IsOfRun state → (names : NameTable) → names ≡ first_names →
       IsWhole (map_with state names)
   whole state is ok uses run names same = subst IsWhole (sym (same_map state is names same)) (first_whole ok uses (subst IsOfRun is run))
 
-  pub is_new : (state : State) → state ≡ first_state sizes → AreBounds sizes → AreSlots slots → (names : NameTable) → names ≡ first_names → IsNew slots hash (map_with state names)
+  pub is_new : (state : State) → state ≡ first_state sizes → AreInRange sizes → AreSlots slots → (names : NameTable) → names ≡ first_names → IsNew slots hash (map_with state names)
   is_new state is ok asked names same = subst (IsNew slots hash) (sym (same_map state is names same)) (first_new ok asked)
 
   pub refuses : AreSlots slots → (why : Refusal) (told : MapError) → told ≡ of_refusal why → RefusesBounds sizes why → RefusesSizes slots told
   refuses asked why told e (inl (bad, is)) =
-      let low = asked.0 in let high = asked.1 in absurd (bad (omega (arith, low), omega (arith, high), omega arith, omega arith, omega arith))
+      let low = asked.0 in let high = asked.1 in absurd (bad ((omega (arith, low), omega arith, omega arith), omega arith, omega (arith, high)))
   refuses asked why told e (inr (ok, is)) = inr (asked, e ∙ ap of_refusal is)
 
 -- ---- how many slots may be asked for

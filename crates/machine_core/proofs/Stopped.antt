@@ -1,5 +1,5 @@
 -- An operation's giving up is denied as the definition says. No program asks for it; what is said of each step is said of this one too.
-use Rattle.std.proofs.Common.{option_and_then, true≢false, ◌≡◌, ◌×◌, ◌⊎◌, ℕ, inl, inr, true, false, not, List, [], ◌∷◌, Option, Some, None, Ok, Err, refl, sym, ap, ◌∙◌, Bool, is_some}
+use Rattle.std.proofs.Common.{option_and_then, true≢false, ◌≡◌, ◌⊎◌, ℕ, inl, inr, true, false, not, List, [], ◌∷◌, Option, Some, None, Ok, Err, refl, sym, ap, ◌∙◌, Bool, is_some}
 use Rattle.std.proofs.lemmas.Bool.{false≢true}
 use Rattle.std.proofs.lemmas.Option.{none-some, same_Some}
 use Rattle.machine_core.specs.Vocabulary.{Refusal, Reply, Operation, State, operation_of, given_up, next, go_denial, give_up_denial, give_up_unless, give_up_on, give_up_by, answer_given_up}
@@ -51,9 +51,9 @@ giving_up_denied state actor why e =
     elim (last_of_four (not (is_actor state actor)) (not (is_running state actor)) (is_spent state) (not (is_some (answer_given_up state actor))) why e) [
       | inl going ↦ ap (λ d. give_up_unless state actor d) going
       | inr (none, without, same) ↦ ap (λ d. give_up_unless state actor d) none
-        ∙ busy_by state actor (operation_of state actor) refl (runs_then (not (is_actor state actor)) (is_running state actor) (is_spent state) none)
+          ∙ busy_by state actor (operation_of state actor) refl (runs_then (not (is_actor state actor)) (is_running state actor) (is_spent state) none)
           (without_answer (answer_given_up state actor) without)
-        ∙ ap Err same
+          ∙ ap Err same
     ]
 
 -- ---- taken
@@ -62,7 +62,8 @@ with_answer : (answer : Option Reply) → not (is_some answer) ≡ false → (re
 with_answer None e = absurd (true≢false e)
 with_answer (Some answer) e = (answer, refl)
 
-taken_by : (state : State) (actor : ℕ) (reply : Reply) (o : Option Operation) → operation_of state actor ≡ o → answer_given_up state actor ≡ Some reply → is_taken_step (give_up_on state actor o) ≡ true
+taken_by : (state : State) (actor : ℕ) (reply : Reply) (o : Option Operation) → operation_of state actor ≡ o → answer_given_up state actor ≡ Some reply →
+    is_taken_step (give_up_on state actor o) ≡ true
 taken_by state actor reply None is e = absurd (none-some reply (sym (ap (λ o. option_and_then (λ (x : Operation). given_up x.call x.line) o) is) ∙ e))
 taken_by state actor reply (Some operation) is e =
     let some : given_up operation.call operation.line ≡ Some reply = sym (ap (λ o. option_and_then (λ (x : Operation). given_up x.call x.line) o) is) ∙ e in

@@ -19,8 +19,8 @@ ghost use Rattle.proof_core.specs.Going.{goes_on};
 ghost use Rattle.running.specs.Places.{are_pairs};
 ghost use Rattle.proof_core.specs.Work.{WorksLittle};
 
-use crate::asked::Step;
 use crate::actors::{copied_reply, is_busy, next_kind};
+use crate::asked::Step;
 use crate::contents::content_of;
 use crate::denials::{begin_denial, denial_of, go_denial, is_access, spent_denial, sweep_denial};
 use crate::finding::value_along;

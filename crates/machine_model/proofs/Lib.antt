@@ -30,6 +30,7 @@ pub mod Slots
 pub mod Noted
 pub mod Times
 pub mod Recorded
+pub mod Lasting
 pub mod Notes
 pub mod Alike
 pub mod Grown

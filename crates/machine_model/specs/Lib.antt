@@ -27,6 +27,7 @@ pub mod Keys
 pub mod Refusing
 pub mod Runs
 pub mod Laws
+pub mod Lasting
 pub mod Grown
 pub mod Moves
 pub mod Edges

@@ -1,6 +1,7 @@
 //! Laws of the definition, for every list of steps.
 
 ghost use Rattle.machine_model.specs.Laws.{SlotsAddUp, RefusedForWantAlone, GivingUpIsFindingNone, ReadersMakeNothing, TakenStepsSuffice};
+ghost use Rattle.machine_model.specs.Lasting.{LifeChangesNothing};
 ghost use Rattle.machine_model.specs.Taking.{OneSlotAStep, ReadersNeverRefused};
 
 /// A law: the slots in use and the free ones are all slots.
@@ -27,6 +28,11 @@ pub fn readers_make_nothing()
 /// A law: denied steps can be left out of a run.
 pub fn taken_steps_suffice()
     ensures { TakenStepsSuffice }
+{}
+
+/// A law: how many steps a machine may take changes nothing of those that it takes.
+pub fn life_changes_nothing()
+    ensures { LifeChangesNothing }
 {}
 
 /// A law: a step takes one free slot at most, and takes one only where it makes a node.

@@ -24,7 +24,7 @@ pub struct Bounds {
     pub actors: u8,
     /// The hash of keys.
     pub hash: HashKind,
-    /// How many steps it takes, at most 2^45 - 2^21.
+    /// How many steps it takes; a machine of a program takes 2^45 - 2^21 at most.
     pub steps: u64,
 }
 

@@ -73,10 +73,10 @@ module _ (limits : Bounds) (steps : List Step) (ok : AreBounds limits) (keys : K
   finds_none m after e =
       elim (refused_alone limits (began limits steps actor call ++ replicate (suc m) (Go actor)) actor id after e) [
         | inl (before, between, is, without, finds) ↦
-          let front = last_one (Go actor) (began limits steps actor call ++ replicate m (Go actor)) before between (longer m ∙ is) without in
-          subst (λ l. FindsNoSlot (run limits l) actor id) (sym front) finds
+            let front = last_one (Go actor) (began limits steps actor call ++ replicate m (Go actor)) before between (longer m ∙ is) without in
+            subst (λ l. FindsNoSlot (run limits l) actor id) (sym front) finds
         | inr (before, between, is, without, runs) ↦
-          absurd (other_last (Go actor) (GiveUp actor) (began limits steps actor call ++ replicate m (Go actor)) before between (longer m ∙ is) without (λ same. cc same))
+            absurd (other_last (Go actor) (GiveUp actor) (began limits steps actor call ++ replicate m (Go actor)) before between (longer m ∙ is) without (λ same. cc same))
       ]
     where
       longer : (m : ℕ) → (began limits steps actor call ++ replicate m (Go actor)) ++ Go actor ∷ [] ≡ began limits steps actor call ++ replicate (suc m) (Go actor)

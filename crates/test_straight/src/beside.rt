@@ -4,8 +4,8 @@ use crate::draws::Draws;
 use crate::kinds::Kinds;
 use ctrie_base::{HashKind, Refusal};
 use history::{Call, Reply};
-use machine_core::{Core, Stepped};
-use machine_model::{Bounds, Step};
+use machine_core::{Core, Step, Stepped};
+use machine_model::Bounds;
 use std::test::Fail;
 
 /// The actor who calls.

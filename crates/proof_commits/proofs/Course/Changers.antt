@@ -22,8 +22,8 @@ use Rattle.proof_commits.specs.Words.{words_of}
 use Rattle.proof_commits.proofs.Known.Given.{Known}
 use Rattle.proof_commits.proofs.Known.Owners.{HasFresh}
 use Rattle.proof_commits.proofs.Known.Sounds.{sound_at}
-use Rattle.proof_commits.proofs.Known.StepsAt.{NotedAt, NotesBegin, NotesGo, NotesEnd, NotesSweep, noted_at, after_mark, go_others, go_own, end_others, end_own, begin_others, begin_own}
-use Rattle.proof_commits.proofs.Known.StepsAt.{actor_counts, NotesGivingUp, give_up_own, give_up_others}
+use Rattle.proof_commits.proofs.Known.StepsAt.{NotedAt, NotesBegin, NotesGo, NotesEnd, NotesSweep, noted_at, after_mark, go_others}
+use Rattle.proof_commits.proofs.Known.StepsAt.{go_own, end_others, end_own, begin_others, begin_own, actor_counts, NotesGivingUp, give_up_own, give_up_others}
 use Rattle.proof_commits.proofs.Lines.Resting.{swapped_rest}
 use Rattle.proof_commits.proofs.Lines.Swap.{line_decides, line_publishes}
 use Rattle.proof_commits.proofs.Lines.Turns.{line_turn}

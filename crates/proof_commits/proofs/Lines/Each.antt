@@ -11,8 +11,8 @@ use Rattle.proof_commits.specs.Protocol.{Reads}
 use Rattle.proof_commits.proofs.Course.Finals.{from_time}
 use Rattle.proof_commits.proofs.Lines.Stages.{Remembers, remembers_still}
 use Rattle.proof_commits.specs.Stages.{stage_of}
-use Rattle.proof_commits.proofs.Known.StepsAt.{NotedAt, NotesBegin, NotesGo, NotesEnd, NotesSweep, noted_at, after_mark, go_others, go_own, end_others, end_own, begin_others, begin_own}
-use Rattle.proof_commits.proofs.Known.StepsAt.{actor_counts, NotesGivingUp, give_up_own, give_up_others}
+use Rattle.proof_commits.proofs.Known.StepsAt.{NotedAt, NotesBegin, NotesGo, NotesEnd, NotesSweep, noted_at, after_mark, go_others}
+use Rattle.proof_commits.proofs.Known.StepsAt.{go_own, end_others, end_own, begin_others, begin_own, actor_counts, NotesGivingUp, give_up_own, give_up_others}
 use Rattle.proof_commits.proofs.Lines.Keeps.{line_keeps}
 use Rattle.proof_commits.proofs.Words.First.{idle_at_first}
 

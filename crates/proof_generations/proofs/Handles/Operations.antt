@@ -129,7 +129,8 @@ pub record Ran (state : State) (s : Step) (k : ℕ) (found : Operation) : Type 0
 
 module _ (state : State) (I : HasOffers state) (H : HasHandles state) where
   ran_so : (s : Step) (k : ℕ) (was next found : Operation) → Runs state k was → next.id ≡ was.id → next.call ≡ was.call → next.access ≡ was.access → next.opens ≡ was.opens →
-      ((next.line ≡ was.line) ⊎ (((s ≡ step.Go (suc k)) × (next.line ≡ line_after state was was.line)) ⊎ ((answer : Reply) × (next.line ≡ line.End answer)))) → (next.is_marked ≡ false → was.is_marked ≡ false) →
+      ((next.line ≡ was.line) ⊎ (((s ≡ step.Go (suc k)) × (next.line ≡ line_after state was was.line)) ⊎ ((answer : Reply) × (next.line ≡ line.End answer)))) → (next.is_marked ≡ false →
+          was.is_marked ≡ false) →
       found ≡ mark_one (marks_in state s) next → Ran state s k found
   ran_so s k was next found at_k id call access opening from unmarked it =
       let same = it ∙ mark_only (marks_in state s) next in

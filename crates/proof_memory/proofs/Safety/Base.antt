@@ -153,7 +153,8 @@ module _ (state : State) (all : (k : ℕ) (operation : Operation) → get_or sta
   other_handle s o after (Sweeps spent) k other operation found h = kept_handle after operation (λ handle same open_now. open_now) h
 
   pub handles_after : (s : Step) (o : Outcome) (after : State) → Moves state s o after → (k : ℕ) (found : Operation) → get_or after.actors k None ≡ Some found → HasHandle after found
-  handles_after = each_after state (λ k operation. HasHandle state operation) (λ after k operation. HasHandle after operation) all begun_handle gone_handle (λ actor operation answer k own is a h. refl) other_handle
+  handles_after = each_after state (λ k operation. HasHandle state operation)
+      (λ after k operation. HasHandle after operation) all begun_handle gone_handle (λ actor operation answer k own is a h. refl) other_handle
 
 -- ---- a reader stays one
 

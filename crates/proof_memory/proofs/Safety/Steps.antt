@@ -82,8 +82,8 @@ pub due_ripe : (state : State) (s : Step) (r : Ref) → due_in state s ≡ Some 
 due_ripe state step.Sweep r e = e
 due_ripe state (step.Begin actor call) r e = absurd (none-some r e)
 due_ripe state (step.Go actor) r e = absurd (none-some r e)
-
 due_ripe state (step.GiveUp actor) r e = absurd (none-some r e)
+
 module _ (state : State) (I : IsSafe state) where
   abbrev Effects : ℕ → Option Ref → State → Type 0
   Effects epoch due after = Effect (AllHold (Safe state epoch) state.heap) (standing state.heap) (standing after.heap) state.heap.births after.heap.births due

@@ -147,9 +147,11 @@ module _ (limits : Bounds) (states : ℕ → State) (last : ℕ) (r : IsRun limi
 
     past_going : s ≡ step.Go (suc it.k) → (marks : Option ℕ) → IsPast states (suc t) (mark_one marks (operation_after (states t) it.owner)) line_so.former
     past_going go marks =
-        past_marked states (suc t) marks (operation_after (states t) it.owner) line_so.former
-        (subst (λ l. IsPastAt states (suc t) it.owner.call line_so.former (line_after (states t) it.owner l)) (sym line_so.at)
-        (past_swap states t it.owner line_so.former line_so.path line_so.former refl line_so.its published none_now (λ is. absurd (deciding go is))), tells)
+        past_marked states (suc t) marks (operation_after (states t) it.owner) line_so.former (
+          subst (λ l. IsPastAt states (suc t) it.owner.call line_so.former (line_after (states t) it.owner l)) (sym line_so.at)
+              (past_swap states t it.owner line_so.former line_so.path line_so.former refl line_so.its published none_now (λ is. absurd (deciding go is))),
+          tells,
+        )
 
     pub past_owner : (k : ℕ) (found : Operation) → found.id ≡ it.owner.id → From (states t) s k found → IsPast states (suc t) found line_so.former
     past_owner k found same (began new) =

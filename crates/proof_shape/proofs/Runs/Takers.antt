@@ -9,8 +9,8 @@ use Rattle.proof_shape.specs.Beneath.machine_model.specs.declared.steps.Step.The
 use Rattle.proof_shape.specs.Beneath.machine_model.specs.Moves as Machine
 use Rattle.proof_shape.specs.Beneath.machine_model.proofs.Actors.{marks_by, begin_counts}
 use Rattle.proof_shape.specs.Beneath.proof_commits.proofs.Course.Finals.{from_time}
-use Rattle.proof_shape.specs.Beneath.proof_commits.proofs.Known.StepsAt.{NotedAt, NotesBegin, NotesGo, NotesEnd, NotesSweep, noted_at, after_mark, go_others, go_own, end_others, end_own}
-use Rattle.proof_shape.specs.Beneath.proof_commits.proofs.Known.StepsAt.{NotesGivingUp, give_up_own, give_up_others}
+use Rattle.proof_shape.specs.Beneath.proof_commits.proofs.Known.StepsAt.{NotedAt, NotesBegin, NotesGo, NotesEnd, NotesSweep, noted_at, after_mark}
+use Rattle.proof_shape.specs.Beneath.proof_commits.proofs.Known.StepsAt.{go_others, go_own, end_others, end_own, NotesGivingUp, give_up_own, give_up_others}
 use Rattle.proof_shape.specs.Beneath.proof_commits.proofs.Known.StepsAt.{begin_others, begin_own, actor_counts}
 use Rattle.proof_shape.specs.Beneath.proof_commits.proofs.Words.First.{idle_at_first}
 use Rattle.proof_shape.specs.Lines.Knowing.{OfEachAt}

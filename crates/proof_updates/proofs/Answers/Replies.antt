@@ -157,7 +157,8 @@ module _ (limits : Bounds) (states : ℕ → State) (last : ℕ) (depth path : R
     since : Since states run.records t k operation
     since = run_since limits states last run t k operation within runs
 
-    replied : is_close operation.call ≡ false → answer ≢ reply.NoSlots → RightAt states trie t operation.access operation.generation (moment_of limits states last run t k).moment operation.call answer →
+    replied : is_close operation.call ≡ false → answer ≢ reply.NoSlots →
+        RightAt states trie t operation.access operation.generation (moment_of limits states last run t k).moment operation.call answer →
         Replied limits states run.records last (content trie) operation (moment_of limits states last run t k).moment answer
     replied no_close other h = by_access operation.access refl h
       where

@@ -10,7 +10,7 @@ first_table-requires-clause-limbo c =
     let heap : Heap = first_heap c.args.bounds.slots in
     let held : List Ref = ref_to 2 1 ∷ [] in
     ap (λ h. limbo_after h m.outside m.epoch m.limbo) is.heap ∙ ap (λ o. limbo_after heap o m.epoch m.limbo) is.outside
-    ∙ ap (λ e. limbo_after heap held e m.limbo) is.epoch ∙ ap (limbo_after heap held 0) is.limbo ∙ first_limbo c.args.bounds.slots c.requires.0
+    ∙ ap (λ e. limbo_after heap held e m.limbo) is.epoch ∙ ap (limbo_after heap held 0) is.limbo ∙ first_limbo c.args.bounds.slots c.requires.0.0
 
 -- the parts are those of a machine that has taken no step
 first : (c : goal.In_ok-handles) → AreFirst c.args.bounds (record {

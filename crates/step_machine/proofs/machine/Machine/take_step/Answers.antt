@@ -12,7 +12,8 @@ take-requires-clause-fits c =
 
 pub invariant_of-self-2 : goal.invariant_of-self-2
 invariant_of-self-2 c =
-    holds_after c.self.inside.limits c.self.inside.body.state c.take.new.body.state c.make_room.new.kept c.take.new.kept (asked_all c.self.inside.steps.items) (asked_all c.push_reserved.new.self.items)
+    holds_after c.self.inside.limits c.self.inside.body.state c.take.new.body.state c.make_room.new.kept c.take.new.kept (asked_all c.self.inside.steps.items)
+        (asked_all c.push_reserved.new.self.items)
     (asked c.args.step) c.in_ok-outcome.outcome
     (holds_roomy c.self.inside.limits (asked_all c.self.inside.steps.items) (asked_all c.self.inside.steps.items) c.self.inside.body.state c.self.inside.kept c.make_room.new.kept c.self.invariant
     c.make_room.ensures.past c.make_room.ensures.slots refl)
