@@ -5,7 +5,7 @@ use Rattle.std.proofs.lemmas.Bool.{cases_lt, ne_eqb}
 use Rattle.std.proofs.lemmas.List.{get_or_past, get_or-set_same, length-set}
 use Rattle.slot_arena.specs.declared.refs.Ref.{Ref}
 use Rattle.slot_arena.specs.declared.nodes.Slot.{Slot}
-use Rattle.slot_arena.specs.Refs.{slot_of, birth_of, most_slots}
+use Rattle.slot_arena.specs.Refs.{slot_of, birth_of}
 use Rattle.slot_arena.specs.Heaps.{Heap, in_use, freed}
 use Rattle.slot_arena.specs.Counts.{count_of}
 use Rattle.slot_arena.specs.Times.{times}
@@ -56,7 +56,7 @@ emptied slots k = elim (cases_lt k (length slots)) [
 pub freed_dead : (heap : Heap) (r : Ref) → live (freed heap r).slots r ≡ false
 freed_dead heap r = ap (λ (h : Heap). live h.slots r) (freed_seen heap r) ∙ ap (has_birth (birth_of r)) (emptied heap.slots (slot_of r))
 
-module _ (heap : Heap) (outside : List Ref) (epoch : ℕ) (entry : Zeroed) (limbo : List Zeroed) (small : length heap.slots ≤ most_slots) where
+module _ (heap : Heap) (outside : List Ref) (epoch : ℕ) (entry : Zeroed) (limbo : List Zeroed) where
   abbrev now : Heap
   now = freed heap entry.at
 
@@ -74,6 +74,6 @@ module _ (heap : Heap) (outside : List Ref) (epoch : ℕ) (entry : Zeroed) (limb
       (in_use now) (all_members (in_use now)))
 
 pub freed_leaves : FreedLeaves
-freed_leaves heap outside epoch entry limbo small =
-    ap (λ (l : List Zeroed). l ++ map (λ r. record { at = r; epoch = epoch }) (newly_zero (freed heap entry.at) outside (entry ∷ limbo))) (leaves heap outside epoch entry limbo small)
-    ∙ ap (λ (l : List Ref). staying (freed heap entry.at) outside limbo ++ map (λ r. record { at = r; epoch = epoch }) l) (same_new heap outside epoch entry limbo small)
+freed_leaves heap outside epoch entry limbo =
+    ap (λ (l : List Zeroed). l ++ map (λ r. record { at = r; epoch = epoch }) (newly_zero (freed heap entry.at) outside (entry ∷ limbo))) (leaves heap outside epoch entry limbo)
+    ∙ ap (λ (l : List Ref). staying (freed heap entry.at) outside limbo ++ map (λ r. record { at = r; epoch = epoch }) l) (same_new heap outside epoch entry limbo)

@@ -254,4 +254,4 @@ longest_life = 2 ^ 45 - 2 ^ 21
 
 -- the bounds are in range
 abbrev pub AreBounds : Bounds → Type 0
-AreBounds limits = (2 ≤ limits.slots) × (limits.slots ≤ most_slots) × (1 ≤ limits.actors) × (limits.actors ≤ 64) × (limits.steps ≤ longest_life)
+AreBounds limits = (2 ≤ limits.slots) × (1 ≤ limits.actors) × (limits.actors ≤ 64)

@@ -7,6 +7,7 @@ pub mod Staying
 pub mod Chains
 pub mod Parts
 pub mod Pools
+mod Pairing
 pub mod Live
 pub mod Exact
 pub mod Changed
