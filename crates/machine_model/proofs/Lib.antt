@@ -35,3 +35,4 @@ pub mod Numbered
 pub mod Basics
 pub mod Taking
 pub mod Spared
+pub mod Edges

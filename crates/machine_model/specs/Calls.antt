@@ -1,7 +1,7 @@
 -- What calls name, and what the calls on one key answer.
 use Rattle.std.specs.Prelude.{ℕ, ◌==◌, Bool, true, false, Option, Some, None}
 use Rattle.history.specs.declared.calls.Call.{Call}
-use Rattle.history.specs.declared.calls.Call.TheVariants.{Get, Put, PutIfAbsent, Replace, ReplaceIf, Remove, RemoveIf, Snapshot, Freeze, Close, Entries, Count}
+use Rattle.history.specs.declared.calls.Call.TheVariants.{Get, Put, PutIfAbsent, Replace, ReplaceIf, Remove, RemoveIf, Clear, Snapshot, Freeze, Close, Entries, Count}
 use Rattle.history.specs.declared.replies.Reply.{Reply}
 use Rattle.history.specs.declared.replies.Reply.TheVariants as reply
 pub use Rattle.history.specs.Handles.{handle_of}
@@ -46,6 +46,21 @@ abbrev pub opens_handle : Call → Bool
 opens_handle (Snapshot h) = true
 opens_handle (Freeze h) = true
 opens_handle call = false
+
+-- the call copies the map, or makes it empty: by an offer in its root word
+abbrev pub is_copy : Call → Bool
+is_copy (Clear h) = true
+is_copy (Snapshot h) = true
+is_copy (Freeze h) = true
+is_copy call = false
+
+abbrev pub is_clear : Call → Bool
+is_clear (Clear h) = true
+is_clear call = false
+
+abbrev pub is_snapshot : Call → Bool
+is_snapshot (Snapshot h) = true
+is_snapshot call = false
 
 abbrev pub is_close : Call → Bool
 is_close (Close h) = true

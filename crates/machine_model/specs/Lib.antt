@@ -28,5 +28,6 @@ pub mod Runs
 pub mod Laws
 pub mod Grown
 pub mod Moves
+pub mod Edges
 pub mod Times
 pub mod Taking

@@ -1,14 +1,8 @@
 -- What a call does to the map of one handle.
 use Rattle.std.specs.Prelude.{◌≡◌, ◌≢◌, ℕ, Option, Some, None}
 use Rattle.std.specs.FinMap as map
-use Rattle.proof_contents.specs.Beneath.history.specs.declared.calls.Access.{Access}
-use Rattle.proof_contents.specs.Beneath.history.specs.declared.calls.Access.TheVariants.{Writable, ReadOnly}
-use Rattle.proof_contents.specs.Beneath.history.specs.declared.calls.Call.{Call}
-use Rattle.proof_contents.specs.Beneath.history.specs.declared.calls.Call.TheVariants.{Get, Put, PutIfAbsent, Replace, ReplaceIf, Remove, RemoveIf, Entries, Count}
-use Rattle.proof_contents.specs.Beneath.history.specs.declared.replies.Reply.{Reply}
+use Rattle.proof_contents.specs.Vocabulary.{Access, Writable, ReadOnly, Call, Get, Put, PutIfAbsent, Replace, ReplaceIf, Remove, RemoveIf, Entries, Count, Reply, KeyMap, change_in}
 use Rattle.proof_contents.specs.Beneath.history.specs.declared.replies.Reply.TheVariants as reply
-use Rattle.proof_contents.specs.Beneath.history.specs.Worlds.{KeyMap}
-use Rattle.proof_contents.specs.Beneath.history.specs.Changes.{change_in}
 
 -- what a call does to the map of a handle of this kind: its reply, and the map after it
 abbrev pub act_in : (ℕ → ℕ) → Access → Call → KeyMap → Option (Reply × KeyMap)

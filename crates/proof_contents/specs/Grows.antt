@@ -1,10 +1,6 @@
 -- What stands under a reference stays, but for the main word of an indirection: what the laws of memory say of a run.
 use Rattle.std.specs.Prelude.{◌≡◌, ℕ, ◌≤◌, Some}
-use Rattle.proof_contents.specs.Beneath.slot_arena.specs.declared.refs.Ref.{Ref}
-use Rattle.proof_contents.specs.Beneath.slot_arena.specs.declared.nodes.Slot.{Slot}
-use Rattle.proof_contents.specs.Beneath.slot_arena.specs.Heaps.{with_main_word}
-use Rattle.machine_model.specs.States.{State}
-use Rattle.machine_model.specs.Grown.{grown}
+use Rattle.proof_contents.specs.Vocabulary.{Ref, Slot, with_main_word, State, grown}
 
 abbrev pub NodesStay : (ℕ → State) → ℕ → Type 0
 NodesStay states last =

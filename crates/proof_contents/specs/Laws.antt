@@ -5,15 +5,8 @@ use Rattle.std.specs.FinMap as map
 use Rattle.std.specs.FinMap.{FinMap}
 use Rattle.std.specs.Ordering.{nat_cmp}
 use Rattle.arrayvec.specs.ArrayVec.{ArrayVec}
-use Rattle.proof_contents.specs.Beneath.ctrie_base.specs.Hashes.{hash_of}
-use Rattle.proof_contents.specs.Beneath.ctrie_base.specs.Paths.{position_of}
-use Rattle.proof_contents.specs.Beneath.ctrie_base.specs.declared.hashes.HashKind.{HashKind}
-use Rattle.proof_contents.specs.Beneath.slot_arena.specs.declared.refs.Ref.{Ref}
-use Rattle.proof_contents.specs.Beneath.slot_arena.specs.declared.nodes.Node.{Node}
-use Rattle.proof_contents.specs.Beneath.slot_arena.specs.declared.nodes.Node.TheVariants.{Indirection, Branch, Single, Tomb, List as Listed}
-use Rattle.proof_contents.specs.Beneath.slot_arena.specs.Heaps.{no_ref}
-use Rattle.proof_contents.specs.Beneath.nodes.specs.Levels.{index_in, flag_of, has_flag}
-use Rattle.proof_contents.specs.Beneath.nodes.specs.Builders.{inserted, updated, removed, renewed, contracted, list_inserted, list_updated, list_removed}
+use Rattle.proof_contents.specs.Vocabulary.{hash_of, position_of, HashKind, Ref, Node, Indirection, Branch, Single, Tomb, List as Listed, no_ref, index_in, flag_of, has_flag, inserted, updated}
+use Rattle.proof_contents.specs.Vocabulary.{removed, renewed, contracted, list_inserted, list_updated, list_removed}
 use Rattle.proof_contents.specs.Nodes.Branches.{HasPlaces, at_place}
 use Rattle.proof_contents.specs.Nodes.Looking.{Absent, look_among, HoldsMap}
 use Rattle.proof_contents.specs.Nodes.Lists.{AreSingles}

@@ -1,4 +1,5 @@
 pub mod Beneath
+pub mod Vocabulary
 pub mod Nodes
 pub mod Laws
 pub mod Tries

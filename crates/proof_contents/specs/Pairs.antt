@@ -1,9 +1,6 @@
 -- The pairs that are reached from an entry, through these main nodes.
 use Rattle.std.specs.Prelude.{ℕ, zero, suc, List, [], ◌∷◌, flat_map}
-use Rattle.proof_contents.specs.Beneath.slot_arena.specs.declared.refs.Ref.{Ref}
-use Rattle.proof_contents.specs.Beneath.slot_arena.specs.declared.nodes.Node.{Node}
-use Rattle.proof_contents.specs.Beneath.slot_arena.specs.declared.nodes.Node.TheVariants.{Indirection, Single}
-use Rattle.proof_contents.specs.Beneath.slot_arena.specs.Heaps.{entries_of}
+use Rattle.proof_contents.specs.Vocabulary.{Ref, Node, Indirection, Single, entries_of}
 
 abbrev pub pairs_of : (Ref → List (ℕ × ℕ)) → (Ref → Node) → (Ref → Ref) → Ref → Node → List (ℕ × ℕ)
 pairs_of below node main r (Single key value) = (key, value) ∷ []

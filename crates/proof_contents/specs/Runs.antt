@@ -1,14 +1,6 @@
 -- The trie of a run, by its states and the heap that only grows.
 use Rattle.std.specs.Prelude.{ℕ, zero, suc, ◌-◌, ◌==◌, Bool, List, [], ◌∷◌, ◌++◌, flat_map, Option, Some, None, is_some, unwrap_or, if◌then◌else◌}
-use Rattle.proof_contents.specs.Beneath.slot_arena.specs.declared.refs.Ref.{Ref}
-use Rattle.proof_contents.specs.Beneath.slot_arena.specs.declared.nodes.Node.{Node}
-use Rattle.proof_contents.specs.Beneath.slot_arena.specs.declared.nodes.Node.TheVariants.{Single}
-use Rattle.proof_contents.specs.Beneath.slot_arena.specs.declared.nodes.Slot.{Slot}
-use Rattle.proof_contents.specs.Beneath.slot_arena.specs.Heaps.{Heap, no_ref, generation_at}
-use Rattle.machine_model.specs.declared.roots.Root.{Root}
-use Rattle.machine_model.specs.declared.steps.Bounds.{Bounds}
-use Rattle.machine_model.specs.States.{State, root_of}
-use Rattle.machine_model.specs.Grown.{grown, node_under, main_before}
+use Rattle.proof_contents.specs.Vocabulary.{Ref, Node, Single, Slot, Heap, no_ref, generation_at, Root, Bounds, State, root_of, grown, node_under, main_before}
 use Rattle.proof_contents.specs.Tries.{Trie}
 
 -- something stood under the reference before step t or earlier

@@ -1,8 +1,6 @@
 -- What new entries have to be like for a main node to keep its shape.
 use Rattle.std.specs.Prelude.{◌≡◌, ℕ, ◌*◌, ◌%◌, ◌^◌, ◌≤◌}
-use Rattle.proof_contents.specs.Beneath.ctrie_base.specs.Hashes.{hash_of}
-use Rattle.proof_contents.specs.Beneath.slot_arena.specs.declared.refs.Ref.{Ref}
-use Rattle.proof_contents.specs.Beneath.slot_arena.specs.declared.nodes.Node.TheVariants.{Indirection, Single}
+use Rattle.proof_contents.specs.Vocabulary.{hash_of, Ref, Indirection, Single}
 use Rattle.proof_contents.specs.Tries.{Trie, generation}
 
 -- the path of an indirection leads to a key's hash

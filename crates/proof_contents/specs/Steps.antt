@@ -1,19 +1,10 @@
 -- What a step may do to the main nodes of a trie.
 use Rattle.std.specs.Prelude.{◌≡◌, ◌≢◌, ℕ, suc, ◌+◌, ◌-◌, ◌*◌, ◌^◌, ◌<◌, ◌≤◌, true, false, List, [], ◌∷◌, length, slice_index_or, Contains, Option, Some, None}
 use Rattle.arrayvec.specs.ArrayVec.{ArrayVec}
-use Rattle.proof_contents.specs.Beneath.ctrie_base.specs.Hashes.{hash_of}
-use Rattle.proof_contents.specs.Beneath.ctrie_base.specs.Paths.{position_of}
-use Rattle.proof_contents.specs.Beneath.history.specs.declared.calls.Call.{Call}
-use Rattle.proof_contents.specs.Beneath.slot_arena.specs.declared.refs.Ref.{Ref}
-use Rattle.proof_contents.specs.Beneath.slot_arena.specs.declared.nodes.Node.{Node}
-use Rattle.proof_contents.specs.Beneath.slot_arena.specs.declared.nodes.Node.TheVariants.{Indirection, Branch, Single, Tomb, List as Listed}
-use Rattle.proof_contents.specs.Beneath.slot_arena.specs.Heaps.{no_ref}
-use Rattle.proof_contents.specs.Beneath.nodes.specs.Levels.{flag_of, has_flag}
-use Rattle.proof_contents.specs.Beneath.nodes.specs.Builders.{inserted, updated, removed, renewed, list_inserted, list_updated, list_removed}
+use Rattle.proof_contents.specs.Vocabulary.{hash_of, position_of, Call, Ref, Node, Indirection, Branch, Single, Tomb, List as Listed, no_ref, flag_of, has_flag, inserted, updated, removed, renewed}
+use Rattle.proof_contents.specs.Vocabulary.{list_inserted, list_updated, list_removed, Sets, Removes, key_of, value_of, inserts, when_found}
 use Rattle.proof_contents.specs.Nodes.Looking.{Absent, Below, look_among}
 use Rattle.proof_contents.specs.Nodes.Chains.{LeadsToPair}
-use Rattle.machine_model.specs.declared.finding.WhenFound.TheVariants.{Sets, Removes}
-use Rattle.machine_model.specs.Calls.{key_of, value_of, inserts, when_found}
 use Rattle.proof_contents.specs.Tries.{Trie, generation, node_in, says, assigned, On, IsShaped, most_levels}
 
 -- ---- repairs: nodes made by renewing, cleaning and climbing

@@ -3,14 +3,7 @@
 use Rattle.std.specs.Prelude.{◌≡◌, ◌<◌, ℕ, suc, ◌+◌, ◌*◌, ◌%◌, ◌^◌, ◌≤◌, ◌==◌, List, [], ◌∷◌, length, Option, Some, None, if◌then◌else◌}
 use Rattle.std.specs.FinMap as map
 use Rattle.arrayvec.specs.ArrayVec.{ArrayVec}
-use Rattle.proof_contents.specs.Beneath.ctrie_base.specs.declared.hashes.HashKind.{HashKind}
-use Rattle.proof_contents.specs.Beneath.ctrie_base.specs.Hashes.{hash_of}
-use Rattle.proof_contents.specs.Beneath.history.specs.Worlds.{KeyMap}
-use Rattle.proof_contents.specs.Beneath.slot_arena.specs.declared.refs.Ref.{Ref}
-use Rattle.proof_contents.specs.Beneath.slot_arena.specs.declared.nodes.Node.{Node}
-use Rattle.proof_contents.specs.Beneath.slot_arena.specs.declared.nodes.Node.TheVariants.{Indirection, Branch, Single, Tomb, List as Listed}
-use Rattle.proof_contents.specs.Beneath.slot_arena.specs.Heaps.{generation_of}
-use Rattle.proof_contents.specs.Beneath.nodes.specs.Levels.{list_depth}
+use Rattle.proof_contents.specs.Vocabulary.{HashKind, hash_of, KeyMap, Ref, Node, Indirection, Branch, Single, Tomb, List as Listed, generation_of, list_depth}
 pub use Rattle.machine_model.specs.Contents.{most_levels}
 use Rattle.proof_contents.specs.Nodes.Branches.{HasPlaces, at_place}
 use Rattle.proof_contents.specs.Nodes.Looking.{Found, Has, Below, look_among, find_at}

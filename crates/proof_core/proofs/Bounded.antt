@@ -1,39 +1,23 @@
 -- The numbers of a machine are bounded along each run.
 use Rattle.std.proofs.Common.{◌≡◌, ℕ, ◌+◌, ◌*◌, ◌≤◌, false, length, List, [], ◌∷◌, ◌++◌, Option, Some, None, Ok, refl, sym, ap, ◌∙◌, subst, arith, leb-false, map}
-use Rattle.proof_core.specs.Beneath.history.specs.declared.calls.Call.{Call}
-use Rattle.proof_core.specs.Beneath.slot_arena.specs.declared.refs.Ref.{Ref}
-use Rattle.proof_core.specs.Beneath.slot_arena.specs.declared.nodes.Node.{Node}
-use Rattle.proof_core.specs.Beneath.machine_model.specs.declared.actions.Action.{Action}
+use Rattle.proof_core.specs.Vocabulary.{Call, Ref, Node, Action, Operation, Bounds, Outcome, Step, handle_of, Heap, empty_branch, with_main, with_prev, taken, take_from, freed, ref_to, Indirection}
+use Rattle.proof_core.specs.Vocabulary.{State, empty_heap, first_state, action_of, Prev, Reclaimer, ripe, sweep_by, acted, new_root_taken, attempt_after, operation_after, next, next_state}
+use Rattle.proof_core.specs.Vocabulary.{state_after, is_spent, begin_denial, go_denial, with_begin, pin_of, reclaimer_of, run, run_from, AreBounds, Begins, Ends, Sweeps, Moves, begun_operation}
+use Rattle.proof_core.specs.Vocabulary.{FitsKey}
 use Rattle.proof_core.specs.Beneath.machine_model.specs.declared.actions.Action.TheVariants as act
-use Rattle.proof_core.specs.Beneath.machine_model.specs.declared.operations.Operation.{Operation}
-use Rattle.proof_core.specs.Beneath.machine_model.specs.declared.steps.Bounds.{Bounds}
-use Rattle.proof_core.specs.Beneath.machine_model.specs.declared.steps.Outcome.{Outcome}
-use Rattle.proof_core.specs.Beneath.machine_model.specs.declared.steps.Step.{Step}
 use Rattle.proof_core.specs.Beneath.machine_model.specs.declared.steps.Step.TheVariants as step
-use Rattle.proof_core.specs.Beneath.machine_model.specs.Calls.{handle_of}
 use Rattle.std.proofs.lemmas.List.FromFn.{length-range_with_len}
-use Rattle.proof_core.specs.Beneath.slot_arena.specs.Heaps.{Heap, empty_branch, with_main, with_prev, taken, take_from, freed}
-use Rattle.proof_core.specs.Beneath.slot_arena.specs.Refs.{ref_to}
-use Rattle.proof_core.specs.Beneath.slot_arena.specs.declared.nodes.Node.TheVariants.{Indirection}
-use Rattle.proof_core.specs.Beneath.machine_model.specs.States.{State, empty_heap, first_state}
-use Rattle.proof_core.specs.Beneath.machine_model.specs.Operations.{action_of}
-use Rattle.proof_core.specs.Beneath.slot_arena.specs.declared.nodes.Prev.{Prev}
 use Rattle.proof_core.specs.Beneath.slot_arena.specs.declared.nodes.Prev.TheVariants as prev
-use Rattle.proof_core.specs.Beneath.epochs.specs.Sweeping.{Reclaimer, ripe, sweep_by}
-use Rattle.proof_core.specs.Beneath.machine_model.specs.Acting.{acted, new_root_taken, attempt_after, operation_after}
-use Rattle.proof_core.specs.Beneath.machine_model.specs.Machine.{next, next_state, state_after, is_spent, begin_denial, go_denial, with_begin, pin_of, reclaimer_of, run, run_from, AreBounds}
 use Rattle.proof_core.specs.Beneath.machine_model.proofs.Along.{along, run_push, kept_by_moves}
 use Rattle.proof_core.specs.Beneath.machine_model.proofs.Actors.{mark_one, mark_only, marks_by, marks_in}
 use Rattle.proof_core.specs.Beneath.machine_model.proofs.EachOperation.{OfEach, of_each_along, of_running}
 use Rattle.proof_core.specs.Beneath.machine_model.proofs.Frames.{acted_framed, limits_kept, steps_counted}
 use Rattle.proof_core.specs.Beneath.machine_model.proofs.HeapMoves.{HeapMoves, Stays, Takes, Publishes, Restores, Commit, Fail, Frees, heap_moves}
-use Rattle.proof_core.specs.Beneath.machine_model.specs.Moves.{Begins, Goes, Ends, Sweeps}
-use Rattle.proof_core.specs.Beneath.machine_model.specs.Moves.{Moves, begun_operation}
+use Rattle.proof_core.specs.Beneath.machine_model.specs.Moves.{Goes}
 use Rattle.proof_core.specs.Beneath.machine_model.proofs.Slots.{sound_along}
 use Rattle.proof_core.specs.Beneath.proof_memory.proofs.Safety.Steps.{gone_epoch}
 use Rattle.proof_core.specs.Beneath.proof_generations.proofs.Counter.Drawn.{aborted_generations, completed_generations, offered_generations}
 use Rattle.proof_core.specs.Bounds.{IsBounded}
-use Rattle.proof_core.specs.Beneath.machine_model.specs.Keys.{FitsKey}
 use Rattle.std.proofs.lemmas.List.Elements.{All-nil, All-push}
 use Rattle.proof_straight.specs.Resting.{IsOfRun}
 

@@ -1,14 +1,7 @@
 -- What is live, of what a line and an action take their references for.
 use Rattle.std.proofs.Common.{List, [], ◌∷◌, All}
 use Rattle.std.proofs.lemmas.List.Elements.{All-nil, All-cons, All-weaker}
-use Rattle.proof_core.specs.Beneath.slot_arena.specs.declared.refs.Ref.{Ref}
-use Rattle.proof_core.specs.Beneath.slot_arena.specs.declared.nodes.Node.{Node}
-use Rattle.proof_core.specs.Beneath.slot_arena.specs.declared.nodes.Node.TheVariants.{Indirection, Branch, Single, Tomb, List as Listed}
-use Rattle.proof_core.specs.Beneath.slot_arena.specs.Heaps.{Heap, refs_of_node, refs_of_option}
-use Rattle.proof_core.specs.Beneath.slot_arena.specs.Arenas.{IsLive, AreLive}
-use Rattle.proof_core.specs.Beneath.machine_model.specs.declared.roots.Descriptor.{Descriptor}
-use Rattle.proof_core.specs.Beneath.machine_model.specs.declared.roots.RootWord.TheVariants.{Offer}
-use Rattle.proof_core.specs.Beneath.machine_model.specs.Counting.{refs_of_word}
+use Rattle.proof_core.specs.Vocabulary.{Ref, Node, Indirection, Branch, Single, Tomb, List as Listed, Heap, refs_of_node, refs_of_option, IsLive, AreLive, Descriptor, Offer, refs_of_word}
 use Rattle.proof_core.specs.Beneath.proof_memory.specs.Wants.{AllHold, AnEntry, AnIndirection, ASingle, Claim, Wanted, node_wants, offer_wants}
 use Rattle.proof_core.specs.Beneath.proof_memory.proofs.Claims.Uses.{Meets, all_of, safe_of}
 

@@ -6,12 +6,7 @@ use Rattle.std.proofs.lemmas.List.{append-nil, nil_from_length}
 use Rattle.std.proofs.lemmas.Bool.Decides.{nat_tests}
 use Rattle.std.proofs.lemmas.List.Concat.{flat_map-append}
 use Rattle.std.proofs.lemmas.List.Elements.{Contains-append_left, Contains-append_right, Contains-append_cases}
-use Rattle.proof_core.specs.Beneath.slot_arena.specs.declared.nodes.Node.{Node}
-use Rattle.proof_core.specs.Beneath.slot_arena.specs.declared.nodes.Node.TheVariants.{Indirection, Branch, Single, Tomb, List as Listed}
-use Rattle.proof_core.specs.Beneath.slot_arena.specs.declared.refs.Ref.{Ref}
-use Rattle.proof_core.specs.Beneath.slot_arena.specs.Heaps.{Heap, node_at, refs_of_option}
-use Rattle.proof_core.specs.Beneath.machine_model.specs.Contents.{most_levels, pairs_at, pairs_below}
-use Rattle.proof_core.specs.Beneath.machine_model.specs.Pairs.{by_key, comes_before}
+use Rattle.proof_core.specs.Vocabulary.{Node, Indirection, Branch, Single, Tomb, List as Listed, Ref, Heap, node_at, refs_of_option, most_levels, pairs_at, pairs_below, by_key, comes_before}
 use Rattle.proof_core.specs.Comparing.{Adds, Grows, entries_below, main_below, main_by, pairs_from, single_at, single_by}
 use Rattle.proof_core.specs.Reading.{Covers, IsAmong}
 use Rattle.proof_core.proofs.Sorted.{from_sorted, into_sorted}

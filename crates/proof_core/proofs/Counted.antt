@@ -2,7 +2,7 @@
 use Rattle.std.proofs.Common.{◌≡◌, ℕ, ◌+◌, ◌<◌, ◌≤◌, List, [], ◌++◌, length, drop, get_or, arith, ap, ◌∙◌}
 use Rattle.std.specs.List.{flat_map}
 use Rattle.std.proofs.lemmas.List.{length-append}
-use Rattle.proof_core.specs.Beneath.slot_arena.specs.declared.refs.Ref.{Ref}
+use Rattle.proof_core.specs.Vocabulary.{Ref}
 use Rattle.proof_core.proofs.Gathering.{none_below, some_below, gather_more, gather_none}
 
 -- the pairs of what is left of the entries, one step on

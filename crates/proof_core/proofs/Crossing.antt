@@ -5,13 +5,8 @@ use Rattle.std.proofs.lemmas.Bool.{lt-ltb, or_cases, false≢true}
 use Rattle.std.proofs.lemmas.List.{length-append}
 use Rattle.std.proofs.lemmas.List.Elements.{filter-append}
 use Rattle.std.proofs.lemmas.List.Folds.{list_any-append}
-use Rattle.proof_core.specs.Beneath.slot_arena.specs.declared.refs.Ref.{Ref}
-use Rattle.proof_core.specs.Beneath.slot_arena.specs.Heaps.{Heap, in_use}
-use Rattle.proof_core.specs.Beneath.slot_arena.specs.Times.{times}
+use Rattle.proof_core.specs.Vocabulary.{Ref, Heap, in_use, times, Zeroed, is_in, is_in_use, is_zero, limbo_after, newly_zero, staying, zeroed_at}
 use Rattle.proof_core.specs.Beneath.slot_arena.proofs.Times.{once_same, times-cons}
-use Rattle.proof_core.specs.Beneath.epochs.specs.declared.limbo.Zeroed.{Zeroed}
-use Rattle.proof_core.specs.Beneath.epochs.specs.Limbo.{is_in, is_in_use, is_zero, limbo_after, newly_zero}
-use Rattle.proof_core.specs.Beneath.epochs.specs.Memories.{staying, zeroed_at}
 use Rattle.proof_core.specs.Beneath.epochs.proofs.Rising.{filter_in, times-by_birth}
 use Rattle.proof_core.specs.Beneath.epochs.proofs.Staying.{any_times, in_limbo, length_zeroed}
 use Rattle.proof_core.specs.Work.{crossing, missing}

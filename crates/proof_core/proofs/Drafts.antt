@@ -2,22 +2,13 @@
 use Rattle.std.proofs.Common.{◌≡◌, ℕ, ◌+◌, ◌<◌, ◌≤◌, ◌==◌, Bool, true, false, cond, List, [], ◌∷◌, ◌++◌, length, Option, Some, None, refl, sym, ap, ◌∙◌, subst, arith}
 use Rattle.std.proofs.lemmas.Bool.{false≢true}
 use Rattle.std.proofs.lemmas.List.Elements.{All-weaker}
-use Rattle.proof_core.specs.Beneath.slot_arena.specs.declared.nodes.Node.{Node}
-use Rattle.proof_core.specs.Beneath.slot_arena.specs.declared.nodes.Node.TheVariants.{Indirection, Branch, Single, Tomb, List as Listed}
+use Rattle.proof_core.specs.Vocabulary.{Node, Indirection, Branch, Single, Tomb, List as Listed, Slot, Ref, Heap, stored, node_of, node_at, prev_of, prev_at, main_at, main_of, refs_of_node, taken}
+use Rattle.proof_core.specs.Vocabulary.{take_from, prev_changed, with_prev, with_main, AreLive, IsLive, has_birth, is_indirection, is_main_node, birth_of, slot_of, times, without, limbo_after}
+use Rattle.proof_core.specs.Vocabulary.{Settles, published, if_changed, outside, State}
 use Rattle.proof_core.specs.Beneath.slot_arena.specs.declared.nodes.Prev.TheVariants as prev
-use Rattle.proof_core.specs.Beneath.slot_arena.specs.declared.nodes.Slot.{Slot}
-use Rattle.proof_core.specs.Beneath.slot_arena.specs.declared.refs.Ref.{Ref}
-use Rattle.proof_core.specs.Beneath.slot_arena.specs.Heaps.{Heap, stored, node_of, node_at, prev_of, prev_at, main_at, main_of, refs_of_node, taken, take_from, prev_changed, with_prev, with_main}
-use Rattle.proof_core.specs.Beneath.slot_arena.specs.Arenas.{AreLive, IsLive, has_birth, is_indirection, is_main_node}
-use Rattle.proof_core.specs.Beneath.slot_arena.specs.Refs.{birth_of, slot_of}
-use Rattle.proof_core.specs.Beneath.slot_arena.specs.Times.{times, without}
 use Rattle.proof_core.specs.Beneath.slot_arena.proofs.Times.{once_same, times-append, times-cons, times-without, times_push}
-use Rattle.proof_core.specs.Beneath.epochs.specs.Limbo.{limbo_after}
-use Rattle.proof_core.specs.Beneath.epochs.specs.Memories.{Memory, Settles}
+use Rattle.proof_core.specs.Beneath.epochs.specs.Memories.{Memory}
 use Rattle.proof_core.specs.Beneath.epochs.proofs.Forgetting.{counts_alone}
-use Rattle.proof_core.specs.Beneath.machine_model.specs.Acting.{published, if_changed}
-use Rattle.proof_core.specs.Beneath.machine_model.specs.Counting.{outside}
-use Rattle.proof_core.specs.Beneath.machine_model.specs.States.{State}
 use Rattle.proof_straight.specs.Drafts.{Draft, held_with, next_made, redrafted}
 use Rattle.proof_straight.specs.Running.{HasEmptySlots}
 use Rattle.proof_straight.proofs.Change.Slots.{Takes, fresh_published, made_slot, node_again, same_stored, stored_node, takes}

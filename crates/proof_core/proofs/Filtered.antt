@@ -2,7 +2,7 @@
 use Rattle.std.proofs.Common.{◌≡◌, ◌+◌, ◌&&◌, Bool, true, false, cond, List, [], ◌∷◌, arith, refl, sym, ap, ◌∙◌}
 use Rattle.std.specs.Prelude.{count_by}
 use Rattle.std.specs.List.{AllByRecursion, filter}
-use Rattle.proof_core.specs.Beneath.ctrie_base.specs.Sorting.{sorted_by}
+use Rattle.proof_core.specs.Vocabulary.{sorted_by}
 use Rattle.proof_core.specs.Beneath.ctrie_base.proofs.Sorting.{IsOrder, Rises, count_more, rest_rises, same_rising, sorted_alike, sorted_rises}
 
 module _ {A : Type 0} (before : A → A → Bool) (order : IsOrder before) (test : A → Bool) where

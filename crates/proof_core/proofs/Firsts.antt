@@ -2,7 +2,7 @@
 use Rattle.std.proofs.Common.{◌≡◌, ℕ, zero, suc, Bool, true, false, cond, List, [], ◌∷◌, ◌++◌, length, take, arith, refl, sym, ap, ◌∙◌}
 use Rattle.std.specs.List.{AllByRecursion}
 use Rattle.std.proofs.lemmas.List.{take_all, take-append-le, take-take}
-use Rattle.proof_core.specs.Beneath.ctrie_base.specs.Sorting.{put_by, sorted_by}
+use Rattle.proof_core.specs.Vocabulary.{put_by, sorted_by}
 
 -- ---- what is put behind the first so many doesn't change them
 

@@ -2,9 +2,7 @@
 use Rattle.std.proofs.Common.{◌≡◌, ℕ, zero, suc, ◌+◌, ◌-◌, ◌<◌, ◌≤◌, List, [], ◌++◌, length, drop, get_or, arith, refl, ap, append-nil, append_assoc}
 use Rattle.std.specs.List.{flat_map}
 use Rattle.std.proofs.lemmas.List.{drop_more, drop_all, at_drop_more, at_drop_all}
-use Rattle.proof_core.specs.Beneath.slot_arena.specs.declared.refs.Ref.{Ref}
-use Rattle.proof_core.specs.Beneath.slot_arena.specs.Heaps.{Heap, node_at}
-use Rattle.proof_core.specs.Beneath.machine_model.specs.Contents.{pairs_at, pairs_below}
+use Rattle.proof_core.specs.Vocabulary.{Ref, Heap, node_at, pairs_at, pairs_below}
 
 -- within no level nothing is reached
 pub none_below : (heap : Heap) (r : Ref) → pairs_below 0 heap r ≡ []

@@ -1,15 +1,8 @@
 -- What a state of a run gives: the claims of the next action, and room for what it adds; whose begin may come.
 use Rattle.std.proofs.Common.{◌≡◌, ℕ, zero, suc, ◌-◌, ◌<◌, ◌≤◌, ◌&&◌, true, false, nat_lt, nat_le, length, get_or, Some, None, sym, ap, ◌∙◌, subst, arith}
 use Rattle.std.proofs.lemmas.Bool.Decides.{nat_tests}
-use Rattle.proof_core.specs.Beneath.history.specs.declared.calls.Call.{Call}
+use Rattle.proof_core.specs.Vocabulary.{Call, Ref, times, IsLive, Operation, State, operation_of, handle_limit, action_of, begin_denial, is_running}
 use Rattle.proof_core.specs.Beneath.history.proofs.Places.{option_untested}
-use Rattle.proof_core.specs.Beneath.slot_arena.specs.declared.refs.Ref.{Ref}
-use Rattle.proof_core.specs.Beneath.slot_arena.specs.Times.{times}
-use Rattle.proof_core.specs.Beneath.slot_arena.specs.Arenas.{IsLive}
-use Rattle.proof_core.specs.Beneath.machine_model.specs.declared.operations.Operation.{Operation}
-use Rattle.proof_core.specs.Beneath.machine_model.specs.States.{State, operation_of, handle_limit}
-use Rattle.proof_core.specs.Beneath.machine_model.specs.Operations.{action_of}
-use Rattle.proof_core.specs.Beneath.machine_model.specs.Machine.{begin_denial, is_running}
 use Rattle.proof_core.specs.Beneath.machine_model.proofs.Actors.{begin_actor}
 use Rattle.proof_core.specs.Beneath.proof_memory.specs.Wants.{AllHold, action_wants}
 use Rattle.proof_core.specs.Beneath.proof_memory.proofs.Holding.Lives.{lines_live}

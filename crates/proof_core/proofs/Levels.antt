@@ -1,8 +1,6 @@
 -- Looking along a hash, level by level.
 use Rattle.std.proofs.Common.{◌≡◌, ℕ, suc, ◌+◌, ◌-◌, ◌<◌, None, refl, sym, ap, ◌∙◌, arith}
-use Rattle.proof_core.specs.Beneath.slot_arena.specs.declared.refs.Ref.{Ref}
-use Rattle.proof_core.specs.Beneath.slot_arena.specs.declared.nodes.Node.{Node}
-use Rattle.proof_core.specs.Beneath.nodes.specs.Levels.{flag_of}
+use Rattle.proof_core.specs.Vocabulary.{Ref, Node, flag_of}
 use Rattle.proof_core.specs.Beneath.proof_contents.specs.Nodes.Looking.{Found, look_in, value_by, find_at}
 
 module _ (node : Ref → Node) (main : Ref → Ref) (hash : ℕ → ℕ) (key : ℕ) where

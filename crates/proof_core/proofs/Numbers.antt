@@ -5,8 +5,7 @@ use Rattle.std.proofs.lemmas.Bool.{cases_lt, true≢false}
 use Rattle.std.proofs.lemmas.List.{get_or_past}
 use Rattle.std.proofs.lemmas.List.Sums.{sum_by-cons}
 use Rattle.handle_table.specs.Numbers.{IsLeastFree, Numbers, how_many, running_on}
-use Rattle.proof_core.specs.Beneath.machine_model.specs.Machine.{handles_taken, is_taken, least_free, least_from, names, runs_on, taken_below}
-use Rattle.proof_core.specs.Beneath.machine_model.specs.States.{State}
+use Rattle.proof_core.specs.Vocabulary.{handles_taken, is_taken, least_free, least_from, names, runs_on, taken_below, State}
 use Rattle.proof_core.specs.Numbering.{KnowsNumbers}
 
 -- ---- counting

@@ -1,8 +1,7 @@
 -- The first pair that is reached.
 use Rattle.std.proofs.Common.{◌≡◌, ℕ, ◌+◌, ◌<◌, ◌≤◌, List, [], ◌∷◌, ◌++◌, Option, Some, None, length, drop, get_or, arith, ap, refl, ◌∙◌}
 use Rattle.std.specs.List.{flat_map}
-use Rattle.proof_core.specs.Beneath.machine_model.specs.Pairs.{by_key, comes_before}
-use Rattle.proof_core.specs.Beneath.slot_arena.specs.declared.refs.Ref.{Ref}
+use Rattle.proof_core.specs.Vocabulary.{by_key, comes_before, Ref}
 use Rattle.proof_core.specs.Reading.{IsOneOf, first_of}
 use Rattle.proof_core.proofs.Sorted.{put_has}
 use Rattle.proof_core.proofs.Gathering.{none_below, some_below, gather_more, gather_none}

@@ -6,16 +6,9 @@ use Rattle.std.proofs.lemmas.Bool.{cases_Bool, cases_eq, cases_lt, cond_both, fa
 use Rattle.std.proofs.lemmas.List.{get_or-replicate, get_or-set_same, get_or-set_other, get_or_past, length-replicate, set-get_or}
 use Rattle.std.proofs.lemmas.List.Sums.{count_by-le-length, sum_by-cons}
 use Rattle.std.proofs.lemmas.Option.{none-some, same_Some}
-use Rattle.proof_core.specs.Beneath.history.specs.declared.calls.Call.{Call}
+use Rattle.proof_core.specs.Vocabulary.{Call, Operation, Root, ended, handle_of, is_close, begin_denial, handle_closed, is_number, is_taken, names, reserved_by, with_begin, begun_operation, State}
+use Rattle.proof_core.specs.Vocabulary.{first_state, root_at, Bounds}
 use Rattle.handle_table.specs.Numbers.{Numbers, is_taken_in, no_numbers, running_on, with_running, with_taken}
-use Rattle.proof_core.specs.Beneath.machine_model.specs.declared.operations.Operation.{Operation}
-use Rattle.proof_core.specs.Beneath.machine_model.specs.declared.roots.Root.{Root}
-use Rattle.proof_core.specs.Beneath.machine_model.specs.Acting.{ended}
-use Rattle.proof_core.specs.Beneath.machine_model.specs.Calls.{handle_of, is_close}
-use Rattle.proof_core.specs.Beneath.machine_model.specs.Machine.{begin_denial, handle_closed, is_number, is_taken, names, reserved_by, with_begin}
-use Rattle.proof_core.specs.Beneath.machine_model.specs.Moves.{begun_operation}
-use Rattle.proof_core.specs.Beneath.machine_model.specs.States.{State, first_state, root_at}
-use Rattle.proof_core.specs.Beneath.machine_model.specs.declared.steps.Bounds.{Bounds}
 use Rattle.proof_core.specs.Beneath.machine_model.proofs.Actors.{begin_actors}
 use Rattle.proof_core.specs.Beneath.machine_model.proofs.Found.{found_elsewhere, found_here, found_within}
 use Rattle.proof_core.specs.Beneath.proof_generations.proofs.Handles.Operations.{HasHandles}

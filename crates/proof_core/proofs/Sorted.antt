@@ -1,7 +1,7 @@
 -- What is sorted has the same items.
 use Rattle.std.proofs.Common.{◌≡◌, ℕ, zero, suc, ◌<◌, Bool, true, false, cond, List, Contains, [], ◌∷◌, length, get_or, arith, refl, subst}
 use Rattle.std.proofs.lemmas.List.Elements.{All-contains, All-contains_itself}
-use Rattle.proof_core.specs.Beneath.ctrie_base.specs.Sorting.{put_by, sorted_by}
+use Rattle.proof_core.specs.Vocabulary.{put_by, sorted_by}
 use Rattle.proof_core.specs.Beneath.ctrie_base.proofs.Sorting.{sorted_all}
 
 module _ {A : Type 0} (before : A → A → Bool) where

@@ -4,20 +4,10 @@ use Rattle.std.proofs.lemmas.List.Elements.{All-weaker}
 use Rattle.std.proofs.lemmas.Option.{same_Some}
 use Rattle.std.proofs.lemmas.Bool.{and_parts, false≢true}
 use Rattle.arrayvec.specs.ArrayVec.{ArrayVec}
-use Rattle.proof_core.specs.Beneath.ctrie_base.specs.Paths.{position_of, index_at}
-use Rattle.proof_core.specs.Beneath.history.specs.declared.calls.Access.{Access}
-use Rattle.proof_core.specs.Beneath.slot_arena.specs.declared.nodes.Node.{Node}
-use Rattle.proof_core.specs.Beneath.slot_arena.specs.declared.nodes.Node.TheVariants.{Branch, Indirection}
-use Rattle.proof_core.specs.Beneath.slot_arena.specs.declared.nodes.Slot.{Slot}
-use Rattle.proof_core.specs.Beneath.slot_arena.specs.declared.refs.Ref.{Ref}
-use Rattle.proof_core.specs.Beneath.slot_arena.specs.Arenas.{AreLive, IsLive, is_indirection}
-use Rattle.proof_core.specs.Beneath.slot_arena.specs.Heaps.{Heap, entries_of, entry_at, main_at, main_of, node_at, no_ref, refs_of_node}
-use Rattle.proof_core.specs.Beneath.slot_arena.specs.Refs.{birth_limit, slot_of}
+use Rattle.proof_core.specs.Vocabulary.{position_of, index_at, Access, Node, Branch, Indirection, Slot, Ref, AreLive, IsLive, is_indirection, Heap, entries_of, entry_at, main_at, main_of, node_at}
+use Rattle.proof_core.specs.Vocabulary.{no_ref, refs_of_node, birth_limit, slot_of, Plain, State, root_at, word_at, flag_of, has_flag}
 use Rattle.proof_core.specs.Beneath.slot_arena.proofs.Live.{same_ref}
-use Rattle.proof_core.specs.Beneath.machine_model.specs.declared.roots.RootWord.TheVariants.{Plain}
-use Rattle.proof_core.specs.Beneath.machine_model.specs.States.{State, root_at, word_at}
 use Rattle.proof_core.specs.Beneath.machine_model.proofs.Grown.{standing_parts}
-use Rattle.proof_core.specs.Beneath.nodes.specs.Levels.{flag_of, has_flag}
 use Rattle.proof_core.specs.Beneath.proof_memory.specs.Laws.{IsInUse}
 use Rattle.proof_core.specs.Beneath.proof_memory.specs.Levels.{EntryLevel, InsideLevel, KindLevel}
 use Rattle.proof_core.specs.Beneath.proof_memory.specs.Wants.{AMain, AnEntry, AnIndirection, Anything, Holds, Is, AllHold, is, is_formed, meets, word_wants}

@@ -1,16 +1,7 @@
 -- What bounds the numbers of a machine, and what a step that may lack memory comes to.
 use Rattle.std.specs.Prelude.{◌≡◌, ℕ, ◌+◌, ◌*◌, ◌≤◌, ◌⊎◌, true, length, Option, Some, None, Result, Ok, Err}
-use Rattle.proof_core.specs.Beneath.ctrie_base.specs.declared.refusals.Refusal.{Refusal}
+use Rattle.proof_core.specs.Vocabulary.{Refusal, Operation, Bounds, Outcome, Step, needs_read_only, State, operation_of, settled, Answer, next, is_taken_step, longest_life, AreBounds, most_slots}
 use Rattle.proof_core.specs.Beneath.ctrie_base.specs.declared.refusals.Refusal.TheVariants as refuse
-use Rattle.proof_core.specs.Beneath.machine_model.specs.declared.operations.Operation.{Operation}
-use Rattle.proof_core.specs.Beneath.machine_model.specs.declared.steps.Bounds.{Bounds}
-use Rattle.proof_core.specs.Beneath.machine_model.specs.declared.steps.Outcome.{Outcome}
-use Rattle.proof_core.specs.Beneath.machine_model.specs.declared.steps.Step.{Step}
-use Rattle.proof_core.specs.Beneath.machine_model.specs.Calls.{needs_read_only}
-use Rattle.proof_core.specs.Beneath.machine_model.specs.States.{State, operation_of}
-use Rattle.proof_core.specs.Beneath.machine_model.specs.Counting.{settled}
-use Rattle.proof_core.specs.Beneath.machine_model.specs.Machine.{Answer, next, is_taken_step, longest_life, AreBounds}
-use Rattle.proof_core.specs.Beneath.slot_arena.specs.Refs.{most_slots}
 
 -- No number outgrows its type: most grow by at most 1 in each step. A step draws a birth or frees a slot, and not both, so about every other one draws a birth.
 pub record IsBounded (state : State) : Type 0 where

@@ -1,11 +1,7 @@
 -- What is compared of two maps.
 use Rattle.std.specs.Prelude.{ℕ, List, [], ◌∷◌, Contains, Option, Some, None}
 use Rattle.std.specs.List.{flat_map}
-use Rattle.proof_core.specs.Beneath.slot_arena.specs.declared.nodes.Node.{Node}
-use Rattle.proof_core.specs.Beneath.slot_arena.specs.declared.nodes.Node.TheVariants.{Indirection, Single}
-use Rattle.proof_core.specs.Beneath.slot_arena.specs.declared.refs.Ref.{Ref}
-use Rattle.proof_core.specs.Beneath.slot_arena.specs.Heaps.{Heap, entries_of, logical_main, node_at, refs_of_option}
-use Rattle.proof_core.specs.Beneath.machine_model.specs.Contents.{pairs_below}
+use Rattle.proof_core.specs.Vocabulary.{Node, Indirection, Single, Ref, Heap, entries_of, logical_main, node_at, refs_of_option, pairs_below}
 use Rattle.proof_core.specs.Reading.{Covers}
 
 -- the entries of a main node, if there is one

@@ -1,4 +1,5 @@
 pub mod Beneath
+pub mod Vocabulary
 pub mod Bounds
 pub mod Numbering
 pub mod Standing

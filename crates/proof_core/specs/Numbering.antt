@@ -1,11 +1,8 @@
 -- What is kept of handle numbers, and what begins and ends make of it.
 use Rattle.std.specs.Prelude.{◌≡◌, ℕ, ◌+◌, ◌-◌, ◌<◌, true, false, length, Option, Some, None, if◌then◌else◌}
 use Rattle.std.specs.List.{count_by}
-use Rattle.proof_core.specs.Beneath.history.specs.declared.calls.Call.{Call}
+use Rattle.proof_core.specs.Vocabulary.{Call, handle_of, is_close, is_taken, names, State, handle_limit}
 use Rattle.handle_table.specs.Numbers.{Numbers, is_taken_in, running_on, with_running, with_taken}
-use Rattle.proof_core.specs.Beneath.machine_model.specs.Calls.{handle_of, is_close}
-use Rattle.proof_core.specs.Beneath.machine_model.specs.Machine.{is_taken, names}
-use Rattle.proof_core.specs.Beneath.machine_model.specs.States.{State, handle_limit}
 
 -- a number is marked where it is open or reserved, and as many operations are counted on it as run and name it
 pub record KnowsNumbers (numbers : Numbers) (state : State) : Type 0 where

@@ -1,18 +1,11 @@
 -- The order in which a trie keeps its keys, what comes next in it, and that each key stands where its hash leads.
 use Rattle.std.specs.Prelude.{◌≡◌, ◌<◌, ℕ, zero, suc, ◌+◌, ◌*◌, ◌%◌, ◌^◌, ◌==◌, ⊤, Bool, true, nat_lt, List, [], ◌∷◌, take, Option, Some, None, if◌then◌else◌}
 use Rattle.std.specs.List.{filter, flat_map}
-use Rattle.proof_core.specs.Beneath.ctrie_base.specs.Hashes.{hash_of}
-use Rattle.proof_core.specs.Beneath.ctrie_base.specs.Sorting.{sorted_by}
-use Rattle.proof_core.specs.Beneath.ctrie_base.specs.declared.hashes.HashKind.{HashKind}
-use Rattle.proof_core.specs.Beneath.machine_model.specs.Pairs.{by_key, comes_before}
-use Rattle.proof_core.specs.Beneath.nodes.specs.Levels.{index_in, list_depth}
+use Rattle.proof_core.specs.Vocabulary.{hash_of, sorted_by, HashKind, by_key, comes_before, index_in, list_depth, Node, Branch, Indirection, Single, Tomb, List as Listed, Ref, Heap, entries_of}
+use Rattle.proof_core.specs.Vocabulary.{logical_main, node_at}
 use Rattle.proof_core.specs.Beneath.proof_contents.specs.Nodes.Branches.{HasPlaces, at_place}
 use Rattle.proof_core.specs.Beneath.proof_contents.specs.Nodes.Lists.{AreSingles}
 use Rattle.proof_core.specs.Beneath.proof_contents.specs.Nodes.Looking.{Has, look_among}
-use Rattle.proof_core.specs.Beneath.slot_arena.specs.declared.nodes.Node.{Node}
-use Rattle.proof_core.specs.Beneath.slot_arena.specs.declared.nodes.Node.TheVariants.{Branch, Indirection, Single, Tomb, List as Listed}
-use Rattle.proof_core.specs.Beneath.slot_arena.specs.declared.refs.Ref.{Ref}
-use Rattle.proof_core.specs.Beneath.slot_arena.specs.Heaps.{Heap, entries_of, logical_main, node_at}
 
 -- ---- the order
 

@@ -1,6 +1,6 @@
 -- What stands at an actor's place.
 use Rattle.std.specs.Prelude.{◌≡◌, ℕ, ◌-◌, ◌<◌, ◌≤◌, List, length, slice_index_or, Option, None}
-use Rattle.proof_core.specs.Beneath.machine_model.specs.declared.operations.Operation.{Operation}
+use Rattle.proof_core.specs.Vocabulary.{Operation}
 
 -- at the actor's place in the list stands this, be it an operation or none; actors are counted from 1
 pub record StandsAt (actors : List (Option Operation)) (actor : ℕ) (found : Option Operation) : Type 0 where

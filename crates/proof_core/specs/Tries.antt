@@ -1,8 +1,6 @@
 -- What holds of a heap below a root, whatever the calls that come to it.
 use Rattle.std.specs.Prelude.{◌≡◌, ℕ, true}
-use Rattle.proof_core.specs.Beneath.slot_arena.specs.declared.refs.Ref.{Ref}
-use Rattle.proof_core.specs.Beneath.slot_arena.specs.Arenas.{is_indirection}
-use Rattle.proof_core.specs.Beneath.slot_arena.specs.Heaps.{Heap, node_at, prev_at}
+use Rattle.proof_core.specs.Vocabulary.{Ref, is_indirection, Heap, node_at, prev_at}
 use Rattle.proof_core.specs.Beneath.proof_memory.specs.Laws.{IsInUse}
 use Rattle.proof_core.specs.Beneath.proof_memory.specs.Levels.{NodeLevel}
 use Rattle.proof_core.specs.Beneath.proof_memory.specs.Wants.{AllHold, is_formed, node_wants, prev_wants}

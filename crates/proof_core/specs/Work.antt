@@ -2,12 +2,8 @@
 -- What else a step looks at isn't counted, and is little by what there is of it: its own actor, the records of all actors, 64 at most,
 -- the root words and numbers of handles, 256 at most, and what its walk has collected. A core has nothing else: no history, and no list that grows but a walk's.
 use Rattle.std.specs.Prelude.{◌≡◌, ℕ, ◌+◌, ◌*◌, ◌≤◌, not, List, filter, length}
-use Rattle.proof_core.specs.Beneath.slot_arena.specs.Ticking.{TakesUpTo}
-use Rattle.proof_core.specs.Beneath.epochs.specs.declared.limbo.Zeroed.{Zeroed}
-use Rattle.proof_core.specs.Beneath.epochs.specs.Limbo.{is_in}
+use Rattle.proof_core.specs.Vocabulary.{TakesUpTo, Zeroed, is_in, State, operation_of, refs_of_operation}
 use Rattle.proof_core.specs.Beneath.epochs.specs.Memories.{Memory}
-use Rattle.proof_core.specs.Beneath.machine_model.specs.States.{State, operation_of}
-use Rattle.proof_core.specs.Beneath.machine_model.specs.Counting.{refs_of_operation}
 
 -- a state, and the work that was done until it stood
 pub record Worked : Type 0 where

@@ -3,18 +3,11 @@ use Rattle.std.specs.Prelude.{◌≡◌, ℕ, zero, suc, ◌==◌, ◌||◌, Boo
 use Rattle.std.proofs.Common.{refl, sym, ap, ◌∙◌, inl, inr, eq-eqb, ne_eqb}
 use Rattle.std.proofs.lemmas.Bool.{cases_eq, true≢false}
 use Rattle.std.proofs.lemmas.Option.{none-some, same_Some}
-use Rattle.proof_counterexamples.specs.Beneath.ctrie_base.specs.Hashes.{hash_of}
-use Rattle.proof_counterexamples.specs.Beneath.history.specs.declared.calls.Call.{Call}
-use Rattle.proof_counterexamples.specs.Beneath.history.specs.declared.replies.Reply.{Reply}
-use Rattle.proof_counterexamples.specs.Beneath.history.specs.declared.replies.Reply.TheVariants.{NoSlots}
-use Rattle.proof_counterexamples.specs.Beneath.history.specs.declared.events.Event.{Event}
-use Rattle.proof_counterexamples.specs.Beneath.history.specs.declared.events.Event.TheVariants.{Begin, End}
-use Rattle.proof_counterexamples.specs.Beneath.history.specs.Worlds.{HandleMap, first_world}
-use Rattle.proof_counterexamples.specs.Beneath.history.specs.Histories.{Operation, BeginsAt, EndsAt, HasEnded, IsWellFormed}
-use Rattle.proof_counterexamples.specs.Beneath.history.specs.Orders.{OrderedAt, Answered, Recalls, RecallsEach, Replays, Explains}
+use Rattle.proof_counterexamples.specs.Vocabulary.{hash_of, Call, Reply, NoSlots, Event, End, HandleMap, first_world, BeginsAt, EndsAt, HasEnded, IsWellFormed, OrderedAt, Answered, Recalls}
+use Rattle.proof_counterexamples.specs.Vocabulary.{RecallsEach, Replays, Explains, Bounds, Record}
+use Rattle.proof_counterexamples.specs.Beneath.history.specs.declared.events.Event.TheVariants.{Begin}
+use Rattle.proof_counterexamples.specs.Beneath.history.specs.Histories.{Operation}
 use Rattle.proof_counterexamples.specs.Beneath.history.proofs.OneWorld.{same_call}
-use Rattle.machine_model.specs.declared.steps.Bounds.{Bounds}
-use Rattle.machine_model.specs.Records.{Record}
 use Rattle.proof_counterexamples.specs.Laws.{IsIllegal}
 use Rattle.proof_counterexamples.proofs.Views.{View, shown, first_view, shown_first}
 use Rattle.proof_counterexamples.proofs.Told.{Told, told, Fits, fits}

@@ -4,14 +4,10 @@ use Rattle.std.specs.Option.{option_eq}
 use Rattle.std.specs.FinMap as map
 use Rattle.std.proofs.Common.{refl, sym, ap, ◌∙◌, subst, eq-eqb}
 use Rattle.std.proofs.lemmas.Option.{none-some, some_pair_parts}
-use Rattle.proof_counterexamples.specs.Beneath.history.specs.declared.calls.Access.{Access}
-use Rattle.proof_counterexamples.specs.Beneath.history.specs.declared.calls.Access.TheVariants.{Writable, ReadOnly}
-use Rattle.proof_counterexamples.specs.Beneath.history.specs.declared.calls.Call.{Call}
-use Rattle.proof_counterexamples.specs.Beneath.history.specs.declared.calls.Call.TheVariants.{Get, Put, Remove, Snapshot, Freeze}
-use Rattle.proof_counterexamples.specs.Beneath.history.specs.declared.replies.Reply.{Reply}
+use Rattle.proof_counterexamples.specs.Vocabulary.{Access, Writable, ReadOnly, Call, Get, Put, Remove, Snapshot, Freeze, Reply, KeyMap, HandleState, HandleMap, Effect, with_access, remove_in}
+use Rattle.proof_counterexamples.specs.Vocabulary.{is_crowded, naming}
 use Rattle.proof_counterexamples.specs.Beneath.history.specs.declared.replies.Reply.TheVariants as reply
-use Rattle.proof_counterexamples.specs.Beneath.history.specs.Worlds.{KeyMap, HandleState, HandleMap}
-use Rattle.proof_counterexamples.specs.Beneath.history.specs.Effects.{Effect, with_access, put_in, remove_in, is_crowded, naming}
+use Rattle.proof_counterexamples.specs.Beneath.history.specs.Effects.{put_in}
 use Rattle.proof_counterexamples.proofs.Views.{Keys, View, seen, shown, written, shown_insert, keys_insert, keys_remove}
 
 -- the recorded reply has another value than this one

@@ -5,9 +5,7 @@ use Rattle.std.specs.Cmp.{nat_cmp_total}
 use Rattle.std.specs.FinMap as map
 use Rattle.std.specs.FinMap.{get-insert, get-remove, get-empty}
 use Rattle.std.proofs.Common.{refl, ap, ◌∙◌}
-use Rattle.proof_counterexamples.specs.Beneath.history.specs.declared.calls.Access.{Access}
-use Rattle.proof_counterexamples.specs.Beneath.history.specs.declared.calls.Access.TheVariants.{Writable}
-use Rattle.proof_counterexamples.specs.Beneath.history.specs.Worlds.{KeyMap, HandleState, HandleMap, first_world}
+use Rattle.proof_counterexamples.specs.Vocabulary.{Access, Writable, KeyMap, HandleState, HandleMap, first_world}
 
 -- the value of each key, if it has one
 abbrev pub Keys : Type 0

@@ -1,14 +1,9 @@
 -- For each mistake a run, its history and its order: that order isn't legal for that history.
 use Rattle.std.specs.Prelude.{◌≡◌, ℕ, List, [], ◌∷◌, Some, None}
-use Rattle.proof_counterexamples.specs.Beneath.ctrie_base.specs.Hashes.{hash_of}
+use Rattle.proof_counterexamples.specs.Vocabulary.{hash_of, Event, IsLegal, Bounds, Record, order_of, record_of, sized}
 use Rattle.proof_counterexamples.specs.Beneath.history.specs.declared.calls.Call.TheVariants as call
 use Rattle.proof_counterexamples.specs.Beneath.history.specs.declared.replies.Reply.TheVariants as reply
-use Rattle.proof_counterexamples.specs.Beneath.history.specs.declared.events.Event.{Event}
 use Rattle.proof_counterexamples.specs.Beneath.history.specs.declared.events.Event.TheVariants as event
-use Rattle.proof_counterexamples.specs.Beneath.history.specs.Orders.{IsLegal}
-use Rattle.machine_model.specs.declared.steps.Bounds.{Bounds}
-use Rattle.machine_model.specs.Records.{Record, order_of, record_of}
-use Rattle.machine_model.specs.Runs.{sized}
 use Rattle.proof_counterexamples.specs.Orders.{with_late_commits_at_the_end, with_late_reads_at_the_end, by_ends, with_refused}
 use Rattle.proof_counterexamples.specs.Machines.{record_by, by_the_new_root, without_the_root, without_comparing, without_the_single, with_refused_changes, with_refused_climbs}
 use Rattle.proof_counterexamples.specs.Runs.{late_put, late_get, refused_put, refused_change, last_removal, late_removal, overtaken_put, overtaken_snapshot, cleaning_get}

@@ -1,4 +1,5 @@
 pub mod Beneath
+pub mod Vocabulary
 pub mod Orders
 pub mod Machines
 pub mod Runs

@@ -1,39 +1,19 @@
 -- Wrong machines: each takes the true machine's step, and then makes one mistake.
 use Rattle.std.specs.Prelude.{ℕ, ◌==◌, List, [], ◌∷◌, map, Option, Some, None, if◌then◌else◌}
-use Rattle.proof_counterexamples.specs.Beneath.ctrie_base.specs.Paths.{position_of}
+use Rattle.proof_counterexamples.specs.Vocabulary.{position_of, Ref, Node, Place, Operation, SwapLine, Descriptor, Complete, CompleteLine, Line, Bounds, Step, Heap, node_at, generation_at}
+use Rattle.proof_counterexamples.specs.Vocabulary.{bitmap_of, written, next_ref, removed, handle_of, State, first_state, operation_of, word_at, flag_in, changed, root_after, given_root, Record}
+use Rattle.proof_counterexamples.specs.Vocabulary.{first_record, next_record, place_of, entrant_of, next_state}
 use Rattle.proof_counterexamples.specs.Beneath.history.specs.declared.replies.Reply.TheVariants as reply
-use Rattle.proof_counterexamples.specs.Beneath.slot_arena.specs.declared.refs.Ref.{Ref}
-use Rattle.proof_counterexamples.specs.Beneath.slot_arena.specs.declared.nodes.Node.{Node}
-use Rattle.proof_counterexamples.specs.Beneath.places.specs.declared.place.Place.{Place}
-use Rattle.machine_model.specs.declared.operations.Operation.{Operation}
 use Rattle.machine_model.specs.declared.building.BuildLine.TheVariants as build
 use Rattle.machine_model.specs.declared.reading.ReadLine.TheVariants as read
-use Rattle.machine_model.specs.declared.reading.SwapLine.{SwapLine}
 use Rattle.machine_model.specs.declared.reading.SwapLine.TheVariants as swap
-use Rattle.machine_model.specs.declared.roots.Descriptor.{Descriptor}
-use Rattle.machine_model.specs.declared.roots.Complete.{Complete}
-use Rattle.machine_model.specs.declared.roots.CompleteLine.{CompleteLine}
 use Rattle.machine_model.specs.declared.roots.CompleteLine.TheVariants as complete
 use Rattle.machine_model.specs.declared.roots.RootLine.TheVariants as root
 use Rattle.machine_model.specs.declared.repairs.CleanLine.TheVariants as clean
 use Rattle.machine_model.specs.declared.repairs.ClimbLine.TheVariants as climb
 use Rattle.machine_model.specs.declared.copying.CopyLine.TheVariants as copy
-use Rattle.machine_model.specs.declared.lines.Line.{Line}
 use Rattle.machine_model.specs.declared.lines.Line.TheVariants as line
-use Rattle.machine_model.specs.declared.steps.Bounds.{Bounds}
-use Rattle.machine_model.specs.declared.steps.Step.{Step}
 use Rattle.machine_model.specs.declared.steps.Step.TheVariants as step
-use Rattle.proof_counterexamples.specs.Beneath.slot_arena.specs.Heaps.{Heap, node_at, generation_at, bitmap_of, written, next_ref}
-use Rattle.proof_counterexamples.specs.Beneath.nodes.specs.Builders.{removed}
-use Rattle.machine_model.specs.Calls.{handle_of}
-use Rattle.machine_model.specs.States.{State, first_state, operation_of, word_at}
-use Rattle.machine_model.specs.Paths.{flag_in}
-use Rattle.machine_model.specs.Building.{changed}
-use Rattle.machine_model.specs.Swapping.{root_after}
-use Rattle.machine_model.specs.Operations.{given_root}
-use Rattle.machine_model.specs.Records.{Record, first_record, next_record, place_of}
-use Rattle.machine_model.specs.Tellings.{entrant_of}
-use Rattle.machine_model.specs.Machine.{next_state}
 
 -- a machine: what a step makes of a state, and what is recorded of it
 pub record Machine : Type 0 where

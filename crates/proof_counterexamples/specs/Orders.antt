@@ -1,11 +1,7 @@
 -- Wrong orders of a run's operations.
 use Rattle.std.specs.Prelude.{ℕ, true, List, [], ◌∷◌, ◌++◌, map, flat_map, if◌then◌else◌}
-use Rattle.proof_counterexamples.specs.Beneath.history.specs.declared.replies.Reply.TheVariants.{NoSlots}
-use Rattle.proof_counterexamples.specs.Beneath.history.specs.declared.events.Event.{Event}
-use Rattle.proof_counterexamples.specs.Beneath.history.specs.declared.events.Event.TheVariants.{Begin, End}
-use Rattle.proof_counterexamples.specs.Beneath.places.specs.declared.place.Place.{Place}
-use Rattle.proof_counterexamples.specs.Beneath.places.specs.Places.{ids_by_place}
-use Rattle.machine_model.specs.Records.{Record, order_of}
+use Rattle.proof_counterexamples.specs.Vocabulary.{NoSlots, Event, End, Place, ids_by_place, Record, order_of}
+use Rattle.proof_counterexamples.specs.Beneath.history.specs.declared.events.Event.TheVariants.{Begin}
 
 -- the place as of what is never late: by its moment
 abbrev pub by_moment : Place → Place

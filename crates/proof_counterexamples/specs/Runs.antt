@@ -2,11 +2,9 @@
 use Rattle.std.specs.Prelude.{ℕ, List, [], ◌∷◌, ◌++◌, replicate, Some, None}
 use Rattle.proof_counterexamples.specs.Beneath.history.specs.declared.calls.Call.TheVariants as call
 use Rattle.proof_counterexamples.specs.Beneath.history.specs.declared.replies.Reply.TheVariants as reply
-use Rattle.proof_counterexamples.specs.Beneath.history.specs.declared.events.Event.{Event}
+use Rattle.proof_counterexamples.specs.Vocabulary.{Event, Step, taking}
 use Rattle.proof_counterexamples.specs.Beneath.history.specs.declared.events.Event.TheVariants as event
-use Rattle.machine_model.specs.declared.steps.Step.{Step}
 use Rattle.machine_model.specs.declared.steps.Step.TheVariants as step
-use Rattle.machine_model.specs.Runs.{taking}
 
 -- an actor's operation goes on for so many steps
 abbrev pub going : ℕ → ℕ → List Step

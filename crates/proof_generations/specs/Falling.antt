@@ -1,36 +1,16 @@
 -- How generations fall along paths, over a run of so many steps: what is shown of it, in the words that the layers above use.
 use Rattle.std.specs.Prelude.{◌≡◌, ℕ, suc, ◌<◌, ◌≤◌, ◌⊎◌, List, Contains, Some, []}
-use Rattle.proof_generations.specs.Beneath.history.specs.declared.calls.Access.TheVariants.{Writable, ReadOnly}
-use Rattle.proof_generations.specs.Beneath.slot_arena.specs.declared.refs.Ref.{Ref}
-use Rattle.proof_generations.specs.Beneath.slot_arena.specs.declared.nodes.Node.TheVariants.{Indirection}
-use Rattle.proof_generations.specs.Beneath.slot_arena.specs.Heaps.{generation_of, entries_of}
+use Rattle.proof_generations.specs.Vocabulary.{Writable, ReadOnly, Ref, Indirection, generation_of, entries_of, Purpose, Operation, Moment, Gives, Read, Swap, RenewLine, Root, Bounds, Outcome, Go}
+use Rattle.proof_generations.specs.Vocabulary.{State, root_at, operation_of, read_of, read_step, Moves, node_under, Record, closed_at, moment_at, noted, told_in}
 use Rattle.proof_generations.specs.Beneath.machine_model.specs.declared.lines.Line.TheVariants as line
-use Rattle.proof_generations.specs.Beneath.machine_model.specs.declared.lines.Purpose.{Purpose}
 use Rattle.proof_generations.specs.Beneath.machine_model.specs.declared.lines.Purpose.TheVariants as purpose
-use Rattle.proof_generations.specs.Beneath.machine_model.specs.declared.operations.Operation.{Operation}
-use Rattle.proof_generations.specs.Beneath.machine_model.specs.declared.records.Moment.{Moment}
-use Rattle.proof_generations.specs.Beneath.machine_model.specs.declared.reading.After.TheVariants.{Gives}
-use Rattle.proof_generations.specs.Beneath.machine_model.specs.declared.reading.Read.{Read}
 use Rattle.proof_generations.specs.Beneath.machine_model.specs.declared.reading.ReadLine.TheVariants as read
-use Rattle.proof_generations.specs.Beneath.machine_model.specs.declared.reading.Swap.{Swap}
-use Rattle.proof_generations.specs.Beneath.machine_model.specs.declared.repairs.RenewLine.{RenewLine}
 use Rattle.proof_generations.specs.Beneath.machine_model.specs.declared.repairs.RenewLine.TheVariants as renew
-use Rattle.proof_generations.specs.Beneath.machine_model.specs.declared.roots.Root.{Root}
-use Rattle.proof_generations.specs.Beneath.machine_model.specs.declared.steps.Bounds.{Bounds}
-use Rattle.proof_generations.specs.Beneath.machine_model.specs.declared.steps.Outcome.{Outcome}
-use Rattle.proof_generations.specs.Beneath.machine_model.specs.declared.steps.Step.TheVariants.{Go}
-use Rattle.proof_generations.specs.Beneath.machine_model.specs.States.{State, root_at, operation_of}
-use Rattle.proof_generations.specs.Beneath.machine_model.specs.Operations.{read_of}
-use Rattle.proof_generations.specs.Beneath.machine_model.specs.Reading.{read_step}
-use Rattle.proof_generations.specs.Beneath.machine_model.specs.Moves.{Moves}
-use Rattle.proof_generations.specs.Beneath.machine_model.specs.Grown.{node_under}
 use Rattle.proof_commits.specs.Laws.{IsNoSwap}
 use Rattle.proof_generations.specs.Laws.Roots.{root_generation}
 use Rattle.proof_contents.specs.Tries.{generation, node_in}
 use Rattle.proof_contents.specs.Runs.{counting_main, trie_of}
 use Rattle.proof_contents.specs.Lines.Repairs.{ReadsBelow}
-use Rattle.proof_generations.specs.Beneath.machine_model.specs.Records.{Record, closed_at, moment_at, noted}
-use Rattle.proof_generations.specs.Beneath.machine_model.specs.Tellings.{told_in}
 
 -- ---- what falls
 

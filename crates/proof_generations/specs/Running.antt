@@ -1,7 +1,6 @@
 -- Which operation an actor runs.
 use Rattle.std.specs.Prelude.{◌≡◌, ℕ, get_or, Some, None}
-use Rattle.proof_generations.specs.Beneath.machine_model.specs.declared.operations.Operation.{Operation}
-use Rattle.proof_generations.specs.Beneath.machine_model.specs.States.{State}
+use Rattle.proof_generations.specs.Vocabulary.{Operation, State}
 
 -- the actor k + 1 runs this operation
 abbrev pub Runs : State → ℕ → Operation → Type 0

@@ -1,11 +1,6 @@
 -- What stands on handles: of which kind they are open, and of which generation their roots are.
 use Rattle.std.specs.Prelude.{◌≡◌, ℕ, ◌<◌, ◌⊎◌, Option, Some, None}
-use Rattle.proof_generations.specs.Beneath.history.specs.declared.calls.Access.{Access}
-use Rattle.proof_generations.specs.Beneath.history.specs.declared.calls.Access.TheVariants.{Writable}
-use Rattle.proof_generations.specs.Beneath.slot_arena.specs.Heaps.{Heap, generation_at}
-use Rattle.proof_generations.specs.Beneath.machine_model.specs.declared.roots.Root.{Root}
-use Rattle.proof_generations.specs.Beneath.machine_model.specs.States.{State, root_at, root_of}
-use Rattle.proof_generations.specs.Beneath.machine_model.specs.Records.{Record, closed_at}
+use Rattle.proof_generations.specs.Vocabulary.{Access, Writable, Heap, generation_at, Root, State, root_at, root_of, Record, closed_at}
 
 -- the kind of an open handle, and the generation of its root
 abbrev pub standing_of : Heap → Option Root → Option (Access × ℕ)

@@ -1,14 +1,6 @@
 -- Laws of what a machine holds, in the words of the calls of its heap.
 use Rattle.std.specs.Prelude.{◌≡◌, ℕ, ◌≤◌, List, length, Some}
-use Rattle.proof_memory.specs.Beneath.slot_arena.specs.declared.refs.Ref.{Ref}
-use Rattle.proof_memory.specs.Beneath.slot_arena.specs.Arenas.{IsLive}
-use Rattle.proof_memory.specs.Beneath.slot_arena.specs.Times.{times}
-use Rattle.machine_model.specs.declared.operations.Operation.{Operation}
-use Rattle.machine_model.specs.declared.steps.Bounds.{Bounds}
-use Rattle.machine_model.specs.declared.steps.Step.{Step}
-use Rattle.machine_model.specs.States.{handle_limit, operation_of}
-use Rattle.machine_model.specs.Operations.{action_of}
-use Rattle.machine_model.specs.Machine.{AreBounds, run}
+use Rattle.proof_memory.specs.Vocabulary.{Ref, IsLive, times, Operation, Bounds, Step, handle_limit, operation_of, action_of, AreBounds, run}
 use Rattle.proof_memory.specs.Wants.{AllHold, action_wants}
 
 -- no reference stands twice in a private list

@@ -1,26 +1,8 @@
 -- Laws of memory, for every list of steps.
 use Rattle.std.specs.Prelude.{◌≡◌, ℕ, ◌+◌, ◌≤◌, ◌||◌, Bool, true, false, is_some, List, [], ◌∷◌, ◌++◌, map, All, Contains, Some}
-use Rattle.proof_memory.specs.Beneath.slot_arena.specs.declared.refs.Ref.{Ref}
-use Rattle.proof_memory.specs.Beneath.slot_arena.specs.declared.nodes.Node.{Node}
-use Rattle.proof_memory.specs.Beneath.slot_arena.specs.declared.nodes.Slot.{Slot}
-use Rattle.proof_memory.specs.Beneath.slot_arena.specs.Heaps.{Heap, stored, next_ref, refs_of_slot, with_main_word}
-use Rattle.proof_memory.specs.Beneath.slot_arena.specs.Counts.{count_of}
-use Rattle.proof_memory.specs.Beneath.epochs.specs.declared.limbo.Zeroed.{Zeroed}
-use Rattle.machine_model.specs.declared.lines.Line.{Line}
+use Rattle.proof_memory.specs.Vocabulary.{Ref, Node, Slot, Heap, stored, next_ref, refs_of_slot, with_main_word, count_of, Zeroed, Line, Operation, Root, Bounds, Step, Sweep, handle_of, State}
+use Rattle.proof_memory.specs.Vocabulary.{root_at, operation_of, outside, refs_of_root, content_at, held, action_of, AreBounds, run, next_state, standing, next_record, record_of}
 use Rattle.machine_model.specs.declared.lines.Line.TheVariants as line
-use Rattle.machine_model.specs.declared.operations.Operation.{Operation}
-use Rattle.machine_model.specs.declared.roots.Root.{Root}
-use Rattle.machine_model.specs.declared.steps.Bounds.{Bounds}
-use Rattle.machine_model.specs.declared.steps.Step.{Step}
-use Rattle.machine_model.specs.declared.steps.Step.TheVariants.{Sweep}
-use Rattle.machine_model.specs.Calls.{handle_of}
-use Rattle.machine_model.specs.States.{State, root_at, operation_of}
-use Rattle.machine_model.specs.Counting.{outside, refs_of_root}
-use Rattle.machine_model.specs.Contents.{content_at, held}
-use Rattle.machine_model.specs.Operations.{action_of}
-use Rattle.machine_model.specs.Machine.{AreBounds, run, next_state}
-use Rattle.machine_model.specs.Grown.{standing}
-use Rattle.machine_model.specs.Records.{next_record, record_of}
 use Rattle.proof_memory.specs.Wants.{AllHold, is_formed, node_wants, prev_wants, word_wants, action_wants, line_wants}
 
 -- the reference names a slot in use, under that very birth

@@ -1,18 +1,9 @@
 -- Which node a step makes, under which reference, and of which level it is.
 use Rattle.std.specs.Prelude.{ℕ, Option, Some, None}
-use Rattle.proof_memory.specs.Beneath.slot_arena.specs.declared.refs.Ref.{Ref}
-use Rattle.proof_memory.specs.Beneath.slot_arena.specs.declared.nodes.Node.{Node}
-use Rattle.proof_memory.specs.Beneath.slot_arena.specs.Heaps.{next_ref}
-use Rattle.machine_model.specs.declared.operations.Operation.{Operation}
-use Rattle.machine_model.specs.declared.steps.Step.{Step}
+use Rattle.proof_memory.specs.Vocabulary.{Ref, Node, next_ref, Operation, Step, State, operation_of, action_of, Indirection, Action}
 use Rattle.machine_model.specs.declared.steps.Step.TheVariants as step
-use Rattle.machine_model.specs.States.{State, operation_of}
-use Rattle.machine_model.specs.Operations.{action_of}
 use Rattle.proof_memory.specs.Levels.{made_level}
-use Rattle.proof_memory.specs.Beneath.slot_arena.specs.declared.nodes.Node.TheVariants.{Indirection}
-use Rattle.machine_model.specs.declared.actions.Action.{Action}
 use Rattle.machine_model.specs.declared.actions.Action.TheVariants as act
-use Rattle.machine_model.specs.States.{State}
 
 -- the node that an action makes, if it makes one
 abbrev pub made_node : State → Action → Option Node

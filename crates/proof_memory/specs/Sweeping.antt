@@ -1,11 +1,6 @@
 -- What the sweep takes at most for a slot, and which slots it leaves in use.
 use Rattle.std.specs.Prelude.{◌≡◌, ℕ, ◌+◌, ◌*◌, false, List, []}
-use Rattle.proof_memory.specs.Beneath.slot_arena.specs.declared.refs.Ref.{Ref}
-use Rattle.machine_model.specs.declared.steps.Bounds.{Bounds}
-use Rattle.machine_model.specs.declared.steps.Step.{Step}
-use Rattle.machine_model.specs.Contents.{IsReached}
-use Rattle.machine_model.specs.Machine.{AreBounds, is_busy, run}
-use Rattle.machine_model.specs.States.{State}
+use Rattle.proof_memory.specs.Vocabulary.{Ref, Bounds, Step, IsReached, AreBounds, is_busy, run, State}
 use Rattle.proof_memory.specs.Laws.{IsInUse}
 
 -- the most steps for a slot that is freed: the epoch grows twice, each time when all actors were passed, and one step frees it

@@ -2,54 +2,24 @@
 use Rattle.std.proofs.Common.{◌≡◌, ℕ, ◌+◌, ◌-◌, ◌*◌, ◌≤◌, ◌==◌, ◌&&◌, nat_le, nat_lt, Bool, true, false, List, length, Option, Some, None, inl, inr, sym, subst, refl, eqb-true, arith}
 use Rattle.std.proofs.lemmas.Bool.{cases_lt, cond_both, eqb-false}
 use Rattle.std.proofs.lemmas.List.{length_push}
-use Rattle.proof_operations.specs.Beneath.history.specs.declared.calls.Access.{Access}
-use Rattle.proof_operations.specs.Beneath.history.specs.declared.calls.Access.TheVariants.{ReadOnly, Writable}
-use Rattle.proof_operations.specs.Beneath.nodes.specs.Levels.{has_flag}
-use Rattle.proof_operations.specs.Beneath.slot_arena.specs.declared.nodes.Node.{Node}
-use Rattle.proof_operations.specs.Beneath.slot_arena.specs.declared.nodes.Node.TheVariants.{Indirection, Branch, Single, Tomb, List as Listed}
-use Rattle.proof_operations.specs.Beneath.slot_arena.specs.declared.nodes.Prev.{Prev}
+use Rattle.proof_operations.specs.Vocabulary.{Access, ReadOnly, Writable, has_flag, Node, Indirection, Branch, Single, Tomb, List as Listed, Prev, Ref, entries_of, entry_at, node_at, Action}
+use Rattle.proof_operations.specs.Vocabulary.{BuildLine, Site, KeyLine, WhenFound, Answers, Removes, Sets, Line, Purpose, Operation, After, Gives, Read, ReadLine, Swap, SwapLine, Climb}
+use Rattle.proof_operations.specs.Vocabulary.{CompleteLine, Descriptor, RootLine, private_after, with_made, after_link, after_single, build_action, build_after, build_if_made, old_hash, handle_of}
+use Rattle.proof_operations.specs.Vocabulary.{inserts, key_of, when_found, climbing, absent, absent_beside, absent_listed, after_listed, after_sibling, after_tomb, found_so, is_passable, key_action}
+use Rattle.proof_operations.specs.Vocabulary.{key_after, key_after_entry, key_after_main, key_after_read, removing, after_update, climbed_on, swapped, depth_of, flag_in, hash_in, is_below_root}
+use Rattle.proof_operations.specs.Vocabulary.{read_action, State, word_at, action_at, after_check, after_deciding, after_publish, complete_action_at, on_line, root_action}
 use Rattle.proof_operations.specs.Beneath.slot_arena.specs.declared.nodes.Prev.TheVariants as prev
-use Rattle.proof_operations.specs.Beneath.slot_arena.specs.declared.refs.Ref.{Ref}
-use Rattle.proof_operations.specs.Beneath.slot_arena.specs.Heaps.{entries_of, entry_at, node_at}
-use Rattle.proof_operations.specs.Beneath.machine_model.specs.declared.actions.Action.{Action}
 use Rattle.proof_operations.specs.Beneath.machine_model.specs.declared.actions.Action.TheVariants as act
-use Rattle.proof_operations.specs.Beneath.machine_model.specs.declared.building.BuildLine.{BuildLine}
 use Rattle.proof_operations.specs.Beneath.machine_model.specs.declared.building.BuildLine.TheVariants as build
-use Rattle.proof_operations.specs.Beneath.machine_model.specs.declared.building.Site.{Site}
 use Rattle.proof_operations.specs.Beneath.machine_model.specs.declared.building.Site.TheVariants as site
-use Rattle.proof_operations.specs.Beneath.machine_model.specs.declared.finding.KeyLine.{KeyLine}
 use Rattle.proof_operations.specs.Beneath.machine_model.specs.declared.finding.KeyLine.TheVariants as key
-use Rattle.proof_operations.specs.Beneath.machine_model.specs.declared.finding.WhenFound.{WhenFound}
-use Rattle.proof_operations.specs.Beneath.machine_model.specs.declared.finding.WhenFound.TheVariants.{Answers, Removes, Sets}
-use Rattle.proof_operations.specs.Beneath.machine_model.specs.declared.lines.Line.{Line}
-use Rattle.proof_operations.specs.Beneath.machine_model.specs.declared.lines.Purpose.{Purpose}
 use Rattle.proof_operations.specs.Beneath.machine_model.specs.declared.lines.Purpose.TheVariants as purpose
-use Rattle.proof_operations.specs.Beneath.machine_model.specs.declared.operations.Operation.{Operation}
-use Rattle.proof_operations.specs.Beneath.machine_model.specs.declared.reading.After.{After}
-use Rattle.proof_operations.specs.Beneath.machine_model.specs.declared.reading.After.TheVariants.{Goes, Gives}
-use Rattle.proof_operations.specs.Beneath.machine_model.specs.declared.reading.Read.{Read}
-use Rattle.proof_operations.specs.Beneath.machine_model.specs.declared.reading.ReadLine.{ReadLine}
+use Rattle.proof_operations.specs.Beneath.machine_model.specs.declared.reading.After.TheVariants.{Goes}
 use Rattle.proof_operations.specs.Beneath.machine_model.specs.declared.reading.ReadLine.TheVariants as read
-use Rattle.proof_operations.specs.Beneath.machine_model.specs.declared.reading.Swap.{Swap}
-use Rattle.proof_operations.specs.Beneath.machine_model.specs.declared.reading.SwapLine.{SwapLine}
 use Rattle.proof_operations.specs.Beneath.machine_model.specs.declared.reading.SwapLine.TheVariants as swap
-use Rattle.proof_operations.specs.Beneath.machine_model.specs.declared.repairs.Climb.{Climb}
-use Rattle.proof_operations.specs.Beneath.machine_model.specs.declared.roots.CompleteLine.{CompleteLine}
 use Rattle.proof_operations.specs.Beneath.machine_model.specs.declared.roots.CompleteLine.TheVariants as complete
-use Rattle.proof_operations.specs.Beneath.machine_model.specs.declared.roots.Descriptor.{Descriptor}
-use Rattle.proof_operations.specs.Beneath.machine_model.specs.declared.roots.RootLine.{RootLine}
 use Rattle.proof_operations.specs.Beneath.machine_model.specs.declared.roots.RootLine.TheVariants as root
-use Rattle.proof_operations.specs.Beneath.machine_model.specs.Acting.{private_after, with_made}
-use Rattle.proof_operations.specs.Beneath.machine_model.specs.Building.{after_link, after_single, build_action, build_after, build_if_made, old_hash}
-use Rattle.proof_operations.specs.Beneath.machine_model.specs.Calls.{handle_of, inserts, key_of, when_found}
-use Rattle.proof_operations.specs.Beneath.machine_model.specs.Climbing.{climbing}
-use Rattle.proof_operations.specs.Beneath.machine_model.specs.Finding.{absent, absent_beside, absent_listed, after_listed, after_sibling, after_tomb, found_so, is_passable}
-use Rattle.proof_operations.specs.Beneath.machine_model.specs.Finding.{key_action, key_after, key_after_entry, key_after_main, key_after_read, removing}
-use Rattle.proof_operations.specs.Beneath.machine_model.specs.Operations.{after_swap, after_update, climbed_on, swapped}
-use Rattle.proof_operations.specs.Beneath.machine_model.specs.Paths.{depth_of, flag_in, hash_in, is_below_root}
-use Rattle.proof_operations.specs.Beneath.machine_model.specs.Reading.{read_action}
-use Rattle.proof_operations.specs.Beneath.machine_model.specs.States.{State, word_at}
-use Rattle.proof_operations.specs.Beneath.machine_model.specs.Swapping.{action_at, after_check, after_deciding, after_publish, complete_action_at, on_line, root_action}
+use Rattle.proof_operations.specs.Beneath.machine_model.specs.Operations.{after_swap}
 use Rattle.proof_operations.specs.Beneath.machine_model.specs.Swapping.{after_swap as after_line}
 use Rattle.proof_operations.proofs.MostHeld.{BuildHolds, LineHolds, SwapHolds, none_held, pair_within}
 

@@ -3,66 +3,27 @@ use Rattle.std.proofs.Common.{ℕ, zero, suc, ◌≤◌, ◌==◌, nat_le, Bool,
 use Rattle.std.proofs.Common.{get_or-set_same, get_or-set_other, length-set}
 use Rattle.std.proofs.lemmas.Bool.{cases_eq, cases_lt, cond_both}
 use Rattle.std.proofs.lemmas.List.{get_or_past, length-take}
-use Rattle.proof_operations.specs.Beneath.ctrie_base.specs.declared.hashes.HashKind.{HashKind}
-use Rattle.proof_operations.specs.Beneath.epochs.specs.declared.limbo.Swept.{Swept}
-use Rattle.proof_operations.specs.Beneath.epochs.specs.Sweeping.{Reclaimer, ripe, sweep_by}
-use Rattle.proof_operations.specs.Beneath.nodes.specs.Builders.{by_index, contracted, pair}
-use Rattle.proof_operations.specs.Beneath.nodes.specs.Levels.{index_in, list_depth}
-use Rattle.proof_operations.specs.Beneath.slot_arena.specs.declared.nodes.Node.{Node}
-use Rattle.proof_operations.specs.Beneath.slot_arena.specs.declared.nodes.Node.TheVariants.{Indirection, Branch, Single, Tomb, List as Listed}
-use Rattle.proof_operations.specs.Beneath.slot_arena.specs.declared.nodes.Prev.{Prev}
-use Rattle.proof_operations.specs.Beneath.slot_arena.specs.declared.nodes.Slot.{Slot}
-use Rattle.proof_operations.specs.Beneath.slot_arena.specs.declared.refs.Ref.{Ref}
-use Rattle.proof_operations.specs.Beneath.slot_arena.specs.Refs.{slot_of}
-use Rattle.proof_operations.specs.Beneath.slot_arena.specs.Heaps.{Heap, entries_of, freed, node_at, node_of, stored, take_from, taken, with_main, with_main_word, with_prev, written}
-use Rattle.proof_operations.specs.Beneath.machine_model.specs.declared.actions.Action.{Action}
+use Rattle.proof_operations.specs.Vocabulary.{HashKind, Swept, Reclaimer, ripe, sweep_by, by_index, contracted, pair, index_in, list_depth, Node, Indirection, Branch, Single, Tomb, List as Listed}
+use Rattle.proof_operations.specs.Vocabulary.{Prev, Slot, Ref, slot_of, Heap, entries_of, freed, node_at, node_of, stored, take_from, taken, with_main, with_main_word, with_prev, written, Action}
+use Rattle.proof_operations.specs.Vocabulary.{BuildLine, Change, CopyLine, KeyLine, Line, Operation, ReadLine, SwapLine, CleanLine, ClimbLine, RenewLine, CompleteLine, Descriptor, RootLine, Bounds}
+use Rattle.proof_operations.specs.Vocabulary.{Outcome, Step, WalkLine, acted, decided, if_changed, new_root_taken, build_action, changed, handle_of, clean_action, climb_action, copy_action}
+use Rattle.proof_operations.specs.Vocabulary.{key_action, reclaimer_of, run, Moves, Begins, Ends, Sweeps, begun_operation, action_of, line_action, Verdict, Commits, Fails, Overtaken, read_action}
+use Rattle.proof_operations.specs.Vocabulary.{renew_action, State, empty_heap, first_state, action_at, complete_action_at, root_action, walk_action}
 use Rattle.proof_operations.specs.Beneath.machine_model.specs.declared.actions.Action.TheVariants as act
-use Rattle.proof_operations.specs.Beneath.machine_model.specs.declared.building.BuildLine.{BuildLine}
 use Rattle.proof_operations.specs.Beneath.machine_model.specs.declared.building.BuildLine.TheVariants as build
-use Rattle.proof_operations.specs.Beneath.machine_model.specs.declared.building.Change.{Change}
 use Rattle.proof_operations.specs.Beneath.machine_model.specs.declared.building.Change.TheVariants as change
-use Rattle.proof_operations.specs.Beneath.machine_model.specs.declared.copying.CopyLine.{CopyLine}
 use Rattle.proof_operations.specs.Beneath.machine_model.specs.declared.copying.CopyLine.TheVariants as copy
-use Rattle.proof_operations.specs.Beneath.machine_model.specs.declared.finding.KeyLine.{KeyLine}
 use Rattle.proof_operations.specs.Beneath.machine_model.specs.declared.finding.KeyLine.TheVariants as key
-use Rattle.proof_operations.specs.Beneath.machine_model.specs.declared.lines.Line.{Line}
 use Rattle.proof_operations.specs.Beneath.machine_model.specs.declared.lines.Line.TheVariants as line
-use Rattle.proof_operations.specs.Beneath.machine_model.specs.declared.operations.Operation.{Operation}
-use Rattle.proof_operations.specs.Beneath.machine_model.specs.declared.reading.ReadLine.{ReadLine}
 use Rattle.proof_operations.specs.Beneath.machine_model.specs.declared.reading.ReadLine.TheVariants as read
-use Rattle.proof_operations.specs.Beneath.machine_model.specs.declared.reading.SwapLine.{SwapLine}
 use Rattle.proof_operations.specs.Beneath.machine_model.specs.declared.reading.SwapLine.TheVariants as swap
-use Rattle.proof_operations.specs.Beneath.machine_model.specs.declared.repairs.CleanLine.{CleanLine}
 use Rattle.proof_operations.specs.Beneath.machine_model.specs.declared.repairs.CleanLine.TheVariants as clean
-use Rattle.proof_operations.specs.Beneath.machine_model.specs.declared.repairs.ClimbLine.{ClimbLine}
 use Rattle.proof_operations.specs.Beneath.machine_model.specs.declared.repairs.ClimbLine.TheVariants as climb
-use Rattle.proof_operations.specs.Beneath.machine_model.specs.declared.repairs.RenewLine.{RenewLine}
 use Rattle.proof_operations.specs.Beneath.machine_model.specs.declared.repairs.RenewLine.TheVariants as renew
-use Rattle.proof_operations.specs.Beneath.machine_model.specs.declared.roots.CompleteLine.{CompleteLine}
 use Rattle.proof_operations.specs.Beneath.machine_model.specs.declared.roots.CompleteLine.TheVariants as complete
-use Rattle.proof_operations.specs.Beneath.machine_model.specs.declared.roots.Descriptor.{Descriptor}
-use Rattle.proof_operations.specs.Beneath.machine_model.specs.declared.roots.RootLine.{RootLine}
 use Rattle.proof_operations.specs.Beneath.machine_model.specs.declared.roots.RootLine.TheVariants as root
-use Rattle.proof_operations.specs.Beneath.machine_model.specs.declared.steps.Bounds.{Bounds}
-use Rattle.proof_operations.specs.Beneath.machine_model.specs.declared.steps.Outcome.{Outcome}
-use Rattle.proof_operations.specs.Beneath.machine_model.specs.declared.steps.Step.{Step}
-use Rattle.proof_operations.specs.Beneath.machine_model.specs.declared.walking.WalkLine.{WalkLine}
 use Rattle.proof_operations.specs.Beneath.machine_model.specs.declared.walking.WalkLine.TheVariants as walk
-use Rattle.proof_operations.specs.Beneath.machine_model.specs.Acting.{acted, decided, if_changed, new_root_taken}
-use Rattle.proof_operations.specs.Beneath.machine_model.specs.Building.{build_action, changed}
-use Rattle.proof_operations.specs.Beneath.machine_model.specs.Calls.{handle_of}
-use Rattle.proof_operations.specs.Beneath.machine_model.specs.Cleaning.{clean_action}
-use Rattle.proof_operations.specs.Beneath.machine_model.specs.Climbing.{climb_action}
-use Rattle.proof_operations.specs.Beneath.machine_model.specs.Copying.{copy_action}
-use Rattle.proof_operations.specs.Beneath.machine_model.specs.Finding.{key_action}
-use Rattle.proof_operations.specs.Beneath.machine_model.specs.Machine.{reclaimer_of, run}
-use Rattle.proof_operations.specs.Beneath.machine_model.specs.Moves.{Moves, Begins, Ends, Goes, Sweeps, begun_operation}
-use Rattle.proof_operations.specs.Beneath.machine_model.specs.Operations.{action_of, line_action}
-use Rattle.proof_operations.specs.Beneath.machine_model.specs.Reading.{Verdict, Commits, Fails, Overtaken, read_action}
-use Rattle.proof_operations.specs.Beneath.machine_model.specs.Renewing.{renew_action}
-use Rattle.proof_operations.specs.Beneath.machine_model.specs.States.{State, empty_heap, first_state}
-use Rattle.proof_operations.specs.Beneath.machine_model.specs.Swapping.{action_at, complete_action_at, root_action}
-use Rattle.proof_operations.specs.Beneath.machine_model.specs.Walking.{walk_action}
+use Rattle.proof_operations.specs.Beneath.machine_model.specs.Moves.{Goes}
 use Rattle.proof_operations.specs.Beneath.machine_model.proofs.Along.{along}
 use Rattle.proof_operations.specs.Beneath.machine_model.proofs.HeapMoves.{aborted_heap, begin_heap, completed_heap, offered_heap}
 

@@ -1,11 +1,7 @@
 -- Which ids were given.
 use Rattle.std.proofs.Common.{◌≡◌, ℕ, zero, suc, ◌<◌, List, Some, ap}
 use Rattle.std.proofs.lemmas.Option.{none-some}
-use Rattle.proof_operations.specs.Beneath.machine_model.specs.declared.operations.Operation.{Operation}
-use Rattle.proof_operations.specs.Beneath.machine_model.specs.declared.steps.Bounds.{Bounds}
-use Rattle.proof_operations.specs.Beneath.machine_model.specs.declared.steps.Step.{Step}
-use Rattle.proof_operations.specs.Beneath.machine_model.specs.States.{State, operation_of}
-use Rattle.proof_operations.specs.Beneath.machine_model.specs.Machine.{run}
+use Rattle.proof_operations.specs.Vocabulary.{Operation, Bounds, Step, State, operation_of, run}
 use Rattle.proof_generations.proofs.Handles.Ids.{HasIds}
 use Rattle.proof_generations.proofs.Roots.OfLists.{has_handles_along}
 use Rattle.proof_operations.specs.Laws.{IdsApart}

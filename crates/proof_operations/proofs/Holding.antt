@@ -3,43 +3,22 @@ use Rattle.std.proofs.Common.{ℕ, ◌≤◌, ◌||◌, nat_eq, nat_lt, Bool, tr
 use Rattle.std.specs.Cmp.Lexicographic.{pointwise}
 use Rattle.std.proofs.lemmas.Bool.{cond_both}
 use Rattle.std.proofs.lemmas.List.{length_push}
-use Rattle.proof_operations.specs.Beneath.history.specs.declared.calls.Call.{Call}
-use Rattle.proof_operations.specs.Beneath.history.specs.declared.calls.Call.TheVariants.{Clear, Close, Count, Entries, Freeze, Snapshot}
-use Rattle.proof_operations.specs.Beneath.slot_arena.specs.declared.nodes.Node.{Node}
-use Rattle.proof_operations.specs.Beneath.slot_arena.specs.declared.nodes.Node.TheVariants.{Indirection, Branch, Single, Tomb, List as Listed}
-use Rattle.proof_operations.specs.Beneath.slot_arena.specs.declared.refs.Ref.{Ref}
-use Rattle.proof_operations.specs.Beneath.slot_arena.specs.Heaps.{entries_of, generation_at, node_at}
+use Rattle.proof_operations.specs.Vocabulary.{Call, Clear, Close, Count, Entries, Freeze, Snapshot, Node, Indirection, Branch, Single, Tomb, List as Listed, Ref, entries_of, generation_at, node_at}
+use Rattle.proof_operations.specs.Vocabulary.{CopyLine, Line, Operation, After, Gives, Read, CleanLine, Climb, ClimbLine, RenewLine, Complete, Descriptor, RootLine, WalkLine, with_made, after_child}
+use Rattle.proof_operations.specs.Vocabulary.{clean_action, clean_next, clean_after, clean_after_contracted, clean_after_entry, clean_after_main, clean_after_read, clean_after_tomb, climb_action}
+use Rattle.proof_operations.specs.Vocabulary.{climb_after, climb_after_contracted, climb_after_main, climb_after_read, climb_after_root, holds_it, after_given, after_offer, after_successor}
+use Rattle.proof_operations.specs.Vocabulary.{copy_action, copy_after, copy_after_complete, copy_after_read, copy_if_made, after_root, line_action, line_after, is_start, next_entry, renew_action}
+use Rattle.proof_operations.specs.Vocabulary.{renew_after, renew_after_branch, renew_after_entry, renew_after_link, renew_after_read, renew_next, State, first_of, rest_of, walk_action, walk_after}
+use Rattle.proof_operations.specs.Vocabulary.{walk_after_entry, walk_after_read, walk_next}
 use Rattle.proof_operations.specs.Beneath.machine_model.specs.declared.actions.Action.TheVariants as act
-use Rattle.proof_operations.specs.Beneath.machine_model.specs.declared.copying.CopyLine.{CopyLine}
 use Rattle.proof_operations.specs.Beneath.machine_model.specs.declared.copying.CopyLine.TheVariants as copy
-use Rattle.proof_operations.specs.Beneath.machine_model.specs.declared.lines.Line.{Line}
 use Rattle.proof_operations.specs.Beneath.machine_model.specs.declared.lines.Line.TheVariants as line
-use Rattle.proof_operations.specs.Beneath.machine_model.specs.declared.operations.Operation.{Operation}
-use Rattle.proof_operations.specs.Beneath.machine_model.specs.declared.reading.After.{After}
-use Rattle.proof_operations.specs.Beneath.machine_model.specs.declared.reading.After.TheVariants.{Goes, Gives}
-use Rattle.proof_operations.specs.Beneath.machine_model.specs.declared.reading.Read.{Read}
-use Rattle.proof_operations.specs.Beneath.machine_model.specs.declared.repairs.CleanLine.{CleanLine}
+use Rattle.proof_operations.specs.Beneath.machine_model.specs.declared.reading.After.TheVariants.{Goes}
 use Rattle.proof_operations.specs.Beneath.machine_model.specs.declared.repairs.CleanLine.TheVariants as clean
-use Rattle.proof_operations.specs.Beneath.machine_model.specs.declared.repairs.Climb.{Climb}
-use Rattle.proof_operations.specs.Beneath.machine_model.specs.declared.repairs.ClimbLine.{ClimbLine}
 use Rattle.proof_operations.specs.Beneath.machine_model.specs.declared.repairs.ClimbLine.TheVariants as climb
-use Rattle.proof_operations.specs.Beneath.machine_model.specs.declared.repairs.RenewLine.{RenewLine}
 use Rattle.proof_operations.specs.Beneath.machine_model.specs.declared.repairs.RenewLine.TheVariants as renew
-use Rattle.proof_operations.specs.Beneath.machine_model.specs.declared.roots.Complete.{Complete}
-use Rattle.proof_operations.specs.Beneath.machine_model.specs.declared.roots.Descriptor.{Descriptor}
-use Rattle.proof_operations.specs.Beneath.machine_model.specs.declared.roots.RootLine.{RootLine}
-use Rattle.proof_operations.specs.Beneath.machine_model.specs.declared.walking.WalkLine.{WalkLine}
 use Rattle.proof_operations.specs.Beneath.machine_model.specs.declared.walking.WalkLine.TheVariants as walk
-use Rattle.proof_operations.specs.Beneath.machine_model.specs.Acting.{with_made}
-use Rattle.proof_operations.specs.Beneath.machine_model.specs.Cleaning.{after_child, clean_action, clean_next}
-use Rattle.proof_operations.specs.Beneath.machine_model.specs.Cleaning.{clean_after, clean_after_contracted, clean_after_entry, clean_after_main, clean_after_read, clean_after_tomb}
-use Rattle.proof_operations.specs.Beneath.machine_model.specs.Climbing.{climb_action, climb_after, climb_after_contracted, climb_after_main, climb_after_read, climb_after_root, holds_it}
-use Rattle.proof_operations.specs.Beneath.machine_model.specs.Copying.{after_given, after_offer, after_successor, copy_action, copy_after, copy_after_complete, copy_after_read, copy_if_made}
-use Rattle.proof_operations.specs.Beneath.machine_model.specs.Operations.{after_root, from_root, line_action, line_after}
-use Rattle.proof_operations.specs.Beneath.machine_model.specs.Paths.{is_start}
-use Rattle.proof_operations.specs.Beneath.machine_model.specs.Renewing.{next_entry, renew_action, renew_after, renew_after_branch, renew_after_entry, renew_after_link, renew_after_read, renew_next}
-use Rattle.proof_operations.specs.Beneath.machine_model.specs.States.{State}
-use Rattle.proof_operations.specs.Beneath.machine_model.specs.Walking.{first_of, rest_of, walk_action, walk_after, walk_after_entry, walk_after_read, walk_next}
+use Rattle.proof_operations.specs.Beneath.machine_model.specs.Operations.{from_root}
 use Rattle.proof_operations.proofs.Building.{HoldsAfter, builds, climbing_holds, complete_leaves, keys, left_so, read_leaves, root_leaves, swaps}
 use Rattle.proof_operations.proofs.MostHeld.{CopyHolds, LineHolds, RenewHolds}
 

@@ -1,25 +1,13 @@
 -- The most references that a private list has, by the line on which its operation stands.
 use Rattle.std.proofs.Common.{◌≡◌, ℕ, zero, suc, ◌+◌, ◌-◌, ◌*◌, ◌<◌, ◌≤◌, ◌==◌, length, subst, arith}
 use Rattle.std.proofs.lemmas.Bool.{cond_both}
-use Rattle.proof_operations.specs.Beneath.nodes.specs.Levels.{index_in, list_depth, parting}
-use Rattle.proof_operations.specs.Beneath.machine_model.specs.declared.building.BuildLine.{BuildLine}
+use Rattle.proof_operations.specs.Vocabulary.{index_in, list_depth, parting, BuildLine, CopyLine, Line, SwapLine, RenewLine, pair_depth, Operation, line_action, depth_of, action_at, Ref, State}
 use Rattle.proof_operations.specs.Beneath.machine_model.specs.declared.building.BuildLine.TheVariants as build
-use Rattle.proof_operations.specs.Beneath.machine_model.specs.declared.copying.CopyLine.{CopyLine}
 use Rattle.proof_operations.specs.Beneath.machine_model.specs.declared.copying.CopyLine.TheVariants as copy
-use Rattle.proof_operations.specs.Beneath.machine_model.specs.declared.lines.Line.{Line}
 use Rattle.proof_operations.specs.Beneath.machine_model.specs.declared.lines.Line.TheVariants as line
-use Rattle.proof_operations.specs.Beneath.machine_model.specs.declared.reading.SwapLine.{SwapLine}
 use Rattle.proof_operations.specs.Beneath.machine_model.specs.declared.reading.SwapLine.TheVariants as swap
-use Rattle.proof_operations.specs.Beneath.machine_model.specs.declared.repairs.RenewLine.{RenewLine}
 use Rattle.proof_operations.specs.Beneath.machine_model.specs.declared.repairs.RenewLine.TheVariants as renew
-use Rattle.proof_operations.specs.Beneath.machine_model.specs.Building.{pair_depth}
-use Rattle.proof_operations.specs.Beneath.machine_model.specs.declared.operations.Operation.{Operation}
-use Rattle.proof_operations.specs.Beneath.machine_model.specs.Operations.{line_action}
-use Rattle.proof_operations.specs.Beneath.machine_model.specs.Paths.{depth_of}
-use Rattle.proof_operations.specs.Beneath.machine_model.specs.Swapping.{action_at}
-use Rattle.proof_operations.specs.Beneath.slot_arena.specs.declared.refs.Ref.{Ref}
 use Rattle.proof_operations.specs.Laws.{MakesNode}
-use Rattle.proof_operations.specs.Beneath.machine_model.specs.States.{State}
 use Rattle.proof_operations.specs.Beneath.proof_contents.proofs.Shapes.Nodes.{list_depth-le}
 
 -- ---- the most, by the line

@@ -6,24 +6,14 @@ use Rattle.std.proofs.lemmas.Bool.{and_parts, cases_Bool, false≢true, or_left,
 use Rattle.std.proofs.lemmas.List.{get_or-set_same, length-set}
 use Rattle.std.proofs.lemmas.List.Folds.{list_any_at}
 use Rattle.std.proofs.lemmas.Option.{none-some, same_Some}
-use Rattle.proof_operations.specs.Beneath.history.specs.declared.calls.Call.{Call}
+use Rattle.proof_operations.specs.Vocabulary.{Call, Action, Operation, Descriptor, Root, Plain, acted, carried_out, gone, if_changed, mark_after, opened, opened_root, operation_after, handle_of}
+use Rattle.proof_operations.specs.Vocabulary.{settled, go_denial, is_number, is_taken, reserved_by, run, GoesOn, Moves, action_of, kind_of, State, operation_of, root_at, with_word, word_at}
+use Rattle.proof_operations.specs.Vocabulary.{stands_in}
 use Rattle.proof_operations.specs.Beneath.proof_memory.proofs.Holding.Sizes.{sizes_stay}
-use Rattle.proof_operations.specs.Beneath.machine_model.specs.declared.actions.Action.{Action}
 use Rattle.proof_operations.specs.Beneath.machine_model.specs.declared.actions.Action.TheVariants as act
-use Rattle.proof_operations.specs.Beneath.machine_model.specs.declared.operations.Operation.{Operation}
-use Rattle.proof_operations.specs.Beneath.machine_model.specs.declared.roots.Descriptor.{Descriptor}
-use Rattle.proof_operations.specs.Beneath.machine_model.specs.declared.roots.Root.{Root}
-use Rattle.proof_operations.specs.Beneath.machine_model.specs.declared.roots.RootWord.TheVariants.{Plain}
 use Rattle.proof_operations.specs.Beneath.machine_model.specs.declared.steps.Outcome.TheVariants as outcome
 use Rattle.proof_operations.specs.Beneath.machine_model.specs.declared.steps.Step.TheVariants as step
-use Rattle.proof_operations.specs.Beneath.machine_model.specs.Acting.{acted, carried_out, gone, if_changed, mark_after, opened, opened_root, operation_after}
-use Rattle.proof_operations.specs.Beneath.machine_model.specs.Calls.{handle_of}
-use Rattle.proof_operations.specs.Beneath.machine_model.specs.Counting.{settled}
-use Rattle.proof_operations.specs.Beneath.machine_model.specs.Machine.{go_denial, is_number, is_taken, reserved_by, run}
-use Rattle.proof_operations.specs.Beneath.machine_model.specs.Moves.{Goes, GoesOn, Moves}
-use Rattle.proof_operations.specs.Beneath.machine_model.specs.Operations.{action_of, kind_of}
-use Rattle.proof_operations.specs.Beneath.machine_model.specs.States.{State, operation_of, root_at, with_word, word_at}
-use Rattle.proof_operations.specs.Beneath.machine_model.specs.Swapping.{stands_in}
+use Rattle.proof_operations.specs.Beneath.machine_model.specs.Moves.{Goes}
 use Rattle.proof_operations.specs.Beneath.machine_model.proofs.Actors.{mark_one, mark_only, marks_in}
 use Rattle.proof_operations.specs.Beneath.machine_model.proofs.Found.{found_within}
 use Rattle.proof_generations.specs.Running.{Runs}

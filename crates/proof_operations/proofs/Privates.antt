@@ -1,21 +1,12 @@
 -- A private list has 33 references at most.
 use Rattle.std.proofs.Common.{◌≡◌, ℕ, ◌<◌, List, length, Some, arith}
-use Rattle.proof_operations.specs.Beneath.history.specs.declared.calls.Call.{Call}
-use Rattle.proof_operations.specs.Beneath.history.specs.declared.calls.Call.TheVariants.{Close, Count, Entries}
-use Rattle.proof_operations.specs.Beneath.machine_model.specs.declared.operations.Operation.{Operation}
-use Rattle.proof_operations.specs.Beneath.machine_model.specs.declared.steps.Bounds.{Bounds}
-use Rattle.proof_operations.specs.Beneath.machine_model.specs.declared.steps.Step.{Step}
-use Rattle.proof_operations.specs.Beneath.machine_model.specs.Acting.{operation_after}
-use Rattle.proof_operations.specs.Beneath.machine_model.specs.Machine.{run}
-use Rattle.proof_operations.specs.Beneath.machine_model.specs.Operations.{action_of, first_line}
-use Rattle.proof_operations.specs.Beneath.machine_model.specs.States.{State, operation_of}
+use Rattle.proof_operations.specs.Vocabulary.{Call, Close, Count, Entries, Operation, Bounds, Step, operation_after, run, action_of, first_line, State, operation_of}
 use Rattle.proof_operations.specs.Beneath.machine_model.proofs.Actors.{mark_only, marks_by, marks_in}
 use Rattle.proof_operations.specs.Beneath.machine_model.proofs.EachOperation.{OfEach, of_each_along, of_running}
 use Rattle.proof_operations.specs.Laws.{MakesNode, PrivatesAreShort}
 use Rattle.proof_operations.proofs.Entries.{few_entries}
 use Rattle.proof_operations.proofs.Holding.{holds_after}
 use Rattle.proof_operations.proofs.MostHeld.{LineHolds, most, room}
-use Rattle.proof_operations.specs.Beneath.machine_model.specs.declared.steps.Bounds.{Bounds}
 
 abbrev HoldsFew : State → Operation → Type 0
 HoldsFew state operation = LineHolds (length operation.private) operation.line

@@ -1,22 +1,11 @@
 -- There is room for what a step adds to a path, and to the entries that are done.
 use Rattle.std.proofs.Common.{◌≡◌, ℕ, ◌<◌, ◌≤◌, true, List, length, get_or, Some, None, refl, sym, ap, subst, ◌∙◌, ltb-true, arith}
 use Rattle.std.proofs.lemmas.Bool.{false≢true}
-use Rattle.proof_operations.specs.Beneath.nodes.specs.Levels.{list_depth}
-use Rattle.proof_operations.specs.Beneath.slot_arena.specs.declared.refs.Ref.{Ref}
-use Rattle.proof_operations.specs.Beneath.slot_arena.specs.declared.nodes.Node.{Node}
-use Rattle.proof_operations.specs.Beneath.slot_arena.specs.declared.nodes.Node.TheVariants.{Branch}
-use Rattle.proof_operations.specs.Beneath.slot_arena.specs.Heaps.{entries_of, node_at}
+use Rattle.proof_operations.specs.Vocabulary.{list_depth, Ref, Node, Branch, entries_of, node_at, Line, Operation, Bounds, Step, run, AreBounds, State, operation_of, states_of, last_of}
 use Rattle.proof_operations.specs.Beneath.machine_model.specs.declared.finding.KeyLine.TheVariants as key
-use Rattle.proof_operations.specs.Beneath.machine_model.specs.declared.lines.Line.{Line}
 use Rattle.proof_operations.specs.Beneath.machine_model.specs.declared.lines.Line.TheVariants as line
-use Rattle.proof_operations.specs.Beneath.machine_model.specs.declared.operations.Operation.{Operation}
 use Rattle.proof_operations.specs.Beneath.machine_model.specs.declared.repairs.CleanLine.TheVariants as clean
 use Rattle.proof_operations.specs.Beneath.machine_model.specs.declared.repairs.RenewLine.TheVariants as renew
-use Rattle.proof_operations.specs.Beneath.machine_model.specs.declared.steps.Bounds.{Bounds}
-use Rattle.proof_operations.specs.Beneath.machine_model.specs.declared.steps.Step.{Step}
-use Rattle.proof_operations.specs.Beneath.machine_model.specs.Machine.{run, AreBounds}
-use Rattle.proof_operations.specs.Beneath.machine_model.specs.States.{State, operation_of}
-use Rattle.proof_operations.specs.Beneath.machine_model.specs.Times.{states_of, last_of}
 use Rattle.proof_operations.specs.Beneath.machine_model.proofs.Times.{run_is, run_ends}
 use Rattle.proof_operations.specs.Beneath.machine_model.proofs.Grown.{node_standing}
 use Rattle.proof_operations.specs.Beneath.proof_memory.specs.Laws.{IsInUse}

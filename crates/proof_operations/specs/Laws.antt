@@ -1,15 +1,6 @@
 -- What running operations have, for every list of steps: their ids, the handle numbers that they take, and how long their lists get.
 use Rattle.std.specs.Prelude.{◌≡◌, ℕ, ◌<◌, ◌≤◌, List, length, Some, None}
-use Rattle.proof_operations.specs.Beneath.machine_model.specs.declared.operations.Operation.{Operation}
-use Rattle.proof_operations.specs.Beneath.machine_model.specs.declared.steps.Bounds.{Bounds}
-use Rattle.proof_operations.specs.Beneath.machine_model.specs.declared.steps.Step.{Step}
-use Rattle.proof_operations.specs.Beneath.machine_model.specs.Acting.{gone}
-use Rattle.proof_operations.specs.Beneath.machine_model.specs.States.{State, handle_limit, operation_of}
-use Rattle.proof_operations.specs.Beneath.machine_model.specs.Machine.{AreBounds, go_denial, is_taken, run}
-use Rattle.proof_operations.specs.Beneath.machine_model.specs.Moves.{GoesOn}
-use Rattle.proof_operations.specs.Beneath.machine_model.specs.Operations.{action_of}
-use Rattle.proof_operations.specs.Beneath.machine_model.specs.declared.actions.Action.{Action}
-use Rattle.proof_operations.specs.Beneath.machine_model.specs.declared.lines.Line.{Line}
+use Rattle.proof_operations.specs.Vocabulary.{Operation, Bounds, Step, gone, State, handle_limit, operation_of, AreBounds, go_denial, is_taken, run, GoesOn, action_of, Action, Line}
 use Rattle.proof_operations.specs.Beneath.machine_model.specs.declared.actions.Action.TheVariants as act
 use Rattle.proof_operations.specs.Beneath.machine_model.specs.declared.lines.Line.TheVariants as line
 use Rattle.proof_operations.specs.Beneath.machine_model.specs.declared.finding.KeyLine.TheVariants as key

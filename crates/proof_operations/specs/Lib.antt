@@ -1,2 +1,3 @@
 pub mod Beneath
+pub mod Vocabulary
 pub mod Laws

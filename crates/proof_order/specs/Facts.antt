@@ -2,38 +2,15 @@
 -- step t, and V g t the content of generation g before step t, as it looks from the end of the run.
 use Rattle.std.specs.Prelude.{◌≡◌, ◌≢◌, ℕ, suc, ◌≤◌, ◌<◌, true, false, List, [], ◌∷◌, Contains, Option, Some, None}
 use Rattle.std.specs.FinMap as map
-use Rattle.proof_order.specs.Beneath.ctrie_base.specs.Hashes.{hash_of}
-use Rattle.proof_order.specs.Beneath.history.specs.declared.calls.Access.{Access}
-use Rattle.proof_order.specs.Beneath.history.specs.declared.calls.Access.TheVariants.{Writable, ReadOnly}
-use Rattle.proof_order.specs.Beneath.history.specs.declared.calls.Call.{Call}
-use Rattle.proof_order.specs.Beneath.history.specs.declared.calls.Call.TheVariants.{Clear, Snapshot, Freeze}
-use Rattle.proof_order.specs.Beneath.history.specs.declared.replies.Reply.{Reply}
+use Rattle.proof_order.specs.Vocabulary.{hash_of, Access, Writable, ReadOnly, Call, Clear, Snapshot, Freeze, Reply, Event, KeyMap, HasEnded, Ref, generation_at, Place, Operation, Root, Descriptor}
+use Rattle.proof_order.specs.Vocabulary.{Bounds, Step, Outcome, handle_of, State, root_at, word_at, root_of, operation_of, action_of, is_carried_out, Record, closed_at, entered, is_placed}
+use Rattle.proof_order.specs.Vocabulary.{moment_at, noted, place_of, committed_now, entrant_of, told_in, content_at, Moves}
 use Rattle.proof_order.specs.Beneath.history.specs.declared.replies.Reply.TheVariants as reply
-use Rattle.proof_order.specs.Beneath.history.specs.declared.events.Event.{Event}
-use Rattle.proof_order.specs.Beneath.history.specs.Worlds.{KeyMap}
-use Rattle.proof_order.specs.Beneath.history.specs.Histories.{HasEnded}
-use Rattle.proof_order.specs.Beneath.slot_arena.specs.declared.refs.Ref.{Ref}
-use Rattle.proof_order.specs.Beneath.slot_arena.specs.Heaps.{generation_at}
-use Rattle.proof_order.specs.Beneath.places.specs.declared.place.Place.{Place}
 pub use Rattle.proof_order.specs.Beneath.proof_contents.specs.Effects.{act_in}
 pub use Rattle.proof_generations.specs.Running.{Runs}
 pub use Rattle.proof_generations.specs.Standing.{standing_of, standing, On, IsRooted}
 use Rattle.proof_order.specs.Beneath.machine_model.specs.declared.actions.Action.TheVariants as act
-use Rattle.proof_order.specs.Beneath.machine_model.specs.declared.operations.Operation.{Operation}
-use Rattle.proof_order.specs.Beneath.machine_model.specs.declared.roots.Root.{Root}
-use Rattle.proof_order.specs.Beneath.machine_model.specs.declared.roots.Descriptor.{Descriptor}
-use Rattle.proof_order.specs.Beneath.machine_model.specs.declared.steps.Bounds.{Bounds}
-use Rattle.proof_order.specs.Beneath.machine_model.specs.declared.steps.Step.{Step}
 use Rattle.proof_order.specs.Beneath.machine_model.specs.declared.steps.Step.TheVariants as step
-use Rattle.proof_order.specs.Beneath.machine_model.specs.declared.steps.Outcome.{Outcome}
-use Rattle.proof_order.specs.Beneath.machine_model.specs.Calls.{handle_of}
-use Rattle.proof_order.specs.Beneath.machine_model.specs.States.{State, root_at, word_at, root_of, operation_of}
-use Rattle.proof_order.specs.Beneath.machine_model.specs.Operations.{action_of}
-use Rattle.proof_order.specs.Beneath.machine_model.specs.Swapping.{is_carried_out}
-use Rattle.proof_order.specs.Beneath.machine_model.specs.Records.{Record, closed_at, entered, is_placed, moment_at, noted, place_of}
-use Rattle.proof_order.specs.Beneath.machine_model.specs.Tellings.{committed_now, entrant_of, told_in}
-use Rattle.proof_order.specs.Beneath.machine_model.specs.Contents.{content_at}
-use Rattle.proof_order.specs.Beneath.machine_model.specs.Moves.{Moves}
 
 -- ---- what stands
 

@@ -1,4 +1,5 @@
 pub mod Beneath
+pub mod Vocabulary
 pub mod Facts
 pub mod Laws
 pub mod Openings

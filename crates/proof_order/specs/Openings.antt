@@ -1,27 +1,14 @@
 -- What the swap of a root opens, over a run: which reference is the root of a generation, that nothing commits at a closed root, and what the new roots show.
 use Rattle.std.specs.Prelude.{◌≡◌, ℕ, suc, ◌≤◌, ◌<◌, Some, None}
 use Rattle.std.specs.FinMap as map
-use Rattle.proof_order.specs.Beneath.slot_arena.specs.declared.refs.Ref.{Ref}
-use Rattle.proof_order.specs.Beneath.slot_arena.specs.Heaps.{generation_of, generation_at, empty_branch}
-use Rattle.proof_order.specs.Beneath.machine_model.specs.declared.operations.Operation.{Operation}
-use Rattle.proof_order.specs.Beneath.machine_model.specs.declared.roots.Descriptor.{Descriptor}
-use Rattle.proof_order.specs.Beneath.machine_model.specs.declared.roots.Root.{Root}
-use Rattle.proof_order.specs.Beneath.machine_model.specs.declared.steps.Bounds.{Bounds}
-use Rattle.proof_order.specs.Beneath.machine_model.specs.declared.steps.Outcome.{Outcome}
-use Rattle.proof_order.specs.Beneath.machine_model.specs.declared.steps.Step.{Step}
-use Rattle.proof_order.specs.Beneath.history.specs.declared.calls.Call.{Call}
-use Rattle.proof_order.specs.Beneath.history.specs.declared.calls.Call.TheVariants.{Clear, Snapshot, Freeze}
-use Rattle.proof_order.specs.Beneath.machine_model.specs.Contents.{content_at}
+use Rattle.proof_order.specs.Vocabulary.{Ref, generation_of, generation_at, empty_branch, Operation, Descriptor, Root, Bounds, Outcome, Step, Call, Clear, Snapshot, Freeze, content_at, State}
+use Rattle.proof_order.specs.Vocabulary.{root_of, operation_of, node_under, Moves, Record}
 use Rattle.proof_order.specs.Beneath.machine_model.specs.States as state
-use Rattle.proof_order.specs.Beneath.machine_model.specs.States.{State, root_of, operation_of}
-use Rattle.proof_order.specs.Beneath.machine_model.specs.Grown.{node_under}
-use Rattle.proof_order.specs.Beneath.machine_model.specs.Moves.{Moves}
 use Rattle.proof_order.specs.Beneath.proof_contents.specs.Runs as trie
 use Rattle.proof_order.specs.Beneath.proof_contents.specs.Runs.{counting_main, trie_of}
 use Rattle.proof_order.specs.Beneath.proof_contents.specs.Tries.{content}
 use Rattle.proof_order.specs.Beneath.proof_contents.specs.Steps.{IsTrie}
 use Rattle.proof_order.specs.Facts.{CarriesOut, Opens, Notes}
-use Rattle.proof_order.specs.Beneath.machine_model.specs.Records.{Record}
 
 -- ---- roots of generations
 

@@ -1,6 +1,6 @@
 -- What stays of an operation while it runs.
 use Rattle.std.specs.Prelude.{◌≡◌}
-use Rattle.proof_order.specs.Beneath.machine_model.specs.declared.operations.Operation.{Operation}
+use Rattle.proof_order.specs.Vocabulary.{Operation}
 
 -- it is the same operation, further on
 pub record IsSame (before after : Operation) : Type 0 where

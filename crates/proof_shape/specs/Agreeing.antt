@@ -2,19 +2,7 @@
 use Rattle.std.specs.Prelude.{◌≡◌, ℕ, suc, ◌+◌, ◌≤◌, List, Some}
 use Rattle.std.specs.Ordering.{nat_cmp}
 use Rattle.std.specs.FinMap as map
-use Rattle.proof_shape.specs.Beneath.ctrie_base.specs.Hashes.{hash_of}
-use Rattle.proof_shape.specs.Beneath.history.specs.Worlds.{KeyMap}
-use Rattle.proof_shape.specs.Beneath.slot_arena.specs.declared.refs.Ref.{Ref}
-use Rattle.proof_shape.specs.Beneath.slot_arena.specs.declared.nodes.Node.TheVariants.{Indirection}
-use Rattle.proof_shape.specs.Beneath.slot_arena.specs.Heaps.{logical_main, node_at}
-use Rattle.proof_shape.specs.Beneath.machine_model.specs.declared.roots.Root.{Root}
-use Rattle.proof_shape.specs.Beneath.machine_model.specs.declared.steps.Bounds.{Bounds}
-use Rattle.proof_shape.specs.Beneath.machine_model.specs.declared.steps.Step.{Step}
-use Rattle.proof_shape.specs.Beneath.machine_model.specs.Contents.{content_at, most_levels}
-use Rattle.proof_shape.specs.Beneath.machine_model.specs.Keys.{KeysFit}
-use Rattle.proof_shape.specs.Beneath.machine_model.specs.Machine.{AreBounds, run}
-use Rattle.proof_shape.specs.Beneath.machine_model.specs.Pairs.{by_key}
-use Rattle.proof_shape.specs.Beneath.machine_model.specs.States.{root_at, root_of}
+use Rattle.proof_shape.specs.Vocabulary.{hash_of, KeyMap, Ref, Indirection, logical_main, node_at, Root, Bounds, Step, content_at, most_levels, KeysFit, AreBounds, run, by_key, root_at, root_of}
 use Rattle.proof_shape.specs.Beneath.proof_contents.specs.Laws.{HoldsAt}
 use Rattle.proof_shape.specs.Beneath.proof_contents.specs.Nodes.Looking.{find_at}
 use Rattle.proof_shape.specs.Beneath.proof_contents.specs.Pairs.{pairs_from}

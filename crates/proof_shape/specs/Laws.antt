@@ -3,29 +3,14 @@ use Rattle.std.specs.Prelude.{◌≡◌, ℕ, suc, ◌+◌, ◌*◌, ◌^◌, �
 use Rattle.std.specs.FinMap.Entries.{is_sorted}
 use Rattle.std.specs.Ordering.{nat_cmp}
 use Rattle.arrayvec.specs.ArrayVec.{ArrayVec}
-use Rattle.proof_shape.specs.Beneath.ctrie_base.specs.Hashes.{hash_of}
-use Rattle.proof_shape.specs.Beneath.slot_arena.specs.declared.refs.Ref.{Ref}
-use Rattle.proof_shape.specs.Beneath.slot_arena.specs.declared.nodes.Node.{Node}
-use Rattle.proof_shape.specs.Beneath.slot_arena.specs.declared.nodes.Node.TheVariants.{Indirection, Branch, Single, List as Listed}
-use Rattle.proof_shape.specs.Beneath.slot_arena.specs.declared.nodes.Slot.{Slot}
-use Rattle.proof_shape.specs.Beneath.slot_arena.specs.Heaps.{node_at, logical_main, no_ref}
-use Rattle.proof_shape.specs.Beneath.nodes.specs.Levels.{list_depth, index_in}
+use Rattle.proof_shape.specs.Vocabulary.{hash_of, Ref, Node, Indirection, Branch, Single, List as Listed, Slot, node_at, logical_main, no_ref, list_depth, index_in, Operation, Root, Bounds, Step}
+use Rattle.proof_shape.specs.Vocabulary.{key_of, root_at, root_of, operation_of, AreBounds, run, content_at, pairs_below, most_levels, standing, KeysFit}
 use Rattle.proof_shape.specs.Beneath.proof_contents.specs.Nodes.Branches.{HasPlaces, at_place}
 use Rattle.proof_shape.specs.Beneath.proof_contents.specs.Nodes.Lists.{AreSingles}
 use Rattle.proof_shape.specs.Beneath.proof_contents.specs.Nodes.Looking.{Has, look_among}
-use Rattle.proof_shape.specs.Beneath.machine_model.specs.declared.operations.Operation.{Operation}
-use Rattle.proof_shape.specs.Beneath.machine_model.specs.declared.roots.Root.{Root}
-use Rattle.proof_shape.specs.Beneath.machine_model.specs.declared.steps.Bounds.{Bounds}
-use Rattle.proof_shape.specs.Beneath.machine_model.specs.declared.steps.Step.{Step}
-use Rattle.proof_shape.specs.Beneath.machine_model.specs.Calls.{key_of}
-use Rattle.proof_shape.specs.Beneath.machine_model.specs.States.{root_at, root_of, operation_of}
-use Rattle.proof_shape.specs.Beneath.machine_model.specs.Machine.{AreBounds, run}
-use Rattle.proof_shape.specs.Beneath.machine_model.specs.Contents.{content_at, pairs_below, most_levels}
-use Rattle.proof_shape.specs.Beneath.machine_model.specs.Grown.{standing}
 use Rattle.proof_shape.specs.Beneath.proof_memory.specs.Wants.{is_branch, is_indirection}
 use Rattle.proof_shape.specs.Beneath.proof_memory.specs.Laws.{IsInUse}
 use Rattle.proof_shape.specs.Sites.Nodes.{path_to, depth_at, level_of, path_of}
-use Rattle.proof_shape.specs.Beneath.machine_model.specs.Keys.{KeysFit}
 use Rattle.proof_shape.specs.Sites.At.{way_of}
 
 abbrev pub depth_of : Bounds → List Step → Ref → ℕ

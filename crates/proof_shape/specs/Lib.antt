@@ -1,4 +1,5 @@
 pub mod Beneath
+pub mod Vocabulary
 pub mod Lines
 pub mod Sites
 pub mod Shaped

@@ -1,14 +1,8 @@
 -- The trie of a run has its shape at each time.
 use Rattle.std.specs.Prelude.{◌≡◌, ℕ, ◌*◌, ◌^◌, ◌<◌, ◌≤◌, Contains}
-use Rattle.proof_shape.specs.Beneath.slot_arena.specs.declared.refs.Ref.{Ref}
-use Rattle.proof_shape.specs.Beneath.slot_arena.specs.declared.nodes.Node.TheVariants.{Single}
-use Rattle.proof_shape.specs.Beneath.machine_model.specs.declared.steps.Bounds.{Bounds}
-use Rattle.proof_shape.specs.Beneath.machine_model.specs.declared.steps.Step.{Step}
-use Rattle.proof_shape.specs.Beneath.machine_model.specs.States.{State}
-use Rattle.proof_shape.specs.Beneath.machine_model.specs.Times.{IsRun}
+use Rattle.proof_shape.specs.Vocabulary.{Ref, Single, Bounds, Step, State, IsRun, node_under}
 use Rattle.proof_shape.specs.Beneath.proof_contents.specs.Tries.{Trie, IsShaped, node_in}
 use Rattle.proof_shape.specs.Beneath.proof_contents.specs.Runs.{trie_of}
-use Rattle.proof_shape.specs.Beneath.machine_model.specs.Grown.{node_under}
 use Rattle.proof_shape.specs.Sites.Lines.{bare}
 use Rattle.proof_shape.specs.Sites.At.{TakesSteps, StepsFit}
 use Rattle.proof_shape.specs.Sites.Nodes.{depth_of_run, path_of_run}

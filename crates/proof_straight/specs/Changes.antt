@@ -1,21 +1,10 @@
 -- What a change of one key makes, and brings about.
 use Rattle.std.specs.Prelude.{ℕ, zero, suc, ◌+◌, ◌-◌, slice_set, Option}
-use Rattle.proof_straight.specs.Beneath.history.specs.declared.calls.Call.{Call}
-use Rattle.proof_straight.specs.Beneath.slot_arena.specs.declared.nodes.Node.{Node}
-use Rattle.proof_straight.specs.Beneath.slot_arena.specs.declared.nodes.Node.TheVariants.{Indirection, Single}
-use Rattle.proof_straight.specs.Beneath.slot_arena.specs.declared.refs.Ref.{Ref}
-use Rattle.proof_straight.specs.Beneath.slot_arena.specs.Heaps.{node_at, main_at, entry_at, generation_at}
-use Rattle.proof_straight.specs.Beneath.nodes.specs.Levels.{flag_of}
-use Rattle.proof_straight.specs.Beneath.nodes.specs.Builders.{pair, renewed, rung}
+use Rattle.proof_straight.specs.Vocabulary.{Call, Node, Indirection, Single, Ref, node_at, main_at, entry_at, generation_at, flag_of, pair, renewed, rung, position_of, Change, changed, old_hash}
+use Rattle.proof_straight.specs.Vocabulary.{pair_depth, changed_reply, key_of, value_of, State, key_hash, Record}
 use Rattle.arrayvec.specs.ArrayVec.{ArrayVec}
-use Rattle.proof_straight.specs.Beneath.ctrie_base.specs.Paths.{position_of}
-use Rattle.machine_model.specs.declared.building.Change.{Change}
 use Rattle.machine_model.specs.declared.building.Change.TheVariants as change
-use Rattle.machine_model.specs.Building.{changed, old_hash, pair_depth}
-use Rattle.machine_model.specs.Calls.{changed_reply, key_of, value_of}
-use Rattle.machine_model.specs.States.{State, key_hash}
 use Rattle.proof_straight.specs.Drafts.{Draft, after_call, first_draft, swapped_in, with_made}
-use Rattle.machine_model.specs.Records.{Record}
 use Rattle.proof_straight.specs.Places.{read_in}
 use Rattle.proof_straight.specs.Recorded.{changed_record}
 use Rattle.proof_straight.specs.Running.{ComesTo}

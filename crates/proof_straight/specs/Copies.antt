@@ -1,15 +1,8 @@
 -- What a snapshot, a freeze or a clear brings about that runs alone.
 use Rattle.std.specs.Prelude.{◌≡◌, ℕ, ◌+◌, [], ◌∷◌, ◌++◌, Option, Some, None}
-use Rattle.proof_straight.specs.Beneath.slot_arena.specs.declared.nodes.Node.TheVariants.{Indirection}
+use Rattle.proof_straight.specs.Vocabulary.{Indirection, Ref, Heap, empty_branch, main_at, no_ref, node_at, prev_at, taken, IsLive, Descriptor, Plain, Offer, opened, least_free, State, with_root}
+use Rattle.proof_straight.specs.Vocabulary.{with_word}
 use Rattle.proof_straight.specs.Beneath.slot_arena.specs.declared.nodes.Prev.TheVariants as prev
-use Rattle.proof_straight.specs.Beneath.slot_arena.specs.declared.refs.Ref.{Ref}
-use Rattle.proof_straight.specs.Beneath.slot_arena.specs.Heaps.{Heap, empty_branch, main_at, no_ref, node_at, prev_at, taken}
-use Rattle.proof_straight.specs.Beneath.slot_arena.specs.Arenas.{IsLive}
-use Rattle.machine_model.specs.declared.roots.Descriptor.{Descriptor}
-use Rattle.machine_model.specs.declared.roots.RootWord.TheVariants.{Plain, Offer}
-use Rattle.machine_model.specs.Acting.{opened}
-use Rattle.machine_model.specs.Machine.{least_free}
-use Rattle.machine_model.specs.States.{State, with_root, with_word}
 use Rattle.proof_straight.specs.Drafts.{Draft, first_draft, next_made, redrafted, with_made}
 
 -- the state at rest with its roots and the next generation as they are by now, and the draft

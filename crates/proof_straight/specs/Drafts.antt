@@ -1,14 +1,7 @@
 -- What a call that runs alone changes of a state at rest, one step after the other.
 use Rattle.std.specs.Prelude.{ℕ, ◌+◌, List, [], ◌∷◌, ◌++◌, unwrap_or}
-use Rattle.proof_straight.specs.Beneath.slot_arena.specs.declared.refs.Ref.{Ref}
-use Rattle.proof_straight.specs.Beneath.slot_arena.specs.declared.nodes.Node.{Node}
+use Rattle.proof_straight.specs.Vocabulary.{Ref, Node, Heap, taken, with_prev, next_ref, no_ref, Zeroed, limbo_after, State, outside, published}
 use Rattle.proof_straight.specs.Beneath.slot_arena.specs.declared.nodes.Prev.TheVariants as prev
-use Rattle.proof_straight.specs.Beneath.slot_arena.specs.Heaps.{Heap, taken, with_prev, next_ref, no_ref}
-use Rattle.proof_straight.specs.Beneath.epochs.specs.declared.limbo.Zeroed.{Zeroed}
-use Rattle.proof_straight.specs.Beneath.epochs.specs.Limbo.{limbo_after}
-use Rattle.machine_model.specs.States.{State}
-use Rattle.machine_model.specs.Counting.{outside}
-use Rattle.machine_model.specs.Acting.{published}
 
 pub record Draft : Type 0 where
   pub heap : Heap

@@ -1,23 +1,13 @@
 -- What calls on one key come to that run alone, on a way that needs no repair.
 use Rattle.std.specs.Prelude.{◌≡◌, ◌⊎◌, ℕ, ◌+◌, ◌-◌, ◌*◌, ◌≤◌, true, false, length, Some, None}
 use Rattle.arrayvec.specs.ArrayVec.{ArrayVec}
-use Rattle.proof_straight.specs.Beneath.history.specs.declared.calls.Call.{Call}
+use Rattle.proof_straight.specs.Vocabulary.{Call, Reply, List as Listed, Ref, node_at, main_at, IsLive, Site, Answers, Sets, Removes, absent_reply, changed_reply, inserts, when_found, State}
+use Rattle.proof_straight.specs.Vocabulary.{begin_denial, least_free, Record}
 use Rattle.proof_straight.specs.Beneath.history.specs.declared.calls.Call.TheVariants as call
-use Rattle.proof_straight.specs.Beneath.history.specs.declared.replies.Reply.{Reply}
 use Rattle.proof_straight.specs.Beneath.history.specs.declared.replies.Reply.TheVariants as reply
-use Rattle.proof_straight.specs.Beneath.slot_arena.specs.declared.nodes.Node.TheVariants.{List as Listed}
-use Rattle.proof_straight.specs.Beneath.slot_arena.specs.declared.refs.Ref.{Ref}
-use Rattle.proof_straight.specs.Beneath.slot_arena.specs.Heaps.{node_at, main_at}
-use Rattle.proof_straight.specs.Beneath.slot_arena.specs.Arenas.{IsLive}
 use Rattle.machine_model.specs.declared.building.Change.TheVariants as change
-use Rattle.machine_model.specs.declared.building.Site.{Site}
 use Rattle.machine_model.specs.declared.building.Site.TheVariants as site
-use Rattle.machine_model.specs.declared.finding.WhenFound.TheVariants.{Answers, Sets, Removes}
-use Rattle.machine_model.specs.Calls.{absent_reply, changed_reply, inserts, when_found}
-use Rattle.machine_model.specs.States.{State}
 use Rattle.proof_straight.specs.Drafts.{first_draft, after_call}
-use Rattle.machine_model.specs.Machine.{begin_denial, least_free}
-use Rattle.machine_model.specs.Records.{Record}
 use Rattle.proof_straight.specs.Copies.{Course, IsSettled, cleared, closed, frozen, snapshotted}
 use Rattle.proof_straight.specs.Recorded.{closed_record, contracted_record, copied_record, unchanged_record}
 use Rattle.proof_straight.specs.Running.{ComesTo, IsAtRest, IsKeyed, IsReady, IsRecordOf}

@@ -1,4 +1,5 @@
 pub mod Beneath
+pub mod Vocabulary
 pub mod Drafts
 pub mod Running
 pub mod Resting

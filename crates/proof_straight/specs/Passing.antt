@@ -1,17 +1,8 @@
 -- What a call that renews a branch on its way finds behind that.
 use Rattle.std.specs.Prelude.{◌≡◌, ℕ, ◌+◌, ◌*◌, ◌<◌, ◌≤◌, ◌==◌, true, false, length, Some}
 use Rattle.arrayvec.specs.ArrayVec.{ArrayVec}
-use Rattle.proof_straight.specs.Beneath.ctrie_base.specs.Paths.{position_of}
-use Rattle.proof_straight.specs.Beneath.history.specs.declared.calls.Call.{Call}
-use Rattle.proof_straight.specs.Beneath.nodes.specs.Levels.{flag_of}
-use Rattle.proof_straight.specs.Beneath.slot_arena.specs.declared.nodes.Node.TheVariants.{Indirection}
-use Rattle.proof_straight.specs.Beneath.slot_arena.specs.declared.nodes.Slot.{Slot}
-use Rattle.proof_straight.specs.Beneath.slot_arena.specs.declared.refs.Ref.{Ref}
-use Rattle.proof_straight.specs.Beneath.slot_arena.specs.Arenas.{IsLive}
-use Rattle.proof_straight.specs.Beneath.slot_arena.specs.Heaps.{entries_from, generation_at, main_at, node_at, stored}
-use Rattle.proof_straight.specs.Beneath.slot_arena.specs.Refs.{slot_of}
-use Rattle.machine_model.specs.Calls.{key_of, needs_writable}
-use Rattle.machine_model.specs.States.{State, key_hash}
+use Rattle.proof_straight.specs.Vocabulary.{position_of, Call, flag_of, Indirection, Slot, Ref, IsLive, entries_from, generation_at, main_at, node_at, stored, slot_of, key_of, needs_writable, State}
+use Rattle.proof_straight.specs.Vocabulary.{key_hash}
 use Rattle.proof_straight.specs.Places.{ComesDown, HasEntry, entry_for}
 use Rattle.proof_straight.specs.Renewals.{AreRenewable, renewal_of, renewal_slots, renewed_state, steps_of_renewal}
 use Rattle.proof_straight.specs.Running.{GoesOn, IsKeyed, IsReady}

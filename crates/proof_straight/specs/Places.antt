@@ -1,23 +1,11 @@
 -- Where a call on one key comes to, on a way that needs no repair.
 use Rattle.std.specs.Prelude.{◌≡◌, ℕ, zero, suc, ◌+◌, ◌*◌, ◌-◌, ◌<◌, ◌≤◌, ◌==◌, true, false, nat_eq, length, Some}
 use Rattle.std.specs.Option.{option_eq}
-use Rattle.proof_straight.specs.Beneath.ctrie_base.specs.Paths.{position_of}
-use Rattle.proof_straight.specs.Beneath.history.specs.declared.calls.Access.{Access}
-use Rattle.proof_straight.specs.Beneath.history.specs.declared.calls.Call.{Call}
-use Rattle.proof_straight.specs.Beneath.slot_arena.specs.declared.refs.Ref.{Ref}
-use Rattle.proof_straight.specs.Beneath.slot_arena.specs.declared.nodes.Node.{Node}
-use Rattle.proof_straight.specs.Beneath.slot_arena.specs.declared.nodes.Node.TheVariants.{Indirection, Branch, Single, List as Listed}
+use Rattle.proof_straight.specs.Vocabulary.{position_of, Access, Call, Ref, Node, Indirection, Branch, Single, List as Listed, Heap, node_at, main_at, prev_at, entry_at, generation_at, slot_of}
+use Rattle.proof_straight.specs.Vocabulary.{flag_of, has_flag, Site, key_of, passes, begun_operation, State, key_hash}
 use Rattle.proof_straight.specs.Beneath.slot_arena.specs.declared.nodes.Prev.TheVariants as prev
-use Rattle.proof_straight.specs.Beneath.slot_arena.specs.Heaps.{Heap, node_at, main_at, prev_at, entry_at, generation_at}
-use Rattle.proof_straight.specs.Beneath.slot_arena.specs.Refs.{slot_of}
-use Rattle.proof_straight.specs.Beneath.nodes.specs.Levels.{flag_of, has_flag}
 use Rattle.arrayvec.specs.ArrayVec.{ArrayVec}
-use Rattle.machine_model.specs.declared.building.Site.{Site}
 use Rattle.machine_model.specs.declared.building.Site.TheVariants as site
-use Rattle.machine_model.specs.Calls.{key_of}
-use Rattle.machine_model.specs.Finding.{passes}
-use Rattle.machine_model.specs.Machine.{begun_operation}
-use Rattle.machine_model.specs.States.{State, key_hash}
 
 -- the main node of the indirection is decided, and a branch that has an entry for the hash at this depth
 pub record HasEntry (heap : Heap) (hash depth : ℕ) (indirection : Ref) (bitmap : ℕ) (entries : ArrayVec Ref) : Type 0 where

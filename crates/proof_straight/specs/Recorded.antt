@@ -1,16 +1,7 @@
 -- What is recorded of a call that runs alone, by what was before it.
 use Rattle.std.specs.Prelude.{ℕ, true, false, max, [], ◌∷◌, ◌++◌, Some, None}
-use Rattle.proof_straight.specs.Beneath.history.specs.declared.calls.Call.{Call}
+use Rattle.proof_straight.specs.Vocabulary.{Call, Reply, Ref, generation_at, main_at, on_time, Entrant, Moment, begun_operation, Record, committed_at, no_moment, place_of, with_moment, State}
 use Rattle.proof_straight.specs.Beneath.history.specs.declared.events.Event.TheVariants as event
-use Rattle.proof_straight.specs.Beneath.history.specs.declared.replies.Reply.{Reply}
-use Rattle.proof_straight.specs.Beneath.slot_arena.specs.declared.refs.Ref.{Ref}
-use Rattle.proof_straight.specs.Beneath.slot_arena.specs.Heaps.{generation_at, main_at}
-use Rattle.machine_model.specs.Beneath.places.specs.Places.{on_time}
-use Rattle.machine_model.specs.declared.records.Entrant.{Entrant}
-use Rattle.machine_model.specs.declared.records.Moment.{Moment}
-use Rattle.machine_model.specs.Machine.{begun_operation}
-use Rattle.machine_model.specs.Records.{Record, committed_at, no_moment, place_of, with_moment}
-use Rattle.machine_model.specs.States.{State}
 
 -- the call that begins in this state, once it has read this root, as the order knows it
 abbrev pub entrant_with : State → Call → Ref → Entrant

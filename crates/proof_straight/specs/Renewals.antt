@@ -1,19 +1,9 @@
 -- A call that meets an indirection of another generation renews the branch, and goes on from there.
 use Rattle.std.specs.Prelude.{◌≡◌, ℕ, ◌+◌, ◌*◌, ◌<◌, ◌≤◌, ◌==◌, Bool, true, false, not, List, [], ◌∷◌, ◌++◌, length, None, if◌then◌else◌}
 use Rattle.arrayvec.specs.ArrayVec.{ArrayVec}
-use Rattle.proof_straight.specs.Beneath.history.specs.declared.calls.Call.{Call}
-use Rattle.proof_straight.specs.Beneath.history.specs.declared.replies.Reply.{Reply}
-use Rattle.proof_straight.specs.Beneath.nodes.specs.Builders.{renewed}
-use Rattle.proof_straight.specs.Beneath.slot_arena.specs.declared.nodes.Node.{Node}
-use Rattle.proof_straight.specs.Beneath.slot_arena.specs.declared.nodes.Node.TheVariants.{Indirection, Single}
+use Rattle.proof_straight.specs.Vocabulary.{Call, Reply, renewed, Node, Indirection, Single, Ref, IsLive, generation_at, main_at, node_at, prev_at, slot_of, key_of, needs_writable, Record, State}
+use Rattle.proof_straight.specs.Vocabulary.{key_hash}
 use Rattle.proof_straight.specs.Beneath.slot_arena.specs.declared.nodes.Prev.TheVariants as prev
-use Rattle.proof_straight.specs.Beneath.slot_arena.specs.declared.refs.Ref.{Ref}
-use Rattle.proof_straight.specs.Beneath.slot_arena.specs.Arenas.{IsLive}
-use Rattle.proof_straight.specs.Beneath.slot_arena.specs.Heaps.{generation_at, main_at, node_at, prev_at}
-use Rattle.proof_straight.specs.Beneath.slot_arena.specs.Refs.{slot_of}
-use Rattle.machine_model.specs.Calls.{key_of, needs_writable}
-use Rattle.machine_model.specs.Records.{Record}
-use Rattle.machine_model.specs.States.{State, key_hash}
 use Rattle.proof_straight.specs.Drafts.{Draft, first_draft, swapped_in, with_made}
 use Rattle.proof_straight.specs.Places.{ComesDown, HasEntry, entry_for}
 use Rattle.proof_straight.specs.Running.{ComesTo, IsKeyed, IsReady, IsRecordOf}

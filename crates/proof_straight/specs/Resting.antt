@@ -1,10 +1,6 @@
 -- What each run leaves to a call that runs alone behind it.
 use Rattle.std.specs.Prelude.{◌≡◌, List}
-use Rattle.machine_model.specs.declared.steps.Bounds.{Bounds}
-use Rattle.machine_model.specs.declared.steps.Step.{Step}
-use Rattle.machine_model.specs.Keys.{KeysFit}
-use Rattle.machine_model.specs.Machine.{AreBounds, run}
-use Rattle.machine_model.specs.States.{State}
+use Rattle.proof_straight.specs.Vocabulary.{Bounds, Step, KeysFit, AreBounds, run, State}
 use Rattle.proof_straight.specs.Running.{HasEmptySlots, IsUpToDate}
 
 -- a run of these steps leads to the state; its bounds are in range, and the keys of its calls have 64 bits

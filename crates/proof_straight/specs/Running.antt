@@ -1,25 +1,10 @@
 -- A call that runs alone, from its begin to its end, and when it can be done at once.
 use Rattle.std.specs.Prelude.{◌≡◌, ℕ, zero, suc, ◌<◌, ◌≤◌, false, List, [], ◌∷◌, length, replicate, slice_index_or, Option, None, Ok}
-use Rattle.proof_straight.specs.Beneath.ctrie_base.specs.declared.kinds.Kind.{Kind}
-use Rattle.proof_straight.specs.Beneath.history.specs.declared.calls.Call.{Call}
+use Rattle.proof_straight.specs.Vocabulary.{Kind, Call, Reply, Ref, Slot, Heap, times, limbo_after, Plain, Step, handle_of, State, word_at, outside, next, begin_denial, is_busy, run_from, Record}
+use Rattle.proof_straight.specs.Vocabulary.{is_placed, noted, record_from, told_in, most_slots}
 use Rattle.proof_straight.specs.Beneath.history.specs.declared.calls.Call.TheVariants as call
-use Rattle.proof_straight.specs.Beneath.history.specs.declared.replies.Reply.{Reply}
-use Rattle.proof_straight.specs.Beneath.slot_arena.specs.declared.refs.Ref.{Ref}
-use Rattle.proof_straight.specs.Beneath.slot_arena.specs.declared.nodes.Slot.{Slot}
-use Rattle.proof_straight.specs.Beneath.slot_arena.specs.Heaps.{Heap}
-use Rattle.proof_straight.specs.Beneath.slot_arena.specs.Times.{times}
-use Rattle.proof_straight.specs.Beneath.epochs.specs.Limbo.{limbo_after}
-use Rattle.machine_model.specs.declared.roots.RootWord.TheVariants.{Plain}
 use Rattle.machine_model.specs.declared.steps.Outcome.TheVariants as outcome
-use Rattle.machine_model.specs.declared.steps.Step.{Step}
 use Rattle.machine_model.specs.declared.steps.Step.TheVariants as step
-use Rattle.machine_model.specs.Calls.{handle_of}
-use Rattle.machine_model.specs.States.{State, word_at}
-use Rattle.machine_model.specs.Counting.{outside}
-use Rattle.machine_model.specs.Machine.{next, begin_denial, is_busy, run_from}
-use Rattle.machine_model.specs.Records.{Record, is_placed, noted, record_from}
-use Rattle.machine_model.specs.Tellings.{told_in}
-use Rattle.proof_straight.specs.Beneath.slot_arena.specs.Refs.{most_slots}
 
 -- The actor's call began in this state, and went on alone for so many steps to that one.
 pub data GoesOn (state : State) (actor : ℕ) (call : Call) : ℕ → State → Type 0 where

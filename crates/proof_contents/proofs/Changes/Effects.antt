@@ -2,16 +2,10 @@
 use Rattle.std.proofs.Common.{◌≡◌, ◌≢◌, ℕ, ◌==◌, ◌&&◌, Bool, true, false, cond, not, Option, Some, None, is_some, nat_eq, refl, sym, ap, ap₂, ◌∙◌, eqb-true}
 use Rattle.std.specs.Option.{option_eq}
 use Rattle.std.specs.FinMap.{get, insert, remove}
-use Rattle.proof_contents.specs.Beneath.history.specs.declared.calls.Access.TheVariants.{Writable, ReadOnly}
-use Rattle.proof_contents.specs.Beneath.history.specs.declared.calls.Call.{Call}
-use Rattle.proof_contents.specs.Beneath.history.specs.declared.calls.Call.TheVariants.{Get, Put, PutIfAbsent, Replace, ReplaceIf, Remove, RemoveIf}
-use Rattle.proof_contents.specs.Beneath.history.specs.declared.replies.Reply.{Reply}
+use Rattle.proof_contents.specs.Vocabulary.{Writable, ReadOnly, Call, Get, Put, PutIfAbsent, Replace, ReplaceIf, Remove, RemoveIf, Reply, KeyMap, others, is_crowded, has_value, WhenFound, Answers}
+use Rattle.proof_contents.specs.Vocabulary.{Sets, Removes, key_of, inserts, absent_reply, changed_reply, when_found, answers_unless}
 use Rattle.proof_contents.specs.Beneath.history.specs.declared.replies.Reply.TheVariants as reply
-use Rattle.proof_contents.specs.Beneath.history.specs.Worlds.{KeyMap}
-use Rattle.proof_contents.specs.Beneath.history.specs.Effects.{others, is_crowded, has_value, put_in}
-use Rattle.machine_model.specs.declared.finding.WhenFound.{WhenFound}
-use Rattle.machine_model.specs.declared.finding.WhenFound.TheVariants.{Answers, Sets, Removes}
-use Rattle.machine_model.specs.Calls.{key_of, inserts, absent_reply, changed_reply, when_found, answers_unless}
+use Rattle.proof_contents.specs.Beneath.history.specs.Effects.{put_in}
 use Rattle.proof_contents.proofs.Nodes.Branches.{differ}
 use Rattle.proof_contents.specs.Steps.{Asks, to_insert, to_set, to_remove}
 use Rattle.proof_contents.specs.Effects.{act_in, IsKeyed, ChangesKey}

@@ -2,12 +2,7 @@
 use Rattle.std.proofs.Common.{◌≡◌, ◌≢◌, ℕ, suc, ◌<◌, ◌==◌, ◌&&◌, Bool, true, false, not, Option, Some, None, is_some, refl, sym, ap, subst, ◌∙◌, arith, ◌⊎◌, inl, inr, ne_eqb, eqb-true}
 use Rattle.proof_contents.proofs.Nodes.Branches.{differ}
 use Rattle.std.specs.FinMap.{get}
-use Rattle.proof_contents.specs.Beneath.ctrie_base.specs.Hashes.{hash_of}
-use Rattle.proof_contents.specs.Beneath.history.specs.Effects.{others, is_crowded}
-use Rattle.proof_contents.specs.Beneath.history.specs.declared.calls.Access.TheVariants.{Writable}
-use Rattle.proof_contents.specs.Beneath.history.specs.declared.calls.Call.{Call}
-use Rattle.proof_contents.specs.Beneath.slot_arena.specs.declared.refs.Ref.{Ref}
-use Rattle.machine_model.specs.Calls.{key_of, changed_reply}
+use Rattle.proof_contents.specs.Vocabulary.{hash_of, others, is_crowded, Writable, Call, Ref, key_of, changed_reply}
 use Rattle.proof_contents.specs.Tries.{Trie, generation, node_in, assigned, content, On, IsTombed}
 use Rattle.proof_contents.specs.Steps.{IsRepair, IsOwnUpdate, LeavesOthers, IsTrie, Updates}
 use Rattle.proof_contents.specs.Effects.{act_in, ChangesKey}

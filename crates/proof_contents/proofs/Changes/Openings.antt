@@ -4,12 +4,7 @@ use Rattle.std.specs.Int.Bits.{and_zero_l}
 use Rattle.std.specs.FinMap as map
 use Rattle.std.specs.FinMap.{get-empty}
 use Rattle.std.specs.Ordering.{nat_cmp}
-use Rattle.proof_contents.specs.Beneath.ctrie_base.specs.Hashes.{hash_of}
-use Rattle.proof_contents.specs.Beneath.slot_arena.specs.declared.refs.Ref.{Ref}
-use Rattle.proof_contents.specs.Beneath.slot_arena.specs.declared.nodes.Node.{Node}
-use Rattle.proof_contents.specs.Beneath.slot_arena.specs.Heaps.{empty_branch, no_ref}
-use Rattle.proof_contents.specs.Beneath.ctrie_base.specs.Paths.{position_of}
-use Rattle.proof_contents.specs.Beneath.nodes.specs.Levels.{has_flag, flag_of}
+use Rattle.proof_contents.specs.Vocabulary.{hash_of, Ref, Node, empty_branch, no_ref, position_of, has_flag, flag_of}
 use Rattle.proof_contents.specs.Nodes.Looking.{Absent, Below, look_at, look_in, value_by, find_at, value_in}
 use Rattle.proof_contents.specs.Nodes.Changing.{look}
 use Rattle.proof_contents.specs.Tries.{Trie, generation, node_in, assigned, value_at, content}

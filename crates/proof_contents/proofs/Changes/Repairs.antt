@@ -3,12 +3,7 @@ use Rattle.std.proofs.Common.{◌≡◌, ◌≢◌, ℕ, zero, suc, ◌+◌, ◌
 use Rattle.std.proofs.Common.{◌∙◌, arith, eqb-true, pow_pos}
 use Rattle.std.proofs.lemmas.Nat.{mod-pow-add}
 use Rattle.std.proofs.Math.Nat.{mul-div_cancel}
-use Rattle.proof_contents.specs.Beneath.ctrie_base.specs.Hashes.{hash_of}
-use Rattle.proof_contents.specs.Beneath.slot_arena.specs.declared.refs.Ref.{Ref}
-use Rattle.proof_contents.specs.Beneath.slot_arena.specs.declared.nodes.Node.{Node}
-use Rattle.proof_contents.specs.Beneath.slot_arena.specs.declared.nodes.Node.TheVariants.{Indirection, Single}
-use Rattle.proof_contents.specs.Beneath.slot_arena.specs.Heaps.{no_ref, generation_of}
-use Rattle.proof_contents.specs.Beneath.nodes.specs.Levels.{index_in}
+use Rattle.proof_contents.specs.Vocabulary.{hash_of, Ref, Node, Indirection, Single, no_ref, generation_of, index_in}
 use Rattle.proof_contents.specs.Nodes.Branches.{standing, at_place}
 use Rattle.proof_contents.specs.Nodes.Looking.{Absent, Has, Below, look_at, value_by, find_at, value_in}
 use Rattle.proof_contents.specs.Nodes.Changing.{look}

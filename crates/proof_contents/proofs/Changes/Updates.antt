@@ -1,9 +1,6 @@
 -- An own update of a key changes the value of that key in its generation, and nothing else.
 use Rattle.std.proofs.Common.{◌≡◌, ◌≢◌, ℕ, suc, ◌+◌, ◌-◌, ◌<◌, ◌≤◌, ◌==◌, Bool, true, false, Option, Some, None, ◌⊎◌, inl, inr, refl, sym, ap, ap₂, subst, ◌∙◌, arith, eqb-true}
-use Rattle.proof_contents.specs.Beneath.ctrie_base.specs.Hashes.{hash_of}
-use Rattle.proof_contents.specs.Beneath.slot_arena.specs.declared.refs.Ref.{Ref}
-use Rattle.proof_contents.specs.Beneath.slot_arena.specs.declared.nodes.Node.{Node}
-use Rattle.proof_contents.specs.Beneath.nodes.specs.Levels.{index_in}
+use Rattle.proof_contents.specs.Vocabulary.{hash_of, Ref, Node, index_in}
 use Rattle.proof_contents.specs.Nodes.Looking.{look_at, or_else, value_by, find_at, value_in}
 use Rattle.proof_contents.specs.Nodes.Changing.{look}
 use Rattle.proof_contents.proofs.Nodes.Branches.{differ}

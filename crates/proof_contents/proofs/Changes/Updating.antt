@@ -1,12 +1,6 @@
 -- An own update changes what its main node says of one key, or leads below where another key's single stood.
 use Rattle.std.proofs.Common.{◌≡◌, ◌≢◌, ℕ, suc, ◌+◌, ◌^◌, slice_index_or, Option, Some, None, refl, sym, ap, subst₂, ◌∙◌}
-use Rattle.proof_contents.specs.Beneath.ctrie_base.specs.Hashes.{hash_of}
-use Rattle.proof_contents.specs.Beneath.ctrie_base.specs.Paths.{position_of}
-use Rattle.proof_contents.specs.Beneath.slot_arena.specs.declared.refs.Ref.{Ref}
-use Rattle.proof_contents.specs.Beneath.slot_arena.specs.declared.nodes.Node.{Node}
-use Rattle.proof_contents.specs.Beneath.slot_arena.specs.declared.nodes.Node.TheVariants.{Single}
-use Rattle.proof_contents.specs.Beneath.slot_arena.specs.Heaps.{no_ref}
-use Rattle.proof_contents.specs.Beneath.nodes.specs.Levels.{index_in}
+use Rattle.proof_contents.specs.Vocabulary.{hash_of, position_of, Ref, Node, Single, no_ref, index_in}
 use Rattle.proof_contents.specs.Nodes.Looking.{Found, Absent, Has, Below, look_at}
 use Rattle.proof_contents.specs.Nodes.Changing.{Changes, look}
 use Rattle.proof_contents.specs.Nodes.Chains.{LeadsToPair}

@@ -1,16 +1,7 @@
 -- What KEY answers without a change is right: of the content at a moment on a writable handle, of that of the end on a read-only one.
 use Rattle.std.proofs.Common.{◌≡◌, ◌≢◌, ℕ, ◌^◌, ◌<◌, true, false, Option, Some, None, refl, sym, ap, ap₂, ◌∙◌, arith}
-use Rattle.proof_contents.specs.Beneath.ctrie_base.specs.Hashes.{hash_of}
-use Rattle.proof_contents.specs.Beneath.history.specs.declared.calls.Access.TheVariants.{Writable, ReadOnly}
-use Rattle.proof_contents.specs.Beneath.history.specs.declared.calls.Call.{Call}
-use Rattle.proof_contents.specs.Beneath.history.specs.declared.calls.Call.TheVariants.{Get}
+use Rattle.proof_contents.specs.Vocabulary.{hash_of, Writable, ReadOnly, Call, Get, Ref, Tomb, Operation, Answers, key_of, inserts, absent_reply, when_found, State}
 use Rattle.proof_contents.specs.Beneath.history.specs.declared.replies.Reply.TheVariants as reply
-use Rattle.proof_contents.specs.Beneath.slot_arena.specs.declared.refs.Ref.{Ref}
-use Rattle.proof_contents.specs.Beneath.slot_arena.specs.declared.nodes.Node.TheVariants.{Tomb}
-use Rattle.machine_model.specs.declared.operations.Operation.{Operation}
-use Rattle.machine_model.specs.declared.finding.WhenFound.TheVariants.{Answers}
-use Rattle.machine_model.specs.Calls.{key_of, inserts, absent_reply, when_found}
-use Rattle.machine_model.specs.States.{State}
 use Rattle.proof_contents.specs.Nodes.Looking.{Found, Absent, Has}
 use Rattle.proof_contents.specs.Nodes.Changing.{look}
 use Rattle.proof_contents.specs.Tries.{Trie, content, says}

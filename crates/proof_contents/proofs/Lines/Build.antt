@@ -2,30 +2,17 @@
 use Rattle.std.proofs.Common.{◌≡◌, ◌≢◌, ℕ, suc, ◌+◌, ◌-◌, ◌<◌, ◌≤◌, ◌==◌, Bool, true, false, cond, List, [], ◌∷◌, bit_or, slice_index_or, Option, None, ◌⊎◌, inl, inr, refl, sym}
 use Rattle.std.proofs.Common.{ap, ap₂, subst, ◌∙◌, arith, eqb-true}
 use Rattle.arrayvec.specs.ArrayVec.{ArrayVec}
-use Rattle.proof_contents.specs.Beneath.ctrie_base.specs.Hashes.{hash_of}
-use Rattle.proof_contents.specs.Beneath.ctrie_base.specs.declared.hashes.HashKind.{HashKind}
-use Rattle.proof_contents.specs.Beneath.slot_arena.specs.declared.refs.Ref.{Ref}
-use Rattle.proof_contents.specs.Beneath.slot_arena.specs.declared.nodes.Node.{Node}
-use Rattle.proof_contents.specs.Beneath.slot_arena.specs.declared.nodes.Node.TheVariants.{Indirection, Branch, Single, List as Listed}
-use Rattle.proof_contents.specs.Beneath.slot_arena.specs.Heaps.{node_at, entry_at, entries_of, entries_from, no_ref}
-use Rattle.proof_contents.specs.Beneath.nodes.specs.Levels.{list_depth, index_in, flag_of, parting}
-use Rattle.proof_contents.specs.Beneath.nodes.specs.Builders.{pair, rung, by_index}
+use Rattle.proof_contents.specs.Vocabulary.{hash_of, HashKind, Ref, Node, Indirection, Branch, Single, List as Listed, node_at, entry_at, entries_of, entries_from, no_ref, list_depth, index_in}
+use Rattle.proof_contents.specs.Vocabulary.{flag_of, parting, pair, rung, by_index, Operation, Site, Change, BuildLine, key_of, value_of, State, depth_of, hash_in, start_of, changed, key_in}
+use Rattle.proof_contents.specs.Vocabulary.{old_hash, after_single, after_link, build_after_made}
 use Rattle.proof_contents.specs.Nodes.Chains.{Parts, LeadsToPair, at_pair, by_rung}
 use Rattle.proof_contents.proofs.Nodes.Branches.{differ}
 use Rattle.proof_contents.proofs.Nodes.Partings.{IsParting, parting_is, pair_parts}
-use Rattle.machine_model.specs.declared.operations.Operation.{Operation}
-use Rattle.machine_model.specs.declared.building.Site.{Site}
 use Rattle.machine_model.specs.declared.building.Site.TheVariants as site
-use Rattle.machine_model.specs.declared.building.Change.{Change}
 use Rattle.machine_model.specs.declared.building.Change.TheVariants as change
-use Rattle.machine_model.specs.declared.building.BuildLine.{BuildLine}
 use Rattle.machine_model.specs.declared.building.BuildLine.TheVariants as build
 use Rattle.machine_model.specs.declared.lines.Line.TheVariants as line
-use Rattle.machine_model.specs.Calls.{key_of, value_of}
-use Rattle.machine_model.specs.States.{State}
 use Rattle.machine_model.specs.Paths as path
-use Rattle.machine_model.specs.Paths.{depth_of, hash_in, start_of}
-use Rattle.machine_model.specs.Building.{changed, key_in, old_hash, after_single, after_link, build_after_made}
 use Rattle.proof_contents.specs.Lines.Changes.{Known, Absence, no_flag, not_listed, Presence, in_branch, in_list, Neighbour, IsOther, of_branch, of_list, LeadsToBoth, LeadsBelow}
 use Rattle.proof_contents.specs.Lines.Changes.{by_pair, by_link, KnowsChange, KnowsBuild, KnowsLine, main_of_build, build_path}
 use Rattle.proof_contents.proofs.Shapes.Nodes.{list_depth-le}

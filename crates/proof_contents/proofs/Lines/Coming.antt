@@ -1,25 +1,14 @@
 -- Which lines may come next: what holds of each of them holds of the one that comes.
 use Rattle.std.proofs.Common.{◌≡◌, ℕ, ◌==◌, ◌&&◌, true, nat_lt, List, length, Some, refl}
 use Rattle.std.proofs.lemmas.Bool.{cond_both}
-use Rattle.proof_contents.specs.Beneath.history.specs.declared.calls.Access.{Access}
-use Rattle.proof_contents.specs.Beneath.history.specs.declared.calls.Access.TheVariants.{Writable, ReadOnly}
-use Rattle.proof_contents.specs.Beneath.slot_arena.specs.declared.refs.Ref.{Ref}
-use Rattle.proof_contents.specs.Beneath.slot_arena.specs.declared.nodes.Node.{Node}
-use Rattle.proof_contents.specs.Beneath.slot_arena.specs.declared.nodes.Node.TheVariants.{Indirection, Branch, Single, Tomb, List as Listed}
-use Rattle.proof_contents.specs.Beneath.slot_arena.specs.Heaps.{node_at, entries_of}
+use Rattle.proof_contents.specs.Vocabulary.{Access, Writable, ReadOnly, Ref, Node, Indirection, Branch, Single, Tomb, List as Listed, node_at, entries_of, Line, impossible, State, current, above}
+use Rattle.proof_contents.specs.Vocabulary.{is_below_root, reading, renew_next, after_tomb, removing}
 use Rattle.machine_model.specs.declared.building.BuildLine.TheVariants as build
 use Rattle.machine_model.specs.declared.building.Change.TheVariants as change
 use Rattle.machine_model.specs.declared.finding.KeyLine.TheVariants as key
 use Rattle.machine_model.specs.declared.repairs.CleanLine.TheVariants as clean
 use Rattle.machine_model.specs.declared.repairs.RenewLine.TheVariants as renew
-use Rattle.machine_model.specs.declared.lines.Line.{Line}
 use Rattle.machine_model.specs.declared.lines.Line.TheVariants as line
-use Rattle.machine_model.specs.Lines.{impossible}
-use Rattle.machine_model.specs.States.{State}
-use Rattle.machine_model.specs.Paths.{current, above, is_below_root}
-use Rattle.machine_model.specs.Reading.{reading}
-use Rattle.machine_model.specs.Renewing.{renew_next}
-use Rattle.machine_model.specs.Finding.{after_tomb, removing}
 
 module _ (P : Line → Type 0) where
   -- at a tomb

@@ -2,16 +2,8 @@
 use Rattle.std.proofs.Common.{◌≡◌, ◌≢◌, ℕ, suc, ◌+◌, ◌-◌, ◌^◌, ◌<◌, ◌≤◌, true, false, length, Option, Some, None, ◌⊎◌, inl, inr, sym, ap, subst, ◌∙◌, arith}
 use Rattle.std.specs.FinMap.{get}
 use Rattle.arrayvec.specs.ArrayVec.{ArrayVec}
-use Rattle.proof_contents.specs.Beneath.ctrie_base.specs.Hashes.{hash_of}
-use Rattle.proof_contents.specs.Beneath.history.specs.declared.calls.Access.TheVariants.{Writable, ReadOnly}
-use Rattle.proof_contents.specs.Beneath.history.specs.declared.calls.Call.{Call}
-use Rattle.proof_contents.specs.Beneath.history.specs.declared.calls.Call.TheVariants.{Get}
-use Rattle.proof_contents.specs.Beneath.history.specs.declared.replies.Reply.{Reply}
+use Rattle.proof_contents.specs.Vocabulary.{hash_of, Writable, ReadOnly, Call, Get, Reply, Ref, Tomb, List as Listed, Answers, key_of, inserts, absent_reply, when_found}
 use Rattle.proof_contents.specs.Beneath.history.specs.declared.replies.Reply.TheVariants as reply
-use Rattle.proof_contents.specs.Beneath.slot_arena.specs.declared.refs.Ref.{Ref}
-use Rattle.proof_contents.specs.Beneath.slot_arena.specs.declared.nodes.Node.TheVariants.{Tomb, List as Listed}
-use Rattle.machine_model.specs.declared.finding.WhenFound.TheVariants.{Answers}
-use Rattle.machine_model.specs.Calls.{key_of, inserts, absent_reply, when_found}
 use Rattle.proof_contents.specs.Nodes.Looking.{Absent, Has, Below, look_among, value_by, find_at, value_in}
 use Rattle.proof_contents.specs.Nodes.Changing.{look}
 use Rattle.proof_contents.specs.Tries.{Trie, generation, node_in, says, assigned, value_at, content, On, at_below, IsTombed, most_levels}

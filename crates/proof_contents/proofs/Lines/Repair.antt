@@ -6,27 +6,13 @@ use Rattle.std.proofs.lemmas.List.{get_or_append_left}
 use Rattle.std.proofs.Math.Seq.{get_or-append_seam}
 use lib.Pointwise.{pointwise}
 use Rattle.arrayvec.specs.ArrayVec.{ArrayVec}
-use Rattle.proof_contents.specs.Beneath.slot_arena.specs.declared.refs.Ref.{Ref}
-use Rattle.proof_contents.specs.Beneath.slot_arena.specs.declared.nodes.Node.{Node}
-use Rattle.proof_contents.specs.Beneath.slot_arena.specs.declared.nodes.Node.TheVariants.{Indirection, Branch, Single, Tomb, List as Listed}
-use Rattle.proof_contents.specs.Beneath.slot_arena.specs.Heaps.{node_at, entries_of, bitmap_of, no_ref}
-use Rattle.proof_contents.specs.Beneath.nodes.specs.Builders.{renewed, contracted}
-use Rattle.machine_model.specs.declared.operations.Operation.{Operation}
-use Rattle.machine_model.specs.declared.reading.After.{After}
-use Rattle.machine_model.specs.declared.reading.After.TheVariants.{Goes, Gives}
-use Rattle.machine_model.specs.declared.reading.Read.{Read}
+use Rattle.proof_contents.specs.Vocabulary.{Ref, Node, Indirection, Branch, Single, Tomb, List as Listed, node_at, entries_of, bitmap_of, no_ref, renewed, contracted, Operation, After, Gives, Read}
+use Rattle.proof_contents.specs.Vocabulary.{Line, State, word_at, is_start, is_below_root, handle_of, ReadLine, read_step, reading, read_after, at_indirection, renew_next, next_entry, branch_of}
+use Rattle.proof_contents.specs.Vocabulary.{renew_after_entry, renew_after_read, clean_next, cleaned, leaves_single, clean_after_main, clean_after_entry, after_child, clean_after_tomb, new_try}
+use Rattle.machine_model.specs.declared.reading.After.TheVariants.{Goes}
 use Rattle.machine_model.specs.declared.repairs.RenewLine.TheVariants as renew
 use Rattle.machine_model.specs.declared.repairs.CleanLine.TheVariants as clean
-use Rattle.machine_model.specs.declared.lines.Line.{Line}
 use Rattle.machine_model.specs.declared.lines.Line.TheVariants as line
-use Rattle.machine_model.specs.States.{State, word_at}
-use Rattle.machine_model.specs.Paths.{is_start, is_below_root}
-use Rattle.machine_model.specs.Calls.{handle_of}
-use Rattle.machine_model.specs.declared.reading.ReadLine.{ReadLine}
-use Rattle.machine_model.specs.Reading.{read_step, reading, read_after, at_indirection}
-use Rattle.machine_model.specs.Renewing.{renew_next, next_entry, branch_of, renew_after_entry, renew_after_read}
-use Rattle.machine_model.specs.Cleaning.{clean_next, cleaned, leaves_single, clean_after_main, clean_after_entry, after_child, clean_after_tomb}
-use Rattle.machine_model.specs.Lines.{new_try}
 use Rattle.proof_contents.specs.Tries.{Trie}
 use Rattle.proof_contents.specs.Lines.Repairs.{IsDone, keeps, renews, cleans, AreDone, AllDone, SomeDone, KnowsRenew, KnowsClean, IsRepaired, KnowsRepair}
 

@@ -1,19 +1,8 @@
 -- What a line knows of its change makes an own update.
 use Rattle.std.proofs.Common.{◌≡◌, ℕ, suc, ◌-◌, ◌≤◌, slice_index_or, Option, Some, None, inl, inr, refl, sym, ap, subst, ◌∙◌, arith}
-use Rattle.proof_contents.specs.Beneath.ctrie_base.specs.Hashes.{hash_of}
-use Rattle.proof_contents.specs.Beneath.ctrie_base.specs.Paths.{position_of}
-use Rattle.proof_contents.specs.Beneath.history.specs.declared.calls.Call.{Call}
-use Rattle.proof_contents.specs.Beneath.slot_arena.specs.declared.refs.Ref.{Ref}
-use Rattle.proof_contents.specs.Beneath.slot_arena.specs.declared.nodes.Node.{Node}
-use Rattle.proof_contents.specs.Beneath.slot_arena.specs.declared.nodes.Node.TheVariants.{Branch, Single, Tomb, List as Listed}
-use Rattle.proof_contents.specs.Beneath.slot_arena.specs.Heaps.{no_ref}
-use Rattle.proof_contents.specs.Beneath.nodes.specs.Levels.{flag_of}
-use Rattle.proof_contents.specs.Beneath.nodes.specs.Builders.{updated}
+use Rattle.proof_contents.specs.Vocabulary.{hash_of, position_of, Call, Ref, Node, Branch, Single, Tomb, List as Listed, no_ref, flag_of, updated, Change, key_of, value_of, changed}
 use Rattle.proof_contents.specs.Nodes.Chains.{LeadsToPair}
-use Rattle.machine_model.specs.declared.building.Change.{Change}
 use Rattle.machine_model.specs.declared.building.Change.TheVariants as change
-use Rattle.machine_model.specs.Calls.{key_of, value_of}
-use Rattle.machine_model.specs.Building.{changed}
 use Rattle.proof_contents.specs.Tries.{Trie, assigned}
 use Rattle.proof_contents.specs.Steps.{IsOwnUpdate, branch_inserts, branch_updates, branch_removes, branch_entombs, goes_beside, list_inserts, list_updates, list_removes}
 use Rattle.proof_contents.specs.Steps.{list_entombs, Asks, to_insert, to_set, to_remove}

@@ -1,20 +1,11 @@
 -- Each line of WALK hands on that what is taken and what is left make up all pairs; at its end it has them all.
 use Rattle.std.proofs.Common.{◌≡◌, ℕ, List, [], ◌∷◌, ◌++◌, flat_map, refl, sym, ap, ◌∙◌, append_assoc, append-nil}
 use Rattle.std.proofs.lemmas.Grind.{flat_map-append}
-use Rattle.proof_contents.specs.Beneath.history.specs.declared.replies.Reply.{Reply}
-use Rattle.proof_contents.specs.Beneath.slot_arena.specs.declared.refs.Ref.{Ref}
-use Rattle.proof_contents.specs.Beneath.slot_arena.specs.declared.nodes.Node.{Node}
-use Rattle.proof_contents.specs.Beneath.slot_arena.specs.declared.nodes.Node.TheVariants.{Indirection, Branch, Single, Tomb, List as Listed}
-use Rattle.proof_contents.specs.Beneath.slot_arena.specs.Heaps.{entries_of}
-use Rattle.machine_model.specs.declared.operations.Operation.{Operation}
-use Rattle.machine_model.specs.declared.reading.After.{After}
-use Rattle.machine_model.specs.declared.reading.After.TheVariants.{Goes, Gives}
-use Rattle.machine_model.specs.declared.reading.Read.{Read}
-use Rattle.machine_model.specs.declared.walking.WalkLine.{WalkLine}
+use Rattle.proof_contents.specs.Vocabulary.{Reply, Ref, Node, Indirection, Branch, Single, Tomb, List as Listed, entries_of, Operation, After, Gives, Read, WalkLine, Line, walked_reply, walk_next}
+use Rattle.proof_contents.specs.Vocabulary.{walk_after_read, walk_after_entry}
+use Rattle.machine_model.specs.declared.reading.After.TheVariants.{Goes}
 use Rattle.machine_model.specs.declared.walking.WalkLine.TheVariants as walk
-use Rattle.machine_model.specs.declared.lines.Line.{Line}
 use Rattle.machine_model.specs.declared.lines.Line.TheVariants as line
-use Rattle.machine_model.specs.Walking.{walked_reply, walk_next, walk_after_read, walk_after_entry}
 use Rattle.proof_contents.proofs.Pairs.Lists.{Pairs}
 
 module _ (operation : Operation) (node : Ref → Node) (below : Ref → Pairs) (all : Pairs) (Right : Reply → Type 0)

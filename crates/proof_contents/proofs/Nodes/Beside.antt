@@ -2,12 +2,7 @@
 use Rattle.std.proofs.Common.{◌≡◌, ◌≢◌, ℕ, List, set, slice_set, take, Option, Some, None, sym, ap, ◌∙◌, arith}
 use Rattle.std.proofs.lemmas.List.{get_or-set_same, get_or-set_other}
 use Rattle.arrayvec.specs.ArrayVec.{ArrayVec}
-use Rattle.proof_contents.specs.Beneath.ctrie_base.specs.Paths.{position_of}
-use Rattle.proof_contents.specs.Beneath.slot_arena.specs.declared.refs.Ref.{Ref}
-use Rattle.proof_contents.specs.Beneath.slot_arena.specs.declared.nodes.Node.{Node}
-use Rattle.proof_contents.specs.Beneath.slot_arena.specs.declared.nodes.Node.TheVariants.{Indirection, Branch}
-use Rattle.proof_contents.specs.Beneath.nodes.specs.Levels.{index_in, flag_of}
-use Rattle.proof_contents.specs.Beneath.nodes.specs.Builders.{updated}
+use Rattle.proof_contents.specs.Vocabulary.{position_of, Ref, Node, Indirection, Branch, index_in, flag_of, updated}
 use Rattle.proof_contents.specs.Nodes.Branches.{HasPlaces, at_place}
 use Rattle.proof_contents.specs.Nodes.Looking.{Below, look_at}
 use Rattle.proof_contents.specs.Nodes.Changing.{look}

@@ -12,9 +12,7 @@ use Rattle.std.proofs.Math.Nat.{mul-add-mod_self_left, div-add-mod, mod-one, zer
 use Rattle.std.proofs.lemmas.List.Sums.{sum_by-cons}
 use lib.ListN.{get_or-map}
 use lib.Lanes.{mask_l}
-use Rattle.proof_contents.specs.Beneath.ctrie_base.specs.Paths.{position_of}
-use Rattle.proof_contents.specs.Beneath.slot_arena.specs.declared.refs.Ref.{Ref}
-use Rattle.proof_contents.specs.Beneath.nodes.specs.Levels.{has_flag}
+use Rattle.proof_contents.specs.Vocabulary.{position_of, Ref, has_flag}
 use Rattle.proof_contents.specs.Nodes.Branches.{standing, HasPlaces, at_place}
 
 -- how many entries stand before a place

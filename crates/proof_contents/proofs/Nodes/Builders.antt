@@ -1,13 +1,7 @@
 -- What the builders do to the map that is a node's content.
 use Rattle.std.proofs.Common.{◌≡◌, ◌≢◌, ℕ, suc, ◌==◌, Bool, true, false, cond, [], ◌∷◌, length, slice_index_or, Option, Some, None, refl, sym, ap, ap₂, subst, ◌∙◌, arith, eqb-true}
 use Rattle.std.specs.FinMap.{get}
-use Rattle.proof_contents.specs.Beneath.ctrie_base.specs.Hashes.{hash_of}
-use Rattle.proof_contents.specs.Beneath.slot_arena.specs.declared.refs.Ref.{Ref}
-use Rattle.proof_contents.specs.Beneath.slot_arena.specs.declared.nodes.Node.{Node}
-use Rattle.proof_contents.specs.Beneath.slot_arena.specs.declared.nodes.Node.TheVariants.{Branch, Single}
-use Rattle.proof_contents.specs.Beneath.slot_arena.specs.Heaps.{no_ref, entries_from}
-use Rattle.proof_contents.specs.Beneath.nodes.specs.Levels.{index_in}
-use Rattle.proof_contents.specs.Beneath.nodes.specs.Builders.{updated, renewed}
+use Rattle.proof_contents.specs.Vocabulary.{hash_of, Ref, Node, Branch, Single, no_ref, entries_from, index_in, updated, renewed}
 use Rattle.proof_contents.specs.Nodes.Branches.{standing, at_place}
 use Rattle.proof_contents.specs.Nodes.Looking.{Found, Absent, Has, Below, look_at, or_else, value_by, find_at, value_in}
 use Rattle.proof_contents.specs.Nodes.Changing.{Changes, look}

@@ -4,15 +4,7 @@ use Rattle.std.proofs.Common.{bit_or, ⊎_elim, refl, sym, ap, ap₂, subst, sub
 use Rattle.std.proofs.lemmas.List.{get_or-set_same, get_or-set_other, length-replicate}
 use Rattle.std.specs.Int.Bits.{or_zero_l}
 use Rattle.std.proofs.lemmas.Bool.Decides.{nat_tests}
-use Rattle.proof_contents.specs.Beneath.ctrie_base.specs.Hashes.{hash_of}
-use Rattle.proof_contents.specs.Beneath.ctrie_base.specs.Paths.{position_of}
-use Rattle.proof_contents.specs.Beneath.ctrie_base.specs.declared.hashes.HashKind.{HashKind}
-use Rattle.proof_contents.specs.Beneath.slot_arena.specs.declared.refs.Ref.{Ref}
-use Rattle.proof_contents.specs.Beneath.slot_arena.specs.declared.nodes.Node.{Node}
-use Rattle.proof_contents.specs.Beneath.slot_arena.specs.declared.nodes.Node.TheVariants.{Branch, Single, List as Listed}
-use Rattle.proof_contents.specs.Beneath.slot_arena.specs.Heaps.{entries_from}
-use Rattle.proof_contents.specs.Beneath.nodes.specs.Levels.{list_depth, index_in}
-use Rattle.proof_contents.specs.Beneath.nodes.specs.Builders.{by_index, pair}
+use Rattle.proof_contents.specs.Vocabulary.{hash_of, position_of, HashKind, Ref, Node, Branch, Single, List as Listed, entries_from, list_depth, index_in, by_index, pair}
 use Rattle.proof_contents.specs.Nodes.Branches.{HasPlaces, at_place}
 use Rattle.proof_contents.specs.Nodes.Looking.{Found, Absent, Has, look_at, or_else, value_by, find_at}
 use Rattle.proof_contents.specs.Nodes.Changing.{look}

@@ -3,11 +3,7 @@ use Rattle.std.proofs.Common.{◌≡◌, ◌≢◌, ℕ, zero, suc, ◌-◌, ◌
 use Rattle.std.proofs.Common.{take_all, length-append, length-set}
 use Rattle.std.proofs.lemmas.List.Edits.{length-remove}
 use Rattle.arrayvec.specs.ArrayVec.{ArrayVec}
-use Rattle.proof_contents.specs.Beneath.slot_arena.specs.declared.refs.Ref.{Ref}
-use Rattle.proof_contents.specs.Beneath.slot_arena.specs.declared.nodes.Node.{Node}
-use Rattle.proof_contents.specs.Beneath.slot_arena.specs.declared.nodes.Node.TheVariants.{Single, Tomb, List as Listed}
-use Rattle.proof_contents.specs.Beneath.slot_arena.specs.Heaps.{no_ref}
-use Rattle.proof_contents.specs.Beneath.nodes.specs.Builders.{list_inserted, list_updated, list_removed}
+use Rattle.proof_contents.specs.Vocabulary.{Ref, Node, Single, Tomb, List as Listed, no_ref, list_inserted, list_updated, list_removed}
 use Rattle.proof_contents.specs.Nodes.Looking.{Found, Absent, Has, Below, look_at, or_else, look_among}
 use Rattle.proof_contents.specs.Nodes.Lists.{IsNew, AreSingles}
 use Rattle.proof_contents.specs.Nodes.Changing.{Changes}

@@ -1,8 +1,6 @@
 -- Where the paths of two hashes part.
 use Rattle.std.proofs.Common.{◌≡◌, ◌≢◌, ℕ, zero, suc, ◌+◌, ◌-◌, ◌<◌, ◌≤◌, ◌==◌, Bool, true, false, cond, ◌⊎◌, inl, inr, ⊎_elim, refl, sym, subst, ◌∙◌, arith, eqb-true}
-use Rattle.proof_contents.specs.Beneath.ctrie_base.specs.Hashes.{hash_of}
-use Rattle.proof_contents.specs.Beneath.ctrie_base.specs.declared.hashes.HashKind.{HashKind}
-use Rattle.proof_contents.specs.Beneath.nodes.specs.Levels.{list_depth, index_in, parting}
+use Rattle.proof_contents.specs.Vocabulary.{hash_of, HashKind, list_depth, index_in, parting}
 use Rattle.proof_contents.specs.Nodes.Chains.{Parts}
 use Rattle.proof_contents.proofs.Nodes.Branches.{differ}
 

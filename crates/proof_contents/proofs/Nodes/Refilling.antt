@@ -1,6 +1,6 @@
 -- A branch with other entries in the same places.
 use Rattle.std.proofs.Common.{◌≡◌, ℕ, zero, suc, true, false, List, [], ◌∷◌, map, length, take, get_or, Option, Some, None, is_some, refl, sym, ap, ◌∙◌, arith, take_all}
-use Rattle.proof_contents.specs.Beneath.slot_arena.specs.declared.refs.Ref.{Ref}
+use Rattle.proof_contents.specs.Vocabulary.{Ref}
 use lib.Lanes.{mask_l}
 use Rattle.proof_contents.specs.Nodes.Branches.{standing, HasPlaces, at_place}
 use Rattle.proof_contents.proofs.Nodes.Branches.{before, standing-le}

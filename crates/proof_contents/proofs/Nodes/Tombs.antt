@@ -2,12 +2,7 @@
 use Rattle.std.proofs.Common.{◌≡◌, ◌≢◌, ℕ, zero, suc, ◌-◌, ◌<◌, Bool, true, false, ◌==◌, List, [], ◌∷◌, length, get_or, slice_index_or, Option, Some, None, ◌⊎◌, inl, inr, ⊎_elim}
 use Rattle.std.proofs.Common.{refl, sym, ap, ap₂, ◌∙◌, arith, eqb-true}
 use Rattle.arrayvec.specs.ArrayVec.{ArrayVec}
-use Rattle.proof_contents.specs.Beneath.ctrie_base.specs.Paths.{position_of}
-use Rattle.proof_contents.specs.Beneath.slot_arena.specs.declared.refs.Ref.{Ref}
-use Rattle.proof_contents.specs.Beneath.slot_arena.specs.declared.nodes.Node.{Node}
-use Rattle.proof_contents.specs.Beneath.slot_arena.specs.declared.nodes.Node.TheVariants.{Branch, Single, Tomb}
-use Rattle.proof_contents.specs.Beneath.slot_arena.specs.Heaps.{no_ref}
-use Rattle.proof_contents.specs.Beneath.nodes.specs.Levels.{index_in, flag_of}
+use Rattle.proof_contents.specs.Vocabulary.{position_of, Ref, Node, Branch, Single, Tomb, no_ref, index_in, flag_of}
 use Rattle.proof_contents.specs.Nodes.Branches.{standing, HasPlaces, at_place}
 use Rattle.proof_contents.specs.Nodes.Looking.{Absent, Has, look_at}
 use Rattle.proof_contents.specs.Nodes.Changing.{look, Changes, AreInPlace}

@@ -2,23 +2,12 @@
 use Rattle.std.proofs.Common.{◌≡◌, ℕ, zero, suc, List, [], ◌∷◌, ◌++◌, flat_map, Contains, Some, refl, sym, ap, ap₂, subst, ◌∙◌, arith}
 use Rattle.std.proofs.lemmas.List.Elements.{Contains-append_left, Contains-append_right}
 use Rattle.std.specs.FinMap.{entries}
-use Rattle.proof_contents.specs.Beneath.slot_arena.specs.declared.refs.Ref.{Ref}
-use Rattle.proof_contents.specs.Beneath.slot_arena.specs.declared.nodes.Node.{Node}
-use Rattle.proof_contents.specs.Beneath.slot_arena.specs.declared.nodes.Node.TheVariants.{Indirection, Branch, Single, Tomb, List as Listed}
-use Rattle.proof_contents.specs.Beneath.slot_arena.specs.declared.nodes.Prev.{Prev}
+use Rattle.proof_contents.specs.Vocabulary.{Ref, Node, Indirection, Branch, Single, Tomb, List as Listed, Prev, Heap, node_at, prev_at, node_of, prev_of, main_of, main_at, logical, logical_main}
+use Rattle.proof_contents.specs.Vocabulary.{entries_of, refs_of_node, refs_of_prev, refs_of_slot, Root, RootWord, Plain, Offer, Bounds, State, root_of, refs_of_word, refs_of_root, pairs_at}
+use Rattle.proof_contents.specs.Vocabulary.{pairs_below, most_levels, content_at, IsReached, from_slot, by_key, node_under, prev_word, main_word, main_before}
 use Rattle.proof_contents.specs.Beneath.slot_arena.specs.declared.nodes.Prev.TheVariants as prev
-use Rattle.proof_contents.specs.Beneath.slot_arena.specs.Heaps.{Heap, node_at, prev_at, node_of, prev_of, main_of, main_at, logical, logical_main, entries_of, refs_of_node}
-use Rattle.proof_contents.specs.Beneath.slot_arena.specs.Heaps.{refs_of_prev, refs_of_slot}
-use Rattle.machine_model.specs.declared.roots.Root.{Root}
-use Rattle.machine_model.specs.declared.roots.RootWord.{RootWord}
-use Rattle.machine_model.specs.declared.roots.RootWord.TheVariants.{Plain, Offer}
-use Rattle.machine_model.specs.declared.steps.Bounds.{Bounds}
 use Rattle.machine_model.specs.States as state
-use Rattle.machine_model.specs.States.{State, root_of}
-use Rattle.machine_model.specs.Counting.{refs_of_word, refs_of_root}
-use Rattle.machine_model.specs.Contents.{pairs_at, pairs_below, most_levels, content_at, IsReached, from_root, from_slot}
-use Rattle.machine_model.specs.Pairs.{by_key}
-use Rattle.machine_model.specs.Grown.{node_under, prev_word, main_word, main_before}
+use Rattle.machine_model.specs.Contents.{from_root}
 use Rattle.proof_contents.specs.Tries.{content}
 use Rattle.proof_contents.specs.Steps.{IsTrie}
 use Rattle.proof_contents.specs.Pairs.{pairs_of, pairs_from}

@@ -5,9 +5,8 @@ use Rattle.std.specs.Cmp.{unsigned_tied}
 use Rattle.std.specs.Ordering.{eq_by_cmp}
 use Rattle.std.specs.FinMap.{get, entries, len, len-entries, from_sorted, find, is_sorted, get-from_sorted, entries-from_sorted}
 use Rattle.std.specs.FinMap.Entries.{below_all}
-use Rattle.proof_contents.specs.Beneath.history.specs.Worlds.{KeyMap}
+use Rattle.proof_contents.specs.Vocabulary.{KeyMap, comes_before, put_pair, by_key}
 use Rattle.proof_contents.specs.Beneath.history.proofs.EntryMaps.{both}
-use Rattle.machine_model.specs.Pairs.{comes_before, put_pair, by_key}
 use Rattle.proof_contents.proofs.Values.Maps.{same_answers}
 
 abbrev pub Pairs : Type 0

@@ -2,13 +2,7 @@
 use Rattle.std.proofs.Common.{◌≡◌, ◌≢◌, ℕ, zero, suc, ◌+◌, ◌*◌, ◌%◌, ◌^◌, ◌≤◌, ◌==◌, Bool, true, false, List, [], ◌∷◌, ◌++◌, length, flat_map, Option, Some, None, refl, sym, ap}
 use Rattle.std.proofs.Common.{subst, ◌∙◌, arith, eqb-true, mod-eq_of_lt}
 use Rattle.std.specs.FinMap.{get, entries, len}
-use Rattle.proof_contents.specs.Beneath.ctrie_base.specs.Hashes.{hash_of}
-use Rattle.proof_contents.specs.Beneath.slot_arena.specs.declared.refs.Ref.{Ref}
-use Rattle.proof_contents.specs.Beneath.slot_arena.specs.declared.nodes.Node.{Node}
-use Rattle.proof_contents.specs.Beneath.slot_arena.specs.declared.nodes.Node.TheVariants.{Indirection, Branch, Single, Tomb, List as Listed}
-use Rattle.proof_contents.specs.Beneath.slot_arena.specs.Heaps.{entries_of}
-use Rattle.proof_contents.specs.Beneath.nodes.specs.Levels.{index_in}
-use Rattle.machine_model.specs.Pairs.{by_key}
+use Rattle.proof_contents.specs.Vocabulary.{hash_of, Ref, Node, Indirection, Branch, Single, Tomb, List as Listed, entries_of, index_in, by_key}
 use Rattle.proof_contents.specs.Nodes.Branches.{standing, at_place}
 use Rattle.proof_contents.specs.Nodes.Looking.{Absent, Has, look_at, look_among, or_else, value_by, find_at}
 use Rattle.proof_contents.specs.Nodes.Lists.{IsNew, AreSingles}

@@ -1,6 +1,6 @@
 -- The pairs of entries that stand at places, where the pairs at a place have its index.
 use Rattle.std.proofs.Common.{◌≡◌, ◌≢◌, ℕ, zero, suc, ◌+◌, ◌≤◌, List, [], ◌∷◌, flat_map, Option, Some, None, refl, ap, ◌∙◌, arith}
-use Rattle.proof_contents.specs.Beneath.slot_arena.specs.declared.refs.Ref.{Ref}
+use Rattle.proof_contents.specs.Vocabulary.{Ref}
 use Rattle.proof_contents.specs.Nodes.Branches.{standing, at_place}
 use Rattle.proof_contents.proofs.Pairs.Lists.{Pairs, found_in, EachKey, AreApart, each-append, each-weaker, apart-append, found-none, found-append_left, found-append_right}
 

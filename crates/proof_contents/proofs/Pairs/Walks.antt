@@ -1,14 +1,7 @@
 -- What a walk finds: the pairs below each entry, whatever number of levels is allowed, make up the content.
 use Rattle.std.proofs.Common.{◌≡◌, ℕ, zero, suc, ◌+◌, ◌<◌, ◌≤◌, List, [], ◌∷◌, length, flat_map, Contains, Some, refl, sym, ap, subst, ◌∙◌, arith}
-use Rattle.proof_contents.specs.Beneath.ctrie_base.specs.Hashes.{hash_of}
-use Rattle.proof_contents.specs.Beneath.history.specs.declared.calls.Access.TheVariants.{ReadOnly}
-use Rattle.proof_contents.specs.Beneath.history.specs.declared.calls.Call.TheVariants.{Entries, Count}
+use Rattle.proof_contents.specs.Vocabulary.{hash_of, ReadOnly, Entries, Count, Ref, Node, Indirection, Branch, Single, Tomb, List as Listed, entries_of, by_key}
 use Rattle.proof_contents.specs.Beneath.history.specs.declared.replies.Reply.TheVariants as reply
-use Rattle.proof_contents.specs.Beneath.slot_arena.specs.declared.refs.Ref.{Ref}
-use Rattle.proof_contents.specs.Beneath.slot_arena.specs.declared.nodes.Node.{Node}
-use Rattle.proof_contents.specs.Beneath.slot_arena.specs.declared.nodes.Node.TheVariants.{Indirection, Branch, Single, Tomb, List as Listed}
-use Rattle.proof_contents.specs.Beneath.slot_arena.specs.Heaps.{entries_of}
-use Rattle.machine_model.specs.Pairs.{by_key}
 use Rattle.proof_contents.specs.Nodes.Lists.{AreSingles}
 use Rattle.proof_contents.proofs.Nodes.Tombs.{place_of}
 use Rattle.proof_contents.specs.Tries.{Trie, IsShaped, branch, list, tomb, node_in, content, most_levels}

@@ -3,14 +3,8 @@ use Rattle.std.proofs.Common.{◌≤◌, ◌≡◌, ◌≢◌, ℕ, ◌*◌, ◌
 use Rattle.std.proofs.Common.{sym, ap, ap₂, subst, ◌∙◌, arith, eqb-true, length-set}
 use Rattle.std.proofs.lemmas.List.{get_or-set_same, get_or-set_other}
 use Rattle.arrayvec.specs.ArrayVec.{ArrayVec}
-use Rattle.proof_contents.specs.Beneath.ctrie_base.specs.Hashes.{hash_of}
-use Rattle.proof_contents.specs.Beneath.ctrie_base.specs.Paths.{position_of}
-use Rattle.proof_contents.specs.Beneath.slot_arena.specs.declared.refs.Ref.{Ref}
-use Rattle.proof_contents.specs.Beneath.slot_arena.specs.declared.nodes.Node.{Node}
-use Rattle.proof_contents.specs.Beneath.slot_arena.specs.declared.nodes.Node.TheVariants.{Indirection, Branch, Single, Tomb, List as Listed}
-use Rattle.proof_contents.specs.Beneath.slot_arena.specs.Heaps.{no_ref, empty_branch, entries_from}
-use Rattle.proof_contents.specs.Beneath.nodes.specs.Levels.{list_depth, index_in, flag_of, has_flag}
-use Rattle.proof_contents.specs.Beneath.nodes.specs.Builders.{inserted, updated, removed, renewed, pair, rung, by_index}
+use Rattle.proof_contents.specs.Vocabulary.{hash_of, position_of, Ref, Node, Indirection, Branch, Single, Tomb, List as Listed, no_ref, empty_branch, entries_from, list_depth, index_in, flag_of}
+use Rattle.proof_contents.specs.Vocabulary.{has_flag, inserted, updated, removed, renewed, pair, rung, by_index}
 use Rattle.proof_contents.specs.Nodes.Branches.{standing, HasPlaces, at_place}
 use Rattle.proof_contents.specs.Nodes.Looking.{Absent, Has, look_among, or_else}
 use Rattle.proof_contents.specs.Nodes.Lists.{AreSingles}

@@ -3,13 +3,7 @@ use Rattle.std.proofs.Common.{◌≡◌, ◌≢◌, ℕ, zero, suc, ◌+◌, ◌
 use Rattle.std.proofs.Common.{refl, sym, ap, ap₂, subst, ◌∙◌, arith, eqb-true, mod-eq_of_lt, take_all, length-append, length-set}
 use Rattle.std.proofs.lemmas.List.Edits.{length-remove}
 use Rattle.arrayvec.specs.ArrayVec.{ArrayVec}
-use Rattle.proof_contents.specs.Beneath.ctrie_base.specs.Hashes.{hash_of}
-use Rattle.proof_contents.specs.Beneath.slot_arena.specs.declared.refs.Ref.{Ref}
-use Rattle.proof_contents.specs.Beneath.slot_arena.specs.declared.nodes.Node.{Node}
-use Rattle.proof_contents.specs.Beneath.slot_arena.specs.declared.nodes.Node.TheVariants.{Single, Tomb, List as Listed}
-use Rattle.proof_contents.specs.Beneath.slot_arena.specs.Heaps.{no_ref, entries_from}
-use Rattle.proof_contents.specs.Beneath.nodes.specs.Levels.{index_in}
-use Rattle.proof_contents.specs.Beneath.nodes.specs.Builders.{list_inserted, list_updated, list_removed}
+use Rattle.proof_contents.specs.Vocabulary.{hash_of, Ref, Node, Single, Tomb, List as Listed, no_ref, entries_from, index_in, list_inserted, list_updated, list_removed}
 use Rattle.proof_contents.specs.Nodes.Looking.{Found, Absent, Has, Below, look_at, look_among, or_else}
 use Rattle.proof_contents.specs.Nodes.Lists.{IsNew, AreSingles}
 use Rattle.proof_contents.proofs.Nodes.Branches.{differ}

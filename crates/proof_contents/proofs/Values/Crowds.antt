@@ -10,8 +10,7 @@ use Rattle.std.proofs.lemmas.Map.Made.{length-from_same_keys, length-le_from_is_
 use Rattle.std.proofs.lemmas.Map.Views.{any-filter_same}
 use Rattle.std.proofs.lemmas.List.Sums.{length-filter}
 use Rattle.std.proofs.lemmas.Bool.{and_parts, not-true}
-use Rattle.proof_contents.specs.Beneath.history.specs.Worlds.{KeyMap}
-use Rattle.proof_contents.specs.Beneath.history.specs.Effects.{others}
+use Rattle.proof_contents.specs.Vocabulary.{KeyMap, others}
 use Rattle.proof_contents.specs.Beneath.ctrie_base.proofs.SameTests.{same_tests}
 use Rattle.proof_contents.proofs.Nodes.Branches.{differ}
 

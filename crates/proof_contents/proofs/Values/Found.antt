@@ -1,7 +1,6 @@
 -- How values are found, and when two assignments of main nodes give the same ones.
 use Rattle.std.proofs.Common.{◌≡◌, ◌≢◌, ℕ, zero, suc, ◌+◌, ◌==◌, Bool, true, false, cond, Option, None, refl, sym, ap, subst, ◌∙◌, arith, eq-eqb, ne_eqb}
-use Rattle.proof_contents.specs.Beneath.ctrie_base.specs.Hashes.{hash_of}
-use Rattle.proof_contents.specs.Beneath.slot_arena.specs.declared.refs.Ref.{Ref}
+use Rattle.proof_contents.specs.Vocabulary.{hash_of, Ref}
 use Rattle.proof_contents.specs.Nodes.Looking.{Found, Absent, Has, Below, value_by, find_at, value_in}
 use Rattle.proof_contents.specs.Tries.{Trie, generation, assigned, most_levels}
 

@@ -7,18 +7,8 @@ use Rattle.std.specs.List.{IsDistinct, AllByRecursion}
 use Rattle.std.specs.FinMap.{get}
 use Rattle.std.proofs.Math.Bool.{or-true}
 use Rattle.arrayvec.specs.ArrayVec.{ArrayVec}
-use Rattle.proof_contents.specs.Beneath.ctrie_base.specs.Hashes.{hash_of}
+use Rattle.proof_contents.specs.Vocabulary.{hash_of, HashKind, Low, Fold, Wide, Block, others, Ref, Node, Branch, Single, List as Listed, no_ref, position_of, list_depth, has_flag, flag_of, key_in}
 use Rattle.proof_contents.specs.Beneath.ctrie_base.proofs.Fits.{low_hash-lt, fold_hash-lt, block_hash-lt}
-use Rattle.proof_contents.specs.Beneath.ctrie_base.specs.declared.hashes.HashKind.{HashKind}
-use Rattle.proof_contents.specs.Beneath.ctrie_base.specs.declared.hashes.HashKind.TheVariants.{Low, Fold, Wide, Block}
-use Rattle.proof_contents.specs.Beneath.history.specs.Effects.{others}
-use Rattle.proof_contents.specs.Beneath.slot_arena.specs.declared.refs.Ref.{Ref}
-use Rattle.proof_contents.specs.Beneath.slot_arena.specs.declared.nodes.Node.{Node}
-use Rattle.proof_contents.specs.Beneath.slot_arena.specs.declared.nodes.Node.TheVariants.{Branch, Single, List as Listed}
-use Rattle.proof_contents.specs.Beneath.slot_arena.specs.Heaps.{no_ref}
-use Rattle.proof_contents.specs.Beneath.ctrie_base.specs.Paths.{position_of}
-use Rattle.proof_contents.specs.Beneath.nodes.specs.Levels.{list_depth, has_flag, flag_of}
-use Rattle.machine_model.specs.Building.{key_in}
 use Rattle.proof_contents.specs.Nodes.Looking.{Found, Absent, Has, Below, look_at, look_among, look_in, or_else, value_by, find_at}
 use Rattle.proof_contents.specs.Nodes.Lists.{AreSingles}
 use Rattle.proof_contents.specs.Nodes.Changing.{look}

@@ -2,7 +2,7 @@
 use Rattle.std.proofs.Common.{◌≡◌, ◌≢◌, ℕ, zero, suc, ◌==◌, Bool, true, false, cond, List, [], ◌∷◌, Contains, Option, Some, None, ◌⊎◌, inl, inr, nat_cmp, refl, sym, ap, ◌∙◌, arith, eqb-true}
 use Rattle.std.specs.Cmp.{nat_cmp_total}
 use Rattle.std.specs.FinMap.{get, get-empty, same_map, nat_cmp-IsAntisymmetric}
-use Rattle.proof_contents.specs.Beneath.history.specs.Worlds.{KeyMap}
+use Rattle.proof_contents.specs.Vocabulary.{KeyMap}
 use Rattle.proof_contents.proofs.Nodes.Branches.{differ}
 use Rattle.proof_contents.proofs.Nodes.Maps.{get-inserted}
 use Rattle.proof_contents.specs.Tries.{put_value, map_of}

@@ -1,9 +1,7 @@
 -- The path to a child parts into that to its parent and its index.
 use Rattle.std.proofs.Common.{◌≡◌, ℕ, ◌+◌, ◌*◌, ◌%◌, ◌^◌, ◌<◌, sym, ap, ◌∙◌, arith, pow_pos, mod-lt, add_comm}
 use Rattle.std.proofs.lemmas.Nat.{mod-pow-add, mod-mul-add}
-use Rattle.proof_contents.specs.Beneath.ctrie_base.specs.Hashes.{hash_of}
-use Rattle.proof_contents.specs.Beneath.slot_arena.specs.declared.refs.Ref.{Ref}
-use Rattle.proof_contents.specs.Beneath.nodes.specs.Levels.{index_in}
+use Rattle.proof_contents.specs.Vocabulary.{hash_of, Ref, index_in}
 use Rattle.proof_contents.specs.Tries.{Trie, IsChild}
 use Rattle.proof_contents.proofs.Changes.Repairs.{same_factor}
 

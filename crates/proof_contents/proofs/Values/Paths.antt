@@ -4,13 +4,7 @@ use Rattle.std.proofs.Common.{inr, ⊎_elim, refl, sym, ap, ap₂, subst, ◌∙
 use Rattle.std.proofs.Math.Nat.{mod-one}
 use Rattle.std.proofs.lemmas.Nat.{mod-pow-add}
 use Rattle.arrayvec.specs.ArrayVec.{ArrayVec}
-use Rattle.proof_contents.specs.Beneath.ctrie_base.specs.Hashes.{hash_of}
-use Rattle.proof_contents.specs.Beneath.slot_arena.specs.declared.refs.Ref.{Ref}
-use Rattle.proof_contents.specs.Beneath.slot_arena.specs.declared.nodes.Node.{Node}
-use Rattle.proof_contents.specs.Beneath.slot_arena.specs.declared.nodes.Node.TheVariants.{Branch, Tomb, List as Listed}
-use Rattle.proof_contents.specs.Beneath.slot_arena.specs.Heaps.{no_ref, generation_of, entries_from}
-use Rattle.proof_contents.specs.Beneath.nodes.specs.Levels.{index_in}
-use Rattle.proof_contents.specs.Beneath.nodes.specs.Builders.{renewed}
+use Rattle.proof_contents.specs.Vocabulary.{hash_of, Ref, Node, Branch, Tomb, List as Listed, no_ref, generation_of, entries_from, index_in, renewed}
 use Rattle.proof_contents.specs.Nodes.Branches.{standing, HasPlaces, at_place}
 use Rattle.proof_contents.specs.Nodes.Looking.{Absent, Has, Below, look_at}
 use Rattle.proof_contents.specs.Nodes.Changing.{Changes, look}

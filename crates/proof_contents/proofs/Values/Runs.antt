@@ -2,13 +2,7 @@
 use Rattle.std.proofs.Common.{◌≡◌, ℕ, zero, suc, ◌-◌, ◌<◌, ◌==◌, Bool, true, false, cond, List, [], ◌∷◌, ◌++◌, slice_index_or, flat_map, Contains, Option, Some, None, is_some}
 use Rattle.std.proofs.Common.{refl, sym, ap, subst, ◌∙◌, arith}
 use Rattle.std.proofs.lemmas.List.Elements.{Contains-append_left, Contains-append_right}
-use Rattle.proof_contents.specs.Beneath.slot_arena.specs.Refs.{slot_of, birth_of}
-use Rattle.proof_contents.specs.Beneath.slot_arena.specs.declared.refs.Ref.{Ref}
-use Rattle.proof_contents.specs.Beneath.slot_arena.specs.declared.nodes.Node.TheVariants.{Single}
-use Rattle.proof_contents.specs.Beneath.slot_arena.specs.declared.nodes.Slot.{Slot}
-use Rattle.proof_contents.specs.Beneath.slot_arena.specs.Heaps.{Heap, stored, node_of, empty_branch}
-use Rattle.machine_model.specs.States.{State}
-use Rattle.machine_model.specs.Grown.{standing, of_birth, or_before, grown, node_under, main_before}
+use Rattle.proof_contents.specs.Vocabulary.{slot_of, birth_of, Ref, Single, Slot, Heap, stored, node_of, empty_branch, State, standing, of_birth, or_before, grown, node_under, main_before}
 use Rattle.proof_contents.specs.Runs.{is_made, main_within, counting_main, keys_of_node, keys_of_slot, keys_until}
 
 -- ---- keys

@@ -1,17 +1,9 @@
 -- Nodes of a state are nodes of the trie; the first generation is empty at first.
 use Rattle.std.proofs.Common.{◌≡◌, ◌≢◌, ℕ, zero, suc, ◌≤◌, ◌==◌, cond, Some, None, is_some, refl, ap, ◌∙◌, arith, unwrap_or}
 use Rattle.std.specs.FinMap as map
-use Rattle.proof_contents.specs.Beneath.slot_arena.specs.Refs.{ref_to}
-use Rattle.proof_contents.specs.Beneath.slot_arena.specs.declared.refs.Ref.{Ref}
-use Rattle.proof_contents.specs.Beneath.slot_arena.specs.declared.nodes.Node.{Node}
-use Rattle.proof_contents.specs.Beneath.slot_arena.specs.declared.nodes.Node.TheVariants.{Indirection, Branch, Single, Tomb, List as Listed}
+use Rattle.proof_contents.specs.Vocabulary.{ref_to, Ref, Node, Indirection, Branch, Single, Tomb, List as Listed, Slot, stored, node_at, node_of, generation_of, generation_at, empty_branch}
+use Rattle.proof_contents.specs.Vocabulary.{with_main_word, taken, logical, main_of, prev_of, Bounds, State, first_state, first_heap, standing, grown, node_under, prev_word, IsRun}
 use Rattle.proof_contents.specs.Beneath.slot_arena.specs.declared.nodes.Prev.TheVariants as prev
-use Rattle.proof_contents.specs.Beneath.slot_arena.specs.declared.nodes.Slot.{Slot}
-use Rattle.proof_contents.specs.Beneath.slot_arena.specs.Heaps.{stored, node_at, node_of, generation_of, generation_at, empty_branch, with_main_word, taken, logical, main_of, prev_of}
-use Rattle.machine_model.specs.declared.steps.Bounds.{Bounds}
-use Rattle.machine_model.specs.States.{State, first_state, first_heap}
-use Rattle.machine_model.specs.Grown.{standing, grown, node_under, prev_word}
-use Rattle.machine_model.specs.Times.{IsRun}
 use Rattle.proof_contents.specs.Tries.{content}
 use Rattle.proof_contents.specs.Steps.{IsTrie}
 use Rattle.proof_contents.specs.Grows.{NodesStay}

@@ -2,34 +2,16 @@
 -- it. What stands under each reference is a function, and so is the main node with which each indirection was made.
 use Rattle.std.specs.Prelude.{◌≡◌, ◌≢◌, ℕ, suc, ◌+◌, ◌-◌, ◌<◌, ◌≤◌, ◌⊎◌, true, false, length, take, slice_index_or, Option, Some, None, List}
 use Rattle.arrayvec.specs.ArrayVec.{ArrayVec}
-use Rattle.proof_contents.specs.Beneath.ctrie_base.specs.Paths.{position_of}
-use Rattle.proof_contents.specs.Beneath.ctrie_base.specs.Hashes.{hash_of}
-use Rattle.proof_contents.specs.Beneath.ctrie_base.specs.declared.hashes.HashKind.{HashKind}
-use Rattle.proof_contents.specs.Beneath.history.specs.declared.calls.Call.{Call}
-use Rattle.proof_contents.specs.Beneath.history.specs.declared.calls.Call.TheVariants.{Get}
-use Rattle.proof_contents.specs.Beneath.slot_arena.specs.declared.refs.Ref.{Ref}
-use Rattle.proof_contents.specs.Beneath.slot_arena.specs.declared.nodes.Node.{Node}
-use Rattle.proof_contents.specs.Beneath.slot_arena.specs.declared.nodes.Node.TheVariants.{Indirection, Branch, Single, Tomb, List as Listed}
-use Rattle.proof_contents.specs.Beneath.slot_arena.specs.Heaps.{no_ref}
-use Rattle.proof_contents.specs.Beneath.nodes.specs.Levels.{flag_of, has_flag, index_in, list_depth, parting}
-use Rattle.proof_contents.specs.Beneath.nodes.specs.Builders.{pair, rung}
+use Rattle.proof_contents.specs.Vocabulary.{position_of, hash_of, HashKind, Call, Get, Ref, Node, Indirection, Branch, Single, Tomb, List as Listed, no_ref, flag_of, has_flag, index_in, list_depth}
+use Rattle.proof_contents.specs.Vocabulary.{parting, pair, rung, Site, Change, BuildLine, KeyLine, Sets, Removes, Line, key_of, value_of, inserts, when_found, depth_of, changed}
 use Rattle.proof_contents.specs.Nodes.Looking.{Absent, look_among}
 use Rattle.proof_contents.specs.Nodes.Chains.{Parts, LeadsToPair}
-use Rattle.machine_model.specs.declared.building.Site.{Site}
 use Rattle.machine_model.specs.declared.building.Site.TheVariants as site
-use Rattle.machine_model.specs.declared.building.Change.{Change}
 use Rattle.machine_model.specs.declared.building.Change.TheVariants as change
-use Rattle.machine_model.specs.declared.building.BuildLine.{BuildLine}
 use Rattle.machine_model.specs.declared.building.BuildLine.TheVariants as build
-use Rattle.machine_model.specs.declared.finding.KeyLine.{KeyLine}
 use Rattle.machine_model.specs.declared.finding.KeyLine.TheVariants as key
-use Rattle.machine_model.specs.declared.finding.WhenFound.TheVariants.{Sets, Removes}
 use Rattle.machine_model.specs.declared.lines.Purpose.TheVariants as purpose
-use Rattle.machine_model.specs.declared.lines.Line.{Line}
 use Rattle.machine_model.specs.declared.lines.Line.TheVariants as line
-use Rattle.machine_model.specs.Calls.{key_of, value_of, inserts, when_found}
-use Rattle.machine_model.specs.Paths.{depth_of}
-use Rattle.machine_model.specs.Building.{changed}
 
 -- the path of a line of BUILD
 abbrev pub build_path : BuildLine → List Ref

@@ -1,17 +1,10 @@
 -- What an operation's line knows of the entries that it has done, where it renews or cleans a branch.
 use Rattle.std.specs.Prelude.{◌≡◌, ◌≢◌, ℕ, ◌<◌, Bool, List, length, slice_index_or}
 use Rattle.arrayvec.specs.ArrayVec.{ArrayVec}
-use Rattle.proof_contents.specs.Beneath.slot_arena.specs.declared.refs.Ref.{Ref}
-use Rattle.proof_contents.specs.Beneath.slot_arena.specs.declared.nodes.Node.{Node}
-use Rattle.proof_contents.specs.Beneath.slot_arena.specs.declared.nodes.Node.TheVariants.{Indirection, Branch, Tomb}
-use Rattle.proof_contents.specs.Beneath.slot_arena.specs.Heaps.{no_ref}
-use Rattle.proof_contents.specs.Beneath.nodes.specs.Builders.{contracted}
-use Rattle.machine_model.specs.declared.repairs.RenewLine.{RenewLine}
+use Rattle.proof_contents.specs.Vocabulary.{Ref, Node, Indirection, Branch, Tomb, no_ref, contracted, RenewLine, CleanLine, Line}
 use Rattle.machine_model.specs.declared.repairs.RenewLine.TheVariants as renew
-use Rattle.machine_model.specs.declared.repairs.CleanLine.{CleanLine}
 use Rattle.machine_model.specs.declared.repairs.CleanLine.TheVariants as clean
 use Rattle.machine_model.specs.declared.lines.Purpose.TheVariants as purpose
-use Rattle.machine_model.specs.declared.lines.Line.{Line}
 use Rattle.machine_model.specs.declared.lines.Line.TheVariants as line
 
 -- In all of them: what nodes there are, with which main node each indirection was made, which main node a READ of an

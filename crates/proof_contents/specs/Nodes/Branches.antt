@@ -1,7 +1,7 @@
 -- A branch as its 32 places: at each stands an entry, or none.
 use Rattle.std.specs.Prelude.{◌≡◌, ℕ, List, [], ◌∷◌, map, length, Option, Some, None, is_some, slice_index_or}
 use lib.Lanes.{mask_l}
-use Rattle.proof_contents.specs.Beneath.slot_arena.specs.declared.refs.Ref.{Ref}
+use Rattle.proof_contents.specs.Vocabulary.{Ref}
 
 -- the entries that stand there, in order
 abbrev pub standing : List (Option Ref) → List Ref

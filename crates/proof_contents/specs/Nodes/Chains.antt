@@ -1,13 +1,7 @@
 -- Two singles whose paths part below the place where one of them stood: a chain of branches of one entry each leads down to
 -- their main node.
 use Rattle.std.specs.Prelude.{◌≡◌, ◌≢◌, ℕ, suc, ◌⊎◌}
-use Rattle.proof_contents.specs.Beneath.ctrie_base.specs.declared.hashes.HashKind.{HashKind}
-use Rattle.proof_contents.specs.Beneath.ctrie_base.specs.Hashes.{hash_of}
-use Rattle.proof_contents.specs.Beneath.slot_arena.specs.declared.refs.Ref.{Ref}
-use Rattle.proof_contents.specs.Beneath.slot_arena.specs.declared.nodes.Node.{Node}
-use Rattle.proof_contents.specs.Beneath.slot_arena.specs.declared.nodes.Node.TheVariants.{Indirection}
-use Rattle.proof_contents.specs.Beneath.nodes.specs.Levels.{list_depth, index_in}
-use Rattle.proof_contents.specs.Beneath.nodes.specs.Builders.{pair, rung}
+use Rattle.proof_contents.specs.Vocabulary.{HashKind, hash_of, Ref, Node, Indirection, list_depth, index_in, pair, rung}
 
 -- the keys part at this depth, or it is that of lists
 abbrev pub Parts : HashKind → ℕ → ℕ → ℕ → Type 0

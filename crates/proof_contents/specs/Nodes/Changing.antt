@@ -1,9 +1,6 @@
 -- What it is to change one key of a main node, and to keep what a main node says.
 use Rattle.std.specs.Prelude.{◌≡◌, ◌≢◌, ℕ, List, Option, Some}
-use Rattle.proof_contents.specs.Beneath.slot_arena.specs.declared.refs.Ref.{Ref}
-use Rattle.proof_contents.specs.Beneath.slot_arena.specs.declared.nodes.Node.{Node}
-use Rattle.proof_contents.specs.Beneath.slot_arena.specs.declared.nodes.Node.TheVariants.{Single}
-use Rattle.proof_contents.specs.Beneath.nodes.specs.Levels.{index_in, flag_of}
+use Rattle.proof_contents.specs.Vocabulary.{Ref, Node, Single, index_in, flag_of}
 use Rattle.proof_contents.specs.Nodes.Branches.{at_place}
 use Rattle.proof_contents.specs.Nodes.Looking.{Found, look_in}
 

@@ -1,8 +1,6 @@
 -- A list of singles of different keys.
 use Rattle.std.specs.Prelude.{◌≡◌, ℕ, List, [], ◌∷◌, ⊤}
-use Rattle.proof_contents.specs.Beneath.slot_arena.specs.declared.refs.Ref.{Ref}
-use Rattle.proof_contents.specs.Beneath.slot_arena.specs.declared.nodes.Node.{Node}
-use Rattle.proof_contents.specs.Beneath.slot_arena.specs.declared.nodes.Node.TheVariants.{Single}
+use Rattle.proof_contents.specs.Vocabulary.{Ref, Node, Single}
 use Rattle.proof_contents.specs.Nodes.Looking.{Absent, look_among}
 
 -- this is the single of a key that none of the others has

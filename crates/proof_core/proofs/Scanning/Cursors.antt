@@ -6,20 +6,13 @@ use Rattle.std.proofs.lemmas.List.{take-append-drop}
 use Rattle.std.proofs.lemmas.List.Concat.{flat_map-append}
 use Rattle.std.proofs.lemmas.List.Elements.{filter-append}
 use Rattle.arrayvec.specs.ArrayVec.{ArrayVec}
-use Rattle.proof_core.specs.Beneath.ctrie_base.specs.Hashes.{hash_of}
-use Rattle.proof_core.specs.Beneath.ctrie_base.specs.Paths.{position_of}
-use Rattle.proof_core.specs.Beneath.ctrie_base.specs.declared.hashes.HashKind.{HashKind}
-use Rattle.proof_core.specs.Beneath.machine_model.specs.Pairs.{by_key}
-use Rattle.proof_core.specs.Beneath.nodes.specs.Levels.{flag_of, has_flag, index_in, list_depth}
+use Rattle.proof_core.specs.Vocabulary.{hash_of, position_of, HashKind, by_key, flag_of, has_flag, index_in, list_depth, Branch, Tomb, List as Listed, Ref, Heap}
 use Rattle.proof_core.specs.Beneath.proof_contents.specs.Nodes.Branches.{HasPlaces, standing}
 use Rattle.proof_core.specs.Beneath.proof_contents.proofs.Nodes.Branches.{before, flagged, position-before, unflagged}
 use Rattle.proof_core.specs.Beneath.proof_contents.proofs.Nodes.Tombs.{before-lt}
 use Rattle.proof_core.specs.Beneath.proof_contents.proofs.Pairs.Lists.{EachKey, Pairs, each-weaker}
 use Rattle.proof_core.specs.Beneath.proof_shape.specs.Sites.Nodes.{path_to}
 use Rattle.proof_core.specs.Beneath.proof_shape.proofs.Sites.Ways.{path_again, path_fits}
-use Rattle.proof_core.specs.Beneath.slot_arena.specs.declared.nodes.Node.TheVariants.{Branch, Tomb, List as Listed}
-use Rattle.proof_core.specs.Beneath.slot_arena.specs.declared.refs.Ref.{Ref}
-use Rattle.proof_core.specs.Beneath.slot_arena.specs.Heaps.{Heap}
 use Rattle.proof_core.specs.Reading.{is_after}
 use Rattle.proof_core.specs.Scanning.{IsMainPlaced, IsPlaced, is_behind, walked, walked_in}
 use Rattle.proof_core.proofs.Gathering.{gather_more}

@@ -3,11 +3,8 @@ use Rattle.std.proofs.Common.{◌≡◌, ◌≢◌, ℕ, zero, suc, ◌+◌, ◌
 use Rattle.std.proofs.Common.{refl, sym, ap, ◌∙◌, arith, eq-eqb, ne_eqb, add_comm, pow_pos}
 use Rattle.std.proofs.lemmas.Bool.Decides.{nat_tests}
 use Rattle.std.proofs.lemmas.Nat.{mod-mul-add}
-use Rattle.proof_core.specs.Beneath.ctrie_base.specs.declared.hashes.HashKind.{HashKind}
-use Rattle.proof_core.specs.Beneath.ctrie_base.specs.Hashes.{hash_of}
+use Rattle.proof_core.specs.Vocabulary.{HashKind, hash_of, comes_before, index_in, list_depth}
 use Rattle.proof_core.specs.Beneath.ctrie_base.proofs.Sorting.{IsOrder}
-use Rattle.proof_core.specs.Beneath.machine_model.specs.Pairs.{comes_before}
-use Rattle.proof_core.specs.Beneath.nodes.specs.Levels.{index_in, list_depth}
 use Rattle.proof_core.specs.Beneath.proof_contents.proofs.Changes.Repairs.{same_factor}
 use Rattle.proof_core.specs.Beneath.proof_shape.specs.Sites.Nodes.{path_to}
 use Rattle.proof_core.specs.Beneath.proof_shape.proofs.Sites.Ways.{path_fits, path_parts, path_shorter}

@@ -1,17 +1,8 @@
 -- In each state of a run what a handle's root reaches stands where the hashes of the keys lead.
 use Rattle.std.proofs.Common.{◌≡◌, ℕ, zero, suc, ◌+◌, ◌*◌, ◌^◌, List, [], ◌∷◌, Contains, Some, refl, sym, ap, ap₂, subst, ◌∙◌, arith}
-use Rattle.proof_core.specs.Beneath.ctrie_base.specs.Hashes.{hash_of}
-use Rattle.proof_core.specs.Beneath.ctrie_base.specs.declared.hashes.HashKind.{HashKind}
-use Rattle.proof_core.specs.Beneath.machine_model.specs.declared.roots.Root.{Root}
-use Rattle.proof_core.specs.Beneath.machine_model.specs.declared.steps.Bounds.{Bounds}
-use Rattle.proof_core.specs.Beneath.machine_model.specs.declared.steps.Step.{Step}
-use Rattle.proof_core.specs.Beneath.machine_model.specs.Contents.{IsReached, from_root, most_levels}
-use Rattle.proof_core.specs.Beneath.machine_model.specs.Counting.{refs_of_root}
-use Rattle.proof_core.specs.Beneath.machine_model.specs.Grown.{node_under}
-use Rattle.proof_core.specs.Beneath.machine_model.specs.Keys.{KeysFit}
-use Rattle.proof_core.specs.Beneath.machine_model.specs.Machine.{AreBounds, run as run_of}
-use Rattle.proof_core.specs.Beneath.machine_model.specs.States.{State, root_at, root_of}
-use Rattle.proof_core.specs.Beneath.machine_model.specs.Times.{IsRun, last_of, states_of}
+use Rattle.proof_core.specs.Vocabulary.{hash_of, HashKind, Root, Bounds, Step, IsReached, most_levels, refs_of_root, node_under, KeysFit, AreBounds, run as run_of, State, root_at, root_of, IsRun}
+use Rattle.proof_core.specs.Vocabulary.{last_of, states_of, Node, Branch, Indirection, Single, Tomb, List as Listed, Ref, Heap, entries_of, logical_main, no_ref, node_at}
+use Rattle.proof_core.specs.Beneath.machine_model.specs.Contents.{from_root}
 use Rattle.proof_core.specs.Beneath.machine_model.proofs.Times.{run_ends, run_is}
 use Rattle.proof_core.specs.Beneath.proof_contents.specs.InUse.{ReachesInUse}
 use Rattle.proof_core.specs.Beneath.proof_contents.specs.Nodes.Branches.{at_place}
@@ -32,10 +23,6 @@ use Rattle.proof_core.specs.Beneath.proof_shape.proofs.Shaped.Looking.{stands_th
 use Rattle.proof_core.specs.Beneath.proof_shape.proofs.Shaped.Places.{bare_branch, bare_list, bare_single, bare_tomb}
 use Rattle.proof_core.specs.Beneath.proof_shape.proofs.Sites.Fixed.{keys_fit}
 use Rattle.proof_core.specs.Beneath.proof_shape.proofs.Sites.Stepped.{takes_steps}
-use Rattle.proof_core.specs.Beneath.slot_arena.specs.declared.nodes.Node.{Node}
-use Rattle.proof_core.specs.Beneath.slot_arena.specs.declared.nodes.Node.TheVariants.{Branch, Indirection, Single, Tomb, List as Listed}
-use Rattle.proof_core.specs.Beneath.slot_arena.specs.declared.refs.Ref.{Ref}
-use Rattle.proof_core.specs.Beneath.slot_arena.specs.Heaps.{Heap, entries_of, logical_main, no_ref, node_at}
 use Rattle.proof_straight.specs.Resting.{IsOfRun}
 use Rattle.proof_core.specs.Scanning.{IsEntryPlaced, IsMainPlaced, IsPlaced}
 use Rattle.proof_core.proofs.Scanning.Order.{path_joins}

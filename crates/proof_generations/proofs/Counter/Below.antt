@@ -3,48 +3,23 @@ use Rattle.std.proofs.Common.{◌≡◌, ℕ, suc, ◌+◌, ◌<◌, ◌≤◌, 
 use Rattle.std.proofs.Common.{option_map, unwrap_or, refl, sym, ap, ◌∙◌, subst, eqb-true, arith, []}
 use Rattle.std.proofs.lemmas.Bool.{cases_eq, cond_both}
 use Rattle.std.proofs.lemmas.Option.{none-some, same_Some}
-use Rattle.proof_generations.specs.Beneath.history.specs.declared.calls.Call.{Call}
-use Rattle.proof_generations.specs.Beneath.epochs.specs.declared.limbo.Swept.{Swept}
-use Rattle.proof_generations.specs.Beneath.epochs.specs.Sweeping.{Reclaimer, ripe, sweep_by}
-use Rattle.proof_generations.specs.Beneath.slot_arena.specs.Refs.{slot_of}
-use Rattle.proof_generations.specs.Beneath.slot_arena.specs.declared.refs.Ref.{Ref}
-use Rattle.proof_generations.specs.Beneath.slot_arena.specs.declared.nodes.Node.{Node}
-use Rattle.proof_generations.specs.Beneath.slot_arena.specs.declared.nodes.Node.TheVariants.{Indirection}
-use Rattle.proof_generations.specs.Beneath.slot_arena.specs.declared.nodes.Prev.{Prev}
+use Rattle.proof_generations.specs.Vocabulary.{Call, Swept, Reclaimer, ripe, sweep_by, slot_of, Ref, Node, Indirection, Prev, Slot, Heap, stored, node_at, taken, generation_of, generation_at}
+use Rattle.proof_generations.specs.Vocabulary.{node_of, with_main, with_prev, written, main_changed, prev_changed, freed, next_ref, Action, Operation, Bounds, Outcome, Step, handle_of, Closing}
+use Rattle.proof_generations.specs.Vocabulary.{Line, After, Gives, RootLine, root_after, is_carried_out, State, first_state, operation_of, word_at, turns, IsRun, Turn, start_of, Verdict, Commits}
+use Rattle.proof_generations.specs.Vocabulary.{Fails, Overtaken, verdict, action_of, generation_from, given_root, acted, aborted, offered, completed, decided, new_root_taken, if_changed}
+use Rattle.proof_generations.specs.Vocabulary.{operation_after, with_begin, pin_of, reclaimer_of, Begins, Ends, Sweeps, Moves, begun_operation, step_of, Record, closed_by, noted, Carried}
+use Rattle.proof_generations.specs.Vocabulary.{carried_by, told_in}
 use Rattle.proof_generations.specs.Beneath.slot_arena.specs.declared.nodes.Prev.TheVariants as prev
-use Rattle.proof_generations.specs.Beneath.slot_arena.specs.declared.nodes.Slot.{Slot}
-use Rattle.proof_generations.specs.Beneath.slot_arena.specs.Heaps.{Heap, stored, node_at, taken, generation_of, generation_at, node_of, with_main, with_prev, written, main_changed}
-use Rattle.proof_generations.specs.Beneath.slot_arena.specs.Heaps.{prev_changed, freed, next_ref}
-use Rattle.proof_generations.specs.Beneath.machine_model.specs.declared.actions.Action.{Action}
 use Rattle.proof_generations.specs.Beneath.machine_model.specs.declared.actions.Action.TheVariants as act
-use Rattle.proof_generations.specs.Beneath.machine_model.specs.declared.operations.Operation.{Operation}
-use Rattle.proof_generations.specs.Beneath.machine_model.specs.declared.steps.Bounds.{Bounds}
-use Rattle.proof_generations.specs.Beneath.machine_model.specs.declared.steps.Outcome.{Outcome}
-use Rattle.proof_generations.specs.Beneath.machine_model.specs.declared.steps.Step.{Step}
-use Rattle.proof_generations.specs.Beneath.machine_model.specs.Calls.{handle_of}
-use Rattle.proof_generations.specs.Beneath.machine_model.specs.declared.records.Closing.{Closing}
-use Rattle.proof_generations.specs.Beneath.machine_model.specs.declared.lines.Line.{Line}
 use Rattle.proof_generations.specs.Beneath.machine_model.specs.declared.lines.Line.TheVariants as line
-use Rattle.proof_generations.specs.Beneath.machine_model.specs.declared.reading.After.{After}
-use Rattle.proof_generations.specs.Beneath.machine_model.specs.declared.reading.After.TheVariants.{Goes as Continues, Gives}
-use Rattle.proof_generations.specs.Beneath.machine_model.specs.declared.roots.RootLine.{RootLine}
-use Rattle.proof_generations.specs.Beneath.machine_model.specs.Swapping.{root_after, is_carried_out}
-use Rattle.proof_generations.specs.Beneath.machine_model.specs.States.{State, first_state, operation_of, word_at}
+use Rattle.proof_generations.specs.Beneath.machine_model.specs.declared.reading.After.TheVariants.{Goes as Continues}
 use Rattle.proof_generations.specs.Beneath.machine_model.proofs.Actors.{mark_only, marks_in}
 use Rattle.proof_generations.specs.Beneath.machine_model.proofs.EachOperation.{of_running}
 use Rattle.proof_generations.specs.Beneath.machine_model.proofs.Times.{along_run}
-use Rattle.proof_generations.specs.Beneath.machine_model.specs.Times.{turns}
-use Rattle.proof_generations.specs.Beneath.machine_model.specs.Times.{IsRun, Turn}
 use Rattle.proof_generations.specs.Beneath.proof_memory.proofs.Safety.AtEachTime.{safe_at}
 use Rattle.proof_generations.proofs.Handles.Running.{Comes, began, rested, went, comes}
 use Rattle.proof_generations.specs.Running.{Runs}
-use Rattle.proof_generations.specs.Beneath.machine_model.specs.Paths.{start_of}
-use Rattle.proof_generations.specs.Beneath.machine_model.specs.Reading.{Verdict, Commits, Fails, Overtaken, verdict}
-use Rattle.proof_generations.specs.Beneath.machine_model.specs.Operations.{action_of, generation_from, given_root}
-use Rattle.proof_generations.specs.Beneath.machine_model.specs.Acting.{acted, aborted, offered, completed, decided, new_root_taken, if_changed, operation_after}
-use Rattle.proof_generations.specs.Beneath.machine_model.specs.Machine.{with_begin, pin_of, reclaimer_of}
-use Rattle.proof_generations.specs.Beneath.machine_model.specs.Moves.{Begins, Goes, Ends, Sweeps}
-use Rattle.proof_generations.specs.Beneath.machine_model.specs.Moves.{Moves, begun_operation}
+use Rattle.proof_generations.specs.Beneath.machine_model.specs.Moves.{Goes}
 use Rattle.proof_generations.specs.Beneath.machine_model.proofs.HeapMoves.{aborted_heap, offered_heap, completed_heap}
 use Rattle.proof_generations.specs.Beneath.machine_model.proofs.Found.{found_elsewhere, found_here, none_found}
 use Rattle.proof_generations.specs.Beneath.proof_memory.specs.Making.{made_node}
@@ -53,9 +28,6 @@ use Rattle.proof_generations.specs.Beneath.proof_memory.proofs.Safety.AtTimes.{l
 use Rattle.proof_generations.specs.Beneath.proof_memory.specs.Laws.{IsInUse}
 use Rattle.proof_generations.proofs.Counter.Made.{MadeOf, plain, started, drawn, made_of}
 use Rattle.proof_generations.proofs.Counter.Drawn.{counter_rises, taken_list, generation_kept, first_list}
-use Rattle.proof_generations.specs.Beneath.machine_model.specs.Records.{step_of, Record, closed_by, noted}
-use Rattle.proof_generations.specs.Beneath.machine_model.specs.declared.records.Carried.{Carried}
-use Rattle.proof_generations.specs.Beneath.machine_model.specs.Tellings.{carried_by, told_in}
 use Rattle.proof_generations.specs.Beneath.machine_model.proofs.Notes.{noted_going, noted_ending}
 
 -- all nodes in the slots are of generations below this one

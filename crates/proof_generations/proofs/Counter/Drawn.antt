@@ -2,30 +2,13 @@
 use Rattle.std.proofs.Common.{◌≡◌, ℕ, ◌+◌, ◌≤◌, inl, inr, ◌⊎◌, List, ◌∷◌, set, get_or, Option, Some, None, refl, sym, ap, ◌∙◌, subst, arith, []}
 use Rattle.std.proofs.lemmas.Bool.{cases_eq}
 use Rattle.std.proofs.lemmas.Option.{none-some, same_Some}
-use Rattle.proof_generations.specs.Beneath.slot_arena.specs.Refs.{ref_to}
-use Rattle.proof_generations.specs.Beneath.slot_arena.specs.declared.refs.Ref.{Ref}
-use Rattle.proof_generations.specs.Beneath.slot_arena.specs.declared.nodes.Node.{Node}
-use Rattle.proof_generations.specs.Beneath.slot_arena.specs.declared.nodes.Node.TheVariants.{Indirection}
+use Rattle.proof_generations.specs.Vocabulary.{ref_to, Ref, Node, Indirection, Slot, Heap, taken, take_from, generation_of, node_of, with_main_word, next_ref, empty_branch, Action, Operation}
+use Rattle.proof_generations.specs.Vocabulary.{Descriptor, Bounds, Outcome, Step, handle_of, State, first_heap, empty_heap, operation_of, action_of, acted, aborted, offered, completed}
+use Rattle.proof_generations.specs.Vocabulary.{new_root_taken, with_begin, Begins, Ends, Sweeps, Moves, begun_operation, IsRun, grown, node_under}
 use Rattle.proof_generations.specs.Beneath.slot_arena.specs.declared.nodes.Prev.TheVariants as prev
-use Rattle.proof_generations.specs.Beneath.slot_arena.specs.declared.nodes.Slot.{Slot}
-use Rattle.proof_generations.specs.Beneath.slot_arena.specs.Heaps.{Heap, taken, take_from, generation_of, node_of, with_main_word, next_ref, empty_branch}
-use Rattle.proof_generations.specs.Beneath.machine_model.specs.declared.actions.Action.{Action}
 use Rattle.proof_generations.specs.Beneath.machine_model.specs.declared.actions.Action.TheVariants as act
-use Rattle.proof_generations.specs.Beneath.machine_model.specs.declared.operations.Operation.{Operation}
-use Rattle.proof_generations.specs.Beneath.machine_model.specs.declared.roots.Descriptor.{Descriptor}
-use Rattle.proof_generations.specs.Beneath.machine_model.specs.declared.steps.Bounds.{Bounds}
-use Rattle.proof_generations.specs.Beneath.machine_model.specs.declared.steps.Outcome.{Outcome}
-use Rattle.proof_generations.specs.Beneath.machine_model.specs.declared.steps.Step.{Step}
-use Rattle.proof_generations.specs.Beneath.machine_model.specs.Calls.{handle_of}
-use Rattle.proof_generations.specs.Beneath.machine_model.specs.States.{State, first_heap, empty_heap, operation_of}
-use Rattle.proof_generations.specs.Beneath.machine_model.specs.Operations.{action_of}
-use Rattle.proof_generations.specs.Beneath.machine_model.specs.Acting.{acted, aborted, offered, completed, new_root_taken}
-use Rattle.proof_generations.specs.Beneath.machine_model.specs.Machine.{with_begin}
-use Rattle.proof_generations.specs.Beneath.machine_model.specs.Moves.{Begins, Goes, Ends, Sweeps}
-use Rattle.proof_generations.specs.Beneath.machine_model.specs.Moves.{Moves, begun_operation}
+use Rattle.proof_generations.specs.Beneath.machine_model.specs.Moves.{Goes}
 use Rattle.proof_generations.specs.Beneath.machine_model.proofs.Found.{found_elsewhere, found_here, none_found}
-use Rattle.proof_generations.specs.Beneath.machine_model.specs.Times.{IsRun}
-use Rattle.proof_generations.specs.Beneath.machine_model.specs.Grown.{grown, node_under}
 use Rattle.proof_generations.specs.Beneath.proof_memory.specs.Laws.{SameNode}
 use Rattle.proof_generations.specs.Beneath.proof_memory.specs.Making.{made_node}
 use Rattle.proof_generations.specs.Beneath.proof_memory.proofs.Heap.Moves.{WordMove, keeps, makes, publishes, restores, commits, fails, grown_stays}

@@ -4,37 +4,19 @@ use Rattle.std.specs.List.{All}
 use Rattle.std.proofs.lemmas.Bool.{true≢false}
 use Rattle.std.proofs.lemmas.Option.{none-some}
 use Rattle.std.proofs.lemmas.List.Elements.{All-nil}
-use Rattle.proof_generations.specs.Beneath.history.specs.declared.calls.Access.{Access}
-use Rattle.proof_generations.specs.Beneath.history.specs.declared.calls.Access.TheVariants.{Writable, ReadOnly}
-use Rattle.proof_generations.specs.Beneath.slot_arena.specs.Heaps.{next_ref}
+use Rattle.proof_generations.specs.Vocabulary.{Access, Writable, ReadOnly, next_ref, action_of, generation_from, GoesOn, ref_to, slot_of, Ref, Indirection, Slot, taken, stored, entries_of}
+use Rattle.proof_generations.specs.Vocabulary.{empty_branch, Line, Operation, Bounds, Outcome, Step, State, first_state, first_heap, empty_heap, operation_after, Moves, turns, noted_turn, IsRun}
+use Rattle.proof_generations.specs.Vocabulary.{Turn, standing, grown, node_under, Record, noted, moment_at, noted_progress, told_in, progress_of}
 use Rattle.proof_generations.specs.Beneath.machine_model.specs.declared.actions.Action.TheVariants as act
 use Rattle.proof_generations.specs.Beneath.machine_model.specs.declared.steps.Step.TheVariants as step
-use Rattle.proof_generations.specs.Beneath.machine_model.specs.Operations.{action_of, generation_from}
-use Rattle.proof_generations.specs.Beneath.machine_model.specs.Moves.{GoesOn}
 use Rattle.proof_generations.specs.Beneath.proof_memory.specs.Making.{made_node}
 use Rattle.proof_generations.proofs.Lines.OwnKnows.{inner_generation}
 use Rattle.proof_generations.proofs.Falling.NewLinks.{makes_inner, reader_makes, made_root}
 use Rattle.proof_generations.proofs.Falling.Runs.{Ends, Shut, LateEnd}
-use Rattle.proof_generations.specs.Beneath.slot_arena.specs.Refs.{ref_to, slot_of}
-use Rattle.proof_generations.specs.Beneath.slot_arena.specs.declared.refs.Ref.{Ref}
-use Rattle.proof_generations.specs.Beneath.slot_arena.specs.declared.nodes.Node.TheVariants.{Indirection}
-use Rattle.proof_generations.specs.Beneath.slot_arena.specs.declared.nodes.Slot.{Slot}
-use Rattle.proof_generations.specs.Beneath.slot_arena.specs.Heaps.{taken, stored, entries_of, empty_branch}
-use Rattle.proof_generations.specs.Beneath.machine_model.specs.declared.lines.Line.{Line}
 use Rattle.proof_generations.specs.Beneath.machine_model.specs.declared.lines.Line.TheVariants as line
-use Rattle.proof_generations.specs.Beneath.machine_model.specs.declared.operations.Operation.{Operation}
-use Rattle.proof_generations.specs.Beneath.machine_model.specs.declared.steps.Bounds.{Bounds}
-use Rattle.proof_generations.specs.Beneath.machine_model.specs.declared.steps.Outcome.{Outcome}
-use Rattle.proof_generations.specs.Beneath.machine_model.specs.declared.steps.Step.{Step}
-use Rattle.proof_generations.specs.Beneath.machine_model.specs.States.{State, first_state, first_heap, empty_heap}
-use Rattle.proof_generations.specs.Beneath.machine_model.specs.Acting.{operation_after}
 use Rattle.proof_generations.specs.Beneath.machine_model.proofs.Actors.{mark_only, marks_in}
 use Rattle.proof_generations.specs.Beneath.machine_model.proofs.Found.{none_found}
-use Rattle.proof_generations.specs.Beneath.machine_model.specs.Moves.{Moves}
 use Rattle.proof_generations.specs.Beneath.machine_model.proofs.Times.{along_run}
-use Rattle.proof_generations.specs.Beneath.machine_model.specs.Times.{turns, noted_turn}
-use Rattle.proof_generations.specs.Beneath.machine_model.specs.Times.{IsRun, Turn}
-use Rattle.proof_generations.specs.Beneath.machine_model.specs.Grown.{standing, grown, node_under}
 use Rattle.proof_generations.specs.Beneath.proof_memory.proofs.Claims.Uses.{entries_same}
 use Rattle.proof_commits.proofs.Known.Sounds.{sound_at}
 use Rattle.proof_commits.proofs.Words.Stood.{Stood}
@@ -54,8 +36,6 @@ use Rattle.proof_generations.proofs.Falling.MainsNext.{mains_next}
 use Rattle.proof_generations.proofs.Falling.LinesNext.{lines_next}
 use Rattle.proof_generations.proofs.Falling.FreshRoots.{fresh_still, fresh_new}
 use Rattle.proof_generations.specs.Beneath.machine_model.proofs.Grown.{standing_parts}
-use Rattle.proof_generations.specs.Beneath.machine_model.specs.Records.{Record, noted, moment_at, noted_progress}
-use Rattle.proof_generations.specs.Beneath.machine_model.specs.Tellings.{told_in, progress_of}
 use Rattle.proof_generations.specs.Beneath.machine_model.proofs.Notes.{noted_going}
 
 -- all that is known at a time

@@ -1,13 +1,6 @@
 -- Every indirection that was made so far, and every generation that was opened, is below the counter; the generation that is drawn next isn't opened by the step that draws it.
 use Rattle.std.proofs.Common.{◌≡◌, ℕ, zero, suc, ◌<◌, ◌≤◌, Bool, Option, Some, None, refl, arith}
-use Rattle.proof_generations.specs.Beneath.slot_arena.specs.declared.refs.Ref.{Ref}
-use Rattle.proof_generations.specs.Beneath.slot_arena.specs.declared.nodes.Slot.{Slot}
-use Rattle.proof_generations.specs.Beneath.machine_model.specs.declared.operations.Operation.{Operation}
-use Rattle.proof_generations.specs.Beneath.machine_model.specs.declared.steps.Bounds.{Bounds}
-use Rattle.proof_generations.specs.Beneath.machine_model.specs.States.{State, operation_of, root_of}
-use Rattle.proof_generations.specs.Beneath.machine_model.specs.Times.{turns}
-use Rattle.proof_generations.specs.Beneath.machine_model.specs.Times.{IsRun, Turn}
-use Rattle.proof_generations.specs.Beneath.machine_model.specs.Grown.{standing, grown, or_before}
+use Rattle.proof_generations.specs.Vocabulary.{Ref, Slot, Operation, Bounds, State, operation_of, root_of, turns, IsRun, Turn, standing, grown, or_before}
 use Rattle.proof_generations.specs.Beneath.proof_memory.specs.Laws.{IsInUse}
 use Rattle.proof_generations.specs.Beneath.proof_memory.proofs.Safety.AtEachTime.{safe_at}
 use Rattle.proof_generations.specs.Beneath.proof_memory.proofs.Safety.AtTimes.{line_finds}

@@ -1,29 +1,14 @@
 -- What an operation reads through a read-only handle, or below its path of another generation, was closed before the READ; so what the READ gives counts for ever.
 use Rattle.std.proofs.Common.{◌≡◌, ℕ, suc, ◌<◌, ◌≤◌, true, Some, inl, inr, refl, sym, ap, ◌∙◌, subst, arith}
 use Rattle.std.proofs.lemmas.Option.{none-some, same_Some}
-use Rattle.proof_generations.specs.Beneath.history.specs.declared.calls.Access.{Access}
-use Rattle.proof_generations.specs.Beneath.history.specs.declared.calls.Access.TheVariants.{Writable, ReadOnly}
-use Rattle.proof_generations.specs.Beneath.slot_arena.specs.declared.refs.Ref.{Ref}
-use Rattle.proof_generations.specs.Beneath.machine_model.specs.declared.finding.KeyLine.{KeyLine}
+use Rattle.proof_generations.specs.Vocabulary.{Access, Writable, ReadOnly, Ref, KeyLine, Line, Operation, Read, CleanLine, RenewLine, Bounds, WalkLine, handle_of, State, word_at, read_of, action_of}
+use Rattle.proof_generations.specs.Vocabulary.{read_after, IsRun, grown, main_before, moment_after, moment_at, noted_progress, Moment, GoesOn, is_actor, progress_of}
 use Rattle.proof_generations.specs.Beneath.machine_model.specs.declared.finding.KeyLine.TheVariants as key
-use Rattle.proof_generations.specs.Beneath.machine_model.specs.declared.lines.Line.{Line}
 use Rattle.proof_generations.specs.Beneath.machine_model.specs.declared.lines.Line.TheVariants as line
-use Rattle.proof_generations.specs.Beneath.machine_model.specs.declared.operations.Operation.{Operation}
-use Rattle.proof_generations.specs.Beneath.machine_model.specs.declared.reading.Read.{Read}
-use Rattle.proof_generations.specs.Beneath.machine_model.specs.declared.repairs.CleanLine.{CleanLine}
 use Rattle.proof_generations.specs.Beneath.machine_model.specs.declared.repairs.CleanLine.TheVariants as clean
-use Rattle.proof_generations.specs.Beneath.machine_model.specs.declared.repairs.RenewLine.{RenewLine}
 use Rattle.proof_generations.specs.Beneath.machine_model.specs.declared.repairs.RenewLine.TheVariants as renew
 use Rattle.proof_generations.specs.Beneath.machine_model.specs.declared.roots.RootLine.TheVariants as root
-use Rattle.proof_generations.specs.Beneath.machine_model.specs.declared.steps.Bounds.{Bounds}
-use Rattle.proof_generations.specs.Beneath.machine_model.specs.declared.walking.WalkLine.{WalkLine}
 use Rattle.proof_generations.specs.Beneath.machine_model.specs.declared.walking.WalkLine.TheVariants as walk
-use Rattle.proof_generations.specs.Beneath.machine_model.specs.Calls.{handle_of}
-use Rattle.proof_generations.specs.Beneath.machine_model.specs.States.{State, word_at}
-use Rattle.proof_generations.specs.Beneath.machine_model.specs.Operations.{read_of, action_of}
-use Rattle.proof_generations.specs.Beneath.machine_model.specs.Reading.{read_after}
-use Rattle.proof_generations.specs.Beneath.machine_model.specs.Times.{IsRun}
-use Rattle.proof_generations.specs.Beneath.machine_model.specs.Grown.{grown, main_before}
 use Rattle.proof_commits.proofs.Course.Finals.{link_stays}
 use Rattle.proof_commits.proofs.Course.Readings.{given_for_good}
 use Rattle.proof_commits.specs.Moments.{IsMoment}
@@ -43,11 +28,6 @@ use Rattle.proof_generations.proofs.Falling.OwnSwaps.{knows_at}
 use Rattle.proof_contents.specs.Lines.Repairs.{ReadsBelow}
 use Rattle.proof_commits.proofs.Words.OfRuns.{link_made}
 use Rattle.proof_commits.proofs.Course.OfLists.{given_read}
-use Rattle.proof_generations.specs.Beneath.machine_model.specs.Records.{moment_after, moment_at, noted_progress}
-use Rattle.proof_generations.specs.Beneath.machine_model.specs.declared.records.Moment.{Moment}
-use Rattle.proof_generations.specs.Beneath.machine_model.specs.Moves.{GoesOn}
-use Rattle.proof_generations.specs.Beneath.machine_model.specs.Machine.{is_actor}
-use Rattle.proof_generations.specs.Beneath.machine_model.specs.Tellings.{progress_of}
 use Rattle.proof_generations.specs.Beneath.machine_model.proofs.Notes.{noted_going}
 use Rattle.proof_generations.specs.Beneath.machine_model.proofs.Alike.{go_actor, moment_goes, not_denied, alike}
 use Rattle.proof_commits.proofs.Course.Moments.{moment_noted}

@@ -3,15 +3,9 @@ use Rattle.std.proofs.Common.{◌≡◌, ℕ, suc, ◌<◌, ◌≤◌, ◌⊎◌
 use Rattle.std.proofs.lemmas.Bool.{true≢false}
 use Rattle.std.proofs.lemmas.Option.{none-some, same_Some}
 use Rattle.std.proofs.lemmas.List.Elements.{All-head}
-use Rattle.proof_generations.specs.Beneath.history.specs.declared.calls.Access.TheVariants.{Writable}
-use Rattle.proof_generations.specs.Beneath.slot_arena.specs.declared.nodes.Node.TheVariants.{Indirection}
-use Rattle.proof_generations.specs.Beneath.slot_arena.specs.declared.nodes.Slot.{Slot}
-use Rattle.proof_generations.specs.Beneath.machine_model.specs.declared.steps.Outcome.{Outcome}
+use Rattle.proof_generations.specs.Vocabulary.{Writable, Indirection, Slot, Outcome, handle_of, action_of, Moves, GoesOn, main_word, Ref, Heap, node_at, node_of, generation_at, main_of, next_ref}
+use Rattle.proof_generations.specs.Vocabulary.{refs_of_option, Line, Operation, CompleteLine, Descriptor, Bounds, State, IsRun, grown, Record, noted_progress, progress_of}
 use Rattle.proof_generations.specs.Beneath.machine_model.specs.declared.steps.Step.TheVariants as step
-use Rattle.proof_generations.specs.Beneath.machine_model.specs.Calls.{handle_of}
-use Rattle.proof_generations.specs.Beneath.machine_model.specs.Operations.{action_of}
-use Rattle.proof_generations.specs.Beneath.machine_model.specs.Moves.{Moves, GoesOn}
-use Rattle.proof_generations.specs.Beneath.machine_model.specs.Grown.{main_word}
 use Rattle.proof_generations.specs.Beneath.proof_memory.specs.Making.{made_node}
 use Rattle.proof_generations.specs.Beneath.proof_memory.proofs.Heap.Moves.{not_yet_drawn}
 use Rattle.proof_commits.proofs.Known.Sounds.{sound_at}
@@ -20,20 +14,10 @@ use Rattle.proof_generations.proofs.Lines.Knows.{IsInner}
 use Rattle.proof_generations.proofs.Falling.Runs.{MainsFall}
 use Rattle.proof_generations.proofs.Falling.Counted.{made_below, start_below}
 use Rattle.proof_generations.proofs.Lines.OwnKnows.{new_used}
-use Rattle.proof_generations.specs.Beneath.slot_arena.specs.declared.refs.Ref.{Ref}
-use Rattle.proof_generations.specs.Beneath.slot_arena.specs.Heaps.{Heap, node_at, node_of, generation_at, main_of, next_ref, refs_of_option}
 use Rattle.proof_generations.specs.Beneath.machine_model.specs.declared.actions.Action.TheVariants as act
 use Rattle.proof_generations.specs.Beneath.machine_model.specs.declared.copying.CopyLine.TheVariants as copy
-use Rattle.proof_generations.specs.Beneath.machine_model.specs.declared.lines.Line.{Line}
 use Rattle.proof_generations.specs.Beneath.machine_model.specs.declared.lines.Line.TheVariants as line
-use Rattle.proof_generations.specs.Beneath.machine_model.specs.declared.operations.Operation.{Operation}
-use Rattle.proof_generations.specs.Beneath.machine_model.specs.declared.roots.CompleteLine.{CompleteLine}
 use Rattle.proof_generations.specs.Beneath.machine_model.specs.declared.roots.CompleteLine.TheVariants as complete
-use Rattle.proof_generations.specs.Beneath.machine_model.specs.declared.roots.Descriptor.{Descriptor}
-use Rattle.proof_generations.specs.Beneath.machine_model.specs.declared.steps.Bounds.{Bounds}
-use Rattle.proof_generations.specs.Beneath.machine_model.specs.States.{State}
-use Rattle.proof_generations.specs.Beneath.machine_model.specs.Times.{IsRun}
-use Rattle.proof_generations.specs.Beneath.machine_model.specs.Grown.{grown}
 use Rattle.proof_generations.specs.Beneath.proof_memory.specs.Laws.{IsInUse}
 use Rattle.proof_generations.specs.Beneath.proof_memory.specs.Wants.{AnIndirection, Is, Each, Holds, AllHold, line_wants, complete_wants, offer_wants, is_indirection}
 use Rattle.proof_generations.specs.Beneath.proof_memory.proofs.Safety.AtEachTime.{safe_at}
@@ -55,8 +39,6 @@ use Rattle.proof_generations.proofs.Falling.Brought.{Brought, makes, swaps, come
 use Rattle.proof_generations.proofs.Lines.ReaderKnows.{indirection_is}
 use Rattle.proof_generations.specs.Standing.{IsRooted}
 use Rattle.proof_generations.proofs.Roots.Rooted.{standing_root}
-use Rattle.proof_generations.specs.Beneath.machine_model.specs.Records.{Record, noted_progress}
-use Rattle.proof_generations.specs.Beneath.machine_model.specs.Tellings.{progress_of}
 
 -- ---- a fresh root is an indirection
 

@@ -2,12 +2,7 @@
 use Rattle.std.proofs.Common.{◌≡◌, ℕ, ◌≤◌, Bool, true, false, Contains, refl, sym, ap, ◌∙◌, subst, arith}
 use Rattle.std.specs.List.{All}
 use Rattle.std.proofs.lemmas.List.Elements.{All-contains, All-nil}
-use Rattle.proof_generations.specs.Beneath.slot_arena.specs.declared.refs.Ref.{Ref}
-use Rattle.proof_generations.specs.Beneath.slot_arena.specs.Heaps.{entries_of}
-use Rattle.proof_generations.specs.Beneath.machine_model.specs.declared.steps.Bounds.{Bounds}
-use Rattle.proof_generations.specs.Beneath.machine_model.specs.States.{State}
-use Rattle.proof_generations.specs.Beneath.machine_model.specs.Times.{IsRun}
-use Rattle.proof_generations.specs.Beneath.machine_model.specs.Grown.{node_under, main_before}
+use Rattle.proof_generations.specs.Vocabulary.{Ref, entries_of, Bounds, State, IsRun, node_under, main_before}
 use Rattle.proof_commits.proofs.Course.Mains.{main_decided}
 use Rattle.proof_commits.proofs.Known.Sounds.{sound_at}
 use Rattle.proof_commits.proofs.Words.Stood.{Stood}

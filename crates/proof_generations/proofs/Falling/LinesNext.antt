@@ -1,36 +1,14 @@
 -- After a step each running operation knows of its line what it has to.
 use Rattle.std.proofs.Common.{◌≡◌, ℕ, suc, ◌<◌, List, ◌∷◌, ◌++◌, Some, refl, sym, ap, ◌∙◌, subst, arith, []}
-use Rattle.proof_generations.specs.Beneath.history.specs.declared.calls.Access.TheVariants.{Writable}
-use Rattle.proof_generations.specs.Beneath.history.specs.declared.calls.Call.{Call}
-use Rattle.proof_generations.specs.Beneath.history.specs.declared.calls.Call.TheVariants.{Entries, Count, Close}
-use Rattle.proof_generations.specs.Beneath.slot_arena.specs.declared.refs.Ref.{Ref}
-use Rattle.proof_generations.specs.Beneath.slot_arena.specs.declared.nodes.Node.{Node}
-use Rattle.proof_generations.specs.Beneath.slot_arena.specs.declared.nodes.Node.TheVariants.{Indirection, Branch, Single, Tomb, List as Listed}
-use Rattle.proof_generations.specs.Beneath.slot_arena.specs.Heaps.{node_at, generation_at, entries_of}
-use Rattle.proof_generations.specs.Beneath.machine_model.specs.declared.lines.Line.{Line}
+use Rattle.proof_generations.specs.Vocabulary.{Writable, Call, Entries, Count, Close, Ref, Node, Indirection, Branch, Single, Tomb, List as Listed, node_at, generation_at, entries_of, Line}
+use Rattle.proof_generations.specs.Vocabulary.{Operation, After, Gives, Read, RootLine, Plain, Bounds, Outcome, Step, WalkLine, handle_of, State, root_of, word_of, word_at, read_step, root_after}
+use Rattle.proof_generations.specs.Vocabulary.{walk_after, walk_after_read, walk_next, walk_after_entry, first_of, rest_of, action_of, line_after, first_line, after_root, given_root}
+use Rattle.proof_generations.specs.Vocabulary.{generation_from, operation_after, Moves, GoesOn, begun_operation, IsRun, noted_progress, noted, moment_at, Moment, progress_of, told_in}
 use Rattle.proof_generations.specs.Beneath.machine_model.specs.declared.lines.Line.TheVariants as line
-use Rattle.proof_generations.specs.Beneath.machine_model.specs.declared.operations.Operation.{Operation}
-use Rattle.proof_generations.specs.Beneath.machine_model.specs.declared.reading.After.{After}
-use Rattle.proof_generations.specs.Beneath.machine_model.specs.declared.reading.After.TheVariants.{Goes as Continues, Gives}
-use Rattle.proof_generations.specs.Beneath.machine_model.specs.declared.reading.Read.{Read}
-use Rattle.proof_generations.specs.Beneath.machine_model.specs.declared.roots.RootLine.{RootLine}
-use Rattle.proof_generations.specs.Beneath.machine_model.specs.declared.roots.RootWord.TheVariants.{Plain}
-use Rattle.proof_generations.specs.Beneath.machine_model.specs.declared.steps.Bounds.{Bounds}
-use Rattle.proof_generations.specs.Beneath.machine_model.specs.declared.steps.Outcome.{Outcome}
-use Rattle.proof_generations.specs.Beneath.machine_model.specs.declared.steps.Step.{Step}
+use Rattle.proof_generations.specs.Beneath.machine_model.specs.declared.reading.After.TheVariants.{Goes as Continues}
 use Rattle.proof_generations.specs.Beneath.machine_model.specs.declared.steps.Step.TheVariants as step
-use Rattle.proof_generations.specs.Beneath.machine_model.specs.declared.walking.WalkLine.{WalkLine}
 use Rattle.proof_generations.specs.Beneath.machine_model.specs.declared.walking.WalkLine.TheVariants as walk
-use Rattle.proof_generations.specs.Beneath.machine_model.specs.Calls.{handle_of}
-use Rattle.proof_generations.specs.Beneath.machine_model.specs.States.{State, root_of, word_of, word_at}
-use Rattle.proof_generations.specs.Beneath.machine_model.specs.Reading.{read_step}
-use Rattle.proof_generations.specs.Beneath.machine_model.specs.Swapping.{root_after}
-use Rattle.proof_generations.specs.Beneath.machine_model.specs.Walking.{walk_after, walk_after_read, walk_next, walk_after_entry, first_of, rest_of}
-use Rattle.proof_generations.specs.Beneath.machine_model.specs.Operations.{action_of, line_after, first_line, after_root, given_root, generation_from}
-use Rattle.proof_generations.specs.Beneath.machine_model.specs.Acting.{operation_after}
 use Rattle.proof_generations.specs.Beneath.machine_model.proofs.Actors.{marks_in}
-use Rattle.proof_generations.specs.Beneath.machine_model.specs.Moves.{Moves, GoesOn, begun_operation}
-use Rattle.proof_generations.specs.Beneath.machine_model.specs.Times.{IsRun}
 use Rattle.proof_generations.specs.Beneath.proof_memory.specs.Laws.{IsInUse}
 use Rattle.proof_generations.specs.Beneath.proof_memory.proofs.Safety.AtEachTime.{safe_at}
 use Rattle.proof_generations.specs.Beneath.proof_memory.proofs.Claims.Uses.{safe_of}
@@ -46,9 +24,6 @@ use Rattle.proof_generations.proofs.Lines.Reader.{KnowsReader}
 use Rattle.proof_generations.proofs.Falling.Runs.{IsOwn, FitsBelow, FallsBelow, LateBelow, Ends, Shut, LateEnd, MainsFall, AllKnow, KnowsGenerations, KnowsWritable, knows_next, marked_knows}
 use Rattle.proof_generations.proofs.Lines.OwnKnows.{inner_knows, inner_generation}
 use Rattle.proof_generations.proofs.Lines.ReaderKnows.{reader_knows, going_on, root_claim}
-use Rattle.proof_generations.specs.Beneath.machine_model.specs.Records.{noted_progress, noted, moment_at}
-use Rattle.proof_generations.specs.Beneath.machine_model.specs.declared.records.Moment.{Moment}
-use Rattle.proof_generations.specs.Beneath.machine_model.specs.Tellings.{progress_of, told_in}
 use Rattle.proof_generations.specs.Beneath.machine_model.proofs.Alike.{moment_rests}
 use Rattle.proof_generations.specs.Beneath.machine_model.proofs.Notes.{noted_going}
 

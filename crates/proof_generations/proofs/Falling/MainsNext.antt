@@ -2,23 +2,11 @@
 use Rattle.std.proofs.Common.{◌≡◌, ℕ, suc, ◌<◌, ◌⊎◌, false, inl, inr, Some, refl, sym, ap, ◌∙◌, subst, arith}
 use Rattle.std.specs.List.{All}
 use Rattle.std.proofs.lemmas.List.Elements.{All-weaker}
-use Rattle.proof_generations.specs.Beneath.history.specs.declared.calls.Access.{Access}
-use Rattle.proof_generations.specs.Beneath.history.specs.declared.calls.Access.TheVariants.{Writable, ReadOnly}
-use Rattle.proof_generations.specs.Beneath.slot_arena.specs.declared.refs.Ref.{Ref}
-use Rattle.proof_generations.specs.Beneath.slot_arena.specs.Heaps.{generation_at, entries_of}
-use Rattle.proof_generations.specs.Beneath.machine_model.specs.declared.lines.Line.{Line}
+use Rattle.proof_generations.specs.Vocabulary.{Access, Writable, ReadOnly, Ref, generation_at, entries_of, Line, Operation, Complete, CompleteLine, Descriptor, Bounds, handle_of, State}
+use Rattle.proof_generations.specs.Vocabulary.{operation_of, IsRun, node_under, main_word, moment_at, Moment}
 use Rattle.proof_generations.specs.Beneath.machine_model.specs.declared.lines.Line.TheVariants as line
-use Rattle.proof_generations.specs.Beneath.machine_model.specs.declared.operations.Operation.{Operation}
 use Rattle.proof_generations.specs.Beneath.machine_model.specs.declared.reading.SwapLine.TheVariants as swap
-use Rattle.proof_generations.specs.Beneath.machine_model.specs.declared.roots.Complete.{Complete}
-use Rattle.proof_generations.specs.Beneath.machine_model.specs.declared.roots.CompleteLine.{CompleteLine}
 use Rattle.proof_generations.specs.Beneath.machine_model.specs.declared.roots.CompleteLine.TheVariants as complete
-use Rattle.proof_generations.specs.Beneath.machine_model.specs.declared.roots.Descriptor.{Descriptor}
-use Rattle.proof_generations.specs.Beneath.machine_model.specs.declared.steps.Bounds.{Bounds}
-use Rattle.proof_generations.specs.Beneath.machine_model.specs.Calls.{handle_of}
-use Rattle.proof_generations.specs.Beneath.machine_model.specs.States.{State, operation_of}
-use Rattle.proof_generations.specs.Beneath.machine_model.specs.Times.{IsRun}
-use Rattle.proof_generations.specs.Beneath.machine_model.specs.Grown.{node_under, main_word}
 use Rattle.proof_generations.specs.Beneath.proof_memory.specs.Laws.{is_end}
 use Rattle.proof_generations.specs.Beneath.proof_memory.specs.Laws.{IsInUse}
 use Rattle.proof_generations.specs.Beneath.proof_memory.specs.Wants.{AllHold, line_wants, complete_wants}
@@ -49,8 +37,6 @@ use Rattle.proof_generations.proofs.Falling.NewLinks.{NewLink, new_link}
 use Rattle.proof_generations.proofs.Falling.Counted.{drawn_unopened, start_below}
 use Rattle.proof_generations.proofs.Falling.Brought.{Brought, makes, swaps, comes_in}
 use Rattle.proof_generations.specs.Standing.{IsRooted}
-use Rattle.proof_generations.specs.Beneath.machine_model.specs.Records.{moment_at}
-use Rattle.proof_generations.specs.Beneath.machine_model.specs.declared.records.Moment.{Moment}
 
 inner_goes : (l : Line) → IsInner l → is_end l ≡ false
 inner_goes (line.End answer) i = absurd i

@@ -1,11 +1,6 @@
 -- Nothing ever stands under the reference that stands for none; so what is no indirection has nothing below it.
 use Rattle.std.proofs.Common.{◌≡◌, ℕ, zero, suc, ◌+◌, ◌-◌, ◌≤◌, Bool, true, false, cond, refl, ap, ◌∙◌, arith}
-use Rattle.proof_generations.specs.Beneath.slot_arena.specs.declared.refs.Ref.{Ref}
-use Rattle.proof_generations.specs.Beneath.slot_arena.specs.Heaps.{node_of, prev_of, logical, no_ref, empty_branch}
-use Rattle.proof_generations.specs.Beneath.machine_model.specs.declared.steps.Bounds.{Bounds}
-use Rattle.proof_generations.specs.Beneath.machine_model.specs.States.{State}
-use Rattle.proof_generations.specs.Beneath.machine_model.specs.Times.{IsRun}
-use Rattle.proof_generations.specs.Beneath.machine_model.specs.Grown.{node_under, main_word, prev_word, main_before}
+use Rattle.proof_generations.specs.Vocabulary.{Ref, node_of, prev_of, logical, no_ref, empty_branch, Bounds, State, IsRun, node_under, main_word, prev_word, main_before}
 use Rattle.proof_contents.specs.Runs.{is_made, main_within, counting_main}
 use Rattle.proof_generations.specs.Beneath.proof_memory.specs.Wants.{is_indirection}
 use Rattle.proof_generations.specs.Beneath.proof_memory.proofs.Claims.Nodes.{no_main}

@@ -1,15 +1,8 @@
 -- Nodes of a run as they stand at its end: what is looked up at some time has there its entries, and its generation. Main words don't count.
 use Rattle.std.proofs.Common.{◌≡◌, ℕ, ◌≤◌, true, Some, sym, ap, ◌∙◌, subst, arith}
 use Rattle.std.proofs.lemmas.Bool.{false≢true}
-use Rattle.proof_generations.specs.Beneath.slot_arena.specs.declared.refs.Ref.{Ref}
-use Rattle.proof_generations.specs.Beneath.slot_arena.specs.declared.nodes.Node.{Node}
-use Rattle.proof_generations.specs.Beneath.slot_arena.specs.declared.nodes.Node.TheVariants.{Indirection, Branch, Single, Tomb, List as Listed}
-use Rattle.proof_generations.specs.Beneath.slot_arena.specs.declared.nodes.Slot.{Slot}
-use Rattle.proof_generations.specs.Beneath.slot_arena.specs.Heaps.{node_at, node_of, generation_of, generation_at, entries_of, with_main_word}
-use Rattle.proof_generations.specs.Beneath.machine_model.specs.declared.steps.Bounds.{Bounds}
-use Rattle.proof_generations.specs.Beneath.machine_model.specs.States.{State}
-use Rattle.proof_generations.specs.Beneath.machine_model.specs.Times.{IsRun}
-use Rattle.proof_generations.specs.Beneath.machine_model.specs.Grown.{grown, node_under}
+use Rattle.proof_generations.specs.Vocabulary.{Ref, Node, Indirection, Branch, Single, Tomb, List as Listed, Slot, node_at, node_of, generation_of, generation_at, entries_of, with_main_word, Bounds}
+use Rattle.proof_generations.specs.Vocabulary.{State, IsRun, grown, node_under}
 use Rattle.proof_generations.specs.Beneath.proof_memory.specs.Wants.{ASingle, meets}
 use Rattle.proof_generations.specs.Beneath.proof_memory.specs.Laws.{IsInUse, SameNode}
 use Rattle.proof_generations.specs.Beneath.proof_memory.proofs.Claims.Uses.{entries_same}

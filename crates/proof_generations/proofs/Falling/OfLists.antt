@@ -2,12 +2,9 @@
 use Rattle.std.proofs.Common.{◌≡◌, ℕ, ◌≤◌, ◌⊎◌, true, List, Contains, Some, inl, inr, sym, ap, ◌∙◌, subst, arith}
 use Rattle.std.specs.List.{All}
 use Rattle.std.proofs.lemmas.List.Elements.{All-contains, All-weaker, All-nil}
-use Rattle.proof_generations.specs.Beneath.slot_arena.specs.Heaps.{Heap, generation_of}
-use Rattle.proof_generations.specs.Beneath.history.specs.declared.calls.Access.TheVariants.{Writable}
-use Rattle.proof_generations.specs.Beneath.machine_model.specs.declared.lines.Purpose.{Purpose}
-use Rattle.proof_generations.specs.Beneath.machine_model.specs.declared.operations.Operation.{Operation}
-use Rattle.proof_generations.specs.Beneath.machine_model.specs.declared.reading.Swap.{Swap}
-use Rattle.proof_generations.specs.Beneath.machine_model.specs.States.{operation_of}
+use Rattle.proof_generations.specs.Vocabulary.{Heap, generation_of, Writable, Purpose, Operation, Swap, operation_of, Ref, Node, Indirection, Branch, Single, Tomb, List as Listed, Prev, node_at}
+use Rattle.proof_generations.specs.Vocabulary.{main_at, main_of, prev_at, generation_at, entries_of, logical, Bounds, Step, State, AreBounds, run, IsRun, states_of, last_of, records_of, node_under}
+use Rattle.proof_generations.specs.Vocabulary.{closed_at, Record}
 use Rattle.proof_generations.specs.Beneath.proof_memory.specs.Wants.{AnEntry, ASingle, line_wants, is_indirection}
 use Rattle.proof_generations.specs.Beneath.proof_memory.proofs.Safety.AtTimes.{line_finds, node_found, main_found}
 use Rattle.proof_generations.specs.Beneath.proof_memory.proofs.Claims.Uses.{Meets}
@@ -21,20 +18,9 @@ use Rattle.proof_generations.proofs.Falling.Runs.{gen_of, NotNewer, FitsBelow, M
 use Rattle.proof_generations.proofs.Falling.Along.{all_falls}
 use Rattle.proof_generations.proofs.Falling.Generations.{main_stood}
 use Rattle.proof_generations.proofs.Falling.OwnSwaps.{swaps_in_own_generation}
-use Rattle.proof_generations.specs.Beneath.slot_arena.specs.declared.refs.Ref.{Ref}
-use Rattle.proof_generations.specs.Beneath.slot_arena.specs.declared.nodes.Node.{Node}
-use Rattle.proof_generations.specs.Beneath.slot_arena.specs.declared.nodes.Node.TheVariants.{Indirection, Branch, Single, Tomb, List as Listed}
-use Rattle.proof_generations.specs.Beneath.slot_arena.specs.declared.nodes.Prev.{Prev}
 use Rattle.proof_generations.specs.Beneath.slot_arena.specs.declared.nodes.Prev.TheVariants as prev
-use Rattle.proof_generations.specs.Beneath.slot_arena.specs.Heaps.{node_at, main_at, main_of, prev_at, generation_at, entries_of, logical}
 use Rattle.proof_generations.specs.Beneath.machine_model.specs.declared.lines.Line.TheVariants as line
-use Rattle.proof_generations.specs.Beneath.machine_model.specs.declared.steps.Bounds.{Bounds}
-use Rattle.proof_generations.specs.Beneath.machine_model.specs.declared.steps.Step.{Step}
-use Rattle.proof_generations.specs.Beneath.machine_model.specs.States.{State}
-use Rattle.proof_generations.specs.Beneath.machine_model.specs.Machine.{AreBounds, run}
 use Rattle.proof_generations.specs.Beneath.machine_model.proofs.Times.{run_is, run_ends}
-use Rattle.proof_generations.specs.Beneath.machine_model.specs.Times.{IsRun, states_of, last_of, records_of}
-use Rattle.proof_generations.specs.Beneath.machine_model.specs.Grown.{node_under}
 use Rattle.proof_generations.specs.Beneath.proof_memory.specs.Laws.{IsInUse}
 use Rattle.proof_generations.specs.Beneath.proof_memory.specs.Wants.{AllHold, node_wants, prev_wants}
 use Rattle.proof_generations.specs.Beneath.proof_memory.proofs.Safety.AtEachTime.{safe_at}
@@ -45,7 +31,6 @@ use Rattle.proof_generations.proofs.Falling.KnownRoots.{words}
 use Rattle.proof_generations.proofs.Lines.ReaderKnows.{indirection_is}
 use Rattle.proof_generations.specs.Beneath.machine_model.proofs.Grown.{prev_standing, node_standing}
 use Rattle.proof_commits.proofs.Known.MainsInUse.{logical_standing}
-use Rattle.proof_generations.specs.Beneath.machine_model.specs.Records.{closed_at, Record}
 use Rattle.proof_generations.specs.Beneath.machine_model.proofs.Recorded.{record_ends}
 
 -- ---- what is in use

@@ -3,25 +3,9 @@
 use Rattle.std.proofs.Common.{◌≡◌, ℕ, zero, suc, ◌<◌, ◌≤◌, Bool, true, false, inl, inr, ◌∷◌, ◌++◌, Option, Some, None, refl, sym, ap, ◌∙◌, subst, arith, []}
 use Rattle.std.proofs.lemmas.Bool.{cases_eq}
 use Rattle.std.proofs.lemmas.Option.{none-some, same_Some}
-use Rattle.proof_generations.specs.Beneath.slot_arena.specs.declared.refs.Ref.{Ref}
-use Rattle.proof_generations.specs.Beneath.slot_arena.specs.Heaps.{generation_at, generation_of}
-use Rattle.proof_generations.specs.Beneath.machine_model.specs.declared.operations.Operation.{Operation}
-use Rattle.proof_generations.specs.Beneath.machine_model.specs.declared.roots.Descriptor.{Descriptor}
-use Rattle.proof_generations.specs.Beneath.machine_model.specs.declared.roots.Root.{Root}
-use Rattle.proof_generations.specs.Beneath.machine_model.specs.declared.roots.RootWord.{RootWord}
-use Rattle.proof_generations.specs.Beneath.machine_model.specs.declared.roots.RootWord.TheVariants.{Plain, Offer}
-use Rattle.proof_generations.specs.Beneath.machine_model.specs.declared.steps.Bounds.{Bounds}
-use Rattle.proof_generations.specs.Beneath.machine_model.specs.declared.steps.Outcome.{Outcome}
-use Rattle.proof_generations.specs.Beneath.machine_model.specs.declared.steps.Step.{Step}
-use Rattle.proof_generations.specs.Beneath.machine_model.specs.Calls.{handle_of}
-use Rattle.proof_generations.specs.Beneath.machine_model.specs.States.{State, root_at, root_of, word_of, operation_of}
-use Rattle.proof_generations.specs.Beneath.machine_model.specs.Operations.{action_of}
-use Rattle.proof_generations.specs.Beneath.machine_model.specs.Acting.{opened_root}
-use Rattle.proof_generations.specs.Beneath.machine_model.specs.Moves.{Moves}
+use Rattle.proof_generations.specs.Vocabulary.{Ref, generation_at, generation_of, Operation, Descriptor, Root, RootWord, Plain, Offer, Bounds, Outcome, Step, handle_of, State, root_at, root_of}
+use Rattle.proof_generations.specs.Vocabulary.{word_of, operation_of, action_of, opened_root, Moves, turns, noted_turn, IsRun, Turn, node_under, Writable, closed_at, Record}
 use Rattle.proof_generations.specs.Beneath.machine_model.proofs.Times.{steps_at}
-use Rattle.proof_generations.specs.Beneath.machine_model.specs.Times.{turns, noted_turn}
-use Rattle.proof_generations.specs.Beneath.machine_model.specs.Times.{IsRun, Turn}
-use Rattle.proof_generations.specs.Beneath.machine_model.specs.Grown.{node_under}
 use Rattle.proof_generations.specs.Beneath.proof_memory.specs.Wants.{AllHold, word_wants}
 use Rattle.proof_generations.specs.Beneath.proof_memory.specs.Laws.{IsInUse}
 use Rattle.proof_generations.specs.Beneath.proof_memory.proofs.Claims.Uses.{safe_of}
@@ -38,8 +22,6 @@ use Rattle.proof_generations.specs.Falling.{WasOpened, WasClosed, MayStandBelow}
 use Rattle.proof_generations.proofs.Falling.Nodes.{used_generation}
 use Rattle.proof_generations.specs.Standing.{IsRooted}
 use Rattle.proof_generations.proofs.Roots.Rooted.{standing_root}
-use Rattle.proof_generations.specs.Beneath.history.specs.declared.calls.Access.TheVariants.{Writable}
-use Rattle.proof_generations.specs.Beneath.machine_model.specs.Records.{closed_at, Record}
 
 -- ---- what stays
 

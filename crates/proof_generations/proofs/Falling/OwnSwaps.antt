@@ -1,22 +1,13 @@
 -- An operation swaps into indirections of its own generation alone, on a writable handle.
 use Rattle.std.proofs.Common.{◌≡◌, ℕ, ◌≤◌, Some, refl, sym, ap, ◌∙◌, subst}
-use Rattle.proof_generations.specs.Beneath.history.specs.declared.calls.Access.{Access}
-use Rattle.proof_generations.specs.Beneath.history.specs.declared.calls.Access.TheVariants.{Writable, ReadOnly}
+use Rattle.proof_generations.specs.Vocabulary.{Access, Writable, ReadOnly, Purpose, Operation, Swap, Bounds, State, operation_of, IsRun, moment_at, Moment}
 use Rattle.proof_generations.specs.Beneath.machine_model.specs.declared.lines.Line.TheVariants as line
-use Rattle.proof_generations.specs.Beneath.machine_model.specs.declared.lines.Purpose.{Purpose}
-use Rattle.proof_generations.specs.Beneath.machine_model.specs.declared.operations.Operation.{Operation}
-use Rattle.proof_generations.specs.Beneath.machine_model.specs.declared.reading.Swap.{Swap}
-use Rattle.proof_generations.specs.Beneath.machine_model.specs.declared.steps.Bounds.{Bounds}
-use Rattle.proof_generations.specs.Beneath.machine_model.specs.States.{State, operation_of}
-use Rattle.proof_generations.specs.Beneath.machine_model.specs.Times.{IsRun}
 use Rattle.proof_generations.proofs.Handles.Running.{place_of_actor}
 use Rattle.proof_generations.specs.Falling.{SwapsInOwnGeneration}
 use Rattle.proof_generations.proofs.Lines.Knows.{Knows, IsInner}
 use Rattle.proof_generations.proofs.Lines.Reader.{KnowsReader}
 use Rattle.proof_generations.proofs.Falling.Runs.{gen_of, IsOwn, FitsBelow, FallsBelow, LateBelow, Ends, Shut, LateEnd, KnowsGenerations}
 use Rattle.proof_generations.proofs.Falling.Along.{all_falls}
-use Rattle.proof_generations.specs.Beneath.machine_model.specs.Records.{moment_at}
-use Rattle.proof_generations.specs.Beneath.machine_model.specs.declared.records.Moment.{Moment}
 
 module _ (limits : Bounds) (states : ℕ → State) (last : ℕ) (run : IsRun limits states last) where
   -- what an operation knows of its line

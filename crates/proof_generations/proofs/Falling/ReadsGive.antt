@@ -1,25 +1,12 @@
 -- What a READ of an operation gives stood in the word of what it reads; and where a generation was closed before the READ, it was so before what it counts from.
 use Rattle.std.proofs.Common.{◌≡◌, ℕ, suc, ◌<◌, ◌⊎◌, inl, inr, Some, sym, ap, ◌∙◌, subst, arith, true}
 use Rattle.std.proofs.lemmas.Option.{same_Some}
-use Rattle.proof_generations.specs.Beneath.slot_arena.specs.declared.refs.Ref.{Ref}
-use Rattle.proof_generations.specs.Beneath.machine_model.specs.declared.operations.Operation.{Operation}
-use Rattle.proof_generations.specs.Beneath.machine_model.specs.declared.reading.After.TheVariants.{Gives}
-use Rattle.proof_generations.specs.Beneath.machine_model.specs.declared.reading.Read.{Read}
-use Rattle.proof_generations.specs.Beneath.machine_model.specs.declared.reading.ReadLine.{ReadLine}
+use Rattle.proof_generations.specs.Vocabulary.{Ref, Operation, Gives, Read, ReadLine, Bounds, Outcome, handle_of, State, word_at, operation_of, read_after, read_step, read_action, action_of, gone}
+use Rattle.proof_generations.specs.Vocabulary.{settled, Ends, Moves, GoesOn, IsRun, read_at_after, noted_progress, moment_at, progress_of, counts_from, is_actor, Moment}
 use Rattle.proof_generations.specs.Beneath.machine_model.specs.declared.reading.ReadLine.TheVariants as read
-use Rattle.proof_generations.specs.Beneath.machine_model.specs.declared.steps.Bounds.{Bounds}
-use Rattle.proof_generations.specs.Beneath.machine_model.specs.declared.steps.Outcome.{Outcome}
 use Rattle.proof_generations.specs.Beneath.machine_model.specs.declared.steps.Step.TheVariants as step
-use Rattle.proof_generations.specs.Beneath.machine_model.specs.Calls.{handle_of}
-use Rattle.proof_generations.specs.Beneath.machine_model.specs.States.{State, word_at, operation_of}
-use Rattle.proof_generations.specs.Beneath.machine_model.specs.Reading.{read_after, read_step, read_action}
-use Rattle.proof_generations.specs.Beneath.machine_model.specs.Operations.{action_of}
-use Rattle.proof_generations.specs.Beneath.machine_model.specs.Acting.{gone}
-use Rattle.proof_generations.specs.Beneath.machine_model.specs.Counting.{settled}
-use Rattle.proof_generations.specs.Beneath.machine_model.specs.Moves.{Goes, Ends}
-use Rattle.proof_generations.specs.Beneath.machine_model.specs.Moves.{Moves, GoesOn}
+use Rattle.proof_generations.specs.Beneath.machine_model.specs.Moves.{Goes}
 use Rattle.proof_generations.specs.Beneath.machine_model.proofs.Times.{steps_at}
-use Rattle.proof_generations.specs.Beneath.machine_model.specs.Times.{IsRun}
 use Rattle.proof_commits.specs.Protocol.{Reads, ReadTurn, Given, counts_at}
 use Rattle.proof_commits.proofs.Words.Stood.{Stood}
 use Rattle.proof_commits.proofs.Known.Sounds.{sound_at}
@@ -28,10 +15,6 @@ use Rattle.proof_commits.proofs.Lines.Reads.{on_stage, read_counts}
 use Rattle.proof_commits.proofs.Words.Along.{reading_turn}
 use Rattle.proof_commits.proofs.Course.OfLists.{given_read}
 use Rattle.proof_generations.proofs.Falling.KnownRoots.{words, known, protocol_of}
-use Rattle.proof_generations.specs.Beneath.machine_model.specs.Records.{read_at_after, noted_progress, moment_at}
-use Rattle.proof_generations.specs.Beneath.machine_model.specs.Tellings.{progress_of, counts_from}
-use Rattle.proof_generations.specs.Beneath.machine_model.specs.Machine.{is_actor}
-use Rattle.proof_generations.specs.Beneath.machine_model.specs.declared.records.Moment.{Moment}
 use Rattle.proof_generations.specs.Beneath.machine_model.proofs.Alike.{alike, moment_goes}
 
 -- the state after a step of an operation that goes on

@@ -1,16 +1,8 @@
 -- For every list of steps: what is read of closed generations stays. And what repairs are given stands, in the form in which the laws of contents take it.
 use Rattle.std.proofs.Common.{◌≡◌, ℕ, ◌<◌, List, Some, refl, sym, ap, ◌∙◌, subst, arith, slice_get, suc}
-use Rattle.proof_generations.specs.Beneath.slot_arena.specs.declared.refs.Ref.{Ref}
-use Rattle.proof_generations.specs.Beneath.slot_arena.specs.Heaps.{generation_at}
-use Rattle.proof_generations.specs.Beneath.machine_model.specs.declared.operations.Operation.{Operation}
-use Rattle.proof_generations.specs.Beneath.machine_model.specs.declared.reading.Read.{Read}
-use Rattle.proof_generations.specs.Beneath.machine_model.specs.declared.steps.Bounds.{Bounds}
-use Rattle.proof_generations.specs.Beneath.machine_model.specs.declared.steps.Step.{Step}
-use Rattle.proof_generations.specs.Beneath.machine_model.specs.States.{State, operation_of}
-use Rattle.proof_generations.specs.Beneath.machine_model.specs.Operations.{read_of}
-use Rattle.proof_generations.specs.Beneath.machine_model.specs.Machine.{AreBounds, taken_steps}
+use Rattle.proof_generations.specs.Vocabulary.{Ref, generation_at, Operation, Read, Bounds, Step, State, operation_of, read_of, AreBounds, taken_steps, IsRun, states_of, last_of, records_of}
+use Rattle.proof_generations.specs.Vocabulary.{closed_at, moment_at}
 use Rattle.proof_generations.specs.Beneath.machine_model.proofs.Times.{run_is}
-use Rattle.proof_generations.specs.Beneath.machine_model.specs.Times.{IsRun, states_of, last_of, records_of}
 use Rattle.proof_commits.specs.Laws.{IsNoSwap}
 use Rattle.proof_commits.specs.Runs.{HasIndirection}
 use Rattle.proof_commits.proofs.Course.AlongLists.{law_given_for_good}
@@ -23,7 +15,6 @@ use Rattle.proof_generations.proofs.Falling.Opened.{closed_until}
 use Rattle.proof_generations.proofs.Falling.ReadsGive.{late_after, reads_goes}
 use Rattle.proof_generations.proofs.Falling.Runs.{gen_of}
 use Rattle.proof_generations.proofs.Falling.Final.{closed_before_read}
-use Rattle.proof_generations.specs.Beneath.machine_model.specs.Records.{closed_at, moment_at}
 use Rattle.proof_generations.specs.Beneath.machine_model.proofs.Alike.{go_actor, not_denied}
 use Rattle.proof_generations.specs.Beneath.machine_model.proofs.Notes.{noted_going}
 use Rattle.proof_generations.specs.Beneath.machine_model.proofs.Numbered.{step_leads, step_noted}

@@ -2,16 +2,8 @@
 use Rattle.std.proofs.Common.{◌≡◌, ℕ, suc, ◌<◌, ◌≤◌, Bool, true, false, Some, inl, inr, sym, ◌∙◌, subst, arith}
 use Rattle.std.specs.List.{All}
 use Rattle.std.proofs.lemmas.List.Elements.{All-weaker}
-use Rattle.proof_generations.specs.Beneath.history.specs.declared.calls.Access.TheVariants.{Writable, ReadOnly}
-use Rattle.proof_generations.specs.Beneath.slot_arena.specs.declared.refs.Ref.{Ref}
-use Rattle.proof_generations.specs.Beneath.slot_arena.specs.Heaps.{node_at, generation_of, entries_of}
-use Rattle.proof_generations.specs.Beneath.machine_model.specs.declared.operations.Operation.{Operation}
-use Rattle.proof_generations.specs.Beneath.machine_model.specs.declared.reading.Read.{Read}
-use Rattle.proof_generations.specs.Beneath.machine_model.specs.declared.steps.Bounds.{Bounds}
-use Rattle.proof_generations.specs.Beneath.machine_model.specs.States.{State}
+use Rattle.proof_generations.specs.Vocabulary.{Writable, ReadOnly, Ref, node_at, generation_of, entries_of, Operation, Read, Bounds, State, IsRun, node_under, Record, moment_at, Moment}
 use Rattle.proof_generations.specs.Beneath.machine_model.proofs.Actors.{mark_one, mark_only}
-use Rattle.proof_generations.specs.Beneath.machine_model.specs.Times.{IsRun}
-use Rattle.proof_generations.specs.Beneath.machine_model.specs.Grown.{node_under}
 use Rattle.proof_generations.specs.Beneath.proof_memory.specs.Wants.{ASingle, meets}
 use Rattle.proof_generations.specs.Beneath.proof_memory.specs.Laws.{IsInUse}
 use Rattle.proof_commits.proofs.Words.Stood.{Stood}
@@ -23,8 +15,6 @@ use Rattle.proof_generations.proofs.Falling.Nodes.{used_entries, used_single, to
 use Rattle.proof_generations.proofs.Falling.Opened.{closed_next, was_closed_next, below_next}
 use Rattle.proof_generations.proofs.Lines.Knows.{Knows, IsInner, knows_still}
 use Rattle.proof_generations.proofs.Lines.Reader.{KnowsReader, reader_still}
-use Rattle.proof_generations.specs.Beneath.machine_model.specs.Records.{Record, moment_at}
-use Rattle.proof_generations.specs.Beneath.machine_model.specs.declared.records.Moment.{Moment}
 
 module _ (states : ℕ → State) (last : ℕ) where
   -- the generation of an indirection

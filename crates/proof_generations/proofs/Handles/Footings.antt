@@ -3,16 +3,9 @@ use Rattle.std.proofs.Common.{◌≡◌, ℕ, ◌==◌, Bool, true, false, cond,
 use Rattle.std.proofs.lemmas.Bool.{cases_eq, true≢false, false≢true, and_from, and_parts}
 use Rattle.std.proofs.lemmas.List.{get_or-set_same}
 use Rattle.std.proofs.lemmas.Option.{none-some, same_Some}
-use Rattle.proof_generations.specs.Beneath.slot_arena.specs.declared.refs.Ref.{Ref}
-use Rattle.proof_generations.specs.Beneath.machine_model.specs.declared.actions.Action.{Action}
+use Rattle.proof_generations.specs.Vocabulary.{Ref, Action, Descriptor, Root, RootWord, Plain, Offer, State, root_at, word_of, word_at, root_of, rewritten, with_word, stands_in, is_plain}
+use Rattle.proof_generations.specs.Vocabulary.{is_carried_out, acted, carried_out, opened, opened_root, new_root_taken, if_changed}
 use Rattle.proof_generations.specs.Beneath.machine_model.specs.declared.actions.Action.TheVariants as act
-use Rattle.proof_generations.specs.Beneath.machine_model.specs.declared.roots.Descriptor.{Descriptor}
-use Rattle.proof_generations.specs.Beneath.machine_model.specs.declared.roots.Root.{Root}
-use Rattle.proof_generations.specs.Beneath.machine_model.specs.declared.roots.RootWord.{RootWord}
-use Rattle.proof_generations.specs.Beneath.machine_model.specs.declared.roots.RootWord.TheVariants.{Plain, Offer}
-use Rattle.proof_generations.specs.Beneath.machine_model.specs.States.{State, root_at, word_of, word_at, root_of, rewritten, with_word}
-use Rattle.proof_generations.specs.Beneath.machine_model.specs.Swapping.{stands_in, is_plain, is_carried_out}
-use Rattle.proof_generations.specs.Beneath.machine_model.specs.Acting.{acted, carried_out, opened, opened_root, new_root_taken, if_changed}
 use Rattle.proof_generations.specs.Beneath.machine_model.proofs.Found.{found_elsewhere, found_here, found_within}
 use Rattle.proof_generations.specs.Laws.Roots.{settles}
 

@@ -4,29 +4,15 @@ use Rattle.std.proofs.Common.{sym, ap, ◌∙◌, subst, eq-eqb, add-one, arith,
 use Rattle.std.specs.List.{list_any}
 use Rattle.std.proofs.lemmas.Bool.{true≢false, false≢true, cond_both, or_parts}
 use Rattle.std.proofs.lemmas.Option.{none-some, same_Some}
-use Rattle.proof_generations.specs.Beneath.history.specs.declared.calls.Access.{Access}
-use Rattle.proof_generations.specs.Beneath.history.specs.declared.calls.Access.TheVariants.{Writable}
-use Rattle.proof_generations.specs.Beneath.history.specs.declared.calls.Call.{Call}
-use Rattle.proof_generations.specs.Beneath.machine_model.specs.declared.operations.Operation.{Operation}
-use Rattle.proof_generations.specs.Beneath.machine_model.specs.declared.roots.Descriptor.{Descriptor}
-use Rattle.proof_generations.specs.Beneath.machine_model.specs.declared.roots.Root.{Root}
-use Rattle.proof_generations.specs.Beneath.machine_model.specs.declared.steps.Bounds.{Bounds}
-use Rattle.proof_generations.specs.Beneath.machine_model.specs.declared.steps.Outcome.{Outcome}
-use Rattle.proof_generations.specs.Beneath.machine_model.specs.declared.steps.Step.{Step}
+use Rattle.proof_generations.specs.Vocabulary.{Access, Writable, Call, Operation, Descriptor, Root, Bounds, Outcome, Step, handle_of, is_close, opens_handle, State, first_state, root_at, word_of}
+use Rattle.proof_generations.specs.Vocabulary.{word_at, operation_of, handle_limit, action_of, line_action, line_after, operation_after, gone, mark_after, begin_denial, handle_closed, access_of}
+use Rattle.proof_generations.specs.Vocabulary.{runs_on, is_taken, is_number, reserved_by, taken_below, handles_taken, least_from, least_free, Begins, Ends, Sweeps, Moves, GoesOn, begun_operation}
+use Rattle.proof_generations.specs.Vocabulary.{IsRun, is_carried_out}
 use Rattle.proof_generations.specs.Beneath.machine_model.specs.declared.steps.Step.TheVariants as step
-use Rattle.proof_generations.specs.Beneath.machine_model.specs.Calls.{handle_of, is_close, opens_handle}
-use Rattle.proof_generations.specs.Beneath.machine_model.specs.States.{State, first_state, root_at, word_of, word_at, operation_of, handle_limit}
-use Rattle.proof_generations.specs.Beneath.machine_model.specs.Operations.{action_of, line_action, line_after}
-use Rattle.proof_generations.specs.Beneath.machine_model.specs.Acting.{operation_after, gone, mark_after}
-use Rattle.proof_generations.specs.Beneath.machine_model.specs.Machine.{begin_denial, handle_closed, access_of, runs_on, is_taken, is_number, reserved_by, taken_below}
-use Rattle.proof_generations.specs.Beneath.machine_model.specs.Machine.{handles_taken, least_from, least_free}
-use Rattle.proof_generations.specs.Beneath.machine_model.specs.Moves.{Begins, Goes, Ends, Sweeps}
-use Rattle.proof_generations.specs.Beneath.machine_model.specs.Moves.{Moves, GoesOn, begun_operation}
+use Rattle.proof_generations.specs.Beneath.machine_model.specs.Moves.{Goes}
 use Rattle.proof_generations.specs.Beneath.machine_model.proofs.Actors.{mark_one, mark_only, marks_in, marks_by, marks_of}
 use Rattle.proof_generations.specs.Beneath.machine_model.proofs.Found.{found_elsewhere, found_here, none_found}
 use Rattle.proof_generations.specs.Beneath.machine_model.proofs.Times.{at_each_time}
-use Rattle.proof_generations.specs.Beneath.machine_model.specs.Times.{IsRun}
-use Rattle.proof_generations.specs.Beneath.machine_model.specs.Swapping.{is_carried_out}
 use Rattle.proof_generations.specs.Beneath.proof_memory.proofs.Safety.Base.{running_on, closed_root, close_denied, handle_given}
 use Rattle.proof_generations.proofs.Handles.Running.{Comes, began, rested, went, comes, one_at}
 use Rattle.proof_generations.specs.Running.{Runs}

@@ -4,20 +4,11 @@ use native.Mathlib.Decide.{ℕ_discrete}
 use Rattle.std.proofs.Math.ListN.{get_or-map}
 use Rattle.std.proofs.lemmas.List.{get_or-set_same, length-map, length-set}
 use Rattle.std.proofs.lemmas.Option.{none-some, same_Some}
-use Rattle.proof_generations.specs.Beneath.history.specs.declared.calls.Call.{Call}
-use Rattle.proof_generations.specs.Beneath.history.specs.declared.replies.Reply.{Reply}
-use Rattle.proof_generations.specs.Beneath.machine_model.specs.declared.operations.Operation.{Operation}
+use Rattle.proof_generations.specs.Vocabulary.{Call, Reply, Operation, Outcome, Step, handle_of, State, operation_of, action_of, operation_after, marked, begin_denial, Begins, Ends, Sweeps, Moves}
+use Rattle.proof_generations.specs.Vocabulary.{GoesOn, begun_operation}
 use Rattle.proof_generations.specs.Beneath.machine_model.specs.declared.actions.Action.TheVariants as act
-use Rattle.proof_generations.specs.Beneath.machine_model.specs.declared.steps.Outcome.{Outcome}
-use Rattle.proof_generations.specs.Beneath.machine_model.specs.declared.steps.Step.{Step}
 use Rattle.proof_generations.specs.Beneath.machine_model.specs.declared.steps.Step.TheVariants as step
-use Rattle.proof_generations.specs.Beneath.machine_model.specs.Calls.{handle_of}
-use Rattle.proof_generations.specs.Beneath.machine_model.specs.States.{State, operation_of}
-use Rattle.proof_generations.specs.Beneath.machine_model.specs.Operations.{action_of}
-use Rattle.proof_generations.specs.Beneath.machine_model.specs.Acting.{operation_after, marked}
-use Rattle.proof_generations.specs.Beneath.machine_model.specs.Machine.{begin_denial}
-use Rattle.proof_generations.specs.Beneath.machine_model.specs.Moves.{Begins, Goes, Ends, Sweeps}
-use Rattle.proof_generations.specs.Beneath.machine_model.specs.Moves.{Moves, GoesOn, begun_operation}
+use Rattle.proof_generations.specs.Beneath.machine_model.specs.Moves.{Goes}
 use Rattle.proof_generations.specs.Beneath.machine_model.proofs.Found.{found_within, found_elsewhere}
 use Rattle.proof_generations.specs.Beneath.machine_model.proofs.Actors.{mark_one, marks_by, marks_in, marks_of, after_marks, gone_actors, begin_actors, IsOf, is_of, of_others, go_counts, begin_counts}
 use Rattle.proof_generations.specs.Beneath.machine_model.proofs.Actors.{of_itself, of_begin, of_end}

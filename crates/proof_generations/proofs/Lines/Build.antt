@@ -1,31 +1,14 @@
 -- Each line of BUILD and SWAP hands on what it knows of generations.
 use Rattle.std.proofs.Common.{◌≡◌, ℕ, ◌+◌, ◌==◌, Bool, true, false, List, Option, Some, None, refl}
 use Rattle.std.proofs.lemmas.Bool.{cond_both}
-use Rattle.proof_generations.specs.Beneath.slot_arena.specs.declared.refs.Ref.{Ref}
-use Rattle.proof_generations.specs.Beneath.slot_arena.specs.declared.nodes.Node.{Node}
-use Rattle.proof_generations.specs.Beneath.slot_arena.specs.declared.nodes.Node.TheVariants.{Indirection, Branch, Single, Tomb, List as Listed}
-use Rattle.proof_generations.specs.Beneath.slot_arena.specs.Heaps.{node_at}
-use Rattle.proof_generations.specs.Beneath.machine_model.specs.declared.building.BuildLine.{BuildLine}
+use Rattle.proof_generations.specs.Vocabulary.{Ref, Node, Indirection, Branch, Single, Tomb, List as Listed, node_at, BuildLine, Site, Line, Purpose, Operation, After, Gives, Read, Swap, SwapLine}
+use Rattle.proof_generations.specs.Vocabulary.{Climb, State, is_below_root, depth_of, after_single, build_after_made, build_if_made, climbing, after_update, climbed_on, swapped, on_line}
 use Rattle.proof_generations.specs.Beneath.machine_model.specs.declared.building.BuildLine.TheVariants as build
-use Rattle.proof_generations.specs.Beneath.machine_model.specs.declared.building.Site.{Site}
 use Rattle.proof_generations.specs.Beneath.machine_model.specs.declared.building.Site.TheVariants as site
-use Rattle.proof_generations.specs.Beneath.machine_model.specs.declared.lines.Line.{Line}
 use Rattle.proof_generations.specs.Beneath.machine_model.specs.declared.lines.Line.TheVariants as line
-use Rattle.proof_generations.specs.Beneath.machine_model.specs.declared.lines.Purpose.{Purpose}
 use Rattle.proof_generations.specs.Beneath.machine_model.specs.declared.lines.Purpose.TheVariants as purpose
-use Rattle.proof_generations.specs.Beneath.machine_model.specs.declared.operations.Operation.{Operation}
-use Rattle.proof_generations.specs.Beneath.machine_model.specs.declared.reading.After.{After}
-use Rattle.proof_generations.specs.Beneath.machine_model.specs.declared.reading.After.TheVariants.{Goes, Gives}
-use Rattle.proof_generations.specs.Beneath.machine_model.specs.declared.reading.Read.{Read}
-use Rattle.proof_generations.specs.Beneath.machine_model.specs.declared.reading.Swap.{Swap}
-use Rattle.proof_generations.specs.Beneath.machine_model.specs.declared.reading.SwapLine.{SwapLine}
-use Rattle.proof_generations.specs.Beneath.machine_model.specs.declared.repairs.Climb.{Climb}
-use Rattle.proof_generations.specs.Beneath.machine_model.specs.States.{State}
-use Rattle.proof_generations.specs.Beneath.machine_model.specs.Paths.{is_below_root, depth_of}
-use Rattle.proof_generations.specs.Beneath.machine_model.specs.Building.{after_single, build_after_made, build_if_made}
-use Rattle.proof_generations.specs.Beneath.machine_model.specs.Climbing.{climbing}
-use Rattle.proof_generations.specs.Beneath.machine_model.specs.Operations.{after_swap, after_update, climbed_on, swapped}
-use Rattle.proof_generations.specs.Beneath.machine_model.specs.Swapping.{on_line}
+use Rattle.proof_generations.specs.Beneath.machine_model.specs.declared.reading.After.TheVariants.{Goes}
+use Rattle.proof_generations.specs.Beneath.machine_model.specs.Operations.{after_swap}
 use Rattle.proof_generations.proofs.Lines.Knows.{OwnPath, OwnClimb, Knows, KnowsBuild, FallsOn, own_current, own_above}
 
 module _ (state : State) (operation : Operation) (Own Fits Falls : Ref → Type 0) (Late : Read → Type 0) where

@@ -2,29 +2,13 @@
 use Rattle.std.proofs.Common.{◌≡◌, ℕ, ◌||◌, Bool, true, false, Option, Some, None, refl, arith}
 use Rattle.std.proofs.lemmas.Bool.{cond_both}
 use Rattle.arrayvec.specs.ArrayVec.{ArrayVec}
-use Rattle.proof_generations.specs.Beneath.history.specs.declared.calls.Call.{Call}
-use Rattle.proof_generations.specs.Beneath.history.specs.declared.calls.Call.TheVariants.{Clear, Snapshot, Freeze}
-use Rattle.proof_generations.specs.Beneath.slot_arena.specs.declared.refs.Ref.{Ref}
-use Rattle.proof_generations.specs.Beneath.slot_arena.specs.declared.nodes.Node.{Node}
-use Rattle.proof_generations.specs.Beneath.slot_arena.specs.declared.nodes.Node.TheVariants.{Indirection, Branch, Single, Tomb, List as Listed}
-use Rattle.proof_generations.specs.Beneath.slot_arena.specs.Heaps.{generation_at}
-use Rattle.proof_generations.specs.Beneath.machine_model.specs.declared.copying.CopyLine.{CopyLine}
+use Rattle.proof_generations.specs.Vocabulary.{Call, Clear, Snapshot, Freeze, Ref, Node, Indirection, Branch, Single, Tomb, List as Listed, generation_at, CopyLine, Line, Operation, After, Gives}
+use Rattle.proof_generations.specs.Vocabulary.{Read, Climb, CompleteLine, Descriptor, RootLine, State, is_start, above, climb_after_read, climb_after_main, holds_it, climb_after_contracted}
+use Rattle.proof_generations.specs.Vocabulary.{climb_after_root, higher, copy_after_read, after_given, after_successor, copy_after_made, copy_if_made, after_offer, copy_after_complete, after_root}
+use Rattle.proof_generations.specs.Vocabulary.{of_offer}
 use Rattle.proof_generations.specs.Beneath.machine_model.specs.declared.copying.CopyLine.TheVariants as copy
-use Rattle.proof_generations.specs.Beneath.machine_model.specs.declared.lines.Line.{Line}
-use Rattle.proof_generations.specs.Beneath.machine_model.specs.declared.operations.Operation.{Operation}
-use Rattle.proof_generations.specs.Beneath.machine_model.specs.declared.reading.After.{After}
-use Rattle.proof_generations.specs.Beneath.machine_model.specs.declared.reading.After.TheVariants.{Goes, Gives}
-use Rattle.proof_generations.specs.Beneath.machine_model.specs.declared.reading.Read.{Read}
-use Rattle.proof_generations.specs.Beneath.machine_model.specs.declared.repairs.Climb.{Climb}
-use Rattle.proof_generations.specs.Beneath.machine_model.specs.declared.roots.CompleteLine.{CompleteLine}
-use Rattle.proof_generations.specs.Beneath.machine_model.specs.declared.roots.Descriptor.{Descriptor}
-use Rattle.proof_generations.specs.Beneath.machine_model.specs.declared.roots.RootLine.{RootLine}
-use Rattle.proof_generations.specs.Beneath.machine_model.specs.States.{State}
-use Rattle.proof_generations.specs.Beneath.machine_model.specs.Paths.{is_start, above}
-use Rattle.proof_generations.specs.Beneath.machine_model.specs.Climbing.{climb_after_read, climb_after_main, holds_it, climb_after_contracted, climb_after_root, higher}
-use Rattle.proof_generations.specs.Beneath.machine_model.specs.Copying.{copy_after_read, after_given, after_successor, copy_after_made, copy_if_made, after_offer, copy_after_complete}
-use Rattle.proof_generations.specs.Beneath.machine_model.specs.Operations.{from_root, after_root}
-use Rattle.proof_generations.specs.Beneath.machine_model.specs.Swapping.{of_offer}
+use Rattle.proof_generations.specs.Beneath.machine_model.specs.declared.reading.After.TheVariants.{Goes}
+use Rattle.proof_generations.specs.Beneath.machine_model.specs.Operations.{from_root}
 use Rattle.proof_generations.proofs.Lines.Knows.{OwnClimb, Knows, KnowsCopy, one_of, own_current}
 use Rattle.proof_generations.proofs.Lines.Build.{climbing_falls}
 

@@ -1,44 +1,17 @@
 -- Where the COMPLETE of a line has its offer from: the line before was in it, or it found the offer in the root word, or has just offered.
 use Rattle.std.proofs.Common.{◌≡◌, ◌-◌, ◌||◌, cond, ◌⊎◌, inl, inr, Bool, true, false, Some, None, refl, sym, ap, ◌∙◌, arith}
 use Rattle.std.proofs.lemmas.Option.{none-some, same_Some}
-use Rattle.proof_generations.specs.Beneath.history.specs.declared.calls.Access.{Access}
-use Rattle.proof_generations.specs.Beneath.slot_arena.specs.declared.refs.Ref.{Ref}
-use Rattle.proof_generations.specs.Beneath.slot_arena.specs.Heaps.{Heap, generation_at, node_at, entry_at}
-use Rattle.proof_generations.specs.Beneath.machine_model.specs.declared.operations.Operation.{Operation}
-use Rattle.proof_generations.specs.Beneath.machine_model.specs.declared.roots.RootWord.{RootWord}
-use Rattle.proof_generations.specs.Beneath.machine_model.specs.declared.roots.RootWord.TheVariants.{Offer}
-use Rattle.proof_generations.specs.Beneath.machine_model.specs.declared.roots.Complete.{Complete}
-use Rattle.proof_generations.specs.Beneath.machine_model.specs.declared.roots.RootLine.{RootLine}
+use Rattle.proof_generations.specs.Vocabulary.{Access, Ref, Heap, generation_at, node_at, entry_at, Operation, RootWord, Offer, Complete, RootLine, After, Gives, Read, Swap, Purpose, KeyLine}
+use Rattle.proof_generations.specs.Vocabulary.{is_start, new_try, key_after_read, BuildLine, RenewLine, CleanLine, ClimbLine, CopyLine, WalkLine, Line, handle_of, State, word_at, read_step}
+use Rattle.proof_generations.specs.Vocabulary.{line_after, after_root, is_plain, completing, complete_after, after_root_word, after_completing, root_after, copied_reply, after_offer}
+use Rattle.proof_generations.specs.Vocabulary.{copy_after_complete, climbed, climbing, climb_after_root, Climb, Call}
 use Rattle.proof_generations.specs.Beneath.machine_model.specs.declared.roots.RootLine.TheVariants as root
-use Rattle.proof_generations.specs.Beneath.machine_model.specs.declared.reading.After.{After}
-use Rattle.proof_generations.specs.Beneath.machine_model.specs.declared.reading.After.TheVariants.{Goes, Gives}
-use Rattle.proof_generations.specs.Beneath.machine_model.specs.declared.reading.Read.{Read}
-use Rattle.proof_generations.specs.Beneath.machine_model.specs.declared.reading.Swap.{Swap}
-use Rattle.proof_generations.specs.Beneath.machine_model.specs.declared.lines.Purpose.{Purpose}
-use Rattle.proof_generations.specs.Beneath.machine_model.specs.declared.finding.KeyLine.{KeyLine}
+use Rattle.proof_generations.specs.Beneath.machine_model.specs.declared.reading.After.TheVariants.{Goes}
 use Rattle.proof_generations.specs.Beneath.machine_model.specs.declared.finding.KeyLine.TheVariants as key
-use Rattle.proof_generations.specs.Beneath.machine_model.specs.Paths.{is_start}
-use Rattle.proof_generations.specs.Beneath.machine_model.specs.Lines.{new_try}
-use Rattle.proof_generations.specs.Beneath.machine_model.specs.Finding.{key_after_read}
-use Rattle.proof_generations.specs.Beneath.machine_model.specs.declared.building.BuildLine.{BuildLine}
-use Rattle.proof_generations.specs.Beneath.machine_model.specs.declared.repairs.RenewLine.{RenewLine}
-use Rattle.proof_generations.specs.Beneath.machine_model.specs.declared.repairs.CleanLine.{CleanLine}
-use Rattle.proof_generations.specs.Beneath.machine_model.specs.declared.repairs.ClimbLine.{ClimbLine}
 use Rattle.proof_generations.specs.Beneath.machine_model.specs.declared.repairs.ClimbLine.TheVariants as climb
-use Rattle.proof_generations.specs.Beneath.machine_model.specs.declared.copying.CopyLine.{CopyLine}
 use Rattle.proof_generations.specs.Beneath.machine_model.specs.declared.copying.CopyLine.TheVariants as copy
-use Rattle.proof_generations.specs.Beneath.machine_model.specs.declared.walking.WalkLine.{WalkLine}
-use Rattle.proof_generations.specs.Beneath.machine_model.specs.declared.lines.Line.{Line}
 use Rattle.proof_generations.specs.Beneath.machine_model.specs.declared.lines.Line.TheVariants as line
-use Rattle.proof_generations.specs.Beneath.machine_model.specs.Calls.{handle_of}
-use Rattle.proof_generations.specs.Beneath.machine_model.specs.States.{State, word_at}
-use Rattle.proof_generations.specs.Beneath.machine_model.specs.Reading.{read_step}
-use Rattle.proof_generations.specs.Beneath.machine_model.specs.Operations.{line_after, after_root, from_root}
-use Rattle.proof_generations.specs.Beneath.machine_model.specs.Swapping.{is_plain, completing, complete_after, after_root_word, after_completing, root_after}
-use Rattle.proof_generations.specs.Beneath.machine_model.specs.Copying.{copied_reply, after_offer, copy_after_complete}
-use Rattle.proof_generations.specs.Beneath.machine_model.specs.Climbing.{climbed, climbing, climb_after_root}
-use Rattle.proof_generations.specs.Beneath.machine_model.specs.declared.repairs.Climb.{Climb}
-use Rattle.proof_generations.specs.Beneath.history.specs.declared.calls.Call.{Call}
+use Rattle.proof_generations.specs.Beneath.machine_model.specs.Operations.{from_root}
 use Rattle.proof_generations.proofs.Lines.Offers.{main_quiet, entry_quiet, listed_quiet, sibling_quiet, completing_root, completing_of}
 
 -- it was in it before, or finds the offer in the root word, or has just offered

@@ -1,54 +1,19 @@
 -- The lines of COPY: which calls stand on them, and that an operation's own offers have its id, its handle to open and the number of its try.
 use Rattle.std.proofs.Common.{◌≡◌, ℕ, ◌+◌, ◌==◌, ◌||◌, Bool, true, false, cond, nat_lt, List, length, Option, Some, None, refl, sym, ap, subst, arith}
 use Rattle.std.proofs.lemmas.Bool.{false≢true}
-use Rattle.proof_generations.specs.Beneath.history.specs.declared.calls.Access.{Access}
-use Rattle.proof_generations.specs.Beneath.history.specs.declared.calls.Call.{Call}
-use Rattle.proof_generations.specs.Beneath.history.specs.declared.calls.Call.TheVariants.{Clear, Snapshot, Freeze, Close, Entries, Count}
-use Rattle.proof_generations.specs.Beneath.slot_arena.specs.declared.refs.Ref.{Ref}
-use Rattle.proof_generations.specs.Beneath.slot_arena.specs.declared.nodes.Node.{Node}
-use Rattle.proof_generations.specs.Beneath.slot_arena.specs.declared.nodes.Node.TheVariants.{Branch, Single, Tomb}
-use Rattle.proof_generations.specs.Beneath.slot_arena.specs.Heaps.{node_at, entry_at, entries_of, next_ref}
-use Rattle.proof_generations.specs.Beneath.ctrie_base.specs.Paths.{position_of}
-use Rattle.proof_generations.specs.Beneath.nodes.specs.Levels.{has_flag}
-use Rattle.proof_generations.specs.Beneath.machine_model.specs.declared.operations.Operation.{Operation}
-use Rattle.proof_generations.specs.Beneath.machine_model.specs.declared.reading.After.{After}
-use Rattle.proof_generations.specs.Beneath.machine_model.specs.declared.reading.After.TheVariants.{Goes as Continues, Gives}
-use Rattle.proof_generations.specs.Beneath.machine_model.specs.declared.reading.Read.{Read}
-use Rattle.proof_generations.specs.Beneath.machine_model.specs.declared.reading.ReadLine.{ReadLine}
-use Rattle.proof_generations.specs.Beneath.machine_model.specs.declared.reading.Swap.{Swap}
-use Rattle.proof_generations.specs.Beneath.machine_model.specs.declared.building.BuildLine.{BuildLine}
-use Rattle.proof_generations.specs.Beneath.machine_model.specs.declared.finding.KeyLine.{KeyLine}
+use Rattle.proof_generations.specs.Vocabulary.{Access, Call, Clear, Snapshot, Freeze, Close, Entries, Count, Ref, Node, Branch, Single, Tomb, node_at, entry_at, entries_of, next_ref, position_of}
+use Rattle.proof_generations.specs.Vocabulary.{has_flag, Operation, After, Gives, Read, ReadLine, Swap, BuildLine, KeyLine, WhenFound, RenewLine, CleanLine, ClimbLine, CopyLine, Complete}
+use Rattle.proof_generations.specs.Vocabulary.{CompleteLine, Descriptor, RootLine, WalkLine, Purpose, Line, Outcome, Step, handle_of, key_of, opens_handle, when_found, State, word_at, new_try}
+use Rattle.proof_generations.specs.Vocabulary.{flag_in, read_action, read_step, is_plain, complete_after, complete_action, key_after, key_after_read, key_after_main, key_after_entry, after_tomb}
+use Rattle.proof_generations.specs.Vocabulary.{after_listed, after_sibling, found, found_so, absent, absent_beside, absent_listed, copy_action, copy_after, copy_after_read, copy_after_made}
+use Rattle.proof_generations.specs.Vocabulary.{copy_if_made, copy_after_complete, after_successor, after_given, after_offer, offering, copied_reply, line_action, line_after, first_line, after_root}
+use Rattle.proof_generations.specs.Vocabulary.{operation_after, attempt_after, Moves}
+use Rattle.proof_generations.specs.Beneath.machine_model.specs.declared.reading.After.TheVariants.{Goes as Continues}
 use Rattle.proof_generations.specs.Beneath.machine_model.specs.declared.finding.KeyLine.TheVariants as key
-use Rattle.proof_generations.specs.Beneath.machine_model.specs.declared.finding.WhenFound.{WhenFound}
-use Rattle.proof_generations.specs.Beneath.machine_model.specs.declared.repairs.RenewLine.{RenewLine}
-use Rattle.proof_generations.specs.Beneath.machine_model.specs.declared.repairs.CleanLine.{CleanLine}
-use Rattle.proof_generations.specs.Beneath.machine_model.specs.declared.repairs.ClimbLine.{ClimbLine}
-use Rattle.proof_generations.specs.Beneath.machine_model.specs.declared.copying.CopyLine.{CopyLine}
 use Rattle.proof_generations.specs.Beneath.machine_model.specs.declared.copying.CopyLine.TheVariants as copy
-use Rattle.proof_generations.specs.Beneath.machine_model.specs.declared.roots.Complete.{Complete}
 use Rattle.proof_generations.specs.Beneath.machine_model.specs.declared.roots.CompleteLine.TheVariants as complete
-use Rattle.proof_generations.specs.Beneath.machine_model.specs.declared.roots.CompleteLine.{CompleteLine}
-use Rattle.proof_generations.specs.Beneath.machine_model.specs.declared.roots.Descriptor.{Descriptor}
-use Rattle.proof_generations.specs.Beneath.machine_model.specs.declared.roots.RootLine.{RootLine}
-use Rattle.proof_generations.specs.Beneath.machine_model.specs.declared.walking.WalkLine.{WalkLine}
-use Rattle.proof_generations.specs.Beneath.machine_model.specs.declared.lines.Purpose.{Purpose}
-use Rattle.proof_generations.specs.Beneath.machine_model.specs.declared.lines.Line.{Line}
 use Rattle.proof_generations.specs.Beneath.machine_model.specs.declared.lines.Line.TheVariants as line
-use Rattle.proof_generations.specs.Beneath.machine_model.specs.declared.steps.Outcome.{Outcome}
-use Rattle.proof_generations.specs.Beneath.machine_model.specs.declared.steps.Step.{Step}
-use Rattle.proof_generations.specs.Beneath.machine_model.specs.Calls.{handle_of, key_of, opens_handle, when_found}
-use Rattle.proof_generations.specs.Beneath.machine_model.specs.States.{State, word_at}
-use Rattle.proof_generations.specs.Beneath.machine_model.specs.Lines.{new_try}
-use Rattle.proof_generations.specs.Beneath.machine_model.specs.Paths.{flag_in}
-use Rattle.proof_generations.specs.Beneath.machine_model.specs.Reading.{read_action, read_step}
-use Rattle.proof_generations.specs.Beneath.machine_model.specs.Swapping.{is_plain, complete_after, complete_action}
-use Rattle.proof_generations.specs.Beneath.machine_model.specs.Finding.{key_after, key_after_read, key_after_main, key_after_entry, after_tomb, after_listed, after_sibling, found}
-use Rattle.proof_generations.specs.Beneath.machine_model.specs.Finding.{found_so, absent, absent_beside, absent_listed}
-use Rattle.proof_generations.specs.Beneath.machine_model.specs.Copying.{copy_action, copy_after, copy_after_read, copy_after_made, copy_if_made, copy_after_complete}
-use Rattle.proof_generations.specs.Beneath.machine_model.specs.Copying.{after_successor, after_given, after_offer, offering, copied_reply}
-use Rattle.proof_generations.specs.Beneath.machine_model.specs.Operations.{line_action, line_after, first_line, from_root, after_root}
-use Rattle.proof_generations.specs.Beneath.machine_model.specs.Acting.{operation_after, attempt_after}
-use Rattle.proof_generations.specs.Beneath.machine_model.specs.Moves.{Moves}
+use Rattle.proof_generations.specs.Beneath.machine_model.specs.Operations.{from_root}
 use Rattle.proof_generations.specs.Beneath.machine_model.proofs.Actors.{mark_one, mark_only}
 use Rattle.proof_generations.proofs.Handles.Running.{Comes, began, rested, went, comes}
 use Rattle.proof_generations.specs.Running.{Runs}

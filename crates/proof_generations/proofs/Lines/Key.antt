@@ -3,25 +3,10 @@ use Rattle.std.proofs.Common.{◌≡◌, ℕ, ◌+◌, ◌==◌, ◌&&◌, nat_l
 use Rattle.std.specs.List.{All}
 use Rattle.std.proofs.lemmas.Bool.{cond_both}
 use Rattle.std.proofs.lemmas.List.Elements.{All-nil}
-use Rattle.proof_generations.specs.Beneath.history.specs.declared.calls.Access.TheVariants.{Writable}
-use Rattle.proof_generations.specs.Beneath.slot_arena.specs.declared.refs.Ref.{Ref}
-use Rattle.proof_generations.specs.Beneath.slot_arena.specs.declared.nodes.Node.{Node}
-use Rattle.proof_generations.specs.Beneath.slot_arena.specs.declared.nodes.Node.TheVariants.{Indirection, Branch, Single, Tomb, List as Listed}
-use Rattle.proof_generations.specs.Beneath.slot_arena.specs.Heaps.{node_at, entry_at, entries_of}
-use Rattle.proof_generations.specs.Beneath.nodes.specs.Levels.{has_flag}
-use Rattle.proof_generations.specs.Beneath.machine_model.specs.declared.operations.Operation.{Operation}
-use Rattle.proof_generations.specs.Beneath.machine_model.specs.declared.reading.After.{After}
-use Rattle.proof_generations.specs.Beneath.machine_model.specs.declared.reading.After.TheVariants.{Goes, Gives}
-use Rattle.proof_generations.specs.Beneath.machine_model.specs.declared.reading.Read.{Read}
-use Rattle.proof_generations.specs.Beneath.machine_model.specs.declared.finding.WhenFound.{WhenFound}
-use Rattle.proof_generations.specs.Beneath.machine_model.specs.declared.finding.WhenFound.TheVariants.{Answers, Sets, Removes}
-use Rattle.proof_generations.specs.Beneath.machine_model.specs.declared.lines.Line.{Line}
-use Rattle.proof_generations.specs.Beneath.machine_model.specs.Calls.{when_found, inserts, key_of}
-use Rattle.proof_generations.specs.Beneath.machine_model.specs.States.{State}
-use Rattle.proof_generations.specs.Beneath.machine_model.specs.Paths.{flag_in, is_start}
-use Rattle.proof_generations.specs.Beneath.machine_model.specs.Finding.{key_after_read, key_after_main, key_after_entry, after_listed, after_sibling, absent}
-use Rattle.proof_generations.specs.Beneath.machine_model.specs.Finding.{absent_beside, absent_listed, found_so, passes}
-use Rattle.proof_generations.specs.Beneath.machine_model.specs.Renewing.{renew_next}
+use Rattle.proof_generations.specs.Vocabulary.{Writable, Ref, Node, Indirection, Branch, Single, Tomb, List as Listed, node_at, entry_at, entries_of, has_flag, Operation, After, Gives, Read}
+use Rattle.proof_generations.specs.Vocabulary.{WhenFound, Answers, Sets, Removes, Line, when_found, inserts, key_of, State, flag_in, is_start, key_after_read, key_after_main, key_after_entry}
+use Rattle.proof_generations.specs.Vocabulary.{after_listed, after_sibling, absent, absent_beside, absent_listed, found_so, passes, renew_next}
+use Rattle.proof_generations.specs.Beneath.machine_model.specs.declared.reading.After.TheVariants.{Goes}
 use Rattle.proof_generations.proofs.Lines.Knows.{OwnPath, Knows, FallsOn, own_current, own_above, own_pushed}
 use Rattle.proof_generations.specs.Beneath.proof_contents.proofs.Lines.Coming.{tomb_comes, removing_comes}
 

@@ -5,32 +5,16 @@ use Rattle.std.specs.List.{All}
 use Rattle.std.proofs.lemmas.Bool.{false≢true}
 use Rattle.std.proofs.lemmas.Option.{none-some, same_Some}
 use Rattle.std.proofs.lemmas.List.Elements.{All-take, All-set, All-nil}
-use Rattle.proof_generations.specs.Beneath.slot_arena.specs.declared.refs.Ref.{Ref}
-use Rattle.proof_generations.specs.Beneath.slot_arena.specs.declared.nodes.Node.{Node}
-use Rattle.proof_generations.specs.Beneath.slot_arena.specs.declared.nodes.Node.TheVariants.{Indirection}
-use Rattle.proof_generations.specs.Beneath.slot_arena.specs.Heaps.{node_at, entries_of, bitmap_of}
+use Rattle.proof_generations.specs.Vocabulary.{Ref, Node, Indirection, node_at, entries_of, bitmap_of, BuildLine, Change, CopyLine, Line, Operation, Read, CleanLine, ClimbLine, RenewLine, State}
+use Rattle.proof_generations.specs.Vocabulary.{flag_in, is_below_root, above, start_of, leaves_single, place_in, line_action}
 use Rattle.proof_generations.specs.Beneath.machine_model.specs.declared.actions.Action.TheVariants as act
-use Rattle.proof_generations.specs.Beneath.machine_model.specs.declared.building.BuildLine.{BuildLine}
 use Rattle.proof_generations.specs.Beneath.machine_model.specs.declared.building.BuildLine.TheVariants as build
-use Rattle.proof_generations.specs.Beneath.machine_model.specs.declared.building.Change.{Change}
 use Rattle.proof_generations.specs.Beneath.machine_model.specs.declared.building.Change.TheVariants as change
-use Rattle.proof_generations.specs.Beneath.machine_model.specs.declared.copying.CopyLine.{CopyLine}
 use Rattle.proof_generations.specs.Beneath.machine_model.specs.declared.copying.CopyLine.TheVariants as copy
-use Rattle.proof_generations.specs.Beneath.machine_model.specs.declared.lines.Line.{Line}
 use Rattle.proof_generations.specs.Beneath.machine_model.specs.declared.lines.Line.TheVariants as line
-use Rattle.proof_generations.specs.Beneath.machine_model.specs.declared.operations.Operation.{Operation}
-use Rattle.proof_generations.specs.Beneath.machine_model.specs.declared.reading.Read.{Read}
-use Rattle.proof_generations.specs.Beneath.machine_model.specs.declared.repairs.CleanLine.{CleanLine}
 use Rattle.proof_generations.specs.Beneath.machine_model.specs.declared.repairs.CleanLine.TheVariants as clean
-use Rattle.proof_generations.specs.Beneath.machine_model.specs.declared.repairs.ClimbLine.{ClimbLine}
 use Rattle.proof_generations.specs.Beneath.machine_model.specs.declared.repairs.ClimbLine.TheVariants as climb
-use Rattle.proof_generations.specs.Beneath.machine_model.specs.declared.repairs.RenewLine.{RenewLine}
 use Rattle.proof_generations.specs.Beneath.machine_model.specs.declared.repairs.RenewLine.TheVariants as renew
-use Rattle.proof_generations.specs.Beneath.machine_model.specs.States.{State}
-use Rattle.proof_generations.specs.Beneath.machine_model.specs.Paths.{flag_in, is_below_root, above, start_of}
-use Rattle.proof_generations.specs.Beneath.machine_model.specs.Cleaning.{leaves_single}
-use Rattle.proof_generations.specs.Beneath.machine_model.specs.Climbing.{place_in}
-use Rattle.proof_generations.specs.Beneath.machine_model.specs.Operations.{line_action}
 use Rattle.proof_generations.specs.Beneath.proof_memory.specs.Wants.{ASingle, meets, AllHold, line_wants, change_wants}
 use Rattle.proof_generations.specs.Beneath.proof_memory.proofs.Claims.Uses.{safe_of, meets_of, entry_of}
 use Rattle.proof_generations.specs.Beneath.proof_memory.proofs.Lines.Next.{pair_no_link, contracted_no_link, changed_no_link}

@@ -1,51 +1,21 @@
 -- Which offers a line is to settle, and where it has them from.
 use Rattle.std.proofs.Common.{◌≡◌, ℕ, ◌+◌, ◌-◌, ◌==◌, ◌&&◌, nat_lt, nat_le, cond, length, ◌⊎◌, Bool, true, false, List, Option, Some, None, refl, sym, ◌∙◌, arith}
 use Rattle.std.proofs.lemmas.Option.{none-some}
-use Rattle.proof_generations.specs.Beneath.history.specs.declared.calls.Access.{Access}
-use Rattle.proof_generations.specs.Beneath.slot_arena.specs.declared.refs.Ref.{Ref}
-use Rattle.proof_generations.specs.Beneath.slot_arena.specs.Heaps.{Heap, node_at, entry_at, entries_of}
-use Rattle.proof_generations.specs.Beneath.machine_model.specs.declared.operations.Operation.{Operation}
-use Rattle.proof_generations.specs.Beneath.machine_model.specs.declared.roots.RootWord.{RootWord}
-use Rattle.proof_generations.specs.Beneath.machine_model.specs.declared.roots.RootWord.TheVariants.{Offer}
-use Rattle.proof_generations.specs.Beneath.machine_model.specs.declared.roots.Descriptor.{Descriptor}
-use Rattle.proof_generations.specs.Beneath.machine_model.specs.declared.roots.Complete.{Complete}
-use Rattle.proof_generations.specs.Beneath.machine_model.specs.declared.roots.RootLine.{RootLine}
+use Rattle.proof_generations.specs.Vocabulary.{Access, Ref, Heap, node_at, entry_at, entries_of, Operation, RootWord, Offer, Descriptor, Complete, RootLine, After, Gives, Read, ReadLine, Swap}
+use Rattle.proof_generations.specs.Vocabulary.{Purpose, KeyLine, WhenFound, Node, Single, Branch, Tomb, has_flag, position_of, flag_in, key_after_read, key_after_entry, after_listed, after_sibling}
+use Rattle.proof_generations.specs.Vocabulary.{after_tomb, absent, key_after_main, found, found_so, absent_beside, absent_listed, BuildLine, RenewLine, CleanLine, ClimbLine, CopyLine, WalkLine}
+use Rattle.proof_generations.specs.Vocabulary.{Line, handle_of, when_found, inserts, absent_reply, key_of, State, word_at, read_after, read_step, line_action, line_after, read_of}
 use Rattle.proof_generations.specs.Beneath.machine_model.specs.declared.roots.RootLine.TheVariants as root
-use Rattle.proof_generations.specs.Beneath.machine_model.specs.declared.reading.After.{After}
-use Rattle.proof_generations.specs.Beneath.machine_model.specs.declared.reading.After.TheVariants.{Goes, Gives}
-use Rattle.proof_generations.specs.Beneath.machine_model.specs.declared.reading.Read.{Read}
-use Rattle.proof_generations.specs.Beneath.machine_model.specs.declared.reading.ReadLine.{ReadLine}
+use Rattle.proof_generations.specs.Beneath.machine_model.specs.declared.reading.After.TheVariants.{Goes}
 use Rattle.proof_generations.specs.Beneath.machine_model.specs.declared.reading.ReadLine.TheVariants as read
-use Rattle.proof_generations.specs.Beneath.machine_model.specs.declared.reading.Swap.{Swap}
-use Rattle.proof_generations.specs.Beneath.machine_model.specs.declared.lines.Purpose.{Purpose}
-use Rattle.proof_generations.specs.Beneath.machine_model.specs.declared.finding.KeyLine.{KeyLine}
 use Rattle.proof_generations.specs.Beneath.machine_model.specs.declared.finding.KeyLine.TheVariants as key
-use Rattle.proof_generations.specs.Beneath.machine_model.specs.declared.finding.WhenFound.{WhenFound}
 use Rattle.proof_generations.specs.Beneath.machine_model.specs.declared.building.Site.TheVariants as site
 use Rattle.proof_generations.specs.Beneath.machine_model.specs.declared.building.BuildLine.TheVariants as build
 use Rattle.proof_generations.specs.Beneath.history.specs.declared.replies.Reply.TheVariants as reply
-use Rattle.proof_generations.specs.Beneath.slot_arena.specs.declared.nodes.Node.{Node}
-use Rattle.proof_generations.specs.Beneath.slot_arena.specs.declared.nodes.Node.TheVariants.{Single, Branch, Tomb}
-use Rattle.proof_generations.specs.Beneath.nodes.specs.Levels.{has_flag}
-use Rattle.proof_generations.specs.Beneath.ctrie_base.specs.Paths.{position_of}
-use Rattle.proof_generations.specs.Beneath.machine_model.specs.Paths.{flag_in}
-use Rattle.proof_generations.specs.Beneath.machine_model.specs.Finding.{key_after_read, key_after_entry, after_listed, after_sibling, after_tomb, absent, key_after_main, found}
-use Rattle.proof_generations.specs.Beneath.machine_model.specs.Finding.{found_so, absent_beside, absent_listed}
-use Rattle.proof_generations.specs.Beneath.machine_model.specs.declared.building.BuildLine.{BuildLine}
-use Rattle.proof_generations.specs.Beneath.machine_model.specs.declared.repairs.RenewLine.{RenewLine}
-use Rattle.proof_generations.specs.Beneath.machine_model.specs.declared.repairs.CleanLine.{CleanLine}
 use Rattle.proof_generations.specs.Beneath.machine_model.specs.declared.repairs.CleanLine.TheVariants as clean
-use Rattle.proof_generations.specs.Beneath.machine_model.specs.declared.repairs.ClimbLine.{ClimbLine}
 use Rattle.proof_generations.specs.Beneath.machine_model.specs.declared.repairs.ClimbLine.TheVariants as climb
-use Rattle.proof_generations.specs.Beneath.machine_model.specs.declared.copying.CopyLine.{CopyLine}
 use Rattle.proof_generations.specs.Beneath.machine_model.specs.declared.copying.CopyLine.TheVariants as copy
-use Rattle.proof_generations.specs.Beneath.machine_model.specs.declared.walking.WalkLine.{WalkLine}
-use Rattle.proof_generations.specs.Beneath.machine_model.specs.declared.lines.Line.{Line}
 use Rattle.proof_generations.specs.Beneath.machine_model.specs.declared.lines.Line.TheVariants as line
-use Rattle.proof_generations.specs.Beneath.machine_model.specs.Calls.{handle_of, when_found, inserts, absent_reply, key_of}
-use Rattle.proof_generations.specs.Beneath.machine_model.specs.States.{State, word_at}
-use Rattle.proof_generations.specs.Beneath.machine_model.specs.Reading.{read_after, read_step}
-use Rattle.proof_generations.specs.Beneath.machine_model.specs.Operations.{line_action, line_after, read_of}
 use Rattle.proof_generations.specs.Laws.Roots.{settles}
 use Rattle.proof_generations.specs.Beneath.proof_contents.proofs.Lines.Coming.{tomb_comes}
 

@@ -2,32 +2,16 @@
 use Rattle.std.proofs.Common.{◌≡◌, ℕ, ◌-◌, true, List, length, Some, sym, ap, subst, ltb-true}
 use Rattle.std.specs.List.{All}
 use Rattle.std.proofs.lemmas.List.Elements.{All-get_or}
-use Rattle.proof_generations.specs.Beneath.history.specs.declared.calls.Access.TheVariants.{Writable}
-use Rattle.proof_generations.specs.Beneath.slot_arena.specs.declared.refs.Ref.{Ref}
-use Rattle.proof_generations.specs.Beneath.slot_arena.specs.declared.nodes.Node.TheVariants.{Indirection}
-use Rattle.proof_generations.specs.Beneath.slot_arena.specs.Heaps.{node_at, entry_at, entries_of, next_ref, no_ref}
-use Rattle.proof_generations.specs.Beneath.machine_model.specs.declared.copying.CopyLine.{CopyLine}
+use Rattle.proof_generations.specs.Vocabulary.{Writable, Ref, Indirection, node_at, entry_at, entries_of, next_ref, no_ref, CopyLine, KeyLine, Line, Operation, Gives, Read, CleanLine, ClimbLine}
+use Rattle.proof_generations.specs.Vocabulary.{RenewLine, handle_of, State, word_at, is_start, read_step, reading, next_entry, is_plain, after_complete, root_after, line_action, line_after}
 use Rattle.proof_generations.specs.Beneath.machine_model.specs.declared.copying.CopyLine.TheVariants as copy
-use Rattle.proof_generations.specs.Beneath.machine_model.specs.declared.finding.KeyLine.{KeyLine}
 use Rattle.proof_generations.specs.Beneath.machine_model.specs.declared.finding.KeyLine.TheVariants as key
-use Rattle.proof_generations.specs.Beneath.machine_model.specs.declared.lines.Line.{Line}
 use Rattle.proof_generations.specs.Beneath.machine_model.specs.declared.lines.Line.TheVariants as line
-use Rattle.proof_generations.specs.Beneath.machine_model.specs.declared.operations.Operation.{Operation}
-use Rattle.proof_generations.specs.Beneath.machine_model.specs.declared.reading.After.TheVariants.{Goes, Gives}
-use Rattle.proof_generations.specs.Beneath.machine_model.specs.declared.reading.Read.{Read}
-use Rattle.proof_generations.specs.Beneath.machine_model.specs.declared.repairs.CleanLine.{CleanLine}
+use Rattle.proof_generations.specs.Beneath.machine_model.specs.declared.reading.After.TheVariants.{Goes}
 use Rattle.proof_generations.specs.Beneath.machine_model.specs.declared.repairs.CleanLine.TheVariants as clean
-use Rattle.proof_generations.specs.Beneath.machine_model.specs.declared.repairs.ClimbLine.{ClimbLine}
 use Rattle.proof_generations.specs.Beneath.machine_model.specs.declared.repairs.ClimbLine.TheVariants as climb
-use Rattle.proof_generations.specs.Beneath.machine_model.specs.declared.repairs.RenewLine.{RenewLine}
 use Rattle.proof_generations.specs.Beneath.machine_model.specs.declared.repairs.RenewLine.TheVariants as renew
-use Rattle.proof_generations.specs.Beneath.machine_model.specs.Calls.{handle_of}
-use Rattle.proof_generations.specs.Beneath.machine_model.specs.States.{State, word_at}
-use Rattle.proof_generations.specs.Beneath.machine_model.specs.Paths.{is_start}
-use Rattle.proof_generations.specs.Beneath.machine_model.specs.Reading.{read_step, reading}
-use Rattle.proof_generations.specs.Beneath.machine_model.specs.Renewing.{next_entry}
-use Rattle.proof_generations.specs.Beneath.machine_model.specs.Swapping.{is_plain, after_swap, after_complete, root_after}
-use Rattle.proof_generations.specs.Beneath.machine_model.specs.Operations.{line_action, line_after}
+use Rattle.proof_generations.specs.Beneath.machine_model.specs.Swapping.{after_swap}
 use Rattle.proof_generations.specs.Beneath.proof_memory.specs.Wants.{WithEntry, Is, Holds, AllHold, line_wants, action_wants}
 use Rattle.proof_generations.specs.Beneath.proof_memory.proofs.Claims.Uses.{safe_of, meets_of}
 use Rattle.proof_commits.specs.Protocol.{Reads}

@@ -2,19 +2,14 @@
 use Rattle.std.proofs.Common.{◌≡◌, ℕ, suc, ◌<◌, true, Some, inl, inr, refl, sym, ap, ◌∙◌, subst, arith}
 use Rattle.std.proofs.lemmas.Option.{same_Some}
 use Rattle.std.specs.List.{All}
-use Rattle.proof_generations.specs.Beneath.slot_arena.specs.declared.nodes.Node.TheVariants.{Indirection}
-use Rattle.proof_generations.specs.Beneath.slot_arena.specs.Heaps.{entries_of}
-use Rattle.proof_generations.specs.Beneath.machine_model.specs.declared.building.BuildLine.{BuildLine}
+use Rattle.proof_generations.specs.Vocabulary.{Indirection, entries_of, BuildLine, CopyLine, CleanLine, ClimbLine, RenewLine, line_action, line_after, Writable, Ref, Node, node_at, next_ref, Line}
+use Rattle.proof_generations.specs.Vocabulary.{Operation, Bounds, Outcome, State, reading, action_of, generation_from, operation_after, Moves, GoesOn, IsRun, noted_progress, moment_at, progress_of}
+use Rattle.proof_generations.specs.Vocabulary.{Moment}
 use Rattle.proof_generations.specs.Beneath.machine_model.specs.declared.building.BuildLine.TheVariants as build
-use Rattle.proof_generations.specs.Beneath.machine_model.specs.declared.copying.CopyLine.{CopyLine}
 use Rattle.proof_generations.specs.Beneath.machine_model.specs.declared.copying.CopyLine.TheVariants as copy
-use Rattle.proof_generations.specs.Beneath.machine_model.specs.declared.repairs.CleanLine.{CleanLine}
 use Rattle.proof_generations.specs.Beneath.machine_model.specs.declared.repairs.CleanLine.TheVariants as clean
-use Rattle.proof_generations.specs.Beneath.machine_model.specs.declared.repairs.ClimbLine.{ClimbLine}
 use Rattle.proof_generations.specs.Beneath.machine_model.specs.declared.repairs.ClimbLine.TheVariants as climb
-use Rattle.proof_generations.specs.Beneath.machine_model.specs.declared.repairs.RenewLine.{RenewLine}
 use Rattle.proof_generations.specs.Beneath.machine_model.specs.declared.repairs.RenewLine.TheVariants as renew
-use Rattle.proof_generations.specs.Beneath.machine_model.specs.Operations.{line_action, line_after}
 use Rattle.proof_generations.specs.Beneath.proof_memory.specs.Wants.{ASingle, meets, AllHold, line_wants}
 use Rattle.proof_generations.specs.Beneath.proof_memory.proofs.Safety.AtTimes.{line_finds, action_finds}
 use Rattle.proof_generations.proofs.Falling.Nodes.{used_entries, used_single}
@@ -22,22 +17,8 @@ use Rattle.proof_generations.proofs.Lines.Knows.{Knows, knows_still}
 use Rattle.proof_generations.proofs.Lines.Own.{LineMakes, own_falls}
 use Rattle.proof_generations.proofs.Lines.Made.{NodeMade, node_made}
 use Rattle.proof_generations.proofs.Falling.Runs.{single_fits, falls_next}
-use Rattle.proof_generations.specs.Beneath.history.specs.declared.calls.Access.TheVariants.{Writable}
-use Rattle.proof_generations.specs.Beneath.slot_arena.specs.declared.refs.Ref.{Ref}
-use Rattle.proof_generations.specs.Beneath.slot_arena.specs.declared.nodes.Node.{Node}
-use Rattle.proof_generations.specs.Beneath.slot_arena.specs.Heaps.{node_at, next_ref}
-use Rattle.proof_generations.specs.Beneath.machine_model.specs.declared.lines.Line.{Line}
 use Rattle.proof_generations.specs.Beneath.machine_model.specs.declared.lines.Line.TheVariants as line
-use Rattle.proof_generations.specs.Beneath.machine_model.specs.declared.operations.Operation.{Operation}
-use Rattle.proof_generations.specs.Beneath.machine_model.specs.declared.steps.Bounds.{Bounds}
-use Rattle.proof_generations.specs.Beneath.machine_model.specs.declared.steps.Outcome.{Outcome}
 use Rattle.proof_generations.specs.Beneath.machine_model.specs.declared.steps.Step.TheVariants as step
-use Rattle.proof_generations.specs.Beneath.machine_model.specs.States.{State}
-use Rattle.proof_generations.specs.Beneath.machine_model.specs.Reading.{reading}
-use Rattle.proof_generations.specs.Beneath.machine_model.specs.Operations.{action_of, generation_from}
-use Rattle.proof_generations.specs.Beneath.machine_model.specs.Acting.{operation_after}
-use Rattle.proof_generations.specs.Beneath.machine_model.specs.Moves.{Moves, GoesOn}
-use Rattle.proof_generations.specs.Beneath.machine_model.specs.Times.{IsRun}
 use Rattle.proof_generations.specs.Beneath.proof_memory.specs.Laws.{IsInUse}
 use Rattle.proof_generations.specs.Beneath.proof_memory.proofs.Safety.AtEachTime.{safe_at}
 use Rattle.proof_generations.specs.Beneath.proof_memory.proofs.Safety.Steps.{made_fresh}
@@ -54,9 +35,6 @@ use Rattle.proof_generations.proofs.Lines.Own.{OwnStep}
 use Rattle.proof_generations.proofs.Falling.Runs.{gen_of, IsOwn, IsLink, FitsBelow, FallsBelow, LateBelow, MainsFall, own_fits, falls_below, entries_fit, fits_next}
 use Rattle.proof_generations.proofs.Falling.MainsNext.{inner_rooted}
 use Rattle.proof_generations.proofs.Falling.ReadsGive.{gone_is, given_stands, late_after}
-use Rattle.proof_generations.specs.Beneath.machine_model.specs.Records.{noted_progress, moment_at}
-use Rattle.proof_generations.specs.Beneath.machine_model.specs.Tellings.{progress_of}
-use Rattle.proof_generations.specs.Beneath.machine_model.specs.declared.records.Moment.{Moment}
 use Rattle.proof_generations.specs.Beneath.machine_model.proofs.Alike.{go_actor, not_denied}
 
 -- an inner line keeps the operation's generation

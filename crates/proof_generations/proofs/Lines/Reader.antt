@@ -3,40 +3,18 @@ use Rattle.std.proofs.Common.{◌≡◌, ℕ, ◌+◌, ◌==◌, ◌&&◌, nat_l
 use Rattle.std.specs.List.{All}
 use Rattle.std.proofs.lemmas.Bool.{cond_both, true≢false, false≢true}
 use Rattle.std.proofs.lemmas.List.Elements.{All-append, All-get_or, All-head, All-tail, All-nil, All-weaker}
-use Rattle.proof_generations.specs.Beneath.history.specs.declared.calls.Access.{Access}
-use Rattle.proof_generations.specs.Beneath.history.specs.declared.calls.Access.TheVariants.{Writable, ReadOnly}
-use Rattle.proof_generations.specs.Beneath.history.specs.declared.calls.Call.{Call}
-use Rattle.proof_generations.specs.Beneath.history.specs.declared.calls.Call.TheVariants.{Clear, Snapshot, Freeze}
+use Rattle.proof_generations.specs.Vocabulary.{Access, Writable, ReadOnly, Call, Clear, Snapshot, Freeze, Ref, Node, Indirection, Branch, Single, Tomb, List as Listed, node_at, entry_at, entries_of}
+use Rattle.proof_generations.specs.Vocabulary.{no_ref, has_flag, KeyLine, WhenFound, Answers, Sets, Removes, Line, Operation, After, Gives, Read, RootLine, RootWord, Plain, Offer, WalkLine}
+use Rattle.proof_generations.specs.Vocabulary.{handle_of, needs_writable, when_found, inserts, key_of, State, word_at, root_of, flag_in, is_start, read_step, reading, key_after_read, key_after_main}
+use Rattle.proof_generations.specs.Vocabulary.{after_tomb, key_after_entry, after_listed, absent, absent_beside, found_so, passes, after_root_word, walk_next, walk_after_read, walk_after_entry}
+use Rattle.proof_generations.specs.Vocabulary.{first_of, line_action, line_after, after_root}
 use Rattle.proof_generations.specs.Beneath.history.specs.declared.replies.Reply.TheVariants as reply
-use Rattle.proof_generations.specs.Beneath.slot_arena.specs.declared.refs.Ref.{Ref}
-use Rattle.proof_generations.specs.Beneath.slot_arena.specs.declared.nodes.Node.{Node}
-use Rattle.proof_generations.specs.Beneath.slot_arena.specs.declared.nodes.Node.TheVariants.{Indirection, Branch, Single, Tomb, List as Listed}
-use Rattle.proof_generations.specs.Beneath.slot_arena.specs.Heaps.{node_at, entry_at, entries_of, no_ref}
-use Rattle.proof_generations.specs.Beneath.nodes.specs.Levels.{has_flag}
-use Rattle.proof_generations.specs.Beneath.machine_model.specs.declared.finding.KeyLine.{KeyLine}
 use Rattle.proof_generations.specs.Beneath.machine_model.specs.declared.finding.KeyLine.TheVariants as key
-use Rattle.proof_generations.specs.Beneath.machine_model.specs.declared.finding.WhenFound.{WhenFound}
-use Rattle.proof_generations.specs.Beneath.machine_model.specs.declared.finding.WhenFound.TheVariants.{Answers, Sets, Removes}
-use Rattle.proof_generations.specs.Beneath.machine_model.specs.declared.lines.Line.{Line}
 use Rattle.proof_generations.specs.Beneath.machine_model.specs.declared.lines.Line.TheVariants as line
-use Rattle.proof_generations.specs.Beneath.machine_model.specs.declared.operations.Operation.{Operation}
-use Rattle.proof_generations.specs.Beneath.machine_model.specs.declared.reading.After.{After}
-use Rattle.proof_generations.specs.Beneath.machine_model.specs.declared.reading.After.TheVariants.{Goes, Gives}
-use Rattle.proof_generations.specs.Beneath.machine_model.specs.declared.reading.Read.{Read}
-use Rattle.proof_generations.specs.Beneath.machine_model.specs.declared.roots.RootLine.{RootLine}
+use Rattle.proof_generations.specs.Beneath.machine_model.specs.declared.reading.After.TheVariants.{Goes}
 use Rattle.proof_generations.specs.Beneath.machine_model.specs.declared.roots.RootLine.TheVariants as root
-use Rattle.proof_generations.specs.Beneath.machine_model.specs.declared.roots.RootWord.{RootWord}
-use Rattle.proof_generations.specs.Beneath.machine_model.specs.declared.roots.RootWord.TheVariants.{Plain, Offer}
-use Rattle.proof_generations.specs.Beneath.machine_model.specs.declared.walking.WalkLine.{WalkLine}
 use Rattle.proof_generations.specs.Beneath.machine_model.specs.declared.walking.WalkLine.TheVariants as walk
-use Rattle.proof_generations.specs.Beneath.machine_model.specs.Calls.{handle_of, needs_writable, when_found, inserts, key_of}
-use Rattle.proof_generations.specs.Beneath.machine_model.specs.States.{State, word_at, root_of}
-use Rattle.proof_generations.specs.Beneath.machine_model.specs.Paths.{flag_in, is_start}
-use Rattle.proof_generations.specs.Beneath.machine_model.specs.Reading.{read_step, reading}
-use Rattle.proof_generations.specs.Beneath.machine_model.specs.Finding.{key_after_read, key_after_main, after_tomb, key_after_entry, after_listed, absent, absent_beside, found_so, passes}
-use Rattle.proof_generations.specs.Beneath.machine_model.specs.Swapping.{after_root_word}
-use Rattle.proof_generations.specs.Beneath.machine_model.specs.Walking.{walk_next, walk_after_read, walk_after_entry, first_of}
-use Rattle.proof_generations.specs.Beneath.machine_model.specs.Operations.{line_action, line_after, from_root, after_root}
+use Rattle.proof_generations.specs.Beneath.machine_model.specs.Operations.{from_root}
 use Rattle.proof_commits.specs.Protocol.{Reads}
 use Rattle.proof_commits.specs.Stages.{stage_of}
 use Rattle.proof_generations.specs.Beneath.proof_memory.specs.Wants.{AllHold, line_wants, action_wants}

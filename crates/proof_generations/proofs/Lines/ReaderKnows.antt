@@ -1,27 +1,11 @@
 -- After its step an operation on a read-only handle knows of its new line what it knew of the one before.
 use Rattle.std.proofs.Common.{◌≡◌, ℕ, suc, ◌<◌, true, false, Some, inl, inr, refl, sym, ap, ◌∙◌, subst, arith}
 use Rattle.std.proofs.lemmas.Bool.{true≢false}
-use Rattle.proof_generations.specs.Beneath.history.specs.declared.calls.Access.TheVariants.{ReadOnly}
-use Rattle.proof_generations.specs.Beneath.slot_arena.specs.declared.refs.Ref.{Ref}
-use Rattle.proof_generations.specs.Beneath.slot_arena.specs.declared.nodes.Node.{Node}
-use Rattle.proof_generations.specs.Beneath.slot_arena.specs.declared.nodes.Node.TheVariants.{Indirection, Branch, Single, Tomb, List as Listed}
-use Rattle.proof_generations.specs.Beneath.slot_arena.specs.Heaps.{node_at}
-use Rattle.proof_generations.specs.Beneath.machine_model.specs.declared.lines.Line.{Line}
+use Rattle.proof_generations.specs.Vocabulary.{ReadOnly, Ref, Node, Indirection, Branch, Single, Tomb, List as Listed, node_at, Line, Operation, Root, RootWord, Plain, Offer, Bounds, Outcome}
+use Rattle.proof_generations.specs.Vocabulary.{handle_of, State, root_at, root_of, word_of, reading, action_of, line_action, line_after, operation_after, Moves, GoesOn, IsRun, noted_progress}
+use Rattle.proof_generations.specs.Vocabulary.{moment_at, progress_of, Moment, is_actor}
 use Rattle.proof_generations.specs.Beneath.machine_model.specs.declared.lines.Line.TheVariants as line
-use Rattle.proof_generations.specs.Beneath.machine_model.specs.declared.operations.Operation.{Operation}
-use Rattle.proof_generations.specs.Beneath.machine_model.specs.declared.roots.Root.{Root}
-use Rattle.proof_generations.specs.Beneath.machine_model.specs.declared.roots.RootWord.{RootWord}
-use Rattle.proof_generations.specs.Beneath.machine_model.specs.declared.roots.RootWord.TheVariants.{Plain, Offer}
-use Rattle.proof_generations.specs.Beneath.machine_model.specs.declared.steps.Bounds.{Bounds}
-use Rattle.proof_generations.specs.Beneath.machine_model.specs.declared.steps.Outcome.{Outcome}
 use Rattle.proof_generations.specs.Beneath.machine_model.specs.declared.steps.Step.TheVariants as step
-use Rattle.proof_generations.specs.Beneath.machine_model.specs.Calls.{handle_of}
-use Rattle.proof_generations.specs.Beneath.machine_model.specs.States.{State, root_at, root_of, word_of}
-use Rattle.proof_generations.specs.Beneath.machine_model.specs.Reading.{reading}
-use Rattle.proof_generations.specs.Beneath.machine_model.specs.Operations.{action_of, line_action, line_after}
-use Rattle.proof_generations.specs.Beneath.machine_model.specs.Acting.{operation_after}
-use Rattle.proof_generations.specs.Beneath.machine_model.specs.Moves.{Moves, GoesOn}
-use Rattle.proof_generations.specs.Beneath.machine_model.specs.Times.{IsRun}
 use Rattle.proof_generations.specs.Beneath.proof_memory.specs.Laws.{IsInUse, is_end}
 use Rattle.proof_generations.specs.Beneath.proof_memory.specs.Wants.{AnIndirection, meets, Is, Holds, AllHold, word_wants}
 use Rattle.proof_generations.specs.Beneath.proof_memory.proofs.Safety.AtEachTime.{safe_at}
@@ -38,10 +22,6 @@ use Rattle.proof_generations.proofs.Falling.Opened.{was_closed_next, was_closed_
 use Rattle.proof_generations.proofs.Lines.Reader.{KnowsReader, ReaderStep, reader_still, reader_falls}
 use Rattle.proof_generations.proofs.Falling.ReadsGive.{given_stands, late_after}
 use Rattle.proof_generations.proofs.Falling.Runs.{gen_of, IsLink, Ends, Shut, LateEnd, MainsFall, falls_shut, entries_end, ends_next, shut_next}
-use Rattle.proof_generations.specs.Beneath.machine_model.specs.Records.{noted_progress, moment_at}
-use Rattle.proof_generations.specs.Beneath.machine_model.specs.Tellings.{progress_of}
-use Rattle.proof_generations.specs.Beneath.machine_model.specs.declared.records.Moment.{Moment}
-use Rattle.proof_generations.specs.Beneath.machine_model.specs.Machine.{is_actor}
 use Rattle.proof_generations.specs.Beneath.machine_model.proofs.Alike.{go_actor, not_denied}
 
 pub going_on : (state : State) (operation : Operation) (l : Line) → GoesOn (line_action state operation l) → is_end l ≡ false

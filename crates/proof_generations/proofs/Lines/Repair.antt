@@ -4,20 +4,10 @@ use Rattle.std.specs.List.{All}
 use Rattle.std.proofs.lemmas.Bool.{cond_both}
 use Rattle.std.proofs.lemmas.List.Elements.{All-append, All-head, All-nil}
 use lib.Pointwise.{pointwise}
-use Rattle.proof_generations.specs.Beneath.slot_arena.specs.declared.refs.Ref.{Ref}
-use Rattle.proof_generations.specs.Beneath.slot_arena.specs.declared.nodes.Node.{Node}
-use Rattle.proof_generations.specs.Beneath.slot_arena.specs.declared.nodes.Node.TheVariants.{Indirection, Branch, Single, Tomb, List as Listed}
-use Rattle.proof_generations.specs.Beneath.slot_arena.specs.Heaps.{node_at, entries_of}
-use Rattle.proof_generations.specs.Beneath.machine_model.specs.declared.lines.Line.{Line}
-use Rattle.proof_generations.specs.Beneath.machine_model.specs.declared.operations.Operation.{Operation}
-use Rattle.proof_generations.specs.Beneath.machine_model.specs.declared.reading.After.{After}
-use Rattle.proof_generations.specs.Beneath.machine_model.specs.declared.reading.After.TheVariants.{Goes, Gives}
-use Rattle.proof_generations.specs.Beneath.machine_model.specs.declared.reading.Read.{Read}
-use Rattle.proof_generations.specs.Beneath.machine_model.specs.States.{State}
-use Rattle.proof_generations.specs.Beneath.machine_model.specs.Paths.{is_start}
-use Rattle.proof_generations.specs.Beneath.machine_model.specs.Reading.{reading}
-use Rattle.proof_generations.specs.Beneath.machine_model.specs.Renewing.{renew_next, next_entry, renew_after_entry, renew_after_read, renew_after_link, renew_after_branch}
-use Rattle.proof_generations.specs.Beneath.machine_model.specs.Cleaning.{clean_next, clean_after_read, clean_after_main, clean_after_entry, after_child, clean_after_tomb, clean_after_contracted}
+use Rattle.proof_generations.specs.Vocabulary.{Ref, Node, Indirection, Branch, Single, Tomb, List as Listed, node_at, entries_of, Line, Operation, After, Gives, Read, State, is_start, reading}
+use Rattle.proof_generations.specs.Vocabulary.{renew_next, next_entry, renew_after_entry, renew_after_read, renew_after_link, renew_after_branch, clean_next, clean_after_read, clean_after_main}
+use Rattle.proof_generations.specs.Vocabulary.{clean_after_entry, after_child, clean_after_tomb, clean_after_contracted}
+use Rattle.proof_generations.specs.Beneath.machine_model.specs.declared.reading.After.TheVariants.{Goes}
 use Rattle.proof_generations.proofs.Lines.Knows.{OwnPath, Knows, KnowsDone, FallsOn, one_of, own_current}
 use Rattle.proof_generations.proofs.Lines.Key.{renew_next_falls}
 

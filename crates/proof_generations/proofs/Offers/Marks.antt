@@ -2,31 +2,15 @@
 use Rattle.std.proofs.Common.{◌≡◌, ℕ, suc, ◌==◌, ◌||◌, Bool, true, false, cond, Option, Some, None, refl, sym, ap, ◌∙◌, inl, inr, eqb-true, eq-eqb, arith}
 use Rattle.std.proofs.lemmas.Bool.{true≢false, false≢true, and_parts, cases_Bool, or_left, or_right}
 use Rattle.std.proofs.lemmas.Option.{none-some, same_Some}
-use Rattle.proof_generations.specs.Beneath.slot_arena.specs.declared.refs.Ref.{Ref}
-use Rattle.proof_generations.specs.Beneath.machine_model.specs.declared.actions.Action.{Action}
+use Rattle.proof_generations.specs.Vocabulary.{Ref, Action, Line, Operation, After, Gives, Complete, CompleteLine, Descriptor, Offer, Outcome, Step, handle_of, State, word_at, operation_of, new_try}
+use Rattle.proof_generations.specs.Vocabulary.{is_carried_out, stands_in, complete_action, of_offer, after_complete, after_reading, copy_after_complete, copied_reply, action_of, line_action}
+use Rattle.proof_generations.specs.Vocabulary.{line_after, operation_after, mark_after, Moves, GoesOn}
 use Rattle.proof_generations.specs.Beneath.machine_model.specs.declared.actions.Action.TheVariants as act
 use Rattle.proof_generations.specs.Beneath.machine_model.specs.declared.copying.CopyLine.TheVariants as copy
-use Rattle.proof_generations.specs.Beneath.machine_model.specs.declared.lines.Line.{Line}
 use Rattle.proof_generations.specs.Beneath.machine_model.specs.declared.lines.Line.TheVariants as line
-use Rattle.proof_generations.specs.Beneath.machine_model.specs.declared.operations.Operation.{Operation}
-use Rattle.proof_generations.specs.Beneath.machine_model.specs.declared.reading.After.{After}
-use Rattle.proof_generations.specs.Beneath.machine_model.specs.declared.reading.After.TheVariants.{Goes as Continues, Gives}
-use Rattle.proof_generations.specs.Beneath.machine_model.specs.declared.roots.Complete.{Complete}
-use Rattle.proof_generations.specs.Beneath.machine_model.specs.declared.roots.CompleteLine.{CompleteLine}
+use Rattle.proof_generations.specs.Beneath.machine_model.specs.declared.reading.After.TheVariants.{Goes as Continues}
 use Rattle.proof_generations.specs.Beneath.machine_model.specs.declared.roots.CompleteLine.TheVariants as complete
-use Rattle.proof_generations.specs.Beneath.machine_model.specs.declared.roots.Descriptor.{Descriptor}
-use Rattle.proof_generations.specs.Beneath.machine_model.specs.declared.roots.RootWord.TheVariants.{Offer}
-use Rattle.proof_generations.specs.Beneath.machine_model.specs.declared.steps.Outcome.{Outcome}
-use Rattle.proof_generations.specs.Beneath.machine_model.specs.declared.steps.Step.{Step}
 use Rattle.proof_generations.specs.Beneath.machine_model.specs.declared.steps.Step.TheVariants as step
-use Rattle.proof_generations.specs.Beneath.machine_model.specs.Calls.{handle_of}
-use Rattle.proof_generations.specs.Beneath.machine_model.specs.States.{State, word_at, operation_of}
-use Rattle.proof_generations.specs.Beneath.machine_model.specs.Lines.{new_try}
-use Rattle.proof_generations.specs.Beneath.machine_model.specs.Swapping.{is_carried_out, stands_in, complete_action, of_offer, after_complete, after_reading}
-use Rattle.proof_generations.specs.Beneath.machine_model.specs.Copying.{copy_after_complete, copied_reply}
-use Rattle.proof_generations.specs.Beneath.machine_model.specs.Operations.{action_of, line_action, line_after}
-use Rattle.proof_generations.specs.Beneath.machine_model.specs.Acting.{operation_after, mark_after}
-use Rattle.proof_generations.specs.Beneath.machine_model.specs.Moves.{Moves, GoesOn}
 use Rattle.proof_generations.specs.Beneath.machine_model.proofs.Actors.{mark_one, mark_only, marks_in, marks_by, marks_of}
 use Rattle.proof_generations.proofs.Handles.Running.{Comes, began, rested, went, comes}
 use Rattle.proof_generations.specs.Running.{Runs}

@@ -2,40 +2,18 @@
 use Rattle.std.proofs.Common.{◌≡◌, ℕ, ◌+◌, ◌<◌, ◌≤◌, ◌||◌, Bool, true, false, cond, inl, inr, ◌⊎◌, Option, Some, refl, sym, ap, ◌∙◌, subst, arith}
 use Rattle.std.proofs.lemmas.Bool.{false≢true}
 use Rattle.std.proofs.lemmas.Option.{none-some, same_Some}
-use Rattle.proof_generations.specs.Beneath.history.specs.declared.calls.Call.{Call}
-use Rattle.proof_generations.specs.Beneath.history.specs.declared.calls.Call.TheVariants.{Clear, Snapshot, Freeze, Close, Entries, Count}
-use Rattle.proof_generations.specs.Beneath.slot_arena.specs.declared.refs.Ref.{Ref}
-use Rattle.proof_generations.specs.Beneath.slot_arena.specs.Heaps.{next_ref}
-use Rattle.proof_generations.specs.Beneath.machine_model.specs.declared.actions.Action.{Action}
+use Rattle.proof_generations.specs.Vocabulary.{Call, Clear, Snapshot, Freeze, Close, Entries, Count, Ref, next_ref, Action, CopyLine, Line, Operation, After, Gives, Read, Complete, Descriptor}
+use Rattle.proof_generations.specs.Vocabulary.{RootLine, Offer, Bounds, Outcome, Step, handle_of, State, first_state, word_at, operation_of, new_try, read_step, is_plain, stands_in, complete_after}
+use Rattle.proof_generations.specs.Vocabulary.{root_after, copy_after_read, copy_if_made, after_given, after_offer, copy_after_complete, copied_reply, action_of, line_action, line_after, first_line}
+use Rattle.proof_generations.specs.Vocabulary.{after_root, operation_after, attempt_after, Moves, IsRun}
 use Rattle.proof_generations.specs.Beneath.machine_model.specs.declared.actions.Action.TheVariants as act
-use Rattle.proof_generations.specs.Beneath.machine_model.specs.declared.copying.CopyLine.{CopyLine}
 use Rattle.proof_generations.specs.Beneath.machine_model.specs.declared.copying.CopyLine.TheVariants as copy
-use Rattle.proof_generations.specs.Beneath.machine_model.specs.declared.lines.Line.{Line}
 use Rattle.proof_generations.specs.Beneath.machine_model.specs.declared.lines.Line.TheVariants as line
-use Rattle.proof_generations.specs.Beneath.machine_model.specs.declared.operations.Operation.{Operation}
-use Rattle.proof_generations.specs.Beneath.machine_model.specs.declared.reading.After.{After}
-use Rattle.proof_generations.specs.Beneath.machine_model.specs.declared.reading.After.TheVariants.{Goes as Continues, Gives}
-use Rattle.proof_generations.specs.Beneath.machine_model.specs.declared.reading.Read.{Read}
-use Rattle.proof_generations.specs.Beneath.machine_model.specs.declared.roots.Complete.{Complete}
-use Rattle.proof_generations.specs.Beneath.machine_model.specs.declared.roots.Descriptor.{Descriptor}
-use Rattle.proof_generations.specs.Beneath.machine_model.specs.declared.roots.RootLine.{RootLine}
-use Rattle.proof_generations.specs.Beneath.machine_model.specs.declared.roots.RootWord.TheVariants.{Offer}
-use Rattle.proof_generations.specs.Beneath.machine_model.specs.declared.steps.Bounds.{Bounds}
-use Rattle.proof_generations.specs.Beneath.machine_model.specs.declared.steps.Outcome.{Outcome}
-use Rattle.proof_generations.specs.Beneath.machine_model.specs.declared.steps.Step.{Step}
-use Rattle.proof_generations.specs.Beneath.machine_model.specs.Calls.{handle_of}
-use Rattle.proof_generations.specs.Beneath.machine_model.specs.States.{State, first_state, word_at, operation_of}
-use Rattle.proof_generations.specs.Beneath.machine_model.specs.Lines.{new_try}
-use Rattle.proof_generations.specs.Beneath.machine_model.specs.Reading.{read_step}
-use Rattle.proof_generations.specs.Beneath.machine_model.specs.Swapping.{is_plain, stands_in, complete_after, root_after}
-use Rattle.proof_generations.specs.Beneath.machine_model.specs.Copying.{copy_after_read, copy_if_made, after_given, after_offer, copy_after_complete, copied_reply}
-use Rattle.proof_generations.specs.Beneath.machine_model.specs.Operations.{action_of, line_action, line_after, first_line, from_root, after_root}
-use Rattle.proof_generations.specs.Beneath.machine_model.specs.Acting.{operation_after, attempt_after}
-use Rattle.proof_generations.specs.Beneath.machine_model.specs.Moves.{Moves}
+use Rattle.proof_generations.specs.Beneath.machine_model.specs.declared.reading.After.TheVariants.{Goes as Continues}
+use Rattle.proof_generations.specs.Beneath.machine_model.specs.Operations.{from_root}
 use Rattle.proof_generations.specs.Beneath.machine_model.proofs.Found.{none_found}
 use Rattle.proof_generations.specs.Beneath.machine_model.proofs.Actors.{mark_only, marks_in}
 use Rattle.proof_generations.specs.Beneath.machine_model.proofs.Times.{at_each_time}
-use Rattle.proof_generations.specs.Beneath.machine_model.specs.Times.{IsRun}
 use Rattle.proof_generations.proofs.Handles.Running.{Comes, began, rested, went, comes, place_of_actor}
 use Rattle.proof_generations.specs.Running.{Runs}
 use Rattle.proof_generations.proofs.Handles.Ids.{HasIds, one_of_id, begun_kept, ids_after, ids_at_first}

@@ -4,40 +4,18 @@ use Rattle.std.proofs.Common.{arith, eqb-true, eq-eqb, ne_eqb}
 use Rattle.std.proofs.lemmas.Bool.{cases_eq, cases_lt, true≢false, false≢true, and_parts, and_from, cond_both}
 use Rattle.std.proofs.lemmas.List.{get_or_past, get_or-set_same, length-set}
 use Rattle.std.proofs.lemmas.Option.{none-some, same_Some}
-use Rattle.proof_generations.specs.Beneath.history.specs.declared.calls.Access.TheVariants.{Writable}
-use Rattle.proof_generations.specs.Beneath.history.specs.declared.calls.Call.{Call}
-use Rattle.proof_generations.specs.Beneath.slot_arena.specs.declared.refs.Ref.{Ref}
-use Rattle.proof_generations.specs.Beneath.slot_arena.specs.Refs.{ref_to}
-use Rattle.proof_generations.specs.Beneath.machine_model.specs.declared.actions.Action.{Action}
+use Rattle.proof_generations.specs.Vocabulary.{Writable, Call, Ref, ref_to, Action, Line, Operation, After, Gives, ReadLine, Complete, CompleteLine, Descriptor, Root, RootWord, Plain, Offer, Bounds}
+use Rattle.proof_generations.specs.Vocabulary.{Outcome, Step, handle_of, is_close, State, first_state, root_at, word_of, word_at, operation_of, rewritten, with_word, handle_limit, read_action}
+use Rattle.proof_generations.specs.Vocabulary.{read_after, stands_in, is_try, is_plain, is_carried_out, complete_action, of_offer, after_reading, copy_after_complete, after_offer, action_of}
+use Rattle.proof_generations.specs.Vocabulary.{line_action, line_after, acted, carried_out, opened, opened_root, new_root_taken, if_changed, operation_after, mark_after, handle_closed, Begins, Ends}
+use Rattle.proof_generations.specs.Vocabulary.{Sweeps, Moves}
 use Rattle.proof_generations.specs.Beneath.machine_model.specs.declared.actions.Action.TheVariants as act
 use Rattle.proof_generations.specs.Beneath.machine_model.specs.declared.copying.CopyLine.TheVariants as copy
-use Rattle.proof_generations.specs.Beneath.machine_model.specs.declared.lines.Line.{Line}
 use Rattle.proof_generations.specs.Beneath.machine_model.specs.declared.lines.Line.TheVariants as line
-use Rattle.proof_generations.specs.Beneath.machine_model.specs.declared.operations.Operation.{Operation}
-use Rattle.proof_generations.specs.Beneath.machine_model.specs.declared.reading.After.{After}
-use Rattle.proof_generations.specs.Beneath.machine_model.specs.declared.reading.After.TheVariants.{Goes as Continues, Gives}
-use Rattle.proof_generations.specs.Beneath.machine_model.specs.declared.reading.ReadLine.{ReadLine}
-use Rattle.proof_generations.specs.Beneath.machine_model.specs.declared.roots.Complete.{Complete}
-use Rattle.proof_generations.specs.Beneath.machine_model.specs.declared.roots.CompleteLine.{CompleteLine}
+use Rattle.proof_generations.specs.Beneath.machine_model.specs.declared.reading.After.TheVariants.{Goes as Continues}
 use Rattle.proof_generations.specs.Beneath.machine_model.specs.declared.roots.CompleteLine.TheVariants as complete
-use Rattle.proof_generations.specs.Beneath.machine_model.specs.declared.roots.Descriptor.{Descriptor}
-use Rattle.proof_generations.specs.Beneath.machine_model.specs.declared.roots.Root.{Root}
-use Rattle.proof_generations.specs.Beneath.machine_model.specs.declared.roots.RootWord.{RootWord}
-use Rattle.proof_generations.specs.Beneath.machine_model.specs.declared.roots.RootWord.TheVariants.{Plain, Offer}
-use Rattle.proof_generations.specs.Beneath.machine_model.specs.declared.steps.Bounds.{Bounds}
-use Rattle.proof_generations.specs.Beneath.machine_model.specs.declared.steps.Outcome.{Outcome}
-use Rattle.proof_generations.specs.Beneath.machine_model.specs.declared.steps.Step.{Step}
 use Rattle.proof_generations.specs.Beneath.machine_model.specs.declared.steps.Step.TheVariants as step
-use Rattle.proof_generations.specs.Beneath.machine_model.specs.Calls.{handle_of, is_close}
-use Rattle.proof_generations.specs.Beneath.machine_model.specs.States.{State, first_state, root_at, word_of, word_at, operation_of, rewritten, with_word, handle_limit}
-use Rattle.proof_generations.specs.Beneath.machine_model.specs.Reading.{read_action, read_after}
-use Rattle.proof_generations.specs.Beneath.machine_model.specs.Swapping.{stands_in, is_try, is_plain, is_carried_out, complete_action, of_offer, after_reading}
-use Rattle.proof_generations.specs.Beneath.machine_model.specs.Copying.{copy_after_complete, after_offer}
-use Rattle.proof_generations.specs.Beneath.machine_model.specs.Operations.{action_of, line_action, line_after}
-use Rattle.proof_generations.specs.Beneath.machine_model.specs.Acting.{acted, carried_out, opened, opened_root, new_root_taken, if_changed, operation_after, mark_after}
-use Rattle.proof_generations.specs.Beneath.machine_model.specs.Machine.{handle_closed}
-use Rattle.proof_generations.specs.Beneath.machine_model.specs.Moves.{Begins, Goes, Ends, Sweeps}
-use Rattle.proof_generations.specs.Beneath.machine_model.specs.Moves.{Moves}
+use Rattle.proof_generations.specs.Beneath.machine_model.specs.Moves.{Goes}
 use Rattle.proof_generations.specs.Beneath.machine_model.proofs.Found.{found_elsewhere}
 use Rattle.proof_generations.specs.Beneath.machine_model.proofs.Actors.{mark_one, mark_only, marks_in, marks_by, marks_of}
 use Rattle.proof_generations.proofs.Handles.Running.{place_of_actor, Follows, rests, steps, ends, follows}

@@ -3,33 +3,15 @@ use Rattle.std.proofs.Common.{◌≡◌, ℕ, ◌==◌, Bool, true, false, cond,
 use Rattle.std.proofs.Common.{eqb-true, eq-eqb, ne_eqb, []}
 use Rattle.std.proofs.lemmas.Bool.{true≢false, cond_both}
 use Rattle.std.proofs.lemmas.Option.{none-some, same_Some}
-use Rattle.proof_generations.specs.Beneath.history.specs.declared.calls.Call.{Call}
-use Rattle.proof_generations.specs.Beneath.slot_arena.specs.declared.refs.Ref.{Ref}
-use Rattle.proof_generations.specs.Beneath.slot_arena.specs.Heaps.{generation_at}
-use Rattle.proof_generations.specs.Beneath.machine_model.specs.declared.actions.Action.{Action}
+use Rattle.proof_generations.specs.Vocabulary.{Call, Ref, generation_at, Action, Closing, Operation, Descriptor, Root, Outcome, Step, handle_of, is_close, State, root_at, root_of, word_at, word_of}
+use Rattle.proof_generations.specs.Vocabulary.{operation_of, with_operation, is_carried_out, action_of, gone, operation_after, settled, handle_closed, Begins, Ends, Sweeps, Moves, step_of, Record}
+use Rattle.proof_generations.specs.Vocabulary.{noted_progress, noted, closed_by, carried_by, progress_of, told_in, Carried}
 use Rattle.proof_generations.specs.Beneath.machine_model.specs.declared.actions.Action.TheVariants as act
-use Rattle.proof_generations.specs.Beneath.machine_model.specs.declared.records.Closing.{Closing}
-use Rattle.proof_generations.specs.Beneath.machine_model.specs.declared.operations.Operation.{Operation}
-use Rattle.proof_generations.specs.Beneath.machine_model.specs.declared.roots.Descriptor.{Descriptor}
-use Rattle.proof_generations.specs.Beneath.machine_model.specs.declared.roots.Root.{Root}
-use Rattle.proof_generations.specs.Beneath.machine_model.specs.declared.steps.Outcome.{Outcome}
-use Rattle.proof_generations.specs.Beneath.machine_model.specs.declared.steps.Step.{Step}
 use Rattle.proof_generations.specs.Beneath.machine_model.specs.declared.steps.Step.TheVariants as step
-use Rattle.proof_generations.specs.Beneath.machine_model.specs.Calls.{handle_of, is_close}
-use Rattle.proof_generations.specs.Beneath.machine_model.specs.States.{State, root_at, root_of, word_at, word_of, operation_of, with_operation}
-use Rattle.proof_generations.specs.Beneath.machine_model.specs.Swapping.{is_carried_out}
-use Rattle.proof_generations.specs.Beneath.machine_model.specs.Operations.{action_of}
-use Rattle.proof_generations.specs.Beneath.machine_model.specs.Acting.{gone, operation_after}
-use Rattle.proof_generations.specs.Beneath.machine_model.specs.Counting.{settled}
-use Rattle.proof_generations.specs.Beneath.machine_model.specs.Machine.{handle_closed}
-use Rattle.proof_generations.specs.Beneath.machine_model.specs.Moves.{Begins, Goes, Ends, Sweeps}
-use Rattle.proof_generations.specs.Beneath.machine_model.specs.Moves.{Moves}
+use Rattle.proof_generations.specs.Beneath.machine_model.specs.Moves.{Goes}
 use Rattle.proof_generations.specs.Beneath.machine_model.proofs.Found.{found_elsewhere, found_here}
 use Rattle.proof_generations.proofs.Offers.Same.{HasOffers, same_offer}
 use Rattle.proof_generations.proofs.Handles.Footings.{ActionCarriesOut, RootFrom, stood, swapped, newly, root_from}
-use Rattle.proof_generations.specs.Beneath.machine_model.specs.Records.{step_of, Record, noted_progress, noted, closed_by}
-use Rattle.proof_generations.specs.Beneath.machine_model.specs.Tellings.{carried_by, progress_of, told_in}
-use Rattle.proof_generations.specs.Beneath.machine_model.specs.declared.records.Carried.{Carried}
 use Rattle.proof_generations.specs.Beneath.machine_model.proofs.Notes.{noted_going, noted_ending}
 
 -- ---- closings

@@ -2,22 +2,10 @@
 use Rattle.std.proofs.Common.{◌≡◌, ℕ, suc, ◌≤◌, Bool, true, false, inl, inr, List, [], ◌∷◌, Some, None, get_or, set, replicate, refl, sym, ap, ◌∙◌, subst, arith}
 use Rattle.std.proofs.lemmas.Bool.{true≢false, false≢true, cases_eq}
 use Rattle.std.proofs.lemmas.Option.{none-some, same_Some}
-use Rattle.proof_generations.specs.Beneath.history.specs.declared.calls.Access.{Access}
-use Rattle.proof_generations.specs.Beneath.history.specs.declared.calls.Access.TheVariants.{Writable, ReadOnly}
-use Rattle.proof_generations.specs.Beneath.slot_arena.specs.Refs.{ref_to}
-use Rattle.proof_generations.specs.Beneath.machine_model.specs.declared.roots.Descriptor.{Descriptor}
-use Rattle.proof_generations.specs.Beneath.machine_model.specs.declared.roots.Root.{Root}
-use Rattle.proof_generations.specs.Beneath.machine_model.specs.declared.roots.RootWord.{RootWord}
-use Rattle.proof_generations.specs.Beneath.machine_model.specs.declared.roots.RootWord.TheVariants.{Plain, Offer}
-use Rattle.proof_generations.specs.Beneath.machine_model.specs.declared.steps.Bounds.{Bounds}
-use Rattle.proof_generations.specs.Beneath.machine_model.specs.declared.steps.Outcome.{Outcome}
-use Rattle.proof_generations.specs.Beneath.machine_model.specs.declared.steps.Step.{Step}
-use Rattle.proof_generations.specs.Beneath.machine_model.specs.States.{State, first_state, root_at, root_of, word_of, word_at, handle_limit}
-use Rattle.proof_generations.specs.Beneath.machine_model.specs.Machine.{AreBounds, run, run_from, next_state}
-use Rattle.proof_generations.specs.Beneath.machine_model.specs.Moves.{Moves}
+use Rattle.proof_generations.specs.Vocabulary.{Access, Writable, ReadOnly, ref_to, Descriptor, Root, RootWord, Plain, Offer, Bounds, Outcome, Step, State, first_state, root_at, root_of, word_of}
+use Rattle.proof_generations.specs.Vocabulary.{word_at, handle_limit, AreBounds, run, run_from, next_state, Moves, turns, noted_turn, IsRun, Turn, generation_at, Ref, closed_at, Record}
+use Rattle.proof_generations.specs.Vocabulary.{first_record, record_of, record_from, noted, next_record, told_in}
 use Rattle.proof_generations.specs.Beneath.machine_model.proofs.Found.{found_elsewhere, found_here, none_found}
-use Rattle.proof_generations.specs.Beneath.machine_model.specs.Times.{turns, noted_turn}
-use Rattle.proof_generations.specs.Beneath.machine_model.specs.Times.{IsRun, Turn}
 use Rattle.proof_generations.specs.Beneath.proof_memory.proofs.Safety.States.{IsSafe}
 use Rattle.proof_generations.specs.Beneath.proof_memory.proofs.Safety.AtEachTime.{safe_at, safe_along}
 use Rattle.proof_generations.proofs.Offers.Standing.{own_numbers}
@@ -27,12 +15,8 @@ use Rattle.proof_generations.proofs.Counter.Below.{IsBelow, below_after, below_a
 use Rattle.proof_generations.proofs.Offers.Swaps.{StepKind, quiet, swaps, step_kind, closing_of, closed_in, closed_kept}
 use Rattle.proof_generations.proofs.Roots.Own.{HasRoots, IsUnused, gen, roots_after, writable_call, its_fresh}
 use Rattle.proof_generations.proofs.Roots.Kept.{fresh_of}
-use Rattle.proof_generations.specs.Beneath.slot_arena.specs.Heaps.{generation_at}
-use Rattle.proof_generations.specs.Beneath.slot_arena.specs.declared.refs.Ref.{Ref}
 use Rattle.proof_generations.specs.Beneath.machine_model.proofs.Basics.{both_kinds}
-use Rattle.proof_generations.specs.Beneath.machine_model.specs.Records.{closed_at, Record, first_record, record_of, record_from, noted, next_record}
 use Rattle.proof_generations.specs.Beneath.machine_model.proofs.Recorded.{along_with, kept_by_notes}
-use Rattle.proof_generations.specs.Beneath.machine_model.specs.Tellings.{told_in}
 use Rattle.std.proofs.Common.{zero, suc}
 
 -- all of generations that one state knows, with what is recorded

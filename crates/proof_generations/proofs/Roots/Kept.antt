@@ -3,37 +3,16 @@ use Rattle.std.proofs.Common.{◌≡◌, ℕ, ◌+◌, ◌≤◌, ◌||◌, Bool
 use Rattle.std.proofs.lemmas.Bool.{false≢true}
 use Rattle.std.proofs.lemmas.Option.{none-some, same_Some}
 use Rattle.std.proofs.lemmas.List.Elements.{All-head}
-use Rattle.proof_generations.specs.Beneath.history.specs.declared.calls.Call.{Call}
-use Rattle.proof_generations.specs.Beneath.history.specs.declared.calls.Call.TheVariants.{Clear, Snapshot, Freeze}
-use Rattle.proof_generations.specs.Beneath.slot_arena.specs.declared.refs.Ref.{Ref}
-use Rattle.proof_generations.specs.Beneath.slot_arena.specs.Heaps.{Heap, node_at, generation_at, next_ref, refs_of_option}
+use Rattle.proof_generations.specs.Vocabulary.{Call, Clear, Snapshot, Freeze, Ref, Heap, node_at, generation_at, next_ref, refs_of_option, CopyLine, Line, Operation, After, Gives, Read, Complete}
+use Rattle.proof_generations.specs.Vocabulary.{CompleteLine, Descriptor, Root, RootLine, RootWord, Plain, Offer, Outcome, Step, handle_of, State, root_at, root_of, word_at, new_try, read_step}
+use Rattle.proof_generations.specs.Vocabulary.{is_plain, complete_after, root_after, copy_after_read, copy_if_made, copy_after_made, after_successor, after_given, after_offer, copy_after_complete}
+use Rattle.proof_generations.specs.Vocabulary.{copied_reply, line_action, line_after, after_root, Moves}
 use Rattle.proof_generations.specs.Beneath.machine_model.specs.declared.actions.Action.TheVariants as act
-use Rattle.proof_generations.specs.Beneath.machine_model.specs.declared.copying.CopyLine.{CopyLine}
 use Rattle.proof_generations.specs.Beneath.machine_model.specs.declared.copying.CopyLine.TheVariants as copy
-use Rattle.proof_generations.specs.Beneath.machine_model.specs.declared.lines.Line.{Line}
 use Rattle.proof_generations.specs.Beneath.machine_model.specs.declared.lines.Line.TheVariants as line
-use Rattle.proof_generations.specs.Beneath.machine_model.specs.declared.operations.Operation.{Operation}
-use Rattle.proof_generations.specs.Beneath.machine_model.specs.declared.reading.After.{After}
-use Rattle.proof_generations.specs.Beneath.machine_model.specs.declared.reading.After.TheVariants.{Goes as Continues, Gives}
-use Rattle.proof_generations.specs.Beneath.machine_model.specs.declared.reading.Read.{Read}
-use Rattle.proof_generations.specs.Beneath.machine_model.specs.declared.roots.Complete.{Complete}
-use Rattle.proof_generations.specs.Beneath.machine_model.specs.declared.roots.CompleteLine.{CompleteLine}
+use Rattle.proof_generations.specs.Beneath.machine_model.specs.declared.reading.After.TheVariants.{Goes as Continues}
 use Rattle.proof_generations.specs.Beneath.machine_model.specs.declared.roots.CompleteLine.TheVariants as complete
-use Rattle.proof_generations.specs.Beneath.machine_model.specs.declared.roots.Descriptor.{Descriptor}
-use Rattle.proof_generations.specs.Beneath.machine_model.specs.declared.roots.Root.{Root}
-use Rattle.proof_generations.specs.Beneath.machine_model.specs.declared.roots.RootLine.{RootLine}
-use Rattle.proof_generations.specs.Beneath.machine_model.specs.declared.roots.RootWord.{RootWord}
-use Rattle.proof_generations.specs.Beneath.machine_model.specs.declared.roots.RootWord.TheVariants.{Plain, Offer}
-use Rattle.proof_generations.specs.Beneath.machine_model.specs.declared.steps.Outcome.{Outcome}
-use Rattle.proof_generations.specs.Beneath.machine_model.specs.declared.steps.Step.{Step}
-use Rattle.proof_generations.specs.Beneath.machine_model.specs.Calls.{handle_of}
-use Rattle.proof_generations.specs.Beneath.machine_model.specs.States.{State, root_at, root_of, word_at}
-use Rattle.proof_generations.specs.Beneath.machine_model.specs.Lines.{new_try}
-use Rattle.proof_generations.specs.Beneath.machine_model.specs.Reading.{read_step}
-use Rattle.proof_generations.specs.Beneath.machine_model.specs.Swapping.{is_plain, complete_after, root_after}
-use Rattle.proof_generations.specs.Beneath.machine_model.specs.Copying.{copy_after_read, copy_if_made, copy_after_made, after_successor, after_given, after_offer, copy_after_complete, copied_reply}
-use Rattle.proof_generations.specs.Beneath.machine_model.specs.Operations.{line_action, line_after, from_root, after_root}
-use Rattle.proof_generations.specs.Beneath.machine_model.specs.Moves.{Moves}
+use Rattle.proof_generations.specs.Beneath.machine_model.specs.Operations.{from_root}
 use Rattle.proof_generations.specs.Beneath.proof_memory.specs.Wants.{AnIndirection, AMain, Is, Each, Holds, AllHold, word_wants, line_wants, complete_wants, offer_wants, read_wants}
 use Rattle.proof_generations.specs.Beneath.proof_memory.proofs.Claims.Uses.{Meets, safe_of, all_of, first_hold}
 use Rattle.proof_generations.specs.Beneath.proof_memory.proofs.Safety.Guards.{Safe}

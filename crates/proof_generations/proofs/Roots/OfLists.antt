@@ -1,16 +1,7 @@
 -- After each list of steps: offers, handles and the counter.
 use Rattle.std.proofs.Common.{◌≡◌, ℕ, ◌<◌, Option, Some, List, unwrap_or, ap, arith}
-use Rattle.proof_generations.specs.Beneath.slot_arena.specs.Refs.{slot_of}
-use Rattle.proof_generations.specs.Beneath.slot_arena.specs.declared.refs.Ref.{Ref}
-use Rattle.proof_generations.specs.Beneath.slot_arena.specs.declared.nodes.Slot.{Slot}
-use Rattle.proof_generations.specs.Beneath.slot_arena.specs.Heaps.{stored, generation_of}
-use Rattle.proof_generations.specs.Beneath.machine_model.specs.declared.operations.Operation.{Operation}
-use Rattle.proof_generations.specs.Beneath.machine_model.specs.declared.steps.Bounds.{Bounds}
-use Rattle.proof_generations.specs.Beneath.machine_model.specs.declared.steps.Step.{Step}
-use Rattle.proof_generations.specs.Beneath.machine_model.specs.States.{State, operation_of}
-use Rattle.proof_generations.specs.Beneath.machine_model.specs.Machine.{run}
+use Rattle.proof_generations.specs.Vocabulary.{slot_of, Ref, Slot, stored, generation_of, Operation, Bounds, Step, State, operation_of, run, standing}
 use Rattle.proof_generations.specs.Beneath.machine_model.proofs.Along.{along}
-use Rattle.proof_generations.specs.Beneath.machine_model.specs.Grown.{standing}
 use Rattle.proof_generations.proofs.Offers.Same.{HasOffers, has_offers_after, no_offers_at_first}
 use Rattle.proof_generations.proofs.Handles.Operations.{HasHandles, handles_after, handles_at_first}
 use Rattle.proof_generations.proofs.Counter.Below.{IsBelow}

@@ -2,21 +2,11 @@
 use Rattle.std.proofs.Common.{◌≡◌, ℕ, zero, suc, ◌<◌, ◌≤◌, Bool, true, false, inl, inr, Option, Some, None, refl, sym, ap, ◌∙◌, arith}
 use Rattle.std.proofs.lemmas.Bool.{true≢false, cases_eq}
 use Rattle.std.proofs.lemmas.Option.{none-some, same_Some}
-use Rattle.proof_generations.specs.Beneath.history.specs.declared.calls.Access.TheVariants.{Writable}
-use Rattle.proof_generations.specs.Beneath.slot_arena.specs.declared.refs.Ref.{Ref}
-use Rattle.proof_generations.specs.Beneath.slot_arena.specs.Heaps.{generation_at}
-use Rattle.proof_generations.specs.Beneath.machine_model.specs.declared.operations.Operation.{Operation}
-use Rattle.proof_generations.specs.Beneath.machine_model.specs.declared.roots.RootWord.TheVariants.{Plain}
-use Rattle.proof_generations.specs.Beneath.machine_model.specs.declared.steps.Bounds.{Bounds}
-use Rattle.proof_generations.specs.Beneath.machine_model.specs.declared.steps.Step.{Step}
-use Rattle.proof_generations.specs.Beneath.machine_model.specs.Calls.{handle_of, is_close}
-use Rattle.proof_generations.specs.Beneath.machine_model.specs.States.{State, first_state, root_of, word_of, word_at, operation_of}
-use Rattle.proof_generations.specs.Beneath.machine_model.specs.Acting.{operation_after}
+use Rattle.proof_generations.specs.Vocabulary.{Writable, Ref, generation_at, Operation, Plain, Bounds, Step, handle_of, is_close, State, first_state, root_of, word_of, word_at, operation_of}
+use Rattle.proof_generations.specs.Vocabulary.{operation_after, turns, noted_turn, IsRun, Turn, closed_at, Record}
 use Rattle.proof_generations.specs.Beneath.machine_model.proofs.Actors.{mark_only, marks_in}
 use Rattle.proof_generations.specs.Beneath.machine_model.proofs.Found.{none_found}
 use Rattle.proof_generations.specs.Beneath.machine_model.proofs.Times.{at_each_time, steps_at}
-use Rattle.proof_generations.specs.Beneath.machine_model.specs.Times.{turns, noted_turn}
-use Rattle.proof_generations.specs.Beneath.machine_model.specs.Times.{IsRun, Turn}
 use Rattle.proof_generations.specs.Beneath.proof_memory.specs.Laws.{is_end}
 use Rattle.proof_generations.specs.Beneath.proof_memory.proofs.Safety.Base.{close_ends, goes_no_end}
 use Rattle.proof_generations.proofs.Handles.Running.{Comes, began, rested, went, comes, place_of_actor}
@@ -24,7 +14,6 @@ use Rattle.proof_generations.specs.Running.{Runs}
 use Rattle.proof_generations.proofs.Offers.Swaps.{StepKind, quiet, swaps, step_kind, closing_of, closed_in, closed_new}
 use Rattle.proof_generations.proofs.Roots.Own.{gen}
 use Rattle.proof_generations.proofs.Roots.Along.{IsOrdered, ordered_at, closed_stays}
-use Rattle.proof_generations.specs.Beneath.machine_model.specs.Records.{closed_at, Record}
 
 -- ---- a close is at its end
 

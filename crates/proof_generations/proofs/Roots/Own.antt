@@ -3,29 +3,14 @@
 use Rattle.std.proofs.Common.{◌≡◌, ℕ, suc, Bool, true, false, cond, inl, inr, ◌⊎◌, ◌∷◌, ◌++◌, Option, Some, None, refl, sym, ap, ◌∙◌, subst, arith, []}
 use Rattle.std.proofs.lemmas.Bool.{true≢false, false≢true}
 use Rattle.std.proofs.lemmas.Option.{none-some, same_Some}
-use Rattle.proof_generations.specs.Beneath.history.specs.declared.calls.Access.{Access}
-use Rattle.proof_generations.specs.Beneath.history.specs.declared.calls.Access.TheVariants.{Writable, ReadOnly}
-use Rattle.proof_generations.specs.Beneath.history.specs.declared.calls.Call.{Call}
-use Rattle.proof_generations.specs.Beneath.history.specs.declared.calls.Call.TheVariants.{Clear, Snapshot, Freeze, Close, Entries, Count}
-use Rattle.proof_generations.specs.Beneath.slot_arena.specs.declared.refs.Ref.{Ref}
-use Rattle.proof_generations.specs.Beneath.slot_arena.specs.declared.nodes.Node.TheVariants.{Indirection}
-use Rattle.proof_generations.specs.Beneath.slot_arena.specs.Heaps.{generation_at, generation_of, next_ref}
+use Rattle.proof_generations.specs.Vocabulary.{Access, Writable, ReadOnly, Call, Clear, Snapshot, Freeze, Close, Entries, Count, Ref, Indirection, generation_at, generation_of, next_ref, Line}
+use Rattle.proof_generations.specs.Vocabulary.{Operation, Descriptor, Root, Outcome, Step, handle_of, is_close, needs_writable, State, root_at, root_of, word_of, operation_of, action_of, first_line}
+use Rattle.proof_generations.specs.Vocabulary.{opened_root, Begins, Ends, Sweeps, Moves, Record, closed_at, noted, told_in}
 use Rattle.proof_generations.specs.Beneath.machine_model.specs.declared.actions.Action.TheVariants as act
 use Rattle.proof_generations.specs.Beneath.machine_model.specs.declared.copying.CopyLine.TheVariants as copy
-use Rattle.proof_generations.specs.Beneath.machine_model.specs.declared.lines.Line.{Line}
 use Rattle.proof_generations.specs.Beneath.machine_model.specs.declared.lines.Line.TheVariants as line
-use Rattle.proof_generations.specs.Beneath.machine_model.specs.declared.operations.Operation.{Operation}
-use Rattle.proof_generations.specs.Beneath.machine_model.specs.declared.roots.Descriptor.{Descriptor}
-use Rattle.proof_generations.specs.Beneath.machine_model.specs.declared.roots.Root.{Root}
-use Rattle.proof_generations.specs.Beneath.machine_model.specs.declared.steps.Outcome.{Outcome}
-use Rattle.proof_generations.specs.Beneath.machine_model.specs.declared.steps.Step.{Step}
 use Rattle.proof_generations.specs.Beneath.machine_model.specs.declared.steps.Step.TheVariants as step
-use Rattle.proof_generations.specs.Beneath.machine_model.specs.Calls.{handle_of, is_close, needs_writable}
-use Rattle.proof_generations.specs.Beneath.machine_model.specs.States.{State, root_at, root_of, word_of, operation_of}
-use Rattle.proof_generations.specs.Beneath.machine_model.specs.Operations.{action_of, first_line}
-use Rattle.proof_generations.specs.Beneath.machine_model.specs.Acting.{opened_root}
-use Rattle.proof_generations.specs.Beneath.machine_model.specs.Moves.{Begins, Goes, Ends, Sweeps}
-use Rattle.proof_generations.specs.Beneath.machine_model.specs.Moves.{Moves}
+use Rattle.proof_generations.specs.Beneath.machine_model.specs.Moves.{Goes}
 use Rattle.proof_generations.specs.Beneath.machine_model.proofs.Actors.{marks_in, marks_by, marks_of}
 use Rattle.proof_generations.specs.Beneath.proof_memory.specs.Making.{made_node}
 use Rattle.proof_generations.specs.Beneath.proof_memory.proofs.Safety.States.{IsSafe}
@@ -42,8 +27,6 @@ use Rattle.proof_generations.proofs.Counter.Below.{ClosingsBelow, IsBelow, looke
 use Rattle.proof_generations.proofs.Roots.Kept.{root_kept, fresh_in, fresh_of, fresh_from, FreshFrom, had, new, makes_first, fresh_kept}
 use Rattle.proof_generations.proofs.Offers.Swaps.{StepKind, quiet, swaps, step_kind, Kept, closing_of, closed_in, closed_kept, closed_other, closed_last}
 use Rattle.proof_generations.specs.Beneath.machine_model.proofs.Basics.{both_kinds}
-use Rattle.proof_generations.specs.Beneath.machine_model.specs.Records.{Record, closed_at, noted}
-use Rattle.proof_generations.specs.Beneath.machine_model.specs.Tellings.{told_in}
 
 -- the generation of a root
 abbrev pub gen : State → Root → ℕ

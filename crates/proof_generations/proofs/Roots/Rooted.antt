@@ -1,35 +1,15 @@
 -- The generation of an operation on a writable handle is that of its handle's root, or was so until it was closed.
 use Rattle.std.proofs.Common.{◌≡◌, ℕ, zero, suc, ◌≤◌, Bool, false, inl, inr, ◌⊎◌, Option, Some, None, get_or, refl, sym, ap, ◌∙◌, subst, arith}
 use Rattle.std.proofs.lemmas.Option.{none-some, same_Some, some_pair_parts}
-use Rattle.proof_generations.specs.Beneath.history.specs.declared.calls.Access.{Access}
-use Rattle.proof_generations.specs.Beneath.history.specs.declared.calls.Access.TheVariants.{Writable}
-use Rattle.proof_generations.specs.Beneath.slot_arena.specs.declared.refs.Ref.{Ref}
-use Rattle.proof_generations.specs.Beneath.slot_arena.specs.Heaps.{generation_at}
-use Rattle.proof_generations.specs.Beneath.machine_model.specs.declared.lines.Line.{Line}
+use Rattle.proof_generations.specs.Vocabulary.{Access, Writable, Ref, generation_at, Line, Operation, After, Gives, Complete, Root, RootLine, RootWord, Plain, Offer, Bounds, Outcome, Step}
+use Rattle.proof_generations.specs.Vocabulary.{handle_of, is_close, State, first_state, root_at, root_of, word_of, word_at, root_after, after_root_word, after_completing, complete_after}
+use Rattle.proof_generations.specs.Vocabulary.{generation_from, given_root, operation_after, Moves, turns, noted_turn, IsRun, Turn, closed_at, Record, noted, told_in}
 use Rattle.proof_generations.specs.Beneath.machine_model.specs.declared.lines.Line.TheVariants as line
-use Rattle.proof_generations.specs.Beneath.machine_model.specs.declared.operations.Operation.{Operation}
-use Rattle.proof_generations.specs.Beneath.machine_model.specs.declared.reading.After.{After}
-use Rattle.proof_generations.specs.Beneath.machine_model.specs.declared.reading.After.TheVariants.{Goes as Continues, Gives}
-use Rattle.proof_generations.specs.Beneath.machine_model.specs.declared.roots.Complete.{Complete}
-use Rattle.proof_generations.specs.Beneath.machine_model.specs.declared.roots.Root.{Root}
-use Rattle.proof_generations.specs.Beneath.machine_model.specs.declared.roots.RootLine.{RootLine}
+use Rattle.proof_generations.specs.Beneath.machine_model.specs.declared.reading.After.TheVariants.{Goes as Continues}
 use Rattle.proof_generations.specs.Beneath.machine_model.specs.declared.roots.RootLine.TheVariants as root
-use Rattle.proof_generations.specs.Beneath.machine_model.specs.declared.roots.RootWord.{RootWord}
-use Rattle.proof_generations.specs.Beneath.machine_model.specs.declared.roots.RootWord.TheVariants.{Plain, Offer}
-use Rattle.proof_generations.specs.Beneath.machine_model.specs.declared.steps.Bounds.{Bounds}
-use Rattle.proof_generations.specs.Beneath.machine_model.specs.declared.steps.Outcome.{Outcome}
-use Rattle.proof_generations.specs.Beneath.machine_model.specs.declared.steps.Step.{Step}
-use Rattle.proof_generations.specs.Beneath.machine_model.specs.Calls.{handle_of, is_close}
-use Rattle.proof_generations.specs.Beneath.machine_model.specs.States.{State, first_state, root_at, root_of, word_of, word_at}
-use Rattle.proof_generations.specs.Beneath.machine_model.specs.Swapping.{root_after, after_root_word, after_completing, complete_after}
-use Rattle.proof_generations.specs.Beneath.machine_model.specs.Operations.{generation_from, given_root}
-use Rattle.proof_generations.specs.Beneath.machine_model.specs.Acting.{operation_after}
-use Rattle.proof_generations.specs.Beneath.machine_model.specs.Moves.{Moves}
 use Rattle.proof_generations.specs.Beneath.machine_model.proofs.Actors.{mark_only, marks_in}
 use Rattle.proof_generations.specs.Beneath.machine_model.proofs.Found.{none_found}
 use Rattle.proof_generations.specs.Beneath.machine_model.proofs.Times.{along_run, steps_at}
-use Rattle.proof_generations.specs.Beneath.machine_model.specs.Times.{turns, noted_turn}
-use Rattle.proof_generations.specs.Beneath.machine_model.specs.Times.{IsRun, Turn}
 use Rattle.proof_generations.specs.Beneath.proof_memory.proofs.Safety.States.{IsSafe}
 use Rattle.proof_generations.specs.Beneath.proof_memory.proofs.Safety.AtEachTime.{safe_at}
 use Rattle.proof_generations.specs.Standing.{standing_of, standing, On, IsRooted}
@@ -37,8 +17,6 @@ use Rattle.proof_generations.proofs.Handles.Running.{Comes, began, rested, went,
 use Rattle.proof_generations.specs.Running.{Runs}
 use Rattle.proof_generations.proofs.Roots.Own.{gen, root_goes_on}
 use Rattle.proof_generations.proofs.Roots.Along.{IsOrdered, ordered_at, ordered_after, closed_stays}
-use Rattle.proof_generations.specs.Beneath.machine_model.specs.Records.{closed_at, Record, noted}
-use Rattle.proof_generations.specs.Beneath.machine_model.specs.Tellings.{told_in}
 
 -- the root behind a standing
 pub standing_root : (state : State) (handle : ℕ) (access : Access) (generation : ℕ) → standing state handle ≡ Some (access, generation) →

@@ -1,22 +1,12 @@
 -- Laws of generations along paths, for every list of steps.
 use Rattle.std.specs.Prelude.{◌≡◌, ℕ, ◌<◌, ◌≤◌, ◌⊎◌, List, Contains, Some, true}
-use Rattle.proof_generations.specs.Beneath.history.specs.declared.calls.Access.TheVariants.{Writable}
-use Rattle.proof_generations.specs.Beneath.slot_arena.specs.declared.refs.Ref.{Ref}
-use Rattle.proof_generations.specs.Beneath.slot_arena.specs.Heaps.{node_at, main_at, generation_at, entries_of, logical_main}
+use Rattle.proof_generations.specs.Vocabulary.{Writable, Ref, node_at, main_at, generation_at, entries_of, logical_main, Purpose, Operation, Swap, Bounds, Step, State, operation_of, AreBounds, run}
+use Rattle.proof_generations.specs.Vocabulary.{states_of, last_of, closed_at, record_of}
 use Rattle.proof_generations.specs.Beneath.machine_model.specs.declared.lines.Line.TheVariants as line
-use Rattle.proof_generations.specs.Beneath.machine_model.specs.declared.lines.Purpose.{Purpose}
-use Rattle.proof_generations.specs.Beneath.machine_model.specs.declared.operations.Operation.{Operation}
-use Rattle.proof_generations.specs.Beneath.machine_model.specs.declared.reading.Swap.{Swap}
-use Rattle.proof_generations.specs.Beneath.machine_model.specs.declared.steps.Bounds.{Bounds}
-use Rattle.proof_generations.specs.Beneath.machine_model.specs.declared.steps.Step.{Step}
-use Rattle.proof_generations.specs.Beneath.machine_model.specs.States.{State, operation_of}
-use Rattle.proof_generations.specs.Beneath.machine_model.specs.Machine.{AreBounds, run}
 use Rattle.proof_commits.specs.Runs.{HasIndirection}
 use Rattle.proof_commits.specs.Laws.{IsGiven, known_after}
 use Rattle.proof_generations.specs.Falling.{ReadsClosed, WasOpened}
 use Rattle.proof_generations.specs.Beneath.proof_memory.specs.Wants.{is_indirection}
-use Rattle.proof_generations.specs.Beneath.machine_model.specs.Times.{states_of, last_of}
-use Rattle.proof_generations.specs.Beneath.machine_model.specs.Records.{closed_at, record_of}
 
 -- after some of the steps a handle's root had this generation
 abbrev pub IsOpened : Bounds → List Step → ℕ → Type 0

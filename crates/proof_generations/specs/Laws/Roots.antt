@@ -1,27 +1,10 @@
 -- Laws of generations, handles and offers, for every list of steps.
 use Rattle.std.specs.Prelude.{◌≡◌, ℕ, ◌<◌, true, false, List, ◌++◌, Option, Some, None}
-use Rattle.proof_generations.specs.Beneath.history.specs.declared.calls.Access.TheVariants.{Writable, ReadOnly}
-use Rattle.proof_generations.specs.Beneath.slot_arena.specs.declared.refs.Ref.{Ref}
-use Rattle.proof_generations.specs.Beneath.slot_arena.specs.declared.nodes.Slot.{Slot}
-use Rattle.proof_generations.specs.Beneath.slot_arena.specs.Heaps.{generation_of, generation_at}
-use Rattle.proof_generations.specs.Beneath.machine_model.specs.declared.actions.Action.{Action}
+use Rattle.proof_generations.specs.Vocabulary.{Writable, ReadOnly, Ref, Slot, generation_of, generation_at, Action, Operation, Complete, Descriptor, Root, Plain, Offer, Bounds, Step, handle_of}
+use Rattle.proof_generations.specs.Vocabulary.{is_close, State, root_at, root_of, word_at, operation_of, action_of, stands_in, AreBounds, run, standing, Record, closed_at, record_of}
 use Rattle.proof_generations.specs.Beneath.machine_model.specs.declared.actions.Action.TheVariants as act
 use Rattle.proof_generations.specs.Beneath.machine_model.specs.declared.copying.CopyLine.TheVariants as copy
 use Rattle.proof_generations.specs.Beneath.machine_model.specs.declared.lines.Line.TheVariants as line
-use Rattle.proof_generations.specs.Beneath.machine_model.specs.declared.operations.Operation.{Operation}
-use Rattle.proof_generations.specs.Beneath.machine_model.specs.declared.roots.Complete.{Complete}
-use Rattle.proof_generations.specs.Beneath.machine_model.specs.declared.roots.Descriptor.{Descriptor}
-use Rattle.proof_generations.specs.Beneath.machine_model.specs.declared.roots.Root.{Root}
-use Rattle.proof_generations.specs.Beneath.machine_model.specs.declared.roots.RootWord.TheVariants.{Plain, Offer}
-use Rattle.proof_generations.specs.Beneath.machine_model.specs.declared.steps.Bounds.{Bounds}
-use Rattle.proof_generations.specs.Beneath.machine_model.specs.declared.steps.Step.{Step}
-use Rattle.proof_generations.specs.Beneath.machine_model.specs.Calls.{handle_of, is_close}
-use Rattle.proof_generations.specs.Beneath.machine_model.specs.States.{State, root_at, root_of, word_at, operation_of}
-use Rattle.proof_generations.specs.Beneath.machine_model.specs.Operations.{action_of}
-use Rattle.proof_generations.specs.Beneath.machine_model.specs.Swapping.{stands_in}
-use Rattle.proof_generations.specs.Beneath.machine_model.specs.Machine.{AreBounds, run}
-use Rattle.proof_generations.specs.Beneath.machine_model.specs.Grown.{standing}
-use Rattle.proof_generations.specs.Beneath.machine_model.specs.Records.{Record, closed_at, record_of}
 
 -- ---- the counter
 

@@ -6,19 +6,11 @@ use Rattle.std.proofs.lemmas.Bool.{false≢true, and_parts, and_from, cond_both,
 use Rattle.std.proofs.lemmas.List.{length-append, length-take, length-drop, length-set, get_or-set_same}
 use Rattle.std.proofs.lemmas.List.Elements.{All-take, All-drop, All-append, All-cons, All-nil, All-push, All-set}
 use Rattle.arrayvec.specs.ArrayVec.{ArrayVec}
-use Rattle.proof_memory.specs.Beneath.ctrie_base.specs.Paths.{position_of}
-use Rattle.proof_memory.specs.Beneath.slot_arena.specs.declared.refs.Ref.{Ref}
-use Rattle.proof_memory.specs.Beneath.slot_arena.specs.declared.nodes.Node.{Node}
-use Rattle.proof_memory.specs.Beneath.slot_arena.specs.declared.nodes.Node.TheVariants.{Branch, Tomb, List as Listed}
-use Rattle.proof_memory.specs.Beneath.slot_arena.specs.Heaps.{Heap, node_at, entries_of, bitmap_of, entries_from}
+use Rattle.proof_memory.specs.Vocabulary.{position_of, Ref, Node, Branch, Tomb, List as Listed, Heap, node_at, entries_of, bitmap_of, entries_from, index_in, flag_of, list_depth, renewed}
+use Rattle.proof_memory.specs.Vocabulary.{contracted, by_index, pair, rung, HashKind, Change, changed}
 use Rattle.proof_memory.specs.Beneath.nodes.proofs.Indices.{index_below}
-use Rattle.proof_memory.specs.Beneath.nodes.specs.Levels.{index_in, flag_of, list_depth}
-use Rattle.proof_memory.specs.Beneath.nodes.specs.Builders.{renewed, contracted, by_index, pair, rung}
-use Rattle.proof_memory.specs.Beneath.ctrie_base.specs.declared.hashes.HashKind.{HashKind}
 use Rattle.machine_model.specs.declared.actions.Action.TheVariants as act
-use Rattle.machine_model.specs.declared.building.Change.{Change}
 use Rattle.machine_model.specs.declared.building.Change.TheVariants as change
-use Rattle.machine_model.specs.Building.{changed}
 use Rattle.proof_memory.specs.Wants.{AnIndirection, ABranch, AList, BranchOrList, AnEntry, ASingle, ToSpare, meets, is_formed, Is, Holds, each, so, AllHold, node_wants}
 use Rattle.proof_memory.specs.Wants.{action_wants, change_wants, update_wants}
 use Rattle.proof_memory.proofs.Heap.Ones.{ones_set, ones_cleared, ones_most, ones_flag, set_small, cleared_small, flag_small}

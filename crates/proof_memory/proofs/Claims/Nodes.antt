@@ -2,10 +2,7 @@
 use Rattle.std.proofs.Common.{◌≡◌, ℕ, true, false, List, ◌∷◌, All, length, refl, sym, ap, ◌∙◌, ltb-true, []}
 use Rattle.std.proofs.lemmas.Bool.{false≢true}
 use Rattle.std.proofs.lemmas.List.Elements.{All-weaker, All-nil, All-cons}
-use Rattle.proof_memory.specs.Beneath.slot_arena.specs.declared.refs.Ref.{Ref}
-use Rattle.proof_memory.specs.Beneath.slot_arena.specs.declared.nodes.Node.{Node}
-use Rattle.proof_memory.specs.Beneath.slot_arena.specs.declared.nodes.Node.TheVariants.{Indirection, Branch, Single, Tomb, List as Listed}
-use Rattle.proof_memory.specs.Beneath.slot_arena.specs.Heaps.{Heap, node_at, prev_at, main_at, main_of, entry_at, entries_of, no_ref}
+use Rattle.proof_memory.specs.Vocabulary.{Ref, Node, Indirection, Branch, Single, Tomb, List as Listed, Heap, node_at, prev_at, main_at, main_of, entry_at, entries_of, no_ref}
 use Rattle.proof_memory.specs.Wants.{Wanted, AnIndirection, AMain, ABranch, AList, BranchOrList, TombOrList, AnEntry, ASingle, WithEntry, meets, is_formed, is_indirection, Is}
 use Rattle.proof_memory.specs.Wants.{Holds, AllHold, node_wants, prev_wants}
 use Rattle.proof_memory.proofs.Claims.Uses.{Meets, safe_of, meets_of, all_of}

@@ -1,30 +1,19 @@
 -- What a READ takes its references for is among the claims of the line on which it is.
 use Rattle.std.proofs.Common.{◌≡◌, List, ◌++◌, Some, subst, arith}
 use Rattle.std.proofs.lemmas.Option.{none-some, same_Some}
-use Rattle.proof_memory.specs.Beneath.ctrie_base.specs.declared.hashes.HashKind.{HashKind}
-use Rattle.proof_memory.specs.Beneath.history.specs.declared.calls.Access.{Access}
-use Rattle.proof_memory.specs.Beneath.history.specs.declared.calls.Call.{Call}
-use Rattle.proof_memory.specs.Beneath.slot_arena.specs.declared.refs.Ref.{Ref}
-use Rattle.proof_memory.specs.Beneath.slot_arena.specs.Heaps.{Heap}
+use Rattle.proof_memory.specs.Vocabulary.{HashKind, Access, Call, Ref, Heap, Line, Read, ReadLine, SwapLine, CompleteLine, Descriptor, RootLine, completing_read, read_of, rooting_read}
+use Rattle.proof_memory.specs.Vocabulary.{swapping_read}
 use Rattle.machine_model.specs.declared.copying.CopyLine.TheVariants as copy
 use Rattle.machine_model.specs.declared.finding.KeyLine.TheVariants as key
-use Rattle.machine_model.specs.declared.lines.Line.{Line}
 use Rattle.machine_model.specs.declared.lines.Line.TheVariants as line
-use Rattle.machine_model.specs.declared.reading.Read.{Read}
-use Rattle.machine_model.specs.declared.reading.ReadLine.{ReadLine}
 use Rattle.machine_model.specs.declared.reading.ReadLine.TheVariants as read
-use Rattle.machine_model.specs.declared.reading.SwapLine.{SwapLine}
 use Rattle.machine_model.specs.declared.reading.SwapLine.TheVariants as swap
 use Rattle.machine_model.specs.declared.repairs.CleanLine.TheVariants as clean
 use Rattle.machine_model.specs.declared.repairs.ClimbLine.TheVariants as climb
 use Rattle.machine_model.specs.declared.repairs.RenewLine.TheVariants as renew
-use Rattle.machine_model.specs.declared.roots.CompleteLine.{CompleteLine}
 use Rattle.machine_model.specs.declared.roots.CompleteLine.TheVariants as complete
-use Rattle.machine_model.specs.declared.roots.Descriptor.{Descriptor}
-use Rattle.machine_model.specs.declared.roots.RootLine.{RootLine}
 use Rattle.machine_model.specs.declared.roots.RootLine.TheVariants as root
 use Rattle.machine_model.specs.declared.walking.WalkLine.TheVariants as walk
-use Rattle.machine_model.specs.Operations.{completing_read, read_of, rooting_read, swapping_read}
 use Rattle.proof_memory.specs.Wants.{AllHold, AnIndirection, Claim, Holds, Is, climb_carries, complete_wants, copy_wants, done_wants, line_wants}
 use Rattle.proof_memory.specs.Wants.{offer_wants, path_wants, purpose_wants, read_wants, root_wants, swap_line_wants, swap_wants, walk_wants}
 use Rattle.proof_memory.proofs.Claims.Uses.{first_hold, last_hold}

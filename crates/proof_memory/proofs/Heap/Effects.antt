@@ -2,20 +2,11 @@
 use Rattle.std.proofs.Common.{◌≡◌, ℕ, ◌+◌, ◌≤◌, ◌==◌, Bool, true, false, List, [], ◌∷◌, Option, Some, None, refl, sym, ap, ◌∙◌, subst, inl, inr, eqb-true}
 use Rattle.std.proofs.lemmas.Bool.{cases_eq, false≢true}
 use Rattle.std.proofs.lemmas.Option.{none-some, same_Some}
-use Rattle.proof_memory.specs.Beneath.slot_arena.specs.Refs.{birth_of, most_slots}
-use Rattle.proof_memory.specs.Beneath.slot_arena.specs.declared.refs.Ref.{Ref}
-use Rattle.proof_memory.specs.Beneath.slot_arena.specs.declared.nodes.Node.{Node}
-use Rattle.proof_memory.specs.Beneath.slot_arena.specs.declared.nodes.Node.TheVariants.{Indirection, Branch, Single, Tomb, List as Listed}
-use Rattle.proof_memory.specs.Beneath.slot_arena.specs.declared.nodes.Prev.{Prev}
+use Rattle.proof_memory.specs.Vocabulary.{birth_of, most_slots, Ref, Node, Indirection, Branch, Single, Tomb, List as Listed, Prev, Slot, Heap, node_at, main_at, main_of, with_main, with_prev}
+use Rattle.proof_memory.specs.Vocabulary.{with_main_word, main_changed, prev_changed, taken, freed, next_ref, Action, State, Verdict, Commits, Fails, Overtaken, acted, decided, new_root_taken}
+use Rattle.proof_memory.specs.Vocabulary.{if_changed, standing}
 use Rattle.proof_memory.specs.Beneath.slot_arena.specs.declared.nodes.Prev.TheVariants as prev
-use Rattle.proof_memory.specs.Beneath.slot_arena.specs.declared.nodes.Slot.{Slot}
-use Rattle.proof_memory.specs.Beneath.slot_arena.specs.Heaps.{Heap, node_at, main_at, main_of, with_main, with_prev, with_main_word, main_changed, prev_changed, taken, freed, next_ref}
-use Rattle.machine_model.specs.declared.actions.Action.{Action}
 use Rattle.machine_model.specs.declared.actions.Action.TheVariants as act
-use Rattle.machine_model.specs.States.{State}
-use Rattle.machine_model.specs.Reading.{Verdict, Commits, Fails, Overtaken}
-use Rattle.machine_model.specs.Acting.{acted, decided, new_root_taken, if_changed}
-use Rattle.machine_model.specs.Grown.{standing}
 use Rattle.machine_model.proofs.Slots.{AddsUp}
 use Rattle.machine_model.proofs.HeapMoves.{aborted_heap, offered_heap, completed_heap}
 use Rattle.proof_memory.specs.Wants.{AnIndirection, AMain, meets, is_formed, Claim, Is, So, Holds, so, AllHold, node_wants, prev_wants, action_wants}

@@ -2,19 +2,8 @@
 use Rattle.std.proofs.Common.{◌≡◌, ℕ, ◌+◌, ◌≤◌, List, ◌∷◌, ◌++◌, Option, Some, None, sym, ap, ◌∙◌, subst, inl, inr, arith, []}
 use Rattle.std.proofs.lemmas.Bool.{cases_eq}
 use Rattle.std.proofs.lemmas.Option.{none-some, same_Some}
-use Rattle.proof_memory.specs.Beneath.slot_arena.specs.Refs.{birth_of}
-use Rattle.proof_memory.specs.Beneath.slot_arena.specs.declared.refs.Ref.{Ref}
-use Rattle.proof_memory.specs.Beneath.slot_arena.specs.declared.nodes.Node.TheVariants.{Indirection}
-use Rattle.proof_memory.specs.Beneath.slot_arena.specs.declared.nodes.Slot.{Slot}
-use Rattle.proof_memory.specs.Beneath.slot_arena.specs.Heaps.{next_ref}
-use Rattle.machine_model.specs.declared.steps.Bounds.{Bounds}
-use Rattle.machine_model.specs.declared.steps.Outcome.{Outcome}
-use Rattle.machine_model.specs.declared.steps.Step.{Step}
-use Rattle.machine_model.specs.States.{State, first_state}
-use Rattle.machine_model.specs.Machine.{AreBounds, run, run_from, next_state}
+use Rattle.proof_memory.specs.Vocabulary.{birth_of, Ref, Indirection, Slot, next_ref, Bounds, Outcome, Step, State, first_state, AreBounds, run, run_from, next_state, Moves, standing}
 use Rattle.machine_model.proofs.Along.{kept_by_moves, run-append}
-use Rattle.machine_model.specs.Moves.{Moves}
-use Rattle.machine_model.specs.Grown.{standing}
 use Rattle.proof_memory.specs.Wants.{Claim}
 use Rattle.proof_memory.specs.Laws.{IsInUse, SameNode}
 use Rattle.proof_memory.proofs.Heap.Under.{taken_all}

@@ -4,36 +4,16 @@ use Rattle.std.proofs.Common.{◌≡◌, ℕ, zero, suc, ◌+◌, ◌<◌, ◌�
 use Rattle.std.proofs.Common.{◌⊎◌, inl, inr, eqb-true, arith}
 use Rattle.std.proofs.lemmas.Bool.{cases_eq, cond_both}
 use Rattle.std.proofs.lemmas.Option.{none-some, same_Some}
-use Rattle.proof_memory.specs.Beneath.epochs.specs.declared.limbo.Swept.{Swept}
-use Rattle.proof_memory.specs.Beneath.epochs.specs.Sweeping.{Reclaimer, ripe, sweep_by}
-use Rattle.proof_memory.specs.Beneath.slot_arena.specs.Refs.{birth_of}
-use Rattle.proof_memory.specs.Beneath.slot_arena.specs.declared.refs.Ref.{Ref}
-use Rattle.proof_memory.specs.Beneath.slot_arena.specs.declared.nodes.Node.{Node}
-use Rattle.proof_memory.specs.Beneath.slot_arena.specs.declared.nodes.Node.TheVariants.{Indirection}
+use Rattle.proof_memory.specs.Vocabulary.{Swept, Reclaimer, ripe, sweep_by, birth_of, Ref, Node, Indirection, Slot, Heap, main_at, main_of, with_main, with_prev, main_changed, prev_changed, taken}
+use Rattle.proof_memory.specs.Vocabulary.{freed, next_ref, Action, Operation, Bounds, Outcome, Step, handle_of, State, operation_of, Verdict, Commits, Fails, Overtaken, verdict, action_of, acted}
+use Rattle.proof_memory.specs.Vocabulary.{gone, published, restored, decided, new_root_taken, if_changed, settled, Begins, Ends, Sweeps, Moves, begun_operation, pin_of, reclaimer_of, turns, IsRun}
+use Rattle.proof_memory.specs.Vocabulary.{Turn, standing, grown, or_before}
 use Rattle.proof_memory.specs.Beneath.slot_arena.specs.declared.nodes.Prev.TheVariants as prev
-use Rattle.proof_memory.specs.Beneath.slot_arena.specs.declared.nodes.Slot.{Slot}
-use Rattle.proof_memory.specs.Beneath.slot_arena.specs.Heaps.{Heap, main_at, main_of, with_main, with_prev, main_changed, prev_changed, taken, freed, next_ref}
-use Rattle.machine_model.specs.declared.actions.Action.{Action}
 use Rattle.machine_model.specs.declared.actions.Action.TheVariants as act
-use Rattle.machine_model.specs.declared.operations.Operation.{Operation}
-use Rattle.machine_model.specs.declared.steps.Bounds.{Bounds}
-use Rattle.machine_model.specs.declared.steps.Outcome.{Outcome}
-use Rattle.machine_model.specs.declared.steps.Step.{Step}
-use Rattle.machine_model.specs.Calls.{handle_of}
-use Rattle.machine_model.specs.States.{State, operation_of}
-use Rattle.machine_model.specs.Reading.{Verdict, Commits, Fails, Overtaken, verdict}
-use Rattle.machine_model.specs.Operations.{action_of}
-use Rattle.machine_model.specs.Acting.{acted, gone, published, restored, decided, new_root_taken, if_changed}
-use Rattle.machine_model.specs.Counting.{settled}
-use Rattle.machine_model.specs.Moves.{Begins, Goes, Ends, Sweeps}
-use Rattle.machine_model.specs.Moves.{Moves, begun_operation}
+use Rattle.machine_model.specs.Moves.{Goes}
 use Rattle.machine_model.proofs.HeapMoves.{begin_heap, aborted_heap, offered_heap, completed_heap}
-use Rattle.machine_model.specs.Machine.{pin_of, reclaimer_of}
 use Rattle.machine_model.proofs.InUse.{InUse}
 use Rattle.machine_model.proofs.Slots.{ripe_in_use}
-use Rattle.machine_model.specs.Times.{turns}
-use Rattle.machine_model.specs.Times.{IsRun, Turn}
-use Rattle.machine_model.specs.Grown.{standing, grown, or_before}
 use Rattle.proof_memory.specs.Wants.{AllHold, action_wants}
 use Rattle.proof_memory.specs.Laws.{IsInUse}
 use Rattle.proof_memory.proofs.Claims.Uses.{safe_of}

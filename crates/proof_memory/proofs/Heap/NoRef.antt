@@ -1,20 +1,12 @@
 -- Nothing ever stands under the reference that stands for none.
 use Rattle.std.proofs.Common.{◌≡◌, ℕ, zero, suc, ◌+◌, ◌≤◌, Some, None, refl, sym, ◌∙◌, ap, arith, Option}
 use Rattle.std.proofs.lemmas.Option.{none-some}
-use Rattle.proof_memory.specs.Beneath.slot_arena.specs.Refs.{birth_of}
-use Rattle.proof_memory.specs.Beneath.slot_arena.specs.declared.refs.Ref.{Ref}
-use Rattle.proof_memory.specs.Beneath.slot_arena.specs.declared.nodes.Node.{Node}
-use Rattle.proof_memory.specs.Beneath.slot_arena.specs.Heaps.{no_ref, next_ref}
-use Rattle.machine_model.specs.declared.steps.Bounds.{Bounds}
-use Rattle.machine_model.specs.States.{State, first_state}
-use Rattle.machine_model.specs.Grown.{standing, grown}
+use Rattle.proof_memory.specs.Vocabulary.{birth_of, Ref, Node, no_ref, next_ref, Bounds, State, first_state, standing, grown, IsRun, Slot}
 use Rattle.machine_model.proofs.Times.{along_run}
-use Rattle.machine_model.specs.Times.{IsRun}
 use Rattle.proof_memory.proofs.Heap.Under.{taken_all}
 use Rattle.proof_memory.proofs.Safety.States.{IsSafe}
 use Rattle.proof_memory.proofs.Safety.AtEachTime.{safe_at}
 use Rattle.proof_memory.proofs.Heap.Moves.{WordMove, keeps, makes, publishes, restores, commits, fails, word_move}
-use Rattle.proof_memory.specs.Beneath.slot_arena.specs.declared.nodes.Slot.{Slot}
 use Rattle.proof_memory.proofs.Safety.First.{first_stands}
 
 born_later : (r : Ref) (n : ℕ) → birth_of r ≡ n + 1 → no_ref ≡ r → ⊥

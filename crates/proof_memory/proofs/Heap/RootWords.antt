@@ -3,19 +3,9 @@ use Rattle.std.proofs.Common.{◌≡◌, ℕ, ◌==◌, Bool, true, false, cond,
 use Rattle.std.proofs.lemmas.Bool.{cases_eq, cond_both}
 use Rattle.std.proofs.lemmas.Option.{none-some, same_Some}
 use Rattle.std.proofs.lemmas.List.Elements.{All-head}
-use Rattle.proof_memory.specs.Beneath.history.specs.declared.calls.Call.{Call}
-use Rattle.proof_memory.specs.Beneath.slot_arena.specs.declared.refs.Ref.{Ref}
-use Rattle.proof_memory.specs.Beneath.slot_arena.specs.Heaps.{Heap, refs_of_option}
-use Rattle.machine_model.specs.declared.actions.Action.{Action}
+use Rattle.proof_memory.specs.Vocabulary.{Call, Ref, Heap, refs_of_option, Action, Root, RootWord, Plain, Offer, Descriptor, handle_of, is_close, State, root_at, with_word, with_root, rewritten}
+use Rattle.proof_memory.specs.Vocabulary.{acted, opened, opened_root, carried_out, new_root_taken, if_changed, handle_closed}
 use Rattle.machine_model.specs.declared.actions.Action.TheVariants as act
-use Rattle.machine_model.specs.declared.roots.Root.{Root}
-use Rattle.machine_model.specs.declared.roots.RootWord.{RootWord}
-use Rattle.machine_model.specs.declared.roots.RootWord.TheVariants.{Plain, Offer}
-use Rattle.machine_model.specs.declared.roots.Descriptor.{Descriptor}
-use Rattle.machine_model.specs.Calls.{handle_of, is_close}
-use Rattle.machine_model.specs.States.{State, root_at, with_word, with_root, rewritten}
-use Rattle.machine_model.specs.Acting.{acted, opened, opened_root, carried_out, new_root_taken, if_changed}
-use Rattle.machine_model.specs.Machine.{handle_closed}
 use Rattle.machine_model.proofs.Found.{found_elsewhere, found_here}
 use Rattle.proof_memory.specs.Wants.{AnIndirection, Each, Holds, AllHold, word_wants, action_wants}
 use Rattle.proof_memory.proofs.Claims.Uses.{Meets, from_meets, all_of}

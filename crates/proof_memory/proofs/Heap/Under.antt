@@ -4,18 +4,12 @@ use Rattle.std.proofs.Common.{◌⊎◌, inl, inr, eq-eqb, ne_eqb, arith}
 use Rattle.std.proofs.lemmas.Bool.{cases_eq, false≢true}
 use Rattle.std.proofs.lemmas.List.{get_or-set_same, get_or-set_other, get_or-map, length-map}
 use Rattle.std.proofs.lemmas.Option.{none-some, same_Some}
-use Rattle.proof_memory.specs.Beneath.slot_arena.specs.Refs.{ref_to, slot_of, birth_of, most_slots}
-use Rattle.proof_memory.specs.Beneath.slot_arena.specs.declared.refs.Ref.{Ref}
-use Rattle.proof_memory.specs.Beneath.slot_arena.specs.declared.nodes.Node.{Node}
-use Rattle.proof_memory.specs.Beneath.slot_arena.specs.declared.nodes.Prev.{Prev}
+use Rattle.proof_memory.specs.Vocabulary.{ref_to, slot_of, birth_of, most_slots, Ref, Node, Prev, Slot, Heap, stored, written, with_main, with_prev, main_changed, prev_changed, taken, take_from}
+use Rattle.proof_memory.specs.Vocabulary.{freed, next_ref, ref_in, of_birth, standing}
 use Rattle.proof_memory.specs.Beneath.slot_arena.specs.declared.nodes.Prev.TheVariants as prev
-use Rattle.proof_memory.specs.Beneath.slot_arena.specs.declared.nodes.Slot.{Slot}
-use Rattle.proof_memory.specs.Beneath.slot_arena.specs.Heaps.{Heap, stored, written, with_main, with_prev, main_changed, prev_changed, taken}
-use Rattle.proof_memory.specs.Beneath.slot_arena.specs.Heaps.{take_from, freed, next_ref, ref_in}
 use Rattle.machine_model.proofs.Found.{found_within, found_here}
 use Rattle.machine_model.proofs.Rest.{first_free}
 use Rattle.machine_model.proofs.Slots.{AddsUp}
-use Rattle.machine_model.specs.Grown.{of_birth, standing}
 use Rattle.machine_model.proofs.Grown.{standing_parts}
 use Rattle.proof_memory.specs.Beneath.slot_arena.proofs.Live.{same_ref, slot_of_ref, birth_of_ref}
 

@@ -1,14 +1,7 @@
 -- What is in use is live, as the heap's calls say it.
 use Rattle.std.proofs.Common.{◌≡◌, ℕ, ◌==◌, Bool, true, false, cond, Option, Some, None, refl}
 use Rattle.std.proofs.lemmas.Option.{none-some}
-use Rattle.proof_memory.specs.Beneath.slot_arena.specs.Refs.{birth_of}
-use Rattle.proof_memory.specs.Beneath.slot_arena.specs.declared.refs.Ref.{Ref}
-use Rattle.proof_memory.specs.Beneath.slot_arena.specs.declared.nodes.Slot.{Slot}
-use Rattle.proof_memory.specs.Beneath.slot_arena.specs.Heaps.{Heap, stored, node_at}
-use Rattle.proof_memory.specs.Beneath.slot_arena.specs.Arenas.{IsLive, has_birth}
-use Rattle.machine_model.specs.Grown.{of_birth}
-use Rattle.machine_model.specs.Machine.{run}
-use Rattle.machine_model.specs.Operations.{action_of}
+use Rattle.proof_memory.specs.Vocabulary.{birth_of, Ref, Slot, Heap, stored, node_at, IsLive, has_birth, of_birth, run, action_of}
 use Rattle.proof_memory.specs.Wants.{action_wants}
 use Rattle.proof_memory.specs.Laws.{IsInUse}
 use Rattle.proof_memory.specs.Holding.{LinesLive}

@@ -1,19 +1,9 @@
 -- No reference stands twice in a private list.
 use Rattle.std.proofs.Common.{◌≡◌, ℕ, zero, suc, ◌≤◌, List, [], ◌∷◌, ◌++◌, Contains, Option, Some, None, refl, sym, ap, subst, inl, inr, arith, append-nil, ◌∙◌}
 use Rattle.std.proofs.lemmas.Bool.{cases_eq}
-use Rattle.proof_memory.specs.Beneath.slot_arena.specs.declared.refs.Ref.{Ref}
-use Rattle.proof_memory.specs.Beneath.slot_arena.specs.Heaps.{next_ref}
-use Rattle.proof_memory.specs.Beneath.slot_arena.specs.Times.{times}
+use Rattle.proof_memory.specs.Vocabulary.{Ref, next_ref, times, Action, Operation, Bounds, Step, operation_of, action_of, private_after, with_made, operation_after, AreBounds, run}
 use Rattle.proof_memory.specs.Beneath.slot_arena.proofs.Times.{times-cons, times_push, once, once_same, once_other}
-use Rattle.machine_model.specs.declared.actions.Action.{Action}
 use Rattle.machine_model.specs.declared.actions.Action.TheVariants as act
-use Rattle.machine_model.specs.declared.operations.Operation.{Operation}
-use Rattle.machine_model.specs.declared.steps.Bounds.{Bounds}
-use Rattle.machine_model.specs.declared.steps.Step.{Step}
-use Rattle.machine_model.specs.States.{operation_of}
-use Rattle.machine_model.specs.Operations.{action_of}
-use Rattle.machine_model.specs.Acting.{private_after, with_made, operation_after}
-use Rattle.machine_model.specs.Machine.{AreBounds, run}
 use Rattle.machine_model.proofs.Actors.{mark_only, marks_by, marks_in}
 use Rattle.machine_model.proofs.EachOperation.{OfEach, of_running, of_each_along}
 use Rattle.proof_memory.specs.Holding.{PrivatesOnce}

@@ -1,23 +1,10 @@
 -- There are as many handle numbers and actors as at first.
 use Rattle.std.proofs.Common.{◌≡◌, ℕ, ◌==◌, ◌-◌, Bool, true, false, cond, Option, Some, None, length, refl, ◌∙◌, length-set}
 use Rattle.std.proofs.lemmas.List.{length-map, length-replicate}
-use Rattle.proof_memory.specs.Beneath.slot_arena.specs.declared.refs.Ref.{Ref}
-use Rattle.proof_memory.specs.Beneath.history.specs.declared.calls.Call.{Call}
-use Rattle.machine_model.specs.declared.actions.Action.{Action}
+use Rattle.proof_memory.specs.Vocabulary.{Ref, Call, Action, Operation, Descriptor, RootWord, Plain, Offer, Bounds, Outcome, Step, handle_of, is_close, State, first_state, handle_limit, with_word}
+use Rattle.proof_memory.specs.Vocabulary.{with_root, action_of, acted, carried_out, opened, new_root_taken, if_changed, run, handle_closed, with_begin, Moves, Begins, Ends, Sweeps, begun_operation}
 use Rattle.machine_model.specs.declared.actions.Action.TheVariants as act
-use Rattle.machine_model.specs.declared.operations.Operation.{Operation}
-use Rattle.machine_model.specs.declared.roots.Descriptor.{Descriptor}
-use Rattle.machine_model.specs.declared.roots.RootWord.{RootWord}
-use Rattle.machine_model.specs.declared.roots.RootWord.TheVariants.{Plain, Offer}
-use Rattle.machine_model.specs.declared.steps.Bounds.{Bounds}
-use Rattle.machine_model.specs.declared.steps.Outcome.{Outcome}
-use Rattle.machine_model.specs.declared.steps.Step.{Step}
-use Rattle.machine_model.specs.Calls.{handle_of, is_close}
-use Rattle.machine_model.specs.States.{State, first_state, handle_limit, with_word, with_root}
-use Rattle.machine_model.specs.Operations.{action_of}
-use Rattle.machine_model.specs.Acting.{acted, carried_out, opened, new_root_taken, if_changed}
-use Rattle.machine_model.specs.Machine.{run, handle_closed, with_begin}
-use Rattle.machine_model.specs.Moves.{Moves, Begins, Goes, Ends, Sweeps, begun_operation}
+use Rattle.machine_model.specs.Moves.{Goes}
 use Rattle.machine_model.proofs.Along.{along}
 use Rattle.proof_memory.specs.Holding.{SizesStay}
 

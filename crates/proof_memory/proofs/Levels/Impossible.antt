@@ -4,41 +4,19 @@ use Rattle.std.proofs.Common.{◌≡◌, ℕ, ◌+◌, ◌-◌, ◌==◌, ◌&&�
 use Rattle.std.specs.Cmp.Lexicographic.{pointwise}
 use Rattle.std.proofs.lemmas.Bool.{false≢true, cond_both}
 use Rattle.std.proofs.lemmas.List.Elements.{All-head}
-use Rattle.proof_memory.specs.Beneath.history.specs.declared.calls.Access.{Access}
-use Rattle.proof_memory.specs.Beneath.history.specs.declared.calls.Access.TheVariants.{Writable, ReadOnly}
+use Rattle.proof_memory.specs.Vocabulary.{Access, Writable, ReadOnly, Ref, Node, Indirection, Branch, Single, Tomb, List as Listed, node_at, entry_at, entries_of, next_ref, has_flag, Operation}
+use Rattle.proof_memory.specs.Vocabulary.{Swap, Purpose, Line, RootLine, WhenFound, Answers, Sets, Removes, BuildLine, Climb, CopyLine, needs_writable, when_found, key_of, State, is_below_root}
+use Rattle.proof_memory.specs.Vocabulary.{is_start, flag_in, line_after, renew_next, next_entry, renew_after, renew_after_entry, renew_after_link, renew_after_branch, key_after, absent}
+use Rattle.proof_memory.specs.Vocabulary.{absent_beside, absent_listed, removing, found_so, after_tomb, key_after_main, key_after_entry, is_passable, after_listed, after_sibling, build_after}
+use Rattle.proof_memory.specs.Vocabulary.{clean_next, clean_after, clean_after_entry, clean_after_main, clean_after_tomb, climb_after, climb_after_main, climbing, higher, holds_it, copy_after}
+use Rattle.proof_memory.specs.Vocabulary.{walk_after, walk_next, walk_after_entry, first_of, rest_of}
 use Rattle.arrayvec.specs.ArrayVec.{ArrayVec}
-use Rattle.proof_memory.specs.Beneath.slot_arena.specs.declared.refs.Ref.{Ref}
-use Rattle.proof_memory.specs.Beneath.slot_arena.specs.declared.nodes.Node.{Node}
-use Rattle.proof_memory.specs.Beneath.slot_arena.specs.declared.nodes.Node.TheVariants.{Indirection, Branch, Single, Tomb, List as Listed}
-use Rattle.proof_memory.specs.Beneath.slot_arena.specs.Heaps.{node_at, entry_at, entries_of, next_ref}
-use Rattle.proof_memory.specs.Beneath.nodes.specs.Levels.{has_flag}
-use Rattle.machine_model.specs.declared.operations.Operation.{Operation}
-use Rattle.machine_model.specs.declared.reading.Swap.{Swap}
-use Rattle.machine_model.specs.declared.lines.Purpose.{Purpose}
-use Rattle.machine_model.specs.declared.lines.Line.{Line}
 use Rattle.machine_model.specs.declared.lines.Line.TheVariants as line
-use Rattle.machine_model.specs.declared.roots.RootLine.{RootLine}
 use Rattle.machine_model.specs.declared.finding.KeyLine.TheVariants as key
-use Rattle.machine_model.specs.declared.finding.WhenFound.{WhenFound}
-use Rattle.machine_model.specs.declared.finding.WhenFound.TheVariants.{Answers, Sets, Removes}
-use Rattle.machine_model.specs.declared.building.BuildLine.{BuildLine}
 use Rattle.machine_model.specs.declared.repairs.RenewLine.TheVariants as renew
 use Rattle.machine_model.specs.declared.repairs.CleanLine.TheVariants as clean
 use Rattle.machine_model.specs.declared.repairs.ClimbLine.TheVariants as climb
-use Rattle.machine_model.specs.declared.repairs.Climb.{Climb}
-use Rattle.machine_model.specs.declared.copying.CopyLine.{CopyLine}
 use Rattle.machine_model.specs.declared.walking.WalkLine.TheVariants as walk
-use Rattle.machine_model.specs.Calls.{needs_writable, when_found, key_of}
-use Rattle.machine_model.specs.States.{State}
-use Rattle.machine_model.specs.Paths.{is_below_root, is_start, flag_in}
-use Rattle.machine_model.specs.Operations.{line_after}
-use Rattle.machine_model.specs.Renewing.{renew_next, next_entry, renew_after, renew_after_entry, renew_after_link, renew_after_branch}
-use Rattle.machine_model.specs.Finding.{key_after, absent, absent_beside, absent_listed, removing, found_so, after_tomb, key_after_main, key_after_entry, is_passable, after_listed, after_sibling}
-use Rattle.machine_model.specs.Building.{build_after}
-use Rattle.machine_model.specs.Cleaning.{clean_next, clean_after, clean_after_entry, clean_after_main, clean_after_tomb}
-use Rattle.machine_model.specs.Climbing.{climb_after, climb_after_main, climbing, higher, holds_it}
-use Rattle.machine_model.specs.Copying.{copy_after}
-use Rattle.machine_model.specs.Walking.{walk_after, walk_next, walk_after_entry, first_of, rest_of}
 use Rattle.proof_memory.specs.Wants.{AMain, ABranch, AList, TombOrList, AnEntry, ASingle, WithEntry, meets, is_list, Is, Each, Holds, AllHold, listed, line_wants}
 use Rattle.proof_memory.proofs.Claims.Uses.{Meets, meets_of, is_also, all_of, fact_of}
 use Rattle.proof_memory.proofs.Claims.Nodes.{Heaped, branch_entries, listed_entries, at_position}

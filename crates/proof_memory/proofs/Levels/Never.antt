@@ -1,16 +1,7 @@
 -- Where no tomb stands at the end of a path of one indirection and no list is a parent in CLIMB, no operation comes to the impossible line.
 use Rattle.std.proofs.Common.{◌≡◌, ℕ, Option, Some, None, get_or, subst}
-use Rattle.proof_memory.specs.Beneath.history.specs.declared.calls.Call.{Call}
-use Rattle.proof_memory.specs.Beneath.history.specs.declared.calls.Call.TheVariants.{Close, Entries}
-use Rattle.machine_model.specs.declared.operations.Operation.{Operation}
-use Rattle.machine_model.specs.declared.steps.Bounds.{Bounds}
-use Rattle.machine_model.specs.declared.steps.Outcome.{Outcome}
-use Rattle.machine_model.specs.declared.steps.Step.{Step}
-use Rattle.machine_model.specs.States.{State, first_state}
-use Rattle.machine_model.specs.Operations.{first_line}
-use Rattle.machine_model.specs.Acting.{operation_after}
+use Rattle.proof_memory.specs.Vocabulary.{Call, Close, Entries, Operation, Bounds, Outcome, Step, State, first_state, first_line, operation_after, Moves}
 use Rattle.machine_model.proofs.Found.{none_found}
-use Rattle.machine_model.specs.Moves.{Moves}
 use Rattle.machine_model.proofs.Actors.{mark_one, mark_only}
 use Rattle.proof_memory.proofs.Safety.Guards.{Safe}
 use Rattle.proof_memory.proofs.Safety.EachStep.{each_after}

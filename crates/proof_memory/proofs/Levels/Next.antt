@@ -5,57 +5,28 @@ use Rattle.std.specs.Prelude.{bit_or, bit_xor}
 use Rattle.std.proofs.lemmas.Bool.{false≢true, cond_both, eqb-false}
 use Rattle.std.proofs.lemmas.List.Elements.{All-nil, All-cons, All-take, All-set}
 use Rattle.arrayvec.specs.ArrayVec.{ArrayVec}
-use Rattle.proof_memory.specs.Beneath.history.specs.declared.calls.Call.{Call}
-use Rattle.proof_memory.specs.Beneath.history.specs.declared.calls.Call.TheVariants.{Snapshot}
-use Rattle.proof_memory.specs.Beneath.slot_arena.specs.declared.refs.Ref.{Ref}
-use Rattle.proof_memory.specs.Beneath.slot_arena.specs.declared.nodes.Node.{Node as SlotNode}
-use Rattle.proof_memory.specs.Beneath.slot_arena.specs.declared.nodes.Node.TheVariants.{Branch, List as Listed}
-use Rattle.proof_memory.specs.Beneath.slot_arena.specs.Heaps.{node_at, prev_at, main_at, entry_at, entries_of, bitmap_of, next_ref, no_ref}
-use Rattle.proof_memory.specs.Beneath.nodes.specs.Levels.{parting, index_in, flag_of, list_depth}
-use Rattle.proof_memory.specs.Beneath.nodes.specs.Builders.{pair, contracted, renewed}
-use Rattle.proof_memory.specs.Beneath.ctrie_base.specs.declared.hashes.HashKind.{HashKind}
-use Rattle.proof_memory.specs.Beneath.ctrie_base.specs.Paths.{position_of}
-use Rattle.machine_model.specs.declared.operations.Operation.{Operation}
-use Rattle.machine_model.specs.declared.reading.ReadLine.{ReadLine}
+use Rattle.proof_memory.specs.Vocabulary.{Call, Snapshot, Ref, Node as SlotNode, Branch, List as Listed, node_at, prev_at, main_at, entry_at, entries_of, bitmap_of, next_ref, no_ref, parting}
+use Rattle.proof_memory.specs.Vocabulary.{index_in, flag_of, list_depth, pair, contracted, renewed, HashKind, position_of, Operation, ReadLine, Swap, SwapLine, CompleteLine, Descriptor, RootLine}
+use Rattle.proof_memory.specs.Vocabulary.{BuildLine, Change, Site, Climb, CopyLine, Purpose, Line, handle_of, State, word_at, current, above, depth_of, flag_in, hash_in, is_below_root, read_action}
+use Rattle.proof_memory.specs.Vocabulary.{read_after, action_at, complete_action_at, root_action, is_plain, next_entry, renew_after_link, renew_after_branch, build_action, build_after}
+use Rattle.proof_memory.specs.Vocabulary.{build_if_made, build_after_made, after_single, after_link, changed, old_hash, clean_after_contracted, leaves_single, climb_after_contracted, place_in}
+use Rattle.proof_memory.specs.Vocabulary.{copy_if_made, copy_after_made, after_successor, first_of, rest_of, line_action, line_after}
 use Rattle.machine_model.specs.declared.reading.ReadLine.TheVariants as read
-use Rattle.machine_model.specs.declared.reading.Swap.{Swap}
-use Rattle.machine_model.specs.declared.reading.SwapLine.{SwapLine}
 use Rattle.machine_model.specs.declared.reading.SwapLine.TheVariants as swap
-use Rattle.machine_model.specs.declared.roots.CompleteLine.{CompleteLine}
 use Rattle.machine_model.specs.declared.roots.CompleteLine.TheVariants as complete
-use Rattle.machine_model.specs.declared.roots.Descriptor.{Descriptor}
-use Rattle.machine_model.specs.declared.roots.RootLine.{RootLine}
 use Rattle.machine_model.specs.declared.roots.RootLine.TheVariants as root
 use Rattle.machine_model.specs.declared.finding.KeyLine.TheVariants as key
-use Rattle.machine_model.specs.declared.building.BuildLine.{BuildLine}
 use Rattle.machine_model.specs.declared.building.BuildLine.TheVariants as build
-use Rattle.machine_model.specs.declared.building.Change.{Change}
 use Rattle.machine_model.specs.declared.building.Change.TheVariants as change
-use Rattle.machine_model.specs.declared.building.Site.{Site}
 use Rattle.machine_model.specs.declared.building.Site.TheVariants as site
 use Rattle.machine_model.specs.declared.repairs.RenewLine.TheVariants as renew
 use Rattle.machine_model.specs.declared.repairs.CleanLine.TheVariants as clean
 use Rattle.machine_model.specs.declared.repairs.ClimbLine.TheVariants as climb
-use Rattle.machine_model.specs.declared.repairs.Climb.{Climb}
-use Rattle.machine_model.specs.declared.copying.CopyLine.{CopyLine}
 use Rattle.machine_model.specs.declared.copying.CopyLine.TheVariants as copy
 use Rattle.machine_model.specs.declared.walking.WalkLine.TheVariants as walk
-use Rattle.machine_model.specs.declared.lines.Purpose.{Purpose}
 use Rattle.machine_model.specs.declared.lines.Purpose.TheVariants as purpose
-use Rattle.machine_model.specs.declared.lines.Line.{Line}
 use Rattle.machine_model.specs.declared.lines.Line.TheVariants as line
-use Rattle.machine_model.specs.Calls.{handle_of}
-use Rattle.machine_model.specs.States.{State, word_at}
-use Rattle.machine_model.specs.Paths.{current, above, depth_of, flag_in, hash_in, is_below_root}
-use Rattle.machine_model.specs.Reading.{read_action, read_after}
-use Rattle.machine_model.specs.Swapping.{action_at, complete_action_at, root_action, after_swap, is_plain}
-use Rattle.machine_model.specs.Renewing.{next_entry, renew_after_link, renew_after_branch}
-use Rattle.machine_model.specs.Building.{build_action, build_after, build_if_made, build_after_made, after_single, after_link, changed, old_hash}
-use Rattle.machine_model.specs.Cleaning.{clean_after_contracted, leaves_single}
-use Rattle.machine_model.specs.Climbing.{climb_after_contracted, place_in}
-use Rattle.machine_model.specs.Copying.{copy_if_made, copy_after_made, after_successor}
-use Rattle.machine_model.specs.Walking.{first_of, rest_of}
-use Rattle.machine_model.specs.Operations.{line_action, line_after}
+use Rattle.machine_model.specs.Swapping.{after_swap}
 use Rattle.proof_memory.specs.Wants.{ABranch, BranchOrList, AnEntry, WithEntry, meets, Is, Holds, AllHold, line_wants, site_wants, change_wants, update_wants, swap_wants}
 use Rattle.proof_memory.specs.Wants.{swap_line_wants, purpose_wants, read_wants}
 use Rattle.proof_memory.proofs.Claims.Uses.{safe_of, meets_of, fact_of, entry_of, from_meets, first_hold, last_hold}

@@ -2,12 +2,8 @@
 use Rattle.std.proofs.Common.{◌≡◌, ℕ, ◌+◌, ◌-◌, ◌<◌, true, nat_lt, List, [], ◌∷◌, ◌++◌, length, get_or, sym, ap, ◌∙◌, inl, inr, ltb-true, arith}
 use Rattle.std.proofs.lemmas.Bool.{cases_lt, false≢true}
 use Rattle.std.proofs.lemmas.List.{get_or-take, get_or_append_left, get_or_push, length-take-le, length-append}
-use Rattle.proof_memory.specs.Beneath.slot_arena.specs.declared.refs.Ref.{Ref}
-use Rattle.proof_memory.specs.Beneath.slot_arena.specs.Heaps.{no_ref}
-use Rattle.machine_model.specs.Paths.{current, above, depth_of}
+use Rattle.proof_memory.specs.Vocabulary.{Ref, no_ref, current, above, depth_of, Node, Single}
 use Rattle.proof_memory.specs.Levels.{PathLevel, NodeLevel}
-use Rattle.proof_memory.specs.Beneath.slot_arena.specs.declared.nodes.Node.{Node}
-use Rattle.proof_memory.specs.Beneath.slot_arena.specs.declared.nodes.Node.TheVariants.{Single}
 use Rattle.proof_memory.specs.Wants.{meets, ASingle}
 
 module _ (lv : Ref → ℕ) where

@@ -3,25 +3,12 @@ use Rattle.std.proofs.Common.{zero, suc, ◌≡◌, ℕ, ◌+◌, ◌<◌, ◌�
 use Rattle.std.proofs.lemmas.Bool.{cond_both, false≢true}
 use Rattle.std.proofs.lemmas.Option.{none-some}
 use Rattle.std.proofs.lemmas.List.Elements.{All-nil}
-use Rattle.proof_memory.specs.Beneath.slot_arena.specs.Refs.{ref_to, birth_of}
-use Rattle.proof_memory.specs.Beneath.slot_arena.specs.declared.refs.Ref.{Ref}
-use Rattle.proof_memory.specs.Beneath.slot_arena.specs.declared.nodes.Node.{Node}
-use Rattle.proof_memory.specs.Beneath.slot_arena.specs.Heaps.{Heap, next_ref}
-use Rattle.machine_model.specs.declared.operations.Operation.{Operation}
-use Rattle.machine_model.specs.declared.steps.Bounds.{Bounds}
-use Rattle.machine_model.specs.declared.steps.Outcome.{Outcome}
-use Rattle.machine_model.specs.declared.steps.Step.{Step}
+use Rattle.proof_memory.specs.Vocabulary.{ref_to, birth_of, Ref, Node, Heap, next_ref, Operation, Bounds, Outcome, Step, handle_of, State, first_state, operation_of, action_of, gone, Answer}
+use Rattle.proof_memory.specs.Vocabulary.{AreBounds, run, run_from, next, next_state, state_after, is_number, taken_steps, states_from, states_of, Begins, Ends, Sweeps, Moves, MovesIfTaken}
 use Rattle.machine_model.specs.declared.steps.Step.TheVariants as step
-use Rattle.machine_model.specs.Calls.{handle_of}
-use Rattle.machine_model.specs.States.{State, first_state, operation_of}
-use Rattle.machine_model.specs.Operations.{action_of}
-use Rattle.machine_model.specs.Acting.{gone}
-use Rattle.machine_model.specs.Machine.{Answer, AreBounds, run, run_from, next, next_state, state_after, is_number, taken_steps}
-use Rattle.machine_model.specs.Times.{states_from, states_of}
 use Rattle.machine_model.proofs.Found.{none_found}
 use Rattle.machine_model.proofs.Moves.{moves}
-use Rattle.machine_model.specs.Moves.{Begins, Goes, Ends, Sweeps}
-use Rattle.machine_model.specs.Moves.{Moves, MovesIfTaken}
+use Rattle.machine_model.specs.Moves.{Goes}
 use Rattle.proof_memory.proofs.Claims.Uses.{safe_of}
 use Rattle.proof_memory.proofs.Heap.Under.{births_taken}
 use Rattle.proof_memory.specs.Making.{made_node}

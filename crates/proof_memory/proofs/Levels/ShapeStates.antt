@@ -4,47 +4,23 @@ use Rattle.std.proofs.Common.{ltb-true, ltb-false, arith}
 use Rattle.std.proofs.lemmas.Bool.{cases_eq, false≢true}
 use Rattle.std.proofs.lemmas.Option.{none-some, same_Some}
 use Rattle.std.proofs.lemmas.List.{length-take-le}
-use Rattle.proof_memory.specs.Beneath.ctrie_base.specs.declared.hashes.HashKind.{HashKind}
-use Rattle.proof_memory.specs.Beneath.history.specs.declared.calls.Access.{Access}
-use Rattle.proof_memory.specs.Beneath.history.specs.declared.calls.Call.{Call}
-use Rattle.proof_memory.specs.Beneath.history.specs.declared.calls.Call.TheVariants.{Close, Entries}
-use Rattle.proof_memory.specs.Beneath.slot_arena.specs.Refs.{ref_to}
-use Rattle.proof_memory.specs.Beneath.slot_arena.specs.declared.refs.Ref.{Ref}
-use Rattle.proof_memory.specs.Beneath.slot_arena.specs.declared.nodes.Node.{Node}
-use Rattle.proof_memory.specs.Beneath.slot_arena.specs.declared.nodes.Node.TheVariants.{Indirection, Branch, Single, Tomb, List as Listed}
+use Rattle.proof_memory.specs.Vocabulary.{HashKind, Access, Call, Close, Entries, ref_to, Ref, Node, Indirection, Branch, Single, Tomb, List as Listed, Slot, node_at, with_main_word, main_changed}
+use Rattle.proof_memory.specs.Vocabulary.{prev_changed, next_ref, no_ref, list_depth, ripe, Action, Operation, Line, Bounds, Outcome, Step, handle_of, State, first_state, operation_of, above}
+use Rattle.proof_memory.specs.Vocabulary.{depth_of, action_of, first_line, operation_after, gone, settled, AreBounds, run, pin_of, taken_steps, states_of, Begins, Ends, Sweeps, Moves}
+use Rattle.proof_memory.specs.Vocabulary.{begun_operation, standing}
 use Rattle.proof_memory.specs.Beneath.slot_arena.specs.declared.nodes.Prev.TheVariants as prev
-use Rattle.proof_memory.specs.Beneath.slot_arena.specs.declared.nodes.Slot.{Slot}
-use Rattle.proof_memory.specs.Beneath.slot_arena.specs.Heaps.{node_at, with_main_word, main_changed, prev_changed, next_ref, no_ref}
-use Rattle.proof_memory.specs.Beneath.nodes.specs.Levels.{list_depth}
-use Rattle.proof_memory.specs.Beneath.epochs.specs.Sweeping.{ripe}
-use Rattle.machine_model.specs.declared.actions.Action.{Action}
 use Rattle.machine_model.specs.declared.actions.Action.TheVariants as act
-use Rattle.machine_model.specs.declared.operations.Operation.{Operation}
-use Rattle.machine_model.specs.declared.lines.Line.{Line}
 use Rattle.machine_model.specs.declared.lines.Line.TheVariants as line
 use Rattle.machine_model.specs.declared.finding.KeyLine.TheVariants as key
 use Rattle.machine_model.specs.declared.repairs.ClimbLine.TheVariants as climb
-use Rattle.machine_model.specs.declared.steps.Bounds.{Bounds}
-use Rattle.machine_model.specs.declared.steps.Outcome.{Outcome}
-use Rattle.machine_model.specs.declared.steps.Step.{Step}
-use Rattle.machine_model.specs.Calls.{handle_of}
-use Rattle.machine_model.specs.States.{State, first_state, operation_of}
-use Rattle.machine_model.specs.Paths.{above, depth_of}
-use Rattle.machine_model.specs.Operations.{action_of, first_line}
-use Rattle.machine_model.specs.Acting.{operation_after, gone}
-use Rattle.machine_model.specs.Counting.{settled}
-use Rattle.machine_model.specs.Machine.{AreBounds, run, pin_of, taken_steps}
-use Rattle.machine_model.specs.Times.{states_of}
 use Rattle.machine_model.proofs.Along.{along}
 use Rattle.machine_model.proofs.Found.{none_found}
 use Rattle.machine_model.proofs.Frames.{limits_kept}
-use Rattle.machine_model.specs.Moves.{Begins, Goes, Ends, Sweeps}
-use Rattle.machine_model.specs.Moves.{Moves, begun_operation}
+use Rattle.machine_model.specs.Moves.{Goes}
 use Rattle.machine_model.proofs.Actors.{mark_one, mark_only}
 use Rattle.machine_model.proofs.HeapMoves.{begin_heap}
 use Rattle.machine_model.proofs.InUse.{InUse}
 use Rattle.machine_model.proofs.Slots.{ripe_in_use}
-use Rattle.machine_model.specs.Grown.{standing}
 use Rattle.proof_memory.specs.Wants.{is_list, is_indirection, AllHold, line_wants}
 use Rattle.proof_memory.specs.Laws.{IsInUse}
 use Rattle.proof_memory.proofs.Claims.Uses.{safe_of, all_of, fact_of}

@@ -3,68 +3,31 @@
 use Rattle.std.proofs.Common.{◌≡◌, ℕ, zero, suc, ◌+◌, ◌-◌, ◌<◌, ◌≤◌, ◌==◌, ◌&&◌, Bool, true, false, nat_lt, nat_le, List, [], ◌∷◌, length, Option, Some, None, refl, sym, ap, ◌∙◌}
 use Rattle.std.proofs.Common.{subst, ltb-true, eqb-true, arith}
 use Rattle.std.proofs.lemmas.Bool.{false≢true, cond_both, eqb-false, and_parts}
-use Rattle.proof_memory.specs.Beneath.ctrie_base.specs.declared.hashes.HashKind.{HashKind}
-use Rattle.proof_memory.specs.Beneath.ctrie_base.specs.declared.hashes.HashKind.TheVariants.{Low, Fold, Wide, Block}
-use Rattle.proof_memory.specs.Beneath.slot_arena.specs.declared.refs.Ref.{Ref}
-use Rattle.proof_memory.specs.Beneath.slot_arena.specs.declared.nodes.Node.{Node as SlotNode}
-use Rattle.proof_memory.specs.Beneath.slot_arena.specs.declared.nodes.Node.TheVariants.{Indirection, Branch, Single, Tomb, List as Listed}
-use Rattle.proof_memory.specs.Beneath.slot_arena.specs.Heaps.{node_at, entry_at, entries_of, bitmap_of, next_ref}
-use Rattle.proof_memory.specs.Beneath.nodes.specs.Levels.{parting, index_in, list_depth}
-use Rattle.proof_memory.specs.Beneath.nodes.specs.Builders.{pair, contracted}
-use Rattle.machine_model.specs.declared.operations.Operation.{Operation}
-use Rattle.machine_model.specs.declared.actions.Action.{Action}
+use Rattle.proof_memory.specs.Vocabulary.{HashKind, Low, Fold, Wide, Block, Ref, Node as SlotNode, Indirection, Branch, Single, Tomb, List as Listed, node_at, entry_at, entries_of, bitmap_of}
+use Rattle.proof_memory.specs.Vocabulary.{next_ref, parting, index_in, list_depth, pair, contracted, Operation, Action, Read, Swap, Purpose, Line, ReadLine, SwapLine, CompleteLine, Descriptor}
+use Rattle.proof_memory.specs.Vocabulary.{RootLine, read_action, action_at, complete_action_at, root_action, KeyLine, WhenFound, Answers, Sets, Removes, BuildLine, Change, Site, RenewLine}
+use Rattle.proof_memory.specs.Vocabulary.{CleanLine, ClimbLine, CopyLine, WalkLine, key_of, inserts, when_found, State, above, depth_of, is_below_root, flag_in, hash_in, line_action, line_after}
+use Rattle.proof_memory.specs.Vocabulary.{key_after, removing, found_so, absent, key_after_main, key_after_entry, after_listed, after_sibling, is_passable, renew_after, build_action, build_after}
+use Rattle.proof_memory.specs.Vocabulary.{build_after_made, build_if_made, after_single, pair_depth, old_hash, changed, clean_after, leaves_single, climb_after, copy_after, walk_after}
 use Rattle.machine_model.specs.declared.actions.Action.TheVariants as act
-use Rattle.machine_model.specs.declared.reading.Read.{Read}
-use Rattle.machine_model.specs.declared.reading.Swap.{Swap}
-use Rattle.machine_model.specs.declared.lines.Purpose.{Purpose}
-use Rattle.machine_model.specs.declared.lines.Line.{Line}
 use Rattle.machine_model.specs.declared.lines.Line.TheVariants as line
-use Rattle.machine_model.specs.declared.reading.ReadLine.{ReadLine}
 use Rattle.machine_model.specs.declared.reading.ReadLine.TheVariants as read
-use Rattle.machine_model.specs.declared.reading.SwapLine.{SwapLine}
 use Rattle.machine_model.specs.declared.reading.SwapLine.TheVariants as swap
-use Rattle.machine_model.specs.declared.roots.CompleteLine.{CompleteLine}
 use Rattle.machine_model.specs.declared.roots.CompleteLine.TheVariants as complete
-use Rattle.machine_model.specs.declared.roots.Descriptor.{Descriptor}
-use Rattle.machine_model.specs.declared.roots.RootLine.{RootLine}
 use Rattle.machine_model.specs.declared.roots.RootLine.TheVariants as root
 use Rattle.machine_model.specs.declared.copying.CopyLine.TheVariants as copy
 use Rattle.machine_model.specs.declared.walking.WalkLine.TheVariants as walk
-use Rattle.machine_model.specs.Reading.{read_action}
-use Rattle.machine_model.specs.Swapping.{action_at, complete_action_at, root_action}
 use Rattle.proof_memory.specs.Wants.{ABranch, BranchOrList, meets, Is, Holds, AllHold, line_wants, site_wants}
 use Rattle.proof_memory.proofs.Claims.Uses.{safe_of, meets_of}
 use Rattle.proof_memory.proofs.Claims.Nodes.{Heaped}
 use Rattle.proof_memory.specs.Levels.{LineLevel, BuildLevel, build_level, made_level}
-use Rattle.machine_model.specs.declared.finding.KeyLine.{KeyLine}
 use Rattle.machine_model.specs.declared.finding.KeyLine.TheVariants as key
-use Rattle.machine_model.specs.declared.finding.WhenFound.{WhenFound}
-use Rattle.machine_model.specs.declared.finding.WhenFound.TheVariants.{Answers, Sets, Removes}
-use Rattle.machine_model.specs.declared.building.BuildLine.{BuildLine}
 use Rattle.machine_model.specs.declared.building.BuildLine.TheVariants as build
-use Rattle.machine_model.specs.declared.building.Change.{Change}
 use Rattle.machine_model.specs.declared.building.Change.TheVariants as change
-use Rattle.machine_model.specs.declared.building.Site.{Site}
 use Rattle.machine_model.specs.declared.building.Site.TheVariants as site
-use Rattle.machine_model.specs.declared.repairs.RenewLine.{RenewLine}
 use Rattle.machine_model.specs.declared.repairs.RenewLine.TheVariants as renew
-use Rattle.machine_model.specs.declared.repairs.CleanLine.{CleanLine}
 use Rattle.machine_model.specs.declared.repairs.CleanLine.TheVariants as clean
-use Rattle.machine_model.specs.declared.repairs.ClimbLine.{ClimbLine}
 use Rattle.machine_model.specs.declared.repairs.ClimbLine.TheVariants as climb
-use Rattle.machine_model.specs.declared.copying.CopyLine.{CopyLine}
-use Rattle.machine_model.specs.declared.walking.WalkLine.{WalkLine}
-use Rattle.machine_model.specs.Calls.{key_of, inserts, when_found}
-use Rattle.machine_model.specs.States.{State}
-use Rattle.machine_model.specs.Paths.{above, depth_of, is_below_root, flag_in, hash_in}
-use Rattle.machine_model.specs.Operations.{line_action, line_after}
-use Rattle.machine_model.specs.Finding.{key_after, removing, found_so, absent, key_after_main, key_after_entry, after_listed, after_sibling, is_passable}
-use Rattle.machine_model.specs.Renewing.{renew_after}
-use Rattle.machine_model.specs.Building.{build_action, build_after, build_after_made, build_if_made, after_single, pair_depth, old_hash, changed}
-use Rattle.machine_model.specs.Cleaning.{clean_after, leaves_single}
-use Rattle.machine_model.specs.Climbing.{climb_after}
-use Rattle.machine_model.specs.Copying.{copy_after}
-use Rattle.machine_model.specs.Walking.{walk_after}
 
 -- ---- nodes
 

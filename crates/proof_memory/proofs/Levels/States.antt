@@ -3,37 +3,18 @@ use Rattle.std.proofs.Common.{◌≡◌, ℕ, suc, ◌+◌, ◌<◌, ◌≤◌, 
 use Rattle.std.proofs.lemmas.Bool.{cases_eq, or_cases, false≢true}
 use Rattle.std.proofs.lemmas.Option.{none-some, same_Some}
 use Rattle.std.proofs.lemmas.List.Elements.{All-head}
-use Rattle.proof_memory.specs.Beneath.history.specs.declared.calls.Call.{Call}
-use Rattle.proof_memory.specs.Beneath.history.specs.declared.calls.Call.TheVariants.{Close, Entries}
-use Rattle.proof_memory.specs.Beneath.slot_arena.specs.Refs.{birth_of}
-use Rattle.proof_memory.specs.Beneath.slot_arena.specs.declared.refs.Ref.{Ref}
-use Rattle.proof_memory.specs.Beneath.slot_arena.specs.declared.nodes.Node.{Node}
-use Rattle.proof_memory.specs.Beneath.slot_arena.specs.declared.nodes.Node.TheVariants.{Indirection, Branch, Single, Tomb, List as Listed}
+use Rattle.proof_memory.specs.Vocabulary.{Call, Close, Entries, birth_of, Ref, Node, Indirection, Branch, Single, Tomb, List as Listed, Slot, Heap, node_at, prev_at, main_at, with_main, with_prev}
+use Rattle.proof_memory.specs.Vocabulary.{with_main_word, main_changed, prev_changed, next_ref, refs_of_option, Action, Operation, Root, Outcome, Step, handle_of, State, root_at, word_of}
+use Rattle.proof_memory.specs.Vocabulary.{operation_of, action_of, first_line, operation_after, gone, acted, decided, if_changed, Verdict, Commits, Fails, Overtaken, verdict, settled, pin_of, ripe}
+use Rattle.proof_memory.specs.Vocabulary.{Begins, Ends, Sweeps, Moves, GoesOn, begun_operation, standing}
 use Rattle.proof_memory.specs.Beneath.slot_arena.specs.declared.nodes.Prev.TheVariants as prev
-use Rattle.proof_memory.specs.Beneath.slot_arena.specs.declared.nodes.Slot.{Slot}
-use Rattle.proof_memory.specs.Beneath.slot_arena.specs.Heaps.{Heap, node_at, prev_at, main_at, with_main, with_prev, with_main_word, main_changed, prev_changed, next_ref, refs_of_option}
-use Rattle.machine_model.specs.declared.actions.Action.{Action}
 use Rattle.machine_model.specs.declared.actions.Action.TheVariants as act
-use Rattle.machine_model.specs.declared.operations.Operation.{Operation}
-use Rattle.machine_model.specs.declared.roots.Root.{Root}
-use Rattle.machine_model.specs.declared.steps.Outcome.{Outcome}
-use Rattle.machine_model.specs.declared.steps.Step.{Step}
 use Rattle.machine_model.specs.declared.steps.Step.TheVariants as step
-use Rattle.machine_model.specs.Calls.{handle_of}
-use Rattle.machine_model.specs.States.{State, root_at, word_of, operation_of}
-use Rattle.machine_model.specs.Operations.{action_of, first_line}
-use Rattle.machine_model.specs.Acting.{operation_after, gone, acted, decided, if_changed}
-use Rattle.machine_model.specs.Reading.{Verdict, Commits, Fails, Overtaken, verdict}
-use Rattle.machine_model.specs.Counting.{settled}
-use Rattle.machine_model.specs.Machine.{pin_of}
-use Rattle.proof_memory.specs.Beneath.epochs.specs.Sweeping.{ripe}
 use Rattle.machine_model.proofs.HeapMoves.{aborted_heap, offered_heap, completed_heap, begin_heap}
 use Rattle.machine_model.proofs.InUse.{InUse}
 use Rattle.machine_model.proofs.Slots.{ripe_in_use}
-use Rattle.machine_model.specs.Moves.{Begins, Goes, Ends, Sweeps}
-use Rattle.machine_model.specs.Moves.{Moves, GoesOn, begun_operation}
+use Rattle.machine_model.specs.Moves.{Goes}
 use Rattle.machine_model.proofs.Actors.{IsOf, is_of, mark_one, mark_only, marks_in, marks_by, of_others, of_itself, of_begin, of_end}
-use Rattle.machine_model.specs.Grown.{standing}
 use Rattle.proof_memory.specs.Wants.{is_formed, AllHold, node_wants, prev_wants}
 use Rattle.proof_memory.specs.Laws.{IsInUse}
 use Rattle.proof_memory.proofs.Claims.Uses.{first_hold, last_hold}

@@ -3,50 +3,22 @@ use Rattle.std.proofs.Common.{◌≡◌, ℕ, ◌+◌, ◌<◌, ◌≤◌, ◌==
 use Rattle.std.specs.Cmp.Lexicographic.{pointwise}
 use Rattle.std.proofs.lemmas.Bool.{false≢true, cond_both}
 use Rattle.std.proofs.lemmas.List.Elements.{All-nil, All-push}
-use Rattle.proof_memory.specs.Beneath.history.specs.declared.calls.Access.{Access}
-use Rattle.proof_memory.specs.Beneath.history.specs.declared.calls.Access.TheVariants.{Writable, ReadOnly}
-use Rattle.proof_memory.specs.Beneath.history.specs.declared.calls.Call.{Call}
-use Rattle.proof_memory.specs.Beneath.history.specs.declared.calls.Call.TheVariants.{Clear, Snapshot, Freeze}
-use Rattle.proof_memory.specs.Beneath.slot_arena.specs.declared.refs.Ref.{Ref}
-use Rattle.proof_memory.specs.Beneath.slot_arena.specs.declared.nodes.Node.{Node}
-use Rattle.proof_memory.specs.Beneath.slot_arena.specs.declared.nodes.Node.TheVariants.{Indirection, Branch, Single, Tomb, List as Listed}
-use Rattle.proof_memory.specs.Beneath.slot_arena.specs.declared.nodes.Prev.{Prev}
+use Rattle.proof_memory.specs.Vocabulary.{Access, Writable, ReadOnly, Call, Clear, Snapshot, Freeze, Ref, Node, Indirection, Branch, Single, Tomb, List as Listed, Prev, node_at, prev_at, main_at}
+use Rattle.proof_memory.specs.Vocabulary.{main_of, entry_at, entries_of, generation_at, has_flag, Operation, After, Gives, ReadLine, Swap, SwapLine, Complete, CompleteLine, Descriptor, RootLine}
+use Rattle.proof_memory.specs.Vocabulary.{RootWord, Plain, Offer, WhenFound, Answers, Sets, Removes, Climb, Purpose, Line, handle_of, key_of, inserts, when_found, State, word_at, above, depth_of}
+use Rattle.proof_memory.specs.Vocabulary.{is_below_root, flag_in, is_start, Verdict, Commits, Fails, Overtaken, read_after, after_prev, after_ask, after_decide, after_restore, verdict}
+use Rattle.proof_memory.specs.Vocabulary.{at_indirection, after_publish, after_deciding, after_check, on_line, after_reading, after_complete, of_offer, complete_after, after_root_word}
+use Rattle.proof_memory.specs.Vocabulary.{after_completing, root_after, renew_next, next_entry, renew_after_entry, renew_after_read, absent, removing, found_so, key_after_read, after_tomb}
+use Rattle.proof_memory.specs.Vocabulary.{key_after_main, is_passable, key_after_entry, after_listed, after_sibling, clean_next, clean_after_read, clean_after_main, clean_after_entry, after_child}
+use Rattle.proof_memory.specs.Vocabulary.{clean_after_tomb, climbing, higher, climb_after_read, holds_it, climb_after_main, climb_after_root, copy_after_read, after_given, after_offer}
+use Rattle.proof_memory.specs.Vocabulary.{copy_after_complete, walk_next, walk_after_read, walk_after_entry, after_root, after_update, climbed_on, swapped}
 use Rattle.proof_memory.specs.Beneath.slot_arena.specs.declared.nodes.Prev.TheVariants as prev
-use Rattle.proof_memory.specs.Beneath.slot_arena.specs.Heaps.{node_at, prev_at, main_at, main_of, entry_at, entries_of, generation_at}
-use Rattle.proof_memory.specs.Beneath.nodes.specs.Levels.{has_flag}
-use Rattle.machine_model.specs.declared.operations.Operation.{Operation}
-use Rattle.machine_model.specs.declared.reading.After.{After}
-use Rattle.machine_model.specs.declared.reading.After.TheVariants.{Goes, Gives}
-use Rattle.machine_model.specs.declared.reading.ReadLine.{ReadLine}
+use Rattle.machine_model.specs.declared.reading.After.TheVariants.{Goes}
 use Rattle.machine_model.specs.declared.reading.ReadLine.TheVariants as read
-use Rattle.machine_model.specs.declared.reading.Swap.{Swap}
-use Rattle.machine_model.specs.declared.reading.SwapLine.{SwapLine}
-use Rattle.machine_model.specs.declared.roots.Complete.{Complete}
-use Rattle.machine_model.specs.declared.roots.CompleteLine.{CompleteLine}
 use Rattle.machine_model.specs.declared.roots.CompleteLine.TheVariants as complete
-use Rattle.machine_model.specs.declared.roots.Descriptor.{Descriptor}
-use Rattle.machine_model.specs.declared.roots.RootLine.{RootLine}
 use Rattle.machine_model.specs.declared.roots.RootLine.TheVariants as root
-use Rattle.machine_model.specs.declared.roots.RootWord.{RootWord}
-use Rattle.machine_model.specs.declared.roots.RootWord.TheVariants.{Plain, Offer}
-use Rattle.machine_model.specs.declared.finding.WhenFound.{WhenFound}
-use Rattle.machine_model.specs.declared.finding.WhenFound.TheVariants.{Answers, Sets, Removes}
-use Rattle.machine_model.specs.declared.repairs.Climb.{Climb}
-use Rattle.machine_model.specs.declared.lines.Purpose.{Purpose}
 use Rattle.machine_model.specs.declared.lines.Purpose.TheVariants as purpose
-use Rattle.machine_model.specs.declared.lines.Line.{Line}
-use Rattle.machine_model.specs.Calls.{handle_of, key_of, inserts, when_found}
-use Rattle.machine_model.specs.States.{State, word_at}
-use Rattle.machine_model.specs.Paths.{above, depth_of, is_below_root, flag_in, is_start}
-use Rattle.machine_model.specs.Reading.{Verdict, Commits, Fails, Overtaken, read_after, after_prev, after_ask, after_decide, after_restore, verdict, at_indirection}
-use Rattle.machine_model.specs.Swapping.{after_publish, after_deciding, after_check, on_line, after_reading, after_complete, of_offer, complete_after, after_root_word, after_completing, root_after}
-use Rattle.machine_model.specs.Renewing.{renew_next, next_entry, renew_after_entry, renew_after_read}
-use Rattle.machine_model.specs.Finding.{absent, removing, found_so, key_after_read, after_tomb, key_after_main, is_passable, key_after_entry, after_listed, after_sibling}
-use Rattle.machine_model.specs.Cleaning.{clean_next, clean_after_read, clean_after_main, clean_after_entry, after_child, clean_after_tomb}
-use Rattle.machine_model.specs.Climbing.{climbing, higher, climb_after_read, holds_it, climb_after_main, climb_after_root}
-use Rattle.machine_model.specs.Copying.{copy_after_read, after_given, after_offer, copy_after_complete}
-use Rattle.machine_model.specs.Walking.{walk_next, walk_after_read, walk_after_entry}
-use Rattle.machine_model.specs.Operations.{from_root, after_root, after_update, climbed_on, swapped}
+use Rattle.machine_model.specs.Operations.{from_root}
 use Rattle.machine_model.specs.Operations.{after_swap as line_after_swap}
 use Rattle.proof_memory.specs.Wants.{AnIndirection, ABranch, ASingle, meets, Is, Holds, AllHold, node_wants, read_wants, complete_wants, offer_wants, root_wants}
 use Rattle.proof_memory.proofs.Claims.Uses.{safe_of, meets_of, last_hold}

@@ -4,21 +4,10 @@ use Rattle.std.proofs.Common.{◌⊎◌, inl, inr, leb-false, arith}
 use Rattle.std.proofs.lemmas.Bool.{cond_both, cases_Bool}
 use Rattle.std.proofs.lemmas.Option.{none-some}
 use Rattle.std.proofs.lemmas.List.Elements.{All-nil, All-cons, All-head, All-tail, All-append, All-filter, All-map, All-weaker}
-use Rattle.proof_memory.specs.Beneath.slot_arena.specs.declared.refs.Ref.{Ref}
-use Rattle.proof_memory.specs.Beneath.slot_arena.specs.Heaps.{Heap}
-use Rattle.proof_memory.specs.Beneath.epochs.specs.declared.limbo.Zeroed.{Zeroed}
-use Rattle.proof_memory.specs.Beneath.epochs.specs.declared.limbo.Swept.{Swept}
-use Rattle.proof_memory.specs.Beneath.epochs.specs.Limbo.{is_zero, is_in_use, newly_zero, limbo_after}
-use Rattle.proof_memory.specs.Beneath.epochs.specs.Sweeping.{Reclaimer, ripe, sweep_by}
-use Rattle.machine_model.specs.declared.steps.Bounds.{Bounds}
-use Rattle.machine_model.specs.declared.steps.Outcome.{Outcome}
-use Rattle.machine_model.specs.declared.steps.Step.{Step}
-use Rattle.machine_model.specs.States.{State, first_state}
-use Rattle.machine_model.specs.Counting.{outside}
-use Rattle.machine_model.specs.Machine.{run, pin_of, reclaimer_of}
+use Rattle.proof_memory.specs.Vocabulary.{Ref, Heap, Zeroed, Swept, is_zero, is_in_use, newly_zero, limbo_after, Reclaimer, ripe, sweep_by, Bounds, Outcome, Step, State, first_state, outside, run}
+use Rattle.proof_memory.specs.Vocabulary.{pin_of, reclaimer_of, Begins, Ends, Sweeps, Moves, begun_operation}
 use Rattle.machine_model.proofs.Along.{along}
-use Rattle.machine_model.specs.Moves.{Begins, Goes, Ends, Sweeps}
-use Rattle.machine_model.specs.Moves.{Moves, begun_operation}
+use Rattle.machine_model.specs.Moves.{Goes}
 use Rattle.proof_memory.specs.Laws.{IsRising}
 use Rattle.proof_memory.proofs.Safety.Base.{begin_times}
 use Rattle.proof_memory.proofs.Safety.Steps.{gone_epoch, limbo_is}

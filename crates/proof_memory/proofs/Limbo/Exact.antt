@@ -5,15 +5,9 @@ use Rattle.std.specs.List.{list_any}
 use Rattle.std.proofs.lemmas.Bool.{cond_both, cases_Bool, or_cases, or_left, or_right, and_from, false≢true, not_from_false}
 use Rattle.std.proofs.lemmas.Option.{none-some, same_Some}
 use Rattle.std.proofs.lemmas.List.Elements.{All-map, All-contains, Contains-append_left, Contains-append_right}
-use Rattle.proof_memory.specs.Beneath.slot_arena.specs.Refs.{ref_to, slot_of, birth_of}
-use Rattle.proof_memory.specs.Beneath.slot_arena.specs.declared.refs.Ref.{Ref}
-use Rattle.proof_memory.specs.Beneath.slot_arena.specs.declared.nodes.Slot.{Slot}
-use Rattle.proof_memory.specs.Beneath.slot_arena.specs.Heaps.{Heap, stored, named_from, in_use}
-use Rattle.proof_memory.specs.Beneath.slot_arena.specs.Counts.{count_of}
-use Rattle.proof_memory.specs.Beneath.epochs.specs.declared.limbo.Zeroed.{Zeroed}
-use Rattle.proof_memory.specs.Beneath.epochs.specs.Limbo.{is_zero, is_in, is_in_use, newly_zero, by_birth, put_in, limbo_after}
-use Rattle.machine_model.specs.States.{State}
-use Rattle.machine_model.specs.Counting.{outside}
+use Rattle.proof_memory.specs.Vocabulary.{ref_to, slot_of, birth_of, Ref, Slot, Heap, stored, named_from, in_use, count_of, Zeroed, is_zero, is_in, is_in_use, newly_zero, by_birth, limbo_after}
+use Rattle.proof_memory.specs.Vocabulary.{State, outside}
+use Rattle.proof_memory.specs.Beneath.epochs.specs.Limbo.{put_in}
 use Rattle.proof_memory.specs.Laws.{IsInUse, IsZero}
 use Rattle.proof_memory.proofs.Safety.States.{IsSafe, stands_in_use}
 use Rattle.machine_model.proofs.Grown.{standing_parts}

@@ -6,28 +6,13 @@ use Rattle.std.proofs.Common.{refl, sym, ap, subst, arith, eq-eqb, leb-true, leb
 use Rattle.std.proofs.lemmas.Bool.{and_from, false≢true, lt-ltb}
 use Rattle.std.proofs.lemmas.List.{length-map}
 use Rattle.std.proofs.lemmas.List.Elements.{All-head}
-use Rattle.proof_memory.specs.Beneath.slot_arena.specs.declared.refs.Ref.{Ref}
-use Rattle.proof_memory.specs.Beneath.slot_arena.specs.Heaps.{freed, in_use}
-use Rattle.proof_memory.specs.Beneath.slot_arena.specs.Refs.{most_slots}
-use Rattle.proof_memory.specs.Beneath.slot_arena.specs.Times.{times}
-use Rattle.proof_memory.specs.Beneath.epochs.specs.declared.limbo.Swept.{Swept}
-use Rattle.proof_memory.specs.Beneath.epochs.specs.declared.limbo.Zeroed.{Zeroed}
-use Rattle.proof_memory.specs.Beneath.epochs.specs.Limbo.{is_in_use, is_zero, limbo_after, newly_zero}
-use Rattle.proof_memory.specs.Beneath.epochs.specs.Sweeping.{Reclaimer, advanced, is_passed, ripe, scanned, sweep_by}
+use Rattle.proof_memory.specs.Vocabulary.{Ref, freed, in_use, most_slots, times, Swept, Zeroed, is_in_use, is_zero, limbo_after, newly_zero, Reclaimer, advanced, is_passed, ripe, scanned, sweep_by}
+use Rattle.proof_memory.specs.Vocabulary.{Operation, Bounds, Outcome, Step, gone, handle_of, outside, settled, is_busy, pin_of, reclaimer_of, run, swept_with, Moves, Begins, Ends, Sweeps}
+use Rattle.proof_memory.specs.Vocabulary.{begun_operation, action_of, State, first_state}
 use Rattle.proof_memory.specs.Beneath.epochs.proofs.InUse.{live_in_use}
 use Rattle.proof_memory.specs.Beneath.epochs.proofs.Staying.{any_times}
-use Rattle.machine_model.specs.declared.operations.Operation.{Operation}
-use Rattle.machine_model.specs.declared.steps.Bounds.{Bounds}
-use Rattle.machine_model.specs.declared.steps.Outcome.{Outcome}
-use Rattle.machine_model.specs.declared.steps.Step.{Step}
 use Rattle.machine_model.specs.declared.steps.Step.TheVariants as step
-use Rattle.machine_model.specs.Acting.{gone}
-use Rattle.machine_model.specs.Calls.{handle_of}
-use Rattle.machine_model.specs.Counting.{outside, settled}
-use Rattle.machine_model.specs.Machine.{is_busy, pin_of, reclaimer_of, run, swept_with}
-use Rattle.machine_model.specs.Moves.{Moves, Begins, Ends, Goes, Sweeps, begun_operation}
-use Rattle.machine_model.specs.Operations.{action_of}
-use Rattle.machine_model.specs.States.{State, first_state}
+use Rattle.machine_model.specs.Moves.{Goes}
 use Rattle.machine_model.proofs.Along.{along}
 use Rattle.machine_model.proofs.Frames.{acted_framed}
 use Rattle.proof_memory.specs.Laws.{IsZero}

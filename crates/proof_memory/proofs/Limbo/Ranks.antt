@@ -5,19 +5,11 @@ use Rattle.std.specs.List.{list_any}
 use Rattle.std.proofs.lemmas.Bool.{cases_eq, true≢false, or_parts}
 use Rattle.std.proofs.lemmas.List.Elements.{Contains-append_right, Contains-append_cases}
 use Rattle.std.proofs.lemmas.List.Sums.{sum_by-cons}
-use Rattle.proof_memory.specs.Beneath.slot_arena.specs.Refs.{ref_to, most_slots}
-use Rattle.proof_memory.specs.Beneath.slot_arena.specs.declared.refs.Ref.{Ref}
-use Rattle.proof_memory.specs.Beneath.slot_arena.specs.declared.nodes.Slot.{Slot}
-use Rattle.proof_memory.specs.Beneath.slot_arena.specs.Heaps.{stored, heap_refs, refs_of_slot}
-use Rattle.proof_memory.specs.Beneath.slot_arena.specs.Counts.{count_of}
-use Rattle.machine_model.specs.declared.operations.Operation.{Operation}
-use Rattle.machine_model.specs.States.{State}
-use Rattle.machine_model.specs.Counting.{outside, refs_of_root, refs_of_operation}
-use Rattle.machine_model.specs.Contents.{IsReached, from_root, from_slot}
-use Rattle.machine_model.specs.Machine.{is_busy}
+use Rattle.proof_memory.specs.Vocabulary.{ref_to, most_slots, Ref, Slot, stored, heap_refs, refs_of_slot, count_of, Operation, State, outside, refs_of_root, refs_of_operation, IsReached, from_slot}
+use Rattle.proof_memory.specs.Vocabulary.{is_busy, standing}
+use Rattle.machine_model.specs.Contents.{from_root}
 use Rattle.machine_model.proofs.Rest.{one_if}
 use Rattle.machine_model.proofs.Found.{found_within}
-use Rattle.machine_model.specs.Grown.{standing}
 use Rattle.proof_memory.specs.Laws.{IsInUse}
 use Rattle.proof_memory.proofs.Heap.Under.{standing_from}
 use Rattle.proof_memory.proofs.Safety.States.{IsSafe}

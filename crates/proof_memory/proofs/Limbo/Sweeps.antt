@@ -2,28 +2,14 @@
 use Rattle.std.proofs.Common.{◌≡◌, ℕ, zero, suc, List, [], ◌∷◌, ◌++◌, flat_map, All, get_or, map, Some, None, Ok, Err, is_some, refl, sym, ap, ◌∙◌, subst, ◌⊎◌, inl, inr, arith}
 use Rattle.std.proofs.lemmas.Option.{none-some}
 use Rattle.std.proofs.lemmas.List.Elements.{All-head, All-tail, All-weaker}
-use Rattle.proof_memory.specs.Beneath.slot_arena.specs.declared.refs.Ref.{Ref}
-use Rattle.proof_memory.specs.Beneath.slot_arena.specs.declared.nodes.Node.{Node}
-use Rattle.proof_memory.specs.Beneath.slot_arena.specs.declared.nodes.Node.TheVariants.{Indirection, Branch, Single, Tomb, List as Listed}
-use Rattle.proof_memory.specs.Beneath.slot_arena.specs.declared.nodes.Prev.{Prev}
+use Rattle.proof_memory.specs.Vocabulary.{Ref, Node, Indirection, Branch, Single, Tomb, List as Listed, Prev, Heap, node_at, prev_at, main_at, main_of, entries_of, logical, logical_main, ripe, Root}
+use Rattle.proof_memory.specs.Vocabulary.{RootWord, Plain, Offer, Outcome, State, root_at, word_at, word_of, root_of, by_key, pairs_at, pairs_below, most_levels, content_at, Answer, next}
+use Rattle.proof_memory.specs.Vocabulary.{next_state, state_after, pin_of, Sweeps, Moves, MovesIfTaken, standing}
 use Rattle.proof_memory.specs.Beneath.slot_arena.specs.declared.nodes.Prev.TheVariants as prev
-use Rattle.proof_memory.specs.Beneath.slot_arena.specs.Heaps.{Heap, node_at, prev_at, main_at, main_of, entries_of, logical, logical_main}
-use Rattle.proof_memory.specs.Beneath.epochs.specs.Sweeping.{ripe}
-use Rattle.machine_model.specs.declared.roots.Root.{Root}
-use Rattle.machine_model.specs.declared.roots.RootWord.{RootWord}
-use Rattle.machine_model.specs.declared.roots.RootWord.TheVariants.{Plain, Offer}
-use Rattle.machine_model.specs.declared.steps.Outcome.{Outcome}
 use Rattle.machine_model.specs.declared.steps.Step.TheVariants as step
-use Rattle.machine_model.specs.States.{State, root_at, word_at, word_of, root_of}
-use Rattle.machine_model.specs.Pairs.{by_key}
-use Rattle.machine_model.specs.Contents.{pairs_at, pairs_below, most_levels, content_at}
-use Rattle.machine_model.specs.Machine.{Answer, next, next_state, state_after, pin_of}
 use Rattle.machine_model.proofs.InUse.{InUse}
 use Rattle.machine_model.proofs.Moves.{moves}
-use Rattle.machine_model.specs.Moves.{Sweeps}
-use Rattle.machine_model.specs.Moves.{Moves, MovesIfTaken}
 use Rattle.machine_model.proofs.Slots.{ripe_in_use}
-use Rattle.machine_model.specs.Grown.{standing}
 use Rattle.proof_memory.specs.Wants.{AnEntry, AllHold, node_wants, prev_wants, word_wants}
 use Rattle.proof_memory.specs.Laws.{IsInUse}
 use Rattle.proof_memory.proofs.Claims.Uses.{Meets, safe_of}

@@ -5,20 +5,11 @@ use Rattle.std.proofs.lemmas.Bool.{cases_eq}
 use Rattle.std.proofs.lemmas.Option.{none-some, same_Some, cond_some}
 use Rattle.std.proofs.lemmas.List.{same_from_push}
 use Rattle.std.proofs.lemmas.List.Elements.{All-nil, All-head, All-append, All-filter, All-map, All-weaker}
-use Rattle.proof_memory.specs.Beneath.slot_arena.specs.declared.refs.Ref.{Ref}
-use Rattle.proof_memory.specs.Beneath.epochs.specs.declared.limbo.Zeroed.{Zeroed}
-use Rattle.proof_memory.specs.Beneath.epochs.specs.Limbo.{limbo_after}
-use Rattle.proof_memory.specs.Beneath.epochs.specs.Sweeping.{ripe}
-use Rattle.machine_model.specs.declared.steps.Bounds.{Bounds}
-use Rattle.machine_model.specs.declared.steps.Outcome.{Outcome}
-use Rattle.machine_model.specs.declared.steps.Step.{Step}
+use Rattle.proof_memory.specs.Vocabulary.{Ref, Zeroed, limbo_after, ripe, Bounds, Outcome, Step, State, first_state, outside, Answer, AreBounds, run, run_from, next, next_state, state_after, Moves}
+use Rattle.proof_memory.specs.Vocabulary.{MovesIfTaken}
 use Rattle.machine_model.specs.declared.steps.Step.TheVariants as step
-use Rattle.machine_model.specs.States.{State, first_state}
-use Rattle.machine_model.specs.Counting.{outside}
-use Rattle.machine_model.specs.Machine.{Answer, AreBounds, run, run_from, next, next_state, state_after}
 use Rattle.machine_model.proofs.Along.{along, by_last, run_push}
 use Rattle.machine_model.proofs.Moves.{moves}
-use Rattle.machine_model.specs.Moves.{Moves, MovesIfTaken}
 use Rattle.proof_memory.specs.Laws.{IsInUse, IsZero}
 use Rattle.proof_memory.proofs.Heap.Effects.{stays}
 use Rattle.proof_memory.proofs.Safety.States.{IsSafe}

@@ -5,41 +5,18 @@ use Rattle.std.proofs.lemmas.Bool.{false≢true, and_parts, le-leb}
 use Rattle.std.proofs.lemmas.Nat.{ones_le_self}
 use Rattle.std.proofs.lemmas.List.{length-set}
 use Rattle.std.proofs.lemmas.List.Elements.{All-set, All-head}
-use Rattle.proof_memory.specs.Beneath.ctrie_base.specs.Paths.{position_of}
-use Rattle.proof_memory.specs.Beneath.slot_arena.specs.declared.refs.Ref.{Ref}
-use Rattle.proof_memory.specs.Beneath.slot_arena.specs.declared.nodes.Node.{Node}
-use Rattle.proof_memory.specs.Beneath.slot_arena.specs.declared.nodes.Node.TheVariants.{Branch}
-use Rattle.proof_memory.specs.Beneath.slot_arena.specs.Heaps.{node_at, entry_at, entries_of, bitmap_of}
-use Rattle.proof_memory.specs.Beneath.nodes.specs.Levels.{index_in}
-use Rattle.machine_model.specs.declared.operations.Operation.{Operation}
+use Rattle.proof_memory.specs.Vocabulary.{position_of, Ref, Node, Branch, node_at, entry_at, entries_of, bitmap_of, index_in, Operation, Swap, SwapLine, BuildLine, RenewLine, CleanLine, ClimbLine}
+use Rattle.proof_memory.specs.Vocabulary.{Climb, CopyLine, WalkLine, Line, State, above, is_below_root, flag_in, hash_in, depth_of, action_at, next_entry, old_hash, leaves_single, place_in}
+use Rattle.proof_memory.specs.Vocabulary.{climbed_node, first_of, line_action}
 use Rattle.machine_model.specs.declared.actions.Action.TheVariants as act
-use Rattle.machine_model.specs.declared.reading.Swap.{Swap}
-use Rattle.machine_model.specs.declared.reading.SwapLine.{SwapLine}
 use Rattle.machine_model.specs.declared.reading.SwapLine.TheVariants as swap
-use Rattle.machine_model.specs.declared.building.BuildLine.{BuildLine}
 use Rattle.machine_model.specs.declared.building.BuildLine.TheVariants as build
-use Rattle.machine_model.specs.declared.repairs.RenewLine.{RenewLine}
 use Rattle.machine_model.specs.declared.repairs.RenewLine.TheVariants as renew
-use Rattle.machine_model.specs.declared.repairs.CleanLine.{CleanLine}
 use Rattle.machine_model.specs.declared.repairs.CleanLine.TheVariants as clean
-use Rattle.machine_model.specs.declared.repairs.ClimbLine.{ClimbLine}
 use Rattle.machine_model.specs.declared.repairs.ClimbLine.TheVariants as climb
-use Rattle.machine_model.specs.declared.repairs.Climb.{Climb}
-use Rattle.machine_model.specs.declared.copying.CopyLine.{CopyLine}
 use Rattle.machine_model.specs.declared.copying.CopyLine.TheVariants as copy
-use Rattle.machine_model.specs.declared.walking.WalkLine.{WalkLine}
 use Rattle.machine_model.specs.declared.walking.WalkLine.TheVariants as walk
-use Rattle.machine_model.specs.declared.lines.Line.{Line}
 use Rattle.machine_model.specs.declared.lines.Line.TheVariants as line
-use Rattle.machine_model.specs.States.{State}
-use Rattle.machine_model.specs.Paths.{above, is_below_root, flag_in, hash_in, depth_of}
-use Rattle.machine_model.specs.Swapping.{action_at}
-use Rattle.machine_model.specs.Renewing.{next_entry}
-use Rattle.machine_model.specs.Building.{old_hash}
-use Rattle.machine_model.specs.Cleaning.{leaves_single}
-use Rattle.machine_model.specs.Climbing.{place_in, climbed_node}
-use Rattle.machine_model.specs.Walking.{first_of}
-use Rattle.machine_model.specs.Operations.{line_action}
 use Rattle.proof_memory.specs.Wants.{Wanted, AnIndirection, AMain, ABranch, AnEntry, ASingle, WithEntry, WithFlag, meets, is_formed, Is, Each, Holds, is, so, AllHold, action_wants}
 use Rattle.proof_memory.specs.Wants.{line_wants, build_wants, swap_wants, swap_line_wants, purpose_wants, renew_wants, clean_wants, climb_wants, copy_wants, walk_wants}
 use Rattle.proof_memory.proofs.Claims.Uses.{Meets, safe_of, meets_of, all_of, fact_of, entry_of, as_meets, first_hold}

@@ -1,32 +1,12 @@
 -- KEY: what its lines want gives what their steps want, and what the lines after them do.
 use Rattle.std.proofs.Common.{◌≡◌, ℕ, ◌+◌, ◌-◌, ◌==◌, ◌&&◌, true, false, nat_lt, nat_le, List, [], length, refl, sym, ap, ◌∙◌}
 use Rattle.std.proofs.lemmas.Bool.{false≢true, true≢false, and_parts, cond_both}
-use Rattle.proof_memory.specs.Beneath.ctrie_base.specs.Paths.{position_of}
-use Rattle.proof_memory.specs.Beneath.history.specs.declared.calls.Access.{Access}
-use Rattle.proof_memory.specs.Beneath.history.specs.declared.calls.Access.TheVariants.{Writable, ReadOnly}
-use Rattle.proof_memory.specs.Beneath.history.specs.declared.calls.Call.{Call}
-use Rattle.proof_memory.specs.Beneath.history.specs.declared.calls.Call.TheVariants.{Get, Close, Entries, Count}
-use Rattle.proof_memory.specs.Beneath.slot_arena.specs.declared.refs.Ref.{Ref}
-use Rattle.proof_memory.specs.Beneath.slot_arena.specs.declared.nodes.Node.{Node}
-use Rattle.proof_memory.specs.Beneath.slot_arena.specs.declared.nodes.Node.TheVariants.{Indirection, Branch, Single, Tomb, List as Listed}
-use Rattle.proof_memory.specs.Beneath.slot_arena.specs.Heaps.{node_at, entry_at, entries_of}
-use Rattle.proof_memory.specs.Beneath.nodes.specs.Levels.{index_in, has_flag}
-use Rattle.machine_model.specs.declared.operations.Operation.{Operation}
-use Rattle.machine_model.specs.declared.reading.After.{After}
-use Rattle.machine_model.specs.declared.reading.After.TheVariants.{Goes, Gives}
-use Rattle.machine_model.specs.declared.reading.Read.{Read}
-use Rattle.machine_model.specs.declared.finding.KeyLine.{KeyLine}
+use Rattle.proof_memory.specs.Vocabulary.{position_of, Access, Writable, ReadOnly, Call, Get, Close, Entries, Count, Ref, Node, Indirection, Branch, Single, Tomb, List as Listed, node_at, entry_at}
+use Rattle.proof_memory.specs.Vocabulary.{entries_of, index_in, has_flag, Operation, After, Gives, Read, KeyLine, WhenFound, Answers, Sets, Removes, Line, handle_of, key_of, needs_writable, inserts}
+use Rattle.proof_memory.specs.Vocabulary.{when_found, State, word_at, above, is_below_root, flag_in, hash_in, depth_of, read_step, renew_next, key_action, key_after, absent, absent_beside}
+use Rattle.proof_memory.specs.Vocabulary.{absent_listed, removing, found_so, key_after_read, after_tomb, key_after_main, is_passable, key_after_entry, after_listed, after_sibling}
+use Rattle.machine_model.specs.declared.reading.After.TheVariants.{Goes}
 use Rattle.machine_model.specs.declared.finding.KeyLine.TheVariants as key
-use Rattle.machine_model.specs.declared.finding.WhenFound.{WhenFound}
-use Rattle.machine_model.specs.declared.finding.WhenFound.TheVariants.{Answers, Sets, Removes}
-use Rattle.machine_model.specs.declared.lines.Line.{Line}
-use Rattle.machine_model.specs.Calls.{handle_of, key_of, needs_writable, inserts, when_found}
-use Rattle.machine_model.specs.States.{State, word_at}
-use Rattle.machine_model.specs.Paths.{above, is_below_root, flag_in, hash_in, depth_of}
-use Rattle.machine_model.specs.Reading.{read_step}
-use Rattle.machine_model.specs.Renewing.{renew_next}
-use Rattle.machine_model.specs.Finding.{key_action, key_after, absent, absent_beside, absent_listed, removing, found_so, key_after_read, after_tomb, key_after_main, is_passable}
-use Rattle.machine_model.specs.Finding.{key_after_entry, after_listed, after_sibling}
 use Rattle.proof_memory.specs.Wants.{Wanted, AnIndirection, ABranch, AList, BranchOrList, TombOrList, AnEntry, ASingle, WithEntry, WithFlag, ToSpare, meets, is_formed, Is, Each}
 use Rattle.proof_memory.specs.Wants.{EntryIs, So, Holds, is, entry_is, so, AllHold, word_wants, read_wants, action_wants, listed, key_wants, line_wants}
 use Rattle.proof_memory.proofs.Claims.Uses.{safe_of, meets_of, is_also, from_meets}

@@ -2,49 +2,20 @@
 use Rattle.std.proofs.Common.{◌≡◌, ℕ, ◌+◌, ◌==◌, Bool, true, false, nat_lt, List, ◌∷◌, ◌++◌, Option, Some, None, length, refl, ap, ◌∙◌, []}
 use Rattle.std.proofs.lemmas.Bool.{false≢true, cond_both}
 use Rattle.std.specs.Prelude.{is_some}
-use Rattle.proof_memory.specs.Beneath.history.specs.declared.calls.Access.TheVariants.{ReadOnly}
-use Rattle.proof_memory.specs.Beneath.history.specs.declared.calls.Call.{Call}
-use Rattle.proof_memory.specs.Beneath.history.specs.declared.calls.Call.TheVariants.{Snapshot}
-use Rattle.proof_memory.specs.Beneath.slot_arena.specs.declared.refs.Ref.{Ref}
-use Rattle.proof_memory.specs.Beneath.slot_arena.specs.declared.nodes.Node.{Node}
-use Rattle.proof_memory.specs.Beneath.slot_arena.specs.declared.nodes.Node.TheVariants.{Branch, List as Listed}
-use Rattle.proof_memory.specs.Beneath.slot_arena.specs.Heaps.{Heap, node_at, entry_at, entries_of, next_ref}
-use Rattle.proof_memory.specs.Beneath.nodes.specs.Levels.{list_depth}
-use Rattle.proof_memory.specs.Beneath.nodes.specs.Builders.{pair, contracted}
-use Rattle.proof_memory.specs.Beneath.ctrie_base.specs.declared.hashes.HashKind.{HashKind}
-use Rattle.machine_model.specs.declared.operations.Operation.{Operation}
-use Rattle.machine_model.specs.declared.actions.Action.{Action}
-use Rattle.machine_model.specs.declared.building.BuildLine.{BuildLine}
+use Rattle.proof_memory.specs.Vocabulary.{ReadOnly, Call, Snapshot, Ref, Node, Branch, List as Listed, Heap, node_at, entry_at, entries_of, next_ref, list_depth, pair, contracted, HashKind}
+use Rattle.proof_memory.specs.Vocabulary.{Operation, Action, BuildLine, Change, Site, RenewLine, CleanLine, ClimbLine, Climb, CopyLine, WalkLine, Line, handle_of, needs_writable, State, word_at}
+use Rattle.proof_memory.specs.Vocabulary.{current, above, flag_in, depth_of, read_step, complete_after, is_plain, renew_next, next_entry, renew_after, renew_after_link, renew_after_branch}
+use Rattle.proof_memory.specs.Vocabulary.{build_action, build_after, build_if_made, build_after_made, after_single, after_link, changed, clean_after, clean_after_contracted, climb_after}
+use Rattle.proof_memory.specs.Vocabulary.{climb_after_contracted, copy_after, copy_if_made, copy_after_made, after_successor, walk_after, line_action, line_after}
 use Rattle.machine_model.specs.declared.building.BuildLine.TheVariants as build
-use Rattle.machine_model.specs.declared.building.Change.{Change}
 use Rattle.machine_model.specs.declared.building.Change.TheVariants as change
-use Rattle.machine_model.specs.declared.building.Site.{Site}
 use Rattle.machine_model.specs.declared.building.Site.TheVariants as site
-use Rattle.machine_model.specs.declared.repairs.RenewLine.{RenewLine}
 use Rattle.machine_model.specs.declared.repairs.RenewLine.TheVariants as renew
-use Rattle.machine_model.specs.declared.repairs.CleanLine.{CleanLine}
 use Rattle.machine_model.specs.declared.repairs.CleanLine.TheVariants as clean
-use Rattle.machine_model.specs.declared.repairs.ClimbLine.{ClimbLine}
 use Rattle.machine_model.specs.declared.repairs.ClimbLine.TheVariants as climb
-use Rattle.machine_model.specs.declared.repairs.Climb.{Climb}
-use Rattle.machine_model.specs.declared.copying.CopyLine.{CopyLine}
 use Rattle.machine_model.specs.declared.copying.CopyLine.TheVariants as copy
-use Rattle.machine_model.specs.declared.walking.WalkLine.{WalkLine}
 use Rattle.machine_model.specs.declared.walking.WalkLine.TheVariants as walk
-use Rattle.machine_model.specs.declared.lines.Line.{Line}
 use Rattle.machine_model.specs.declared.lines.Line.TheVariants as line
-use Rattle.machine_model.specs.Calls.{handle_of, needs_writable}
-use Rattle.machine_model.specs.States.{State, word_at}
-use Rattle.machine_model.specs.Paths.{current, above, flag_in, depth_of}
-use Rattle.machine_model.specs.Reading.{read_step}
-use Rattle.machine_model.specs.Swapping.{complete_after, is_plain}
-use Rattle.machine_model.specs.Renewing.{renew_next, next_entry, renew_after, renew_after_link, renew_after_branch}
-use Rattle.machine_model.specs.Building.{build_action, build_after, build_if_made, build_after_made, after_single, after_link, changed}
-use Rattle.machine_model.specs.Cleaning.{clean_after, clean_after_contracted}
-use Rattle.machine_model.specs.Climbing.{climb_after, climb_after_contracted}
-use Rattle.machine_model.specs.Copying.{copy_after, copy_if_made, copy_after_made, after_successor}
-use Rattle.machine_model.specs.Walking.{walk_after}
-use Rattle.machine_model.specs.Operations.{line_action, line_after}
 use Rattle.proof_memory.specs.Wants.{Wanted, AnIndirection, AMain, ABranch, BranchOrList, AnEntry, ASingle, WithEntry, AtMost, meets, Claim, Is, Each, So, Holds, is, so, AllHold}
 use Rattle.proof_memory.specs.Wants.{word_wants, line_wants, build_wants, update_wants, renew_wants, clean_wants, climb_wants, climb_carries, copy_wants, walk_wants}
 use Rattle.proof_memory.proofs.Claims.Uses.{safe_of, meets_of, is_also, fact_of, carried, all_carried, Carries}

@@ -2,37 +2,16 @@
 use Rattle.std.proofs.Common.{◌≡◌, ℕ, ◌==◌, ◌||◌, Bool, true, false, nat_lt, List, [], ◌∷◌, ◌++◌, Option, length, refl, lt-ltb, arith}
 use Rattle.std.proofs.lemmas.Bool.{false≢true, cond_both}
 use Rattle.std.proofs.lemmas.List.Elements.{All-append, All-head, All-tail}
-use Rattle.proof_memory.specs.Beneath.history.specs.declared.calls.Call.{Call}
-use Rattle.proof_memory.specs.Beneath.history.specs.declared.calls.Call.TheVariants.{Clear, Snapshot, Freeze}
-use Rattle.proof_memory.specs.Beneath.slot_arena.specs.declared.refs.Ref.{Ref}
-use Rattle.proof_memory.specs.Beneath.slot_arena.specs.declared.nodes.Node.{Node}
-use Rattle.proof_memory.specs.Beneath.slot_arena.specs.declared.nodes.Node.TheVariants.{Indirection, Single, Tomb}
-use Rattle.proof_memory.specs.Beneath.slot_arena.specs.declared.nodes.Prev.{Prev}
+use Rattle.proof_memory.specs.Vocabulary.{Call, Clear, Snapshot, Freeze, Ref, Node, Indirection, Single, Tomb, Prev, node_at, main_at, prev_at, entries_of, Operation, After, Gives, Read, ReadLine}
+use Rattle.proof_memory.specs.Vocabulary.{Swap, SwapLine, Complete, Descriptor, RootLine, RootWord, Plain, Offer, Climb, Purpose, Line, handle_of, State, word_at, root_of, after_publish}
+use Rattle.proof_memory.specs.Vocabulary.{after_deciding, after_check, on_line, swap_after, copy_after_read, after_given, after_offer, copy_after_complete, walk_next, first_of, rest_of}
+use Rattle.proof_memory.specs.Vocabulary.{walk_after_read, walk_after_entry, after_root, after_update, climbed_on, swapped}
 use Rattle.proof_memory.specs.Beneath.slot_arena.specs.declared.nodes.Prev.TheVariants as prev
-use Rattle.proof_memory.specs.Beneath.slot_arena.specs.Heaps.{node_at, main_at, prev_at, entries_of}
-use Rattle.machine_model.specs.declared.operations.Operation.{Operation}
-use Rattle.machine_model.specs.declared.reading.After.{After}
-use Rattle.machine_model.specs.declared.reading.After.TheVariants.{Goes, Gives}
-use Rattle.machine_model.specs.declared.reading.Read.{Read}
-use Rattle.machine_model.specs.declared.reading.ReadLine.{ReadLine}
-use Rattle.machine_model.specs.declared.reading.Swap.{Swap}
-use Rattle.machine_model.specs.declared.reading.SwapLine.{SwapLine}
+use Rattle.machine_model.specs.declared.reading.After.TheVariants.{Goes}
 use Rattle.machine_model.specs.declared.reading.SwapLine.TheVariants as swap
-use Rattle.machine_model.specs.declared.roots.Complete.{Complete}
-use Rattle.machine_model.specs.declared.roots.Descriptor.{Descriptor}
-use Rattle.machine_model.specs.declared.roots.RootLine.{RootLine}
-use Rattle.machine_model.specs.declared.roots.RootWord.{RootWord}
-use Rattle.machine_model.specs.declared.roots.RootWord.TheVariants.{Plain, Offer}
-use Rattle.machine_model.specs.declared.repairs.Climb.{Climb}
-use Rattle.machine_model.specs.declared.lines.Purpose.{Purpose}
 use Rattle.machine_model.specs.declared.lines.Purpose.TheVariants as purpose
-use Rattle.machine_model.specs.declared.lines.Line.{Line}
-use Rattle.machine_model.specs.Calls.{handle_of}
-use Rattle.machine_model.specs.States.{State, word_at, root_of}
-use Rattle.machine_model.specs.Swapping.{after_publish, after_deciding, after_check, after_swap, on_line, swap_after}
-use Rattle.machine_model.specs.Copying.{copy_after_read, after_given, after_offer, copy_after_complete}
-use Rattle.machine_model.specs.Walking.{walk_next, first_of, rest_of, walk_after_read, walk_after_entry}
-use Rattle.machine_model.specs.Operations.{from_root, after_root, after_update, climbed_on, swapped}
+use Rattle.machine_model.specs.Swapping.{after_swap}
+use Rattle.machine_model.specs.Operations.{from_root}
 use Rattle.machine_model.specs.Operations.{after_swap as line_after_swap}
 use Rattle.proof_memory.specs.Wants.{Wanted, AnIndirection, AMain, AnEntry, Claim, Is, Each, Holds, each, so, AllHold, node_wants, word_wants, swap_line_wants, swap_wants}
 use Rattle.proof_memory.specs.Wants.{purpose_wants, climb_carries, line_wants}

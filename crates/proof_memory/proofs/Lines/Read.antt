@@ -1,26 +1,13 @@
 -- READ, COMPLETE and ROOT: what their lines want gives what their steps want, and what the lines after them do.
 use Rattle.std.proofs.Common.{◌==◌, Bool, true, false, List, ◌∷◌, []}
-use Rattle.proof_memory.specs.Beneath.history.specs.declared.calls.Access.{Access}
-use Rattle.proof_memory.specs.Beneath.history.specs.declared.calls.Access.TheVariants.{Writable, ReadOnly}
-use Rattle.proof_memory.specs.Beneath.slot_arena.specs.declared.refs.Ref.{Ref}
-use Rattle.proof_memory.specs.Beneath.slot_arena.specs.declared.nodes.Prev.{Prev}
+use Rattle.proof_memory.specs.Vocabulary.{Access, Writable, ReadOnly, Ref, Prev, Heap, prev_at, main_at, After, Gives, Read, ReadLine, Complete, CompleteLine, Descriptor, RootLine, RootWord, Plain}
+use Rattle.proof_memory.specs.Vocabulary.{Offer, Verdict, Commits, Fails, Overtaken, read_action, read_after, after_prev, after_ask, after_decide, after_restore, verdict, at_indirection}
+use Rattle.proof_memory.specs.Vocabulary.{complete_action_at, after_reading, after_complete, of_offer, complete_after, completing, root_action, after_root_word, after_completing, root_after}
 use Rattle.proof_memory.specs.Beneath.slot_arena.specs.declared.nodes.Prev.TheVariants as prev
-use Rattle.proof_memory.specs.Beneath.slot_arena.specs.Heaps.{Heap, prev_at, main_at}
-use Rattle.machine_model.specs.declared.reading.After.{After}
-use Rattle.machine_model.specs.declared.reading.After.TheVariants.{Goes, Gives}
-use Rattle.machine_model.specs.declared.reading.Read.{Read}
-use Rattle.machine_model.specs.declared.reading.ReadLine.{ReadLine}
+use Rattle.machine_model.specs.declared.reading.After.TheVariants.{Goes}
 use Rattle.machine_model.specs.declared.reading.ReadLine.TheVariants as read
-use Rattle.machine_model.specs.declared.roots.Complete.{Complete}
-use Rattle.machine_model.specs.declared.roots.CompleteLine.{CompleteLine}
 use Rattle.machine_model.specs.declared.roots.CompleteLine.TheVariants as complete
-use Rattle.machine_model.specs.declared.roots.Descriptor.{Descriptor}
-use Rattle.machine_model.specs.declared.roots.RootLine.{RootLine}
 use Rattle.machine_model.specs.declared.roots.RootLine.TheVariants as root
-use Rattle.machine_model.specs.declared.roots.RootWord.{RootWord}
-use Rattle.machine_model.specs.declared.roots.RootWord.TheVariants.{Plain, Offer}
-use Rattle.machine_model.specs.Reading.{Verdict, Commits, Fails, Overtaken, read_action, read_after, after_prev, after_ask, after_decide, after_restore, verdict, at_indirection}
-use Rattle.machine_model.specs.Swapping.{complete_action_at, after_reading, after_complete, of_offer, complete_after, completing, root_action, after_root_word, after_completing, root_after}
 use Rattle.proof_memory.specs.Wants.{AnIndirection, AMain, Claim, Is, Holds, AllHold, prev_wants, offer_wants, word_wants, action_wants, read_wants, complete_wants, root_wants}
 use Rattle.proof_memory.proofs.Claims.Uses.{safe_of, both_hold, first_hold, last_hold}
 use Rattle.proof_memory.proofs.Claims.Nodes.{Heaped, main_read}

@@ -1,24 +1,11 @@
 -- RENEW, CLEAN and CLIMB: what their lines want gives what the lines after them do, where a step makes no node.
 use Rattle.std.proofs.Common.{◌≡◌, nat_lt, nat_eq, List, ◌∷◌, ◌++◌, length, refl, []}
 use Rattle.std.proofs.lemmas.Bool.{and_parts, cond_both}
-use Rattle.proof_memory.specs.Beneath.slot_arena.specs.declared.refs.Ref.{Ref}
-use Rattle.proof_memory.specs.Beneath.slot_arena.specs.declared.nodes.Node.{Node}
-use Rattle.proof_memory.specs.Beneath.slot_arena.specs.declared.nodes.Node.TheVariants.{Indirection, Branch, Single, Tomb}
-use Rattle.proof_memory.specs.Beneath.slot_arena.specs.Heaps.{node_at, entries_of, generation_at}
-use Rattle.proof_memory.specs.Beneath.nodes.specs.Levels.{has_flag}
+use Rattle.proof_memory.specs.Vocabulary.{Ref, Node, Indirection, Branch, Single, Tomb, node_at, entries_of, generation_at, has_flag, Operation, After, Gives, Read, RootLine, Climb, Line, State}
+use Rattle.proof_memory.specs.Vocabulary.{above, is_below_root, flag_in, is_start, next_entry, renew_after_entry, renew_after_read, clean_next, clean_after_read, clean_after_main, clean_after_entry}
+use Rattle.proof_memory.specs.Vocabulary.{after_child, clean_after_tomb, climbing, higher, climb_after_read, holds_it, climb_after_main, climb_after_root}
 use Rattle.std.specs.Cmp.Lexicographic.{pointwise}
-use Rattle.machine_model.specs.declared.operations.Operation.{Operation}
-use Rattle.machine_model.specs.declared.reading.After.{After}
-use Rattle.machine_model.specs.declared.reading.After.TheVariants.{Goes, Gives}
-use Rattle.machine_model.specs.declared.reading.Read.{Read}
-use Rattle.machine_model.specs.declared.roots.RootLine.{RootLine}
-use Rattle.machine_model.specs.declared.repairs.Climb.{Climb}
-use Rattle.machine_model.specs.declared.lines.Line.{Line}
-use Rattle.machine_model.specs.States.{State}
-use Rattle.machine_model.specs.Paths.{above, is_below_root, flag_in, is_start}
-use Rattle.machine_model.specs.Renewing.{next_entry, renew_after_entry, renew_after_read}
-use Rattle.machine_model.specs.Cleaning.{clean_next, clean_after_read, clean_after_main, clean_after_entry, after_child, clean_after_tomb}
-use Rattle.machine_model.specs.Climbing.{climbing, higher, climb_after_read, holds_it, climb_after_main, climb_after_root}
+use Rattle.machine_model.specs.declared.reading.After.TheVariants.{Goes}
 use Rattle.proof_memory.specs.Wants.{Wanted, AnIndirection, ABranch, AnEntry, ASingle, WithEntry, WithFlag, Is, Each, So, Holds, is, so, AllHold, node_wants, line_wants, climb_carries}
 use Rattle.proof_memory.proofs.Claims.Uses.{safe_of, is_also, from_meets}
 use Rattle.proof_memory.proofs.Claims.Nodes.{Heaped, branch_entries, at_position, single_entry}

@@ -5,14 +5,7 @@ use Rattle.std.specs.Prelude.{bit_and, count_ones}
 use Rattle.std.proofs.lemmas.Bool.{false≢true, and_parts, not_from_true, le-leb, eqb-true, eqb-false}
 use Rattle.std.proofs.lemmas.List.{length-append, length-take-le}
 use Rattle.std.proofs.lemmas.List.Elements.{All-take, All-push, All-nil, All-head}
-use Rattle.proof_memory.specs.Beneath.ctrie_base.specs.Paths.{position_of}
-use Rattle.proof_memory.specs.Beneath.slot_arena.specs.declared.refs.Ref.{Ref}
-use Rattle.proof_memory.specs.Beneath.slot_arena.specs.declared.nodes.Node.{Node}
-use Rattle.proof_memory.specs.Beneath.slot_arena.specs.declared.nodes.Node.TheVariants.{Branch}
-use Rattle.proof_memory.specs.Beneath.slot_arena.specs.Heaps.{Heap, node_at, no_ref}
-use Rattle.proof_memory.specs.Beneath.nodes.specs.Levels.{has_flag}
-use Rattle.machine_model.specs.Paths.{current, above, depth_of, is_below_root}
-use Rattle.machine_model.specs.Walking.{first_of}
+use Rattle.proof_memory.specs.Vocabulary.{position_of, Ref, Node, Branch, Heap, node_at, no_ref, has_flag, current, above, depth_of, is_below_root, first_of}
 use Rattle.proof_memory.specs.Wants.{Wanted, AnIndirection, WithFlag, ToSpare, meets, Is, Each, Holds, is, each}
 use Rattle.proof_memory.proofs.Heap.Ones.{ones_below}
 use Rattle.proof_memory.proofs.Claims.Uses.{Meets, safe_of, meets_of, all_of}

@@ -1,12 +1,8 @@
 -- Memory is safe at each time of a run. The layers above cite `safe_at`, with the parts of IsSafe and its `heaped`, `open_word` and `step_claims`.
 use Rattle.std.proofs.Common.{ℕ, ◌≤◌, List}
-use Rattle.machine_model.specs.declared.steps.Bounds.{Bounds}
-use Rattle.machine_model.specs.declared.steps.Step.{Step}
-use Rattle.machine_model.specs.States.{State}
-use Rattle.machine_model.specs.Machine.{AreBounds, run, next_state}
+use Rattle.proof_memory.specs.Vocabulary.{Bounds, Step, State, AreBounds, run, next_state, IsRun}
 use Rattle.machine_model.proofs.Along.{along, kept_by_moves}
 use Rattle.machine_model.proofs.Times.{at_each_time}
-use Rattle.machine_model.specs.Times.{IsRun}
 use Rattle.proof_memory.proofs.Safety.States.{IsSafe}
 use Rattle.proof_memory.proofs.Safety.Steps.{safe_after}
 use Rattle.proof_memory.proofs.Safety.First.{safe_at_first}

@@ -1,19 +1,10 @@
 -- What a run's times know of memory, in the words that the layers above use: what a running operation's line and action take their references for, and that what
 -- is looked up in the machine's heap is what stands in the heap that only grows.
 use Rattle.std.proofs.Common.{◌≡◌, ℕ, suc, ◌<◌, ◌≤◌, true, Some, refl, sym, ap, ◌∙◌, subst, arith}
-use Rattle.proof_memory.specs.Beneath.slot_arena.specs.declared.refs.Ref.{Ref}
-use Rattle.proof_memory.specs.Beneath.slot_arena.specs.declared.nodes.Slot.{Slot}
-use Rattle.proof_memory.specs.Beneath.slot_arena.specs.Heaps.{node_at, main_at, prev_at, main_of, generation_at, generation_of}
-use Rattle.machine_model.specs.declared.operations.Operation.{Operation}
-use Rattle.machine_model.specs.declared.steps.Bounds.{Bounds}
-use Rattle.machine_model.specs.States.{State, first_state, operation_of}
-use Rattle.machine_model.specs.Operations.{action_of}
+use Rattle.proof_memory.specs.Vocabulary.{Ref, Slot, node_at, main_at, prev_at, main_of, generation_at, generation_of, Operation, Bounds, State, first_state, operation_of, action_of, turns, IsRun}
+use Rattle.proof_memory.specs.Vocabulary.{Turn, grown, main_word, prev_word, node_under as grown_node}
 use Rattle.machine_model.proofs.Frames.{limits_kept}
 use Rattle.machine_model.proofs.Times.{at_each_time}
-use Rattle.machine_model.specs.Times.{turns}
-use Rattle.machine_model.specs.Times.{IsRun, Turn}
-use Rattle.machine_model.specs.Grown.{grown, main_word, prev_word}
-use Rattle.machine_model.specs.Grown.{node_under as grown_node}
 use Rattle.proof_memory.specs.Wants.{Wanted, meets, Is, Holds, AllHold, action_wants, line_wants}
 use Rattle.proof_memory.specs.Laws.{IsInUse}
 use Rattle.proof_memory.proofs.Claims.Uses.{Carries, all_carried, same_node, safe_of, meets_of}

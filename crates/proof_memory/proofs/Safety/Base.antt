@@ -7,31 +7,13 @@ use Rattle.std.proofs.lemmas.Option.{none-some}
 use Rattle.std.proofs.Math.ListN.{get_or-map}
 use Rattle.std.proofs.lemmas.List.{length-map, get_or_past, get_or-set_same}
 use Rattle.std.specs.List.{list_any}
-use Rattle.proof_memory.specs.Beneath.history.specs.declared.calls.Access.TheVariants.{ReadOnly}
-use Rattle.proof_memory.specs.Beneath.history.specs.declared.calls.Call.{Call}
-use Rattle.proof_memory.specs.Beneath.history.specs.declared.calls.Call.TheVariants.{Close}
-use Rattle.proof_memory.specs.Beneath.epochs.specs.declared.limbo.Swept.{Swept}
-use Rattle.proof_memory.specs.Beneath.epochs.specs.Sweeping.{Reclaimer, sweep_by, is_passed, ripe}
-use Rattle.proof_memory.specs.Beneath.slot_arena.specs.declared.refs.Ref.{Ref}
-use Rattle.machine_model.specs.declared.operations.Operation.{Operation}
-use Rattle.machine_model.specs.declared.actions.Action.{Action}
+use Rattle.proof_memory.specs.Vocabulary.{ReadOnly, Call, Close, Swept, Reclaimer, sweep_by, is_passed, ripe, Ref, Operation, Action, Line, Root, RootWord, Plain, Offer, Descriptor, Outcome, Step}
+use Rattle.proof_memory.specs.Vocabulary.{handle_of, needs_writable, is_close, State, root_at, operation_of, with_word, with_root, rewritten, action_of, line_action, first_line, operation_after}
+use Rattle.proof_memory.specs.Vocabulary.{gone, acted, opened, opened_root, carried_out, new_root_taken, if_changed, settled, begin_denial, with_begin, handle_closed, runs_on, names, pin_of}
+use Rattle.proof_memory.specs.Vocabulary.{reclaimer_of, Begins, Ends, Sweeps, Moves, GoesOn, begun_operation}
 use Rattle.machine_model.specs.declared.actions.Action.TheVariants as act
-use Rattle.machine_model.specs.declared.lines.Line.{Line}
 use Rattle.machine_model.specs.declared.lines.Line.TheVariants as line
-use Rattle.machine_model.specs.declared.roots.Root.{Root}
-use Rattle.machine_model.specs.declared.roots.RootWord.{RootWord}
-use Rattle.machine_model.specs.declared.roots.RootWord.TheVariants.{Plain, Offer}
-use Rattle.machine_model.specs.declared.roots.Descriptor.{Descriptor}
-use Rattle.machine_model.specs.declared.steps.Outcome.{Outcome}
-use Rattle.machine_model.specs.declared.steps.Step.{Step}
-use Rattle.machine_model.specs.Calls.{handle_of, needs_writable, is_close}
-use Rattle.machine_model.specs.States.{State, root_at, operation_of, with_word, with_root, rewritten}
-use Rattle.machine_model.specs.Operations.{action_of, line_action, first_line}
-use Rattle.machine_model.specs.Acting.{operation_after, gone, acted, opened, opened_root, carried_out, new_root_taken, if_changed}
-use Rattle.machine_model.specs.Counting.{settled}
-use Rattle.machine_model.specs.Machine.{begin_denial, with_begin, handle_closed, runs_on, names, pin_of, reclaimer_of}
-use Rattle.machine_model.specs.Moves.{Begins, Goes, Ends, Sweeps}
-use Rattle.machine_model.specs.Moves.{Moves, GoesOn, begun_operation}
+use Rattle.machine_model.specs.Moves.{Goes}
 use Rattle.machine_model.proofs.Actors.{IsOf, mark_one, mark_only, marks_in, marks_by}
 use Rattle.machine_model.proofs.Frames.{IsFramed, acted_framed}
 use Rattle.machine_model.proofs.Found.{found_elsewhere, found_within}

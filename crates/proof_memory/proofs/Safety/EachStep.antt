@@ -1,16 +1,8 @@
 -- What each running operation meets after one step, by what it met before: the operation that begins, the one that goes on, and all others.
 use Rattle.std.proofs.Common.{◌≡◌, ℕ, suc, Some, None, get_or, ap, ◌∙◌, sym}
-use Rattle.proof_memory.specs.Beneath.history.specs.declared.calls.Call.{Call}
-use Rattle.machine_model.specs.declared.operations.Operation.{Operation}
-use Rattle.machine_model.specs.declared.steps.Outcome.{Outcome}
-use Rattle.machine_model.specs.declared.steps.Step.{Step}
-use Rattle.machine_model.specs.States.{State, operation_of}
-use Rattle.machine_model.specs.Operations.{action_of}
-use Rattle.machine_model.specs.Acting.{operation_after, gone}
-use Rattle.machine_model.specs.Counting.{settled}
-use Rattle.machine_model.specs.Machine.{begin_denial, with_begin}
-use Rattle.machine_model.specs.Moves.{Begins, Goes, Ends, Sweeps}
-use Rattle.machine_model.specs.Moves.{Moves, GoesOn, begun_operation}
+use Rattle.proof_memory.specs.Vocabulary.{Call, Operation, Outcome, Step, State, operation_of, action_of, operation_after, gone, settled, begin_denial, with_begin, Begins, Ends, Sweeps, Moves}
+use Rattle.proof_memory.specs.Vocabulary.{GoesOn, begun_operation}
+use Rattle.machine_model.specs.Moves.{Goes}
 use Rattle.machine_model.proofs.Actors.{IsOf, is_of, mark_one, marks_in, marks_by, of_others, of_itself, of_begin, of_end}
 
 -- the place of an actor's operation

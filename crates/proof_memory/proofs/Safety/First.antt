@@ -5,23 +5,11 @@ use Rattle.std.proofs.lemmas.Bool.{cases_eq, le-leb, false≢true}
 use Rattle.std.proofs.lemmas.Nat.{ones_le_self}
 use Rattle.std.proofs.lemmas.Option.{none-some, same_Some}
 use Rattle.std.proofs.lemmas.List.Elements.{All-nil}
-use Rattle.proof_memory.specs.Beneath.slot_arena.specs.Refs.{ref_to, slot_of, birth_of, most_slots}
-use Rattle.proof_memory.specs.Beneath.slot_arena.specs.declared.refs.Ref.{Ref}
-use Rattle.proof_memory.specs.Beneath.slot_arena.specs.declared.nodes.Node.{Node}
-use Rattle.proof_memory.specs.Beneath.slot_arena.specs.declared.nodes.Node.TheVariants.{Indirection}
+use Rattle.proof_memory.specs.Vocabulary.{ref_to, slot_of, birth_of, most_slots, Ref, Node, Indirection, Slot, Heap, stored, node_at, taken, empty_branch, next_ref, heap_refs, count_of, outside}
+use Rattle.proof_memory.specs.Vocabulary.{refs_of_root, Root, RootWord, Bounds, State, first_state, first_heap, empty_heap, handle_limit, root_at, AreBounds, standing, of_birth}
 use Rattle.proof_memory.specs.Beneath.slot_arena.specs.declared.nodes.Prev.TheVariants as prev
-use Rattle.proof_memory.specs.Beneath.slot_arena.specs.declared.nodes.Slot.{Slot}
-use Rattle.proof_memory.specs.Beneath.slot_arena.specs.Heaps.{Heap, stored, node_at, taken, empty_branch, next_ref, heap_refs}
-use Rattle.proof_memory.specs.Beneath.slot_arena.specs.Counts.{count_of}
-use Rattle.machine_model.specs.Counting.{outside, refs_of_root}
 use Rattle.machine_model.specs.declared.actions.Action.TheVariants as act
-use Rattle.machine_model.specs.declared.roots.Root.{Root}
-use Rattle.machine_model.specs.declared.roots.RootWord.{RootWord}
-use Rattle.machine_model.specs.declared.steps.Bounds.{Bounds}
-use Rattle.machine_model.specs.States.{State, first_state, first_heap, empty_heap, handle_limit, root_at}
-use Rattle.machine_model.specs.Machine.{AreBounds}
 use Rattle.machine_model.proofs.Found.{none_found, found_here, found_elsewhere}
-use Rattle.machine_model.specs.Grown.{standing, of_birth}
 use Rattle.machine_model.proofs.Slots.{AddsUp, empty_adds_up, taken_kept, sound_at_first}
 use Rattle.proof_memory.specs.Wants.{AnIndirection, AMain, meets, Is, Holds, is, so, AllHold, action_wants, word_wants}
 use Rattle.proof_memory.specs.Laws.{SameNode, IsInUse}

@@ -5,19 +5,10 @@ use Rattle.std.proofs.lemmas.Bool.{and_parts, false≢true}
 use Rattle.std.proofs.lemmas.Option.{none-some}
 use Rattle.std.proofs.lemmas.List.Elements.{All-append, All-filter, All-map, All-weaker, filter_passes, Contains-append_left, Contains-append_right}
 use Rattle.std.proofs.lemmas.List.Sums.{get_or-le-sum_by}
-use Rattle.proof_memory.specs.Beneath.slot_arena.specs.declared.refs.Ref.{Ref}
-use Rattle.proof_memory.specs.Beneath.slot_arena.specs.declared.nodes.Slot.{Slot}
-use Rattle.proof_memory.specs.Beneath.epochs.specs.declared.limbo.Zeroed.{Zeroed}
-use Rattle.proof_memory.specs.Beneath.slot_arena.specs.Heaps.{Heap, heap_refs, refs_of_slot, stored, in_use}
-use Rattle.proof_memory.specs.Beneath.slot_arena.specs.Counts.{count_of}
-use Rattle.proof_memory.specs.Beneath.epochs.specs.Limbo.{is_zero, is_in, is_in_use, newly_zero, limbo_after}
-use Rattle.machine_model.specs.declared.operations.Operation.{Operation}
-use Rattle.machine_model.specs.declared.roots.Root.{Root}
-use Rattle.machine_model.specs.States.{State, root_at}
-use Rattle.machine_model.specs.Counting.{outside, refs_of_root, refs_of_operation}
+use Rattle.proof_memory.specs.Vocabulary.{Ref, Slot, Zeroed, Heap, heap_refs, refs_of_slot, stored, in_use, count_of, is_zero, is_in, is_in_use, newly_zero, limbo_after, Operation, Root, State}
+use Rattle.proof_memory.specs.Vocabulary.{root_at, outside, refs_of_root, refs_of_operation, standing}
 use Rattle.machine_model.proofs.Rest.{one_if}
 use Rattle.proof_memory.specs.Beneath.ctrie_base.proofs.Sorting.{sorted_all}
-use Rattle.machine_model.specs.Grown.{standing}
 use Rattle.proof_memory.specs.Laws.{IsInUse}
 use Rattle.machine_model.proofs.Grown.{standing_parts}
 

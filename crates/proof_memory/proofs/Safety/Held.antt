@@ -3,34 +3,16 @@ use Rattle.std.proofs.Common.{◌≡◌, ℕ, zero, suc, ◌==◌, ◌&&◌, Lis
 use Rattle.std.proofs.lemmas.Bool.{cond_both, and_parts, false≢true}
 use Rattle.std.proofs.lemmas.Option.{none-some}
 use Rattle.std.proofs.lemmas.List.Elements.{All-nil, All-cons, All-append, All-weaker, All-contains}
-use Rattle.proof_memory.specs.Beneath.ctrie_base.specs.declared.refusals.Refusal.{Refusal}
-use Rattle.proof_memory.specs.Beneath.history.specs.declared.calls.Call.{Call}
-use Rattle.proof_memory.specs.Beneath.slot_arena.specs.declared.refs.Ref.{Ref}
-use Rattle.proof_memory.specs.Beneath.slot_arena.specs.declared.nodes.Node.{Node}
-use Rattle.proof_memory.specs.Beneath.slot_arena.specs.declared.nodes.Node.TheVariants.{Indirection, Branch, Single, Tomb, List as Listed}
-use Rattle.proof_memory.specs.Beneath.slot_arena.specs.declared.nodes.Prev.{Prev}
+use Rattle.proof_memory.specs.Vocabulary.{Refusal, Call, Ref, Node, Indirection, Branch, Single, Tomb, List as Listed, Prev, Heap, node_at, prev_at, main_at, next_ref, refs_of_node, refs_of_prev}
+use Rattle.proof_memory.specs.Vocabulary.{refs_of_option, Operation, Action, RootWord, Plain, Offer, Bounds, Outcome, Step, handle_of, State, first_state, operation_of, word_at, action_of, gone}
+use Rattle.proof_memory.specs.Vocabulary.{settled, refs_of_word, got_by, got_in, got_of, while_running, held_from, held, Answer, AreBounds, begin_denial, next, next_state, state_after}
+use Rattle.proof_memory.specs.Vocabulary.{is_taken_step, run_from, run, Begins, Ends, Sweeps, Moves, GoesOn, MovesIfTaken}
 use Rattle.proof_memory.specs.Beneath.slot_arena.specs.declared.nodes.Prev.TheVariants as prev
-use Rattle.proof_memory.specs.Beneath.slot_arena.specs.Heaps.{Heap, node_at, prev_at, main_at, next_ref, refs_of_node, refs_of_prev, refs_of_option}
-use Rattle.machine_model.specs.declared.operations.Operation.{Operation}
-use Rattle.machine_model.specs.declared.actions.Action.{Action}
 use Rattle.machine_model.specs.declared.actions.Action.TheVariants as act
-use Rattle.machine_model.specs.declared.roots.RootWord.{RootWord}
-use Rattle.machine_model.specs.declared.roots.RootWord.TheVariants.{Plain, Offer}
-use Rattle.machine_model.specs.declared.steps.Bounds.{Bounds}
-use Rattle.machine_model.specs.declared.steps.Outcome.{Outcome}
-use Rattle.machine_model.specs.declared.steps.Step.{Step}
 use Rattle.machine_model.specs.declared.steps.Step.TheVariants as step
-use Rattle.machine_model.specs.Calls.{handle_of}
-use Rattle.machine_model.specs.States.{State, first_state, operation_of, word_at}
-use Rattle.machine_model.specs.Operations.{action_of}
-use Rattle.machine_model.specs.Acting.{gone}
-use Rattle.machine_model.specs.Counting.{settled, refs_of_word}
-use Rattle.machine_model.specs.Contents.{got_by, got_in, got_of, while_running, held_from, held}
-use Rattle.machine_model.specs.Machine.{Answer, AreBounds, begin_denial, next, next_state, state_after, is_taken_step, run_from, run}
 use Rattle.machine_model.proofs.Found.{none_found}
 use Rattle.machine_model.proofs.Moves.{moves}
-use Rattle.machine_model.specs.Moves.{Begins, Goes, Ends, Sweeps}
-use Rattle.machine_model.specs.Moves.{Moves, GoesOn, MovesIfTaken}
+use Rattle.machine_model.specs.Moves.{Goes}
 use Rattle.machine_model.proofs.Actors.{IsOf, is_of, mark_only, marks_in, marks_by, of_others, of_itself, of_end}
 use Rattle.proof_memory.specs.Wants.{Wanted, Is, Each, Holds, AllHold, node_wants, prev_wants, word_wants, action_wants}
 use Rattle.proof_memory.specs.Laws.{IsInUse}

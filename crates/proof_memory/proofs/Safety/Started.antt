@@ -1,23 +1,10 @@
 -- Past its first line an operation knows the generation of its root.
 use Rattle.std.proofs.Common.{◌≡◌, ℕ, true, is_some, Option, Some, None, get_or, refl, arith}
 use Rattle.std.proofs.lemmas.Bool.{false≢true}
-use Rattle.proof_memory.specs.Beneath.history.specs.declared.calls.Call.{Call}
-use Rattle.proof_memory.specs.Beneath.history.specs.declared.calls.Call.TheVariants.{Close, Entries}
-use Rattle.proof_memory.specs.Beneath.slot_arena.specs.declared.refs.Ref.{Ref}
-use Rattle.machine_model.specs.declared.operations.Operation.{Operation}
-use Rattle.machine_model.specs.declared.reading.After.{After}
-use Rattle.machine_model.specs.declared.reading.After.TheVariants.{Goes as Continues, Gives}
-use Rattle.machine_model.specs.declared.lines.Line.{Line}
+use Rattle.proof_memory.specs.Vocabulary.{Call, Close, Entries, Ref, Operation, After, Gives, Line, RootLine, WalkLine, Outcome, Step, State, line_after, first_line, after_root, given_root}
+use Rattle.proof_memory.specs.Vocabulary.{generation_from, operation_after, walk_after, Moves}
+use Rattle.machine_model.specs.declared.reading.After.TheVariants.{Goes as Continues}
 use Rattle.machine_model.specs.declared.lines.Line.TheVariants as line
-use Rattle.machine_model.specs.declared.roots.RootLine.{RootLine}
-use Rattle.machine_model.specs.declared.walking.WalkLine.{WalkLine}
-use Rattle.machine_model.specs.declared.steps.Outcome.{Outcome}
-use Rattle.machine_model.specs.declared.steps.Step.{Step}
-use Rattle.machine_model.specs.States.{State}
-use Rattle.machine_model.specs.Operations.{line_after, first_line, after_root, given_root, generation_from}
-use Rattle.machine_model.specs.Acting.{operation_after}
-use Rattle.machine_model.specs.Walking.{walk_after}
-use Rattle.machine_model.specs.Moves.{Moves}
 use Rattle.machine_model.proofs.Actors.{mark_one, mark_only}
 use Rattle.proof_memory.specs.Laws.{is_past_root}
 use Rattle.proof_memory.proofs.Safety.EachStep.{each_after}

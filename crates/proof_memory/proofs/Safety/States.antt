@@ -4,27 +4,13 @@ use Rattle.std.proofs.Common.{◌⊎◌, inl, inr, leb-true, arith}
 use Rattle.std.proofs.lemmas.Bool.{cases_eq, false≢true}
 use Rattle.std.proofs.lemmas.Option.{none-some, same_Some, cond_some}
 use Rattle.std.proofs.lemmas.List.Elements.{All-head, Contains-append_left, Contains-append_right, Contains-get_or}
-use Rattle.proof_memory.specs.Beneath.slot_arena.specs.Refs.{slot_of, birth_of, most_slots}
-use Rattle.proof_memory.specs.Beneath.slot_arena.specs.declared.refs.Ref.{Ref}
-use Rattle.proof_memory.specs.Beneath.slot_arena.specs.declared.nodes.Node.{Node}
-use Rattle.proof_memory.specs.Beneath.slot_arena.specs.declared.nodes.Node.TheVariants.{Indirection, Branch, Single, Tomb, List as Listed}
-use Rattle.proof_memory.specs.Beneath.slot_arena.specs.declared.nodes.Prev.{Prev}
+use Rattle.proof_memory.specs.Vocabulary.{slot_of, birth_of, most_slots, Ref, Node, Indirection, Branch, Single, Tomb, List as Listed, Prev, Slot, Zeroed, Heap, stored, node_at, with_main_word}
+use Rattle.proof_memory.specs.Vocabulary.{main_changed, prev_changed, heap_refs, refs_of_node, refs_of_prev, refs_of_slot, refs_of_option, limbo_after, ripe, Operation, Root, RootWord, Plain, Offer}
+use Rattle.proof_memory.specs.Vocabulary.{State, root_at, word_of, word_at, outside, refs_of_word, standing}
 use Rattle.proof_memory.specs.Beneath.slot_arena.specs.declared.nodes.Prev.TheVariants as prev
-use Rattle.proof_memory.specs.Beneath.slot_arena.specs.declared.nodes.Slot.{Slot}
-use Rattle.proof_memory.specs.Beneath.epochs.specs.declared.limbo.Zeroed.{Zeroed}
-use Rattle.proof_memory.specs.Beneath.slot_arena.specs.Heaps.{Heap, stored, node_at, with_main_word, main_changed, prev_changed, heap_refs, refs_of_node, refs_of_prev, refs_of_slot, refs_of_option}
-use Rattle.proof_memory.specs.Beneath.epochs.specs.Limbo.{limbo_after}
-use Rattle.proof_memory.specs.Beneath.epochs.specs.Sweeping.{ripe}
-use Rattle.machine_model.specs.declared.operations.Operation.{Operation}
-use Rattle.machine_model.specs.declared.roots.Root.{Root}
-use Rattle.machine_model.specs.declared.roots.RootWord.{RootWord}
-use Rattle.machine_model.specs.declared.roots.RootWord.TheVariants.{Plain, Offer}
-use Rattle.machine_model.specs.States.{State, root_at, word_of, word_at}
-use Rattle.machine_model.specs.Counting.{outside, refs_of_word}
 use Rattle.machine_model.proofs.Found.{found_within}
 use Rattle.machine_model.proofs.InUse.{InUse}
 use Rattle.machine_model.proofs.Slots.{IsSound}
-use Rattle.machine_model.specs.Grown.{standing}
 use Rattle.proof_memory.specs.Wants.{AMain, is_formed, Claim, Is, So, Holds, AllHold, node_wants, prev_wants, word_wants, line_wants}
 use Rattle.proof_memory.specs.Laws.{SameNode, IsInUse}
 use Rattle.proof_memory.proofs.Claims.Uses.{fact_of, safer, both_hold, first_hold, last_hold, Carries}

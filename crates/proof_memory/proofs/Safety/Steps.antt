@@ -3,38 +3,18 @@ use Rattle.std.proofs.Common.{◌≡◌, ℕ, zero, suc, ◌+◌, ◌≤◌, tru
 use Rattle.std.proofs.lemmas.Bool.{cond_both, or_cases}
 use Rattle.std.proofs.lemmas.Option.{none-some, same_Some}
 use Rattle.std.proofs.lemmas.List.Elements.{All-weaker, All-push, All-nil}
-use Rattle.proof_memory.specs.Beneath.ctrie_base.specs.declared.hashes.HashKind.{HashKind}
-use Rattle.proof_memory.specs.Beneath.history.specs.declared.calls.Access.{Access}
-use Rattle.proof_memory.specs.Beneath.history.specs.declared.calls.Call.{Call}
-use Rattle.proof_memory.specs.Beneath.history.specs.declared.calls.Call.TheVariants.{Close, Entries}
-use Rattle.proof_memory.specs.Beneath.slot_arena.specs.declared.refs.Ref.{Ref}
-use Rattle.proof_memory.specs.Beneath.slot_arena.specs.declared.nodes.Node.{Node}
-use Rattle.proof_memory.specs.Beneath.slot_arena.specs.declared.nodes.Slot.{Slot}
-use Rattle.proof_memory.specs.Beneath.slot_arena.specs.Heaps.{Heap, node_at, next_ref, taken}
-use Rattle.proof_memory.specs.Beneath.epochs.specs.declared.limbo.Swept.{Swept}
-use Rattle.proof_memory.specs.Beneath.epochs.specs.Limbo.{limbo_after, is_zero}
-use Rattle.proof_memory.specs.Beneath.epochs.specs.Sweeping.{Reclaimer, ripe, sweep_by}
-use Rattle.machine_model.specs.declared.operations.Operation.{Operation}
-use Rattle.machine_model.specs.declared.actions.Action.{Action}
+use Rattle.proof_memory.specs.Vocabulary.{HashKind, Access, Call, Close, Entries, Ref, Node, Slot, Heap, node_at, next_ref, taken, Swept, limbo_after, is_zero, Reclaimer, ripe, sweep_by, Operation}
+use Rattle.proof_memory.specs.Vocabulary.{Action, Bounds, Outcome, Step, handle_of, State, word_at, operation_of, action_of, line_after, first_line, gone, acted, operation_after, private_after}
+use Rattle.proof_memory.specs.Vocabulary.{with_made, new_root_taken, outside, settled, begin_denial, with_begin, pin_of, reclaimer_of, Begins, Ends, Sweeps, Moves, GoesOn, begun_operation, standing}
+use Rattle.proof_memory.specs.Vocabulary.{most_slots}
 use Rattle.machine_model.specs.declared.actions.Action.TheVariants as act
-use Rattle.machine_model.specs.declared.steps.Bounds.{Bounds}
-use Rattle.machine_model.specs.declared.steps.Outcome.{Outcome}
-use Rattle.machine_model.specs.declared.steps.Step.{Step}
 use Rattle.machine_model.specs.declared.steps.Step.TheVariants as step
-use Rattle.machine_model.specs.Calls.{handle_of}
-use Rattle.machine_model.specs.States.{State, word_at, operation_of}
-use Rattle.machine_model.specs.Operations.{action_of, line_after, first_line}
-use Rattle.machine_model.specs.Acting.{gone, acted, operation_after, private_after, with_made, new_root_taken}
-use Rattle.machine_model.specs.Counting.{outside, settled}
-use Rattle.machine_model.specs.Machine.{begin_denial, with_begin, pin_of, reclaimer_of}
-use Rattle.machine_model.specs.Moves.{Begins, Goes, Ends, Sweeps}
-use Rattle.machine_model.specs.Moves.{Moves, GoesOn, begun_operation}
+use Rattle.machine_model.specs.Moves.{Goes}
 use Rattle.machine_model.proofs.Actors.{IsOf, mark_one, mark_only, marks_in, marks_by}
 use Rattle.machine_model.proofs.Frames.{acted_framed, limits_kept}
 use Rattle.machine_model.proofs.HeapMoves.{begin_heap}
 use Rattle.machine_model.proofs.Slots.{IsSound, sound_after, ripe_in_use}
 use Rattle.machine_model.proofs.InUse.{InUse}
-use Rattle.machine_model.specs.Grown.{standing}
 use Rattle.proof_memory.specs.Wants.{is_formed, AllHold, node_wants, prev_wants, word_wants, action_wants, line_wants}
 use Rattle.proof_memory.specs.Laws.{IsInUse}
 use Rattle.proof_memory.proofs.Claims.Uses.{Carries, all_carried, both_hold}
@@ -51,7 +31,6 @@ use Rattle.proof_memory.specs.Making.{made_node}
 use Rattle.proof_memory.proofs.Safety.States.{IsSafe, heaped, word_in, open_word, in_private, node_in, prev_in, stands_in_use, carries, made_safe, used_of, slots_after, births_after}
 use Rattle.machine_model.proofs.Grown.{node_standing}
 use Rattle.proof_memory.specs.Beneath.epochs.proofs.Running.{sweep_rises}
-use Rattle.proof_memory.specs.Beneath.slot_arena.specs.Refs.{most_slots}
 
 -- ---- what a step does at its end
 

@@ -1,23 +1,15 @@
 -- At each time of a run the history is well formed, and says which operations run.
 use Rattle.std.proofs.Common.{◌≡◌, ℕ, suc, ◌-◌, ◌≤◌, inl, inr, List, [], ◌∷◌, ◌++◌, set, get_or, length, Some, None, refl, sym, ap, ◌∙◌, subst, length-set}
 use Rattle.std.proofs.lemmas.List.{length-replicate}
-use Rattle.proof_order.specs.Beneath.history.specs.declared.replies.Reply.{Reply}
-use Rattle.proof_order.specs.Beneath.history.specs.declared.events.Event.{Event}
-use Rattle.proof_order.specs.Beneath.history.specs.declared.events.Event.TheVariants.{End}
-use Rattle.proof_order.specs.Beneath.history.specs.Histories.{Operation as Told, IsRunning, MayFollow, IsWellFormed}
+use Rattle.proof_order.specs.Vocabulary.{Reply, Event, End, IsRunning, MayFollow, IsWellFormed, Operation, Bounds, Outcome, Step, State, first_state, Begins, Ends, Sweeps, Moves, begun_operation}
+use Rattle.proof_order.specs.Vocabulary.{IsRun, Record, first_record, noted, no_moment, told_in}
+use Rattle.proof_order.specs.Beneath.history.specs.Histories.{Operation as Told}
 use Rattle.proof_order.specs.Beneath.history.proofs.Places.{at_old, at_push, at_cases}
 use Rattle.proof_order.specs.Beneath.history.proofs.Begins.{well_formed_push}
-use Rattle.proof_order.specs.Beneath.machine_model.specs.declared.operations.Operation.{Operation}
-use Rattle.proof_order.specs.Beneath.machine_model.specs.declared.steps.Bounds.{Bounds}
-use Rattle.proof_order.specs.Beneath.machine_model.specs.declared.steps.Outcome.{Outcome}
-use Rattle.proof_order.specs.Beneath.machine_model.specs.declared.steps.Step.{Step}
 use Rattle.proof_order.specs.Beneath.machine_model.specs.declared.steps.Step.TheVariants as step
-use Rattle.proof_order.specs.Beneath.machine_model.specs.States.{State, first_state}
-use Rattle.proof_order.specs.Beneath.machine_model.specs.Moves.{Begins, Goes, Ends, Sweeps}
-use Rattle.proof_order.specs.Beneath.machine_model.specs.Moves.{Moves, begun_operation}
+use Rattle.proof_order.specs.Beneath.machine_model.specs.Moves.{Goes}
 use Rattle.proof_order.specs.Beneath.machine_model.proofs.Frames.{limits_kept}
 use Rattle.proof_order.specs.Beneath.machine_model.proofs.Found.{none_found}
-use Rattle.proof_order.specs.Beneath.machine_model.specs.Times.{IsRun}
 use Rattle.proof_order.specs.Beneath.machine_model.proofs.Actors.{gone_actors, begin_actors, of_end}
 use Rattle.proof_generations.proofs.Handles.Running.{place_of_actor, one_at, marks_length}
 use Rattle.proof_order.specs.Facts.{Runs}
@@ -25,9 +17,7 @@ use Rattle.proof_order.proofs.Places.Elements.{no_last}
 use Rattle.proof_order.proofs.History.Running.{IsBegun, IsEnded, ran_before, runs_on}
 use Rattle.proof_order.specs.Running.{IsSame}
 use Rattle.proof_order.proofs.History.Books.{IsTold, Books, told_same, one_by_id, quiet_books, begins_books}
-use Rattle.proof_order.specs.Beneath.machine_model.specs.Records.{Record, first_record, noted, no_moment}
 use Rattle.proof_order.specs.Beneath.machine_model.proofs.Recorded.{at_each_record}
-use Rattle.proof_order.specs.Beneath.machine_model.specs.Tellings.{told_in}
 use Rattle.proof_order.specs.Beneath.machine_model.proofs.Alike.{noted_alike}
 use Rattle.proof_order.specs.Beneath.machine_model.proofs.Notes.{noted_going, noted_ending}
 

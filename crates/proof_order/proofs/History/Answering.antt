@@ -1,28 +1,12 @@
 -- An operation whose offer was carried out answers so, if it ends.
 use Rattle.std.proofs.Common.{◌≡◌, ℕ, suc, ◌<◌, ◌≤◌, ◌⊎◌, inl, inr, cond, true, Option, Some, None, sym, ap, ◌∙◌, subst, arith}
-use Rattle.proof_order.specs.Beneath.history.specs.declared.calls.Call.{Call}
-use Rattle.proof_order.specs.Beneath.history.specs.declared.replies.Reply.{Reply}
-use Rattle.proof_order.specs.Beneath.history.specs.declared.events.Event.TheVariants.{End}
-use Rattle.proof_order.specs.Beneath.history.specs.Histories.{HasEnded, begun}
+use Rattle.proof_order.specs.Vocabulary.{Call, Reply, End, HasEnded, begun, Operation, Descriptor, Complete, Outcome, Step, Bounds, handle_of, State, first_state, word_at, complete_action}
+use Rattle.proof_order.specs.Vocabulary.{is_carried_out, copied_reply, action_of, line_action, operation_after, Begins, Ends, Sweeps, Moves, IsRun, Record, first_record, noted, told_in}
 use Rattle.proof_order.specs.Beneath.machine_model.specs.declared.actions.Action.TheVariants as act
-use Rattle.proof_order.specs.Beneath.machine_model.specs.declared.operations.Operation.{Operation}
-use Rattle.proof_order.specs.Beneath.machine_model.specs.declared.roots.Descriptor.{Descriptor}
-use Rattle.proof_order.specs.Beneath.machine_model.specs.declared.roots.Complete.{Complete}
 use Rattle.proof_order.specs.Beneath.machine_model.specs.declared.copying.CopyLine.TheVariants as copy
 use Rattle.proof_order.specs.Beneath.machine_model.specs.declared.lines.Line.TheVariants as line
-use Rattle.proof_order.specs.Beneath.machine_model.specs.declared.steps.Outcome.{Outcome}
-use Rattle.proof_order.specs.Beneath.machine_model.specs.declared.steps.Step.{Step}
 use Rattle.proof_order.specs.Beneath.machine_model.specs.declared.steps.Step.TheVariants as step
-use Rattle.proof_order.specs.Beneath.machine_model.specs.declared.steps.Bounds.{Bounds}
-use Rattle.proof_order.specs.Beneath.machine_model.specs.Calls.{handle_of}
-use Rattle.proof_order.specs.Beneath.machine_model.specs.States.{State, first_state, word_at}
-use Rattle.proof_order.specs.Beneath.machine_model.specs.Swapping.{complete_action, is_carried_out}
-use Rattle.proof_order.specs.Beneath.machine_model.specs.Copying.{copied_reply}
-use Rattle.proof_order.specs.Beneath.machine_model.specs.Operations.{action_of, line_action}
-use Rattle.proof_order.specs.Beneath.machine_model.specs.Acting.{operation_after}
-use Rattle.proof_order.specs.Beneath.machine_model.specs.Moves.{Begins, Goes, Ends, Sweeps}
-use Rattle.proof_order.specs.Beneath.machine_model.specs.Moves.{Moves}
-use Rattle.proof_order.specs.Beneath.machine_model.specs.Times.{IsRun}
+use Rattle.proof_order.specs.Beneath.machine_model.specs.Moves.{Goes}
 use Rattle.proof_order.specs.Beneath.machine_model.proofs.Actors.{mark_one, mark_only, marks_in, marks_by, marks_of}
 use Rattle.proof_generations.proofs.Offers.Marks.{marks_mark}
 use Rattle.proof_generations.proofs.Offers.Standing.{offer_line}
@@ -35,9 +19,7 @@ use Rattle.proof_order.proofs.Offers.Known.{Offers, running_below}
 use Rattle.proof_order.proofs.Offers.Standing.{offers_kept, first_offers, nobody}
 use Rattle.proof_order.proofs.History.OneStep.{From, began, kept, stepped, from}
 use Rattle.proof_order.proofs.History.Copies.{IsDone, done_by, stays_marked, mark_kept, own_marks}
-use Rattle.proof_order.specs.Beneath.machine_model.specs.Records.{Record, first_record, noted}
 use Rattle.proof_order.specs.Beneath.machine_model.proofs.Recorded.{KeptByNotes, at_each_record}
-use Rattle.proof_order.specs.Beneath.machine_model.specs.Tellings.{told_in}
 use Rattle.proof_order.specs.Beneath.machine_model.proofs.Notes.{noted_going, noted_ending}
 
 -- an end that a step tells is of an operation that takes it

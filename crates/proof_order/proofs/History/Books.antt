@@ -3,29 +3,18 @@ use Rattle.std.proofs.Common.{◌≡◌, ℕ, suc, ◌-◌, ◌<◌, ◌≤◌, 
 use Rattle.std.proofs.Common.{take_all, length-set, arith, []}
 use Rattle.std.proofs.lemmas.List.{get_or-set_same}
 use Rattle.std.proofs.lemmas.Option.{slice_get_within}
-use Rattle.proof_order.specs.Beneath.history.specs.declared.calls.Call.{Call}
-use Rattle.proof_order.specs.Beneath.history.specs.declared.replies.Reply.{Reply}
-use Rattle.proof_order.specs.Beneath.history.specs.declared.events.Event.{Event}
-use Rattle.proof_order.specs.Beneath.history.specs.declared.events.Event.TheVariants.{Begin, End}
-use Rattle.proof_order.specs.Beneath.history.specs.Histories.{Operation as Told, BeginsAt, EndsAt, HasEnded, IsRunning, begun, OpensRightly, MayFollow, IsWellFormed}
+use Rattle.proof_order.specs.Vocabulary.{Call, Reply, Event, End, BeginsAt, EndsAt, HasEnded, IsRunning, begun, OpensRightly, MayFollow, IsWellFormed, Operation, Bounds, Outcome, Step, opens_handle}
+use Rattle.proof_order.specs.Vocabulary.{State, begin_denial, least_free, Moves, begun_operation, Record, noted, told_in}
+use Rattle.proof_order.specs.Beneath.history.specs.declared.events.Event.TheVariants.{Begin}
+use Rattle.proof_order.specs.Beneath.history.specs.Histories.{Operation as Told}
 use Rattle.proof_order.specs.Beneath.history.proofs.Places.{at_old, at_push, at_cases, at_take}
 use Rattle.proof_order.specs.Beneath.history.proofs.Begins.{well_formed_push, begun_grows, begun_more, begins_once}
-use Rattle.proof_order.specs.Beneath.machine_model.specs.declared.operations.Operation.{Operation}
-use Rattle.proof_order.specs.Beneath.machine_model.specs.declared.steps.Bounds.{Bounds}
-use Rattle.proof_order.specs.Beneath.machine_model.specs.declared.steps.Outcome.{Outcome}
-use Rattle.proof_order.specs.Beneath.machine_model.specs.declared.steps.Step.{Step}
 use Rattle.proof_order.specs.Beneath.machine_model.specs.declared.steps.Step.TheVariants as step
-use Rattle.proof_order.specs.Beneath.machine_model.specs.Calls.{opens_handle}
-use Rattle.proof_order.specs.Beneath.machine_model.specs.States.{State}
-use Rattle.proof_order.specs.Beneath.machine_model.specs.Machine.{begin_denial, least_free}
-use Rattle.proof_order.specs.Beneath.machine_model.specs.Moves.{Moves, begun_operation}
 use Rattle.proof_generations.proofs.Handles.Running.{one_at, begin_not_running}
 use Rattle.proof_order.specs.Facts.{Runs}
 use Rattle.proof_order.proofs.History.Running.{IsBegun, IsEnded, ran_before, runs_on}
 use Rattle.proof_order.specs.Running.{IsSame}
-use Rattle.proof_order.specs.Beneath.machine_model.specs.Records.{Record, noted}
 use Rattle.proof_order.specs.Beneath.machine_model.proofs.Alike.{AreAlike, noted_alike}
-use Rattle.proof_order.specs.Beneath.machine_model.specs.Tellings.{told_in}
 
 -- ---- histories
 

@@ -2,25 +2,15 @@
 use Rattle.std.proofs.Common.{◌≡◌, ℕ, zero, suc, ◌+◌, ◌<◌, ◌≤◌, true, false, ◌⊎◌, inl, inr, List, [], ◌∷◌, ◌++◌, length, Some, slice_get, refl, sym, ap, ◌∙◌, subst, append-nil, length-append, arith}
 use Rattle.std.proofs.lemmas.Bool.{cases_lt}
 use Rattle.std.proofs.lemmas.Option.{same_Some, slice_get_within}
-use Rattle.proof_order.specs.Beneath.history.specs.Worlds.{KeyMap}
-use Rattle.proof_order.specs.Beneath.history.specs.declared.replies.Reply.{Reply}
+use Rattle.proof_order.specs.Vocabulary.{KeyMap, Reply, End, BeginsAt, EndsAt, HasBegun, HasEnded, OrderedAt, IsCandidate, KeepsTime, Place, Operation, Bounds, Outcome, Step, State, operation_of}
+use Rattle.proof_order.specs.Vocabulary.{action_of, Begins, Ends, Sweeps, Moves, IsRun, entered_at_end, closing_for, Record, moment_at, noted, told_in, entrant_of}
 use Rattle.proof_order.specs.Beneath.history.specs.declared.replies.Reply.TheVariants as reply
-use Rattle.proof_order.specs.Beneath.history.specs.declared.events.Event.TheVariants.{Begin, End}
-use Rattle.proof_order.specs.Beneath.history.specs.Histories.{Operation as Told, BeginsAt, EndsAt, HasBegun, HasEnded}
-use Rattle.proof_order.specs.Beneath.history.specs.Orders.{OrderedAt, IsCandidate, KeepsTime}
+use Rattle.proof_order.specs.Beneath.history.specs.declared.events.Event.TheVariants.{Begin}
+use Rattle.proof_order.specs.Beneath.history.specs.Histories.{Operation as Told}
 use Rattle.proof_order.specs.Beneath.history.proofs.Places.{at_within}
 use Rattle.proof_order.specs.Beneath.history.proofs.Begins.{begins_once}
-use Rattle.proof_order.specs.Beneath.places.specs.declared.place.Place.{Place}
-use Rattle.proof_order.specs.Beneath.machine_model.specs.declared.operations.Operation.{Operation}
 use Rattle.proof_order.specs.Beneath.machine_model.specs.declared.actions.Action.TheVariants as act
-use Rattle.proof_order.specs.Beneath.machine_model.specs.declared.steps.Bounds.{Bounds}
-use Rattle.proof_order.specs.Beneath.machine_model.specs.declared.steps.Outcome.{Outcome}
-use Rattle.proof_order.specs.Beneath.machine_model.specs.declared.steps.Step.{Step}
-use Rattle.proof_order.specs.Beneath.machine_model.specs.States.{State, operation_of}
-use Rattle.proof_order.specs.Beneath.machine_model.specs.Operations.{action_of}
-use Rattle.proof_order.specs.Beneath.machine_model.specs.Moves.{Begins, Goes, Ends, Sweeps}
-use Rattle.proof_order.specs.Beneath.machine_model.specs.Moves.{Moves}
-use Rattle.proof_order.specs.Beneath.machine_model.specs.Times.{IsRun}
+use Rattle.proof_order.specs.Beneath.machine_model.specs.Moves.{Goes}
 use Rattle.proof_order.specs.Facts.{Runs, Facts}
 use Rattle.proof_order.specs.Beneath.history.proofs.Among.{Among, among_either}
 use Rattle.proof_order.proofs.Places.Elements.{Along, of_each, among_get, get_among, among_map, contains_among}
@@ -34,9 +24,7 @@ use Rattle.proof_order.proofs.Views.Standing.{step_at}
 use Rattle.proof_order.proofs.Views.Steps.{Enters, Kind, plain, updates, answers, closes, swaps, kind_at}
 use Rattle.proof_order.proofs.Places.Origins.{place_says}
 use Rattle.proof_order.proofs.Places.Members.{sorted, sorted_along, sorted_apart}
-use Rattle.proof_order.specs.Beneath.machine_model.specs.Records.{entered_at_end, closing_for, Record, moment_at, noted}
 use Rattle.proof_order.specs.Beneath.machine_model.proofs.Recorded.{KeptByNotes}
-use Rattle.proof_order.specs.Beneath.machine_model.specs.Tellings.{told_in, entrant_of}
 use Rattle.proof_order.specs.Beneath.machine_model.proofs.Notes.{noted_going, noted_ending}
 
 -- ---- positions in a list of places

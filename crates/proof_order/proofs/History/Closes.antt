@@ -1,36 +1,22 @@
 -- A close is answered with Closed, if it ends.
 use Rattle.std.proofs.Common.{◌≡◌, ℕ, suc, ◌≤◌, inl, inr, Option, Some, slice_get, sym, ap, ◌∙◌, subst, arith}
-use Rattle.proof_order.specs.Beneath.history.specs.declared.calls.Call.{Call}
-use Rattle.proof_order.specs.Beneath.history.specs.declared.calls.Call.TheVariants.{Close}
-use Rattle.proof_order.specs.Beneath.history.specs.declared.replies.Reply.{Reply}
+use Rattle.proof_order.specs.Vocabulary.{Call, Close, Reply, Event, End, HasEnded, Operation, Action, Bounds, Outcome, Step, State, first_state, action_of, line_action, first_line, operation_after}
+use Rattle.proof_order.specs.Vocabulary.{Begins, Ends, Sweeps, Moves, GoesOn, begun_operation, IsRun, Record, first_record, noted, told_in}
 use Rattle.proof_order.specs.Beneath.history.specs.declared.replies.Reply.TheVariants as reply
-use Rattle.proof_order.specs.Beneath.history.specs.declared.events.Event.{Event}
-use Rattle.proof_order.specs.Beneath.history.specs.declared.events.Event.TheVariants.{Begin, End}
-use Rattle.proof_order.specs.Beneath.history.specs.Histories.{Operation as Told, HasEnded}
+use Rattle.proof_order.specs.Beneath.history.specs.declared.events.Event.TheVariants.{Begin}
+use Rattle.proof_order.specs.Beneath.history.specs.Histories.{Operation as Told}
 use Rattle.proof_order.specs.Beneath.history.proofs.Places.{at_cases}
 use Rattle.proof_order.specs.Beneath.history.proofs.Begins.{begins_once}
-use Rattle.proof_order.specs.Beneath.machine_model.specs.declared.operations.Operation.{Operation}
-use Rattle.proof_order.specs.Beneath.machine_model.specs.declared.actions.Action.{Action}
 use Rattle.proof_order.specs.Beneath.machine_model.specs.declared.actions.Action.TheVariants as act
 use Rattle.proof_order.specs.Beneath.machine_model.specs.declared.lines.Line.TheVariants as line
-use Rattle.proof_order.specs.Beneath.machine_model.specs.declared.steps.Bounds.{Bounds}
-use Rattle.proof_order.specs.Beneath.machine_model.specs.declared.steps.Outcome.{Outcome}
-use Rattle.proof_order.specs.Beneath.machine_model.specs.declared.steps.Step.{Step}
-use Rattle.proof_order.specs.Beneath.machine_model.specs.States.{State, first_state}
-use Rattle.proof_order.specs.Beneath.machine_model.specs.Operations.{action_of, line_action, first_line}
-use Rattle.proof_order.specs.Beneath.machine_model.specs.Acting.{operation_after}
-use Rattle.proof_order.specs.Beneath.machine_model.specs.Moves.{Begins, Goes, Ends, Sweeps}
-use Rattle.proof_order.specs.Beneath.machine_model.specs.Moves.{Moves, GoesOn, begun_operation}
+use Rattle.proof_order.specs.Beneath.machine_model.specs.Moves.{Goes}
 use Rattle.proof_order.specs.Beneath.machine_model.proofs.Found.{none_found}
-use Rattle.proof_order.specs.Beneath.machine_model.specs.Times.{IsRun}
 use Rattle.proof_order.specs.Beneath.machine_model.proofs.Actors.{IsOf, is_of, mark_one, mark_only, of_others, of_itself, of_begin, of_end}
 use Rattle.proof_generations.proofs.Handles.Running.{place_of_actor, at_place}
 use Rattle.proof_order.specs.Facts.{Runs}
 use Rattle.proof_order.proofs.History.Books.{Books, ended_below}
 use Rattle.proof_order.proofs.History.AllBooks.{books_kept, first_books}
-use Rattle.proof_order.specs.Beneath.machine_model.specs.Records.{Record, first_record, noted}
 use Rattle.proof_order.specs.Beneath.machine_model.proofs.Recorded.{KeptByNotes, at_each_record}
-use Rattle.proof_order.specs.Beneath.machine_model.specs.Tellings.{told_in}
 use Rattle.proof_order.specs.Beneath.machine_model.proofs.Notes.{noted_going, noted_ending}
 
 -- ---- a close that runs is about to end

@@ -3,32 +3,19 @@
 use Rattle.std.proofs.Common.{◌≡◌, ℕ, suc, ◌==◌, ◌⊎◌, inl, inr, cond, Bool, true, false, Option, Some, None, refl, sym, ap, ◌∙◌, subst, eqb-true, arith}
 use Rattle.std.proofs.lemmas.Bool.{false≢true}
 use Rattle.std.proofs.lemmas.Option.{same_Some}
-use Rattle.proof_order.specs.Beneath.slot_arena.specs.declared.refs.Ref.{Ref}
-use Rattle.proof_order.specs.Beneath.machine_model.specs.declared.actions.Action.{Action}
+use Rattle.proof_order.specs.Vocabulary.{Ref, Action, Operation, Descriptor, Complete, After, Gives, Step, handle_of, State, word_at, operation_of, complete_after, complete_action, is_carried_out}
+use Rattle.proof_order.specs.Vocabulary.{copied_reply, copy_after_complete, action_of, line_action, line_after, mark_after, operation_after, GoesOn, Record}
 use Rattle.proof_order.specs.Beneath.machine_model.specs.declared.actions.Action.TheVariants as act
-use Rattle.proof_order.specs.Beneath.machine_model.specs.declared.operations.Operation.{Operation}
-use Rattle.proof_order.specs.Beneath.machine_model.specs.declared.roots.Descriptor.{Descriptor}
-use Rattle.proof_order.specs.Beneath.machine_model.specs.declared.roots.Complete.{Complete}
-use Rattle.proof_order.specs.Beneath.machine_model.specs.declared.reading.After.{After}
-use Rattle.proof_order.specs.Beneath.machine_model.specs.declared.reading.After.TheVariants.{Goes, Gives}
+use Rattle.proof_order.specs.Beneath.machine_model.specs.declared.reading.After.TheVariants.{Goes}
 use Rattle.proof_order.specs.Beneath.machine_model.specs.declared.copying.CopyLine.TheVariants as copy
 use Rattle.proof_order.specs.Beneath.machine_model.specs.declared.lines.Line.TheVariants as line
-use Rattle.proof_order.specs.Beneath.machine_model.specs.declared.steps.Step.{Step}
 use Rattle.proof_order.specs.Beneath.machine_model.specs.declared.steps.Step.TheVariants as step
-use Rattle.proof_order.specs.Beneath.machine_model.specs.Calls.{handle_of}
-use Rattle.proof_order.specs.Beneath.machine_model.specs.States.{State, word_at, operation_of}
-use Rattle.proof_order.specs.Beneath.machine_model.specs.Swapping.{complete_after, complete_action, is_carried_out}
-use Rattle.proof_order.specs.Beneath.machine_model.specs.Copying.{copied_reply, copy_after_complete}
-use Rattle.proof_order.specs.Beneath.machine_model.specs.Operations.{action_of, line_action, line_after}
-use Rattle.proof_order.specs.Beneath.machine_model.specs.Acting.{mark_after, operation_after}
-use Rattle.proof_order.specs.Beneath.machine_model.specs.Moves.{GoesOn}
 use Rattle.proof_order.specs.Beneath.machine_model.proofs.Actors.{mark_one, mark_only, marks_in, marks_by}
 use Rattle.proof_generations.proofs.Offers.Marks.{Marks, marked_in}
 use Rattle.proof_generations.proofs.Offers.Standing.{completes_it}
 use Rattle.proof_order.specs.Facts.{Runs}
 use Rattle.proof_order.proofs.Offers.Known.{Offers}
 use Rattle.proof_order.proofs.History.OneStep.{From, began, kept, stepped}
-use Rattle.proof_order.specs.Beneath.machine_model.specs.Records.{Record}
 
 -- ---- what a marked operation does
 

@@ -3,28 +3,14 @@ use Rattle.std.proofs.Common.{◌≡◌, ◌≢◌, ℕ, zero, suc, ◌+◌, ◌
 use Rattle.std.proofs.Common.{append-nil, append_assoc, arith, eqb-true, []}
 use Rattle.std.specs.List.{list_any}
 use Rattle.std.proofs.lemmas.Bool.{false≢true, or_cases, or_parts, eqb-false}
-use Rattle.proof_order.specs.Beneath.history.specs.declared.replies.Reply.{Reply}
+use Rattle.proof_order.specs.Vocabulary.{Reply, Event, End, HasEnded, Place, Bounds, Outcome, Step, State, ended, Begins, Ends, Sweeps, Moves, begun_operation, turns, noted_turn, IsRun, Turn}
+use Rattle.proof_order.specs.Vocabulary.{is_placed, place_of, entered, entered_at_end, Record, first_record, noted, noted_progress, placed_by, entered_at_begin, moment_at, told_in, progress_of}
+use Rattle.proof_order.specs.Vocabulary.{entrant_of, Progress, Entrant}
 use Rattle.proof_order.specs.Beneath.history.specs.declared.replies.Reply.TheVariants as reply
-use Rattle.proof_order.specs.Beneath.history.specs.declared.events.Event.{Event}
-use Rattle.proof_order.specs.Beneath.history.specs.declared.events.Event.TheVariants.{End}
-use Rattle.proof_order.specs.Beneath.history.specs.Histories.{HasEnded}
 use Rattle.proof_order.specs.Beneath.history.proofs.Places.{at_cases, at_front}
-use Rattle.proof_order.specs.Beneath.places.specs.declared.place.Place.{Place}
-use Rattle.proof_order.specs.Beneath.machine_model.specs.declared.steps.Bounds.{Bounds}
-use Rattle.proof_order.specs.Beneath.machine_model.specs.declared.steps.Outcome.{Outcome}
-use Rattle.proof_order.specs.Beneath.machine_model.specs.declared.steps.Step.{Step}
-use Rattle.proof_order.specs.Beneath.machine_model.specs.States.{State}
-use Rattle.proof_order.specs.Beneath.machine_model.specs.Acting.{ended}
-use Rattle.proof_order.specs.Beneath.machine_model.specs.Moves.{Begins, Goes, Ends, Sweeps}
-use Rattle.proof_order.specs.Beneath.machine_model.specs.Moves.{Moves, begun_operation}
-use Rattle.proof_order.specs.Beneath.machine_model.specs.Times.{turns, noted_turn}
-use Rattle.proof_order.specs.Beneath.machine_model.specs.Times.{IsRun, Turn}
+use Rattle.proof_order.specs.Beneath.machine_model.specs.Moves.{Goes}
 use Rattle.proof_order.specs.Beneath.history.proofs.Among.{Among, among_left, among_right}
-use Rattle.proof_order.specs.Beneath.machine_model.specs.Records.{is_placed, place_of, entered, entered_at_end, Record, first_record, noted, noted_progress, placed_by, entered_at_begin, moment_at}
-use Rattle.proof_order.specs.Beneath.machine_model.specs.Tellings.{told_in, progress_of, entrant_of}
 use Rattle.proof_order.specs.Beneath.machine_model.proofs.Recorded.{KeptByNotes, at_each_record}
-use Rattle.proof_order.specs.Beneath.machine_model.specs.declared.records.Progress.{Progress}
-use Rattle.proof_order.specs.Beneath.machine_model.specs.declared.records.Entrant.{Entrant}
 use Rattle.proof_order.specs.Beneath.machine_model.proofs.Notes.{noted_going, noted_ending}
 
 -- ---- what a step keeps holds later

@@ -3,33 +3,17 @@ use Rattle.std.proofs.Common.{◌≡◌, ℕ, suc, ◌⊎◌, inl, inr, Bool, tr
 use Rattle.std.proofs.Common.{◌∷◌, ◌++◌, length, Option, Some, None, ◌<◌, ◌≤◌, option_and_then, cond, find, option_to_list, ◌==◌}
 use Rattle.std.proofs.Common.{refl, sym, ap, ◌∙◌, subst}
 use Rattle.std.proofs.lemmas.Bool.{and_parts}
-use Rattle.proof_order.specs.Beneath.history.specs.declared.calls.Call.{Call}
-use Rattle.proof_order.specs.Beneath.history.specs.declared.calls.Call.TheVariants.{Close}
-use Rattle.proof_order.specs.Beneath.history.specs.declared.replies.Reply.{Reply}
+use Rattle.proof_order.specs.Vocabulary.{Call, Close, Reply, Event, HasBegun, begun, OrderedAt, Ref, Place, rising, ids_by_place, Action, Operation, Descriptor, Bounds, Outcome, Step, handle_of}
+use Rattle.proof_order.specs.Vocabulary.{State, first_state, word_at, operation_of, action_of, stands_in, is_carried_out, run, Begins, Ends, Sweeps, Moves, begun_operation, IsRun, place_of}
+use Rattle.proof_order.specs.Vocabulary.{is_placed, closing_for, order_of, entered, entered_by, entered_at_end, Record, entered_at_begin, first_record, record_of, changer_of, noted, placed_by}
+use Rattle.proof_order.specs.Vocabulary.{moment_at, carried_by, told_in, progress_of, published_by, entrant_of, published_at, changer_for, Publication, Carried, Entrant, Progress, Line}
+use Rattle.proof_order.specs.Vocabulary.{generation_at, Purpose, SwapLine}
 use Rattle.proof_order.specs.Beneath.history.specs.declared.replies.Reply.TheVariants as reply
-use Rattle.proof_order.specs.Beneath.history.specs.declared.events.Event.{Event}
 use Rattle.proof_order.specs.Beneath.history.specs.declared.events.Event.TheVariants.{Begin}
-use Rattle.proof_order.specs.Beneath.history.specs.Histories.{Operation as Told, HasBegun, begun}
-use Rattle.proof_order.specs.Beneath.history.specs.Orders.{OrderedAt}
+use Rattle.proof_order.specs.Beneath.history.specs.Histories.{Operation as Told}
 use Rattle.proof_order.specs.Beneath.history.proofs.Places.{at_push}
-use Rattle.proof_order.specs.Beneath.slot_arena.specs.declared.refs.Ref.{Ref}
-use Rattle.proof_order.specs.Beneath.places.specs.declared.place.Place.{Place}
-use Rattle.proof_order.specs.Beneath.places.specs.Places.{rising, ids_by_place}
-use Rattle.proof_order.specs.Beneath.machine_model.specs.declared.actions.Action.{Action}
 use Rattle.proof_order.specs.Beneath.machine_model.specs.declared.actions.Action.TheVariants as act
-use Rattle.proof_order.specs.Beneath.machine_model.specs.declared.operations.Operation.{Operation}
-use Rattle.proof_order.specs.Beneath.machine_model.specs.declared.roots.Descriptor.{Descriptor}
-use Rattle.proof_order.specs.Beneath.machine_model.specs.declared.steps.Bounds.{Bounds}
-use Rattle.proof_order.specs.Beneath.machine_model.specs.declared.steps.Outcome.{Outcome}
-use Rattle.proof_order.specs.Beneath.machine_model.specs.declared.steps.Step.{Step}
-use Rattle.proof_order.specs.Beneath.machine_model.specs.Calls.{handle_of}
-use Rattle.proof_order.specs.Beneath.machine_model.specs.States.{State, first_state, word_at, operation_of}
-use Rattle.proof_order.specs.Beneath.machine_model.specs.Operations.{action_of}
-use Rattle.proof_order.specs.Beneath.machine_model.specs.Swapping.{stands_in, is_carried_out}
-use Rattle.proof_order.specs.Beneath.machine_model.specs.Machine.{run}
-use Rattle.proof_order.specs.Beneath.machine_model.specs.Moves.{Begins, Goes, Ends, Sweeps}
-use Rattle.proof_order.specs.Beneath.machine_model.specs.Moves.{Moves, begun_operation}
-use Rattle.proof_order.specs.Beneath.machine_model.specs.Times.{IsRun}
+use Rattle.proof_order.specs.Beneath.machine_model.specs.Moves.{Goes}
 use Rattle.proof_generations.specs.Laws.Roots.{settles}
 use Rattle.proof_generations.proofs.Offers.Same.{same_offer}
 use Rattle.proof_generations.proofs.Handles.Running.{place_of_actor}
@@ -42,21 +26,10 @@ use Rattle.proof_order.proofs.History.Growing.{Grows, get_grown, events_grow}
 use Rattle.proof_order.proofs.Places.Origins.{place_says}
 use Rattle.proof_order.proofs.Offers.Known.{Offers, stands}
 use Rattle.proof_order.proofs.Offers.Standing.{offers_kept, first_offers}
-use Rattle.proof_order.specs.Beneath.machine_model.specs.Records.{place_of, is_placed, closing_for, order_of, entered, entered_by, entered_at_end}
-use Rattle.proof_order.specs.Beneath.machine_model.specs.Records.{Record, entered_at_begin, first_record, record_of, changer_of, noted, placed_by, moment_at}
-use Rattle.proof_order.specs.Beneath.machine_model.specs.Tellings.{carried_by, told_in, progress_of, published_by, entrant_of, published_at, changer_for}
-use Rattle.proof_order.specs.Beneath.machine_model.specs.declared.records.Publication.{Publication}
-use Rattle.proof_order.specs.Beneath.machine_model.specs.declared.records.Carried.{Carried}
 use Rattle.proof_order.specs.Beneath.machine_model.proofs.Recorded.{KeptByNotes, at_each_record, along_with}
-use Rattle.proof_order.specs.Beneath.machine_model.specs.declared.records.Entrant.{Entrant}
-use Rattle.proof_order.specs.Beneath.machine_model.specs.declared.records.Progress.{Progress}
 use Rattle.proof_order.specs.Beneath.machine_model.proofs.Notes.{noted_going, noted_ending}
 use Rattle.std.proofs.lemmas.Option.{none-some, same_Some}
-use Rattle.proof_order.specs.Beneath.machine_model.specs.declared.lines.Line.{Line}
-use Rattle.proof_order.specs.Beneath.slot_arena.specs.Heaps.{generation_at}
 use Rattle.proof_order.specs.Beneath.machine_model.specs.declared.lines.Line.TheVariants as line
-use Rattle.proof_order.specs.Beneath.machine_model.specs.declared.lines.Purpose.{Purpose}
-use Rattle.proof_order.specs.Beneath.machine_model.specs.declared.reading.SwapLine.{SwapLine}
 use Rattle.proof_order.specs.Beneath.machine_model.specs.declared.reading.SwapLine.TheVariants as swap
 use Rattle.proof_order.specs.Beneath.machine_model.specs.declared.lines.Purpose.TheVariants as purpose
 

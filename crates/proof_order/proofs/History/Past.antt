@@ -1,31 +1,18 @@
 -- Moments, commits and closings lie in the past.
 use Rattle.std.proofs.Common.{◌≡◌, ℕ, suc, ◌+◌, ◌<◌, ◌≤◌, ◌==◌, max, Bool, true, false, cond, ◌⊎◌, inl, inr}
 use Rattle.std.proofs.Common.{List, ◌∷◌, ◌++◌, find, Option, Some, None, refl, sym, ap, ◌∙◌, subst, arith, [], append-nil}
-use Rattle.proof_order.specs.Beneath.slot_arena.specs.declared.refs.Ref.{Ref}
-use Rattle.proof_order.specs.Beneath.machine_model.specs.declared.records.Commit.{Commit}
-use Rattle.proof_order.specs.Beneath.machine_model.specs.declared.records.Closing.{Closing}
-use Rattle.proof_order.specs.Beneath.machine_model.specs.declared.operations.Operation.{Operation}
-use Rattle.proof_order.specs.Beneath.machine_model.specs.declared.steps.Bounds.{Bounds}
-use Rattle.proof_order.specs.Beneath.machine_model.specs.declared.steps.Outcome.{Outcome}
-use Rattle.proof_order.specs.Beneath.machine_model.specs.declared.steps.Step.{Step}
-use Rattle.proof_order.specs.Beneath.machine_model.specs.States.{State, first_state}
-use Rattle.proof_order.specs.Beneath.machine_model.specs.Moves.{Begins, Goes, Ends, Sweeps}
-use Rattle.proof_order.specs.Beneath.machine_model.specs.Moves.{Moves}
+use Rattle.proof_order.specs.Vocabulary.{Ref, Commit, Closing, Operation, Bounds, Outcome, Step, State, first_state, Begins, Ends, Sweeps, Moves, IsRun, step_of_commit, read_at_after, commit_step}
+use Rattle.proof_order.specs.Vocabulary.{moment_given, moment_after, commits_after, Record, first_record, moment_at, noted, closed_by, no_moment, with_moment, noted_progress, committed_now, told_in}
+use Rattle.proof_order.specs.Vocabulary.{progress_of, Moment, Progress, Carried}
+use Rattle.proof_order.specs.Beneath.machine_model.specs.Moves.{Goes}
 use Rattle.proof_order.specs.Beneath.machine_model.proofs.Frames.{steps_counted}
 use Rattle.proof_order.specs.Beneath.machine_model.proofs.Found.{none_found}
-use Rattle.proof_order.specs.Beneath.machine_model.specs.Times.{IsRun}
 use Rattle.proof_order.specs.Beneath.machine_model.proofs.Actors.{IsOf, is_of, of_others, of_end, begin_actor}
 use Rattle.proof_generations.proofs.Handles.Running.{at_place}
 use Rattle.proof_order.specs.Facts.{Runs}
 use Rattle.proof_order.specs.Beneath.history.proofs.Among.{Among, among_either}
-use Rattle.proof_order.specs.Beneath.machine_model.specs.Records.{step_of_commit, read_at_after, commit_step, moment_given, moment_after, commits_after, Record}
-use Rattle.proof_order.specs.Beneath.machine_model.specs.Records.{first_record, moment_at, noted, closed_by, no_moment, with_moment, noted_progress}
-use Rattle.proof_order.specs.Beneath.machine_model.specs.Tellings.{committed_now, told_in, progress_of}
-use Rattle.proof_order.specs.Beneath.machine_model.specs.declared.records.Moment.{Moment}
 use Rattle.proof_order.specs.Beneath.machine_model.proofs.Recorded.{KeptByNotes, at_each_record}
 use Rattle.proof_order.specs.Beneath.machine_model.proofs.Alike.{AreAlike, noted_alike, moment_rests, moment_own, moment_goes, go_actor}
-use Rattle.proof_order.specs.Beneath.machine_model.specs.declared.records.Progress.{Progress}
-use Rattle.proof_order.specs.Beneath.machine_model.specs.declared.records.Carried.{Carried}
 use Rattle.proof_order.specs.Beneath.machine_model.proofs.Notes.{noted_going, noted_ending}
 use Rattle.std.proofs.lemmas.List.{length-replicate}
 

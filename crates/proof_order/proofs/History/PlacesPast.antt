@@ -1,32 +1,17 @@
 -- Places and closings lie in the past.
 use Rattle.std.proofs.Common.{◌≡◌, ℕ, ◌+◌, ◌<◌, ◌≤◌, Bool, true, false, cond, nat_lt, List, [], ◌∷◌, ◌++◌, All, Option, Some, None, refl, sym, subst, arith, ltb-true, inl, inr}
 use Rattle.std.proofs.lemmas.List.Elements.{All-append, All-cons, All-nil, All-weaker}
-use Rattle.proof_order.specs.Beneath.history.specs.declared.calls.Call.{Call}
-use Rattle.proof_order.specs.Beneath.history.specs.declared.calls.Call.TheVariants.{Close}
-use Rattle.proof_order.specs.Beneath.history.specs.declared.replies.Reply.{Reply}
+use Rattle.proof_order.specs.Vocabulary.{Call, Close, Reply, Ref, Place, late, on_time, place_by, Closing, Bounds, Outcome, Step, run, Begins, Ends, Moves, Sweeps, begun_operation, State}
+use Rattle.proof_order.specs.Vocabulary.{first_state, entered, is_placed, place_of, entered_at_end, entered_by, Record, entered_at_begin, first_record, record_of, changer_of, placed_by, noted}
+use Rattle.proof_order.specs.Vocabulary.{moment_at, told_in, progress_of, entrant_of, Carried, Entrant, Progress}
 use Rattle.proof_order.specs.Beneath.history.specs.declared.replies.Reply.TheVariants as reply
-use Rattle.proof_order.specs.Beneath.slot_arena.specs.declared.refs.Ref.{Ref}
-use Rattle.proof_order.specs.Beneath.places.specs.declared.place.Place.{Place}
-use Rattle.proof_order.specs.Beneath.places.specs.Places.{late, on_time, place_by}
-use Rattle.proof_order.specs.Beneath.machine_model.specs.declared.records.Closing.{Closing}
-use Rattle.proof_order.specs.Beneath.machine_model.specs.declared.steps.Bounds.{Bounds}
-use Rattle.proof_order.specs.Beneath.machine_model.specs.declared.steps.Outcome.{Outcome}
-use Rattle.proof_order.specs.Beneath.machine_model.specs.declared.steps.Step.{Step}
-use Rattle.proof_order.specs.Beneath.machine_model.specs.Machine.{run}
-use Rattle.proof_order.specs.Beneath.machine_model.specs.Moves.{Begins, Ends, Goes, Moves, Sweeps, begun_operation}
-use Rattle.proof_order.specs.Beneath.machine_model.specs.States.{State, first_state}
+use Rattle.proof_order.specs.Beneath.machine_model.specs.Moves.{Goes}
 use Rattle.proof_order.specs.Beneath.machine_model.proofs.Frames.{steps_counted}
 use Rattle.proof_order.specs.Laws.Past.{PlacesPast}
 use Rattle.proof_order.proofs.History.Past.{Past, first_past, past_kept}
 use Rattle.proof_order.specs.Beneath.history.proofs.Among.{Among}
 use Rattle.proof_generations.proofs.Handles.Running.{place_of_actor}
-use Rattle.proof_order.specs.Beneath.machine_model.specs.Records.{entered, is_placed, place_of, entered_at_end, entered_by, Record}
-use Rattle.proof_order.specs.Beneath.machine_model.specs.Records.{entered_at_begin, first_record, record_of, changer_of, placed_by, noted, moment_at}
-use Rattle.proof_order.specs.Beneath.machine_model.specs.Tellings.{told_in, progress_of, entrant_of}
-use Rattle.proof_order.specs.Beneath.machine_model.specs.declared.records.Carried.{Carried}
-use Rattle.proof_order.specs.Beneath.machine_model.specs.declared.records.Entrant.{Entrant}
 use Rattle.proof_order.specs.Beneath.machine_model.proofs.Recorded.{along_with}
-use Rattle.proof_order.specs.Beneath.machine_model.specs.declared.records.Progress.{Progress}
 use Rattle.proof_order.specs.Beneath.machine_model.proofs.Notes.{noted_going, noted_ending}
 
 -- each place is of a step below

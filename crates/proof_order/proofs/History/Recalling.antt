@@ -1,25 +1,15 @@
 -- What the whole history says of an operation that runs at some time.
 use Rattle.std.proofs.Common.{◌≡◌, ℕ, suc, ◌+◌, ◌≤◌, cond, List, [], ◌∷◌, ◌++◌, Some, slice_get, refl, ap, ◌∙◌, arith}
 use Rattle.std.proofs.lemmas.List.Sums.{sum_by-append}
-use Rattle.proof_order.specs.Beneath.history.specs.declared.replies.Reply.{Reply}
-use Rattle.proof_order.specs.Beneath.history.specs.declared.events.Event.{Event}
-use Rattle.proof_order.specs.Beneath.history.specs.declared.events.Event.TheVariants.{End}
-use Rattle.proof_order.specs.Beneath.history.specs.Histories.{Operation as Told, HasEnded, is_begin, begun}
-use Rattle.proof_order.specs.Beneath.history.specs.Orders.{Recalls}
-use Rattle.proof_order.specs.Beneath.machine_model.specs.declared.operations.Operation.{Operation}
+use Rattle.proof_order.specs.Vocabulary.{Reply, Event, End, HasEnded, is_begin, begun, Recalls, Operation, Bounds, State, operation_of, action_of, IsRun, Record, noted, told_in}
+use Rattle.proof_order.specs.Beneath.history.specs.Histories.{Operation as Told}
 use Rattle.proof_order.specs.Beneath.machine_model.specs.declared.actions.Action.TheVariants as act
-use Rattle.proof_order.specs.Beneath.machine_model.specs.declared.steps.Bounds.{Bounds}
 use Rattle.proof_order.specs.Beneath.machine_model.specs.declared.steps.Step.TheVariants as step
-use Rattle.proof_order.specs.Beneath.machine_model.specs.States.{State, operation_of}
-use Rattle.proof_order.specs.Beneath.machine_model.specs.Operations.{action_of}
-use Rattle.proof_order.specs.Beneath.machine_model.specs.Times.{IsRun}
 use Rattle.proof_order.specs.Facts.{Runs, IsReply}
 use Rattle.proof_order.proofs.History.AllBooks.{books_at}
 use Rattle.proof_order.proofs.History.Growing.{holds_later, Grows, get_grown, events_grow}
 use Rattle.proof_order.specs.Beneath.history.proofs.OneFault.{reply_once}
 use Rattle.proof_order.specs.Beneath.machine_model.proofs.Recorded.{KeptByNotes}
-use Rattle.proof_order.specs.Beneath.machine_model.specs.Records.{Record, noted}
-use Rattle.proof_order.specs.Beneath.machine_model.specs.Tellings.{told_in}
 use Rattle.proof_order.specs.Beneath.machine_model.proofs.Notes.{noted_ending}
 
 -- ---- what is told at one time is told at the end

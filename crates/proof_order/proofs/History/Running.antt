@@ -1,27 +1,16 @@
 -- Which operations run before and after a step: each keeps its id, its call, its handle to open and its kind.
 use Rattle.std.proofs.Common.{◌≡◌, ℕ, suc, ◌-◌, ◌⊎◌, inl, inr, List, ◌∷◌, ◌++◌, set, get_or, Option, Some, None, refl, sym, ap, ◌∙◌, subst, []}
 use Rattle.std.proofs.Math.ListN.{get_or-map}
-use Rattle.proof_order.specs.Beneath.history.specs.declared.calls.Call.{Call}
-use Rattle.proof_order.specs.Beneath.history.specs.declared.replies.Reply.{Reply}
-use Rattle.proof_order.specs.Beneath.history.specs.declared.events.Event.TheVariants.{End}
-use Rattle.proof_order.specs.Beneath.machine_model.specs.declared.operations.Operation.{Operation}
+use Rattle.proof_order.specs.Vocabulary.{Call, Reply, End, Operation, action_of, Outcome, Step, State, operation_after, marked, Begins, Ends, Sweeps, Moves, begun_operation, Record, noted, told_in}
 use Rattle.proof_order.specs.Beneath.machine_model.specs.declared.actions.Action.TheVariants as act
-use Rattle.proof_order.specs.Beneath.machine_model.specs.Operations.{action_of}
-use Rattle.proof_order.specs.Beneath.machine_model.specs.declared.steps.Outcome.{Outcome}
-use Rattle.proof_order.specs.Beneath.machine_model.specs.declared.steps.Step.{Step}
 use Rattle.proof_order.specs.Beneath.machine_model.specs.declared.steps.Step.TheVariants as step
-use Rattle.proof_order.specs.Beneath.machine_model.specs.States.{State}
-use Rattle.proof_order.specs.Beneath.machine_model.specs.Acting.{operation_after, marked}
-use Rattle.proof_order.specs.Beneath.machine_model.specs.Moves.{Begins, Goes, Ends, Sweeps}
-use Rattle.proof_order.specs.Beneath.machine_model.specs.Moves.{Moves, begun_operation}
+use Rattle.proof_order.specs.Beneath.machine_model.specs.Moves.{Goes}
 use Rattle.proof_order.specs.Beneath.machine_model.proofs.Actors.{IsOf, is_of, mark_one, mark_only, marks_by, after_marks, of_others, of_itself, of_begin, of_end, gone_actors}
 use Rattle.proof_order.specs.Beneath.machine_model.proofs.Actors.{begin_actors, go_counts, begin_counts}
 use Rattle.proof_generations.proofs.Handles.Running.{one_at, at_place, write_cases, begin_not_running}
 use Rattle.proof_order.specs.Facts.{Runs}
 use Rattle.proof_order.specs.Running.{IsSame}
 use Rattle.proof_order.specs.Beneath.machine_model.proofs.Basics.{actor_at}
-use Rattle.proof_order.specs.Beneath.machine_model.specs.Records.{Record, noted}
-use Rattle.proof_order.specs.Beneath.machine_model.specs.Tellings.{told_in}
 use Rattle.proof_order.specs.Beneath.machine_model.proofs.Notes.{noted_ending}
 
 -- with a mark it is the same

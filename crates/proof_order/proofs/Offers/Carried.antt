@@ -1,22 +1,11 @@
 -- An offer that is carried out, with the operation that made it and what the facts say of it.
 use Rattle.std.proofs.Common.{◌≡◌, ℕ, suc, ◌<◌, false, ◌∙◌, Some, None, arith}
-use Rattle.proof_order.specs.Beneath.history.specs.Worlds.{KeyMap}
-use Rattle.proof_order.specs.Beneath.slot_arena.specs.Heaps.{generation_at}
-use Rattle.proof_order.specs.Beneath.machine_model.specs.declared.operations.Operation.{Operation}
-use Rattle.proof_order.specs.Beneath.machine_model.specs.declared.roots.Descriptor.{Descriptor}
-use Rattle.proof_order.specs.Beneath.machine_model.specs.declared.steps.Outcome.{Outcome}
-use Rattle.proof_order.specs.Beneath.machine_model.specs.declared.steps.Step.{Step}
-use Rattle.proof_order.specs.Beneath.machine_model.specs.declared.steps.Bounds.{Bounds}
-use Rattle.proof_order.specs.Beneath.machine_model.specs.States.{State, root_at}
-use Rattle.proof_order.specs.Beneath.machine_model.specs.Moves.{Moves}
+use Rattle.proof_order.specs.Vocabulary.{KeyMap, generation_at, Operation, Descriptor, Outcome, Step, Bounds, State, root_at, Moves, copied_reply, IsRun, is_placed, Record}
 use Rattle.proof_generations.proofs.Handles.Operations.{has_handles_at}
 use Rattle.proof_order.specs.Facts.{IsReply, Runs, On, IsFresh, Opens, CarriesOut, Facts, Notes}
-use Rattle.proof_order.specs.Beneath.machine_model.specs.Copying.{copied_reply}
-use Rattle.proof_order.specs.Beneath.machine_model.specs.Times.{IsRun}
 use Rattle.proof_order.proofs.History.Answering.{carried_reply}
 use Rattle.proof_order.proofs.Offers.Honest.{offerer_of}
 use Rattle.proof_order.proofs.Offers.Known.{Offers}
-use Rattle.proof_order.specs.Beneath.machine_model.specs.Records.{is_placed, Record}
 
 -- an offer that is carried out, with the operation that made it
 pub record Carried (states : ℕ → State) (records : ℕ → Record) (last : ℕ) (V : ℕ → ℕ → KeyMap) (t handle : ℕ) (offer : Descriptor) : Type 0 where

@@ -1,17 +1,12 @@
 -- Offers are found as they were made, by the operation that is completing them.
 use Rattle.std.proofs.Common.{◌≡◌, ℕ, true, sym, ap, ◌∙◌, subst}
 use Rattle.std.proofs.lemmas.Bool.{and_parts}
-use Rattle.proof_order.specs.Beneath.machine_model.specs.declared.roots.Descriptor.{Descriptor}
-use Rattle.proof_order.specs.Beneath.machine_model.specs.declared.steps.Step.{Step}
-use Rattle.proof_order.specs.Beneath.machine_model.specs.Calls.{handle_of}
-use Rattle.proof_order.specs.Beneath.machine_model.specs.States.{State, word_at}
-use Rattle.proof_order.specs.Beneath.machine_model.specs.Swapping.{stands_in}
+use Rattle.proof_order.specs.Vocabulary.{Descriptor, Step, handle_of, State, word_at, stands_in, Record}
 use Rattle.proof_generations.specs.Laws.Roots.{settles}
 use Rattle.proof_generations.proofs.Offers.Same.{same_offer}
 use Rattle.proof_order.specs.Facts.{CarriesOut}
 use Rattle.proof_order.proofs.Views.EachStep.{HonestIn}
 use Rattle.proof_order.proofs.Offers.Known.{Offers, OfferStands, stands}
-use Rattle.proof_order.specs.Beneath.machine_model.specs.Records.{Record}
 
 -- offers are found as they were made
 pub honest : (state : State) {past : Record} → Offers state past → HonestIn state

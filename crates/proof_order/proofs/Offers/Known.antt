@@ -1,19 +1,13 @@
 -- Offers beside the history: whose an offer is that stands in a root word. What the layer of generations knows of offers, with the books.
 use Rattle.std.proofs.Common.{◌≡◌, ℕ, suc, ◌<◌, false, sym}
-use Rattle.proof_order.specs.Beneath.history.specs.Histories.{Operation as Told, begun}
-use Rattle.proof_order.specs.Beneath.machine_model.specs.declared.operations.Operation.{Operation}
-use Rattle.proof_order.specs.Beneath.machine_model.specs.declared.roots.RootWord.TheVariants.{Offer}
-use Rattle.proof_order.specs.Beneath.machine_model.specs.declared.roots.Descriptor.{Descriptor}
-use Rattle.proof_order.specs.Beneath.machine_model.specs.declared.roots.Complete.{Complete}
+use Rattle.proof_order.specs.Vocabulary.{begun, Operation, Offer, Descriptor, Complete, handle_of, State, word_at, Record}
+use Rattle.proof_order.specs.Beneath.history.specs.Histories.{Operation as Told}
 use Rattle.proof_order.specs.Beneath.machine_model.specs.declared.copying.CopyLine.TheVariants as copy
 use Rattle.proof_order.specs.Beneath.machine_model.specs.declared.lines.Line.TheVariants as line
-use Rattle.proof_order.specs.Beneath.machine_model.specs.Calls.{handle_of}
-use Rattle.proof_order.specs.Beneath.machine_model.specs.States.{State, word_at}
 use Rattle.proof_generations.proofs.Offers.Standing.{own_numbers, completes_it}
 use Rattle.proof_generations.proofs.Offers.Same.{HasOffers}
 use Rattle.proof_order.specs.Facts.{Runs}
 use Rattle.proof_order.proofs.History.Books.{Books, id_below}
-use Rattle.proof_order.specs.Beneath.machine_model.specs.Records.{Record}
 
 -- who runs has begun
 pub running_below : (state : State) {past : Record} → Books state past → (k : ℕ) (operation : Operation) → Runs state k operation → operation.id < begun past.events

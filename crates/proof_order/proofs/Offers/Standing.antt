@@ -1,20 +1,10 @@
 -- At each time of a run an offer that stands in a root word is one that its operation is completing; and what a step marks.
 use Rattle.std.proofs.Common.{◌≡◌, ℕ, suc, ◌≤◌, cond, Bool, true, false, Option, Some, None, refl, ap}
 use Rattle.std.proofs.lemmas.Option.{none-some, same_Some}
-use Rattle.proof_order.specs.Beneath.slot_arena.specs.declared.refs.Ref.{Ref}
-use Rattle.proof_order.specs.Beneath.machine_model.specs.declared.actions.Action.{Action}
+use Rattle.proof_order.specs.Vocabulary.{Ref, Action, Operation, Descriptor, Bounds, Step, handle_of, State, first_state, word_at, operation_of, is_carried_out, action_of, IsRun, first_record}
 use Rattle.proof_order.specs.Beneath.machine_model.specs.declared.actions.Action.TheVariants as act
-use Rattle.proof_order.specs.Beneath.machine_model.specs.declared.operations.Operation.{Operation}
-use Rattle.proof_order.specs.Beneath.machine_model.specs.declared.roots.Descriptor.{Descriptor}
-use Rattle.proof_order.specs.Beneath.machine_model.specs.declared.steps.Bounds.{Bounds}
-use Rattle.proof_order.specs.Beneath.machine_model.specs.declared.steps.Step.{Step}
 use Rattle.proof_order.specs.Beneath.machine_model.specs.declared.steps.Step.TheVariants as step
-use Rattle.proof_order.specs.Beneath.machine_model.specs.Calls.{handle_of}
-use Rattle.proof_order.specs.Beneath.machine_model.specs.States.{State, first_state, word_at, operation_of}
-use Rattle.proof_order.specs.Beneath.machine_model.specs.Swapping.{is_carried_out}
-use Rattle.proof_order.specs.Beneath.machine_model.specs.Operations.{action_of}
 use Rattle.proof_order.specs.Beneath.machine_model.proofs.Found.{none_found}
-use Rattle.proof_order.specs.Beneath.machine_model.specs.Times.{IsRun}
 use Rattle.proof_order.specs.Beneath.machine_model.proofs.Actors.{marks_in, marks_by, marks_of}
 use Rattle.proof_generations.proofs.Handles.Running.{place_of_actor}
 use Rattle.proof_generations.proofs.Offers.Same.{has_offers_after, no_offers_at_first}
@@ -22,7 +12,6 @@ use Rattle.proof_order.specs.Facts.{Runs}
 use Rattle.proof_order.proofs.History.AllBooks.{books_kept, first_books}
 use Rattle.proof_order.proofs.Offers.Known.{Offers}
 use Rattle.proof_order.specs.Beneath.machine_model.proofs.Recorded.{KeptByNotes, at_each_record}
-use Rattle.proof_order.specs.Beneath.machine_model.specs.Records.{first_record}
 
 -- ---- who is marked
 

@@ -1,24 +1,12 @@
 -- Which offers stand in root words behind a step: it stood there, or the step puts it up.
 use Rattle.std.proofs.Common.{◌≡◌, ℕ, suc, true, set, get_or, Option, Some, None, refl, sym, ap, ◌∙◌, subst}
 use Rattle.std.proofs.lemmas.Option.{none-some, same_Some}
-use Rattle.proof_order.specs.Beneath.history.specs.declared.calls.Call.{Call}
-use Rattle.proof_order.specs.Beneath.history.specs.declared.calls.Call.TheVariants.{Close}
+use Rattle.proof_order.specs.Vocabulary.{Call, Close, Operation, Root, Offer, Descriptor, Outcome, Step, handle_of, State, word_at, word_of, operation_of, action_of, is_plain, stands_in, with_begin}
+use Rattle.proof_order.specs.Vocabulary.{Begins, Ends, Sweeps, Moves, begun_operation}
 use Rattle.proof_order.specs.Beneath.machine_model.specs.declared.actions.Action.TheVariants as act
-use Rattle.proof_order.specs.Beneath.machine_model.specs.declared.operations.Operation.{Operation}
-use Rattle.proof_order.specs.Beneath.machine_model.specs.declared.roots.Root.{Root}
-use Rattle.proof_order.specs.Beneath.machine_model.specs.declared.roots.RootWord.TheVariants.{Offer}
-use Rattle.proof_order.specs.Beneath.machine_model.specs.declared.roots.Descriptor.{Descriptor}
-use Rattle.proof_order.specs.Beneath.machine_model.specs.declared.steps.Outcome.{Outcome}
-use Rattle.proof_order.specs.Beneath.machine_model.specs.declared.steps.Step.{Step}
 use Rattle.proof_order.specs.Beneath.machine_model.specs.declared.steps.Step.TheVariants as step
-use Rattle.proof_order.specs.Beneath.machine_model.specs.Calls.{handle_of}
-use Rattle.proof_order.specs.Beneath.machine_model.specs.States.{State, word_at, word_of, operation_of}
-use Rattle.proof_order.specs.Beneath.machine_model.specs.Operations.{action_of}
-use Rattle.proof_order.specs.Beneath.machine_model.specs.Swapping.{is_plain, stands_in}
-use Rattle.proof_order.specs.Beneath.machine_model.specs.Machine.{with_begin}
 use Rattle.proof_order.specs.Beneath.machine_model.proofs.Found.{found_here, found_elsewhere}
-use Rattle.proof_order.specs.Beneath.machine_model.specs.Moves.{Begins, Goes, Ends, Sweeps}
-use Rattle.proof_order.specs.Beneath.machine_model.specs.Moves.{Moves, begun_operation}
+use Rattle.proof_order.specs.Beneath.machine_model.specs.Moves.{Goes}
 use Rattle.proof_generations.specs.Laws.Roots.{settles}
 use Rattle.proof_generations.proofs.Offers.Standing.{OfferFrom, offer_from, stood as stays, put as puts}
 use Rattle.proof_generations.proofs.Handles.Running.{place_of_actor}

@@ -1,22 +1,11 @@
 -- What the offer of a clear, a snapshot or a freeze brings where it is carried out.
 use Rattle.std.proofs.Common.{◌≡◌, ℕ, suc, ◌≤◌, Bool, true, false, cond, Option, Some, None, is_some, refl, sym, ap, ◌∙◌, subst, arith}
 use Rattle.std.proofs.lemmas.Bool.{false≢true}
-use Rattle.proof_order.specs.Beneath.history.specs.declared.calls.Call.{Call}
-use Rattle.proof_order.specs.Beneath.history.specs.declared.calls.Call.TheVariants.{Clear, Snapshot, Freeze}
-use Rattle.proof_order.specs.Beneath.slot_arena.specs.declared.refs.Ref.{Ref}
-use Rattle.proof_order.specs.Beneath.slot_arena.specs.Heaps.{generation_at}
-use Rattle.proof_order.specs.Beneath.machine_model.specs.declared.operations.Operation.{Operation}
-use Rattle.proof_order.specs.Beneath.machine_model.specs.declared.roots.Descriptor.{Descriptor}
-use Rattle.proof_order.specs.Beneath.machine_model.specs.declared.steps.Bounds.{Bounds}
-use Rattle.proof_order.specs.Beneath.machine_model.specs.declared.steps.Step.{Step}
-use Rattle.proof_order.specs.Beneath.machine_model.specs.Calls.{handle_of, opens_handle}
-use Rattle.proof_order.specs.Beneath.machine_model.specs.States.{State, first_state, operation_of}
-use Rattle.proof_order.specs.Beneath.machine_model.specs.Acting.{operation_after}
-use Rattle.proof_order.specs.Beneath.machine_model.specs.Machine.{least_free, run}
+use Rattle.proof_order.specs.Vocabulary.{Call, Clear, Snapshot, Freeze, Ref, generation_at, Operation, Descriptor, Bounds, Step, handle_of, opens_handle, State, first_state, operation_of}
+use Rattle.proof_order.specs.Vocabulary.{operation_after, least_free, run, IsRun}
 use Rattle.proof_order.specs.Beneath.machine_model.proofs.Actors.{mark_only, marks_in}
 use Rattle.proof_order.specs.Beneath.machine_model.proofs.Found.{none_found}
 use Rattle.proof_order.specs.Beneath.machine_model.proofs.Times.{at_each_time}
-use Rattle.proof_order.specs.Beneath.machine_model.specs.Times.{IsRun}
 use Rattle.proof_generations.proofs.Handles.Running.{Comes, began, rested, went, comes, place_of_actor}
 use Rattle.proof_generations.specs.Running.{Runs}
 use Rattle.proof_generations.proofs.Handles.Ids.{one_of_id}

@@ -1,24 +1,10 @@
 -- An offer that is carried out stands in the word of a writable handle over its root, and the roots that it brings are fresh.
 use Rattle.std.proofs.Common.{◌≡◌, ℕ, suc, ◌<◌, Bool, true, false, Option, Some, None, refl, sym, ap, ◌∙◌, arith}
 use Rattle.std.proofs.lemmas.Option.{none-some, same_Some}
-use Rattle.proof_order.specs.Beneath.history.specs.declared.calls.Access.{Access}
-use Rattle.proof_order.specs.Beneath.history.specs.declared.calls.Access.TheVariants.{Writable}
-use Rattle.proof_order.specs.Beneath.slot_arena.specs.declared.refs.Ref.{Ref}
-use Rattle.proof_order.specs.Beneath.slot_arena.specs.Heaps.{generation_at}
+use Rattle.proof_order.specs.Vocabulary.{Access, Writable, Ref, generation_at, Operation, Descriptor, Root, Offer, Bounds, Step, handle_of, State, root_at, root_of, word_of, word_at, operation_of}
+use Rattle.proof_order.specs.Vocabulary.{action_of, is_carried_out, turns, IsRun, Turn, Record}
 use Rattle.proof_order.specs.Beneath.machine_model.specs.declared.actions.Action.TheVariants as act
-use Rattle.proof_order.specs.Beneath.machine_model.specs.declared.operations.Operation.{Operation}
-use Rattle.proof_order.specs.Beneath.machine_model.specs.declared.roots.Descriptor.{Descriptor}
-use Rattle.proof_order.specs.Beneath.machine_model.specs.declared.roots.Root.{Root}
-use Rattle.proof_order.specs.Beneath.machine_model.specs.declared.roots.RootWord.TheVariants.{Offer}
-use Rattle.proof_order.specs.Beneath.machine_model.specs.declared.steps.Bounds.{Bounds}
-use Rattle.proof_order.specs.Beneath.machine_model.specs.declared.steps.Step.{Step}
 use Rattle.proof_order.specs.Beneath.machine_model.specs.declared.steps.Step.TheVariants as step
-use Rattle.proof_order.specs.Beneath.machine_model.specs.Calls.{handle_of}
-use Rattle.proof_order.specs.Beneath.machine_model.specs.States.{State, root_at, root_of, word_of, word_at, operation_of}
-use Rattle.proof_order.specs.Beneath.machine_model.specs.Operations.{action_of}
-use Rattle.proof_order.specs.Beneath.machine_model.specs.Swapping.{is_carried_out}
-use Rattle.proof_order.specs.Beneath.machine_model.specs.Times.{turns}
-use Rattle.proof_order.specs.Beneath.machine_model.specs.Times.{IsRun, Turn}
 use Rattle.proof_order.specs.Beneath.proof_memory.proofs.Safety.States.{IsSafe}
 use Rattle.proof_order.specs.Beneath.proof_memory.proofs.Safety.AtEachTime.{safe_at}
 use Rattle.proof_generations.proofs.Handles.Footings as Footings
@@ -29,7 +15,6 @@ use Rattle.proof_generations.proofs.Roots.Along.{IsOrdered, ordered_at, offer_wr
 use Rattle.proof_order.specs.Facts.{CarriesOut, On, IsFresh, standing_of}
 use Rattle.proof_order.specs.Openings.{IsSwap}
 use Rattle.proof_order.specs.Beneath.machine_model.proofs.Basics.{not_offer}
-use Rattle.proof_order.specs.Beneath.machine_model.specs.Records.{Record}
 
 -- what carries an offer out, told apart
 pub record Carried (state : State) (s : Step) (handle : ℕ) (offer : Descriptor) : Type 0 where

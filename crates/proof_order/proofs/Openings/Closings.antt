@@ -4,21 +4,9 @@ use Rattle.std.proofs.Common.{subst, arith, eq-eqb}
 use Rattle.std.specs.Prelude.{slice_get}
 use Rattle.std.proofs.lemmas.Bool.{true≢false}
 use Rattle.std.proofs.lemmas.Option.{none-some, same_Some}
-use Rattle.proof_order.specs.Beneath.machine_model.specs.declared.records.Closing.{Closing}
-use Rattle.proof_order.specs.Beneath.machine_model.specs.declared.operations.Operation.{Operation}
-use Rattle.proof_order.specs.Beneath.machine_model.specs.declared.roots.Descriptor.{Descriptor}
-use Rattle.proof_order.specs.Beneath.machine_model.specs.declared.steps.Bounds.{Bounds}
-use Rattle.proof_order.specs.Beneath.machine_model.specs.declared.steps.Outcome.{Outcome}
-use Rattle.proof_order.specs.Beneath.machine_model.specs.declared.steps.Step.{Step}
-use Rattle.proof_order.specs.Beneath.machine_model.specs.Calls.{handle_of}
-use Rattle.proof_order.specs.Beneath.machine_model.specs.States.{State, root_of, operation_of}
-use Rattle.proof_order.specs.Beneath.machine_model.specs.Operations.{action_of}
-use Rattle.proof_order.specs.Beneath.machine_model.specs.Machine.{AreBounds, run}
-use Rattle.proof_order.specs.Beneath.slot_arena.specs.Heaps.{generation_at}
-use Rattle.proof_order.specs.Beneath.machine_model.specs.Moves.{Moves}
+use Rattle.proof_order.specs.Vocabulary.{Closing, Operation, Descriptor, Bounds, Outcome, Step, handle_of, State, root_of, operation_of, action_of, AreBounds, run, generation_at, Moves, turns}
+use Rattle.proof_order.specs.Vocabulary.{noted_turn, IsRun, Turn, closed_at, step_of, Record, first_record, record_of, noted, told_in}
 use Rattle.proof_order.specs.Beneath.machine_model.proofs.Times.{steps_at}
-use Rattle.proof_order.specs.Beneath.machine_model.specs.Times.{turns, noted_turn}
-use Rattle.proof_order.specs.Beneath.machine_model.specs.Times.{IsRun, Turn}
 use Rattle.proof_order.specs.Beneath.proof_memory.proofs.Safety.AtEachTime.{safe_along}
 use Rattle.proof_order.specs.Beneath.proof_memory.proofs.Safety.States.{IsSafe}
 use Rattle.proof_generations.proofs.Handles.Footings.{ActionCarriesOut}
@@ -27,10 +15,8 @@ use Rattle.proof_generations.proofs.Offers.Swaps.{StepKind, quiet, swaps, step_k
 use Rattle.proof_order.specs.Openings.{IsSwap}
 use Rattle.proof_order.specs.Laws.Openings.{ClosingsDifferIn}
 use Rattle.proof_order.proofs.Openings.OneRoot.{old}
-use Rattle.proof_order.specs.Beneath.machine_model.specs.Records.{closed_at, step_of, Record, first_record, record_of, noted}
 use Rattle.proof_order.specs.Facts.{Notes}
 use Rattle.proof_order.specs.Beneath.machine_model.proofs.Recorded.{along_with}
-use Rattle.proof_order.specs.Beneath.machine_model.specs.Tellings.{told_in}
 
 -- ---- closings differ
 

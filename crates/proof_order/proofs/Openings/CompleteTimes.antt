@@ -1,37 +1,19 @@
 -- When a running COMPLETE began and when its READ counts from: it read its offer's root after the offer was known.
 use Rattle.std.proofs.Common.{◌≡◌, ℕ, suc, ◌<◌, ◌≤◌, ◌⊎◌, inl, inr, Some, None, refl, sym, ap, ◌∙◌, subst, arith}
 use Rattle.std.proofs.lemmas.Option.{none-some, same_Some}
-use Rattle.proof_order.specs.Beneath.history.specs.declared.calls.Call.{Call}
-use Rattle.proof_order.specs.Beneath.slot_arena.specs.declared.refs.Ref.{Ref}
+use Rattle.proof_order.specs.Vocabulary.{Call, Ref, Line, Operation, After, Gives, ReadLine, Complete, CompleteLine, Descriptor, Bounds, Outcome, Step, handle_of, State, word_at, operation_of}
+use Rattle.proof_order.specs.Vocabulary.{read_after, complete_after, after_reading, of_offer, action_of, first_line, gone, operation_after, settled, Begins, Ends, Sweeps, Moves, GoesOn, IsRun}
+use Rattle.proof_order.specs.Vocabulary.{Moment, moment_at, noted_progress, noted, progress_of, told_in}
 use Rattle.proof_order.specs.Beneath.machine_model.specs.declared.copying.CopyLine.TheVariants as copy
-use Rattle.proof_order.specs.Beneath.machine_model.specs.declared.lines.Line.{Line}
 use Rattle.proof_order.specs.Beneath.machine_model.specs.declared.lines.Line.TheVariants as line
-use Rattle.proof_order.specs.Beneath.machine_model.specs.declared.operations.Operation.{Operation}
-use Rattle.proof_order.specs.Beneath.machine_model.specs.declared.reading.After.{After}
-use Rattle.proof_order.specs.Beneath.machine_model.specs.declared.reading.After.TheVariants.{Goes as Continues, Gives}
-use Rattle.proof_order.specs.Beneath.machine_model.specs.declared.reading.ReadLine.{ReadLine}
+use Rattle.proof_order.specs.Beneath.machine_model.specs.declared.reading.After.TheVariants.{Goes as Continues}
 use Rattle.proof_order.specs.Beneath.machine_model.specs.declared.reading.ReadLine.TheVariants as read
 use Rattle.proof_order.specs.Beneath.machine_model.specs.declared.repairs.ClimbLine.TheVariants as climb
-use Rattle.proof_order.specs.Beneath.machine_model.specs.declared.roots.Complete.{Complete}
-use Rattle.proof_order.specs.Beneath.machine_model.specs.declared.roots.CompleteLine.{CompleteLine}
 use Rattle.proof_order.specs.Beneath.machine_model.specs.declared.roots.CompleteLine.TheVariants as complete
-use Rattle.proof_order.specs.Beneath.machine_model.specs.declared.roots.Descriptor.{Descriptor}
 use Rattle.proof_order.specs.Beneath.machine_model.specs.declared.roots.RootLine.TheVariants as root
-use Rattle.proof_order.specs.Beneath.machine_model.specs.declared.steps.Bounds.{Bounds}
-use Rattle.proof_order.specs.Beneath.machine_model.specs.declared.steps.Outcome.{Outcome}
-use Rattle.proof_order.specs.Beneath.machine_model.specs.declared.steps.Step.{Step}
 use Rattle.proof_order.specs.Beneath.machine_model.specs.declared.steps.Step.TheVariants as step
-use Rattle.proof_order.specs.Beneath.machine_model.specs.Calls.{handle_of}
-use Rattle.proof_order.specs.Beneath.machine_model.specs.States.{State, word_at, operation_of}
-use Rattle.proof_order.specs.Beneath.machine_model.specs.Reading.{read_after}
-use Rattle.proof_order.specs.Beneath.machine_model.specs.Swapping.{complete_after, after_reading, of_offer}
-use Rattle.proof_order.specs.Beneath.machine_model.specs.Operations.{action_of, first_line}
-use Rattle.proof_order.specs.Beneath.machine_model.specs.Acting.{gone, operation_after}
-use Rattle.proof_order.specs.Beneath.machine_model.specs.Counting.{settled}
-use Rattle.proof_order.specs.Beneath.machine_model.specs.Moves.{Begins, Goes, Ends, Sweeps}
-use Rattle.proof_order.specs.Beneath.machine_model.specs.Moves.{Moves, GoesOn}
+use Rattle.proof_order.specs.Beneath.machine_model.specs.Moves.{Goes}
 use Rattle.proof_order.specs.Beneath.machine_model.proofs.Actors.{mark_only, marks_in}
-use Rattle.proof_order.specs.Beneath.machine_model.specs.Times.{IsRun}
 use Rattle.proof_order.specs.Beneath.proof_commits.specs.Protocol.{Words, counts_at, Reads}
 use Rattle.proof_order.specs.Beneath.proof_commits.specs.Stages.{stage_of, stage_of_complete}
 use Rattle.proof_order.specs.Beneath.proof_commits.specs.Moments.{IsMoment}
@@ -45,10 +27,7 @@ use Rattle.proof_generations.proofs.Offers.Same.{IsKnown}
 use Rattle.proof_generations.proofs.Roots.Along.{ordered_at}
 use Rattle.proof_order.proofs.Openings.AlongMoves.{along_moves}
 use Rattle.proof_order.proofs.Openings.NextComplete.{ComesFrom, starts, goes_on, comes_from}
-use Rattle.proof_order.specs.Beneath.machine_model.specs.declared.records.Moment.{Moment}
-use Rattle.proof_order.specs.Beneath.machine_model.specs.Records.{moment_at, noted_progress, noted}
 use Rattle.proof_order.specs.Beneath.machine_model.proofs.Alike.{moment_goes, moment_rests, alike, go_actor, not_denied}
-use Rattle.proof_order.specs.Beneath.machine_model.specs.Tellings.{progress_of, told_in}
 use Rattle.proof_order.specs.Beneath.machine_model.proofs.Notes.{noted_going}
 use Rattle.proof_order.specs.Facts.{Notes}
 

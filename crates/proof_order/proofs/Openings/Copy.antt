@@ -2,28 +2,14 @@
 use Rattle.std.proofs.Common.{◌≡◌, Bool, true, false, cond, ◌||◌, ◌⊎◌, inl, inr, Option, Some, None, refl, sym, ap, ◌∙◌, subst, arith}
 use Rattle.std.proofs.lemmas.Bool.{false≢true}
 use Rattle.std.proofs.lemmas.Option.{none-some}
-use Rattle.proof_order.specs.Beneath.history.specs.declared.calls.Call.{Call}
-use Rattle.proof_order.specs.Beneath.history.specs.declared.calls.Call.TheVariants.{Clear, Snapshot}
-use Rattle.proof_order.specs.Beneath.slot_arena.specs.declared.refs.Ref.{Ref}
-use Rattle.proof_order.specs.Beneath.slot_arena.specs.Heaps.{next_ref, no_ref}
+use Rattle.proof_order.specs.Vocabulary.{Call, Clear, Snapshot, Ref, next_ref, no_ref, CopyLine, Line, Operation, After, Gives, Complete, Descriptor, CompleteLine, handle_of, opens_handle, State}
+use Rattle.proof_order.specs.Vocabulary.{word_at, new_try, complete_after, is_plain, copy_after_complete, copy_after_made, copy_if_made, copied_reply, after_offer, after_successor, line_action}
+use Rattle.proof_order.specs.Vocabulary.{line_after}
 use Rattle.proof_order.specs.Beneath.machine_model.specs.declared.actions.Action.TheVariants as act
-use Rattle.proof_order.specs.Beneath.machine_model.specs.declared.copying.CopyLine.{CopyLine}
 use Rattle.proof_order.specs.Beneath.machine_model.specs.declared.copying.CopyLine.TheVariants as copy
-use Rattle.proof_order.specs.Beneath.machine_model.specs.declared.lines.Line.{Line}
 use Rattle.proof_order.specs.Beneath.machine_model.specs.declared.lines.Line.TheVariants as line
-use Rattle.proof_order.specs.Beneath.machine_model.specs.declared.operations.Operation.{Operation}
-use Rattle.proof_order.specs.Beneath.machine_model.specs.declared.reading.After.{After}
-use Rattle.proof_order.specs.Beneath.machine_model.specs.declared.reading.After.TheVariants.{Goes as Continues, Gives}
-use Rattle.proof_order.specs.Beneath.machine_model.specs.declared.roots.Complete.{Complete}
-use Rattle.proof_order.specs.Beneath.machine_model.specs.declared.roots.Descriptor.{Descriptor}
-use Rattle.proof_order.specs.Beneath.machine_model.specs.declared.roots.CompleteLine.{CompleteLine}
+use Rattle.proof_order.specs.Beneath.machine_model.specs.declared.reading.After.TheVariants.{Goes as Continues}
 use Rattle.proof_order.specs.Beneath.machine_model.specs.declared.roots.CompleteLine.TheVariants as complete
-use Rattle.proof_order.specs.Beneath.machine_model.specs.Calls.{handle_of, opens_handle}
-use Rattle.proof_order.specs.Beneath.machine_model.specs.States.{State, word_at}
-use Rattle.proof_order.specs.Beneath.machine_model.specs.Lines.{new_try}
-use Rattle.proof_order.specs.Beneath.machine_model.specs.Swapping.{complete_after, is_plain}
-use Rattle.proof_order.specs.Beneath.machine_model.specs.Copying.{copy_after_complete, copy_after_made, copy_if_made, copied_reply, after_offer, after_successor}
-use Rattle.proof_order.specs.Beneath.machine_model.specs.Operations.{line_action, line_after}
 use Rattle.proof_order.specs.Beneath.proof_memory.specs.Wants.{AllHold, line_wants, copy_wants, complete_wants}
 use Rattle.proof_order.specs.Beneath.proof_memory.proofs.Claims.Uses.{safe_of}
 use Rattle.proof_generations.proofs.Lines.Copy.{HasOwn, is_clear, is_snapshot, same_offer_after}

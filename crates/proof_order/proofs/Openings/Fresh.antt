@@ -1,19 +1,11 @@
 -- Where the fresh roots that an operation is to offer come from in a step: its line had them, or has just made them.
 use Rattle.std.proofs.Common.{◌≡◌, ℕ, suc, Bool, inl, inr, Some, sym, ap, ◌∙◌}
 use Rattle.std.proofs.lemmas.Option.{none-some, same_Some}
-use Rattle.proof_order.specs.Beneath.slot_arena.specs.declared.refs.Ref.{Ref}
-use Rattle.proof_order.specs.Beneath.slot_arena.specs.declared.nodes.Node.{Node}
-use Rattle.proof_order.specs.Beneath.slot_arena.specs.declared.nodes.Node.TheVariants.{Indirection}
-use Rattle.proof_order.specs.Beneath.slot_arena.specs.Heaps.{node_at, generation_at, next_ref}
+use Rattle.proof_order.specs.Vocabulary.{Ref, Node, Indirection, node_at, generation_at, next_ref, Operation, Outcome, Step, State, operation_of, action_of, line_after, Begins, Ends, Sweeps, Moves}
+use Rattle.proof_order.specs.Vocabulary.{Record}
 use Rattle.proof_order.specs.Beneath.machine_model.specs.declared.actions.Action.TheVariants as act
-use Rattle.proof_order.specs.Beneath.machine_model.specs.declared.operations.Operation.{Operation}
-use Rattle.proof_order.specs.Beneath.machine_model.specs.declared.steps.Outcome.{Outcome}
-use Rattle.proof_order.specs.Beneath.machine_model.specs.declared.steps.Step.{Step}
 use Rattle.proof_order.specs.Beneath.machine_model.specs.declared.steps.Step.TheVariants as step
-use Rattle.proof_order.specs.Beneath.machine_model.specs.States.{State, operation_of}
-use Rattle.proof_order.specs.Beneath.machine_model.specs.Operations.{action_of, line_after}
-use Rattle.proof_order.specs.Beneath.machine_model.specs.Moves.{Begins, Goes, Ends, Sweeps}
-use Rattle.proof_order.specs.Beneath.machine_model.specs.Moves.{Moves}
+use Rattle.proof_order.specs.Beneath.machine_model.specs.Moves.{Goes}
 use Rattle.proof_order.specs.Beneath.proof_memory.specs.Making.{made_node}
 use Rattle.proof_order.specs.Beneath.proof_memory.specs.Laws.{IsInUse}
 use Rattle.proof_order.specs.Beneath.proof_memory.proofs.Safety.States.{IsSafe, used_of}
@@ -24,7 +16,6 @@ use Rattle.proof_generations.proofs.Handles.Operations.{Ran, ran_or_began}
 use Rattle.proof_generations.proofs.Roots.Kept.{fresh_in, fresh_from, FreshFrom, had, new, makes_first, fresh_kept}
 use Rattle.proof_generations.proofs.Roots.Along.{IsOrdered}
 use Rattle.proof_generations.proofs.Roots.Own.{first_none}
-use Rattle.proof_order.specs.Beneath.machine_model.specs.Records.{Record}
 
 -- what a step makes stands behind it
 pub stands_made : (state : State) (S : IsSafe state) (s : Step) (o : Outcome) (after : State) → Moves state s o after → (k : ℕ) (was : Operation) →

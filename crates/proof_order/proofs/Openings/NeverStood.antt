@@ -2,18 +2,8 @@
 use Rattle.std.proofs.Common.{◌≡◌, ℕ, suc, ◌<◌, ◌≤◌, Bool, false, inl, inr, Some, sym, ap, ◌∙◌, arith}
 use Rattle.std.proofs.lemmas.Bool.{cases_eq}
 use Rattle.std.proofs.lemmas.Option.{none-some}
-use Rattle.proof_order.specs.Beneath.slot_arena.specs.declared.refs.Ref.{Ref}
-use Rattle.proof_order.specs.Beneath.slot_arena.specs.Heaps.{generation_at, generation_of}
-use Rattle.proof_order.specs.Beneath.machine_model.specs.declared.copying.CopyLine.{CopyLine}
+use Rattle.proof_order.specs.Vocabulary.{Ref, generation_at, generation_of, CopyLine, Operation, Root, Bounds, Outcome, Step, State, root_at, root_of, Moves, IsRun}
 use Rattle.proof_order.specs.Beneath.machine_model.specs.declared.lines.Line.TheVariants as line
-use Rattle.proof_order.specs.Beneath.machine_model.specs.declared.operations.Operation.{Operation}
-use Rattle.proof_order.specs.Beneath.machine_model.specs.declared.roots.Root.{Root}
-use Rattle.proof_order.specs.Beneath.machine_model.specs.declared.steps.Bounds.{Bounds}
-use Rattle.proof_order.specs.Beneath.machine_model.specs.declared.steps.Outcome.{Outcome}
-use Rattle.proof_order.specs.Beneath.machine_model.specs.declared.steps.Step.{Step}
-use Rattle.proof_order.specs.Beneath.machine_model.specs.States.{State, root_at, root_of}
-use Rattle.proof_order.specs.Beneath.machine_model.specs.Moves.{Moves}
-use Rattle.proof_order.specs.Beneath.machine_model.specs.Times.{IsRun}
 use Rattle.proof_order.specs.Beneath.proof_memory.proofs.Safety.AtEachTime.{safe_at}
 use Rattle.proof_order.specs.Beneath.proof_memory.proofs.Safety.Guards.{Safe}
 use Rattle.proof_generations.specs.Running.{Runs}

@@ -1,44 +1,17 @@
 -- Where the COMPLETE of a line comes from in a step: it goes on, or it is at its first line.
 use Rattle.std.proofs.Common.{◌≡◌, Bool, true, false, cond, ◌||◌, inl, inr, Some, None, refl, sym, ap, ◌∙◌, arith, []}
 use Rattle.std.proofs.lemmas.Option.{none-some, same_Some}
-use Rattle.proof_order.specs.Beneath.slot_arena.specs.declared.refs.Ref.{Ref}
-use Rattle.proof_order.specs.Beneath.slot_arena.specs.Heaps.{generation_at}
-use Rattle.proof_order.specs.Beneath.machine_model.specs.declared.copying.CopyLine.{CopyLine}
+use Rattle.proof_order.specs.Vocabulary.{Ref, generation_at, CopyLine, KeyLine, Line, Purpose, Operation, After, Gives, Read, Swap, CleanLine, Climb, ClimbLine, RenewLine, Complete, Descriptor}
+use Rattle.proof_order.specs.Vocabulary.{RootLine, RootWord, Plain, Offer, WalkLine, handle_of, State, word_at, is_start, new_try, read_step, key_after_read, climbed, climbing, climb_after_root}
+use Rattle.proof_order.specs.Vocabulary.{copy_after_complete, copied_reply, after_offer, complete_after, completing, after_root_word, after_completing, is_plain, line_after, after_root}
 use Rattle.proof_order.specs.Beneath.machine_model.specs.declared.copying.CopyLine.TheVariants as copy
-use Rattle.proof_order.specs.Beneath.machine_model.specs.declared.finding.KeyLine.{KeyLine}
 use Rattle.proof_order.specs.Beneath.machine_model.specs.declared.finding.KeyLine.TheVariants as key
-use Rattle.proof_order.specs.Beneath.machine_model.specs.declared.lines.Line.{Line}
 use Rattle.proof_order.specs.Beneath.machine_model.specs.declared.lines.Line.TheVariants as line
-use Rattle.proof_order.specs.Beneath.machine_model.specs.declared.lines.Purpose.{Purpose}
-use Rattle.proof_order.specs.Beneath.machine_model.specs.declared.operations.Operation.{Operation}
-use Rattle.proof_order.specs.Beneath.machine_model.specs.declared.reading.After.{After}
-use Rattle.proof_order.specs.Beneath.machine_model.specs.declared.reading.After.TheVariants.{Goes, Gives}
-use Rattle.proof_order.specs.Beneath.machine_model.specs.declared.reading.Read.{Read}
+use Rattle.proof_order.specs.Beneath.machine_model.specs.declared.reading.After.TheVariants.{Goes}
 use Rattle.proof_order.specs.Beneath.machine_model.specs.declared.reading.ReadLine.TheVariants as read
-use Rattle.proof_order.specs.Beneath.machine_model.specs.declared.reading.Swap.{Swap}
-use Rattle.proof_order.specs.Beneath.machine_model.specs.declared.repairs.CleanLine.{CleanLine}
-use Rattle.proof_order.specs.Beneath.machine_model.specs.declared.repairs.Climb.{Climb}
-use Rattle.proof_order.specs.Beneath.machine_model.specs.declared.repairs.ClimbLine.{ClimbLine}
 use Rattle.proof_order.specs.Beneath.machine_model.specs.declared.repairs.ClimbLine.TheVariants as climb
-use Rattle.proof_order.specs.Beneath.machine_model.specs.declared.repairs.RenewLine.{RenewLine}
-use Rattle.proof_order.specs.Beneath.machine_model.specs.declared.roots.Complete.{Complete}
 use Rattle.proof_order.specs.Beneath.machine_model.specs.declared.roots.CompleteLine.TheVariants as complete
-use Rattle.proof_order.specs.Beneath.machine_model.specs.declared.roots.Descriptor.{Descriptor}
-use Rattle.proof_order.specs.Beneath.machine_model.specs.declared.roots.RootLine.{RootLine}
 use Rattle.proof_order.specs.Beneath.machine_model.specs.declared.roots.RootLine.TheVariants as root
-use Rattle.proof_order.specs.Beneath.machine_model.specs.declared.roots.RootWord.{RootWord}
-use Rattle.proof_order.specs.Beneath.machine_model.specs.declared.roots.RootWord.TheVariants.{Plain, Offer}
-use Rattle.proof_order.specs.Beneath.machine_model.specs.declared.walking.WalkLine.{WalkLine}
-use Rattle.proof_order.specs.Beneath.machine_model.specs.Calls.{handle_of}
-use Rattle.proof_order.specs.Beneath.machine_model.specs.States.{State, word_at}
-use Rattle.proof_order.specs.Beneath.machine_model.specs.Paths.{is_start}
-use Rattle.proof_order.specs.Beneath.machine_model.specs.Lines.{new_try}
-use Rattle.proof_order.specs.Beneath.machine_model.specs.Reading.{read_step}
-use Rattle.proof_order.specs.Beneath.machine_model.specs.Finding.{key_after_read}
-use Rattle.proof_order.specs.Beneath.machine_model.specs.Climbing.{climbed, climbing, climb_after_root}
-use Rattle.proof_order.specs.Beneath.machine_model.specs.Copying.{copy_after_complete, copied_reply, after_offer}
-use Rattle.proof_order.specs.Beneath.machine_model.specs.Swapping.{complete_after, completing, after_root_word, after_completing, is_plain}
-use Rattle.proof_order.specs.Beneath.machine_model.specs.Operations.{line_after, after_root}
 use Rattle.proof_generations.proofs.Lines.Offers.{completing_of}
 use Rattle.proof_order.specs.Beneath.machine_model.proofs.Basics.{not_offer}
 use Rattle.proof_generations.proofs.Lines.Completes.{CompletesFrom, completes_after, from_root_none}

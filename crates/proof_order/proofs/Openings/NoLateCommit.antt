@@ -2,25 +2,11 @@
 use Rattle.std.proofs.Common.{◌≡◌, ℕ, zero, suc, ◌-◌, ◌<◌, ◌≤◌, ◌==◌, Bool, true, false, cond, ◌⊎◌, inl, inr, Option, Some, None, is_some, refl, sym, ap, ◌∙◌, subst, arith, eqb-true, eq-eqb}
 use Rattle.std.proofs.lemmas.Bool.{and_parts, cases_lt}
 use Rattle.std.proofs.lemmas.Option.{none-some, same_Some}
-use Rattle.proof_order.specs.Beneath.history.specs.declared.calls.Access.TheVariants.{Writable}
-use Rattle.proof_order.specs.Beneath.slot_arena.specs.declared.refs.Ref.{Ref}
-use Rattle.proof_order.specs.Beneath.slot_arena.specs.Heaps.{generation_at, generation_of}
+use Rattle.proof_order.specs.Vocabulary.{Writable, Ref, generation_at, generation_of, Line, Operation, Complete, Descriptor, Root, Plain, Offer, Bounds, handle_of, State, root_at, root_of, word_of}
+use Rattle.proof_order.specs.Vocabulary.{word_at, stands_in, line_action, read_of, node_under, main_before, IsRun, closed_at, moment_at, Moment}
 use Rattle.proof_order.specs.Beneath.machine_model.specs.declared.actions.Action.TheVariants as act
-use Rattle.proof_order.specs.Beneath.machine_model.specs.declared.lines.Line.{Line}
 use Rattle.proof_order.specs.Beneath.machine_model.specs.declared.lines.Line.TheVariants as line
-use Rattle.proof_order.specs.Beneath.machine_model.specs.declared.operations.Operation.{Operation}
-use Rattle.proof_order.specs.Beneath.machine_model.specs.declared.roots.Complete.{Complete}
 use Rattle.proof_order.specs.Beneath.machine_model.specs.declared.roots.CompleteLine.TheVariants as complete
-use Rattle.proof_order.specs.Beneath.machine_model.specs.declared.roots.Descriptor.{Descriptor}
-use Rattle.proof_order.specs.Beneath.machine_model.specs.declared.roots.Root.{Root}
-use Rattle.proof_order.specs.Beneath.machine_model.specs.declared.roots.RootWord.TheVariants.{Plain, Offer}
-use Rattle.proof_order.specs.Beneath.machine_model.specs.declared.steps.Bounds.{Bounds}
-use Rattle.proof_order.specs.Beneath.machine_model.specs.Calls.{handle_of}
-use Rattle.proof_order.specs.Beneath.machine_model.specs.States.{State, root_at, root_of, word_of, word_at}
-use Rattle.proof_order.specs.Beneath.machine_model.specs.Swapping.{stands_in}
-use Rattle.proof_order.specs.Beneath.machine_model.specs.Operations.{line_action, read_of}
-use Rattle.proof_order.specs.Beneath.machine_model.specs.Grown.{node_under, main_before}
-use Rattle.proof_order.specs.Beneath.machine_model.specs.Times.{IsRun}
 use Rattle.proof_order.specs.Beneath.proof_memory.specs.Laws.{is_end}
 use Rattle.proof_order.specs.Beneath.proof_memory.proofs.Safety.AtEachTime.{safe_at}
 use Rattle.proof_order.specs.Beneath.proof_commits.proofs.Course.Readings.{given_for_good}
@@ -44,8 +30,6 @@ use Rattle.proof_order.proofs.Openings.CompleteTimes.{Since, since_at}
 use Rattle.proof_order.proofs.Openings.SwapState.{closed_for_ever, old_stands}
 use Rattle.proof_order.proofs.Openings.OfferStood.{stood_since, known_later, known_later_than_first}
 use Rattle.proof_order.specs.Beneath.machine_model.proofs.Grown.{grown_in_use}
-use Rattle.proof_order.specs.Beneath.machine_model.specs.Records.{closed_at, moment_at}
-use Rattle.proof_order.specs.Beneath.machine_model.specs.declared.records.Moment.{Moment}
 use Rattle.proof_order.specs.Facts.{Runs}
 
 -- who carries an offer out stands on the last line of a COMPLETE of it

@@ -1,13 +1,7 @@
 -- An offer that is known is never put up again: where it stands later, it stood all the time since.
 use Rattle.std.proofs.Common.{◌≡◌, ℕ, zero, suc, ◌+◌, ◌<◌, ◌≤◌, inl, inr, sym, ap, subst, arith}
 use Rattle.std.proofs.lemmas.Bool.{cases_eq}
-use Rattle.proof_order.specs.Beneath.machine_model.specs.declared.roots.Descriptor.{Descriptor}
-use Rattle.proof_order.specs.Beneath.machine_model.specs.declared.roots.RootWord.TheVariants.{Offer}
-use Rattle.proof_order.specs.Beneath.machine_model.specs.declared.steps.Bounds.{Bounds}
-use Rattle.proof_order.specs.Beneath.machine_model.specs.declared.steps.Step.{Step}
-use Rattle.proof_order.specs.Beneath.machine_model.specs.States.{State, first_state, word_at}
-use Rattle.proof_order.specs.Beneath.machine_model.specs.Times.{turns}
-use Rattle.proof_order.specs.Beneath.machine_model.specs.Times.{IsRun, Turn}
+use Rattle.proof_order.specs.Vocabulary.{Descriptor, Offer, Bounds, Step, State, first_state, word_at, turns, IsRun, Turn}
 use Rattle.proof_generations.proofs.Lines.Copy.{AllOwn, IsOwn, LineFits}
 use Rattle.proof_generations.proofs.Offers.Standing.{offer_line}
 use Rattle.proof_generations.proofs.Offers.Same.{IsKnown, known_kept}

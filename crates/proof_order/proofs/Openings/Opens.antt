@@ -1,17 +1,6 @@
 -- What a call opens by a root swap, as the contents of generations go: a clear an empty map, a snapshot and a freeze the old root's content, as it is in the end.
 use Rattle.std.proofs.Common.{◌≡◌, ℕ, suc, ◌<◌, false, sym, ap, ◌∙◌, arith}
-use Rattle.proof_order.specs.Beneath.history.specs.declared.calls.Call.{Call}
-use Rattle.proof_order.specs.Beneath.slot_arena.specs.declared.refs.Ref.{Ref}
-use Rattle.proof_order.specs.Beneath.slot_arena.specs.Heaps.{generation_at, generation_of}
-use Rattle.proof_order.specs.Beneath.machine_model.specs.declared.operations.Operation.{Operation}
-use Rattle.proof_order.specs.Beneath.machine_model.specs.declared.roots.Descriptor.{Descriptor}
-use Rattle.proof_order.specs.Beneath.machine_model.specs.declared.steps.Bounds.{Bounds}
-use Rattle.proof_order.specs.Beneath.machine_model.specs.declared.steps.Outcome.{Outcome}
-use Rattle.proof_order.specs.Beneath.machine_model.specs.declared.steps.Step.{Step}
-use Rattle.proof_order.specs.Beneath.machine_model.specs.Moves.{Moves}
-use Rattle.proof_order.specs.Beneath.machine_model.specs.States.{State}
-use Rattle.proof_order.specs.Beneath.machine_model.specs.Grown.{node_under}
-use Rattle.proof_order.specs.Beneath.machine_model.specs.Times.{IsRun}
+use Rattle.proof_order.specs.Vocabulary.{Call, Ref, generation_at, generation_of, Operation, Descriptor, Bounds, Outcome, Step, Moves, State, node_under, IsRun, is_placed}
 use Rattle.proof_order.specs.Beneath.proof_contents.specs.Runs.{counting_main, root_of_generation, trie_of}
 use Rattle.proof_order.specs.Beneath.proof_contents.specs.Steps as steps
 use Rattle.proof_order.specs.Beneath.proof_contents.specs.Steps.{IsTrie}
@@ -25,7 +14,6 @@ use Rattle.proof_order.proofs.Openings.RootOf.{roots_are_one}
 use Rattle.proof_order.proofs.Openings.SwapState.{old_stands}
 use Rattle.proof_order.proofs.Openings.NoLateCommit.{no_late_commit}
 use Rattle.proof_order.proofs.Openings.Brings.{swaps_bring}
-use Rattle.proof_order.specs.Beneath.machine_model.specs.Records.{is_placed}
 
 module _ (limits : Bounds) (states : ℕ → State) (last : ℕ) (run : IsRun limits states last) (depth path : Ref → ℕ) (t handle : ℕ) (offer : Descriptor)
     (swap : IsSwap states run.records last t handle offer) where

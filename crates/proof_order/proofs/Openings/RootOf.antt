@@ -3,15 +3,7 @@ use Rattle.std.proofs.Common.{◌≡◌, ℕ, zero, suc, ◌≤◌, ◌==◌, Bo
 use Rattle.std.proofs.Common.{arith, eqb-true, eq-eqb, []}
 use Rattle.std.proofs.lemmas.Bool.{cases_eq}
 use Rattle.std.proofs.lemmas.Option.{none-some, same_Some}
-use Rattle.proof_order.specs.Beneath.slot_arena.specs.declared.refs.Ref.{Ref}
-use Rattle.proof_order.specs.Beneath.slot_arena.specs.Heaps.{Heap, generation_at, generation_of}
-use Rattle.proof_order.specs.Beneath.machine_model.specs.declared.roots.Root.{Root}
-use Rattle.proof_order.specs.Beneath.machine_model.specs.declared.roots.RootWord.{RootWord}
-use Rattle.proof_order.specs.Beneath.machine_model.specs.declared.roots.RootWord.TheVariants.{Plain, Offer}
-use Rattle.proof_order.specs.Beneath.machine_model.specs.declared.steps.Bounds.{Bounds}
-use Rattle.proof_order.specs.Beneath.machine_model.specs.States.{State, root_of}
-use Rattle.proof_order.specs.Beneath.machine_model.specs.Grown.{node_under}
-use Rattle.proof_order.specs.Beneath.machine_model.specs.Times.{IsRun}
+use Rattle.proof_order.specs.Vocabulary.{Ref, Heap, generation_at, generation_of, Root, RootWord, Plain, Offer, Bounds, State, root_of, node_under, IsRun}
 use Rattle.proof_order.specs.Beneath.proof_memory.specs.Laws.{IsInUse}
 use Rattle.proof_order.specs.Beneath.proof_memory.specs.Wants.{AllHold, word_wants}
 use Rattle.proof_order.specs.Beneath.proof_memory.proofs.Claims.Uses.{safe_of}

@@ -2,27 +2,13 @@
 use Rattle.std.proofs.Common.{◌≡◌, ℕ, suc, ◌<◌, ◌≤◌, true, [], ◌∷◌, ◌++◌, set, get_or, Option, Some, None, refl, sym, ap, ◌∙◌, subst, arith}
 use Rattle.std.proofs.lemmas.List.{get_or-set_same, length-set}
 use Rattle.std.proofs.lemmas.Option.{none-some, same_Some}
-use Rattle.proof_order.specs.Beneath.history.specs.declared.calls.Access.TheVariants.{Writable}
-use Rattle.proof_order.specs.Beneath.slot_arena.specs.declared.refs.Ref.{Ref}
-use Rattle.proof_order.specs.Beneath.slot_arena.specs.Heaps.{generation_at}
+use Rattle.proof_order.specs.Vocabulary.{Writable, Ref, generation_at, Operation, Descriptor, Plain, Bounds, Outcome, Step, handle_of, State, root_at, root_of, word_at, operation_of, rewritten}
+use Rattle.proof_order.specs.Vocabulary.{with_operation, action_of, is_carried_out, acted, gone, carried_out, opened_root, operation_after, settled, Begins, Ends, Sweeps, Moves, IsRun, closed_at}
+use Rattle.proof_order.specs.Vocabulary.{noted, Record, noted_progress, closed_by, told_in, progress_of, carried_by}
 use Rattle.proof_order.specs.Beneath.machine_model.specs.declared.actions.Action.TheVariants as act
-use Rattle.proof_order.specs.Beneath.machine_model.specs.declared.operations.Operation.{Operation}
-use Rattle.proof_order.specs.Beneath.machine_model.specs.declared.roots.Descriptor.{Descriptor}
-use Rattle.proof_order.specs.Beneath.machine_model.specs.declared.roots.RootWord.TheVariants.{Plain}
-use Rattle.proof_order.specs.Beneath.machine_model.specs.declared.steps.Bounds.{Bounds}
-use Rattle.proof_order.specs.Beneath.machine_model.specs.declared.steps.Outcome.{Outcome}
-use Rattle.proof_order.specs.Beneath.machine_model.specs.declared.steps.Step.{Step}
-use Rattle.proof_order.specs.Beneath.machine_model.specs.Calls.{handle_of}
-use Rattle.proof_order.specs.Beneath.machine_model.specs.States.{State, root_at, root_of, word_at, operation_of, rewritten, with_operation}
-use Rattle.proof_order.specs.Beneath.machine_model.specs.Operations.{action_of}
-use Rattle.proof_order.specs.Beneath.machine_model.specs.Swapping.{is_carried_out}
-use Rattle.proof_order.specs.Beneath.machine_model.specs.Acting.{acted, gone, carried_out, opened_root, operation_after}
-use Rattle.proof_order.specs.Beneath.machine_model.specs.Counting.{settled}
-use Rattle.proof_order.specs.Beneath.machine_model.specs.Moves.{Begins, Goes, Ends, Sweeps}
-use Rattle.proof_order.specs.Beneath.machine_model.specs.Moves.{Moves}
+use Rattle.proof_order.specs.Beneath.machine_model.specs.Moves.{Goes}
 use Rattle.proof_order.specs.Beneath.machine_model.proofs.Found.{found_within, found_elsewhere}
 use Rattle.proof_order.specs.Beneath.machine_model.proofs.Times.{steps_at}
-use Rattle.proof_order.specs.Beneath.machine_model.specs.Times.{IsRun}
 use Rattle.proof_generations.proofs.Lines.Copy.{IsOwn}
 use Rattle.proof_generations.proofs.Offers.Standing.{StandsBy, own_numbers}
 use Rattle.proof_generations.proofs.Offers.Swaps.{closing_of, closed_in, closed_last}
@@ -31,8 +17,6 @@ use Rattle.proof_order.proofs.Views.Changes.{completed_is, roots_swapped, carrie
 use Rattle.proof_order.proofs.Views.Handles.{opens_in_range}
 use Rattle.proof_order.specs.Openings.{IsSwap, IsRootOf}
 use Rattle.proof_order.proofs.Openings.Carried.{Carried, mover, root, word, IsOffered, ordered}
-use Rattle.proof_order.specs.Beneath.machine_model.specs.Records.{closed_at, noted, Record, noted_progress, closed_by}
-use Rattle.proof_order.specs.Beneath.machine_model.specs.Tellings.{told_in, progress_of, carried_by}
 use Rattle.proof_order.specs.Beneath.machine_model.proofs.Notes.{noted_going}
 
 -- the state behind the swap, as far as closings, roots and the heap go

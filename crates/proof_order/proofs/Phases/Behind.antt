@@ -3,26 +3,13 @@ use Rattle.std.proofs.Common.{◌≡◌, ℕ, zero, suc, ◌<◌, ◌≤◌, Boo
 use Rattle.std.proofs.lemmas.Bool.{true≢false, cases_Bool}
 use Rattle.std.proofs.lemmas.Option.{none-some}
 use Rattle.std.specs.Prelude.{Contains}
-use Rattle.proof_order.specs.Beneath.history.specs.declared.calls.Access.{Access}
-use Rattle.proof_order.specs.Beneath.history.specs.declared.calls.Access.TheVariants.{Writable, ReadOnly}
-use Rattle.proof_order.specs.Beneath.history.specs.declared.calls.Call.TheVariants.{Close}
-use Rattle.proof_order.specs.Beneath.places.specs.declared.place.Place.{Place}
+use Rattle.proof_order.specs.Vocabulary.{Access, Writable, ReadOnly, Close, Place, Operation, Bounds, Outcome, Step, handle_of, is_close, State, action_of, operation_after, Moves, begun_operation}
+use Rattle.proof_order.specs.Vocabulary.{turns, noted_turn, IsRun, Turn, closed_at, place_of, is_placed, closing_for, closed_after, moment_at, noted, Record, entrant_of, told_in, Purpose, Swap}
 use Rattle.proof_order.specs.Beneath.machine_model.specs.declared.actions.Action.TheVariants as act
 use Rattle.proof_order.specs.Beneath.machine_model.specs.declared.copying.CopyLine.TheVariants as copy
 use Rattle.proof_order.specs.Beneath.machine_model.specs.declared.lines.Line.TheVariants as line
-use Rattle.proof_order.specs.Beneath.machine_model.specs.declared.operations.Operation.{Operation}
-use Rattle.proof_order.specs.Beneath.machine_model.specs.declared.steps.Bounds.{Bounds}
-use Rattle.proof_order.specs.Beneath.machine_model.specs.declared.steps.Outcome.{Outcome}
-use Rattle.proof_order.specs.Beneath.machine_model.specs.declared.steps.Step.{Step}
-use Rattle.proof_order.specs.Beneath.machine_model.specs.Calls.{handle_of, is_close}
-use Rattle.proof_order.specs.Beneath.machine_model.specs.States.{State}
-use Rattle.proof_order.specs.Beneath.machine_model.specs.Operations.{action_of}
-use Rattle.proof_order.specs.Beneath.machine_model.specs.Acting.{operation_after}
-use Rattle.proof_order.specs.Beneath.machine_model.specs.Moves.{Moves, begun_operation}
 use Rattle.proof_order.specs.Beneath.machine_model.proofs.Actors.{mark_one, mark_only, marks_in}
 use Rattle.proof_order.specs.Beneath.machine_model.proofs.Times.{along_run, steps_at}
-use Rattle.proof_order.specs.Beneath.machine_model.specs.Times.{turns, noted_turn}
-use Rattle.proof_order.specs.Beneath.machine_model.specs.Times.{IsRun, Turn}
 use Rattle.proof_generations.proofs.Roots.Open.{closed_from}
 use Rattle.proof_generations.proofs.Roots.Along.{ordered_at}
 use Rattle.proof_generations.proofs.Handles.Running.{Follows, rests, steps, ends, follows, place_of_actor}
@@ -39,10 +26,6 @@ use Rattle.proof_order.proofs.Phases.Entering.{Enters, commits, at_end, at_close
 use Rattle.proof_order.proofs.Phases.Since.{run_since}
 use Rattle.proof_generations.proofs.Roots.Rooted.{standing_root}
 use Rattle.proof_order.specs.Beneath.proof_commits.proofs.Lines.Reads.{only_end}
-use Rattle.proof_order.specs.Beneath.machine_model.specs.Records.{closed_at, place_of, is_placed, closing_for, closed_after, moment_at, noted, Record}
-use Rattle.proof_order.specs.Beneath.machine_model.specs.Tellings.{entrant_of, told_in}
-use Rattle.proof_order.specs.Beneath.machine_model.specs.declared.lines.Purpose.{Purpose}
-use Rattle.proof_order.specs.Beneath.machine_model.specs.declared.reading.Swap.{Swap}
 use Rattle.proof_order.proofs.Phases.NewPlaces.{owns}
 
 module _ (limits : Bounds) (states : ℕ → State) (last : ℕ) (r : IsRun limits states last) where

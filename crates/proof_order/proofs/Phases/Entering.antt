@@ -1,28 +1,15 @@
 -- Whose places a step adds to the order.
 use Rattle.std.proofs.Common.{◌≡◌, ℕ, Bool, true, false, cond, ◌⊎◌, inl, inr, List, [], ◌∷◌, ◌++◌, Option, Some, refl, subst}
-use Rattle.proof_order.specs.Beneath.history.specs.declared.calls.Call.TheVariants.{Close}
-use Rattle.proof_order.specs.Beneath.history.specs.declared.replies.Reply.{Reply}
+use Rattle.proof_order.specs.Vocabulary.{Close, Reply, Place, on_time, Ref, Line, Operation, Swap, Descriptor, Step, State, operation_of, action_of, place_of, is_placed, entered_at_end, Record}
+use Rattle.proof_order.specs.Vocabulary.{changer_of, moment_at, entrant_of, Entrant}
 use Rattle.proof_order.specs.Beneath.history.specs.declared.replies.Reply.TheVariants as reply
-use Rattle.proof_order.specs.Beneath.places.specs.declared.place.Place.{Place}
-use Rattle.proof_order.specs.Beneath.places.specs.Places.{on_time}
-use Rattle.proof_order.specs.Beneath.slot_arena.specs.declared.refs.Ref.{Ref}
 use Rattle.proof_order.specs.Beneath.machine_model.specs.declared.actions.Action.TheVariants as act
-use Rattle.proof_order.specs.Beneath.machine_model.specs.declared.lines.Line.{Line}
 use Rattle.proof_order.specs.Beneath.machine_model.specs.declared.lines.Line.TheVariants as line
 use Rattle.proof_order.specs.Beneath.machine_model.specs.declared.lines.Purpose.TheVariants as purpose
-use Rattle.proof_order.specs.Beneath.machine_model.specs.declared.operations.Operation.{Operation}
-use Rattle.proof_order.specs.Beneath.machine_model.specs.declared.reading.Swap.{Swap}
-use Rattle.proof_order.specs.Beneath.machine_model.specs.declared.roots.Descriptor.{Descriptor}
-use Rattle.proof_order.specs.Beneath.machine_model.specs.declared.steps.Step.{Step}
 use Rattle.proof_order.specs.Beneath.machine_model.specs.declared.steps.Step.TheVariants as step
-use Rattle.proof_order.specs.Beneath.machine_model.specs.States.{State, operation_of}
-use Rattle.proof_order.specs.Beneath.machine_model.specs.Operations.{action_of}
 use Rattle.proof_order.specs.Facts.{Runs, committed_by_step, entered_by_step, CarriesOut}
 use Rattle.proof_order.specs.Beneath.history.proofs.Among.{Among, among_either}
 use Rattle.proof_order.proofs.Views.EachStep.{Changes, quiet, ends, closes, swaps}
-use Rattle.proof_order.specs.Beneath.machine_model.specs.Records.{place_of, is_placed, entered_at_end, Record, changer_of, moment_at}
-use Rattle.proof_order.specs.Beneath.machine_model.specs.Tellings.{entrant_of}
-use Rattle.proof_order.specs.Beneath.machine_model.specs.declared.records.Entrant.{Entrant}
 
 -- ---- own changes
 

@@ -1,34 +1,18 @@
 -- What a line's step leaves of READs: from which step on they count, and which moment they have.
 use Rattle.std.proofs.Common.{◌≡◌, ℕ, max, true, false, ◌⊎◌, inl, inr, Option, Some, None, refl, sym, ap, ◌∙◌}
 use Rattle.std.proofs.lemmas.Bool.{false≢true}
-use Rattle.proof_order.specs.Beneath.history.specs.declared.calls.Call.{Call}
-use Rattle.proof_order.specs.Beneath.history.specs.declared.calls.Call.TheVariants.{Close, Clear, Snapshot, Freeze}
-use Rattle.proof_order.specs.Beneath.slot_arena.specs.declared.refs.Ref.{Ref}
-use Rattle.proof_order.specs.Beneath.machine_model.specs.declared.actions.Action.{Action}
+use Rattle.proof_order.specs.Vocabulary.{Call, Close, Clear, Snapshot, Freeze, Ref, Action, Line, Operation, After, Gives, Read, ReadLine, handle_of, is_close, State, word_at, read_action}
+use Rattle.proof_order.specs.Vocabulary.{read_after, read_step, at_indirection, key_after_read, copy_after_read, walk_after_read, first_line, line_action, line_after, after_root, read_of, action_of}
+use Rattle.proof_order.specs.Vocabulary.{read_at_after, commit_step, moment_after, moment_given, Record, committed_now, counts_from, progress_of, given_now, given_in, given_by, Progress, Moment}
 use Rattle.proof_order.specs.Beneath.machine_model.specs.declared.actions.Action.TheVariants as act
 use Rattle.proof_order.specs.Beneath.machine_model.specs.declared.copying.CopyLine.TheVariants as copy
 use Rattle.proof_order.specs.Beneath.machine_model.specs.declared.finding.KeyLine.TheVariants as key
-use Rattle.proof_order.specs.Beneath.machine_model.specs.declared.lines.Line.{Line}
 use Rattle.proof_order.specs.Beneath.machine_model.specs.declared.lines.Line.TheVariants as line
-use Rattle.proof_order.specs.Beneath.machine_model.specs.declared.operations.Operation.{Operation}
-use Rattle.proof_order.specs.Beneath.machine_model.specs.declared.reading.After.{After}
-use Rattle.proof_order.specs.Beneath.machine_model.specs.declared.reading.After.TheVariants.{Goes as Continues, Gives}
-use Rattle.proof_order.specs.Beneath.machine_model.specs.declared.reading.Read.{Read}
-use Rattle.proof_order.specs.Beneath.machine_model.specs.declared.reading.ReadLine.{ReadLine}
+use Rattle.proof_order.specs.Beneath.machine_model.specs.declared.reading.After.TheVariants.{Goes as Continues}
 use Rattle.proof_order.specs.Beneath.machine_model.specs.declared.reading.ReadLine.TheVariants as read
 use Rattle.proof_order.specs.Beneath.machine_model.specs.declared.walking.WalkLine.TheVariants as walk
-use Rattle.proof_order.specs.Beneath.machine_model.specs.Calls.{handle_of, is_close}
-use Rattle.proof_order.specs.Beneath.machine_model.specs.States.{State, word_at}
-use Rattle.proof_order.specs.Beneath.machine_model.specs.Reading.{read_action, read_after, read_step, at_indirection}
-use Rattle.proof_order.specs.Beneath.machine_model.specs.Finding.{key_after_read}
-use Rattle.proof_order.specs.Beneath.machine_model.specs.Copying.{copy_after_read}
-use Rattle.proof_order.specs.Beneath.machine_model.specs.Walking.{walk_after_read}
-use Rattle.proof_order.specs.Beneath.machine_model.specs.Operations.{first_line, line_action, line_after, after_root, from_root, read_of, action_of}
+use Rattle.proof_order.specs.Beneath.machine_model.specs.Operations.{from_root}
 use Rattle.proof_order.specs.Times.{counts, has_read, read_counts}
-use Rattle.proof_order.specs.Beneath.machine_model.specs.Records.{read_at_after, commit_step, moment_after, moment_given, Record}
-use Rattle.proof_order.specs.Beneath.machine_model.specs.Tellings.{committed_now, counts_from, progress_of, given_now, given_in, given_by}
-use Rattle.proof_order.specs.Beneath.machine_model.specs.declared.records.Progress.{Progress}
-use Rattle.proof_order.specs.Beneath.machine_model.specs.declared.records.Moment.{Moment}
 
 -- ---- whence a READ counts
 

@@ -1,28 +1,16 @@
 -- An operation that gets its place in a step: past its own commit behind it, or about to answer that its offer was carried out or its handle closed.
 use Rattle.std.proofs.Common.{◌≡◌, ℕ, suc, ◌<◌, ◌≤◌, true, false, Option, Some, None, refl, sym, ap, ◌∙◌, subst, arith, inl, inr}
 use Rattle.std.proofs.lemmas.Option.{none-some}
-use Rattle.proof_order.specs.Beneath.history.specs.declared.calls.Call.TheVariants.{Close}
+use Rattle.proof_order.specs.Vocabulary.{Close, Place, Ref, Operation, Descriptor, Bounds, Outcome, Step, State, operation_of, action_of, line_after, first_line, read_of, operation_after, Moves}
+use Rattle.proof_order.specs.Vocabulary.{GoesOn, prev_word, IsRun, closing_for, moment_at, changer_of, entered, entered_by, committed_now, committed_in, changer_for, Purpose, SwapLine}
 use Rattle.proof_order.specs.Beneath.history.specs.declared.replies.Reply.TheVariants as reply
-use Rattle.proof_order.specs.Beneath.places.specs.declared.place.Place.{Place}
 use Rattle.proof_order.specs.Beneath.slot_arena.specs.declared.nodes.Prev.TheVariants as prev
-use Rattle.proof_order.specs.Beneath.slot_arena.specs.declared.refs.Ref.{Ref}
 use Rattle.proof_order.specs.Beneath.machine_model.specs.declared.actions.Action.TheVariants as act
 use Rattle.proof_order.specs.Beneath.machine_model.specs.declared.lines.Line.TheVariants as line
 use Rattle.proof_order.specs.Beneath.machine_model.specs.declared.lines.Purpose.TheVariants as purpose
-use Rattle.proof_order.specs.Beneath.machine_model.specs.declared.operations.Operation.{Operation}
 use Rattle.proof_order.specs.Beneath.machine_model.specs.declared.reading.SwapLine.TheVariants as swap
-use Rattle.proof_order.specs.Beneath.machine_model.specs.declared.roots.Descriptor.{Descriptor}
-use Rattle.proof_order.specs.Beneath.machine_model.specs.declared.steps.Bounds.{Bounds}
-use Rattle.proof_order.specs.Beneath.machine_model.specs.declared.steps.Outcome.{Outcome}
-use Rattle.proof_order.specs.Beneath.machine_model.specs.declared.steps.Step.{Step}
 use Rattle.proof_order.specs.Beneath.machine_model.specs.declared.steps.Step.TheVariants as step
-use Rattle.proof_order.specs.Beneath.machine_model.specs.States.{State, operation_of}
-use Rattle.proof_order.specs.Beneath.machine_model.specs.Operations.{action_of, line_after, first_line, read_of}
-use Rattle.proof_order.specs.Beneath.machine_model.specs.Acting.{operation_after}
-use Rattle.proof_order.specs.Beneath.machine_model.specs.Moves.{Moves, GoesOn}
 use Rattle.proof_order.specs.Beneath.machine_model.proofs.Actors.{mark_one, mark_only, marks_in, marks_by}
-use Rattle.proof_order.specs.Beneath.machine_model.specs.Grown.{prev_word}
-use Rattle.proof_order.specs.Beneath.machine_model.specs.Times.{IsRun}
 use Rattle.proof_generations.proofs.Handles.Running.{place_of_actor}
 use Rattle.proof_generations.proofs.Offers.Marks.{marks_mark}
 use Rattle.proof_order.specs.Facts.{Runs, committed_of, committed_by_step, CarriesOut, Notes, entered_by_step}
@@ -40,11 +28,7 @@ use Rattle.proof_order.proofs.Phases.PastLines.{past_swap}
 use Rattle.proof_order.proofs.Phases.PastSteps.{past_marked}
 use Rattle.proof_order.proofs.Phases.Steps.{marked_phase}
 use Rattle.proof_order.proofs.Phases.Published.{Committed, committed_so, pending_published, run_words}
-use Rattle.proof_order.specs.Beneath.machine_model.specs.Records.{closing_for, moment_at, changer_of, entered, entered_by}
-use Rattle.proof_order.specs.Beneath.machine_model.specs.Tellings.{committed_now, committed_in, changer_for}
-use Rattle.proof_order.specs.Beneath.machine_model.specs.declared.lines.Purpose.{Purpose}
 use Rattle.proof_order.specs.Beneath.history.proofs.Among.{Among}
-use Rattle.proof_order.specs.Beneath.machine_model.specs.declared.reading.SwapLine.{SwapLine}
 use Rattle.proof_order.specs.Beneath.proof_commits.proofs.Known.Sounds.{sound_at}
 use Rattle.proof_order.specs.Beneath.proof_commits.proofs.Course.Changers.{changers_known}
 use Rattle.proof_order.specs.Beneath.proof_commits.proofs.Known.Acts.{known_run}

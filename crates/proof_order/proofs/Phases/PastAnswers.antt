@@ -1,21 +1,9 @@
 -- Past its own commit an operation answers that it made its change, if it ends.
 use Rattle.std.proofs.Common.{◌≡◌, ℕ, suc, ◌<◌, ◌≤◌, inl, inr, Option, Some, sym, ap, ◌∙◌, subst, arith}
-use Rattle.proof_order.specs.Beneath.history.specs.declared.calls.Call.{Call}
-use Rattle.proof_order.specs.Beneath.history.specs.declared.replies.Reply.{Reply}
-use Rattle.proof_order.specs.Beneath.history.specs.Histories.{HasEnded, begun}
+use Rattle.proof_order.specs.Vocabulary.{Call, Reply, HasEnded, begun, Operation, Bounds, Outcome, Step, changed_reply, State, action_of, operation_after, Moves, turns, noted_turn, IsRun, Turn}
+use Rattle.proof_order.specs.Vocabulary.{Record}
 use Rattle.proof_order.specs.Beneath.machine_model.specs.declared.actions.Action.TheVariants as act
-use Rattle.proof_order.specs.Beneath.machine_model.specs.declared.operations.Operation.{Operation}
-use Rattle.proof_order.specs.Beneath.machine_model.specs.declared.steps.Bounds.{Bounds}
-use Rattle.proof_order.specs.Beneath.machine_model.specs.declared.steps.Outcome.{Outcome}
-use Rattle.proof_order.specs.Beneath.machine_model.specs.declared.steps.Step.{Step}
-use Rattle.proof_order.specs.Beneath.machine_model.specs.Calls.{changed_reply}
-use Rattle.proof_order.specs.Beneath.machine_model.specs.States.{State}
-use Rattle.proof_order.specs.Beneath.machine_model.specs.Operations.{action_of}
-use Rattle.proof_order.specs.Beneath.machine_model.specs.Acting.{operation_after}
-use Rattle.proof_order.specs.Beneath.machine_model.specs.Moves.{Moves}
 use Rattle.proof_order.specs.Beneath.machine_model.proofs.Actors.{mark_only, marks_in, marks_by}
-use Rattle.proof_order.specs.Beneath.machine_model.specs.Times.{turns, noted_turn}
-use Rattle.proof_order.specs.Beneath.machine_model.specs.Times.{IsRun, Turn}
 use Rattle.proof_order.specs.Beneath.proof_commits.proofs.Course.Finals.{from_time}
 use Rattle.proof_order.specs.Facts.{Runs, Notes}
 use Rattle.proof_order.proofs.History.Books.{one_by_id}
@@ -29,7 +17,6 @@ use Rattle.proof_order.specs.Phases.{IsPast, IsPastAt, PastAnswers}
 use Rattle.proof_order.proofs.Phases.PastSteps.{past_by}
 use Rattle.proof_order.specs.Beneath.proof_commits.proofs.Lines.Reads.{only_end}
 use Rattle.proof_order.specs.Beneath.machine_model.proofs.Alike.{alike}
-use Rattle.proof_order.specs.Beneath.machine_model.specs.Records.{Record}
 
 module _ (limits : Bounds) (states : ℕ → State) (last : ℕ) (r : IsRun limits states last) (id : ℕ) (call : Call) (former : Option ℕ) where
   -- it is past its commit while it runs, and has this answer once it has ended

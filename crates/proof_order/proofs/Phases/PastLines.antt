@@ -1,35 +1,17 @@
 -- Past its own commit an operation goes to its end alone: line by line.
 use Rattle.std.proofs.Common.{◌≡◌, ℕ, suc, Bool, true, false, cond, List, Option, Some, None, refl, ap}
-use Rattle.proof_order.specs.Beneath.slot_arena.specs.declared.refs.Ref.{Ref}
-use Rattle.proof_order.specs.Beneath.slot_arena.specs.declared.nodes.Node.{Node}
-use Rattle.proof_order.specs.Beneath.slot_arena.specs.declared.nodes.Node.TheVariants.{Tomb, Branch}
-use Rattle.proof_order.specs.Beneath.slot_arena.specs.declared.nodes.Prev.{Prev}
+use Rattle.proof_order.specs.Vocabulary.{Ref, Node, Tomb, Branch, Prev, node_at, prev_at, generation_at, next_ref, Line, Operation, After, Gives, Read, ReadLine, Swap, SwapLine, Climb, ClimbLine}
+use Rattle.proof_order.specs.Vocabulary.{RootLine, handle_of, changed_reply, State, word_at, is_start, is_below_root, current, above, read_step, read_after, reading, after_deciding, on_line}
+use Rattle.proof_order.specs.Vocabulary.{root_after, after_check, climbing, climbed, climb_after_read, climb_after_main, climb_after_contracted, climb_after_root, holds_it, higher, line_after}
+use Rattle.proof_order.specs.Vocabulary.{line_action, after_update, climbed_on, GoesOn, prev_word}
 use Rattle.proof_order.specs.Beneath.slot_arena.specs.declared.nodes.Prev.TheVariants as prev
-use Rattle.proof_order.specs.Beneath.slot_arena.specs.Heaps.{node_at, prev_at, generation_at, next_ref}
-use Rattle.proof_order.specs.Beneath.machine_model.specs.declared.lines.Line.{Line}
 use Rattle.proof_order.specs.Beneath.machine_model.specs.declared.lines.Line.TheVariants as line
 use Rattle.proof_order.specs.Beneath.machine_model.specs.declared.lines.Purpose.TheVariants as purpose
-use Rattle.proof_order.specs.Beneath.machine_model.specs.declared.operations.Operation.{Operation}
-use Rattle.proof_order.specs.Beneath.machine_model.specs.declared.reading.After.{After}
-use Rattle.proof_order.specs.Beneath.machine_model.specs.declared.reading.After.TheVariants.{Goes as Continues, Gives}
-use Rattle.proof_order.specs.Beneath.machine_model.specs.declared.reading.Read.{Read}
-use Rattle.proof_order.specs.Beneath.machine_model.specs.declared.reading.ReadLine.{ReadLine}
-use Rattle.proof_order.specs.Beneath.machine_model.specs.declared.reading.Swap.{Swap}
-use Rattle.proof_order.specs.Beneath.machine_model.specs.declared.reading.SwapLine.{SwapLine}
+use Rattle.proof_order.specs.Beneath.machine_model.specs.declared.reading.After.TheVariants.{Goes as Continues}
 use Rattle.proof_order.specs.Beneath.machine_model.specs.declared.reading.SwapLine.TheVariants as swap
-use Rattle.proof_order.specs.Beneath.machine_model.specs.declared.repairs.Climb.{Climb}
-use Rattle.proof_order.specs.Beneath.machine_model.specs.declared.repairs.ClimbLine.{ClimbLine}
 use Rattle.proof_order.specs.Beneath.machine_model.specs.declared.repairs.ClimbLine.TheVariants as climb
-use Rattle.proof_order.specs.Beneath.machine_model.specs.declared.roots.RootLine.{RootLine}
-use Rattle.proof_order.specs.Beneath.machine_model.specs.Calls.{handle_of, changed_reply}
-use Rattle.proof_order.specs.Beneath.machine_model.specs.States.{State, word_at}
-use Rattle.proof_order.specs.Beneath.machine_model.specs.Paths.{is_start, is_below_root, current, above}
-use Rattle.proof_order.specs.Beneath.machine_model.specs.Reading.{read_step, read_after, reading}
-use Rattle.proof_order.specs.Beneath.machine_model.specs.Swapping.{after_deciding, on_line, root_after, after_check, after_swap as swap_line_after}
-use Rattle.proof_order.specs.Beneath.machine_model.specs.Climbing.{climbing, climbed, climb_after_read, climb_after_main, climb_after_contracted, climb_after_root, holds_it, higher}
-use Rattle.proof_order.specs.Beneath.machine_model.specs.Operations.{line_after, line_action, after_swap, after_update, climbed_on}
-use Rattle.proof_order.specs.Beneath.machine_model.specs.Moves.{GoesOn}
-use Rattle.proof_order.specs.Beneath.machine_model.specs.Grown.{prev_word}
+use Rattle.proof_order.specs.Beneath.machine_model.specs.Swapping.{after_swap as swap_line_after}
+use Rattle.proof_order.specs.Beneath.machine_model.specs.Operations.{after_swap}
 use Rattle.proof_order.specs.Phases.{IsPastAt, IsPublished, former_of}
 
 module _ (states : ℕ → State) (t : ℕ) (operation : Operation) (former : Option ℕ) where

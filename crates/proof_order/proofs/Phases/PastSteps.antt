@@ -1,23 +1,11 @@
 -- Past its own commit an operation stays so, in its own steps and in those of others.
 use Rattle.std.proofs.Common.{◌≡◌, ℕ, suc, ◌<◌, ◌≤◌, List, Option, Some, sym, ap, ◌∙◌, subst, arith}
 use Rattle.proof_order.specs.Beneath.slot_arena.specs.declared.nodes.Prev.TheVariants as prev
-use Rattle.proof_order.specs.Beneath.slot_arena.specs.declared.refs.Ref.{Ref}
-use Rattle.proof_order.specs.Beneath.slot_arena.specs.Heaps.{prev_at}
-use Rattle.proof_order.specs.Beneath.machine_model.specs.declared.lines.Line.{Line}
+use Rattle.proof_order.specs.Vocabulary.{Ref, prev_at, Line, Operation, Swap, Bounds, Step, State, action_of, operation_after, GoesOn, prev_word, IsRun}
 use Rattle.proof_order.specs.Beneath.machine_model.specs.declared.lines.Line.TheVariants as line
 use Rattle.proof_order.specs.Beneath.machine_model.specs.declared.lines.Purpose.TheVariants as purpose
-use Rattle.proof_order.specs.Beneath.machine_model.specs.declared.operations.Operation.{Operation}
-use Rattle.proof_order.specs.Beneath.machine_model.specs.declared.reading.Swap.{Swap}
 use Rattle.proof_order.specs.Beneath.machine_model.specs.declared.reading.SwapLine.TheVariants as swap
-use Rattle.proof_order.specs.Beneath.machine_model.specs.declared.steps.Bounds.{Bounds}
-use Rattle.proof_order.specs.Beneath.machine_model.specs.declared.steps.Step.{Step}
-use Rattle.proof_order.specs.Beneath.machine_model.specs.States.{State}
-use Rattle.proof_order.specs.Beneath.machine_model.specs.Operations.{action_of}
-use Rattle.proof_order.specs.Beneath.machine_model.specs.Acting.{operation_after}
-use Rattle.proof_order.specs.Beneath.machine_model.specs.Moves.{GoesOn}
 use Rattle.proof_order.specs.Beneath.machine_model.proofs.Actors.{mark_one, mark_only, marks_in, marks_by}
-use Rattle.proof_order.specs.Beneath.machine_model.specs.Grown.{prev_word}
-use Rattle.proof_order.specs.Beneath.machine_model.specs.Times.{IsRun}
 use Rattle.proof_generations.proofs.Handles.Running.{one_at}
 use Rattle.proof_order.specs.Facts.{Runs}
 use Rattle.proof_order.proofs.Offers.Known.{running_below}

@@ -4,17 +4,8 @@ use Rattle.std.proofs.lemmas.Bool.{true≢false, cases_Bool}
 use Rattle.proof_order.specs.Beneath.history.specs.declared.replies.Reply.TheVariants as reply
 use Rattle.proof_order.specs.Beneath.machine_model.specs.declared.copying.CopyLine.TheVariants as copy
 use Rattle.proof_order.specs.Beneath.machine_model.specs.declared.lines.Line.TheVariants as line
-use Rattle.proof_order.specs.Beneath.machine_model.specs.declared.operations.Operation.{Operation}
-use Rattle.proof_order.specs.Beneath.machine_model.specs.declared.roots.Complete.{Complete}
-use Rattle.proof_order.specs.Beneath.machine_model.specs.declared.steps.Bounds.{Bounds}
-use Rattle.proof_order.specs.Beneath.machine_model.specs.declared.steps.Outcome.{Outcome}
-use Rattle.proof_order.specs.Beneath.machine_model.specs.declared.steps.Step.{Step}
-use Rattle.proof_order.specs.Beneath.machine_model.specs.Calls.{changed_reply}
-use Rattle.proof_order.specs.Beneath.machine_model.specs.States.{State}
-use Rattle.proof_order.specs.Beneath.machine_model.specs.Moves.{Moves}
+use Rattle.proof_order.specs.Vocabulary.{Operation, Complete, Bounds, Outcome, Step, changed_reply, State, Moves, turns, noted_turn, IsRun, Turn, is_placed, Record, noted, told_in}
 use Rattle.proof_order.specs.Beneath.machine_model.proofs.Times.{along_run}
-use Rattle.proof_order.specs.Beneath.machine_model.specs.Times.{turns, noted_turn}
-use Rattle.proof_order.specs.Beneath.machine_model.specs.Times.{IsRun, Turn}
 use Rattle.proof_generations.proofs.Handles.Running.{place_of_actor}
 use Rattle.proof_order.specs.Facts.{Runs, Notes}
 use Rattle.proof_order.proofs.History.Growing.{placed}
@@ -27,8 +18,6 @@ use Rattle.proof_order.proofs.Phases.Entering.{entering}
 use Rattle.proof_order.proofs.Phases.Steps.{is_placed_so, old}
 use Rattle.proof_order.proofs.Phases.NewPlaces.{new_phase, owns}
 use Rattle.proof_order.specs.Beneath.proof_commits.proofs.Lines.Reads.{only_end}
-use Rattle.proof_order.specs.Beneath.machine_model.specs.Records.{is_placed, Record, noted}
-use Rattle.proof_order.specs.Beneath.machine_model.specs.Tellings.{told_in}
 use Rattle.proof_order.specs.Beneath.history.proofs.Among.{Among}
 
 -- ---- along a run

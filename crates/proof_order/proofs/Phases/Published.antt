@@ -2,23 +2,12 @@
 use Rattle.std.proofs.Common.{◌≡◌, ℕ, suc, ◌<◌, ◌≤◌, inl, inr, Some, sym, ap, ◌∙◌, subst, arith}
 use Rattle.std.proofs.lemmas.Bool.{cases_eq}
 use Rattle.proof_order.specs.Beneath.slot_arena.specs.declared.nodes.Prev.TheVariants as prev
-use Rattle.proof_order.specs.Beneath.slot_arena.specs.declared.refs.Ref.{Ref}
-use Rattle.proof_order.specs.Beneath.slot_arena.specs.Heaps.{prev_at, prev_of}
+use Rattle.proof_order.specs.Vocabulary.{Ref, prev_at, prev_of, Purpose, Operation, Swap, SwapLine, Bounds, Outcome, State, operation_of, action_of, line_action, Moves, grown, prev_word, IsRun}
+use Rattle.proof_order.specs.Vocabulary.{committed_now}
 use Rattle.proof_order.specs.Beneath.machine_model.specs.declared.actions.Action.TheVariants as act
 use Rattle.proof_order.specs.Beneath.machine_model.specs.declared.lines.Line.TheVariants as line
-use Rattle.proof_order.specs.Beneath.machine_model.specs.declared.lines.Purpose.{Purpose}
-use Rattle.proof_order.specs.Beneath.machine_model.specs.declared.operations.Operation.{Operation}
-use Rattle.proof_order.specs.Beneath.machine_model.specs.declared.reading.Swap.{Swap}
-use Rattle.proof_order.specs.Beneath.machine_model.specs.declared.reading.SwapLine.{SwapLine}
 use Rattle.proof_order.specs.Beneath.machine_model.specs.declared.reading.SwapLine.TheVariants as swap
-use Rattle.proof_order.specs.Beneath.machine_model.specs.declared.steps.Bounds.{Bounds}
-use Rattle.proof_order.specs.Beneath.machine_model.specs.declared.steps.Outcome.{Outcome}
 use Rattle.proof_order.specs.Beneath.machine_model.specs.declared.steps.Step.TheVariants as step
-use Rattle.proof_order.specs.Beneath.machine_model.specs.States.{State, operation_of}
-use Rattle.proof_order.specs.Beneath.machine_model.specs.Operations.{action_of, line_action}
-use Rattle.proof_order.specs.Beneath.machine_model.specs.Moves.{Moves}
-use Rattle.proof_order.specs.Beneath.machine_model.specs.Grown.{grown, prev_word}
-use Rattle.proof_order.specs.Beneath.machine_model.specs.Times.{IsRun}
 use Rattle.proof_order.specs.Beneath.proof_memory.proofs.Safety.AtTimes.{prev_found}
 use Rattle.proof_order.specs.Beneath.proof_commits.specs.Protocol.{Protocol}
 use Rattle.proof_order.specs.Beneath.proof_commits.proofs.Words.Stood.{Stood}
@@ -34,7 +23,6 @@ use Rattle.proof_order.specs.Facts.{Runs}
 use Rattle.proof_order.specs.Phases.{IsPublished}
 use Rattle.proof_order.proofs.Phases.Commits.{line_decides, now_none}
 use Rattle.proof_order.specs.Beneath.proof_commits.proofs.Lines.Read.{was_pending}
-use Rattle.proof_order.specs.Beneath.machine_model.specs.Tellings.{committed_now}
 
 module _ (limits : Bounds) (states : ℕ → State) (last : ℕ) (run : IsRun limits states last) where
   abbrev known : Known limits states last

@@ -1,21 +1,11 @@
 -- Which steps close nothing: all but those that carry an offer out. So none does that reads a main word for a READ, and none that commits.
 use Rattle.std.proofs.Common.{◌≡◌, ℕ, zero, suc, ◌==◌, ◌<◌, ◌≤◌, max, Bool, true, false, cond, find, ◌⊎◌, inl, inr, List, [], ◌∷◌, Option, Some, None, refl, sym, ap, ◌∙◌, subst, arith}
 use Rattle.std.proofs.lemmas.Option.{none-some, same_Some}
-use Rattle.proof_order.specs.Beneath.slot_arena.specs.declared.refs.Ref.{Ref}
-use Rattle.proof_order.specs.Beneath.machine_model.specs.declared.actions.Action.{Action}
+use Rattle.proof_order.specs.Vocabulary.{Ref, Action, Commit, Operation, Descriptor, Bounds, Outcome, Step, State, operation_of, action_of, Moves, IsRun, step_of_commit, commit_step, commits_after}
+use Rattle.proof_order.specs.Vocabulary.{Record, noted, committed_now, told_in}
 use Rattle.proof_order.specs.Beneath.machine_model.specs.declared.actions.Action.TheVariants as act
-use Rattle.proof_order.specs.Beneath.machine_model.specs.declared.records.Commit.{Commit}
-use Rattle.proof_order.specs.Beneath.machine_model.specs.declared.operations.Operation.{Operation}
-use Rattle.proof_order.specs.Beneath.machine_model.specs.declared.roots.Descriptor.{Descriptor}
-use Rattle.proof_order.specs.Beneath.machine_model.specs.declared.steps.Bounds.{Bounds}
-use Rattle.proof_order.specs.Beneath.machine_model.specs.declared.steps.Outcome.{Outcome}
-use Rattle.proof_order.specs.Beneath.machine_model.specs.declared.steps.Step.{Step}
 use Rattle.proof_order.specs.Beneath.machine_model.specs.declared.steps.Step.TheVariants as step
-use Rattle.proof_order.specs.Beneath.machine_model.specs.States.{State, operation_of}
-use Rattle.proof_order.specs.Beneath.machine_model.specs.Operations.{action_of}
-use Rattle.proof_order.specs.Beneath.machine_model.specs.Moves.{Moves}
 use Rattle.proof_order.specs.Beneath.machine_model.proofs.Times.{along_run, steps_at}
-use Rattle.proof_order.specs.Beneath.machine_model.specs.Times.{IsRun}
 use Rattle.proof_generations.proofs.Offers.Same.{HasOffers, has_offers_at}
 use Rattle.proof_generations.proofs.Offers.Swaps.{StepKind, quiet, swaps, step_kind}
 use Rattle.proof_order.specs.Beneath.proof_commits.proofs.Known.StepsAt.{NotedAt, NotesBegin, NotesGo, NotesEnd, NotesSweep, noted_at}
@@ -23,8 +13,6 @@ use Rattle.proof_order.specs.Beneath.history.proofs.Among.{Among, among_either}
 use Rattle.proof_order.proofs.Views.Changes.{complete_commits}
 use Rattle.proof_order.specs.Times.{ClosesNone, IsWithin}
 use Rattle.proof_order.proofs.Phases.LineTimes.{CountsNow}
-use Rattle.proof_order.specs.Beneath.machine_model.specs.Records.{step_of_commit, commit_step, commits_after, Record, noted}
-use Rattle.proof_order.specs.Beneath.machine_model.specs.Tellings.{committed_now, told_in}
 use Rattle.proof_order.specs.Beneath.machine_model.proofs.Notes.{noted_going}
 
 -- ---- steps

@@ -1,23 +1,13 @@
 -- What the READs of a running operation left lies behind some step, before now, and closes nothing: kept by each step.
 use Rattle.std.proofs.Common.{◌≡◌, ℕ, suc, ◌<◌, true, ◌⊎◌, inl, inr, Option, Some, sym, ◌∙◌, subst, arith, ap, refl}
-use Rattle.proof_order.specs.Beneath.machine_model.specs.declared.operations.Operation.{Operation}
-use Rattle.proof_order.specs.Beneath.machine_model.specs.declared.steps.Outcome.{Outcome}
-use Rattle.proof_order.specs.Beneath.machine_model.specs.declared.steps.Step.{Step}
+use Rattle.proof_order.specs.Vocabulary.{Operation, Outcome, Step, State, operation_of, action_of, operation_after, Moves, GoesOn, committed_now, progress_of, told_in, commit_step, moment_after}
+use Rattle.proof_order.specs.Vocabulary.{Record, moment_at, noted, Bounds, IsRun, Moment}
 use Rattle.proof_order.specs.Beneath.machine_model.specs.declared.steps.Step.TheVariants as step
-use Rattle.proof_order.specs.Beneath.machine_model.specs.States.{State, operation_of}
-use Rattle.proof_order.specs.Beneath.machine_model.specs.Operations.{action_of}
-use Rattle.proof_order.specs.Beneath.machine_model.specs.Acting.{operation_after}
-use Rattle.proof_order.specs.Beneath.machine_model.specs.Moves.{Moves, GoesOn}
 use Rattle.proof_order.specs.Beneath.machine_model.proofs.Actors.{mark_one, mark_only}
 use Rattle.proof_generations.proofs.Offers.Same.{has_offers_at}
 use Rattle.proof_order.specs.Times.{ClosesNone, IsWithin, ReadsWithin, counts, has_read}
 use Rattle.proof_order.proofs.Phases.LineTimes.{CountsNow, GivesNow, MomentNow, counts_after, counted_now, counted_or, read_after_step, moment_so, moment_now}
 use Rattle.proof_order.proofs.Phases.Quiet.{counts_complete, commits_complete, closes_none, commit_quiet, max_within, NoComplete, quiet_commits}
-use Rattle.proof_order.specs.Beneath.machine_model.specs.Tellings.{committed_now, progress_of, told_in}
-use Rattle.proof_order.specs.Beneath.machine_model.specs.Records.{commit_step, moment_after, Record, moment_at, noted}
-use Rattle.proof_order.specs.Beneath.machine_model.specs.declared.steps.Bounds.{Bounds}
-use Rattle.proof_order.specs.Beneath.machine_model.specs.Times.{IsRun}
-use Rattle.proof_order.specs.Beneath.machine_model.specs.declared.records.Moment.{Moment}
 use Rattle.proof_order.specs.Facts.{Notes}
 use Rattle.proof_order.specs.Beneath.machine_model.proofs.Times.{steps_at}
 use Rattle.proof_order.specs.Beneath.machine_model.proofs.Notes.{noted_going}

@@ -1,18 +1,10 @@
 -- Where an operation has its root from: it keeps it in a step, or its step gives it that of its handle.
 use Rattle.std.proofs.Common.{◌≡◌, false, ◌⊎◌, inl, inr, Some, refl, ap}
-use Rattle.proof_order.specs.Beneath.slot_arena.specs.declared.refs.Ref.{Ref}
-use Rattle.proof_order.specs.Beneath.slot_arena.specs.Heaps.{generation_at}
-use Rattle.proof_order.specs.Beneath.machine_model.specs.declared.lines.Line.{Line}
+use Rattle.proof_order.specs.Vocabulary.{Ref, generation_at, Line, Operation, After, Gives, RootLine, Plain, handle_of, State, word_at, root_after, generation_from, given_root, line_after}
+use Rattle.proof_order.specs.Vocabulary.{after_root}
 use Rattle.proof_order.specs.Beneath.machine_model.specs.declared.lines.Line.TheVariants as line
-use Rattle.proof_order.specs.Beneath.machine_model.specs.declared.operations.Operation.{Operation}
-use Rattle.proof_order.specs.Beneath.machine_model.specs.declared.reading.After.{After}
-use Rattle.proof_order.specs.Beneath.machine_model.specs.declared.reading.After.TheVariants.{Goes as Continues, Gives}
-use Rattle.proof_order.specs.Beneath.machine_model.specs.declared.roots.RootLine.{RootLine}
-use Rattle.proof_order.specs.Beneath.machine_model.specs.declared.roots.RootWord.TheVariants.{Plain}
-use Rattle.proof_order.specs.Beneath.machine_model.specs.Calls.{handle_of}
-use Rattle.proof_order.specs.Beneath.machine_model.specs.States.{State, word_at}
-use Rattle.proof_order.specs.Beneath.machine_model.specs.Swapping.{root_after}
-use Rattle.proof_order.specs.Beneath.machine_model.specs.Operations.{generation_from, given_root, line_after, after_root, from_root}
+use Rattle.proof_order.specs.Beneath.machine_model.specs.declared.reading.After.TheVariants.{Goes as Continues}
+use Rattle.proof_order.specs.Beneath.machine_model.specs.Operations.{from_root}
 use Rattle.proof_order.specs.Beneath.proof_memory.specs.Laws.{is_end}
 use Rattle.proof_generations.proofs.Roots.Rooted.{root_given}
 

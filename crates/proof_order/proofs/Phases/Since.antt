@@ -1,22 +1,13 @@
 -- Since when a running operation runs, and has its root: along a run.
 use Rattle.std.proofs.Common.{◌≡◌, ℕ, suc, ◌<◌, ◌≤◌, true, inl, inr, Option, Some, None, get_or, refl, sym, ap, ◌∙◌, subst, arith}
 use Rattle.std.proofs.lemmas.Option.{none-some, same_Some}
-use Rattle.proof_order.specs.Beneath.slot_arena.specs.Heaps.{generation_at}
-use Rattle.proof_order.specs.Beneath.machine_model.specs.declared.operations.Operation.{Operation}
-use Rattle.proof_order.specs.Beneath.machine_model.specs.declared.steps.Bounds.{Bounds}
-use Rattle.proof_order.specs.Beneath.machine_model.specs.declared.steps.Outcome.{Outcome}
-use Rattle.proof_order.specs.Beneath.machine_model.specs.declared.steps.Step.{Step}
+use Rattle.proof_order.specs.Vocabulary.{generation_at, Operation, Bounds, Outcome, Step, handle_of, is_close, State, first_state, root_of, word_of, action_of, operation_after, Moves, GoesOn, turns}
+use Rattle.proof_order.specs.Vocabulary.{noted_turn, IsRun, Turn, Record, moment_at}
 use Rattle.proof_order.specs.Beneath.machine_model.specs.declared.steps.Step.TheVariants as step
-use Rattle.proof_order.specs.Beneath.machine_model.specs.Calls.{handle_of, is_close}
-use Rattle.proof_order.specs.Beneath.machine_model.specs.States.{State, first_state, root_of, word_of}
-use Rattle.proof_order.specs.Beneath.machine_model.specs.Operations.{from_root, action_of}
-use Rattle.proof_order.specs.Beneath.machine_model.specs.Acting.{operation_after}
-use Rattle.proof_order.specs.Beneath.machine_model.specs.Moves.{Moves, GoesOn}
+use Rattle.proof_order.specs.Beneath.machine_model.specs.Operations.{from_root}
 use Rattle.proof_order.specs.Beneath.machine_model.proofs.Actors.{mark_one, mark_only, marks_in}
 use Rattle.proof_order.specs.Beneath.machine_model.proofs.Found.{none_found}
 use Rattle.proof_order.specs.Beneath.machine_model.proofs.Times.{along_run}
-use Rattle.proof_order.specs.Beneath.machine_model.specs.Times.{turns, noted_turn}
-use Rattle.proof_order.specs.Beneath.machine_model.specs.Times.{IsRun, Turn}
 use Rattle.proof_generations.proofs.Handles.Running.{Comes, began, rested, went, comes}
 use Rattle.proof_generations.proofs.Handles.Operations.{has_handles_at}
 use Rattle.proof_generations.proofs.Roots.Open.{no_close_at}
@@ -28,7 +19,6 @@ use Rattle.proof_order.proofs.Phases.LineTimes.{first_uncounted, root_uncounted,
 use Rattle.proof_order.proofs.Phases.ReadSteps.{reads_later, reads_marked, reads_stepped}
 use Rattle.proof_order.proofs.Phases.RootSteps.{GetsRoot, root_or_same}
 use Rattle.proof_order.specs.Beneath.machine_model.proofs.Basics.{at_or_before}
-use Rattle.proof_order.specs.Beneath.machine_model.specs.Records.{Record, moment_at}
 use Rattle.proof_order.specs.Beneath.machine_model.proofs.Alike.{moment_rests}
 
 -- ---- one more step

@@ -1,20 +1,8 @@
 -- What stands on the handle of a running operation: on a writable one the root of its generation, or that until it was closed; on a read-only one one root alone.
 use Rattle.std.proofs.Common.{◌≡◌, ℕ, suc, ◌<◌, ◌≤◌, false, ◌⊎◌, inl, inr, Some, refl, sym, ap, ◌∙◌, subst, arith}
 use Rattle.std.proofs.lemmas.Option.{none-some, same_Some}
-use Rattle.proof_order.specs.Beneath.history.specs.declared.calls.Access.TheVariants.{Writable, ReadOnly}
-use Rattle.proof_order.specs.Beneath.slot_arena.specs.Heaps.{generation_at}
-use Rattle.proof_order.specs.Beneath.machine_model.specs.declared.operations.Operation.{Operation}
-use Rattle.proof_order.specs.Beneath.machine_model.specs.declared.roots.Root.{Root}
-use Rattle.proof_order.specs.Beneath.machine_model.specs.declared.roots.RootWord.TheVariants.{Plain, Offer}
-use Rattle.proof_order.specs.Beneath.machine_model.specs.declared.steps.Bounds.{Bounds}
-use Rattle.proof_order.specs.Beneath.machine_model.specs.declared.steps.Outcome.{Outcome}
-use Rattle.proof_order.specs.Beneath.machine_model.specs.declared.steps.Step.{Step}
-use Rattle.proof_order.specs.Beneath.machine_model.specs.Calls.{handle_of, is_close}
-use Rattle.proof_order.specs.Beneath.machine_model.specs.States.{State, root_at, root_of, word_of, word_at}
-use Rattle.proof_order.specs.Beneath.machine_model.specs.Operations.{action_of}
-use Rattle.proof_order.specs.Beneath.machine_model.specs.Moves.{Moves}
-use Rattle.proof_order.specs.Beneath.machine_model.specs.Times.{turns, noted_turn}
-use Rattle.proof_order.specs.Beneath.machine_model.specs.Times.{IsRun, Turn}
+use Rattle.proof_order.specs.Vocabulary.{Writable, ReadOnly, generation_at, Operation, Root, Plain, Offer, Bounds, Outcome, Step, handle_of, is_close, State, root_at, root_of, word_of, word_at}
+use Rattle.proof_order.specs.Vocabulary.{action_of, Moves, turns, noted_turn, IsRun, Turn, moment_at, Record, noted, told_in}
 use Rattle.proof_order.specs.Beneath.proof_memory.proofs.Safety.AtEachTime.{safe_at}
 use Rattle.proof_order.specs.Beneath.proof_memory.proofs.Safety.States.{IsSafe}
 use Rattle.proof_generations.proofs.Handles.Footings.{RootFrom, stood, swapped, newly}
@@ -29,8 +17,6 @@ use Rattle.proof_order.specs.Beneath.proof_commits.proofs.Course.Finals.{from_ti
 use Rattle.proof_order.specs.Facts.{Runs, IsRooted, standing, standing_of}
 use Rattle.proof_order.specs.Times.{Since, RootedSince, RootedAtMoments, ReadOnlyStands}
 use Rattle.proof_order.proofs.Phases.Since.{run_since}
-use Rattle.proof_order.specs.Beneath.machine_model.specs.Records.{moment_at, Record, noted}
-use Rattle.proof_order.specs.Beneath.machine_model.specs.Tellings.{told_in}
 
 -- ---- writable handles
 

@@ -1,20 +1,9 @@
 -- An operation that has its place stays in its phase.
 use Rattle.std.proofs.Common.{◌≡◌, ◌≢◌, ℕ, suc, ◌<◌, ◌≤◌, true, inl, inr, Option, Some, sym, ap, ◌∙◌, subst, arith}
 use Rattle.std.proofs.lemmas.Bool.{cases_Bool}
-use Rattle.proof_order.specs.Beneath.history.specs.declared.calls.Call.{Call}
-use Rattle.proof_order.specs.Beneath.history.specs.declared.calls.Call.TheVariants.{Clear}
+use Rattle.proof_order.specs.Vocabulary.{Call, Clear, Place, Operation, Bounds, Step, State, copied_reply, action_of, line_action, operation_after, GoesOn, IsRun, is_placed, Record}
 use Rattle.proof_order.specs.Beneath.history.specs.declared.replies.Reply.TheVariants as reply
-use Rattle.proof_order.specs.Beneath.places.specs.declared.place.Place.{Place}
-use Rattle.proof_order.specs.Beneath.machine_model.specs.declared.operations.Operation.{Operation}
-use Rattle.proof_order.specs.Beneath.machine_model.specs.declared.steps.Bounds.{Bounds}
-use Rattle.proof_order.specs.Beneath.machine_model.specs.declared.steps.Step.{Step}
-use Rattle.proof_order.specs.Beneath.machine_model.specs.States.{State}
-use Rattle.proof_order.specs.Beneath.machine_model.specs.Copying.{copied_reply}
-use Rattle.proof_order.specs.Beneath.machine_model.specs.Operations.{action_of, line_action}
-use Rattle.proof_order.specs.Beneath.machine_model.specs.Acting.{operation_after}
-use Rattle.proof_order.specs.Beneath.machine_model.specs.Moves.{GoesOn}
 use Rattle.proof_order.specs.Beneath.machine_model.proofs.Actors.{mark_one, mark_only, marks_in, marks_by}
-use Rattle.proof_order.specs.Beneath.machine_model.specs.Times.{IsRun}
 use Rattle.proof_order.specs.Facts.{Runs}
 use Rattle.proof_order.specs.Beneath.history.proofs.Among.{Among}
 use Rattle.proof_order.proofs.History.Growing.{placed, unplaced}
@@ -24,7 +13,6 @@ use Rattle.proof_order.proofs.History.Copies.{stays_marked, mark_kept}
 use Rattle.proof_order.proofs.History.Answering.{phased_at, no_offer}
 use Rattle.proof_order.specs.Phases.{Phase, past, completes, answers, IsPast}
 use Rattle.proof_order.proofs.Phases.PastSteps.{past_rested, past_went}
-use Rattle.proof_order.specs.Beneath.machine_model.specs.Records.{is_placed, Record}
 use Rattle.proof_order.specs.Beneath.machine_model.proofs.Alike.{alike}
 
 -- ---- one by one

@@ -3,14 +3,7 @@
 use Rattle.std.proofs.Common.{◌≡◌, ℕ, zero, suc, ◌<◌, ◌≤◌, Bool, true, false, List, filter, Some, refl, sym, ap, ◌∙◌, subst, arith}
 use Rattle.std.proofs.lemmas.Bool.{true≢false}
 use Rattle.std.proofs.lemmas.Option.{none-some}
-use Rattle.proof_order.specs.Beneath.ctrie_base.specs.Hashes.{hash_of}
-use Rattle.proof_order.specs.Beneath.history.specs.Worlds.{KeyMap}
-use Rattle.proof_order.specs.Beneath.history.specs.declared.replies.Reply.{Reply}
-use Rattle.proof_order.specs.Beneath.places.specs.declared.place.Place.{Place}
-use Rattle.proof_order.specs.Beneath.machine_model.specs.declared.operations.Operation.{Operation}
-use Rattle.proof_order.specs.Beneath.machine_model.specs.declared.steps.Bounds.{Bounds}
-use Rattle.proof_order.specs.Beneath.machine_model.specs.States.{State}
-use Rattle.proof_order.specs.Beneath.machine_model.specs.Times.{IsRun}
+use Rattle.proof_order.specs.Vocabulary.{hash_of, KeyMap, Reply, Place, Operation, Bounds, State, IsRun, closed_at, place_of, closing_for, moment_at, entrant_of}
 use Rattle.proof_order.specs.Facts.{Facts, Replied, on_writable, on_read_only}
 use Rattle.proof_order.specs.Beneath.history.proofs.Among.{Among}
 use Rattle.proof_order.proofs.Places.Elements.{no_members, equals}
@@ -25,8 +18,6 @@ use Rattle.proof_order.proofs.Places.Members.{sorted, block, lates, timely, in_l
 use Rattle.proof_order.proofs.Places.Late.{closing_is, all_lately}
 use Rattle.proof_order.proofs.Places.OnTime.{readers_timely, of_changing, none_timely, other_timely, one_timely, still_view, update_by}
 use Rattle.proof_order.proofs.Views.Openings.{close_leads, at_last, swap_leads}
-use Rattle.proof_order.specs.Beneath.machine_model.specs.Records.{closed_at, place_of, closing_for, moment_at}
-use Rattle.proof_order.specs.Beneath.machine_model.specs.Tellings.{entrant_of}
 
 module _ (limits : Bounds) (states : ℕ → State) (last : ℕ) (r : IsRun limits states last) (V : ℕ → ℕ → KeyMap) (facts : Facts limits states r.records last V) where
   abbrev LeadsOn : List Place → View → View → Type 0

@@ -4,18 +4,8 @@ use Rattle.std.proofs.Common.{◌≡◌, ℕ, zero, suc, ◌<◌, ◌≤◌, max
 use native.Mathlib.Decide.{ℕ_discrete}
 use Rattle.std.proofs.lemmas.Bool.{true≢false}
 use Rattle.std.proofs.lemmas.Option.{none-some, same_Some}
-use Rattle.proof_order.specs.Beneath.ctrie_base.specs.Hashes.{hash_of}
-use Rattle.proof_order.specs.Beneath.history.specs.Worlds.{KeyMap, HandleState}
-use Rattle.proof_order.specs.Beneath.history.specs.declared.calls.Access.TheVariants.{Writable}
-use Rattle.proof_order.specs.Beneath.slot_arena.specs.Heaps.{generation_at}
-use Rattle.proof_order.specs.Beneath.places.specs.declared.place.Place.{Place}
-use Rattle.proof_order.specs.Beneath.places.specs.Places.{on_time, late, place_by}
-use Rattle.proof_order.specs.Beneath.machine_model.specs.declared.operations.Operation.{Operation}
-use Rattle.proof_order.specs.Beneath.machine_model.specs.declared.roots.Descriptor.{Descriptor}
-use Rattle.proof_order.specs.Beneath.machine_model.specs.declared.steps.Bounds.{Bounds}
-use Rattle.proof_order.specs.Beneath.machine_model.specs.Calls.{handle_of}
-use Rattle.proof_order.specs.Beneath.machine_model.specs.States.{State}
-use Rattle.proof_order.specs.Beneath.machine_model.specs.Times.{IsRun}
+use Rattle.proof_order.specs.Vocabulary.{hash_of, KeyMap, HandleState, Writable, generation_at, Place, on_time, late, place_by, Operation, Descriptor, Bounds, handle_of, State, IsRun, closed_at}
+use Rattle.proof_order.specs.Vocabulary.{place_of, closing_for, closed_after, Record, moment_at, entrant_of}
 use Rattle.proof_order.specs.Beneath.proof_contents.specs.Effects.{act_in}
 use Rattle.proof_order.specs.Facts.{On, IsRooted, HasStood, Facts, Update, Replied, on_writable, on_read_only}
 use Rattle.proof_order.proofs.Offers.Carried.{Carried}
@@ -34,8 +24,6 @@ use Rattle.proof_order.proofs.Places.Origins.{place_says, late_says}
 use Rattle.proof_order.proofs.Views.Timeline.{view, view_writable, but_here, but_there, update_leads, reader_leads}
 use Rattle.proof_order.proofs.Places.Members.{lates, late_at, IsPlace, in_lates, in_late_at, to_late_at, in_changing, to_changing, in_reading, lates_along, late_at_along}
 use Rattle.proof_order.proofs.Places.Members.{none_changing, one_changing, Reading, reading, late_at_apart, late_before, moment_within}
-use Rattle.proof_order.specs.Beneath.machine_model.specs.Records.{closed_at, place_of, closing_for, closed_after, Record, moment_at}
-use Rattle.proof_order.specs.Beneath.machine_model.specs.Tellings.{entrant_of}
 use Rattle.proof_order.specs.Beneath.machine_model.proofs.Recorded.{KeptByNotes}
 
 -- ---- small things

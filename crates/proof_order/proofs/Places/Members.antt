@@ -1,15 +1,8 @@
 -- The places of one step, one moment and one role, among all places of a run.
 use Rattle.std.proofs.Common.{◌≡◌, ℕ, ◌<◌, Bool, true, false, List, filter, Option, refl, sym, ap, ◌∙◌, subst, arith, eqb-true, eq-eqb, suc}
 use Rattle.std.proofs.lemmas.Bool.{true≢false, false≢true}
-use Rattle.proof_order.specs.Beneath.history.specs.Worlds.{KeyMap}
-use Rattle.proof_order.specs.Beneath.history.specs.declared.replies.Reply.{Reply}
-use Rattle.proof_order.specs.Beneath.places.specs.declared.place.Place.{Place}
-use Rattle.proof_order.specs.Beneath.places.specs.Places.{place_by, rising}
-use Rattle.proof_order.specs.Beneath.machine_model.specs.declared.operations.Operation.{Operation}
-use Rattle.proof_order.specs.Beneath.machine_model.specs.declared.steps.Bounds.{Bounds}
-use Rattle.proof_order.specs.Beneath.machine_model.specs.States.{State}
+use Rattle.proof_order.specs.Vocabulary.{KeyMap, Reply, Place, place_by, rising, Operation, Bounds, State, IsRun, place_of, closing_for, Record, moment_at, entrant_of}
 use Rattle.proof_order.specs.Beneath.machine_model.proofs.Times.{steps_at}
-use Rattle.proof_order.specs.Beneath.machine_model.specs.Times.{IsRun}
 use Rattle.proof_order.specs.Facts.{Runs, IsReply, Facts, Replied}
 use Rattle.proof_order.specs.Beneath.history.proofs.Among.{Among, among_filter, filter_among}
 use Rattle.proof_order.proofs.Places.Elements.{no_last, Along, each_of, equals}
@@ -18,8 +11,6 @@ use Rattle.proof_order.proofs.Places.Sorting.{role, number_false, number_true, f
 use Rattle.proof_order.proofs.History.Past.{past_at}
 use Rattle.proof_order.proofs.Views.Steps.{Enters, EntersNone}
 use Rattle.proof_order.proofs.Places.Origins.{Why, by_update, by_answer, by_change, origin, apart_at, place_says, on_time_says, late_says, same_last}
-use Rattle.proof_order.specs.Beneath.machine_model.specs.Records.{place_of, closing_for, Record, moment_at}
-use Rattle.proof_order.specs.Beneath.machine_model.specs.Tellings.{entrant_of}
 
 -- ---- the parts of the order
 

@@ -3,14 +3,7 @@ use Rattle.std.proofs.Common.{◌≡◌, ℕ, suc, ◌<◌, Bool, true, false, i
 use native.Mathlib.Decide.{ℕ_discrete}
 use Rattle.std.proofs.lemmas.Bool.{true≢false}
 use Rattle.std.proofs.lemmas.Option.{none-some}
-use Rattle.proof_order.specs.Beneath.ctrie_base.specs.Hashes.{hash_of}
-use Rattle.proof_order.specs.Beneath.history.specs.Worlds.{KeyMap}
-use Rattle.proof_order.specs.Beneath.history.specs.declared.calls.Access.TheVariants.{Writable, ReadOnly}
-use Rattle.proof_order.specs.Beneath.places.specs.declared.place.Place.{Place}
-use Rattle.proof_order.specs.Beneath.machine_model.specs.declared.steps.Bounds.{Bounds}
-use Rattle.proof_order.specs.Beneath.machine_model.specs.Calls.{handle_of}
-use Rattle.proof_order.specs.Beneath.machine_model.specs.States.{State}
-use Rattle.proof_order.specs.Beneath.machine_model.specs.Times.{IsRun}
+use Rattle.proof_order.specs.Vocabulary.{hash_of, KeyMap, Writable, ReadOnly, Place, Bounds, handle_of, State, IsRun, closed_at, place_of, closing_for, entrant_of}
 use Rattle.proof_order.specs.Beneath.proof_contents.specs.Effects.{act_in}
 use Rattle.proof_order.specs.Facts.{standing, On, IsRooted, Facts, Update, Replied, on_writable, on_read_only}
 use Rattle.proof_order.specs.Beneath.history.proofs.Among.{Among, filter_among}
@@ -27,8 +20,6 @@ use Rattle.proof_order.proofs.Places.Origins.{place_says, on_time_says, late_say
 use Rattle.proof_order.proofs.Views.Timeline.{view, view_writable, view_read_only, view_stays, but_here, but_there, update_leads, reader_leads}
 use Rattle.proof_order.proofs.Places.Members.{timely, IsPlace, in_timely, to_timely, in_changing, to_changing, in_reading, one_changing, Reading, reading, timely_apart, on_time_moment}
 use Rattle.proof_order.proofs.Places.Late.{closing_is, entered_place}
-use Rattle.proof_order.specs.Beneath.machine_model.specs.Records.{closed_at, place_of, closing_for}
-use Rattle.proof_order.specs.Beneath.machine_model.specs.Tellings.{entrant_of}
 
 module _ (limits : Bounds) (states : ℕ → State) (last : ℕ) (r : IsRun limits states last) (V : ℕ → ℕ → KeyMap) (facts : Facts limits states r.records last V) where
   abbrev pub LeadsOn : List Place → View → View → Type 0

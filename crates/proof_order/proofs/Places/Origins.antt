@@ -2,15 +2,8 @@
 use Rattle.std.proofs.Common.{◌≡◌, ℕ, zero, suc, ◌<◌, ◌≤◌, Bool, true, false, cond, nat_lt, inl, inr, List, [], ◌∷◌, ◌++◌, Option, Some, None, refl, sym, ap, ◌∙◌, subst, arith, ltb-true}
 use Rattle.std.proofs.lemmas.Bool.{true≢false, false≢true, ltb-false}
 use Rattle.std.proofs.lemmas.Option.{none-some, same_Some}
-use Rattle.proof_order.specs.Beneath.history.specs.Worlds.{KeyMap}
-use Rattle.proof_order.specs.Beneath.history.specs.declared.replies.Reply.{Reply}
-use Rattle.proof_order.specs.Beneath.history.specs.Histories.{Operation as Told, begun}
-use Rattle.proof_order.specs.Beneath.places.specs.declared.place.Place.{Place}
-use Rattle.proof_order.specs.Beneath.places.specs.Places.{on_time, late, place_by}
-use Rattle.proof_order.specs.Beneath.machine_model.specs.declared.operations.Operation.{Operation}
-use Rattle.proof_order.specs.Beneath.machine_model.specs.declared.steps.Bounds.{Bounds}
-use Rattle.proof_order.specs.Beneath.machine_model.specs.States.{State}
-use Rattle.proof_order.specs.Beneath.machine_model.specs.Times.{IsRun}
+use Rattle.proof_order.specs.Vocabulary.{KeyMap, Reply, begun, Place, on_time, late, place_by, Operation, Bounds, State, IsRun, place_of, closing_for, Record, moment_at, entrant_of}
+use Rattle.proof_order.specs.Beneath.history.specs.Histories.{Operation as Told}
 use Rattle.proof_order.specs.Facts.{Runs, IsReply, Facts, Update, Replied}
 use Rattle.proof_order.specs.Beneath.history.proofs.Among.{Among, among_either}
 use Rattle.proof_order.proofs.Places.Sorting.{AreApart, apart_push}
@@ -20,8 +13,6 @@ use Rattle.proof_order.proofs.History.Growing.{events_grow, unplaced, Grows}
 use Rattle.proof_order.proofs.History.Recalling.{begun_more_or_same}
 use Rattle.proof_order.proofs.Views.Standing.{step_at}
 use Rattle.proof_order.proofs.Views.Steps.{Enters, Kind, plain, updates, answers, closes, swaps, kind_at}
-use Rattle.proof_order.specs.Beneath.machine_model.specs.Records.{place_of, closing_for, Record, moment_at}
-use Rattle.proof_order.specs.Beneath.machine_model.specs.Tellings.{entrant_of}
 
 -- ---- what a place says
 

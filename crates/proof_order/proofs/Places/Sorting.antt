@@ -1,8 +1,7 @@
 -- Placing sorts: the places rise, and each stands there once.
 use Rattle.std.proofs.Common.{◌≡◌, ℕ, ◌<◌, ◌≤◌, Bool, true, false, cond, ◌⊎◌, inl, inr, List, ◌∷◌, ◌++◌, filter, refl, sym, ap, ◌∙◌, arith, []}
 use Rattle.std.proofs.lemmas.Bool.{true≢false, false≢true}
-use Rattle.proof_order.specs.Beneath.places.specs.declared.place.Place.{Place}
-use Rattle.proof_order.specs.Beneath.places.specs.Places.{number_before, bool_before, is_before, placed, rising}
+use Rattle.proof_order.specs.Vocabulary.{Place, number_before, bool_before, is_before, placed, rising}
 use Rattle.proof_order.specs.Beneath.places.proofs.Comparing.{not_through}
 use Rattle.proof_order.specs.Beneath.history.proofs.Among.{Among, among_either}
 use Rattle.proof_order.proofs.Places.Elements.{Each, Along, each_of, of_each, each_filter, filter_none, tested}

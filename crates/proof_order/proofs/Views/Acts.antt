@@ -3,15 +3,9 @@ use Rattle.std.proofs.Common.{◌≡◌, ℕ, ◌==◌, Bool, true, false, cond,
 use Rattle.std.proofs.lemmas.Option.{none-some, same_Some, some_pair_parts}
 use Rattle.std.specs.FinMap as fin
 use Rattle.std.specs.Cmp.{nat_cmp_total, unsigned_tied}
-use Rattle.proof_order.specs.Beneath.history.specs.declared.calls.Access.{Access}
-use Rattle.proof_order.specs.Beneath.history.specs.declared.calls.Access.TheVariants.{Writable, ReadOnly}
-use Rattle.proof_order.specs.Beneath.history.specs.declared.calls.Call.{Call}
-use Rattle.proof_order.specs.Beneath.history.specs.declared.calls.Call.TheVariants.{Get, Put, PutIfAbsent, Replace, ReplaceIf, Remove, RemoveIf, Clear, Close, Entries, Count}
-use Rattle.proof_order.specs.Beneath.history.specs.declared.replies.Reply.{Reply}
+use Rattle.proof_order.specs.Vocabulary.{Access, Writable, ReadOnly, Call, Get, Put, PutIfAbsent, Replace, ReplaceIf, Remove, RemoveIf, Clear, Close, Entries, Count, Reply, KeyMap, HandleState}
+use Rattle.proof_order.specs.Vocabulary.{HandleMap, Effect, effect, changing, copying, naming, handle_of}
 use Rattle.proof_order.specs.Beneath.history.specs.declared.replies.Reply.TheVariants as reply
-use Rattle.proof_order.specs.Beneath.history.specs.Worlds.{KeyMap, HandleState, HandleMap}
-use Rattle.proof_order.specs.Beneath.history.specs.Effects.{Effect, effect, changing, copying, naming}
-use Rattle.proof_order.specs.Beneath.machine_model.specs.Calls.{handle_of}
 use Rattle.proof_order.specs.Beneath.proof_contents.specs.Effects.{act_in}
 use Rattle.proof_order.proofs.Views.Replay.{View, Shows, but}
 

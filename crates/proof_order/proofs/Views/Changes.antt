@@ -3,29 +3,14 @@ use Rattle.std.proofs.Common.{◌≡◌, ℕ, ◌==◌, ◌&&◌, Bool, true, fa
 use native.Mathlib.Decide.{ℕ_discrete}
 use Rattle.std.proofs.lemmas.Bool.{cases_lt, true≢false, false≢true}
 use Rattle.std.proofs.lemmas.List.{get_or_past, get_or-set_same, length-set}
-use Rattle.proof_order.specs.Beneath.history.specs.declared.calls.Access.{Access}
-use Rattle.proof_order.specs.Beneath.history.specs.declared.calls.Access.TheVariants.{Writable}
-use Rattle.proof_order.specs.Beneath.slot_arena.specs.Refs.{ref_to}
-use Rattle.proof_order.specs.Beneath.history.specs.declared.replies.Reply.{Reply}
-use Rattle.proof_order.specs.Beneath.slot_arena.specs.declared.refs.Ref.{Ref}
-use Rattle.proof_order.specs.Beneath.machine_model.specs.declared.operations.Operation.{Operation}
-use Rattle.proof_order.specs.Beneath.machine_model.specs.declared.actions.Action.{Action}
+use Rattle.proof_order.specs.Vocabulary.{Access, Writable, ref_to, Reply, Ref, Operation, Action, Line, Root, RootWord, Plain, Offer, Descriptor, State, root_at, word_of, word_at, root_of}
+use Rattle.proof_order.specs.Vocabulary.{rewritten, with_word, line_action, read_of, stands_in, is_plain, is_carried_out, if_changed, acted, completed, carried_out, opened, opened_root}
+use Rattle.proof_order.specs.Vocabulary.{new_root_taken, committed_in, carried_by, generation_at}
 use Rattle.proof_order.specs.Beneath.machine_model.specs.declared.actions.Action.TheVariants as act
-use Rattle.proof_order.specs.Beneath.machine_model.specs.declared.lines.Line.{Line}
 use Rattle.proof_order.specs.Beneath.machine_model.specs.declared.lines.Line.TheVariants as line
-use Rattle.proof_order.specs.Beneath.machine_model.specs.declared.roots.Root.{Root}
-use Rattle.proof_order.specs.Beneath.machine_model.specs.declared.roots.RootWord.{RootWord}
-use Rattle.proof_order.specs.Beneath.machine_model.specs.declared.roots.RootWord.TheVariants.{Plain, Offer}
-use Rattle.proof_order.specs.Beneath.machine_model.specs.declared.roots.Descriptor.{Descriptor}
-use Rattle.proof_order.specs.Beneath.machine_model.specs.States.{State, root_at, word_of, word_at, root_of, rewritten, with_word}
-use Rattle.proof_order.specs.Beneath.machine_model.specs.Operations.{line_action, read_of}
-use Rattle.proof_order.specs.Beneath.machine_model.specs.Swapping.{stands_in, is_plain, is_carried_out}
-use Rattle.proof_order.specs.Beneath.machine_model.specs.Acting.{if_changed, acted, completed, carried_out, opened, opened_root, new_root_taken}
 use Rattle.proof_order.specs.Beneath.machine_model.proofs.Found.{found_elsewhere}
 use Rattle.proof_generations.specs.Laws.Roots.{settles}
 use Rattle.proof_generations.proofs.Handles.Footings.{plain_root}
-use Rattle.proof_order.specs.Beneath.machine_model.specs.Tellings.{committed_in, carried_by}
-use Rattle.proof_order.specs.Beneath.slot_arena.specs.Heaps.{generation_at}
 
 -- ---- the roots of handles
 

@@ -1,15 +1,11 @@
 -- When a generation was closed.
 use Rattle.std.proofs.Common.{◌≡◌, ℕ, zero, suc, ◌<◌, ◌≤◌, Option, Some, None, refl, sym, ap, ◌∙◌, arith}
 use Rattle.std.proofs.lemmas.Option.{none-some, same_Some}
-use Rattle.proof_order.specs.Beneath.history.specs.Worlds.{KeyMap}
-use Rattle.proof_order.specs.Beneath.machine_model.specs.declared.steps.Bounds.{Bounds}
-use Rattle.proof_order.specs.Beneath.machine_model.specs.States.{State}
-use Rattle.proof_order.specs.Beneath.machine_model.specs.Times.{IsRun}
+use Rattle.proof_order.specs.Vocabulary.{KeyMap, Bounds, State, IsRun, closed_at, first_record}
 use Rattle.proof_generations.proofs.Offers.Swaps.{closed_in, closed_new}
 use Rattle.proof_generations.proofs.Falling.Opened.{closed_until}
 use Rattle.proof_order.specs.Facts.{Facts}
 use Rattle.proof_order.proofs.Views.Steps.{Kind, plain, updates, answers, closes, swaps, ClosesNone, kind_at}
-use Rattle.proof_order.specs.Beneath.machine_model.specs.Records.{closed_at, first_record}
 
 none_at_first : (limits : Bounds) (generation c : ℕ) → closed_at (first_record limits) generation ≡ Some c → ⊥
 none_at_first limits generation c e = none-some c e

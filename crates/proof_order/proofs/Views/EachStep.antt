@@ -1,37 +1,18 @@
 -- Each step by what it changes in the order, in the closed generations and in the handles.
 use Rattle.std.proofs.Common.{◌≡◌, ℕ, Bool, true, false, [], ◌∷◌, ◌++◌, Option, Some, None, refl, sym, ap, ◌∙◌, append-nil, arith}
 use Rattle.std.proofs.lemmas.List.{get_or-set_same}
-use Rattle.proof_order.specs.Beneath.history.specs.declared.calls.Call.{Call}
-use Rattle.proof_order.specs.Beneath.history.specs.declared.calls.Call.TheVariants.{Close}
-use Rattle.proof_order.specs.Beneath.history.specs.declared.replies.Reply.{Reply}
-use Rattle.proof_order.specs.Beneath.slot_arena.specs.declared.refs.Ref.{Ref}
-use Rattle.proof_order.specs.Beneath.slot_arena.specs.Heaps.{generation_at}
-use Rattle.proof_order.specs.Beneath.places.specs.Places.{on_time}
-use Rattle.proof_order.specs.Beneath.machine_model.specs.declared.operations.Operation.{Operation}
-use Rattle.proof_order.specs.Beneath.machine_model.specs.declared.actions.Action.{Action}
+use Rattle.proof_order.specs.Vocabulary.{Call, Close, Reply, Ref, generation_at, on_time, Operation, Action, Root, Offer, Descriptor, Outcome, Step, handle_of, State, root_at, word_at}
+use Rattle.proof_order.specs.Vocabulary.{with_operation, operation_of, action_of, stands_in, is_carried_out, acted, carried_out, gone, operation_after, settled, begin_denial, with_begin, Begins}
+use Rattle.proof_order.specs.Vocabulary.{Ends, Sweeps, Moves, begun_operation, committed_now, entrant_of, told_in, progress_of, carried_by, entered, entered_at_end, Record, noted, noted_progress}
+use Rattle.proof_order.specs.Vocabulary.{moment_at, placed_by, closed_by}
 use Rattle.proof_order.specs.Beneath.machine_model.specs.declared.actions.Action.TheVariants as act
-use Rattle.proof_order.specs.Beneath.machine_model.specs.declared.roots.Root.{Root}
-use Rattle.proof_order.specs.Beneath.machine_model.specs.declared.roots.RootWord.TheVariants.{Offer}
-use Rattle.proof_order.specs.Beneath.machine_model.specs.declared.roots.Descriptor.{Descriptor}
-use Rattle.proof_order.specs.Beneath.machine_model.specs.declared.steps.Outcome.{Outcome}
-use Rattle.proof_order.specs.Beneath.machine_model.specs.declared.steps.Step.{Step}
 use Rattle.proof_order.specs.Beneath.machine_model.specs.declared.steps.Step.TheVariants as step
-use Rattle.proof_order.specs.Beneath.machine_model.specs.Calls.{handle_of}
-use Rattle.proof_order.specs.Beneath.machine_model.specs.States.{State, root_at, word_at, with_operation, operation_of}
-use Rattle.proof_order.specs.Beneath.machine_model.specs.Operations.{action_of}
-use Rattle.proof_order.specs.Beneath.machine_model.specs.Swapping.{stands_in, is_carried_out}
-use Rattle.proof_order.specs.Beneath.machine_model.specs.Acting.{acted, carried_out, gone, operation_after}
-use Rattle.proof_order.specs.Beneath.machine_model.specs.Counting.{settled}
-use Rattle.proof_order.specs.Beneath.machine_model.specs.Machine.{begin_denial, with_begin}
-use Rattle.proof_order.specs.Beneath.machine_model.specs.Moves.{Begins, Goes, Ends, Sweeps}
-use Rattle.proof_order.specs.Beneath.machine_model.specs.Moves.{Moves, begun_operation}
+use Rattle.proof_order.specs.Beneath.machine_model.specs.Moves.{Goes}
 use Rattle.proof_order.specs.Beneath.machine_model.proofs.Found.{found_within, found_elsewhere}
 use Rattle.proof_order.specs.Facts.{committed_of, committed_by_step, entered_by_step, CarriesOut}
 use Rattle.proof_generations.specs.Laws.Roots.{settles}
 use Rattle.proof_order.proofs.Views.Changes.{footing_of, footing, carries, acted_footing, completed_is, roots_swapped}
 use Rattle.proof_order.proofs.Views.Changes.{carried_roots, same_swapped, complete_commits, end_commits, carries_none, carries_some}
-use Rattle.proof_order.specs.Beneath.machine_model.specs.Tellings.{committed_now, entrant_of, told_in, progress_of, carried_by}
-use Rattle.proof_order.specs.Beneath.machine_model.specs.Records.{entered, entered_at_end, Record, noted, noted_progress, moment_at, placed_by, closed_by}
 use Rattle.proof_order.specs.Beneath.machine_model.proofs.Notes.{noted_going, noted_ending}
 
 -- offers are honest in each step from this state

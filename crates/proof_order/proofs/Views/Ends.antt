@@ -2,16 +2,8 @@
 use Rattle.std.proofs.Common.{◌≡◌, ℕ, zero, suc, ◌==◌, false, cond, List, Option, Some, None, refl, sym, ap, ◌∙◌, arith}
 use Rattle.std.specs.FinMap as fin
 use Rattle.std.specs.Ordering.{nat_cmp}
-use Rattle.proof_order.specs.Beneath.history.specs.Worlds.{KeyMap, HandleState, HandleMap, first_world}
-use Rattle.proof_order.specs.Beneath.history.specs.declared.calls.Access.{Access}
-use Rattle.proof_order.specs.Beneath.history.specs.declared.calls.Access.TheVariants.{Writable, ReadOnly}
-use Rattle.proof_order.specs.Beneath.slot_arena.specs.Refs.{ref_to}
-use Rattle.proof_order.specs.Beneath.slot_arena.specs.Heaps.{generation_at}
-use Rattle.proof_order.specs.Beneath.machine_model.specs.declared.roots.Root.{Root}
-use Rattle.proof_order.specs.Beneath.machine_model.specs.declared.steps.Bounds.{Bounds}
-use Rattle.proof_order.specs.Beneath.machine_model.specs.States.{State, first_state, first_heap, root_at, root_of}
-use Rattle.proof_order.specs.Beneath.machine_model.specs.Contents.{content_at}
-use Rattle.proof_order.specs.Beneath.machine_model.specs.Times.{IsRun}
+use Rattle.proof_order.specs.Vocabulary.{KeyMap, HandleState, HandleMap, first_world, Access, Writable, ReadOnly, ref_to, generation_at, Root, Bounds, State, first_state, first_heap, root_at}
+use Rattle.proof_order.specs.Vocabulary.{root_of, content_at, IsRun}
 use Rattle.proof_order.specs.Beneath.proof_contents.proofs.Values.Started.{first_generation}
 use Rattle.proof_order.specs.Facts.{standing_of, standing, Facts}
 use Rattle.proof_order.specs.Laws.Orders.{Names, ShowsContents}

@@ -1,16 +1,8 @@
 -- From the facts about contents: the order explains the history, and leads to a world that shows the contents.
 use Rattle.std.proofs.Common.{◌≡◌, ℕ, ◌<◌, List, refl, sym, subst, arith}
-use Rattle.proof_order.specs.Beneath.ctrie_base.specs.Hashes.{hash_of}
-use Rattle.proof_order.specs.Beneath.history.specs.Worlds.{KeyMap, first_world}
-use Rattle.proof_order.specs.Beneath.history.specs.Orders.{Explains}
-use Rattle.proof_order.specs.Beneath.places.specs.declared.place.Place.{Place}
-use Rattle.proof_order.specs.Beneath.places.specs.Places.{ids_by_place}
-use Rattle.proof_order.specs.Beneath.machine_model.specs.declared.steps.Bounds.{Bounds}
-use Rattle.proof_order.specs.Beneath.machine_model.specs.declared.steps.Step.{Step}
-use Rattle.proof_order.specs.Beneath.machine_model.specs.States.{State}
-use Rattle.proof_order.specs.Beneath.machine_model.specs.Machine.{AreBounds, run}
+use Rattle.proof_order.specs.Vocabulary.{hash_of, KeyMap, first_world, Explains, Place, ids_by_place, Bounds, Step, State, AreBounds, run, IsRun, states_of, last_of, records_of, order_of, Record}
+use Rattle.proof_order.specs.Vocabulary.{record_of}
 use Rattle.proof_order.specs.Beneath.machine_model.proofs.Times.{run_is, run_ends}
-use Rattle.proof_order.specs.Beneath.machine_model.specs.Times.{IsRun, states_of, last_of, records_of}
 use Rattle.proof_order.specs.Facts.{Facts}
 use Rattle.proof_order.specs.Laws.Orders.{IsExplained}
 use Rattle.proof_order.specs.Beneath.history.proofs.Among.{Among}
@@ -20,7 +12,6 @@ use Rattle.proof_order.proofs.Places.Members.{sorted, step_within}
 use Rattle.proof_order.proofs.Places.Blocks.{order_leads}
 use Rattle.proof_order.proofs.Views.Ends.{shows_first, shows_last}
 use Rattle.proof_order.proofs.History.Candidates.{is_candidate, keeps_time}
-use Rattle.proof_order.specs.Beneath.machine_model.specs.Records.{order_of, Record, record_of}
 use Rattle.proof_order.specs.Beneath.machine_model.proofs.Recorded.{record_ends}
 
 -- the order is the ids of the rising places

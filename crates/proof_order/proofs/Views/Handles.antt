@@ -3,31 +3,14 @@ use Rattle.std.proofs.Common.{◌≡◌, ℕ, zero, suc, ◌+◌, ◌<◌, ◌�
 use Rattle.std.proofs.Common.{length-set, add-one, arith}
 use Rattle.std.proofs.lemmas.List.{length-replicate}
 use Rattle.std.proofs.lemmas.Option.{none-some, same_Some}
-use Rattle.proof_order.specs.Beneath.history.specs.declared.calls.Access.TheVariants.{Writable}
-use Rattle.proof_order.specs.Beneath.history.specs.declared.calls.Call.{Call}
-use Rattle.proof_order.specs.Beneath.history.specs.declared.calls.Call.TheVariants.{Close}
-use Rattle.proof_order.specs.Beneath.slot_arena.specs.declared.refs.Ref.{Ref}
-use Rattle.proof_order.specs.Beneath.machine_model.specs.declared.operations.Operation.{Operation}
-use Rattle.proof_order.specs.Beneath.machine_model.specs.declared.actions.Action.{Action}
+use Rattle.proof_order.specs.Vocabulary.{Writable, Call, Close, Ref, Operation, Action, Root, Plain, ref_to, Descriptor, Bounds, Outcome, Step, handle_of, opens_handle, State, first_state}
+use Rattle.proof_order.specs.Vocabulary.{handle_limit, action_of, acted, aborted, offered, completed, opened, new_root_taken, begin_denial, with_begin, is_taken, taken_below, handles_taken}
+use Rattle.proof_order.specs.Vocabulary.{least_from, least_free, Begins, Ends, Sweeps, Moves, begun_operation, IsRun}
 use Rattle.proof_order.specs.Beneath.machine_model.specs.declared.actions.Action.TheVariants as act
-use Rattle.proof_order.specs.Beneath.machine_model.specs.declared.roots.Root.{Root}
-use Rattle.proof_order.specs.Beneath.machine_model.specs.declared.roots.RootWord.TheVariants.{Plain}
-use Rattle.proof_order.specs.Beneath.slot_arena.specs.Refs.{ref_to}
-use Rattle.proof_order.specs.Beneath.machine_model.specs.declared.roots.Descriptor.{Descriptor}
-use Rattle.proof_order.specs.Beneath.machine_model.specs.declared.steps.Bounds.{Bounds}
-use Rattle.proof_order.specs.Beneath.machine_model.specs.declared.steps.Outcome.{Outcome}
-use Rattle.proof_order.specs.Beneath.machine_model.specs.declared.steps.Step.{Step}
 use Rattle.proof_order.specs.Beneath.machine_model.specs.declared.steps.Step.TheVariants as step
-use Rattle.proof_order.specs.Beneath.machine_model.specs.Calls.{handle_of, opens_handle}
-use Rattle.proof_order.specs.Beneath.machine_model.specs.States.{State, first_state, handle_limit}
-use Rattle.proof_order.specs.Beneath.machine_model.specs.Operations.{action_of}
-use Rattle.proof_order.specs.Beneath.machine_model.specs.Acting.{acted, aborted, offered, completed, opened, new_root_taken}
-use Rattle.proof_order.specs.Beneath.machine_model.specs.Machine.{begin_denial, with_begin, is_taken, taken_below, handles_taken, least_from, least_free}
-use Rattle.proof_order.specs.Beneath.machine_model.specs.Moves.{Begins, Goes, Ends, Sweeps}
-use Rattle.proof_order.specs.Beneath.machine_model.specs.Moves.{Moves, begun_operation}
+use Rattle.proof_order.specs.Beneath.machine_model.specs.Moves.{Goes}
 use Rattle.proof_order.specs.Beneath.machine_model.proofs.Found.{none_found}
 use Rattle.proof_order.specs.Beneath.machine_model.proofs.Times.{at_each_time}
-use Rattle.proof_order.specs.Beneath.machine_model.specs.Times.{IsRun}
 use Rattle.proof_generations.proofs.Handles.Operations.{opens_allowed}
 use Rattle.proof_order.specs.Facts.{Runs}
 use Rattle.proof_order.proofs.History.Running.{ran_before}

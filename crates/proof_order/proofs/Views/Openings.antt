@@ -3,25 +3,9 @@ use Rattle.std.proofs.Common.{◌≡◌, ℕ, suc, ◌<◌, false, List, [], ◌
 use native.Mathlib.Decide.{ℕ_discrete}
 use Rattle.std.proofs.lemmas.Option.{none-some, same_Some}
 use Rattle.std.specs.FinMap as fin
-use Rattle.proof_order.specs.Beneath.ctrie_base.specs.Hashes.{hash_of}
-use Rattle.proof_order.specs.Beneath.history.specs.Worlds.{KeyMap}
-use Rattle.proof_order.specs.Beneath.history.specs.declared.calls.Access.{Access}
-use Rattle.proof_order.specs.Beneath.history.specs.declared.calls.Access.TheVariants.{Writable, ReadOnly}
-use Rattle.proof_order.specs.Beneath.history.specs.declared.calls.Call.{Call}
-use Rattle.proof_order.specs.Beneath.history.specs.declared.calls.Call.TheVariants.{Clear, Snapshot, Freeze, Close}
-use Rattle.proof_order.specs.Beneath.history.specs.declared.replies.Reply.{Reply}
+use Rattle.proof_order.specs.Vocabulary.{hash_of, KeyMap, Access, Writable, ReadOnly, Call, Clear, Snapshot, Freeze, Close, Reply, begun, Recalls, generation_at, Place, on_time, Descriptor, Bounds}
+use Rattle.proof_order.specs.Vocabulary.{State, root_at, copied_reply, opened_root, IsRun}
 use Rattle.proof_order.specs.Beneath.history.specs.declared.replies.Reply.TheVariants as reply
-use Rattle.proof_order.specs.Beneath.history.specs.Histories.{begun}
-use Rattle.proof_order.specs.Beneath.history.specs.Orders.{Recalls}
-use Rattle.proof_order.specs.Beneath.slot_arena.specs.Heaps.{generation_at}
-use Rattle.proof_order.specs.Beneath.places.specs.declared.place.Place.{Place}
-use Rattle.proof_order.specs.Beneath.places.specs.Places.{on_time}
-use Rattle.proof_order.specs.Beneath.machine_model.specs.declared.roots.Descriptor.{Descriptor}
-use Rattle.proof_order.specs.Beneath.machine_model.specs.declared.steps.Bounds.{Bounds}
-use Rattle.proof_order.specs.Beneath.machine_model.specs.States.{State, root_at}
-use Rattle.proof_order.specs.Beneath.machine_model.specs.Copying.{copied_reply}
-use Rattle.proof_order.specs.Beneath.machine_model.specs.Acting.{opened_root}
-use Rattle.proof_order.specs.Beneath.machine_model.specs.Times.{IsRun}
 use Rattle.proof_order.specs.Facts.{standing, standing_of, On, IsReply, Facts, Opens, clears, snapshots, freezes}
 use Rattle.proof_order.proofs.Offers.Carried.{Carried}
 use Rattle.proof_order.proofs.Views.Replay.{View, but, Leads, leads_same, leads_one}

@@ -1,11 +1,7 @@
 -- Replaying a list of places, seen by what a world shows: no world is ever built.
 use Rattle.std.proofs.Common.{◌≡◌, ℕ, zero, suc, ◌<◌, ◌≤◌, ◌==◌, cond, List, [], ◌∷◌, ◌++◌, map, filter, Option, refl, sym, ap, ◌∙◌, subst, arith}
 use Rattle.std.specs.FinMap as fin
-use Rattle.proof_order.specs.Beneath.history.specs.declared.events.Event.{Event}
-use Rattle.proof_order.specs.Beneath.history.specs.Worlds.{HandleState, HandleMap}
-use Rattle.proof_order.specs.Beneath.history.specs.Effects.{Effect}
-use Rattle.proof_order.specs.Beneath.history.specs.Orders.{Answered, Replays, Recalls, RecallsEach}
-use Rattle.proof_order.specs.Beneath.places.specs.declared.place.Place.{Place}
+use Rattle.proof_order.specs.Vocabulary.{Event, HandleState, HandleMap, Effect, Answered, Replays, Recalls, RecallsEach, Place}
 use Rattle.proof_order.specs.Beneath.history.proofs.Among.{Among}
 use Rattle.proof_order.proofs.Places.Elements.{Each, Along, below, equals, next_below, all_below, none_below_zero}
 

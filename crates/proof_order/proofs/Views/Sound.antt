@@ -2,19 +2,9 @@
 use Rattle.std.proofs.Common.{◌≡◌, ◌≢◌, ℕ, zero, suc, ◌<◌, ◌≤◌, [], ◌∷◌, ◌++◌, replicate, Option, Some, None, refl, sym, ap, ◌∙◌, subst, arith}
 use native.Mathlib.Decide.{ℕ_discrete}
 use Rattle.std.proofs.lemmas.Option.{none-some, same_Some, some_pair_parts}
-use Rattle.proof_order.specs.Beneath.history.specs.Worlds.{KeyMap}
-use Rattle.proof_order.specs.Beneath.history.specs.declared.calls.Access.{Access}
-use Rattle.proof_order.specs.Beneath.history.specs.declared.calls.Access.TheVariants.{Writable, ReadOnly}
-use Rattle.proof_order.specs.Beneath.history.specs.declared.calls.Call.{Call}
-use Rattle.proof_order.specs.Beneath.slot_arena.specs.declared.refs.Ref.{Ref}
-use Rattle.proof_order.specs.Beneath.slot_arena.specs.Heaps.{generation_at}
-use Rattle.proof_order.specs.Beneath.machine_model.specs.declared.roots.Root.{Root}
-use Rattle.proof_order.specs.Beneath.machine_model.specs.declared.roots.Descriptor.{Descriptor}
-use Rattle.proof_order.specs.Beneath.machine_model.specs.declared.steps.Bounds.{Bounds}
-use Rattle.proof_order.specs.Beneath.machine_model.specs.States.{State, first_state, root_at, handle_limit}
-use Rattle.proof_order.specs.Beneath.machine_model.specs.Acting.{opened_root}
+use Rattle.proof_order.specs.Vocabulary.{KeyMap, Access, Writable, ReadOnly, Call, Ref, generation_at, Root, Descriptor, Bounds, State, first_state, root_at, handle_limit, opened_root, IsRun}
+use Rattle.proof_order.specs.Vocabulary.{closed_at, first_record}
 use Rattle.proof_order.specs.Beneath.machine_model.proofs.Found.{none_found, found_elsewhere}
-use Rattle.proof_order.specs.Beneath.machine_model.specs.Times.{IsRun}
 use Rattle.proof_order.specs.Facts.{standing_of, standing, On, IsFresh, Facts, Opens, clears, snapshots, freezes}
 use Rattle.proof_order.proofs.Offers.Carried.{Carried}
 use Rattle.proof_order.proofs.Views.Changes.{first_root, roots_swapped}
@@ -23,7 +13,6 @@ use Rattle.proof_order.proofs.Views.Standing.{here_none, here_some, there_some, 
 use Rattle.proof_order.proofs.Views.Steps.{Kind, plain, updates, answers, closes, swaps, kind_at}
 use Rattle.proof_generations.proofs.Offers.Swaps.{closed_in, closed_other}
 use Rattle.proof_generations.proofs.Roots.Rooted.{standing_root}
-use Rattle.proof_order.specs.Beneath.machine_model.specs.Records.{closed_at, first_record}
 
 -- the standing at first: handle 0 alone is open
 pub first_standing : (limits : Bounds) (handle : ℕ) (access : Access) (generation : ℕ) → standing (first_state limits) handle ≡ Some (access, generation) → handle ≡ 0

@@ -2,31 +2,14 @@
 use Rattle.std.proofs.Common.{◌≡◌, ℕ, suc, ◌<◌, List, set, get_or, length, Option, Some, None, refl, sym, ap, ◌∙◌, length-set, arith, subst}
 use Rattle.std.proofs.lemmas.List.{get_or-set_same}
 use Rattle.std.proofs.lemmas.Option.{none-some}
-use Rattle.proof_order.specs.Beneath.history.specs.declared.calls.Access.{Access}
-use Rattle.proof_order.specs.Beneath.history.specs.declared.calls.Access.TheVariants.{Writable}
-use Rattle.proof_order.specs.Beneath.slot_arena.specs.declared.refs.Ref.{Ref}
-use Rattle.proof_order.specs.Beneath.slot_arena.specs.Heaps.{Heap, generation_at}
-use Rattle.proof_order.specs.Beneath.machine_model.specs.declared.roots.Root.{Root}
-use Rattle.proof_order.specs.Beneath.machine_model.specs.declared.roots.RootWord.{RootWord}
-use Rattle.proof_order.specs.Beneath.machine_model.specs.declared.roots.RootWord.TheVariants.{Plain}
-use Rattle.proof_order.specs.Beneath.machine_model.specs.declared.roots.Descriptor.{Descriptor}
-use Rattle.proof_order.specs.Beneath.machine_model.specs.declared.steps.Bounds.{Bounds}
-use Rattle.proof_order.specs.Beneath.machine_model.specs.declared.steps.Outcome.{Outcome}
-use Rattle.proof_order.specs.Beneath.machine_model.specs.declared.steps.Step.{Step}
-use Rattle.proof_order.specs.Beneath.machine_model.specs.States.{State, root_at, root_of, rewritten}
-use Rattle.proof_order.specs.Beneath.machine_model.specs.Acting.{opened_root}
-use Rattle.proof_order.specs.Beneath.machine_model.specs.Moves.{Moves}
+use Rattle.proof_order.specs.Vocabulary.{Access, Writable, Ref, Heap, generation_at, Root, RootWord, Plain, Descriptor, Bounds, Outcome, Step, State, root_at, root_of, rewritten, opened_root, Moves}
+use Rattle.proof_order.specs.Vocabulary.{turns, noted_turn, IsRun, Turn, KeyMap, Record, noted, told_in}
 use Rattle.proof_order.specs.Beneath.machine_model.proofs.Found.{found_within, found_elsewhere}
-use Rattle.proof_order.specs.Beneath.machine_model.specs.Times.{turns, noted_turn}
-use Rattle.proof_order.specs.Beneath.machine_model.specs.Times.{IsRun, Turn}
-use Rattle.proof_order.specs.Beneath.history.specs.Worlds.{KeyMap}
 use Rattle.proof_order.specs.Facts.{standing_of, standing, Facts}
 use Rattle.proof_order.proofs.Views.Changes.{footing_of, footing, roots_swapped}
 use Rattle.proof_order.proofs.Offers.Standing.{offers_at}
 use Rattle.proof_order.proofs.Offers.Honest.{honest}
 use Rattle.proof_order.proofs.Views.EachStep.{HonestIn, Changes, changes}
-use Rattle.proof_order.specs.Beneath.machine_model.specs.Records.{Record, noted}
-use Rattle.proof_order.specs.Beneath.machine_model.specs.Tellings.{told_in}
 
 -- ---- standing, by the root
 

@@ -1,30 +1,15 @@
 -- Each step of a run by what the facts say of it: one constructor for each kind.
 use Rattle.std.proofs.Common.{◌≡◌, ◌≢◌, ℕ, suc, ◌+◌, ◌<◌, Bool, true, false, cond, ◌⊎◌, inl, inr, List, ◌∷◌, ◌++◌, length, Some, None, slice_get, refl, sym, ap, ◌∙◌, subst, append-nil, arith, []}
-use Rattle.proof_order.specs.Beneath.history.specs.Worlds.{KeyMap}
-use Rattle.proof_order.specs.Beneath.history.specs.declared.calls.Access.{Access}
-use Rattle.proof_order.specs.Beneath.history.specs.declared.calls.Call.TheVariants.{Close}
-use Rattle.proof_order.specs.Beneath.history.specs.declared.replies.Reply.{Reply}
+use Rattle.proof_order.specs.Vocabulary.{KeyMap, Access, Close, Reply, End, BeginsAt, HasEnded, begun, Recalls, generation_at, Place, on_time, Operation, Descriptor, Bounds, Outcome, Step, State}
+use Rattle.proof_order.specs.Vocabulary.{operation_of, action_of, Moves, IsRun, place_of, is_placed, entered_at_end, Record, moment_at, noted, entrant_of, told_in}
 use Rattle.proof_order.specs.Beneath.history.specs.declared.replies.Reply.TheVariants as reply
-use Rattle.proof_order.specs.Beneath.history.specs.declared.events.Event.TheVariants.{Begin, End}
-use Rattle.proof_order.specs.Beneath.history.specs.Histories.{Operation as Told, BeginsAt, HasEnded, begun}
-use Rattle.proof_order.specs.Beneath.history.specs.Orders.{Recalls}
+use Rattle.proof_order.specs.Beneath.history.specs.declared.events.Event.TheVariants.{Begin}
+use Rattle.proof_order.specs.Beneath.history.specs.Histories.{Operation as Told}
 use Rattle.proof_order.specs.Beneath.history.proofs.Places.{at_push}
 use Rattle.proof_order.specs.Beneath.history.proofs.Begins.{begun_push}
-use Rattle.proof_order.specs.Beneath.slot_arena.specs.Heaps.{generation_at}
-use Rattle.proof_order.specs.Beneath.places.specs.declared.place.Place.{Place}
-use Rattle.proof_order.specs.Beneath.places.specs.Places.{on_time}
-use Rattle.proof_order.specs.Beneath.machine_model.specs.declared.operations.Operation.{Operation}
 use Rattle.proof_order.specs.Beneath.machine_model.specs.declared.actions.Action.TheVariants as act
-use Rattle.proof_order.specs.Beneath.machine_model.specs.declared.roots.Descriptor.{Descriptor}
-use Rattle.proof_order.specs.Beneath.machine_model.specs.declared.steps.Bounds.{Bounds}
-use Rattle.proof_order.specs.Beneath.machine_model.specs.declared.steps.Outcome.{Outcome}
-use Rattle.proof_order.specs.Beneath.machine_model.specs.declared.steps.Step.{Step}
 use Rattle.proof_order.specs.Beneath.machine_model.specs.declared.steps.Step.TheVariants as step
-use Rattle.proof_order.specs.Beneath.machine_model.specs.States.{State, operation_of}
-use Rattle.proof_order.specs.Beneath.machine_model.specs.Operations.{action_of}
-use Rattle.proof_order.specs.Beneath.machine_model.specs.Moves.{Moves}
 use Rattle.proof_order.specs.Beneath.machine_model.proofs.Times.{steps_at}
-use Rattle.proof_order.specs.Beneath.machine_model.specs.Times.{IsRun}
 use Rattle.proof_generations.proofs.Handles.Running.{place_of_actor}
 use Rattle.proof_order.specs.Facts.{standing_of, standing, HasStood, Runs, IsReply, entered_by_step, CarriesOut, Facts, Update, Replied, Notes}
 use Rattle.proof_order.proofs.Offers.Carried.{Carried, carried}
@@ -35,8 +20,6 @@ use Rattle.proof_order.proofs.Views.EachStep.{Changes}
 use Rattle.proof_order.proofs.Views.Standing.{step_at, change_at, keeps_standing, no_standing}
 use Rattle.proof_order.proofs.History.Recalling.{event_later, told_reply, end_event}
 use Rattle.proof_order.proofs.History.Closes.{closed_reply}
-use Rattle.proof_order.specs.Beneath.machine_model.specs.Records.{place_of, is_placed, entered_at_end, Record, moment_at, noted}
-use Rattle.proof_order.specs.Beneath.machine_model.specs.Tellings.{entrant_of, told_in}
 use Rattle.proof_order.specs.Beneath.machine_model.proofs.Alike.{alike}
 
 -- what an empty list comes to

@@ -1,25 +1,13 @@
 -- What the handles show at each time of a run, and what single operations do to it.
 use Rattle.std.proofs.Common.{◌≡◌, ℕ, suc, ◌<◌, ◌≤◌, true, false, cond, List, [], ◌∷◌, Option, Some, None, refl, sym, ap, ◌∙◌, subst, arith, ne_eqb, eq-eqb}
-use Rattle.proof_order.specs.Beneath.ctrie_base.specs.Hashes.{hash_of}
-use Rattle.proof_order.specs.Beneath.history.specs.Worlds.{KeyMap, HandleState}
-use Rattle.proof_order.specs.Beneath.history.specs.declared.calls.Access.{Access}
-use Rattle.proof_order.specs.Beneath.history.specs.declared.calls.Access.TheVariants.{Writable, ReadOnly}
-use Rattle.proof_order.specs.Beneath.history.specs.declared.replies.Reply.{Reply}
-use Rattle.proof_order.specs.Beneath.history.specs.Orders.{Answered, Recalls}
-use Rattle.proof_order.specs.Beneath.places.specs.declared.place.Place.{Place}
-use Rattle.proof_order.specs.Beneath.machine_model.specs.declared.operations.Operation.{Operation}
-use Rattle.proof_order.specs.Beneath.machine_model.specs.declared.steps.Bounds.{Bounds}
-use Rattle.proof_order.specs.Beneath.machine_model.specs.Calls.{handle_of}
-use Rattle.proof_order.specs.Beneath.machine_model.specs.States.{State}
-use Rattle.proof_order.specs.Beneath.machine_model.specs.Times.{IsRun}
+use Rattle.proof_order.specs.Vocabulary.{hash_of, KeyMap, HandleState, Access, Writable, ReadOnly, Reply, Answered, Recalls, Place, Operation, Bounds, handle_of, State, IsRun, place_of, closing_for}
+use Rattle.proof_order.specs.Vocabulary.{entrant_of}
 use Rattle.proof_order.specs.Beneath.proof_contents.specs.Effects.{act_in}
 use Rattle.proof_order.specs.Facts.{standing, On, Runs, IsReply, Update}
 use Rattle.proof_order.proofs.Views.Replay.{View, but, Leads, leads_one, leads_same}
 use Rattle.proof_order.proofs.Views.Acts.{named, but_same, acts_on}
 use Rattle.proof_order.proofs.History.Recalling.{recalls_running}
 use Rattle.proof_order.proofs.Places.Origins.{place_says}
-use Rattle.proof_order.specs.Beneath.machine_model.specs.Records.{place_of, closing_for}
-use Rattle.proof_order.specs.Beneath.machine_model.specs.Tellings.{entrant_of}
 
 -- ---- views that differ at one handle
 

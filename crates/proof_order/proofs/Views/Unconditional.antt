@@ -2,22 +2,13 @@
 use Rattle.std.proofs.Common.{◌≡◌, ◌≢◌, ℕ, zero, suc, ◌+◌, ◌<◌, Bool, true, false, cond, List, [], ◌∷◌, ◌++◌, length, get_or, Some, refl, sym, ap, ◌∙◌, subst, arith}
 use Rattle.std.specs.List.Sorted.{IsPermutation, IsSortedBy}
 use Rattle.std.proofs.lemmas.List.Sorted.{IsPermutation-refl, IsPermutation-trans, IsPermutation-cons, IsPermutation-swap}
-use Rattle.proof_order.specs.Beneath.history.specs.declared.replies.Reply.{Reply}
-use Rattle.proof_order.specs.Beneath.history.specs.declared.replies.Reply.TheVariants.{NoSlots}
-use Rattle.proof_order.specs.Beneath.history.specs.Histories.{HasEnded}
-use Rattle.proof_order.specs.Beneath.history.specs.Orders.{OrderedAt}
-use Rattle.proof_order.specs.Beneath.places.specs.declared.place.Place.{Place}
-use Rattle.proof_order.specs.Beneath.places.specs.Places.{is_before, placed, rising, ids_by_place}
-use Rattle.proof_order.specs.Beneath.machine_model.specs.declared.steps.Bounds.{Bounds}
-use Rattle.proof_order.specs.Beneath.machine_model.specs.declared.steps.Step.{Step}
-use Rattle.proof_order.specs.Beneath.machine_model.specs.States.{State, first_state}
-use Rattle.proof_order.specs.Beneath.machine_model.specs.Machine.{next_state, run}
+use Rattle.proof_order.specs.Vocabulary.{Reply, NoSlots, HasEnded, OrderedAt, Place, is_before, placed, rising, ids_by_place, Bounds, Step, State, first_state, next_state, run, order_of, record_of}
+use Rattle.proof_order.specs.Vocabulary.{record_from, Record, next_record, first_record}
 use Rattle.proof_order.proofs.Places.Elements.{among_map, get_among}
 use Rattle.proof_order.proofs.Places.Sorting.{Rises, rising_rises, rising_among}
 use Rattle.proof_order.proofs.History.Books.{Books}
 use Rattle.proof_order.proofs.History.AllBooks.{books_kept, first_books}
 use Rattle.proof_order.proofs.History.Growing.{Answered, answered_kept, first_answered, Grows, grows_same, grows_trans, places_grow}
-use Rattle.proof_order.specs.Beneath.machine_model.specs.Records.{order_of, record_of, record_from, Record, next_record, first_record}
 use Rattle.proof_order.specs.Beneath.machine_model.proofs.Recorded.{along_with, record-append, kept_by_notes}
 
 -- ---- after each list of steps

@@ -1,23 +1,10 @@
 -- Laws of root swaps, for every list of steps.
 use Rattle.std.specs.Prelude.{◌≡◌, ℕ, suc, ◌<◌, ◌≤◌, ◌⊎◌, List, Some, None, slice_get}
-use Rattle.proof_order.specs.Beneath.history.specs.declared.calls.Access.TheVariants.{Writable}
-use Rattle.proof_order.specs.Beneath.history.specs.declared.calls.Call.{Call}
-use Rattle.proof_order.specs.Beneath.history.specs.declared.calls.Call.TheVariants.{Clear, Snapshot, Freeze}
-use Rattle.proof_order.specs.Beneath.slot_arena.specs.declared.refs.Ref.{Ref}
-use Rattle.proof_order.specs.Beneath.slot_arena.specs.Heaps.{node_at, logical_main, empty_branch}
-use Rattle.proof_order.specs.Beneath.machine_model.specs.declared.records.Closing.{Closing}
-use Rattle.proof_order.specs.Beneath.machine_model.specs.declared.operations.Operation.{Operation}
-use Rattle.proof_order.specs.Beneath.machine_model.specs.declared.roots.Descriptor.{Descriptor}
-use Rattle.proof_order.specs.Beneath.machine_model.specs.declared.roots.Root.{Root}
-use Rattle.proof_order.specs.Beneath.machine_model.specs.declared.steps.Bounds.{Bounds}
-use Rattle.proof_order.specs.Beneath.machine_model.specs.declared.steps.Step.{Step}
-use Rattle.proof_order.specs.Beneath.machine_model.specs.States.{State, root_at, root_of, operation_of}
-use Rattle.proof_order.specs.Beneath.machine_model.specs.Machine.{AreBounds}
+use Rattle.proof_order.specs.Vocabulary.{Writable, Call, Clear, Snapshot, Freeze, Ref, node_at, logical_main, empty_branch, Closing, Operation, Descriptor, Root, Bounds, Step, State, root_at}
+use Rattle.proof_order.specs.Vocabulary.{root_of, operation_of, AreBounds, states_of, last_of, records_of, Record, record_of, closed_at}
 use Rattle.proof_order.specs.Beneath.proof_memory.specs.Laws.{IsInUse}
 use Rattle.proof_generations.specs.Laws.Roots.{root_generation}
 use Rattle.proof_order.specs.Openings.{IsSwap}
-use Rattle.proof_order.specs.Beneath.machine_model.specs.Times.{states_of, last_of, records_of}
-use Rattle.proof_order.specs.Beneath.machine_model.specs.Records.{Record, record_of, closed_at}
 
 -- ---- of the states of a run, each before the step of its number
 

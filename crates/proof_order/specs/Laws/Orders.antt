@@ -2,23 +2,9 @@
 use Rattle.std.specs.Prelude.{◌≡◌, ◌≢◌, ℕ, List, ◌++◌, Option, Some, None}
 use Rattle.std.specs.List.Sorted.{IsPermutation, IsSortedBy}
 use Rattle.std.specs.FinMap as map
-use Rattle.proof_order.specs.Beneath.ctrie_base.specs.Hashes.{hash_of}
-use Rattle.proof_order.specs.Beneath.history.specs.declared.replies.Reply.{Reply}
-use Rattle.proof_order.specs.Beneath.history.specs.declared.replies.Reply.TheVariants.{NoSlots}
-use Rattle.proof_order.specs.Beneath.history.specs.Worlds.{KeyMap, HandleState, HandleMap}
-use Rattle.proof_order.specs.Beneath.history.specs.Histories.{HasBegun, HasEnded, IsWellFormed}
-use Rattle.proof_order.specs.Beneath.history.specs.Orders.{OrderedAt, Explains}
-use Rattle.proof_order.specs.Beneath.places.specs.declared.place.Place.{Place}
-use Rattle.proof_order.specs.Beneath.places.specs.Places.{is_before, rising}
-use Rattle.proof_order.specs.Beneath.machine_model.specs.declared.roots.Root.{Root}
-use Rattle.proof_order.specs.Beneath.machine_model.specs.declared.steps.Bounds.{Bounds}
-use Rattle.proof_order.specs.Beneath.machine_model.specs.declared.steps.Step.{Step}
-use Rattle.proof_order.specs.Beneath.machine_model.specs.States.{State, root_at}
-use Rattle.proof_order.specs.Beneath.machine_model.specs.Contents.{content_at}
-use Rattle.proof_order.specs.Beneath.machine_model.specs.Machine.{AreBounds, run}
-use Rattle.proof_order.specs.Beneath.machine_model.specs.Times.{states_of, last_of, records_of}
+use Rattle.proof_order.specs.Vocabulary.{hash_of, Reply, NoSlots, KeyMap, HandleState, HandleMap, HasBegun, HasEnded, IsWellFormed, OrderedAt, Explains, Place, is_before, rising, Root, Bounds, Step}
+use Rattle.proof_order.specs.Vocabulary.{State, root_at, content_at, AreBounds, run, states_of, last_of, records_of, order_of, Record, record_of}
 use Rattle.proof_order.specs.Facts.{Facts}
-use Rattle.proof_order.specs.Beneath.machine_model.specs.Records.{order_of, Record, record_of}
 
 -- ---- the legal order
 

@@ -1,9 +1,6 @@
 -- Places and closings lie in the past.
 use Rattle.std.specs.Prelude.{◌<◌, List, All}
-use Rattle.proof_order.specs.Beneath.machine_model.specs.declared.steps.Bounds.{Bounds}
-use Rattle.proof_order.specs.Beneath.machine_model.specs.declared.steps.Step.{Step}
-use Rattle.proof_order.specs.Beneath.machine_model.specs.Machine.{run}
-use Rattle.proof_order.specs.Beneath.machine_model.specs.Records.{record_of}
+use Rattle.proof_order.specs.Vocabulary.{Bounds, Step, run, record_of}
 
 -- each place and each closing names a step that was taken
 abbrev pub PlacesPast : Type 0

@@ -1,32 +1,17 @@
 -- Each step leaves all main nodes and commits nothing, or it commits one fresh node, whose owner knows what it made.
 use Rattle.std.proofs.Common.{◌≡◌, ℕ, suc, ◌<◌, ◌≤◌, List, Option, Some, None, refl, sym, ◌∙◌, ap, subst, arith}
-use Rattle.proof_shape.specs.Beneath.history.specs.declared.calls.Access.{Access}
-use Rattle.proof_shape.specs.Beneath.history.specs.declared.calls.Access.TheVariants.{Writable, ReadOnly}
-use Rattle.proof_shape.specs.Beneath.slot_arena.specs.declared.refs.Ref.{Ref}
+use Rattle.proof_shape.specs.Vocabulary.{Access, Writable, ReadOnly, Ref, Purpose, Operation, ReadLine, Swap, Reply, Bounds, Outcome, Step, State, operation_of, action_of, run as run_steps}
+use Rattle.proof_shape.specs.Vocabulary.{node_under, Begins, Ends, Sweeps, Moves, GoesOn, IsRun, committed_now, told_in, Record, commits_after, noted}
 use Rattle.proof_shape.specs.Beneath.machine_model.specs.declared.actions.Action.TheVariants as act
 use Rattle.proof_shape.specs.Beneath.machine_model.specs.declared.lines.Line.TheVariants as line
-use Rattle.proof_shape.specs.Beneath.machine_model.specs.declared.lines.Purpose.{Purpose}
 use Rattle.proof_shape.specs.Beneath.machine_model.specs.declared.lines.Purpose.TheVariants as purpose
-use Rattle.proof_shape.specs.Beneath.machine_model.specs.declared.operations.Operation.{Operation}
-use Rattle.proof_shape.specs.Beneath.machine_model.specs.declared.reading.ReadLine.{ReadLine}
-use Rattle.proof_shape.specs.Beneath.machine_model.specs.declared.reading.Swap.{Swap}
 use Rattle.proof_shape.specs.Beneath.machine_model.specs.declared.reading.SwapLine.TheVariants as swap
-use Rattle.proof_shape.specs.Beneath.history.specs.declared.replies.Reply.{Reply}
 use Rattle.proof_shape.specs.Beneath.proof_commits.proofs.Known.Owners.{Owner}
 use Rattle.proof_shape.specs.Beneath.proof_commits.proofs.Lines.Swap.{RunsSwap}
-use Rattle.proof_shape.specs.Beneath.machine_model.specs.declared.steps.Bounds.{Bounds}
-use Rattle.proof_shape.specs.Beneath.machine_model.specs.declared.steps.Outcome.{Outcome}
-use Rattle.proof_shape.specs.Beneath.machine_model.specs.declared.steps.Step.{Step}
 use Rattle.proof_shape.specs.Beneath.machine_model.specs.declared.steps.Step.TheVariants as step
-use Rattle.proof_shape.specs.Beneath.machine_model.specs.States.{State, operation_of}
-use Rattle.proof_shape.specs.Beneath.machine_model.specs.Operations.{action_of}
-use Rattle.proof_shape.specs.Beneath.machine_model.specs.Machine.{run as run_steps}
-use Rattle.proof_shape.specs.Beneath.machine_model.specs.Grown.{node_under}
 use Rattle.proof_shape.specs.Beneath.machine_model.proofs.EachOperation.{of_running}
-use Rattle.proof_shape.specs.Beneath.machine_model.specs.Moves.{Begins, Goes, Ends, Sweeps}
-use Rattle.proof_shape.specs.Beneath.machine_model.specs.Moves.{Moves, GoesOn}
+use Rattle.proof_shape.specs.Beneath.machine_model.specs.Moves.{Goes}
 use Rattle.proof_shape.specs.Beneath.machine_model.proofs.Readers.{IsReaders, ReadsIfReadOnly, each_reads}
-use Rattle.proof_shape.specs.Beneath.machine_model.specs.Times.{IsRun}
 use Rattle.proof_shape.specs.Beneath.proof_commits.specs.Protocol.{CommitsNode, Protocol}
 use Rattle.proof_shape.specs.Beneath.proof_commits.proofs.Course.Changers.{changers_known}
 use Rattle.proof_shape.specs.Beneath.machine_model.proofs.Notes.{noted_ending, noted_going}
@@ -48,8 +33,6 @@ use Rattle.proof_shape.proofs.Commits.Deciders.{DecidesNode, decides_node}
 use Rattle.proof_shape.proofs.Commits.Owners.{over_another, owner_then, runs_then, alone_then, commits_then, main_before_then, main_after_then, others_then}
 use Rattle.proof_shape.proofs.Commits.Entered.{enters_owner}
 use Rattle.proof_shape.specs.Beneath.proof_commits.proofs.Known.Acts.{known_run}
-use Rattle.proof_shape.specs.Beneath.machine_model.specs.Tellings.{committed_now, told_in}
-use Rattle.proof_shape.specs.Beneath.machine_model.specs.Records.{Record, commits_after, noted}
 
 module _ (limits : Bounds) (states : ℕ → State) (last : ℕ) (run : IsRun limits states last) where
   abbrev p : Protocol

@@ -1,11 +1,7 @@
 -- The places that the commit of a node brings: its owner's alone, where it is the owner's own update.
 use Rattle.std.proofs.Common.{◌≡◌, ℕ, Some, ap}
-use Rattle.proof_shape.specs.Beneath.slot_arena.specs.declared.refs.Ref.{Ref}
-use Rattle.proof_shape.specs.Beneath.machine_model.specs.declared.lines.Purpose.{Purpose}
+use Rattle.proof_shape.specs.Vocabulary.{Ref, Purpose, Operation, Record, changer_of, entered, entered_by, changer_for}
 use Rattle.proof_shape.specs.Beneath.machine_model.specs.declared.lines.Purpose.TheVariants as purpose
-use Rattle.proof_shape.specs.Beneath.machine_model.specs.declared.operations.Operation.{Operation}
-use Rattle.proof_shape.specs.Beneath.machine_model.specs.Records.{Record, changer_of, entered, entered_by}
-use Rattle.proof_shape.specs.Beneath.machine_model.specs.Tellings.{changer_for}
 use Rattle.proof_shape.specs.Lines.Commits.{places_for}
 
 -- by whose change the node is said to be

@@ -2,14 +2,7 @@
 use Rattle.std.proofs.Common.{◌≡◌, ◌≢◌, ℕ, suc, ◌<◌, ◌⊎◌, ◌==◌, Bool, true, false, Option, Some, None, is_some, option_map, find, inl, inr, refl, sym, ◌∙◌, ap, arith}
 use Rattle.std.proofs.lemmas.Bool.{cases_eq, true≢false}
 use Rattle.std.proofs.lemmas.Option.{none-some}
-use Rattle.proof_shape.specs.Beneath.slot_arena.specs.declared.refs.Ref.{Ref}
-use Rattle.proof_shape.specs.Beneath.slot_arena.specs.declared.nodes.Slot.{Slot}
-use Rattle.proof_shape.specs.Beneath.slot_arena.specs.Heaps.{node_of}
-use Rattle.proof_shape.specs.Beneath.machine_model.specs.declared.records.Commit.{Commit}
-use Rattle.proof_shape.specs.Beneath.machine_model.specs.declared.steps.Bounds.{Bounds}
-use Rattle.proof_shape.specs.Beneath.machine_model.specs.States.{State}
-use Rattle.proof_shape.specs.Beneath.machine_model.specs.Grown.{grown, node_under, main_before}
-use Rattle.proof_shape.specs.Beneath.machine_model.specs.Times.{IsRun}
+use Rattle.proof_shape.specs.Vocabulary.{Ref, Slot, node_of, Commit, Bounds, State, grown, node_under, main_before, IsRun}
 use Rattle.proof_shape.specs.Beneath.proof_memory.proofs.Heap.Moves.{grown_stays}
 use Rattle.proof_shape.specs.Beneath.proof_commits.specs.Protocol.{CommitsNode, Protocol}
 use Rattle.proof_shape.specs.Beneath.proof_commits.proofs.Words.Stood.{stands_now, none≢pending}

@@ -1,9 +1,7 @@
 -- How a node comes to stand in a word: it was given, or it is one that was made and stood nowhere.
 use Rattle.std.proofs.Common.{◌≡◌, ℕ, suc, ◌<◌, ◌⊎◌, true, inl, inr, sym, ◌∙◌, ap, subst, arith}
 use Rattle.std.proofs.lemmas.Bool.{cases_eq}
-use Rattle.proof_shape.specs.Beneath.slot_arena.specs.declared.refs.Ref.{Ref}
-use Rattle.proof_shape.specs.Beneath.machine_model.specs.declared.reading.After.{After}
-use Rattle.proof_shape.specs.Beneath.machine_model.specs.declared.reading.ReadLine.{ReadLine}
+use Rattle.proof_shape.specs.Vocabulary.{Ref, After, ReadLine}
 use Rattle.proof_shape.specs.Beneath.proof_commits.specs.Protocol.{Words, Stage, Builds, ReadTurn, Given, MayName, Moves, Idles, MakesNode, SwapsNode, ReadsOn, DecidesOn, Turn, Acts, Passes, Protocol}
 use Rattle.proof_shape.specs.Beneath.proof_commits.proofs.Words.Stood.{Stood, Private, AreSound, stood_cases, stands_now}
 use Rattle.proof_shape.specs.Beneath.proof_commits.proofs.Words.Effects.{Brings, comes}

@@ -1,16 +1,8 @@
 -- What a READ gave, and what a SWAP was seen to commit, was once the main node.
 use Rattle.std.proofs.Common.{◌≡◌, ℕ, suc, ◌<◌, ◌≤◌, true, refl, sym, ◌∙◌, ap, subst, arith}
 use Rattle.std.proofs.lemmas.Bool.{true≢false}
-use Rattle.proof_shape.specs.Beneath.slot_arena.specs.declared.refs.Ref.{Ref}
-use Rattle.proof_shape.specs.Beneath.slot_arena.specs.declared.nodes.Node.{Node}
-use Rattle.proof_shape.specs.Beneath.slot_arena.specs.declared.nodes.Node.TheVariants.{Indirection, Branch, Single, Tomb, List as Listed}
+use Rattle.proof_shape.specs.Vocabulary.{Ref, Node, Indirection, Branch, Single, Tomb, List as Listed, logical, ReadLine, Bounds, State, grown, node_under, prev_word, main_before, IsRun}
 use Rattle.proof_shape.specs.Beneath.slot_arena.specs.declared.nodes.Prev.TheVariants as over
-use Rattle.proof_shape.specs.Beneath.slot_arena.specs.Heaps.{logical}
-use Rattle.proof_shape.specs.Beneath.machine_model.specs.declared.reading.ReadLine.{ReadLine}
-use Rattle.proof_shape.specs.Beneath.machine_model.specs.declared.steps.Bounds.{Bounds}
-use Rattle.proof_shape.specs.Beneath.machine_model.specs.States.{State}
-use Rattle.proof_shape.specs.Beneath.machine_model.specs.Grown.{grown, node_under, prev_word, main_before}
-use Rattle.proof_shape.specs.Beneath.machine_model.specs.Times.{IsRun}
 use Rattle.proof_shape.specs.Beneath.proof_commits.specs.Protocol.{Decides, Checks, Given, CommitsNode, counts_at, Protocol}
 use Rattle.proof_shape.specs.Beneath.proof_commits.proofs.Words.Stood.{Stood}
 use Rattle.proof_shape.specs.Beneath.proof_commits.proofs.Known.Owners.{Staged}

@@ -1,16 +1,10 @@
 -- What any line makes below the root is full.
 use Rattle.std.proofs.Common.{◌≡◌, ℕ, ◌+◌, ◌≤◌, true, List, length, set, ap, subst, length-set, lt-ltb, leb-true, arith}
-use Rattle.proof_shape.specs.Beneath.slot_arena.specs.declared.refs.Ref.{Ref}
-use Rattle.proof_shape.specs.Beneath.slot_arena.specs.Heaps.{node_at, entries_of, bitmap_of}
-use Rattle.proof_shape.specs.Beneath.machine_model.specs.declared.operations.Operation.{Operation}
-use Rattle.proof_shape.specs.Beneath.machine_model.specs.declared.reading.ReadLine.{ReadLine}
+use Rattle.proof_shape.specs.Vocabulary.{Ref, node_at, entries_of, bitmap_of, Operation, ReadLine, SwapLine, CompleteLine, Descriptor, RootLine, Line, State, above, depth_of, flag_in, hash_in}
+use Rattle.proof_shape.specs.Vocabulary.{is_below_root, read_action, action_at, complete_action_at, root_action, old_hash, place_in, line_action}
 use Rattle.proof_shape.specs.Beneath.machine_model.specs.declared.reading.ReadLine.TheVariants as read
-use Rattle.proof_shape.specs.Beneath.machine_model.specs.declared.reading.SwapLine.{SwapLine}
 use Rattle.proof_shape.specs.Beneath.machine_model.specs.declared.reading.SwapLine.TheVariants as swap
-use Rattle.proof_shape.specs.Beneath.machine_model.specs.declared.roots.CompleteLine.{CompleteLine}
 use Rattle.proof_shape.specs.Beneath.machine_model.specs.declared.roots.CompleteLine.TheVariants as complete
-use Rattle.proof_shape.specs.Beneath.machine_model.specs.declared.roots.Descriptor.{Descriptor}
-use Rattle.proof_shape.specs.Beneath.machine_model.specs.declared.roots.RootLine.{RootLine}
 use Rattle.proof_shape.specs.Beneath.machine_model.specs.declared.roots.RootLine.TheVariants as root
 use Rattle.proof_shape.specs.Beneath.machine_model.specs.declared.building.BuildLine.TheVariants as build
 use Rattle.proof_shape.specs.Beneath.machine_model.specs.declared.finding.KeyLine.TheVariants as key
@@ -19,15 +13,7 @@ use Rattle.proof_shape.specs.Beneath.machine_model.specs.declared.repairs.CleanL
 use Rattle.proof_shape.specs.Beneath.machine_model.specs.declared.repairs.ClimbLine.TheVariants as climb
 use Rattle.proof_shape.specs.Beneath.machine_model.specs.declared.copying.CopyLine.TheVariants as copy
 use Rattle.proof_shape.specs.Beneath.machine_model.specs.declared.walking.WalkLine.TheVariants as walk
-use Rattle.proof_shape.specs.Beneath.machine_model.specs.declared.lines.Line.{Line}
 use Rattle.proof_shape.specs.Beneath.machine_model.specs.declared.lines.Line.TheVariants as line
-use Rattle.proof_shape.specs.Beneath.machine_model.specs.States.{State}
-use Rattle.proof_shape.specs.Beneath.machine_model.specs.Paths.{above, depth_of, flag_in, hash_in, is_below_root}
-use Rattle.proof_shape.specs.Beneath.machine_model.specs.Reading.{read_action}
-use Rattle.proof_shape.specs.Beneath.machine_model.specs.Swapping.{action_at, complete_action_at, root_action}
-use Rattle.proof_shape.specs.Beneath.machine_model.specs.Building.{old_hash}
-use Rattle.proof_shape.specs.Beneath.machine_model.specs.Climbing.{place_in}
-use Rattle.proof_shape.specs.Beneath.machine_model.specs.Operations.{line_action}
 use Rattle.proof_shape.specs.Beneath.proof_memory.specs.Wants.{AllHold, line_wants, is_indirection, ABranch, meets}
 use Rattle.proof_shape.specs.Beneath.proof_memory.proofs.Claims.Uses.{safe_of, meets_of, all_of}
 use Rattle.proof_shape.specs.Beneath.proof_memory.specs.Levels.{LineLevel, made_level}

@@ -5,29 +5,14 @@ use Rattle.std.proofs.Common.{ap₂, subst, ◌∙◌, inl, inr, eq-eqb, arith}
 use Rattle.std.proofs.lemmas.Bool.{cases_lt, false≢true, cond_both}
 use Rattle.std.proofs.lemmas.List.{get_or_append_left, get_or_push, length-append}
 use Rattle.arrayvec.specs.ArrayVec.{ArrayVec}
-use Rattle.proof_shape.specs.Beneath.history.specs.declared.calls.Call.{Call}
-use Rattle.proof_shape.specs.Beneath.slot_arena.specs.declared.refs.Ref.{Ref}
-use Rattle.proof_shape.specs.Beneath.slot_arena.specs.declared.nodes.Node.{Node}
-use Rattle.proof_shape.specs.Beneath.slot_arena.specs.declared.nodes.Node.TheVariants.{Indirection, Branch, Single, List as Listed}
-use Rattle.proof_shape.specs.Beneath.slot_arena.specs.Heaps.{node_at, entry_at, entries_of, next_ref, no_ref}
+use Rattle.proof_shape.specs.Vocabulary.{Call, Ref, Node, Indirection, Branch, Single, List as Listed, node_at, entry_at, entries_of, next_ref, no_ref, WhenFound, Answers, Sets, Removes, Line}
+use Rattle.proof_shape.specs.Vocabulary.{Operation, After, Gives, Read, RenewLine, key_of, inserts, when_found, is_below_root, is_start, State, absent, removing, found_so, is_passable}
+use Rattle.proof_shape.specs.Vocabulary.{key_after_entry, after_listed, after_sibling, renew_next, next_entry, renew_after_entry, renew_after_read, renew_after_link, renew_after_branch, first_line}
 use Rattle.proof_shape.specs.Beneath.machine_model.specs.declared.building.BuildLine.TheVariants as build
 use Rattle.proof_shape.specs.Beneath.machine_model.specs.declared.building.Change.TheVariants as change
-use Rattle.proof_shape.specs.Beneath.machine_model.specs.declared.finding.WhenFound.{WhenFound}
-use Rattle.proof_shape.specs.Beneath.machine_model.specs.declared.finding.WhenFound.TheVariants.{Answers, Sets, Removes}
-use Rattle.proof_shape.specs.Beneath.machine_model.specs.declared.lines.Line.{Line}
 use Rattle.proof_shape.specs.Beneath.machine_model.specs.declared.lines.Line.TheVariants as line
-use Rattle.proof_shape.specs.Beneath.machine_model.specs.declared.operations.Operation.{Operation}
-use Rattle.proof_shape.specs.Beneath.machine_model.specs.declared.reading.After.{After}
-use Rattle.proof_shape.specs.Beneath.machine_model.specs.declared.reading.After.TheVariants.{Goes, Gives}
-use Rattle.proof_shape.specs.Beneath.machine_model.specs.declared.reading.Read.{Read}
-use Rattle.proof_shape.specs.Beneath.machine_model.specs.declared.repairs.RenewLine.{RenewLine}
+use Rattle.proof_shape.specs.Beneath.machine_model.specs.declared.reading.After.TheVariants.{Goes}
 use Rattle.proof_shape.specs.Beneath.machine_model.specs.declared.repairs.RenewLine.TheVariants as renew
-use Rattle.proof_shape.specs.Beneath.machine_model.specs.Calls.{key_of, inserts, when_found}
-use Rattle.proof_shape.specs.Beneath.machine_model.specs.Paths.{is_below_root, is_start}
-use Rattle.proof_shape.specs.Beneath.machine_model.specs.States.{State}
-use Rattle.proof_shape.specs.Beneath.machine_model.specs.Finding.{absent, removing, found_so, is_passable, key_after_entry, after_listed, after_sibling}
-use Rattle.proof_shape.specs.Beneath.machine_model.specs.Renewing.{renew_next, next_entry, renew_after_entry, renew_after_read, renew_after_link, renew_after_branch}
-use Rattle.proof_shape.specs.Beneath.machine_model.specs.Operations.{first_line}
 use Rattle.proof_shape.specs.Beneath.proof_memory.specs.Wants.{is_indirection}
 use Rattle.proof_shape.specs.Sites.Lines.{Sites, bare}
 use Rattle.proof_shape.proofs.Lines.Leads.{keeps_entries, first_leads}

@@ -1,11 +1,7 @@
 -- Lists of entries with two or more, or an indirection alone; what builders do to them.
 use Rattle.std.proofs.Common.{◌≡◌, ℕ, zero, suc, ◌-◌, ◌<◌, ◌≤◌, true, nat_lt, List, [], ◌∷◌, length, take, get_or, set, insert, remove, refl, sym, ap, subst, ◌∙◌, arith}
 use Rattle.std.proofs.lemmas.Bool.{false≢true, cond_both}
-use Rattle.proof_shape.specs.Beneath.slot_arena.specs.declared.refs.Ref.{Ref}
-use Rattle.proof_shape.specs.Beneath.slot_arena.specs.declared.nodes.Node.{Node}
-use Rattle.proof_shape.specs.Beneath.slot_arena.specs.declared.nodes.Node.TheVariants.{Single}
-use Rattle.proof_shape.specs.Beneath.slot_arena.specs.Heaps.{no_ref}
-use Rattle.proof_shape.specs.Beneath.nodes.specs.Builders.{by_index}
+use Rattle.proof_shape.specs.Vocabulary.{Ref, Node, Single, no_ref, by_index}
 use Rattle.proof_shape.specs.Beneath.proof_memory.specs.Wants.{is_indirection}
 
 module _ (node : Ref → Node) where

@@ -3,23 +3,10 @@ use Rattle.std.proofs.Common.{◌≡◌, ℕ, ◌+◌, ◌≤◌, ◌==◌, ◌&
 use Rattle.std.proofs.lemmas.Bool.{false≢true, cond_both}
 use Rattle.std.proofs.lemmas.List.Elements.{All-head}
 use Rattle.arrayvec.specs.ArrayVec.{ArrayVec}
-use Rattle.proof_shape.specs.Beneath.ctrie_base.specs.declared.hashes.HashKind.{HashKind}
-use Rattle.proof_shape.specs.Beneath.history.specs.declared.calls.Call.{Call}
-use Rattle.proof_shape.specs.Beneath.slot_arena.specs.declared.refs.Ref.{Ref}
-use Rattle.proof_shape.specs.Beneath.slot_arena.specs.declared.nodes.Node.{Node}
-use Rattle.proof_shape.specs.Beneath.slot_arena.specs.declared.nodes.Node.TheVariants.{Indirection, Branch, Single, Tomb, List as Listed}
-use Rattle.proof_shape.specs.Beneath.slot_arena.specs.Heaps.{node_at, entries_of, bitmap_of, no_ref}
-use Rattle.proof_shape.specs.Beneath.nodes.specs.Levels.{list_depth, index_in}
-use Rattle.proof_shape.specs.Beneath.nodes.specs.Builders.{pair, contracted, renewed}
-use Rattle.proof_shape.specs.Beneath.machine_model.specs.declared.actions.Action.{Action}
+use Rattle.proof_shape.specs.Vocabulary.{HashKind, Call, Ref, Node, Indirection, Branch, Single, Tomb, List as Listed, node_at, entries_of, bitmap_of, no_ref, list_depth, index_in, pair, contracted}
+use Rattle.proof_shape.specs.Vocabulary.{renewed, Action, Change, key_of, State, depth_of, is_below_root, changed, is_single, leaves_single, cleaned}
 use Rattle.proof_shape.specs.Beneath.machine_model.specs.declared.actions.Action.TheVariants as act
-use Rattle.proof_shape.specs.Beneath.machine_model.specs.declared.building.Change.{Change}
 use Rattle.proof_shape.specs.Beneath.machine_model.specs.declared.building.Change.TheVariants as change
-use Rattle.proof_shape.specs.Beneath.machine_model.specs.Calls.{key_of}
-use Rattle.proof_shape.specs.Beneath.machine_model.specs.States.{State}
-use Rattle.proof_shape.specs.Beneath.machine_model.specs.Paths.{depth_of, is_below_root}
-use Rattle.proof_shape.specs.Beneath.machine_model.specs.Building.{changed}
-use Rattle.proof_shape.specs.Beneath.machine_model.specs.Cleaning.{is_single, leaves_single, cleaned}
 use Rattle.proof_shape.specs.Beneath.proof_memory.specs.Wants.{ABranch, AnEntry, meets, is_indirection}
 use Rattle.proof_shape.specs.Beneath.proof_memory.proofs.Claims.Uses.{Meets}
 use Rattle.proof_shape.specs.Beneath.proof_contents.specs.Lines.Changes.{Presence, in_branch, in_list, KnowsChange}

@@ -1,29 +1,13 @@
 -- At each time of a run each line holds what its operation made: nobody else can come to read it.
 use Rattle.std.proofs.Common.{◌≡◌, ℕ, suc, ◌-◌, ◌<◌, ◌≤◌, ◌⊎◌, Bool, true, false, cond, List, [], Option, Some, None, refl, sym, ◌∙◌, ap, subst, arith}
-use Rattle.proof_shape.specs.Beneath.history.specs.declared.calls.Call.{Call}
-use Rattle.proof_shape.specs.Beneath.slot_arena.specs.declared.refs.Ref.{Ref}
-use Rattle.proof_shape.specs.Beneath.slot_arena.specs.declared.nodes.Node.{Node}
-use Rattle.proof_shape.specs.Beneath.slot_arena.specs.declared.nodes.Node.TheVariants.{Indirection, Branch, Single, Tomb, List as Listed}
-use Rattle.proof_shape.specs.Beneath.slot_arena.specs.Heaps.{node_at, entry_at}
+use Rattle.proof_shape.specs.Vocabulary.{Call, Ref, Node, Indirection, Branch, Single, Tomb, List as Listed, node_at, entry_at, KeyLine, Line, Purpose, Operation, After, Gives, Swap, SwapLine}
+use Rattle.proof_shape.specs.Vocabulary.{Bounds, State, operation_of, on_line, going_down, is_passable, key_after, key_after_entry, renew_next, line_action, line_after, generation_from, IsRun}
 use Rattle.proof_shape.specs.Beneath.machine_model.specs.declared.building.BuildLine.TheVariants as build
-use Rattle.proof_shape.specs.Beneath.machine_model.specs.declared.finding.KeyLine.{KeyLine}
 use Rattle.proof_shape.specs.Beneath.machine_model.specs.declared.finding.KeyLine.TheVariants as key
-use Rattle.proof_shape.specs.Beneath.machine_model.specs.declared.lines.Line.{Line}
 use Rattle.proof_shape.specs.Beneath.machine_model.specs.declared.lines.Line.TheVariants as line
-use Rattle.proof_shape.specs.Beneath.machine_model.specs.declared.lines.Purpose.{Purpose}
 use Rattle.proof_shape.specs.Beneath.machine_model.specs.declared.lines.Purpose.TheVariants as purpose
-use Rattle.proof_shape.specs.Beneath.machine_model.specs.declared.operations.Operation.{Operation}
-use Rattle.proof_shape.specs.Beneath.machine_model.specs.declared.reading.After.{After}
-use Rattle.proof_shape.specs.Beneath.machine_model.specs.declared.reading.After.TheVariants.{Goes, Gives}
-use Rattle.proof_shape.specs.Beneath.machine_model.specs.declared.reading.Swap.{Swap}
-use Rattle.proof_shape.specs.Beneath.machine_model.specs.declared.reading.SwapLine.{SwapLine}
-use Rattle.proof_shape.specs.Beneath.machine_model.specs.declared.steps.Bounds.{Bounds}
-use Rattle.proof_shape.specs.Beneath.machine_model.specs.States.{State, operation_of}
-use Rattle.proof_shape.specs.Beneath.machine_model.specs.Swapping.{on_line}
-use Rattle.proof_shape.specs.Beneath.machine_model.specs.Finding.{going_down, is_passable, key_after, key_after_entry}
-use Rattle.proof_shape.specs.Beneath.machine_model.specs.Renewing.{renew_next}
-use Rattle.proof_shape.specs.Beneath.machine_model.specs.Operations.{line_action, after_swap, line_after, generation_from}
-use Rattle.proof_shape.specs.Beneath.machine_model.specs.Times.{IsRun}
+use Rattle.proof_shape.specs.Beneath.machine_model.specs.declared.reading.After.TheVariants.{Goes}
+use Rattle.proof_shape.specs.Beneath.machine_model.specs.Operations.{after_swap}
 use Rattle.proof_shape.specs.Beneath.proof_commits.specs.Protocol.{Protocol}
 use Rattle.proof_shape.specs.Beneath.proof_commits.proofs.Words.Stood.{Private}
 use Rattle.proof_shape.specs.Beneath.proof_commits.proofs.Known.Owners.{Staged}

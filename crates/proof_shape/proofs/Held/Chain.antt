@@ -1,30 +1,13 @@
 -- What a step of BUILD makes of the indirections that its line holds: the chain beside another key's single grows.
 use Rattle.std.proofs.Common.{◌≡◌, ℕ, suc, ◌+◌, ◌-◌, ◌<◌, ◌==◌, Bool, true, false, cond, List, Contains, Option, Some, None, refl, sym, ◌∙◌, ap, ap₂, subst, arith}
-use Rattle.proof_shape.specs.Beneath.slot_arena.specs.declared.refs.Ref.{Ref}
-use Rattle.proof_shape.specs.Beneath.slot_arena.specs.declared.nodes.Node.{Node}
-use Rattle.proof_shape.specs.Beneath.slot_arena.specs.declared.nodes.Node.TheVariants.{Indirection}
-use Rattle.proof_shape.specs.Beneath.slot_arena.specs.Heaps.{Heap, node_at, entry_at, entries_of, next_ref}
-use Rattle.proof_shape.specs.Beneath.ctrie_base.specs.Hashes.{hash_of}
-use Rattle.proof_shape.specs.Beneath.nodes.specs.Levels.{flag_of}
+use Rattle.proof_shape.specs.Vocabulary.{Ref, Node, Indirection, Heap, node_at, entry_at, entries_of, next_ref, hash_of, flag_of, rung, BuildLine, Change, Line, Operation, Bounds, State, key_of}
+use Rattle.proof_shape.specs.Vocabulary.{depth_of, start_of, flag_in, hash_in, changed, old_hash, build_after, build_if_made, line_action, action_of, line_after, node_under, IsRun}
 use Rattle.proof_shape.specs.Beneath.proof_memory.proofs.Safety.AtTimes.{limits_at}
-use Rattle.proof_shape.specs.Beneath.nodes.specs.Builders.{rung}
 use Rattle.proof_shape.specs.Beneath.machine_model.specs.declared.actions.Action.TheVariants as act
-use Rattle.proof_shape.specs.Beneath.machine_model.specs.declared.building.BuildLine.{BuildLine}
 use Rattle.proof_shape.specs.Beneath.machine_model.specs.declared.building.BuildLine.TheVariants as build
-use Rattle.proof_shape.specs.Beneath.machine_model.specs.declared.building.Change.{Change}
 use Rattle.proof_shape.specs.Beneath.machine_model.specs.declared.building.Change.TheVariants as change
 use Rattle.proof_shape.specs.Beneath.machine_model.specs.declared.building.Site.TheVariants as site
-use Rattle.proof_shape.specs.Beneath.machine_model.specs.declared.lines.Line.{Line}
 use Rattle.proof_shape.specs.Beneath.machine_model.specs.declared.lines.Line.TheVariants as line
-use Rattle.proof_shape.specs.Beneath.machine_model.specs.declared.operations.Operation.{Operation}
-use Rattle.proof_shape.specs.Beneath.machine_model.specs.declared.steps.Bounds.{Bounds}
-use Rattle.proof_shape.specs.Beneath.machine_model.specs.States.{State}
-use Rattle.proof_shape.specs.Beneath.machine_model.specs.Calls.{key_of}
-use Rattle.proof_shape.specs.Beneath.machine_model.specs.Paths.{depth_of, start_of, flag_in, hash_in}
-use Rattle.proof_shape.specs.Beneath.machine_model.specs.Building.{changed, old_hash, build_after, build_if_made}
-use Rattle.proof_shape.specs.Beneath.machine_model.specs.Operations.{line_action, action_of, line_after}
-use Rattle.proof_shape.specs.Beneath.machine_model.specs.Grown.{node_under}
-use Rattle.proof_shape.specs.Beneath.machine_model.specs.Times.{IsRun}
 use Rattle.proof_shape.specs.Beneath.proof_memory.specs.Wants.{BranchOrList}
 use Rattle.proof_shape.specs.Beneath.proof_memory.proofs.Claims.Uses.{meets_of}
 use Rattle.proof_shape.specs.Beneath.proof_memory.specs.Levels.{LineLevel}

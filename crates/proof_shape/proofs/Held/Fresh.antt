@@ -1,18 +1,9 @@
 -- Indirections that an operation has made, and that nobody else can come to read: none names them but what the operation made of them.
 use Rattle.std.proofs.Common.{◌≡◌, ℕ, suc, ◌<◌, ◌≤◌, ◌⊎◌, Bool, true, false, Contains, Option, Some, None, is_some, inl, inr, refl, sym, ◌∙◌, ap, subst, arith}
 use Rattle.std.proofs.lemmas.Bool.{true≢false}
-use Rattle.proof_shape.specs.Beneath.slot_arena.specs.declared.refs.Ref.{Ref}
-use Rattle.proof_shape.specs.Beneath.slot_arena.specs.declared.nodes.Node.TheVariants.{Indirection}
+use Rattle.proof_shape.specs.Vocabulary.{Ref, Indirection, entries_of, no_ref, rung, Root, RootWord, Plain, Offer, Bounds, State, root_at, word_at, word_of, root_of, grown, node_under, prev_word}
+use Rattle.proof_shape.specs.Vocabulary.{IsRun}
 use Rattle.proof_shape.specs.Beneath.slot_arena.specs.declared.nodes.Prev.TheVariants as over
-use Rattle.proof_shape.specs.Beneath.slot_arena.specs.Heaps.{entries_of, no_ref}
-use Rattle.proof_shape.specs.Beneath.nodes.specs.Builders.{rung}
-use Rattle.proof_shape.specs.Beneath.machine_model.specs.declared.roots.Root.{Root}
-use Rattle.proof_shape.specs.Beneath.machine_model.specs.declared.roots.RootWord.{RootWord}
-use Rattle.proof_shape.specs.Beneath.machine_model.specs.declared.roots.RootWord.TheVariants.{Plain, Offer}
-use Rattle.proof_shape.specs.Beneath.machine_model.specs.declared.steps.Bounds.{Bounds}
-use Rattle.proof_shape.specs.Beneath.machine_model.specs.States.{State, root_at, word_at, word_of, root_of}
-use Rattle.proof_shape.specs.Beneath.machine_model.specs.Grown.{grown, node_under, prev_word}
-use Rattle.proof_shape.specs.Beneath.machine_model.specs.Times.{IsRun}
 use Rattle.proof_shape.specs.Beneath.proof_memory.specs.Levels.{WordLevel}
 use Rattle.proof_shape.specs.Beneath.proof_commits.specs.Protocol.{Words, Given, Protocol}
 use Rattle.proof_shape.specs.Beneath.proof_commits.proofs.Words.Stood.{Stood, stood_later}

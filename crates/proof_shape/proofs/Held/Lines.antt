@@ -1,28 +1,14 @@
 -- The indirections that a line's operation made, and that nobody else can come to read; and that others' steps leave them so.
 use Rattle.std.proofs.Common.{◌≡◌, ◌≢◌, ℕ, suc, ◌<◌, ◌⊎◌, Bool, List, length, slice_index_or, Option, None, inl, inr, arith}
 use Rattle.arrayvec.specs.ArrayVec.{ArrayVec}
-use Rattle.proof_shape.specs.Beneath.history.specs.declared.calls.Call.{Call}
-use Rattle.proof_shape.specs.Beneath.slot_arena.specs.declared.refs.Ref.{Ref}
-use Rattle.proof_shape.specs.Beneath.slot_arena.specs.declared.nodes.Node.{Node}
-use Rattle.proof_shape.specs.Beneath.slot_arena.specs.declared.nodes.Node.TheVariants.{Indirection, Branch, Single, Tomb}
-use Rattle.proof_shape.specs.Beneath.slot_arena.specs.Heaps.{entries_of, no_ref}
-use Rattle.proof_shape.specs.Beneath.nodes.specs.Builders.{rung, contracted}
-use Rattle.proof_shape.specs.Beneath.machine_model.specs.declared.building.BuildLine.{BuildLine}
+use Rattle.proof_shape.specs.Vocabulary.{Call, Ref, Node, Indirection, Branch, Single, Tomb, entries_of, no_ref, rung, contracted, BuildLine, Change, Line, CleanLine, RenewLine, Bounds, State}
+use Rattle.proof_shape.specs.Vocabulary.{depth_of, node_under, IsRun}
 use Rattle.proof_shape.specs.Beneath.machine_model.specs.declared.building.BuildLine.TheVariants as build
-use Rattle.proof_shape.specs.Beneath.machine_model.specs.declared.building.Change.{Change}
 use Rattle.proof_shape.specs.Beneath.machine_model.specs.declared.building.Change.TheVariants as change
-use Rattle.proof_shape.specs.Beneath.machine_model.specs.declared.lines.Line.{Line}
 use Rattle.proof_shape.specs.Beneath.machine_model.specs.declared.lines.Line.TheVariants as line
 use Rattle.proof_shape.specs.Beneath.machine_model.specs.declared.lines.Purpose.TheVariants as purpose
-use Rattle.proof_shape.specs.Beneath.machine_model.specs.declared.repairs.CleanLine.{CleanLine}
 use Rattle.proof_shape.specs.Beneath.machine_model.specs.declared.repairs.CleanLine.TheVariants as clean
-use Rattle.proof_shape.specs.Beneath.machine_model.specs.declared.repairs.RenewLine.{RenewLine}
 use Rattle.proof_shape.specs.Beneath.machine_model.specs.declared.repairs.RenewLine.TheVariants as renew
-use Rattle.proof_shape.specs.Beneath.machine_model.specs.declared.steps.Bounds.{Bounds}
-use Rattle.proof_shape.specs.Beneath.machine_model.specs.States.{State}
-use Rattle.proof_shape.specs.Beneath.machine_model.specs.Paths.{depth_of}
-use Rattle.proof_shape.specs.Beneath.machine_model.specs.Grown.{node_under}
-use Rattle.proof_shape.specs.Beneath.machine_model.specs.Times.{IsRun}
 use Rattle.proof_shape.specs.Beneath.proof_contents.specs.Lines.Changes.{KnowsSwap}
 use Rattle.proof_shape.specs.Lines.Given.{GaveBelow}
 use Rattle.proof_shape.specs.Lines.Knowing.{known_with, first_main}

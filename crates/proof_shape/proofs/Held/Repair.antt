@@ -2,29 +2,14 @@
 use Rattle.std.proofs.Common.{◌≡◌, ℕ, suc, ◌<◌, ◌&&◌, true, List, ◌∷◌, ◌++◌, Option, Some, None, refl, sym, ◌∙◌}
 use Rattle.std.proofs.Common.{ap, subst, arith, [], ◌+◌, ◌≤◌, nat_lt, Bool, false, cond, length, Contains, inl, inr, length-append}
 use Rattle.std.proofs.lemmas.Bool.{true≢false}
-use Rattle.proof_shape.specs.Beneath.slot_arena.specs.declared.refs.Ref.{Ref}
-use Rattle.proof_shape.specs.Beneath.slot_arena.specs.declared.nodes.Node.{Node}
-use Rattle.proof_shape.specs.Beneath.slot_arena.specs.declared.nodes.Node.TheVariants.{Indirection, Branch, Single, Tomb, List as Listed}
-use Rattle.proof_shape.specs.Beneath.slot_arena.specs.Heaps.{Heap, node_at, bitmap_of, next_ref, entries_of, no_ref}
-use Rattle.proof_shape.specs.Beneath.nodes.specs.Builders.{contracted, renewed as renewed_node}
-use Rattle.proof_shape.specs.Beneath.machine_model.specs.declared.lines.Line.{Line}
+use Rattle.proof_shape.specs.Vocabulary.{Ref, Node, Indirection, Branch, Single, Tomb, List as Listed, Heap, node_at, bitmap_of, next_ref, entries_of, no_ref, contracted, renewed as renewed_node}
+use Rattle.proof_shape.specs.Vocabulary.{Line, Operation, After, Gives, Read, CleanLine, Bounds, State, is_below_root, depth_of, is_start, start_of, read_step, reading, next_entry, renew_next}
+use Rattle.proof_shape.specs.Vocabulary.{branch_of, renew_after, renew_after_entry, renew_after_read, renew_after_link, renew_after_branch, cleaned, leaves_single, clean_after, clean_next}
+use Rattle.proof_shape.specs.Vocabulary.{clean_after_read, clean_after_main, clean_after_entry, after_child, clean_after_tomb, clean_after_contracted, line_action, action_of, line_after, node_under}
+use Rattle.proof_shape.specs.Vocabulary.{IsRun, RenewLine, operation_after, Slot}
 use Rattle.proof_shape.specs.Beneath.machine_model.specs.declared.lines.Line.TheVariants as line
-use Rattle.proof_shape.specs.Beneath.machine_model.specs.declared.operations.Operation.{Operation}
-use Rattle.proof_shape.specs.Beneath.machine_model.specs.declared.reading.After.{After}
-use Rattle.proof_shape.specs.Beneath.machine_model.specs.declared.reading.After.TheVariants.{Goes, Gives}
-use Rattle.proof_shape.specs.Beneath.machine_model.specs.declared.reading.Read.{Read}
-use Rattle.proof_shape.specs.Beneath.machine_model.specs.declared.repairs.CleanLine.{CleanLine}
+use Rattle.proof_shape.specs.Beneath.machine_model.specs.declared.reading.After.TheVariants.{Goes}
 use Rattle.proof_shape.specs.Beneath.machine_model.specs.declared.repairs.CleanLine.TheVariants as clean
-use Rattle.proof_shape.specs.Beneath.machine_model.specs.declared.steps.Bounds.{Bounds}
-use Rattle.proof_shape.specs.Beneath.machine_model.specs.States.{State}
-use Rattle.proof_shape.specs.Beneath.machine_model.specs.Paths.{is_below_root, depth_of, is_start, start_of}
-use Rattle.proof_shape.specs.Beneath.machine_model.specs.Reading.{read_step, reading}
-use Rattle.proof_shape.specs.Beneath.machine_model.specs.Renewing.{next_entry, renew_next, branch_of, renew_after, renew_after_entry, renew_after_read, renew_after_link, renew_after_branch}
-use Rattle.proof_shape.specs.Beneath.machine_model.specs.Cleaning.{cleaned, leaves_single, clean_after, clean_next, clean_after_read}
-use Rattle.proof_shape.specs.Beneath.machine_model.specs.Cleaning.{clean_after_main, clean_after_entry, after_child, clean_after_tomb, clean_after_contracted}
-use Rattle.proof_shape.specs.Beneath.machine_model.specs.Operations.{line_action, action_of, line_after}
-use Rattle.proof_shape.specs.Beneath.machine_model.specs.Grown.{node_under}
-use Rattle.proof_shape.specs.Beneath.machine_model.specs.Times.{IsRun}
 use Rattle.proof_shape.specs.Beneath.proof_memory.specs.Laws.{IsInUse}
 use Rattle.proof_shape.specs.Beneath.proof_memory.specs.Wants.{ASingle, meets, AllHold, node_wants, AnEntry, Holds, Each, line_wants}
 use Rattle.proof_shape.specs.Beneath.proof_memory.proofs.Claims.Uses.{safe_of, meets_of, all_of}
@@ -42,13 +27,10 @@ use Rattle.proof_shape.proofs.Held.Lines.{single, HeldClean, HeldIn, anew, HeldR
 use Rattle.proof_shape.proofs.Held.Entries.{AreCome, none_came, one_more, with_next, clean_next_holds, quiet_all, fresh_repair, repairs, branch_there, renew_next_holds}
 use Rattle.std.proofs.Math.Seq.{get_or-append_seam}
 use Rattle.proof_shape.specs.Beneath.machine_model.specs.declared.actions.Action.TheVariants as act
-use Rattle.proof_shape.specs.Beneath.machine_model.specs.declared.repairs.RenewLine.{RenewLine}
 use Rattle.proof_shape.specs.Beneath.machine_model.specs.declared.repairs.RenewLine.TheVariants as renew
 use Rattle.proof_shape.specs.Beneath.proof_memory.specs.Levels.{LineLevel, DoneLevel, EntryLevel, KindLevel}
 use Rattle.proof_shape.proofs.Runs.Began.{RunsAfter, runs_after}
 use Rattle.proof_shape.specs.Beneath.proof_memory.proofs.Safety.AtTimes.{line_at}
-use Rattle.proof_shape.specs.Beneath.machine_model.specs.Acting.{operation_after}
-use Rattle.proof_shape.specs.Beneath.slot_arena.specs.declared.nodes.Slot.{Slot}
 use Rattle.std.proofs.lemmas.Option.{same_Some}
 use Rattle.proof_shape.proofs.Runs.Levels.{level, levels_along}
 use Rattle.proof_shape.proofs.Lines.Repair.{renewed_no_link}

@@ -2,27 +2,14 @@
 use Rattle.std.proofs.Common.{◌≡◌, ℕ, ◌<◌, ◌≤◌, nat_lt, Bool, true, false, List, length, slice_index_or, Option, Some, None, inl, refl, sym, ◌∙◌, ap, subst, arith, ltb-true, ltb-false}
 use Rattle.std.specs.Prelude.{All}
 use Rattle.std.proofs.lemmas.List.{get_or_past}
-use Rattle.proof_shape.specs.Beneath.slot_arena.specs.declared.refs.Ref.{Ref}
-use Rattle.proof_shape.specs.Beneath.slot_arena.specs.declared.nodes.Node.{Node}
-use Rattle.proof_shape.specs.Beneath.slot_arena.specs.declared.nodes.Node.TheVariants.{Indirection, Single}
+use Rattle.proof_shape.specs.Vocabulary.{Ref, Node, Indirection, Single, Heap, node_at, node_of, entry_at, entries_of, next_ref, no_ref, list_depth, rung, BuildLine, Operation, Bounds, State}
+use Rattle.proof_shape.specs.Vocabulary.{key_of, value_of, depth_of, flag_in, hash_in, start_of, changed, old_hash, build_action, build_after, build_if_made, build_after_made, action_of}
+use Rattle.proof_shape.specs.Vocabulary.{line_action, grown, node_under, prev_word, IsRun}
 use Rattle.proof_shape.specs.Beneath.slot_arena.specs.declared.nodes.Prev.TheVariants as over
-use Rattle.proof_shape.specs.Beneath.slot_arena.specs.Heaps.{Heap, node_at, node_of, entry_at, entries_of, next_ref, no_ref}
-use Rattle.proof_shape.specs.Beneath.nodes.specs.Levels.{list_depth}
-use Rattle.proof_shape.specs.Beneath.nodes.specs.Builders.{rung}
 use Rattle.proof_shape.specs.Beneath.machine_model.specs.declared.actions.Action.TheVariants as act
-use Rattle.proof_shape.specs.Beneath.machine_model.specs.declared.building.BuildLine.{BuildLine}
 use Rattle.proof_shape.specs.Beneath.machine_model.specs.declared.building.BuildLine.TheVariants as build
 use Rattle.proof_shape.specs.Beneath.machine_model.specs.declared.building.Site.TheVariants as site
 use Rattle.proof_shape.specs.Beneath.machine_model.specs.declared.lines.Line.TheVariants as line
-use Rattle.proof_shape.specs.Beneath.machine_model.specs.declared.operations.Operation.{Operation}
-use Rattle.proof_shape.specs.Beneath.machine_model.specs.declared.steps.Bounds.{Bounds}
-use Rattle.proof_shape.specs.Beneath.machine_model.specs.States.{State}
-use Rattle.proof_shape.specs.Beneath.machine_model.specs.Calls.{key_of, value_of}
-use Rattle.proof_shape.specs.Beneath.machine_model.specs.Paths.{depth_of, flag_in, hash_in, start_of}
-use Rattle.proof_shape.specs.Beneath.machine_model.specs.Building.{changed, old_hash, build_action, build_after, build_if_made, build_after_made}
-use Rattle.proof_shape.specs.Beneath.machine_model.specs.Operations.{action_of, line_action}
-use Rattle.proof_shape.specs.Beneath.machine_model.specs.Grown.{grown, node_under, prev_word}
-use Rattle.proof_shape.specs.Beneath.machine_model.specs.Times.{IsRun}
 use Rattle.proof_shape.specs.Beneath.proof_memory.specs.Laws.{IsInUse}
 use Rattle.proof_shape.specs.Beneath.proof_memory.specs.Wants.{ABranch, BranchOrList, AnEntry, Holds, Is}
 use Rattle.proof_shape.specs.Beneath.proof_memory.proofs.Claims.Uses.{Meets, safe_of, meets_of}

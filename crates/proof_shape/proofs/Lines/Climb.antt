@@ -3,35 +3,13 @@ use Rattle.std.proofs.Common.{◌≡◌, ℕ, zero, suc, ◌<◌, ◌==◌, nat_
 use Rattle.std.proofs.Common.{ap₂, subst, arith, eqb-true, ltb-true, ltb-false, []}
 use Rattle.std.proofs.lemmas.Bool.{and_parts}
 use Rattle.std.proofs.lemmas.List.{get_or_past}
-use Rattle.proof_shape.specs.Beneath.ctrie_base.specs.Paths.{position_of}
-use Rattle.proof_shape.specs.Beneath.history.specs.declared.calls.Access.TheVariants.{Writable}
-use Rattle.proof_shape.specs.Beneath.slot_arena.specs.declared.refs.Ref.{Ref}
-use Rattle.proof_shape.specs.Beneath.slot_arena.specs.declared.nodes.Node.{Node}
-use Rattle.proof_shape.specs.Beneath.slot_arena.specs.declared.nodes.Node.TheVariants.{Indirection, Branch, Single, Tomb, List as Listed}
-use Rattle.proof_shape.specs.Beneath.slot_arena.specs.Heaps.{Heap, node_at, node_of, entries_of, bitmap_of, generation_at, next_ref, no_ref}
-use Rattle.proof_shape.specs.Beneath.nodes.specs.Levels.{has_flag}
-use Rattle.proof_shape.specs.Beneath.nodes.specs.Builders.{contracted}
-use Rattle.proof_shape.specs.Beneath.machine_model.specs.declared.lines.Line.{Line}
+use Rattle.proof_shape.specs.Vocabulary.{position_of, Writable, Ref, Node, Indirection, Branch, Single, Tomb, List as Listed, Heap, node_at, node_of, entries_of, bitmap_of, generation_at, next_ref}
+use Rattle.proof_shape.specs.Vocabulary.{no_ref, has_flag, contracted, Line, Operation, After, Gives, Read, Climb, ClimbLine, RootLine, Bounds, handle_of, State, word_at, current, above}
+use Rattle.proof_shape.specs.Vocabulary.{is_below_root, flag_in, is_start, read_step, reading, root_after, climbing, climbed, higher, place_in, climbed_node, holds_it, climb_after, climb_after_read}
+use Rattle.proof_shape.specs.Vocabulary.{climb_after_main, climb_after_contracted, climb_after_root, line_action, grown, node_under, IsRun}
 use Rattle.proof_shape.specs.Beneath.machine_model.specs.declared.lines.Line.TheVariants as line
-use Rattle.proof_shape.specs.Beneath.machine_model.specs.declared.operations.Operation.{Operation}
-use Rattle.proof_shape.specs.Beneath.machine_model.specs.declared.reading.After.{After}
-use Rattle.proof_shape.specs.Beneath.machine_model.specs.declared.reading.After.TheVariants.{Goes, Gives}
-use Rattle.proof_shape.specs.Beneath.machine_model.specs.declared.reading.Read.{Read}
-use Rattle.proof_shape.specs.Beneath.machine_model.specs.declared.repairs.Climb.{Climb}
-use Rattle.proof_shape.specs.Beneath.machine_model.specs.declared.repairs.ClimbLine.{ClimbLine}
+use Rattle.proof_shape.specs.Beneath.machine_model.specs.declared.reading.After.TheVariants.{Goes}
 use Rattle.proof_shape.specs.Beneath.machine_model.specs.declared.repairs.ClimbLine.TheVariants as climb
-use Rattle.proof_shape.specs.Beneath.machine_model.specs.declared.roots.RootLine.{RootLine}
-use Rattle.proof_shape.specs.Beneath.machine_model.specs.declared.steps.Bounds.{Bounds}
-use Rattle.proof_shape.specs.Beneath.machine_model.specs.Calls.{handle_of}
-use Rattle.proof_shape.specs.Beneath.machine_model.specs.States.{State, word_at}
-use Rattle.proof_shape.specs.Beneath.machine_model.specs.Paths.{current, above, is_below_root, flag_in, is_start}
-use Rattle.proof_shape.specs.Beneath.machine_model.specs.Reading.{read_step, reading}
-use Rattle.proof_shape.specs.Beneath.machine_model.specs.Swapping.{root_after}
-use Rattle.proof_shape.specs.Beneath.machine_model.specs.Climbing.{climbing, climbed, higher, place_in, climbed_node, holds_it, climb_after, climb_after_read, climb_after_main}
-use Rattle.proof_shape.specs.Beneath.machine_model.specs.Climbing.{climb_after_contracted, climb_after_root}
-use Rattle.proof_shape.specs.Beneath.machine_model.specs.Operations.{line_action}
-use Rattle.proof_shape.specs.Beneath.machine_model.specs.Grown.{grown, node_under}
-use Rattle.proof_shape.specs.Beneath.machine_model.specs.Times.{IsRun}
 use Rattle.proof_shape.specs.Beneath.proof_memory.specs.Wants.{AMain, ABranch}
 use Rattle.proof_shape.specs.Beneath.proof_commits.proofs.Words.Along.{remembers_at}
 use Rattle.proof_shape.specs.Beneath.proof_commits.proofs.Lines.Stages.{Remembers}

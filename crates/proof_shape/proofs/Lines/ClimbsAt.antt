@@ -1,34 +1,14 @@
 -- At each time of a run each line knows of the tomb that it climbs from.
 use Rattle.std.proofs.Common.{◌≡◌, ℕ, suc, ◌<◌, ◌==◌, Bool, true, false, refl, sym, ◌∙◌, ap, subst, arith}
-use Rattle.proof_shape.specs.Beneath.history.specs.declared.calls.Call.{Call}
-use Rattle.proof_shape.specs.Beneath.slot_arena.specs.declared.refs.Ref.{Ref}
-use Rattle.proof_shape.specs.Beneath.slot_arena.specs.declared.nodes.Node.{Node}
-use Rattle.proof_shape.specs.Beneath.slot_arena.specs.declared.nodes.Node.TheVariants.{Indirection, Branch, Single, Tomb, List as Listed}
-use Rattle.proof_shape.specs.Beneath.slot_arena.specs.declared.nodes.Prev.{Prev}
+use Rattle.proof_shape.specs.Vocabulary.{Call, Ref, Node, Indirection, Branch, Single, Tomb, List as Listed, Prev, Heap, node_at, main_at, prev_at, Line, Purpose, Operation, After, Gives, ReadLine}
+use Rattle.proof_shape.specs.Vocabulary.{Swap, SwapLine, Bounds, handle_of, State, word_at, current, read_after, on_line, after_publish, after_deciding, after_check, higher, swapped, line_after}
+use Rattle.proof_shape.specs.Vocabulary.{operation_after, node_under, IsRun}
 use Rattle.proof_shape.specs.Beneath.slot_arena.specs.declared.nodes.Prev.TheVariants as over
-use Rattle.proof_shape.specs.Beneath.slot_arena.specs.Heaps.{Heap, node_at, main_at, prev_at}
-use Rattle.proof_shape.specs.Beneath.machine_model.specs.declared.lines.Line.{Line}
 use Rattle.proof_shape.specs.Beneath.machine_model.specs.declared.lines.Line.TheVariants as line
-use Rattle.proof_shape.specs.Beneath.machine_model.specs.declared.lines.Purpose.{Purpose}
 use Rattle.proof_shape.specs.Beneath.machine_model.specs.declared.lines.Purpose.TheVariants as purpose
-use Rattle.proof_shape.specs.Beneath.machine_model.specs.declared.operations.Operation.{Operation}
-use Rattle.proof_shape.specs.Beneath.machine_model.specs.declared.reading.After.{After}
-use Rattle.proof_shape.specs.Beneath.machine_model.specs.declared.reading.After.TheVariants.{Goes, Gives}
-use Rattle.proof_shape.specs.Beneath.machine_model.specs.declared.reading.ReadLine.{ReadLine}
-use Rattle.proof_shape.specs.Beneath.machine_model.specs.declared.reading.Swap.{Swap}
-use Rattle.proof_shape.specs.Beneath.machine_model.specs.declared.reading.SwapLine.{SwapLine}
+use Rattle.proof_shape.specs.Beneath.machine_model.specs.declared.reading.After.TheVariants.{Goes}
 use Rattle.proof_shape.specs.Beneath.machine_model.specs.declared.reading.SwapLine.TheVariants as swap
-use Rattle.proof_shape.specs.Beneath.machine_model.specs.declared.steps.Bounds.{Bounds}
-use Rattle.proof_shape.specs.Beneath.machine_model.specs.Calls.{handle_of}
-use Rattle.proof_shape.specs.Beneath.machine_model.specs.States.{State, word_at}
-use Rattle.proof_shape.specs.Beneath.machine_model.specs.Paths.{current}
-use Rattle.proof_shape.specs.Beneath.machine_model.specs.Reading.{read_after}
-use Rattle.proof_shape.specs.Beneath.machine_model.specs.Swapping.{on_line, after_publish, after_deciding, after_check}
-use Rattle.proof_shape.specs.Beneath.machine_model.specs.Climbing.{higher}
-use Rattle.proof_shape.specs.Beneath.machine_model.specs.Operations.{after_swap, swapped, line_after}
-use Rattle.proof_shape.specs.Beneath.machine_model.specs.Acting.{operation_after}
-use Rattle.proof_shape.specs.Beneath.machine_model.specs.Grown.{node_under}
-use Rattle.proof_shape.specs.Beneath.machine_model.specs.Times.{IsRun}
+use Rattle.proof_shape.specs.Beneath.machine_model.specs.Operations.{after_swap}
 use Rattle.proof_shape.specs.Beneath.proof_memory.specs.Wants.{AMain}
 use Rattle.proof_shape.specs.Beneath.proof_memory.proofs.Claims.Uses.{safe_of}
 use Rattle.proof_shape.specs.Beneath.proof_memory.proofs.Safety.AtTimes.{prev_found}

@@ -1,35 +1,13 @@
 -- At each time of a run each line knows of its key, its change and its swap what it should.
 use Rattle.std.proofs.Common.{◌≡◌, ℕ, ◌<◌, Bool, true, false, refl, sym, arith}
 use Rattle.std.proofs.lemmas.Bool.{true≢false}
-use Rattle.proof_shape.specs.Beneath.history.specs.declared.calls.Call.{Call}
-use Rattle.proof_shape.specs.Beneath.slot_arena.specs.declared.nodes.Node.{Node}
-use Rattle.proof_shape.specs.Beneath.slot_arena.specs.Heaps.{node_at}
-use Rattle.proof_shape.specs.Beneath.machine_model.specs.declared.copying.CopyLine.{CopyLine}
+use Rattle.proof_shape.specs.Vocabulary.{Call, Node, node_at, CopyLine, Line, Purpose, Operation, After, Gives, Swap, SwapLine, CleanLine, ClimbLine, RenewLine, RootLine, Bounds, WalkLine, State}
+use Rattle.proof_shape.specs.Vocabulary.{on_line, renew_after, clean_after, climb_after, copy_after, walk_after, first_line, swapped, line_after, IsRun}
 use Rattle.proof_shape.specs.Beneath.machine_model.specs.declared.finding.KeyLine.TheVariants as key
-use Rattle.proof_shape.specs.Beneath.machine_model.specs.declared.lines.Line.{Line}
 use Rattle.proof_shape.specs.Beneath.machine_model.specs.declared.lines.Line.TheVariants as line
-use Rattle.proof_shape.specs.Beneath.machine_model.specs.declared.lines.Purpose.{Purpose}
 use Rattle.proof_shape.specs.Beneath.machine_model.specs.declared.lines.Purpose.TheVariants as purpose
-use Rattle.proof_shape.specs.Beneath.machine_model.specs.declared.operations.Operation.{Operation}
-use Rattle.proof_shape.specs.Beneath.machine_model.specs.declared.reading.After.{After}
-use Rattle.proof_shape.specs.Beneath.machine_model.specs.declared.reading.After.TheVariants.{Goes, Gives}
-use Rattle.proof_shape.specs.Beneath.machine_model.specs.declared.reading.Swap.{Swap}
-use Rattle.proof_shape.specs.Beneath.machine_model.specs.declared.reading.SwapLine.{SwapLine}
-use Rattle.proof_shape.specs.Beneath.machine_model.specs.declared.repairs.CleanLine.{CleanLine}
-use Rattle.proof_shape.specs.Beneath.machine_model.specs.declared.repairs.ClimbLine.{ClimbLine}
-use Rattle.proof_shape.specs.Beneath.machine_model.specs.declared.repairs.RenewLine.{RenewLine}
-use Rattle.proof_shape.specs.Beneath.machine_model.specs.declared.roots.RootLine.{RootLine}
-use Rattle.proof_shape.specs.Beneath.machine_model.specs.declared.steps.Bounds.{Bounds}
-use Rattle.proof_shape.specs.Beneath.machine_model.specs.declared.walking.WalkLine.{WalkLine}
-use Rattle.proof_shape.specs.Beneath.machine_model.specs.States.{State}
-use Rattle.proof_shape.specs.Beneath.machine_model.specs.Swapping.{on_line}
-use Rattle.proof_shape.specs.Beneath.machine_model.specs.Renewing.{renew_after}
-use Rattle.proof_shape.specs.Beneath.machine_model.specs.Cleaning.{clean_after}
-use Rattle.proof_shape.specs.Beneath.machine_model.specs.Climbing.{climb_after}
-use Rattle.proof_shape.specs.Beneath.machine_model.specs.Copying.{copy_after}
-use Rattle.proof_shape.specs.Beneath.machine_model.specs.Walking.{walk_after}
-use Rattle.proof_shape.specs.Beneath.machine_model.specs.Operations.{first_line, after_swap, swapped, line_after}
-use Rattle.proof_shape.specs.Beneath.machine_model.specs.Times.{IsRun}
+use Rattle.proof_shape.specs.Beneath.machine_model.specs.declared.reading.After.TheVariants.{Goes}
+use Rattle.proof_shape.specs.Beneath.machine_model.specs.Operations.{after_swap}
 use Rattle.proof_shape.specs.Beneath.proof_contents.specs.Lines.Changes.{Known, KnowsLine}
 use Rattle.proof_shape.specs.Lines.Knowing.{known_with, first_main, KnowsAt}
 use Rattle.proof_shape.proofs.Runs.EachAt.{GoesAt, each_at}

@@ -1,8 +1,6 @@
 -- Where lines lead: which calls come to which lines, from which line on an operation has a generation, and where it swaps.
 use Rattle.std.proofs.Common.{Bool, true, false}
-use Rattle.proof_shape.specs.Beneath.history.specs.declared.calls.Call.{Call}
-use Rattle.proof_shape.specs.Beneath.history.specs.declared.calls.Call.TheVariants.{Clear, Snapshot, Freeze, Close, Entries, Count}
-use Rattle.proof_shape.specs.Beneath.machine_model.specs.declared.lines.Line.{Line}
+use Rattle.proof_shape.specs.Vocabulary.{Call, Clear, Snapshot, Freeze, Close, Entries, Count, Line}
 use Rattle.proof_shape.specs.Beneath.machine_model.specs.declared.lines.Line.TheVariants as line
 
 -- ---- calls

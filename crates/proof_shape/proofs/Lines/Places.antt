@@ -1,21 +1,11 @@
 -- At each time of a run a running operation's line fits its call, has a generation from the first indirection on, and swaps where its path ends.
 use Rattle.std.proofs.Common.{◌≡◌, ℕ, ◌||◌, true, false, Option, Some, refl, sym, arith}
 use Rattle.std.proofs.lemmas.Bool.{true≢false, or_left, or_right}
-use Rattle.proof_shape.specs.Beneath.history.specs.declared.calls.Call.{Call}
-use Rattle.proof_shape.specs.Beneath.slot_arena.specs.declared.refs.Ref.{Ref}
-use Rattle.proof_shape.specs.Beneath.slot_arena.specs.Heaps.{generation_at}
-use Rattle.proof_shape.specs.Beneath.machine_model.specs.declared.lines.Line.{Line}
+use Rattle.proof_shape.specs.Vocabulary.{Call, Ref, generation_at, Line, Operation, After, Gives, RootLine, Bounds, handle_of, State, word_at, root_after, first_line, after_root, line_after}
+use Rattle.proof_shape.specs.Vocabulary.{generation_from, given_root, IsRun}
 use Rattle.proof_shape.specs.Beneath.machine_model.specs.declared.lines.Line.TheVariants as line
-use Rattle.proof_shape.specs.Beneath.machine_model.specs.declared.operations.Operation.{Operation}
-use Rattle.proof_shape.specs.Beneath.machine_model.specs.declared.reading.After.{After}
-use Rattle.proof_shape.specs.Beneath.machine_model.specs.declared.reading.After.TheVariants.{Goes, Gives}
-use Rattle.proof_shape.specs.Beneath.machine_model.specs.declared.roots.RootLine.{RootLine}
-use Rattle.proof_shape.specs.Beneath.machine_model.specs.declared.steps.Bounds.{Bounds}
-use Rattle.proof_shape.specs.Beneath.machine_model.specs.Calls.{handle_of}
-use Rattle.proof_shape.specs.Beneath.machine_model.specs.States.{State, word_at}
-use Rattle.proof_shape.specs.Beneath.machine_model.specs.Swapping.{root_after}
-use Rattle.proof_shape.specs.Beneath.machine_model.specs.Operations.{first_line, from_root, after_root, line_after, generation_from, given_root}
-use Rattle.proof_shape.specs.Beneath.machine_model.specs.Times.{IsRun}
+use Rattle.proof_shape.specs.Beneath.machine_model.specs.declared.reading.After.TheVariants.{Goes}
+use Rattle.proof_shape.specs.Beneath.machine_model.specs.Operations.{from_root}
 use Rattle.proof_shape.specs.Lines.Knowing.{OfEachAt, IsPlaced, PlacesAt}
 use Rattle.proof_shape.proofs.Runs.EachAt.{each_at}
 use Rattle.proof_shape.proofs.Lines.Leads.{is_down, is_copying, is_walking, key_leads, build_leads, swap_leads, renew_leads, clean_leads, climb_leads, copy_leads, walk_leads}

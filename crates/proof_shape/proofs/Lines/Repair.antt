@@ -1,35 +1,16 @@
 -- A step of KEY, RENEW or CLEAN hands on what the line knows of the entries that are done.
 use Rattle.std.proofs.Common.{◌≡◌, ℕ, suc, ◌-◌, ◌<◌, ◌&&◌, Bool, true, false, cond, List, Option, Some, None, refl, sym, ◌∙◌, ap, arith, unwrap_or, subst, []}
-use Rattle.proof_shape.specs.Beneath.slot_arena.specs.declared.refs.Ref.{Ref}
-use Rattle.proof_shape.specs.Beneath.slot_arena.specs.declared.nodes.Node.{Node}
-use Rattle.proof_shape.specs.Beneath.slot_arena.specs.declared.nodes.Node.TheVariants.{Indirection, Branch, Single, Tomb, List as Listed}
+use Rattle.proof_shape.specs.Vocabulary.{Ref, Node, Indirection, Branch, Single, Tomb, List as Listed, Heap, node_at, entry_at, bitmap_of, next_ref, renewed, KeyLine, Line, Operation, After, Gives}
+use Rattle.proof_shape.specs.Vocabulary.{Read, CleanLine, RenewLine, Bounds, handle_of, State, word_at, start_of, is_below_root, read_after, read_step, going_down, is_passable, key_after}
+use Rattle.proof_shape.specs.Vocabulary.{key_after_main, key_after_entry, after_listed, after_sibling, next_entry, renew_next, branch_of, renew_after, renew_after_link, renew_after_branch, cleaned}
+use Rattle.proof_shape.specs.Vocabulary.{leaves_single, clean_after, clean_after_read, clean_after_contracted, line_action, read_of, action_of, node_under, prev_word, IsRun}
 use Rattle.proof_shape.specs.Beneath.slot_arena.specs.declared.nodes.Prev.TheVariants as over
-use Rattle.proof_shape.specs.Beneath.slot_arena.specs.Heaps.{Heap, node_at, entry_at, bitmap_of, next_ref}
-use Rattle.proof_shape.specs.Beneath.nodes.specs.Builders.{renewed}
 use Rattle.proof_shape.specs.Beneath.machine_model.specs.declared.actions.Action.TheVariants as act
-use Rattle.proof_shape.specs.Beneath.machine_model.specs.declared.finding.KeyLine.{KeyLine}
 use Rattle.proof_shape.specs.Beneath.machine_model.specs.declared.finding.KeyLine.TheVariants as key
-use Rattle.proof_shape.specs.Beneath.machine_model.specs.declared.lines.Line.{Line}
 use Rattle.proof_shape.specs.Beneath.machine_model.specs.declared.lines.Line.TheVariants as line
-use Rattle.proof_shape.specs.Beneath.machine_model.specs.declared.operations.Operation.{Operation}
-use Rattle.proof_shape.specs.Beneath.machine_model.specs.declared.reading.After.{After}
-use Rattle.proof_shape.specs.Beneath.machine_model.specs.declared.reading.After.TheVariants.{Goes, Gives}
-use Rattle.proof_shape.specs.Beneath.machine_model.specs.declared.reading.Read.{Read}
-use Rattle.proof_shape.specs.Beneath.machine_model.specs.declared.repairs.CleanLine.{CleanLine}
+use Rattle.proof_shape.specs.Beneath.machine_model.specs.declared.reading.After.TheVariants.{Goes}
 use Rattle.proof_shape.specs.Beneath.machine_model.specs.declared.repairs.CleanLine.TheVariants as clean
-use Rattle.proof_shape.specs.Beneath.machine_model.specs.declared.repairs.RenewLine.{RenewLine}
 use Rattle.proof_shape.specs.Beneath.machine_model.specs.declared.repairs.RenewLine.TheVariants as renew
-use Rattle.proof_shape.specs.Beneath.machine_model.specs.declared.steps.Bounds.{Bounds}
-use Rattle.proof_shape.specs.Beneath.machine_model.specs.Calls.{handle_of}
-use Rattle.proof_shape.specs.Beneath.machine_model.specs.States.{State, word_at}
-use Rattle.proof_shape.specs.Beneath.machine_model.specs.Paths.{start_of, is_below_root}
-use Rattle.proof_shape.specs.Beneath.machine_model.specs.Reading.{read_after, read_step}
-use Rattle.proof_shape.specs.Beneath.machine_model.specs.Finding.{going_down, is_passable, key_after, key_after_main, key_after_entry, after_listed, after_sibling}
-use Rattle.proof_shape.specs.Beneath.machine_model.specs.Renewing.{next_entry, renew_next, branch_of, renew_after, renew_after_link, renew_after_branch}
-use Rattle.proof_shape.specs.Beneath.machine_model.specs.Cleaning.{cleaned, leaves_single, clean_after, clean_after_read, clean_after_contracted}
-use Rattle.proof_shape.specs.Beneath.machine_model.specs.Operations.{line_action, read_of, action_of}
-use Rattle.proof_shape.specs.Beneath.machine_model.specs.Grown.{node_under, prev_word}
-use Rattle.proof_shape.specs.Beneath.machine_model.specs.Times.{IsRun}
 use Rattle.proof_shape.specs.Beneath.proof_memory.specs.Laws.{IsInUse}
 use Rattle.proof_shape.specs.Beneath.proof_memory.specs.Wants.{AMain, ABranch, Holds, Is}
 use Rattle.proof_shape.specs.Beneath.proof_commits.specs.Protocol.{Reads}

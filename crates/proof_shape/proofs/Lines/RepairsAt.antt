@@ -1,33 +1,11 @@
 -- At each time of a run each line knows of the entries of its repair that are done.
 use Rattle.std.proofs.Common.{◌≡◌, ℕ, suc, ◌<◌, Bool, true, Some, refl, subst, arith}
-use Rattle.proof_shape.specs.Beneath.history.specs.declared.calls.Call.{Call}
-use Rattle.proof_shape.specs.Beneath.slot_arena.specs.declared.refs.Ref.{Ref}
-use Rattle.proof_shape.specs.Beneath.slot_arena.specs.declared.nodes.Node.{Node}
-use Rattle.proof_shape.specs.Beneath.slot_arena.specs.Heaps.{node_at}
-use Rattle.proof_shape.specs.Beneath.machine_model.specs.declared.building.BuildLine.{BuildLine}
-use Rattle.proof_shape.specs.Beneath.machine_model.specs.declared.copying.CopyLine.{CopyLine}
-use Rattle.proof_shape.specs.Beneath.machine_model.specs.declared.lines.Line.{Line}
+use Rattle.proof_shape.specs.Vocabulary.{Call, Ref, Node, node_at, BuildLine, CopyLine, Line, Purpose, Operation, After, Gives, Swap, SwapLine, ClimbLine, RootLine, Bounds, WalkLine, State, on_line}
+use Rattle.proof_shape.specs.Vocabulary.{build_after, climb_after, copy_after, walk_after, first_line, swapped, line_after, generation_from, node_under, IsRun, Record}
 use Rattle.proof_shape.specs.Beneath.machine_model.specs.declared.lines.Line.TheVariants as line
-use Rattle.proof_shape.specs.Beneath.machine_model.specs.declared.lines.Purpose.{Purpose}
 use Rattle.proof_shape.specs.Beneath.machine_model.specs.declared.lines.Purpose.TheVariants as purpose
-use Rattle.proof_shape.specs.Beneath.machine_model.specs.declared.operations.Operation.{Operation}
-use Rattle.proof_shape.specs.Beneath.machine_model.specs.declared.reading.After.{After}
-use Rattle.proof_shape.specs.Beneath.machine_model.specs.declared.reading.After.TheVariants.{Goes, Gives}
-use Rattle.proof_shape.specs.Beneath.machine_model.specs.declared.reading.Swap.{Swap}
-use Rattle.proof_shape.specs.Beneath.machine_model.specs.declared.reading.SwapLine.{SwapLine}
-use Rattle.proof_shape.specs.Beneath.machine_model.specs.declared.repairs.ClimbLine.{ClimbLine}
-use Rattle.proof_shape.specs.Beneath.machine_model.specs.declared.roots.RootLine.{RootLine}
-use Rattle.proof_shape.specs.Beneath.machine_model.specs.declared.steps.Bounds.{Bounds}
-use Rattle.proof_shape.specs.Beneath.machine_model.specs.declared.walking.WalkLine.{WalkLine}
-use Rattle.proof_shape.specs.Beneath.machine_model.specs.States.{State}
-use Rattle.proof_shape.specs.Beneath.machine_model.specs.Swapping.{on_line}
-use Rattle.proof_shape.specs.Beneath.machine_model.specs.Building.{build_after}
-use Rattle.proof_shape.specs.Beneath.machine_model.specs.Climbing.{climb_after}
-use Rattle.proof_shape.specs.Beneath.machine_model.specs.Copying.{copy_after}
-use Rattle.proof_shape.specs.Beneath.machine_model.specs.Walking.{walk_after}
-use Rattle.proof_shape.specs.Beneath.machine_model.specs.Operations.{first_line, after_swap, swapped, line_after, generation_from}
-use Rattle.proof_shape.specs.Beneath.machine_model.specs.Grown.{node_under}
-use Rattle.proof_shape.specs.Beneath.machine_model.specs.Times.{IsRun}
+use Rattle.proof_shape.specs.Beneath.machine_model.specs.declared.reading.After.TheVariants.{Goes}
+use Rattle.proof_shape.specs.Beneath.machine_model.specs.Operations.{after_swap}
 use Rattle.proof_shape.specs.Beneath.proof_contents.specs.Lines.Changes.{KnowsLine}
 use Rattle.proof_shape.specs.Beneath.proof_contents.specs.Lines.Repairs.{KnowsRepair}
 use Rattle.proof_shape.specs.Lines.Given.{Gave, GaveBelow}
@@ -36,7 +14,6 @@ use Rattle.proof_shape.proofs.Runs.EachAt.{GoesAt, each_at}
 use Rattle.proof_shape.proofs.Lines.Knows.{knows_at}
 use Rattle.proof_shape.proofs.Lines.RepairMore.{repair_more, is_unrepairing, unrepairing_knows}
 use Rattle.proof_shape.proofs.Lines.Repair.{key_repairs, renew_repairs, clean_repairs}
-use Rattle.proof_shape.specs.Beneath.machine_model.specs.Records.{Record}
 
 -- ---- programs that lead to no repair
 

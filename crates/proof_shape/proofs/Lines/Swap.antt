@@ -1,41 +1,19 @@
 -- Where each line's swap is: at the end of the path for which it is.
 use Rattle.std.proofs.Common.{◌≡◌, ℕ, ◌+◌, ◌-◌, ◌==◌, Bool, true, false, cond, List, Option, Some, None, refl, sym, arith}
 use Rattle.std.proofs.lemmas.Bool.{true≢false}
-use Rattle.proof_shape.specs.Beneath.slot_arena.specs.declared.refs.Ref.{Ref}
-use Rattle.proof_shape.specs.Beneath.slot_arena.specs.declared.nodes.Node.{Node}
-use Rattle.proof_shape.specs.Beneath.slot_arena.specs.Heaps.{node_at, entry_at, next_ref}
-use Rattle.proof_shape.specs.Beneath.machine_model.specs.declared.building.BuildLine.{BuildLine}
+use Rattle.proof_shape.specs.Vocabulary.{Ref, Node, node_at, entry_at, next_ref, BuildLine, Read, Climb, KeyLine, Line, Purpose, Operation, After, Gives, Swap, SwapLine, CleanLine, ClimbLine}
+use Rattle.proof_shape.specs.Vocabulary.{RenewLine, RootLine, depth_of, State, on_line, key_after, key_after_main, key_after_entry, after_listed, after_sibling, build_if_made, renew_after}
+use Rattle.proof_shape.specs.Vocabulary.{renew_after_branch, clean_after, climb_after, climb_after_main, climb_after_contracted, swapped, line_after}
 use Rattle.proof_shape.specs.Beneath.machine_model.specs.declared.building.BuildLine.TheVariants as build
 use Rattle.proof_shape.specs.Beneath.machine_model.specs.declared.building.Change.TheVariants as change
 use Rattle.proof_shape.specs.Beneath.machine_model.specs.declared.building.Site.TheVariants as site
-use Rattle.proof_shape.specs.Beneath.machine_model.specs.declared.reading.Read.{Read}
-use Rattle.proof_shape.specs.Beneath.machine_model.specs.declared.repairs.Climb.{Climb}
-use Rattle.proof_shape.specs.Beneath.machine_model.specs.declared.finding.KeyLine.{KeyLine}
 use Rattle.proof_shape.specs.Beneath.machine_model.specs.declared.finding.KeyLine.TheVariants as key
-use Rattle.proof_shape.specs.Beneath.machine_model.specs.declared.lines.Line.{Line}
 use Rattle.proof_shape.specs.Beneath.machine_model.specs.declared.lines.Line.TheVariants as line
-use Rattle.proof_shape.specs.Beneath.machine_model.specs.declared.lines.Purpose.{Purpose}
 use Rattle.proof_shape.specs.Beneath.machine_model.specs.declared.lines.Purpose.TheVariants as purpose
-use Rattle.proof_shape.specs.Beneath.machine_model.specs.declared.operations.Operation.{Operation}
-use Rattle.proof_shape.specs.Beneath.machine_model.specs.declared.reading.After.{After}
-use Rattle.proof_shape.specs.Beneath.machine_model.specs.declared.reading.After.TheVariants.{Goes, Gives}
-use Rattle.proof_shape.specs.Beneath.machine_model.specs.declared.reading.Swap.{Swap}
-use Rattle.proof_shape.specs.Beneath.machine_model.specs.declared.reading.SwapLine.{SwapLine}
-use Rattle.proof_shape.specs.Beneath.machine_model.specs.declared.repairs.CleanLine.{CleanLine}
-use Rattle.proof_shape.specs.Beneath.machine_model.specs.declared.repairs.ClimbLine.{ClimbLine}
+use Rattle.proof_shape.specs.Beneath.machine_model.specs.declared.reading.After.TheVariants.{Goes}
 use Rattle.proof_shape.specs.Beneath.machine_model.specs.declared.repairs.ClimbLine.TheVariants as climb
-use Rattle.proof_shape.specs.Beneath.machine_model.specs.declared.repairs.RenewLine.{RenewLine}
 use Rattle.proof_shape.specs.Beneath.machine_model.specs.declared.repairs.RenewLine.TheVariants as renew
-use Rattle.proof_shape.specs.Beneath.machine_model.specs.declared.roots.RootLine.{RootLine}
-use Rattle.proof_shape.specs.Beneath.machine_model.specs.Paths.{depth_of}
-use Rattle.proof_shape.specs.Beneath.machine_model.specs.States.{State}
-use Rattle.proof_shape.specs.Beneath.machine_model.specs.Swapping.{on_line}
-use Rattle.proof_shape.specs.Beneath.machine_model.specs.Finding.{key_after, key_after_main, key_after_entry, after_listed, after_sibling}
-use Rattle.proof_shape.specs.Beneath.machine_model.specs.Building.{build_if_made}
-use Rattle.proof_shape.specs.Beneath.machine_model.specs.Renewing.{renew_after, renew_after_branch}
-use Rattle.proof_shape.specs.Beneath.machine_model.specs.Cleaning.{clean_after}
-use Rattle.proof_shape.specs.Beneath.machine_model.specs.Climbing.{climb_after, climb_after_main, climb_after_contracted}
-use Rattle.proof_shape.specs.Beneath.machine_model.specs.Operations.{after_swap, swapped, line_after}
+use Rattle.proof_shape.specs.Beneath.machine_model.specs.Operations.{after_swap}
 use Rattle.proof_shape.specs.Lines.Knowing.{SwapsAt}
 use Rattle.proof_shape.proofs.Lines.Leads.{is_copying, is_walking, copy_leads, walk_leads}
 

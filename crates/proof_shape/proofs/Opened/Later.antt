@@ -2,26 +2,16 @@
 use Rattle.std.proofs.Common.{List}
 use Rattle.std.specs.List.{All}
 use Rattle.std.proofs.lemmas.List.Elements.{All-weaker}
-use Rattle.proof_shape.specs.Beneath.slot_arena.specs.declared.refs.Ref.{Ref}
-use Rattle.proof_shape.specs.Beneath.machine_model.specs.declared.building.BuildLine.{BuildLine}
+use Rattle.proof_shape.specs.Vocabulary.{Ref, BuildLine, CopyLine, KeyLine, Line, Purpose, CleanLine, ClimbLine, RenewLine, RootLine, WalkLine}
 use Rattle.proof_shape.specs.Beneath.machine_model.specs.declared.building.BuildLine.TheVariants as build
-use Rattle.proof_shape.specs.Beneath.machine_model.specs.declared.copying.CopyLine.{CopyLine}
 use Rattle.proof_shape.specs.Beneath.machine_model.specs.declared.copying.CopyLine.TheVariants as copy
-use Rattle.proof_shape.specs.Beneath.machine_model.specs.declared.finding.KeyLine.{KeyLine}
 use Rattle.proof_shape.specs.Beneath.machine_model.specs.declared.finding.KeyLine.TheVariants as key
-use Rattle.proof_shape.specs.Beneath.machine_model.specs.declared.lines.Line.{Line}
 use Rattle.proof_shape.specs.Beneath.machine_model.specs.declared.lines.Line.TheVariants as line
-use Rattle.proof_shape.specs.Beneath.machine_model.specs.declared.lines.Purpose.{Purpose}
 use Rattle.proof_shape.specs.Beneath.machine_model.specs.declared.lines.Purpose.TheVariants as purpose
-use Rattle.proof_shape.specs.Beneath.machine_model.specs.declared.repairs.CleanLine.{CleanLine}
 use Rattle.proof_shape.specs.Beneath.machine_model.specs.declared.repairs.CleanLine.TheVariants as clean
-use Rattle.proof_shape.specs.Beneath.machine_model.specs.declared.repairs.ClimbLine.{ClimbLine}
 use Rattle.proof_shape.specs.Beneath.machine_model.specs.declared.repairs.ClimbLine.TheVariants as climb
-use Rattle.proof_shape.specs.Beneath.machine_model.specs.declared.repairs.RenewLine.{RenewLine}
 use Rattle.proof_shape.specs.Beneath.machine_model.specs.declared.repairs.RenewLine.TheVariants as renew
-use Rattle.proof_shape.specs.Beneath.machine_model.specs.declared.roots.RootLine.{RootLine}
 use Rattle.proof_shape.specs.Beneath.machine_model.specs.declared.roots.RootLine.TheVariants as root
-use Rattle.proof_shape.specs.Beneath.machine_model.specs.declared.walking.WalkLine.{WalkLine}
 use Rattle.proof_shape.specs.Beneath.machine_model.specs.declared.walking.WalkLine.TheVariants as walk
 use Rattle.proof_shape.proofs.Opened.Lines.{RootOpens, KeyOpens, BuildOpens, WhyOpens, RenewOpens, CleanOpens, ClimbOpens, CopyOpens, WalkOpens, Opens}
 

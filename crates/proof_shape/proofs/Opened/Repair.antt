@@ -2,33 +2,14 @@
 use Rattle.std.proofs.Common.{◌≡◌, ℕ, ◌<◌, List, [], ◌∷◌, ◌++◌, length, Option, Some, None, refl, sym, subst, ltb-true}
 use Rattle.std.proofs.lemmas.Bool.{cond_both}
 use Rattle.std.specs.List.{All}
-use Rattle.proof_shape.specs.Beneath.ctrie_base.specs.declared.hashes.HashKind.{HashKind}
-use Rattle.proof_shape.specs.Beneath.history.specs.declared.calls.Access.TheVariants.{Writable}
-use Rattle.proof_shape.specs.Beneath.slot_arena.specs.declared.refs.Ref.{Ref}
-use Rattle.proof_shape.specs.Beneath.slot_arena.specs.declared.nodes.Node.{Node}
-use Rattle.proof_shape.specs.Beneath.slot_arena.specs.declared.nodes.Node.TheVariants.{Indirection, Branch, Single, Tomb, List as Listed}
-use Rattle.proof_shape.specs.Beneath.slot_arena.specs.Heaps.{Heap, node_at, entry_at, entries_of, generation_at, next_ref}
-use Rattle.proof_shape.specs.Beneath.machine_model.specs.declared.lines.Line.{Line}
+use Rattle.proof_shape.specs.Vocabulary.{HashKind, Writable, Ref, Node, Indirection, Branch, Single, Tomb, List as Listed, Heap, node_at, entry_at, entries_of, generation_at, next_ref, Line}
+use Rattle.proof_shape.specs.Vocabulary.{Operation, After, Gives, Read, CleanLine, Climb, ClimbLine, RootLine, handle_of, current, is_start, State, word_at, root_of, read_step, root_after}
+use Rattle.proof_shape.specs.Vocabulary.{next_entry, clean_after, clean_after_read, clean_after_main, clean_after_entry, after_child, clean_after_tomb, clean_after_contracted, climbing, climbed}
+use Rattle.proof_shape.specs.Vocabulary.{higher, climb_after, climb_after_read, climb_after_main, climb_after_contracted, climb_after_root, holds_it, line_after}
 use Rattle.proof_shape.specs.Beneath.machine_model.specs.declared.lines.Line.TheVariants as line
-use Rattle.proof_shape.specs.Beneath.machine_model.specs.declared.operations.Operation.{Operation}
-use Rattle.proof_shape.specs.Beneath.machine_model.specs.declared.reading.After.{After}
-use Rattle.proof_shape.specs.Beneath.machine_model.specs.declared.reading.After.TheVariants.{Goes, Gives}
-use Rattle.proof_shape.specs.Beneath.machine_model.specs.declared.reading.Read.{Read}
-use Rattle.proof_shape.specs.Beneath.machine_model.specs.declared.repairs.CleanLine.{CleanLine}
+use Rattle.proof_shape.specs.Beneath.machine_model.specs.declared.reading.After.TheVariants.{Goes}
 use Rattle.proof_shape.specs.Beneath.machine_model.specs.declared.repairs.CleanLine.TheVariants as clean
-use Rattle.proof_shape.specs.Beneath.machine_model.specs.declared.repairs.Climb.{Climb}
-use Rattle.proof_shape.specs.Beneath.machine_model.specs.declared.repairs.ClimbLine.{ClimbLine}
 use Rattle.proof_shape.specs.Beneath.machine_model.specs.declared.repairs.ClimbLine.TheVariants as climb
-use Rattle.proof_shape.specs.Beneath.machine_model.specs.declared.roots.RootLine.{RootLine}
-use Rattle.proof_shape.specs.Beneath.machine_model.specs.Calls.{handle_of}
-use Rattle.proof_shape.specs.Beneath.machine_model.specs.Paths.{current, is_start}
-use Rattle.proof_shape.specs.Beneath.machine_model.specs.States.{State, word_at, root_of}
-use Rattle.proof_shape.specs.Beneath.machine_model.specs.Reading.{read_step}
-use Rattle.proof_shape.specs.Beneath.machine_model.specs.Swapping.{root_after}
-use Rattle.proof_shape.specs.Beneath.machine_model.specs.Renewing.{next_entry}
-use Rattle.proof_shape.specs.Beneath.machine_model.specs.Cleaning.{clean_after, clean_after_read, clean_after_main, clean_after_entry, after_child, clean_after_tomb, clean_after_contracted}
-use Rattle.proof_shape.specs.Beneath.machine_model.specs.Climbing.{climbing, climbed, higher, climb_after, climb_after_read, climb_after_main, climb_after_contracted, climb_after_root, holds_it}
-use Rattle.proof_shape.specs.Beneath.machine_model.specs.Operations.{line_after}
 use Rattle.proof_shape.specs.Beneath.proof_memory.specs.Laws.{IsInUse}
 use Rattle.proof_shape.specs.Beneath.proof_memory.specs.Wants.{AllHold, line_wants}
 use Rattle.proof_shape.specs.Beneath.proof_memory.proofs.Claims.Uses.{safe_of, meets_of}

@@ -3,38 +3,17 @@ use Rattle.std.proofs.Common.{◌≡◌, ℕ, ◌<◌, ◌||◌, nat_lt, Bool, t
 use Rattle.std.proofs.lemmas.Bool.{true≢false, cond_both}
 use Rattle.std.specs.List.{All}
 use Rattle.std.proofs.lemmas.List.Elements.{All-nil, All-cons, All-tail, All-append}
-use Rattle.proof_shape.specs.Beneath.ctrie_base.specs.declared.hashes.HashKind.{HashKind}
-use Rattle.proof_shape.specs.Beneath.history.specs.declared.calls.Access.TheVariants.{Writable}
-use Rattle.proof_shape.specs.Beneath.history.specs.declared.calls.Call.{Call}
-use Rattle.proof_shape.specs.Beneath.history.specs.declared.calls.Call.TheVariants.{Get, Put, PutIfAbsent, Replace, ReplaceIf, Remove, RemoveIf, Clear, Snapshot, Freeze, Close, Entries, Count}
-use Rattle.proof_shape.specs.Beneath.slot_arena.specs.declared.refs.Ref.{Ref}
-use Rattle.proof_shape.specs.Beneath.slot_arena.specs.declared.nodes.Node.{Node}
-use Rattle.proof_shape.specs.Beneath.slot_arena.specs.declared.nodes.Node.TheVariants.{Indirection, Branch, Single, Tomb, List as Listed}
-use Rattle.proof_shape.specs.Beneath.slot_arena.specs.Heaps.{Heap, node_at, entry_at, entries_of, next_ref, no_ref}
-use Rattle.proof_shape.specs.Beneath.machine_model.specs.declared.copying.CopyLine.{CopyLine}
+use Rattle.proof_shape.specs.Vocabulary.{HashKind, Writable, Call, Get, Put, PutIfAbsent, Replace, ReplaceIf, Remove, RemoveIf, Clear, Snapshot, Freeze, Close, Entries, Count, Ref, Node}
+use Rattle.proof_shape.specs.Vocabulary.{Indirection, Branch, Single, Tomb, List as Listed, Heap, node_at, entry_at, entries_of, next_ref, no_ref, CopyLine, Line, Operation, After, Gives, Read}
+use Rattle.proof_shape.specs.Vocabulary.{Complete, CompleteLine, Descriptor, RootLine, RootWord, Plain, Offer, WalkLine, handle_of, State, word_at, root_of, read_step, completing, is_plain}
+use Rattle.proof_shape.specs.Vocabulary.{of_offer, after_complete, after_root_word, after_completing, root_after, copy_after, copy_after_read, after_given, after_successor, copy_if_made}
+use Rattle.proof_shape.specs.Vocabulary.{after_offer, copied_reply, copy_after_complete, walk_next, walk_after, walk_after_read, walk_after_entry, first_of, rest_of, after_root, line_after}
 use Rattle.proof_shape.specs.Beneath.machine_model.specs.declared.copying.CopyLine.TheVariants as copy
-use Rattle.proof_shape.specs.Beneath.machine_model.specs.declared.lines.Line.{Line}
 use Rattle.proof_shape.specs.Beneath.machine_model.specs.declared.lines.Line.TheVariants as line
-use Rattle.proof_shape.specs.Beneath.machine_model.specs.declared.operations.Operation.{Operation}
-use Rattle.proof_shape.specs.Beneath.machine_model.specs.declared.reading.After.{After}
-use Rattle.proof_shape.specs.Beneath.machine_model.specs.declared.reading.After.TheVariants.{Goes, Gives}
-use Rattle.proof_shape.specs.Beneath.machine_model.specs.declared.reading.Read.{Read}
-use Rattle.proof_shape.specs.Beneath.machine_model.specs.declared.roots.Complete.{Complete}
-use Rattle.proof_shape.specs.Beneath.machine_model.specs.declared.roots.CompleteLine.{CompleteLine}
-use Rattle.proof_shape.specs.Beneath.machine_model.specs.declared.roots.Descriptor.{Descriptor}
-use Rattle.proof_shape.specs.Beneath.machine_model.specs.declared.roots.RootLine.{RootLine}
+use Rattle.proof_shape.specs.Beneath.machine_model.specs.declared.reading.After.TheVariants.{Goes}
 use Rattle.proof_shape.specs.Beneath.machine_model.specs.declared.roots.RootLine.TheVariants as root
-use Rattle.proof_shape.specs.Beneath.machine_model.specs.declared.roots.RootWord.{RootWord}
-use Rattle.proof_shape.specs.Beneath.machine_model.specs.declared.roots.RootWord.TheVariants.{Plain, Offer}
-use Rattle.proof_shape.specs.Beneath.machine_model.specs.declared.walking.WalkLine.{WalkLine}
 use Rattle.proof_shape.specs.Beneath.machine_model.specs.declared.walking.WalkLine.TheVariants as walk
-use Rattle.proof_shape.specs.Beneath.machine_model.specs.Calls.{handle_of}
-use Rattle.proof_shape.specs.Beneath.machine_model.specs.States.{State, word_at, root_of}
-use Rattle.proof_shape.specs.Beneath.machine_model.specs.Reading.{read_step}
-use Rattle.proof_shape.specs.Beneath.machine_model.specs.Swapping.{completing, is_plain, of_offer, after_complete, after_root_word, after_completing, root_after}
-use Rattle.proof_shape.specs.Beneath.machine_model.specs.Copying.{copy_after, copy_after_read, after_given, after_successor, copy_if_made, after_offer, copied_reply, copy_after_complete}
-use Rattle.proof_shape.specs.Beneath.machine_model.specs.Walking.{walk_next, walk_after, walk_after_read, walk_after_entry, first_of, rest_of}
-use Rattle.proof_shape.specs.Beneath.machine_model.specs.Operations.{from_root, after_root, line_after}
+use Rattle.proof_shape.specs.Beneath.machine_model.specs.Operations.{from_root}
 use Rattle.proof_shape.specs.Beneath.proof_memory.specs.Laws.{IsInUse}
 use Rattle.proof_shape.specs.Beneath.proof_memory.specs.Wants.{AllHold, line_wants}
 use Rattle.proof_shape.specs.Beneath.proof_memory.proofs.Claims.Uses.{safe_of, fact_of}

@@ -3,44 +3,19 @@ use Rattle.std.proofs.Common.{◌≡◌, ℕ, ◌+◌, ◌-◌, ◌<◌, ◌==�
 use Rattle.std.proofs.lemmas.Bool.{cond_both}
 use Rattle.std.specs.List.{All}
 use Rattle.std.proofs.lemmas.List.Elements.{All-push}
-use Rattle.proof_shape.specs.Beneath.ctrie_base.specs.declared.hashes.HashKind.{HashKind}
+use Rattle.proof_shape.specs.Vocabulary.{HashKind, Writable, Ref, Node, Indirection, Branch, Single, Tomb, List as Listed, Heap, node_at, entry_at, entries_of, next_ref, BuildLine, Change, Site}
+use Rattle.proof_shape.specs.Vocabulary.{KeyLine, Line, Purpose, Operation, After, Gives, Read, Swap, SwapLine, Climb, RenewLine, handle_of, key_of, current, is_start, State, word_at, root_of}
+use Rattle.proof_shape.specs.Vocabulary.{read_step, reading, on_line, going_down, is_passable, key_after, key_after_read, key_after_main, key_after_entry, after_listed, after_sibling, found}
+use Rattle.proof_shape.specs.Vocabulary.{absent_listed, build_after, build_if_made, next_entry, renew_next, renew_after, renew_after_entry, renew_after_read, renew_after_link, renew_after_branch}
+use Rattle.proof_shape.specs.Vocabulary.{clean_next, higher, after_update, climbed_on, swapped}
 use Rattle.arrayvec.specs.ArrayVec.{ArrayVec}
-use Rattle.proof_shape.specs.Beneath.history.specs.declared.calls.Access.TheVariants.{Writable}
-use Rattle.proof_shape.specs.Beneath.slot_arena.specs.declared.refs.Ref.{Ref}
-use Rattle.proof_shape.specs.Beneath.slot_arena.specs.declared.nodes.Node.{Node}
-use Rattle.proof_shape.specs.Beneath.slot_arena.specs.declared.nodes.Node.TheVariants.{Indirection, Branch, Single, Tomb, List as Listed}
-use Rattle.proof_shape.specs.Beneath.slot_arena.specs.Heaps.{Heap, node_at, entry_at, entries_of, next_ref}
-use Rattle.proof_shape.specs.Beneath.machine_model.specs.declared.building.BuildLine.{BuildLine}
 use Rattle.proof_shape.specs.Beneath.machine_model.specs.declared.building.BuildLine.TheVariants as build
-use Rattle.proof_shape.specs.Beneath.machine_model.specs.declared.building.Change.{Change}
-use Rattle.proof_shape.specs.Beneath.machine_model.specs.declared.building.Site.{Site}
-use Rattle.proof_shape.specs.Beneath.machine_model.specs.declared.finding.KeyLine.{KeyLine}
 use Rattle.proof_shape.specs.Beneath.machine_model.specs.declared.finding.KeyLine.TheVariants as key
-use Rattle.proof_shape.specs.Beneath.machine_model.specs.declared.lines.Line.{Line}
 use Rattle.proof_shape.specs.Beneath.machine_model.specs.declared.lines.Line.TheVariants as line
-use Rattle.proof_shape.specs.Beneath.machine_model.specs.declared.lines.Purpose.{Purpose}
 use Rattle.proof_shape.specs.Beneath.machine_model.specs.declared.lines.Purpose.TheVariants as purpose
-use Rattle.proof_shape.specs.Beneath.machine_model.specs.declared.operations.Operation.{Operation}
-use Rattle.proof_shape.specs.Beneath.machine_model.specs.declared.reading.After.{After}
-use Rattle.proof_shape.specs.Beneath.machine_model.specs.declared.reading.After.TheVariants.{Goes, Gives}
-use Rattle.proof_shape.specs.Beneath.machine_model.specs.declared.reading.Read.{Read}
-use Rattle.proof_shape.specs.Beneath.machine_model.specs.declared.reading.Swap.{Swap}
-use Rattle.proof_shape.specs.Beneath.machine_model.specs.declared.reading.SwapLine.{SwapLine}
-use Rattle.proof_shape.specs.Beneath.machine_model.specs.declared.repairs.Climb.{Climb}
-use Rattle.proof_shape.specs.Beneath.machine_model.specs.declared.repairs.RenewLine.{RenewLine}
+use Rattle.proof_shape.specs.Beneath.machine_model.specs.declared.reading.After.TheVariants.{Goes}
 use Rattle.proof_shape.specs.Beneath.machine_model.specs.declared.repairs.RenewLine.TheVariants as renew
-use Rattle.proof_shape.specs.Beneath.machine_model.specs.Calls.{handle_of, key_of}
-use Rattle.proof_shape.specs.Beneath.machine_model.specs.Paths.{current, is_start}
-use Rattle.proof_shape.specs.Beneath.machine_model.specs.States.{State, word_at, root_of}
-use Rattle.proof_shape.specs.Beneath.machine_model.specs.Reading.{read_step, reading}
-use Rattle.proof_shape.specs.Beneath.machine_model.specs.Swapping.{on_line}
-use Rattle.proof_shape.specs.Beneath.machine_model.specs.Finding.{going_down, is_passable, key_after, key_after_read, key_after_main, key_after_entry, after_listed}
-use Rattle.proof_shape.specs.Beneath.machine_model.specs.Finding.{after_sibling, found, absent_listed}
-use Rattle.proof_shape.specs.Beneath.machine_model.specs.Building.{build_after, build_if_made}
-use Rattle.proof_shape.specs.Beneath.machine_model.specs.Renewing.{next_entry, renew_next, renew_after, renew_after_entry, renew_after_read, renew_after_link, renew_after_branch}
-use Rattle.proof_shape.specs.Beneath.machine_model.specs.Cleaning.{clean_next}
-use Rattle.proof_shape.specs.Beneath.machine_model.specs.Climbing.{higher}
-use Rattle.proof_shape.specs.Beneath.machine_model.specs.Operations.{after_update, climbed_on, after_swap, swapped}
+use Rattle.proof_shape.specs.Beneath.machine_model.specs.Operations.{after_swap}
 use Rattle.proof_shape.specs.Beneath.proof_memory.specs.Laws.{IsInUse}
 use Rattle.proof_shape.specs.Beneath.proof_memory.specs.Wants.{AllHold, line_wants, swap_wants, path_wants}
 use Rattle.proof_shape.specs.Beneath.proof_memory.proofs.Claims.Uses.{safe_of, meets_of, fact_of, last_hold}

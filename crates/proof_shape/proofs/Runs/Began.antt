@@ -1,19 +1,10 @@
 -- When a READ began, and that what it gives counts from then on.
 use Rattle.std.proofs.Common.{◌≡◌, ℕ, suc, ◌<◌, ◌≤◌, ◌==◌, Bool, true, false, cond, Option, Some, None, refl, sym, ◌∙◌, ap, subst, arith}
-use Rattle.proof_shape.specs.Beneath.slot_arena.specs.declared.refs.Ref.{Ref}
-use Rattle.proof_shape.specs.Beneath.machine_model.specs.declared.operations.Operation.{Operation}
-use Rattle.proof_shape.specs.Beneath.machine_model.specs.declared.reading.After.TheVariants.{Goes, Gives}
-use Rattle.proof_shape.specs.Beneath.machine_model.specs.declared.reading.ReadLine.{ReadLine}
+use Rattle.proof_shape.specs.Vocabulary.{Ref, Operation, Gives, ReadLine, Bounds, handle_of, State, operation_of, word_at, read_after, line_after, operation_after, grown, node_under, IsRun, Record}
+use Rattle.proof_shape.specs.Vocabulary.{moment_at, Moment}
+use Rattle.proof_shape.specs.Beneath.machine_model.specs.declared.reading.After.TheVariants.{Goes}
 use Rattle.proof_shape.specs.Beneath.machine_model.specs.declared.reading.ReadLine.TheVariants as read
-use Rattle.proof_shape.specs.Beneath.machine_model.specs.declared.steps.Bounds.{Bounds}
-use Rattle.proof_shape.specs.Beneath.machine_model.specs.Calls.{handle_of}
-use Rattle.proof_shape.specs.Beneath.machine_model.specs.States.{State, operation_of, word_at}
-use Rattle.proof_shape.specs.Beneath.machine_model.specs.Reading.{read_after}
-use Rattle.proof_shape.specs.Beneath.machine_model.specs.Operations.{line_after}
-use Rattle.proof_shape.specs.Beneath.machine_model.specs.Acting.{operation_after}
 use Rattle.proof_shape.specs.Beneath.machine_model.proofs.Actors.{marks_by}
-use Rattle.proof_shape.specs.Beneath.machine_model.specs.Grown.{grown, node_under}
-use Rattle.proof_shape.specs.Beneath.machine_model.specs.Times.{IsRun}
 use Rattle.proof_shape.specs.Beneath.proof_commits.specs.Protocol.{Words, Stage, Rests, Reads, IsAtRest, MayHave, Moves, Idles, MakesNode, SwapsNode, ReadsOn, DecidesOn, counts_at}
 use Rattle.proof_shape.specs.Beneath.proof_commits.proofs.Course.Finals.{link_stays}
 use Rattle.proof_shape.specs.Beneath.proof_commits.specs.Moments.{IsMoment}
@@ -32,8 +23,6 @@ use Rattle.proof_shape.proofs.Runs.Takers.{GoesAt, each_with, moment_kept}
 use Rattle.proof_shape.specs.Beneath.proof_memory.specs.Wants.{is_indirection}
 use Rattle.proof_shape.specs.Beneath.proof_commits.proofs.Known.Acts.{known_run}
 use Rattle.proof_shape.specs.Beneath.proof_commits.proofs.Lines.Stages.{first_rests}
-use Rattle.proof_shape.specs.Beneath.machine_model.specs.Records.{Record, moment_at}
-use Rattle.proof_shape.specs.Beneath.machine_model.specs.declared.records.Moment.{Moment}
 use Rattle.proof_shape.specs.Beneath.machine_model.proofs.Alike.{alike, go_actor, moment_goes, not_denied}
 
 -- what an actor runs after a step of its operation: what the step makes of it, with a mark or none

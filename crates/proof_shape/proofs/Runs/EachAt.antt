@@ -1,13 +1,6 @@
 -- What holds of each running operation at each time of a run, by what it is at its begin, what its own steps make of it, and that others leave it.
 use Rattle.std.proofs.Common.{◌≡◌, ℕ, suc, ◌<◌, true, None, Some}
-use Rattle.proof_shape.specs.Beneath.history.specs.declared.calls.Call.{Call}
-use Rattle.proof_shape.specs.Beneath.machine_model.specs.declared.operations.Operation.{Operation}
-use Rattle.proof_shape.specs.Beneath.machine_model.specs.declared.steps.Bounds.{Bounds}
-use Rattle.proof_shape.specs.Beneath.machine_model.specs.States.{State, operation_of}
-use Rattle.proof_shape.specs.Beneath.machine_model.specs.Acting.{operation_after}
-use Rattle.proof_shape.specs.Beneath.machine_model.specs.Machine.{begin_denial}
-use Rattle.proof_shape.specs.Beneath.machine_model.specs.Moves.{begun_operation}
-use Rattle.proof_shape.specs.Beneath.machine_model.specs.Times.{IsRun}
+use Rattle.proof_shape.specs.Vocabulary.{Call, Operation, Bounds, State, operation_of, operation_after, begin_denial, begun_operation, IsRun}
 use Rattle.proof_shape.specs.Lines.Knowing.{OfEachAt}
 pub use Rattle.proof_shape.proofs.Runs.Takers.{GoesAt}
 use Rattle.proof_shape.proofs.Runs.Takers.{each_with}

@@ -3,17 +3,9 @@ use Rattle.std.proofs.Common.{◌≡◌, ℕ, zero, suc, ◌⊎◌, ◌==◌, bi
 use Rattle.std.proofs.lemmas.Bool.{cases_eq}
 use Rattle.std.proofs.lemmas.List.Elements.{Contains-append_cases}
 use Rattle.std.specs.List.{insert, remove}
-use Rattle.proof_shape.specs.Beneath.ctrie_base.specs.Paths.{position_of}
-use Rattle.proof_shape.specs.Beneath.machine_model.specs.declared.building.Change.{Change}
+use Rattle.proof_shape.specs.Vocabulary.{position_of, Change, changed, HashKind, Ref, Node, Indirection, Branch, Single, Tomb, List as Listed, entries_of, entries_from, list_depth, index_in}
+use Rattle.proof_shape.specs.Vocabulary.{flag_of, pair, rung, by_index, contracted}
 use Rattle.proof_shape.specs.Beneath.machine_model.specs.declared.building.Change.TheVariants as change
-use Rattle.proof_shape.specs.Beneath.machine_model.specs.Building.{changed}
-use Rattle.proof_shape.specs.Beneath.ctrie_base.specs.declared.hashes.HashKind.{HashKind}
-use Rattle.proof_shape.specs.Beneath.slot_arena.specs.declared.refs.Ref.{Ref}
-use Rattle.proof_shape.specs.Beneath.slot_arena.specs.declared.nodes.Node.{Node}
-use Rattle.proof_shape.specs.Beneath.slot_arena.specs.declared.nodes.Node.TheVariants.{Indirection, Branch, Single, Tomb, List as Listed}
-use Rattle.proof_shape.specs.Beneath.slot_arena.specs.Heaps.{entries_of, entries_from}
-use Rattle.proof_shape.specs.Beneath.nodes.specs.Levels.{list_depth, index_in, flag_of}
-use Rattle.proof_shape.specs.Beneath.nodes.specs.Builders.{pair, rung, by_index, contracted}
 
 pub no_entry : {X : Type 0} (x : X) → Contains [] x → ⊥
 no_entry x (i, lt, e) = absurd (omega arith)

@@ -1,13 +1,6 @@
 -- Levels along a run: one function for all its times.
 use Rattle.std.proofs.Common.{◌≡◌, ℕ, zero, suc, ◌+◌, ◌≤◌, cond, List, [], ◌∷◌, Ok, refl, sym, ◌∙◌, ap, subst, arith}
-use Rattle.proof_shape.specs.Beneath.slot_arena.specs.declared.refs.Ref.{Ref}
-use Rattle.proof_shape.specs.Beneath.machine_model.specs.declared.steps.Bounds.{Bounds}
-use Rattle.proof_shape.specs.Beneath.machine_model.specs.declared.steps.Outcome.{Outcome}
-use Rattle.proof_shape.specs.Beneath.machine_model.specs.declared.steps.Step.{Step}
-use Rattle.proof_shape.specs.Beneath.machine_model.specs.States.{State}
-use Rattle.proof_shape.specs.Beneath.machine_model.specs.Machine.{next, next_state, state_after, is_taken_step, taken_from, taken_steps}
-use Rattle.proof_shape.specs.Beneath.machine_model.specs.Times.{turns}
-use Rattle.proof_shape.specs.Beneath.machine_model.specs.Times.{IsRun, Turn, states_from, states_of}
+use Rattle.proof_shape.specs.Vocabulary.{Ref, Bounds, Outcome, Step, State, next, next_state, state_after, is_taken_step, taken_from, taken_steps, turns, IsRun, Turn, states_from, states_of}
 use Rattle.proof_shape.specs.Beneath.proof_memory.proofs.Levels.States.{HasLevels}
 use Rattle.proof_shape.specs.Beneath.proof_memory.proofs.Levels.Runs.{levels_of}
 use Rattle.proof_shape.specs.Beneath.proof_memory.proofs.Levels.ShapeStates.{shapes_at}

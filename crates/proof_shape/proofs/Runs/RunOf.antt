@@ -1,22 +1,13 @@
 -- The states of a run are those after lists of steps: so what holds after each list of steps holds at each time.
 use Rattle.std.proofs.lemmas.Bool.{true≢false}
 use Rattle.std.proofs.Common.{◌≡◌, ℕ, suc, ◌<◌, ◌≤◌, true, cond, List, [], ◌∷◌, ◌++◌, Some, Ok, Err, refl, sym, ◌∙◌, ap, subst, arith}
-use Rattle.proof_shape.specs.Beneath.slot_arena.specs.declared.refs.Ref.{Ref}
-use Rattle.proof_shape.specs.Beneath.slot_arena.specs.Heaps.{node_at}
-use Rattle.proof_shape.specs.Beneath.nodes.specs.Levels.{list_depth}
-use Rattle.proof_shape.specs.Beneath.machine_model.specs.declared.actions.Action.{Action}
+use Rattle.proof_shape.specs.Vocabulary.{Ref, node_at, list_depth, Action, Operation, Bounds, Outcome, kind_of, settled, gone, Node, Indirection, Branch, Single, Tomb, List as Listed, Step, State}
+use Rattle.proof_shape.specs.Vocabulary.{first_state, operation_of, begin_unless, go_unless, go_on, step_by, settled_after, swept, run_from, run, next, next_state, state_after, depth_of, Begins}
+use Rattle.proof_shape.specs.Vocabulary.{Ends, Sweeps, Moves, GoesOn, turns, IsRun, Turn}
 use Rattle.proof_shape.specs.Beneath.machine_model.specs.declared.actions.Action.TheVariants as act
 use Rattle.proof_shape.specs.Beneath.machine_model.specs.declared.lines.Line.TheVariants as line
-use Rattle.proof_shape.specs.Beneath.machine_model.specs.declared.operations.Operation.{Operation}
-use Rattle.proof_shape.specs.Beneath.machine_model.specs.declared.steps.Bounds.{Bounds}
-use Rattle.proof_shape.specs.Beneath.machine_model.specs.declared.steps.Outcome.{Outcome}
 use Rattle.proof_shape.specs.Beneath.machine_model.specs.declared.steps.Outcome.TheVariants as outcome
-use Rattle.proof_shape.specs.Beneath.machine_model.specs.Operations.{kind_of}
-use Rattle.proof_shape.specs.Beneath.machine_model.specs.Counting.{settled}
-use Rattle.proof_shape.specs.Beneath.machine_model.specs.Acting.{gone}
 use Rattle.proof_shape.specs.Beneath.ctrie_base.specs.declared.refusals.Refusal.TheVariants as refuse
-use Rattle.proof_shape.specs.Beneath.slot_arena.specs.declared.nodes.Node.{Node}
-use Rattle.proof_shape.specs.Beneath.slot_arena.specs.declared.nodes.Node.TheVariants.{Indirection, Branch, Single, Tomb, List as Listed}
 use Rattle.proof_shape.specs.Beneath.proof_memory.specs.Laws.{IsInUse}
 use Rattle.proof_shape.specs.Beneath.proof_memory.specs.Wants.{meets, ABranch}
 use Rattle.proof_shape.specs.Beneath.proof_memory.specs.Levels.{PlaceLevel}
@@ -24,16 +15,9 @@ use Rattle.proof_shape.specs.Beneath.proof_memory.proofs.Levels.States.{HasLevel
 use Rattle.proof_shape.specs.Beneath.proof_memory.proofs.Levels.Runs.{levels_of}
 use Rattle.proof_shape.specs.Beneath.proof_memory.proofs.Levels.Shapes.{ShapeAt}
 use Rattle.proof_shape.specs.Beneath.proof_memory.proofs.Levels.ShapeStates.{HasShapes, has_shapes, never_there}
-use Rattle.proof_shape.specs.Beneath.machine_model.specs.declared.steps.Step.{Step}
-use Rattle.proof_shape.specs.Beneath.machine_model.specs.States.{State, first_state, operation_of}
-use Rattle.proof_shape.specs.Beneath.machine_model.specs.Machine.{begin_unless, go_unless, go_on, step_by, settled_after, swept, run_from, run, next, next_state, state_after}
-use Rattle.proof_shape.specs.Beneath.machine_model.specs.Paths.{depth_of}
 use Rattle.proof_shape.specs.Beneath.machine_model.proofs.Along.{run_push}
-use Rattle.proof_shape.specs.Beneath.machine_model.specs.Moves.{Begins, Goes, Ends, Sweeps}
-use Rattle.proof_shape.specs.Beneath.machine_model.specs.Moves.{Moves, GoesOn}
+use Rattle.proof_shape.specs.Beneath.machine_model.specs.Moves.{Goes}
 use Rattle.proof_shape.specs.Beneath.machine_model.proofs.Times.{along_run}
-use Rattle.proof_shape.specs.Beneath.machine_model.specs.Times.{turns}
-use Rattle.proof_shape.specs.Beneath.machine_model.specs.Times.{IsRun, Turn}
 use Rattle.proof_shape.specs.Beneath.machine_model.proofs.Grown.{node_standing}
 
 -- ---- a move is what the step comes to

@@ -3,28 +3,16 @@ use Rattle.std.proofs.Common.{◌≡◌, ℕ, zero, suc, ◌<◌, ◌≤◌, ◌
 use Rattle.std.proofs.Common.{Option, Some, None, inl, inr, refl, sym, ◌∙◌, ap, subst, arith, ltb-true, ltb-false, slice_index_or}
 use Rattle.std.proofs.lemmas.Bool.{cases_eq}
 use Rattle.std.proofs.lemmas.Option.{none-some}
-use Rattle.proof_shape.specs.Beneath.history.specs.declared.calls.Call.{Call}
-use Rattle.proof_shape.specs.Beneath.machine_model.specs.declared.operations.Operation.{Operation}
-use Rattle.proof_shape.specs.Beneath.machine_model.specs.declared.steps.Bounds.{Bounds}
-use Rattle.proof_shape.specs.Beneath.machine_model.specs.declared.steps.Outcome.{Outcome}
+use Rattle.proof_shape.specs.Vocabulary.{Call, Operation, Bounds, Outcome, action_of, gone, operation_after, GoesOn, begun_operation, State, operation_of, settled, begin_denial, with_begin, IsRun}
+use Rattle.proof_shape.specs.Vocabulary.{Record, noted_progress, moment_at, no_moment, with_moment, moment_after, progress_of, Moment}
 use Rattle.proof_shape.specs.Beneath.machine_model.specs.declared.steps.Step.TheVariants as step
-use Rattle.proof_shape.specs.Beneath.machine_model.specs.Operations.{action_of}
-use Rattle.proof_shape.specs.Beneath.machine_model.specs.Acting.{gone, operation_after}
-use Rattle.proof_shape.specs.Beneath.machine_model.specs.Moves.{GoesOn, begun_operation}
 use Rattle.proof_shape.specs.Beneath.machine_model.specs.Moves as Machine
-use Rattle.proof_shape.specs.Beneath.machine_model.specs.States.{State, operation_of}
-use Rattle.proof_shape.specs.Beneath.machine_model.specs.Counting.{settled}
-use Rattle.proof_shape.specs.Beneath.machine_model.specs.Machine.{begin_denial, with_begin}
 use Rattle.proof_shape.specs.Beneath.machine_model.proofs.Actors.{marks_by, begin_counts}
-use Rattle.proof_shape.specs.Beneath.machine_model.specs.Times.{IsRun}
 use Rattle.proof_shape.specs.Beneath.proof_commits.proofs.Course.Finals.{from_time}
 use Rattle.proof_shape.specs.Beneath.proof_commits.proofs.Known.StepsAt.{NotedAt, NotesBegin, NotesGo, NotesEnd, NotesSweep, noted_at, after_mark, go_others, go_own, end_others, end_own}
 use Rattle.proof_shape.specs.Beneath.proof_commits.proofs.Known.StepsAt.{begin_others, begin_own, actor_counts}
 use Rattle.proof_shape.specs.Beneath.proof_commits.proofs.Words.First.{idle_at_first}
 use Rattle.proof_shape.specs.Lines.Knowing.{OfEachAt}
-use Rattle.proof_shape.specs.Beneath.machine_model.specs.Records.{Record, noted_progress, moment_at, no_moment, with_moment, moment_after}
-use Rattle.proof_shape.specs.Beneath.machine_model.specs.Tellings.{progress_of}
-use Rattle.proof_shape.specs.Beneath.machine_model.specs.declared.records.Moment.{Moment}
 use Rattle.proof_shape.specs.Beneath.machine_model.proofs.Alike.{moment_others}
 
 -- step t is the actor's operation's own, and not its end

@@ -3,8 +3,7 @@ use Rattle.std.proofs.Common.{suc, sym, ◌∙◌, arith}
 use Rattle.std.specs.Cmp.{nat_cmp_total}
 use Rattle.std.specs.FinMap as map
 use Rattle.std.specs.FinMap.{get-from_entries}
-use Rattle.proof_shape.specs.Beneath.slot_arena.specs.declared.refs.Ref.{Ref}
-use Rattle.proof_shape.specs.Beneath.slot_arena.specs.declared.nodes.Node.{Node}
+use Rattle.proof_shape.specs.Vocabulary.{Ref, Node}
 use Rattle.proof_shape.specs.Beneath.proof_contents.specs.Pairs.{pairs_from}
 use Rattle.proof_shape.specs.Beneath.proof_contents.specs.Steps.{IsTrie}
 use Rattle.proof_shape.specs.Beneath.proof_contents.specs.Tries.{IsShaped, Trie, branch, list, tomb}

@@ -1,22 +1,11 @@
 -- A main node with a change of one key has its shape.
 use Rattle.std.proofs.Common.{◌≡◌, ℕ, zero, suc, ◌-◌, ◌*◌, ◌^◌, ◌<◌, List, [], ◌∷◌, length, slice_index_or, Option, Some, None, inl, inr, refl, sym, ap, subst, ◌∙◌, arith, mod-eq_of_lt}
-use Rattle.proof_shape.specs.Beneath.ctrie_base.specs.Hashes.{hash_of}
+use Rattle.proof_shape.specs.Vocabulary.{hash_of, HashKind, Low, Fold, Wide, Block, Call, Ref, Node, Indirection, Branch, Single, Tomb, List as Listed, no_ref, flag_of, index_in, list_depth}
+use Rattle.proof_shape.specs.Vocabulary.{updated, removed, Change, key_of, value_of, changed}
 use Rattle.proof_shape.specs.Beneath.ctrie_base.proofs.Fits.{low_hash-lt, fold_hash-lt, block_hash-lt}
-use Rattle.proof_shape.specs.Beneath.ctrie_base.specs.declared.hashes.HashKind.{HashKind}
-use Rattle.proof_shape.specs.Beneath.ctrie_base.specs.declared.hashes.HashKind.TheVariants.{Low, Fold, Wide, Block}
-use Rattle.proof_shape.specs.Beneath.history.specs.declared.calls.Call.{Call}
-use Rattle.proof_shape.specs.Beneath.slot_arena.specs.declared.refs.Ref.{Ref}
-use Rattle.proof_shape.specs.Beneath.slot_arena.specs.declared.nodes.Node.{Node}
-use Rattle.proof_shape.specs.Beneath.slot_arena.specs.declared.nodes.Node.TheVariants.{Indirection, Branch, Single, Tomb, List as Listed}
-use Rattle.proof_shape.specs.Beneath.slot_arena.specs.Heaps.{no_ref}
-use Rattle.proof_shape.specs.Beneath.nodes.specs.Levels.{flag_of, index_in, list_depth}
-use Rattle.proof_shape.specs.Beneath.nodes.specs.Builders.{updated, removed}
 use Rattle.proof_shape.specs.Beneath.proof_contents.specs.Nodes.Looking.{look_at, look_among, or_else}
 use Rattle.proof_shape.specs.Beneath.proof_contents.specs.Nodes.Lists.{AreSingles}
-use Rattle.proof_shape.specs.Beneath.machine_model.specs.declared.building.Change.{Change}
 use Rattle.proof_shape.specs.Beneath.machine_model.specs.declared.building.Change.TheVariants as change
-use Rattle.proof_shape.specs.Beneath.machine_model.specs.Calls.{key_of, value_of}
-use Rattle.proof_shape.specs.Beneath.machine_model.specs.Building.{changed}
 use Rattle.proof_shape.specs.Beneath.proof_contents.specs.Tries.{IsChild, IsShaped}
 use Rattle.proof_shape.specs.Beneath.proof_contents.specs.Shapes.{LeadsTo}
 use Rattle.proof_shape.specs.Beneath.proof_contents.specs.Lines.Changes.{Known, Absence, no_flag, not_listed, Presence, in_branch, in_list, Neighbour, IsOther, of_branch, of_list, KnowsChange}

@@ -3,20 +3,9 @@ use Rattle.std.proofs.Common.{◌≡◌, ℕ, zero, suc, ◌+◌, true, cond, T,
 use Rattle.std.specs.FinMap.{entries, entries_sorted}
 use Rattle.std.specs.FinMap.Entries.{is_sorted}
 use Rattle.std.specs.Ordering.{nat_cmp}
-use Rattle.proof_shape.specs.Beneath.slot_arena.specs.declared.refs.Ref.{Ref}
-use Rattle.proof_shape.specs.Beneath.slot_arena.specs.declared.nodes.Node.{Node}
-use Rattle.proof_shape.specs.Beneath.slot_arena.specs.declared.nodes.Node.TheVariants.{Indirection, Branch, Single, Tomb, List as Listed}
-use Rattle.proof_shape.specs.Beneath.slot_arena.specs.Heaps.{node_of, entries_of, no_ref}
-use Rattle.proof_shape.specs.Beneath.machine_model.specs.declared.roots.Root.{Root}
-use Rattle.proof_shape.specs.Beneath.machine_model.specs.declared.steps.Bounds.{Bounds}
-use Rattle.proof_shape.specs.Beneath.machine_model.specs.declared.steps.Step.{Step}
-use Rattle.proof_shape.specs.Beneath.machine_model.specs.States.{State, root_of}
-use Rattle.proof_shape.specs.Beneath.machine_model.specs.States.{root_at as handle_at, word_of}
-use Rattle.proof_shape.specs.Beneath.machine_model.specs.Contents.{from_root, from_slot, content_at, pairs_below, most_levels}
-use Rattle.proof_shape.specs.Beneath.machine_model.specs.Counting.{refs_of_root}
-use Rattle.proof_shape.specs.Beneath.machine_model.specs.Pairs.{by_key}
-use Rattle.proof_shape.specs.Beneath.machine_model.specs.Times.{IsRun}
-use Rattle.proof_shape.specs.Beneath.machine_model.specs.Grown.{node_under}
+use Rattle.proof_shape.specs.Vocabulary.{Ref, Node, Indirection, Branch, Single, Tomb, List as Listed, node_of, entries_of, no_ref, Root, Bounds, Step, State, root_of, root_at as handle_at, word_of}
+use Rattle.proof_shape.specs.Vocabulary.{from_slot, content_at, pairs_below, most_levels, refs_of_root, by_key, IsRun, node_under}
+use Rattle.proof_shape.specs.Beneath.machine_model.specs.Contents.{from_root}
 use Rattle.proof_shape.specs.Beneath.proof_memory.specs.Wants.{AnIndirection, is_indirection}
 use Rattle.proof_shape.specs.Beneath.proof_memory.specs.Laws.{IsInUse}
 use Rattle.proof_shape.specs.Beneath.proof_memory.proofs.Safety.AtEachTime.{safe_at}

@@ -1,22 +1,10 @@
 -- What is found along a key's hash in the machine's heap is what the content of a handle has of it.
 use Rattle.std.proofs.Common.{◌≡◌, ℕ, zero, suc, ◌==◌, Bool, true, false, cond, List, [], ◌∷◌, Contains, Option, Some, None, refl, sym, ap, ◌∙◌, subst, arith}
 use Rattle.std.proofs.lemmas.Option.{none-some, same_Some}
-use Rattle.proof_shape.specs.Beneath.ctrie_base.specs.Hashes.{hash_of}
-use Rattle.proof_shape.specs.Beneath.nodes.specs.Levels.{flag_of, index_in}
-use Rattle.proof_shape.specs.Beneath.slot_arena.specs.declared.refs.Ref.{Ref}
-use Rattle.proof_shape.specs.Beneath.slot_arena.specs.declared.nodes.Node.{Node}
-use Rattle.proof_shape.specs.Beneath.slot_arena.specs.declared.nodes.Node.TheVariants.{Indirection, Branch, Single, Tomb, List as Listed}
-use Rattle.proof_shape.specs.Beneath.slot_arena.specs.Heaps.{Heap, entries_of, logical_main, no_ref, node_at}
-use Rattle.proof_shape.specs.Beneath.machine_model.specs.declared.roots.Root.{Root}
-use Rattle.proof_shape.specs.Beneath.machine_model.specs.declared.steps.Bounds.{Bounds}
-use Rattle.proof_shape.specs.Beneath.machine_model.specs.declared.steps.Step.{Step}
-use Rattle.proof_shape.specs.Beneath.machine_model.specs.Counting.{refs_of_root}
-use Rattle.proof_shape.specs.Beneath.machine_model.specs.Contents.{IsReached, content_at, from_root, most_levels, pairs_below}
-use Rattle.proof_shape.specs.Beneath.machine_model.specs.Grown.{node_under}
-use Rattle.proof_shape.specs.Beneath.machine_model.specs.Pairs.{by_key}
-use Rattle.proof_shape.specs.Beneath.machine_model.specs.States.{State, root_of, word_of}
-use Rattle.proof_shape.specs.Beneath.machine_model.specs.States.{root_at as handle_at}
-use Rattle.proof_shape.specs.Beneath.machine_model.specs.Times.{IsRun, last_of, states_of}
+use Rattle.proof_shape.specs.Vocabulary.{hash_of, flag_of, index_in, Ref, Node, Indirection, Branch, Single, Tomb, List as Listed, Heap, entries_of, logical_main, no_ref, node_at, Root, Bounds}
+use Rattle.proof_shape.specs.Vocabulary.{Step, refs_of_root, IsReached, content_at, most_levels, pairs_below, node_under, by_key, State, root_of, word_of, root_at as handle_at, IsRun, last_of}
+use Rattle.proof_shape.specs.Vocabulary.{states_of}
+use Rattle.proof_shape.specs.Beneath.machine_model.specs.Contents.{from_root}
 use Rattle.proof_shape.specs.Beneath.machine_model.proofs.Times.{run_ends, run_is}
 use Rattle.proof_shape.specs.Beneath.proof_contents.specs.Nodes.Branches.{at_place, standing}
 use Rattle.proof_shape.specs.Beneath.proof_contents.specs.Nodes.Lists.{AreSingles}

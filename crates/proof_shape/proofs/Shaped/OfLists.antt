@@ -5,26 +5,14 @@ use Rattle.std.proofs.lemmas.List.Elements.{All-head, All-tail}
 use Rattle.std.specs.FinMap.Entries.{is_sorted}
 use Rattle.std.specs.Ordering.{nat_cmp}
 use Rattle.arrayvec.specs.ArrayVec.{ArrayVec}
-use Rattle.proof_shape.specs.Beneath.ctrie_base.specs.Hashes.{hash_of}
-use Rattle.proof_shape.specs.Beneath.slot_arena.specs.declared.refs.Ref.{Ref}
-use Rattle.proof_shape.specs.Beneath.slot_arena.specs.declared.nodes.Node.{Node}
-use Rattle.proof_shape.specs.Beneath.slot_arena.specs.declared.nodes.Node.TheVariants.{Indirection, Branch, Single, Tomb, List as Listed}
-use Rattle.proof_shape.specs.Beneath.slot_arena.specs.declared.nodes.Slot.{Slot}
-use Rattle.proof_shape.specs.Beneath.slot_arena.specs.Heaps.{Heap, node_at, no_ref}
-use Rattle.proof_shape.specs.Beneath.nodes.specs.Levels.{list_depth}
+use Rattle.proof_shape.specs.Vocabulary.{hash_of, Ref, Node, Indirection, Branch, Single, Tomb, List as Listed, Slot, Heap, node_at, no_ref, list_depth, Bounds, Step, State, root_at, root_of}
+use Rattle.proof_shape.specs.Vocabulary.{AreBounds, run, content_at, pairs_below, most_levels, states_of, last_of, standing, KeysFit}
 use Rattle.proof_shape.specs.Beneath.proof_contents.specs.Nodes.Branches.{HasPlaces, at_place}
 use Rattle.proof_shape.specs.Beneath.proof_contents.specs.Nodes.Lists.{AreSingles}
 use Rattle.proof_shape.specs.Beneath.proof_contents.specs.Nodes.Looking.{Has, look_at, look_among, or_else}
 use Rattle.proof_shape.specs.Beneath.proof_contents.proofs.Nodes.Branches.{before, standing_at}
 use Rattle.proof_shape.specs.Beneath.proof_contents.proofs.Nodes.Tombs.{before-lt}
-use Rattle.proof_shape.specs.Beneath.machine_model.specs.declared.steps.Bounds.{Bounds}
-use Rattle.proof_shape.specs.Beneath.machine_model.specs.declared.steps.Step.{Step}
-use Rattle.proof_shape.specs.Beneath.machine_model.specs.States.{State, root_at, root_of}
-use Rattle.proof_shape.specs.Beneath.machine_model.specs.Machine.{AreBounds, run}
-use Rattle.proof_shape.specs.Beneath.machine_model.specs.Contents.{content_at, pairs_below, most_levels}
 use Rattle.proof_shape.specs.Beneath.machine_model.proofs.Times.{run_is, run_ends}
-use Rattle.proof_shape.specs.Beneath.machine_model.specs.Times.{states_of, last_of}
-use Rattle.proof_shape.specs.Beneath.machine_model.specs.Grown.{standing}
 use Rattle.proof_shape.specs.Beneath.proof_memory.specs.Wants.{AnEntry, is_indirection, ASingle, meets, AllHold, node_wants, is_formed}
 use Rattle.proof_shape.specs.Beneath.proof_memory.specs.Laws.{IsInUse}
 use Rattle.proof_shape.specs.Beneath.proof_memory.proofs.Claims.Uses.{Meets, all_of}
@@ -34,7 +22,6 @@ use Rattle.proof_shape.specs.Beneath.proof_contents.proofs.Shapes.Nodes.{IsBranc
 use Rattle.proof_shape.specs.Sites.Nodes.{steps_of, path_of}
 use Rattle.proof_shape.specs.Sites.Lines.{Sites, sites_of, bare, trie_at, InsideSite}
 use Rattle.proof_shape.specs.Sites.At.{StepsFit}
-use Rattle.proof_shape.specs.Beneath.machine_model.specs.Keys.{KeysFit}
 use Rattle.proof_shape.specs.Laws.{depth_of, StandsAt, BranchesAreExact, BranchesBelowRoots, ListsAreCrowds, NoKeyTwice}
 use Rattle.proof_shape.proofs.Sites.Stepped.{takes_steps}
 use Rattle.proof_shape.proofs.Shaped.Changed.{bare_look}

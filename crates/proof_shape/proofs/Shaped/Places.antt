@@ -1,14 +1,8 @@
 -- What stands at the places of branches: children, with the path that leads to them.
 use Rattle.std.proofs.Common.{◌≡◌, ℕ, suc, ◌*◌, ◌^◌, ◌<◌, true, length, slice_index_or, Some, refl, sym, ap, ◌∙◌, arith}
 use Rattle.arrayvec.specs.ArrayVec.{ArrayVec}
-use Rattle.proof_shape.specs.Beneath.ctrie_base.specs.Hashes.{hash_of}
-use Rattle.proof_shape.specs.Beneath.ctrie_base.specs.Paths.{position_of}
-use Rattle.proof_shape.specs.Beneath.ctrie_base.specs.declared.hashes.HashKind.{HashKind}
-use Rattle.proof_shape.specs.Beneath.slot_arena.specs.declared.refs.Ref.{Ref}
-use Rattle.proof_shape.specs.Beneath.slot_arena.specs.declared.nodes.Node.{Node}
-use Rattle.proof_shape.specs.Beneath.slot_arena.specs.declared.nodes.Node.TheVariants.{Indirection, Branch, Single, Tomb, List as Listed}
-use Rattle.proof_shape.specs.Beneath.slot_arena.specs.Heaps.{no_ref, entries_of, bitmap_of, generation_of}
-use Rattle.proof_shape.specs.Beneath.nodes.specs.Levels.{flag_of, has_flag, index_in}
+use Rattle.proof_shape.specs.Vocabulary.{hash_of, position_of, HashKind, Ref, Node, Indirection, Branch, Single, Tomb, List as Listed, no_ref, entries_of, bitmap_of, generation_of, flag_of}
+use Rattle.proof_shape.specs.Vocabulary.{has_flag, index_in}
 use Rattle.proof_shape.specs.Beneath.proof_contents.proofs.Nodes.Branches.{flagged}
 use Rattle.proof_shape.specs.Beneath.proof_contents.proofs.Nodes.Tombs.{place_of}
 use Rattle.proof_shape.specs.Beneath.proof_memory.specs.Wants.{is_indirection}

@@ -3,11 +3,7 @@ use Rattle.std.proofs.Common.{◌≡◌, ℕ, ◌+◌, ◌*◌, ◌^◌, ◌<◌
 use Rattle.std.proofs.lemmas.Bool.{cases_lt}
 use Rattle.std.proofs.lemmas.List.{get_or_append_left, get_or_push, length-append}
 use Rattle.arrayvec.specs.ArrayVec.{ArrayVec}
-use Rattle.proof_shape.specs.Beneath.ctrie_base.specs.declared.hashes.HashKind.{HashKind}
-use Rattle.proof_shape.specs.Beneath.slot_arena.specs.declared.refs.Ref.{Ref}
-use Rattle.proof_shape.specs.Beneath.slot_arena.specs.declared.nodes.Node.TheVariants.{Branch, Single, Tomb}
-use Rattle.proof_shape.specs.Beneath.slot_arena.specs.Heaps.{no_ref, entries_of}
-use Rattle.proof_shape.specs.Beneath.nodes.specs.Builders.{contracted}
+use Rattle.proof_shape.specs.Vocabulary.{HashKind, Ref, Branch, Single, Tomb, no_ref, entries_of, contracted}
 use Rattle.proof_shape.specs.Beneath.proof_contents.specs.Tries.{Trie, IsShaped}
 use Rattle.proof_shape.specs.Beneath.proof_contents.specs.Shapes.{Fits}
 use Rattle.proof_shape.specs.Beneath.proof_contents.proofs.Shapes.Builders.{refilled_shaped, contracted_shaped}

@@ -1,18 +1,9 @@
 -- The main node of a root is a branch.
 use Rattle.std.proofs.Common.{◌≡◌, ℕ, ◌≤◌, true, Some, refl, sym, subst, ◌∙◌, arith}
 use Rattle.std.proofs.lemmas.Bool.{false≢true}
-use Rattle.proof_shape.specs.Beneath.slot_arena.specs.declared.refs.Ref.{Ref}
-use Rattle.proof_shape.specs.Beneath.slot_arena.specs.declared.nodes.Node.{Node}
-use Rattle.proof_shape.specs.Beneath.slot_arena.specs.declared.nodes.Node.TheVariants.{Indirection, Branch, Single, Tomb, List as Listed}
-use Rattle.proof_shape.specs.Beneath.slot_arena.specs.declared.nodes.Prev.{Prev}
+use Rattle.proof_shape.specs.Vocabulary.{Ref, Node, Indirection, Branch, Single, Tomb, List as Listed, Prev, Heap, node_at, prev_at, main_of, logical, logical_main, list_depth, Root, RootWord}
+use Rattle.proof_shape.specs.Vocabulary.{Plain, Offer, State, root_at, root_of, run}
 use Rattle.proof_shape.specs.Beneath.slot_arena.specs.declared.nodes.Prev.TheVariants as prev
-use Rattle.proof_shape.specs.Beneath.slot_arena.specs.Heaps.{Heap, node_at, prev_at, main_of, logical, logical_main}
-use Rattle.proof_shape.specs.Beneath.nodes.specs.Levels.{list_depth}
-use Rattle.proof_shape.specs.Beneath.machine_model.specs.declared.roots.Root.{Root}
-use Rattle.proof_shape.specs.Beneath.machine_model.specs.declared.roots.RootWord.{RootWord}
-use Rattle.proof_shape.specs.Beneath.machine_model.specs.declared.roots.RootWord.TheVariants.{Plain, Offer}
-use Rattle.proof_shape.specs.Beneath.machine_model.specs.States.{State, root_at, root_of}
-use Rattle.proof_shape.specs.Beneath.machine_model.specs.Machine.{run}
 use Rattle.proof_shape.specs.Beneath.proof_memory.specs.Wants.{AMain, AnIndirection, meets, is_branch, Is, Holds, AllHold, node_wants, prev_wants, word_wants}
 use Rattle.proof_shape.specs.Beneath.proof_memory.specs.Laws.{IsInUse}
 use Rattle.proof_shape.specs.Beneath.proof_memory.proofs.Claims.Uses.{safe_of, meets_of}

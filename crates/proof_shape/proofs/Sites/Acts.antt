@@ -1,21 +1,11 @@
 -- What a line makes, swaps and decides stands at its site.
 use Rattle.std.proofs.Common.{◌≡◌, ℕ, ◌-◌, ◌*◌, ◌^◌, ◌<◌, ◌&&◌, true, false, nat_lt, length, refl, sym, ap, subst, ◌∙◌, ltb-true, lt-ltb, leb-true, arith}
 use Rattle.std.proofs.lemmas.Bool.{false≢true}
-use Rattle.proof_shape.specs.Beneath.ctrie_base.specs.declared.hashes.HashKind.{HashKind}
-use Rattle.proof_shape.specs.Beneath.slot_arena.specs.declared.refs.Ref.{Ref}
-use Rattle.proof_shape.specs.Beneath.slot_arena.specs.declared.nodes.Node.{Node as SlotNode}
-use Rattle.proof_shape.specs.Beneath.slot_arena.specs.declared.nodes.Node.TheVariants.{Branch}
-use Rattle.proof_shape.specs.Beneath.slot_arena.specs.Heaps.{node_at, bitmap_of, no_ref}
-use Rattle.proof_shape.specs.Beneath.nodes.specs.Levels.{has_flag, list_depth}
-use Rattle.proof_shape.specs.Beneath.machine_model.specs.declared.operations.Operation.{Operation}
-use Rattle.proof_shape.specs.Beneath.machine_model.specs.declared.reading.ReadLine.{ReadLine}
+use Rattle.proof_shape.specs.Vocabulary.{HashKind, Ref, Node as SlotNode, Branch, node_at, bitmap_of, no_ref, has_flag, list_depth, Operation, ReadLine, SwapLine, CompleteLine, Descriptor, RootLine}
+use Rattle.proof_shape.specs.Vocabulary.{Line, key_of, State, current, above, depth_of, hash_in, is_below_root, action_at, complete_action_at, root_action, leaves_single, line_action}
 use Rattle.proof_shape.specs.Beneath.machine_model.specs.declared.reading.ReadLine.TheVariants as read
-use Rattle.proof_shape.specs.Beneath.machine_model.specs.declared.reading.SwapLine.{SwapLine}
 use Rattle.proof_shape.specs.Beneath.machine_model.specs.declared.reading.SwapLine.TheVariants as swap
-use Rattle.proof_shape.specs.Beneath.machine_model.specs.declared.roots.CompleteLine.{CompleteLine}
 use Rattle.proof_shape.specs.Beneath.machine_model.specs.declared.roots.CompleteLine.TheVariants as complete
-use Rattle.proof_shape.specs.Beneath.machine_model.specs.declared.roots.Descriptor.{Descriptor}
-use Rattle.proof_shape.specs.Beneath.machine_model.specs.declared.roots.RootLine.{RootLine}
 use Rattle.proof_shape.specs.Beneath.machine_model.specs.declared.roots.RootLine.TheVariants as root
 use Rattle.proof_shape.specs.Beneath.machine_model.specs.declared.finding.KeyLine.TheVariants as key
 use Rattle.proof_shape.specs.Beneath.machine_model.specs.declared.repairs.RenewLine.TheVariants as renew
@@ -23,14 +13,7 @@ use Rattle.proof_shape.specs.Beneath.machine_model.specs.declared.repairs.CleanL
 use Rattle.proof_shape.specs.Beneath.machine_model.specs.declared.repairs.ClimbLine.TheVariants as climb
 use Rattle.proof_shape.specs.Beneath.machine_model.specs.declared.copying.CopyLine.TheVariants as copy
 use Rattle.proof_shape.specs.Beneath.machine_model.specs.declared.walking.WalkLine.TheVariants as walk
-use Rattle.proof_shape.specs.Beneath.machine_model.specs.declared.lines.Line.{Line}
 use Rattle.proof_shape.specs.Beneath.machine_model.specs.declared.lines.Line.TheVariants as line
-use Rattle.proof_shape.specs.Beneath.machine_model.specs.Calls.{key_of}
-use Rattle.proof_shape.specs.Beneath.machine_model.specs.States.{State}
-use Rattle.proof_shape.specs.Beneath.machine_model.specs.Paths.{current, above, depth_of, hash_in, is_below_root}
-use Rattle.proof_shape.specs.Beneath.machine_model.specs.Swapping.{action_at, complete_action_at, root_action}
-use Rattle.proof_shape.specs.Beneath.machine_model.specs.Cleaning.{leaves_single}
-use Rattle.proof_shape.specs.Beneath.machine_model.specs.Operations.{line_action}
 use Rattle.proof_shape.specs.Beneath.proof_memory.specs.Wants.{AllHold, line_wants, flags}
 use Rattle.proof_shape.specs.Beneath.proof_memory.proofs.Claims.Uses.{safe_of, meets_of, fact_of, all_of}
 use Rattle.proof_shape.specs.Beneath.proof_memory.specs.Levels.{ReadLevel, CompleteLevel, RootLevel, LineLevel}

@@ -2,27 +2,13 @@
 use Rattle.std.proofs.Common.{◌≡◌, ℕ, ◌+◌, map, get_or, Option, Some, None, refl, sym, ap, ◌∙◌, ◌⊎◌, inl, inr, arith}
 use Rattle.std.proofs.lemmas.Bool.{cases_eq}
 use Rattle.std.proofs.lemmas.Option.{none-some, same_Some}
-use Rattle.proof_shape.specs.Beneath.slot_arena.specs.declared.refs.Ref.{Ref}
-use Rattle.proof_shape.specs.Beneath.slot_arena.specs.declared.nodes.Node.{Node}
-use Rattle.proof_shape.specs.Beneath.slot_arena.specs.declared.nodes.Slot.{Slot}
-use Rattle.proof_shape.specs.Beneath.slot_arena.specs.Heaps.{next_ref}
-use Rattle.proof_shape.specs.Beneath.epochs.specs.Sweeping.{ripe}
-use Rattle.proof_shape.specs.Beneath.machine_model.specs.declared.operations.Operation.{Operation}
-use Rattle.proof_shape.specs.Beneath.machine_model.specs.declared.steps.Outcome.{Outcome}
-use Rattle.proof_shape.specs.Beneath.machine_model.specs.declared.steps.Step.{Step}
+use Rattle.proof_shape.specs.Vocabulary.{Ref, Node, Slot, next_ref, ripe, Operation, Outcome, Step, handle_of, State, operation_of, action_of, gone, settled, pin_of, Begins, Ends, Sweeps, Moves}
+use Rattle.proof_shape.specs.Vocabulary.{begun_operation, standing}
 use Rattle.proof_shape.specs.Beneath.machine_model.specs.declared.steps.Step.TheVariants as step
-use Rattle.proof_shape.specs.Beneath.machine_model.specs.Calls.{handle_of}
-use Rattle.proof_shape.specs.Beneath.machine_model.specs.States.{State, operation_of}
-use Rattle.proof_shape.specs.Beneath.machine_model.specs.Operations.{action_of}
-use Rattle.proof_shape.specs.Beneath.machine_model.specs.Acting.{gone}
-use Rattle.proof_shape.specs.Beneath.machine_model.specs.Counting.{settled}
-use Rattle.proof_shape.specs.Beneath.machine_model.specs.Machine.{pin_of}
 use Rattle.proof_shape.specs.Beneath.machine_model.proofs.HeapMoves.{begin_heap}
 use Rattle.proof_shape.specs.Beneath.machine_model.proofs.InUse.{InUse}
 use Rattle.proof_shape.specs.Beneath.machine_model.proofs.Slots.{ripe_in_use}
-use Rattle.proof_shape.specs.Beneath.machine_model.specs.Moves.{Begins, Goes, Ends, Sweeps}
-use Rattle.proof_shape.specs.Beneath.machine_model.specs.Moves.{Moves, begun_operation}
-use Rattle.proof_shape.specs.Beneath.machine_model.specs.Grown.{standing}
+use Rattle.proof_shape.specs.Beneath.machine_model.specs.Moves.{Goes}
 use Rattle.proof_shape.specs.Beneath.proof_memory.proofs.Heap.Under.{fresh_slot, taken_all}
 use Rattle.proof_shape.specs.Beneath.proof_memory.specs.Making.{made_node}
 use Rattle.proof_shape.specs.Beneath.proof_memory.proofs.Safety.States.{IsSafe, stood_or_made, stands_in_use}

@@ -1,31 +1,17 @@
 -- Sites in BUILD: what it makes has its shape, and what comes after.
 use Rattle.std.proofs.Common.{◌≡◌, ℕ, suc, ◌+◌, ◌-◌, ◌*◌, ◌^◌, ◌<◌, ◌≤◌, ◌==◌, true, slice_index_or, List, Option, Some, None, is_some, refl, sym, ap, subst, ◌∙◌, eqb-true, arith}
 use Rattle.std.proofs.lemmas.Bool.{false≢true, cond_both}
-use Rattle.proof_shape.specs.Beneath.ctrie_base.specs.Hashes.{hash_of}
-use Rattle.proof_shape.specs.Beneath.ctrie_base.specs.declared.hashes.HashKind.{HashKind}
-use Rattle.proof_shape.specs.Beneath.slot_arena.specs.declared.refs.Ref.{Ref}
-use Rattle.proof_shape.specs.Beneath.slot_arena.specs.declared.nodes.Node.{Node}
-use Rattle.proof_shape.specs.Beneath.slot_arena.specs.declared.nodes.Node.TheVariants.{Branch, Single}
-use Rattle.proof_shape.specs.Beneath.slot_arena.specs.Heaps.{node_at, entry_at, entries_of, next_ref, no_ref}
-use Rattle.proof_shape.specs.Beneath.nodes.specs.Levels.{list_depth, index_in, flag_of, parting}
-use Rattle.proof_shape.specs.Beneath.nodes.specs.Builders.{pair, rung}
+use Rattle.proof_shape.specs.Vocabulary.{hash_of, HashKind, Ref, Node, Branch, Single, node_at, entry_at, entries_of, next_ref, no_ref, list_depth, index_in, flag_of, parting, pair, rung, Operation}
+use Rattle.proof_shape.specs.Vocabulary.{Site, Change, BuildLine, Line, key_of, value_of, State, depth_of, hash_in, flag_in, build_action, build_after, build_if_made, build_after_made, after_single}
+use Rattle.proof_shape.specs.Vocabulary.{after_link, changed, old_hash, key_in}
 use Rattle.proof_shape.specs.Beneath.proof_contents.specs.Nodes.Branches.{at_place}
 use Rattle.proof_shape.specs.Beneath.proof_contents.specs.Nodes.Chains.{Parts}
 use Rattle.proof_shape.specs.Beneath.proof_contents.proofs.Nodes.Branches.{flagged}
 use Rattle.proof_shape.specs.Beneath.proof_contents.proofs.Nodes.Partings.{IsParting, parting_is, pair_parts}
-use Rattle.proof_shape.specs.Beneath.machine_model.specs.declared.operations.Operation.{Operation}
-use Rattle.proof_shape.specs.Beneath.machine_model.specs.declared.building.Site.{Site}
 use Rattle.proof_shape.specs.Beneath.machine_model.specs.declared.building.Site.TheVariants as site
-use Rattle.proof_shape.specs.Beneath.machine_model.specs.declared.building.Change.{Change}
 use Rattle.proof_shape.specs.Beneath.machine_model.specs.declared.building.Change.TheVariants as change
-use Rattle.proof_shape.specs.Beneath.machine_model.specs.declared.building.BuildLine.{BuildLine}
 use Rattle.proof_shape.specs.Beneath.machine_model.specs.declared.building.BuildLine.TheVariants as build
-use Rattle.proof_shape.specs.Beneath.machine_model.specs.declared.lines.Line.{Line}
 use Rattle.proof_shape.specs.Beneath.machine_model.specs.declared.lines.Line.TheVariants as line
-use Rattle.proof_shape.specs.Beneath.machine_model.specs.Calls.{key_of, value_of}
-use Rattle.proof_shape.specs.Beneath.machine_model.specs.States.{State}
-use Rattle.proof_shape.specs.Beneath.machine_model.specs.Paths.{depth_of, hash_in, flag_in}
-use Rattle.proof_shape.specs.Beneath.machine_model.specs.Building.{build_action, build_after, build_if_made, build_after_made, after_single, after_link, changed, old_hash, key_in}
 use Rattle.proof_shape.specs.Beneath.proof_memory.specs.Wants.{AllHold, line_wants, site_wants}
 use Rattle.proof_shape.specs.Beneath.proof_memory.proofs.Claims.Uses.{safe_of, meets_of, fact_of, entry_of}
 use Rattle.proof_shape.specs.Beneath.proof_memory.specs.Levels.{UpdateLevel, ChangeLevel, BuildLevel}

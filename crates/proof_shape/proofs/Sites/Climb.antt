@@ -4,35 +4,15 @@ use Rattle.std.proofs.Common.{sym, ap, subst, ◌∙◌, inl, inr, ltb-true, lt-
 use Rattle.std.proofs.lemmas.Bool.{cases_eq, cond_both, and_parts}
 use Rattle.std.proofs.lemmas.List.{get_or-set_same, get_or-set_other}
 use Rattle.arrayvec.specs.ArrayVec.{ArrayVec}
-use Rattle.proof_shape.specs.Beneath.ctrie_base.specs.Hashes.{hash_of}
-use Rattle.proof_shape.specs.Beneath.ctrie_base.specs.Paths.{position_of}
-use Rattle.proof_shape.specs.Beneath.ctrie_base.specs.declared.hashes.HashKind.{HashKind}
-use Rattle.proof_shape.specs.Beneath.slot_arena.specs.declared.refs.Ref.{Ref}
-use Rattle.proof_shape.specs.Beneath.slot_arena.specs.declared.nodes.Node.{Node}
-use Rattle.proof_shape.specs.Beneath.slot_arena.specs.declared.nodes.Node.TheVariants.{Branch, Single, Tomb}
-use Rattle.proof_shape.specs.Beneath.slot_arena.specs.declared.nodes.Prev.{Prev}
+use Rattle.proof_shape.specs.Vocabulary.{hash_of, position_of, HashKind, Ref, Node, Branch, Single, Tomb, Prev, node_at, entries_of, bitmap_of, next_ref, no_ref, has_flag, index_in, contracted}
+use Rattle.proof_shape.specs.Vocabulary.{Operation, After, Gives, ReadLine, Swap, SwapLine, RootLine, Climb, Purpose, State, current, above, depth_of, hash_in, flag_in, is_start, is_below_root}
+use Rattle.proof_shape.specs.Vocabulary.{at_indirection, after_publish, after_deciding, after_check, on_line, climbing, higher, place_in, climbed_node, climb_after_read, holds_it, climb_after_main}
+use Rattle.proof_shape.specs.Vocabulary.{climb_after_contracted, climb_after_root, after_update, climbed_on, swapped}
 use Rattle.proof_shape.specs.Beneath.slot_arena.specs.declared.nodes.Prev.TheVariants as prev
-use Rattle.proof_shape.specs.Beneath.slot_arena.specs.Heaps.{node_at, entries_of, bitmap_of, next_ref, no_ref}
-use Rattle.proof_shape.specs.Beneath.nodes.specs.Levels.{has_flag, index_in}
-use Rattle.proof_shape.specs.Beneath.nodes.specs.Builders.{contracted}
 use Rattle.proof_shape.specs.Beneath.proof_contents.proofs.Nodes.Branches.{flagged, position-before}
 use Rattle.proof_shape.specs.Beneath.proof_contents.proofs.Nodes.Tombs.{before-lt}
-use Rattle.proof_shape.specs.Beneath.machine_model.specs.declared.operations.Operation.{Operation}
-use Rattle.proof_shape.specs.Beneath.machine_model.specs.declared.reading.After.{After}
-use Rattle.proof_shape.specs.Beneath.machine_model.specs.declared.reading.After.TheVariants.{Goes, Gives}
-use Rattle.proof_shape.specs.Beneath.machine_model.specs.declared.reading.ReadLine.{ReadLine}
-use Rattle.proof_shape.specs.Beneath.machine_model.specs.declared.reading.Swap.{Swap}
-use Rattle.proof_shape.specs.Beneath.machine_model.specs.declared.reading.SwapLine.{SwapLine}
-use Rattle.proof_shape.specs.Beneath.machine_model.specs.declared.roots.RootLine.{RootLine}
-use Rattle.proof_shape.specs.Beneath.machine_model.specs.declared.repairs.Climb.{Climb}
-use Rattle.proof_shape.specs.Beneath.machine_model.specs.declared.lines.Purpose.{Purpose}
+use Rattle.proof_shape.specs.Beneath.machine_model.specs.declared.reading.After.TheVariants.{Goes}
 use Rattle.proof_shape.specs.Beneath.machine_model.specs.declared.lines.Purpose.TheVariants as purpose
-use Rattle.proof_shape.specs.Beneath.machine_model.specs.States.{State}
-use Rattle.proof_shape.specs.Beneath.machine_model.specs.Paths.{current, above, depth_of, hash_in, flag_in, is_start, is_below_root}
-use Rattle.proof_shape.specs.Beneath.machine_model.specs.Reading.{at_indirection}
-use Rattle.proof_shape.specs.Beneath.machine_model.specs.Swapping.{after_publish, after_deciding, after_check, on_line}
-use Rattle.proof_shape.specs.Beneath.machine_model.specs.Climbing.{climbing, higher, place_in, climbed_node, climb_after_read, holds_it, climb_after_main, climb_after_contracted, climb_after_root}
-use Rattle.proof_shape.specs.Beneath.machine_model.specs.Operations.{after_update, climbed_on, swapped}
 use Rattle.proof_shape.specs.Beneath.machine_model.specs.Operations.{after_swap as line_after_swap}
 use Rattle.proof_shape.specs.Beneath.proof_memory.specs.Wants.{meets, is_indirection, ABranch}
 use Rattle.proof_shape.specs.Beneath.proof_memory.proofs.Lines.Shared.{above_long}

@@ -1,19 +1,9 @@
 -- Whatever was made up to a time stands at its site, and so does the main node that counts for an indirection.
 use Rattle.std.proofs.Common.{◌≡◌, ◌≢◌, ℕ, zero, suc, ◌<◌, ◌≤◌, true, Option, Some, None, refl, sym, ap, subst, ◌∙◌, arith}
 use Rattle.std.proofs.lemmas.Bool.{false≢true}
-use Rattle.proof_shape.specs.Beneath.slot_arena.specs.declared.refs.Ref.{Ref}
-use Rattle.proof_shape.specs.Beneath.slot_arena.specs.declared.nodes.Node.{Node}
-use Rattle.proof_shape.specs.Beneath.slot_arena.specs.declared.nodes.Node.TheVariants.{Indirection, Branch, Single, Tomb, List as Listed}
-use Rattle.proof_shape.specs.Beneath.slot_arena.specs.declared.nodes.Prev.{Prev}
+use Rattle.proof_shape.specs.Vocabulary.{Ref, Node, Indirection, Branch, Single, Tomb, List as Listed, Prev, Slot, node_of, main_of, prev_of, logical, list_depth, Bounds, Step, State, IsRun, grown}
+use Rattle.proof_shape.specs.Vocabulary.{standing, or_before, node_under, main_before}
 use Rattle.proof_shape.specs.Beneath.slot_arena.specs.declared.nodes.Prev.TheVariants as prev
-use Rattle.proof_shape.specs.Beneath.slot_arena.specs.declared.nodes.Slot.{Slot}
-use Rattle.proof_shape.specs.Beneath.slot_arena.specs.Heaps.{node_of, main_of, prev_of, logical}
-use Rattle.proof_shape.specs.Beneath.nodes.specs.Levels.{list_depth}
-use Rattle.proof_shape.specs.Beneath.machine_model.specs.declared.steps.Bounds.{Bounds}
-use Rattle.proof_shape.specs.Beneath.machine_model.specs.declared.steps.Step.{Step}
-use Rattle.proof_shape.specs.Beneath.machine_model.specs.States.{State}
-use Rattle.proof_shape.specs.Beneath.machine_model.specs.Times.{IsRun}
-use Rattle.proof_shape.specs.Beneath.machine_model.specs.Grown.{grown, standing, or_before, node_under, main_before}
 use Rattle.proof_shape.specs.Beneath.proof_memory.specs.Wants.{AMain, AnIndirection, meets, is_indirection, AllHold, node_wants, prev_wants}
 use Rattle.proof_shape.specs.Beneath.proof_memory.specs.Laws.{IsInUse}
 use Rattle.proof_shape.specs.Beneath.proof_memory.proofs.Claims.Uses.{meets_same, first_hold, last_hold}

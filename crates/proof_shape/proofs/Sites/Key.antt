@@ -2,25 +2,10 @@
 use Rattle.std.proofs.Common.{◌≡◌, ℕ, suc, ◌+◌, ◌*◌, ◌^◌, ◌<◌, ◌==◌, ◌&&◌, true, nat_lt, nat_le, List, [], length, slice_index_or, sym, ap, subst, ◌∙◌, ltb-true, arith}
 use Rattle.std.proofs.lemmas.Bool.{cond_both}
 use Rattle.arrayvec.specs.ArrayVec.{ArrayVec}
-use Rattle.proof_shape.specs.Beneath.ctrie_base.specs.declared.hashes.HashKind.{HashKind}
-use Rattle.proof_shape.specs.Beneath.ctrie_base.specs.Paths.{position_of}
-use Rattle.proof_shape.specs.Beneath.slot_arena.specs.declared.refs.Ref.{Ref}
-use Rattle.proof_shape.specs.Beneath.slot_arena.specs.declared.nodes.Node.{Node}
-use Rattle.proof_shape.specs.Beneath.slot_arena.specs.declared.nodes.Node.TheVariants.{Indirection, Branch, Single, Tomb, List as Listed}
-use Rattle.proof_shape.specs.Beneath.slot_arena.specs.Heaps.{node_at, entry_at, entries_of, no_ref}
-use Rattle.proof_shape.specs.Beneath.nodes.specs.Levels.{has_flag, flag_of}
-use Rattle.proof_shape.specs.Beneath.machine_model.specs.declared.operations.Operation.{Operation}
-use Rattle.proof_shape.specs.Beneath.machine_model.specs.declared.reading.After.{After}
-use Rattle.proof_shape.specs.Beneath.machine_model.specs.declared.reading.After.TheVariants.{Goes, Gives}
-use Rattle.proof_shape.specs.Beneath.machine_model.specs.declared.reading.ReadLine.{ReadLine}
-use Rattle.proof_shape.specs.Beneath.machine_model.specs.declared.finding.WhenFound.{WhenFound}
-use Rattle.proof_shape.specs.Beneath.machine_model.specs.declared.finding.WhenFound.TheVariants.{Answers, Sets, Removes}
-use Rattle.proof_shape.specs.Beneath.machine_model.specs.Calls.{key_of, inserts, when_found}
-use Rattle.proof_shape.specs.Beneath.machine_model.specs.States.{State}
-use Rattle.proof_shape.specs.Beneath.machine_model.specs.Paths.{above, depth_of, flag_in, hash_in}
-use Rattle.proof_shape.specs.Beneath.machine_model.specs.Reading.{at_indirection}
-use Rattle.proof_shape.specs.Beneath.machine_model.specs.Renewing.{renew_next}
-use Rattle.proof_shape.specs.Beneath.machine_model.specs.Finding.{absent, found_so, key_after_read, key_after_main, is_passable, key_after_entry, after_listed, after_sibling}
+use Rattle.proof_shape.specs.Vocabulary.{HashKind, position_of, Ref, Node, Indirection, Branch, Single, Tomb, List as Listed, node_at, entry_at, entries_of, no_ref, has_flag, flag_of, Operation}
+use Rattle.proof_shape.specs.Vocabulary.{After, Gives, ReadLine, WhenFound, Answers, Sets, Removes, key_of, inserts, when_found, State, above, depth_of, flag_in, hash_in, at_indirection, renew_next}
+use Rattle.proof_shape.specs.Vocabulary.{absent, found_so, key_after_read, key_after_main, is_passable, key_after_entry, after_listed, after_sibling}
+use Rattle.proof_shape.specs.Beneath.machine_model.specs.declared.reading.After.TheVariants.{Goes}
 use Rattle.proof_shape.specs.Beneath.proof_memory.specs.Wants.{is_indirection}
 use Rattle.proof_shape.specs.Beneath.proof_memory.proofs.Lines.Shared.{above_long, pushed_depth}
 use Rattle.proof_shape.specs.Beneath.proof_contents.specs.Lines.Changes.{IsFlagged}

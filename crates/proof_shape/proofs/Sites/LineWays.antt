@@ -1,16 +1,10 @@
 -- The path of a line: at its levels, on the way to the key, and of indirections.
 use Rattle.std.proofs.Common.{ℕ, List, [], All, arith}
 use Rattle.std.proofs.lemmas.List.Elements.{All-nil}
-use Rattle.proof_shape.specs.Beneath.ctrie_base.specs.declared.hashes.HashKind.{HashKind}
-use Rattle.proof_shape.specs.Beneath.slot_arena.specs.declared.refs.Ref.{Ref}
-use Rattle.proof_shape.specs.Beneath.slot_arena.specs.Heaps.{Heap}
-use Rattle.proof_shape.specs.Beneath.history.specs.declared.calls.Access.{Access}
-use Rattle.proof_shape.specs.Beneath.history.specs.declared.calls.Call.{Call}
+use Rattle.proof_shape.specs.Vocabulary.{HashKind, Ref, Heap, Access, Call, Line, Purpose}
 use Rattle.proof_shape.specs.Beneath.machine_model.specs.declared.building.BuildLine.TheVariants as build
 use Rattle.proof_shape.specs.Beneath.machine_model.specs.declared.finding.KeyLine.TheVariants as key
-use Rattle.proof_shape.specs.Beneath.machine_model.specs.declared.lines.Line.{Line}
 use Rattle.proof_shape.specs.Beneath.machine_model.specs.declared.lines.Line.TheVariants as line
-use Rattle.proof_shape.specs.Beneath.machine_model.specs.declared.lines.Purpose.{Purpose}
 use Rattle.proof_shape.specs.Beneath.machine_model.specs.declared.lines.Purpose.TheVariants as purpose
 use Rattle.proof_shape.specs.Beneath.machine_model.specs.declared.repairs.CleanLine.TheVariants as clean
 use Rattle.proof_shape.specs.Beneath.machine_model.specs.declared.repairs.ClimbLine.TheVariants as climb

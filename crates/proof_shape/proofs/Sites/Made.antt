@@ -1,20 +1,9 @@
 -- What is asked of what a step makes, and of what it swaps: each stands at its site.
 use Rattle.std.proofs.Common.{◌≡◌, ℕ, suc, ◌+◌, ◌*◌, ◌^◌, true, sym, ap, subst, ◌∙◌, add_comm, arith}
 use Rattle.std.proofs.lemmas.Bool.{false≢true}
-use Rattle.proof_shape.specs.Beneath.ctrie_base.specs.declared.hashes.HashKind.{HashKind}
-use Rattle.proof_shape.specs.Beneath.slot_arena.specs.declared.refs.Ref.{Ref}
-use Rattle.proof_shape.specs.Beneath.slot_arena.specs.declared.nodes.Node.{Node}
-use Rattle.proof_shape.specs.Beneath.slot_arena.specs.declared.nodes.Node.TheVariants.{Indirection, Branch, Single, Tomb, List as Listed}
-use Rattle.proof_shape.specs.Beneath.slot_arena.specs.Heaps.{node_at}
-use Rattle.proof_shape.specs.Beneath.nodes.specs.Levels.{index_in}
-use Rattle.proof_shape.specs.Beneath.machine_model.specs.declared.actions.Action.{Action}
+use Rattle.proof_shape.specs.Vocabulary.{HashKind, Ref, Node, Indirection, Branch, Single, Tomb, List as Listed, node_at, index_in, Action, Operation, Line, ReadLine, State, read_action}
 use Rattle.proof_shape.specs.Beneath.machine_model.specs.declared.actions.Action.TheVariants as act
-use Rattle.proof_shape.specs.Beneath.machine_model.specs.declared.operations.Operation.{Operation}
-use Rattle.proof_shape.specs.Beneath.machine_model.specs.declared.lines.Line.{Line}
-use Rattle.proof_shape.specs.Beneath.machine_model.specs.declared.reading.ReadLine.{ReadLine}
 use Rattle.proof_shape.specs.Beneath.machine_model.specs.declared.reading.ReadLine.TheVariants as read
-use Rattle.proof_shape.specs.Beneath.machine_model.specs.States.{State}
-use Rattle.proof_shape.specs.Beneath.machine_model.specs.Reading.{read_action}
 use Rattle.proof_shape.specs.Beneath.proof_memory.specs.Wants.{is_branch_or_list}
 use Rattle.proof_shape.specs.Beneath.proof_memory.specs.Levels.{made_level}
 use Rattle.proof_shape.specs.Beneath.proof_contents.specs.Tries.{IsChild, IsShaped, branch, list, tomb}

@@ -1,16 +1,8 @@
 -- The laws of sites of main nodes, roots and paths.
 use Rattle.std.proofs.Common.{◌≡◌, ℕ, suc, ◌+◌, ◌≤◌, Some, sym, ap, subst, ◌∙◌, arith}
-use Rattle.proof_shape.specs.Beneath.slot_arena.specs.declared.refs.Ref.{Ref}
-use Rattle.proof_shape.specs.Beneath.slot_arena.specs.declared.nodes.Node.TheVariants.{Indirection}
-use Rattle.proof_shape.specs.Beneath.slot_arena.specs.declared.nodes.Slot.{Slot}
-use Rattle.proof_shape.specs.Beneath.slot_arena.specs.Heaps.{node_at, prev_at, main_of, logical, logical_main}
-use Rattle.proof_shape.specs.Beneath.machine_model.specs.declared.roots.Root.{Root}
-use Rattle.proof_shape.specs.Beneath.machine_model.specs.declared.steps.Bounds.{Bounds}
-use Rattle.proof_shape.specs.Beneath.machine_model.specs.declared.steps.Step.{Step}
-use Rattle.proof_shape.specs.Beneath.machine_model.specs.States.{State, root_at, root_of, operation_of}
+use Rattle.proof_shape.specs.Vocabulary.{Ref, Indirection, Slot, node_at, prev_at, main_of, logical, logical_main, Root, Bounds, Step, State, root_at, root_of, operation_of, IsRun, states_of}
+use Rattle.proof_shape.specs.Vocabulary.{last_of, standing}
 use Rattle.proof_shape.specs.Beneath.machine_model.proofs.Times.{run_is, run_ends}
-use Rattle.proof_shape.specs.Beneath.machine_model.specs.Times.{IsRun, states_of, last_of}
-use Rattle.proof_shape.specs.Beneath.machine_model.specs.Grown.{standing}
 use Rattle.proof_shape.specs.Beneath.proof_memory.specs.Wants.{is_indirection, AllHold, node_wants, AMain, Is, Holds}
 use Rattle.proof_shape.specs.Beneath.proof_memory.specs.Laws.{IsInUse}
 use Rattle.proof_shape.specs.Beneath.proof_memory.proofs.Claims.Uses.{safe_of}

@@ -1,44 +1,23 @@
 -- Sites after any line's step.
 use Rattle.std.proofs.Common.{◌≡◌, ℕ, ◌-◌, ◌*◌, ◌^◌, ◌<◌, ◌||◌, Bool, true, false, List, [], ◌∷◌, ◌++◌, length, Option, Some, None, refl, sym, ◌∙◌, arith}
 use Rattle.std.proofs.lemmas.Bool.{cond_both}
-use Rattle.proof_shape.specs.Beneath.ctrie_base.specs.declared.hashes.HashKind.{HashKind}
-use Rattle.proof_shape.specs.Beneath.history.specs.declared.calls.Call.{Call}
-use Rattle.proof_shape.specs.Beneath.history.specs.declared.calls.Call.TheVariants.{Clear, Snapshot, Freeze}
-use Rattle.proof_shape.specs.Beneath.slot_arena.specs.declared.refs.Ref.{Ref}
-use Rattle.proof_shape.specs.Beneath.slot_arena.specs.declared.nodes.Node.{Node as SlotNode}
-use Rattle.proof_shape.specs.Beneath.slot_arena.specs.declared.nodes.Node.TheVariants.{Indirection, Single}
-use Rattle.proof_shape.specs.Beneath.slot_arena.specs.Heaps.{node_at, prev_at, entry_at, entries_of, next_ref}
-use Rattle.proof_shape.specs.Beneath.machine_model.specs.declared.operations.Operation.{Operation}
-use Rattle.proof_shape.specs.Beneath.machine_model.specs.declared.reading.After.{After}
-use Rattle.proof_shape.specs.Beneath.machine_model.specs.declared.reading.After.TheVariants.{Goes, Gives}
-use Rattle.proof_shape.specs.Beneath.machine_model.specs.declared.reading.ReadLine.{ReadLine}
-use Rattle.proof_shape.specs.Beneath.machine_model.specs.declared.reading.Swap.{Swap}
-use Rattle.proof_shape.specs.Beneath.machine_model.specs.declared.reading.SwapLine.{SwapLine}
+use Rattle.proof_shape.specs.Vocabulary.{HashKind, Call, Clear, Snapshot, Freeze, Ref, Node as SlotNode, Indirection, Single, node_at, prev_at, entry_at, entries_of, next_ref, Operation, After}
+use Rattle.proof_shape.specs.Vocabulary.{Gives, ReadLine, Swap, SwapLine, Complete, Descriptor, RootLine, BuildLine, CopyLine, Purpose, Line, handle_of, State, word_at, above, depth_of, hash_in}
+use Rattle.proof_shape.specs.Vocabulary.{at_indirection, read_after, copy_after_read, after_given, copy_if_made, copy_after_made, after_successor, after_offer, copy_after_complete, walk_next}
+use Rattle.proof_shape.specs.Vocabulary.{walk_after_read, walk_after_entry, first_of, rest_of, line_action, line_after, after_root}
+use Rattle.proof_shape.specs.Beneath.machine_model.specs.declared.reading.After.TheVariants.{Goes}
 use Rattle.proof_shape.specs.Beneath.machine_model.specs.declared.reading.SwapLine.TheVariants as swap
-use Rattle.proof_shape.specs.Beneath.machine_model.specs.declared.roots.Complete.{Complete}
-use Rattle.proof_shape.specs.Beneath.machine_model.specs.declared.roots.Descriptor.{Descriptor}
-use Rattle.proof_shape.specs.Beneath.machine_model.specs.declared.roots.RootLine.{RootLine}
-use Rattle.proof_shape.specs.Beneath.machine_model.specs.declared.building.BuildLine.{BuildLine}
 use Rattle.proof_shape.specs.Beneath.machine_model.specs.declared.building.BuildLine.TheVariants as build
 use Rattle.proof_shape.specs.Beneath.machine_model.specs.declared.finding.KeyLine.TheVariants as key
 use Rattle.proof_shape.specs.Beneath.machine_model.specs.declared.repairs.RenewLine.TheVariants as renew
 use Rattle.proof_shape.specs.Beneath.machine_model.specs.declared.repairs.CleanLine.TheVariants as clean
 use Rattle.proof_shape.specs.Beneath.machine_model.specs.declared.repairs.ClimbLine.TheVariants as climb
-use Rattle.proof_shape.specs.Beneath.machine_model.specs.declared.copying.CopyLine.{CopyLine}
 use Rattle.proof_shape.specs.Beneath.machine_model.specs.declared.copying.CopyLine.TheVariants as copy
 use Rattle.proof_shape.specs.Beneath.machine_model.specs.declared.walking.WalkLine.TheVariants as walk
-use Rattle.proof_shape.specs.Beneath.machine_model.specs.declared.lines.Purpose.{Purpose}
 use Rattle.proof_shape.specs.Beneath.machine_model.specs.declared.lines.Purpose.TheVariants as purpose
-use Rattle.proof_shape.specs.Beneath.machine_model.specs.declared.lines.Line.{Line}
 use Rattle.proof_shape.specs.Beneath.machine_model.specs.declared.lines.Line.TheVariants as line
-use Rattle.proof_shape.specs.Beneath.machine_model.specs.Calls.{handle_of}
-use Rattle.proof_shape.specs.Beneath.machine_model.specs.States.{State, word_at}
-use Rattle.proof_shape.specs.Beneath.machine_model.specs.Paths.{above, depth_of, hash_in}
-use Rattle.proof_shape.specs.Beneath.machine_model.specs.Reading.{at_indirection, read_after}
 use Rattle.proof_shape.specs.Beneath.machine_model.specs.Swapping.{after_swap}
-use Rattle.proof_shape.specs.Beneath.machine_model.specs.Copying.{copy_after_read, after_given, copy_if_made, copy_after_made, after_successor, after_offer, copy_after_complete}
-use Rattle.proof_shape.specs.Beneath.machine_model.specs.Walking.{walk_next, walk_after_read, walk_after_entry, first_of, rest_of}
-use Rattle.proof_shape.specs.Beneath.machine_model.specs.Operations.{line_action, line_after, from_root, after_root}
+use Rattle.proof_shape.specs.Beneath.machine_model.specs.Operations.{from_root}
 use Rattle.proof_shape.specs.Beneath.proof_memory.specs.Wants.{AllHold, AnEntry, line_wants, swap_wants, swap_line_wants, purpose_wants, read_wants}
 use Rattle.proof_shape.specs.Beneath.proof_memory.proofs.Claims.Uses.{safe_of, meets_of, fact_of, first_hold, last_hold}
 use Rattle.proof_shape.specs.Beneath.proof_memory.proofs.Claims.Nodes.{Heaped, branch_entries, at_position}

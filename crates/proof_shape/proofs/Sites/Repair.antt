@@ -5,25 +5,13 @@ use Rattle.std.specs.Cmp.Lexicographic.{pointwise}
 use Rattle.std.proofs.lemmas.Bool.{false≢true, cond_both, and_parts}
 use Rattle.std.proofs.lemmas.List.Elements.{All-head}
 use Rattle.arrayvec.specs.ArrayVec.{ArrayVec}
-use Rattle.proof_shape.specs.Beneath.ctrie_base.specs.Hashes.{hash_of}
-use Rattle.proof_shape.specs.Beneath.ctrie_base.specs.declared.hashes.HashKind.{HashKind}
-use Rattle.proof_shape.specs.Beneath.slot_arena.specs.declared.refs.Ref.{Ref}
-use Rattle.proof_shape.specs.Beneath.slot_arena.specs.declared.nodes.Node.{Node}
-use Rattle.proof_shape.specs.Beneath.slot_arena.specs.declared.nodes.Node.TheVariants.{Indirection, Branch, Single, Tomb}
-use Rattle.proof_shape.specs.Beneath.slot_arena.specs.Heaps.{node_at, entries_of, bitmap_of, next_ref, no_ref}
-use Rattle.proof_shape.specs.Beneath.nodes.specs.Builders.{contracted}
-use Rattle.proof_shape.specs.Beneath.machine_model.specs.declared.operations.Operation.{Operation}
-use Rattle.proof_shape.specs.Beneath.machine_model.specs.declared.reading.After.{After}
-use Rattle.proof_shape.specs.Beneath.machine_model.specs.declared.reading.After.TheVariants.{Goes, Gives}
-use Rattle.proof_shape.specs.Beneath.machine_model.specs.declared.reading.ReadLine.{ReadLine}
+use Rattle.proof_shape.specs.Vocabulary.{hash_of, HashKind, Ref, Node, Indirection, Branch, Single, Tomb, node_at, entries_of, bitmap_of, next_ref, no_ref, contracted, Operation, After, Gives}
+use Rattle.proof_shape.specs.Vocabulary.{ReadLine, State, depth_of, hash_in, is_start, is_below_root, at_indirection, next_entry, renew_after_entry, renew_after_read, renew_after_link}
+use Rattle.proof_shape.specs.Vocabulary.{renew_after_branch, clean_next, is_single, leaves_single, clean_after_read, clean_after_main, clean_after_entry, after_child, clean_after_tomb}
+use Rattle.proof_shape.specs.Vocabulary.{clean_after_contracted}
+use Rattle.proof_shape.specs.Beneath.machine_model.specs.declared.reading.After.TheVariants.{Goes}
 use Rattle.proof_shape.specs.Beneath.machine_model.specs.declared.repairs.CleanLine.TheVariants as clean
 use Rattle.proof_shape.specs.Beneath.machine_model.specs.declared.lines.Line.TheVariants as line
-use Rattle.proof_shape.specs.Beneath.machine_model.specs.States.{State}
-use Rattle.proof_shape.specs.Beneath.machine_model.specs.Paths.{depth_of, hash_in, is_start, is_below_root}
-use Rattle.proof_shape.specs.Beneath.machine_model.specs.Reading.{at_indirection}
-use Rattle.proof_shape.specs.Beneath.machine_model.specs.Renewing.{next_entry, renew_after_entry, renew_after_read, renew_after_link, renew_after_branch}
-use Rattle.proof_shape.specs.Beneath.machine_model.specs.Cleaning.{clean_next, is_single, leaves_single, clean_after_read, clean_after_main, clean_after_entry, after_child}
-use Rattle.proof_shape.specs.Beneath.machine_model.specs.Cleaning.{clean_after_tomb, clean_after_contracted}
 use Rattle.proof_shape.specs.Beneath.proof_memory.specs.Wants.{ABranch, AnEntry, meets, is_indirection, is_branch}
 use Rattle.proof_shape.specs.Beneath.proof_memory.proofs.Claims.Uses.{Meets}
 use Rattle.proof_shape.specs.Beneath.proof_contents.specs.Tries.{IsShaped}

@@ -1,20 +1,9 @@
 -- Nodes, and those of lines, stand at their sites at each time of a run.
 use Rattle.std.proofs.Common.{◌≡◌, ℕ, zero, suc, ◌*◌, ◌^◌, ◌<◌, ◌≤◌, Bool, true, false, cond, ap₂, length, refl, sym, ap, subst, ◌∙◌, arith}
-use Rattle.proof_shape.specs.Beneath.slot_arena.specs.Refs.{ref_to}
-use Rattle.proof_shape.specs.Beneath.slot_arena.specs.declared.refs.Ref.{Ref}
-use Rattle.proof_shape.specs.Beneath.slot_arena.specs.declared.nodes.Node.{Node}
-use Rattle.proof_shape.specs.Beneath.slot_arena.specs.declared.nodes.Node.TheVariants.{Indirection, Branch, Single, Tomb, List as Listed}
-use Rattle.proof_shape.specs.Beneath.slot_arena.specs.Heaps.{next_ref, node_of, with_main_word}
-use Rattle.proof_shape.specs.Beneath.machine_model.specs.declared.operations.Operation.{Operation}
+use Rattle.proof_shape.specs.Vocabulary.{ref_to, Ref, Node, Indirection, Branch, Single, Tomb, List as Listed, next_ref, node_of, with_main_word, Operation, Line, Bounds, Step, State, first_state}
+use Rattle.proof_shape.specs.Vocabulary.{is_number, next_entry, IsRun}
 use Rattle.proof_shape.specs.Beneath.machine_model.specs.declared.repairs.RenewLine.TheVariants as renew
-use Rattle.proof_shape.specs.Beneath.machine_model.specs.declared.lines.Line.{Line}
 use Rattle.proof_shape.specs.Beneath.machine_model.specs.declared.lines.Line.TheVariants as line
-use Rattle.proof_shape.specs.Beneath.machine_model.specs.declared.steps.Bounds.{Bounds}
-use Rattle.proof_shape.specs.Beneath.machine_model.specs.declared.steps.Step.{Step}
-use Rattle.proof_shape.specs.Beneath.machine_model.specs.States.{State, first_state}
-use Rattle.proof_shape.specs.Beneath.machine_model.specs.Machine.{is_number}
-use Rattle.proof_shape.specs.Beneath.machine_model.specs.Renewing.{next_entry}
-use Rattle.proof_shape.specs.Beneath.machine_model.specs.Times.{IsRun}
 use Rattle.proof_shape.specs.Beneath.machine_model.proofs.Found.{none_found}
 use Rattle.proof_shape.specs.Beneath.proof_memory.specs.Wants.{AnEntry, AllHold, line_wants}
 use Rattle.proof_shape.specs.Beneath.proof_memory.specs.Laws.{IsInUse}

@@ -4,24 +4,12 @@ use Rattle.std.proofs.lemmas.Bool.{cases_lt, false≢true}
 use Rattle.std.proofs.lemmas.List.{get_or-take, get_or_append_left, get_or_push, length-take-le, length-append}
 use Rattle.arrayvec.specs.ArrayVec.{ArrayVec}
 use Rattle.proof_shape.specs.Beneath.proof_contents.specs.Tries.{IsShaped}
-use Rattle.proof_shape.specs.Beneath.ctrie_base.specs.declared.hashes.HashKind.{HashKind}
-use Rattle.proof_shape.specs.Beneath.history.specs.declared.calls.Access.{Access}
-use Rattle.proof_shape.specs.Beneath.history.specs.declared.calls.Access.TheVariants.{Writable, ReadOnly}
-use Rattle.proof_shape.specs.Beneath.slot_arena.specs.declared.refs.Ref.{Ref}
-use Rattle.proof_shape.specs.Beneath.slot_arena.specs.declared.nodes.Node.{Node}
-use Rattle.proof_shape.specs.Beneath.slot_arena.specs.declared.nodes.Node.TheVariants.{Indirection, Branch}
-use Rattle.proof_shape.specs.Beneath.slot_arena.specs.declared.nodes.Prev.{Prev}
+use Rattle.proof_shape.specs.Vocabulary.{HashKind, Access, Writable, ReadOnly, Ref, Node, Indirection, Branch, Prev, node_at, prev_at, main_at, main_of, entries_of, bitmap_of, no_ref, After, Gives}
+use Rattle.proof_shape.specs.Vocabulary.{ReadLine, RootWord, Plain, Offer, current, above, depth_of, is_below_root, State, Verdict, Commits, Fails, Overtaken, read_after, after_prev, after_ask}
+use Rattle.proof_shape.specs.Vocabulary.{after_decide, after_restore, verdict}
 use Rattle.proof_shape.specs.Beneath.slot_arena.specs.declared.nodes.Prev.TheVariants as prev
-use Rattle.proof_shape.specs.Beneath.slot_arena.specs.Heaps.{node_at, prev_at, main_at, main_of, entries_of, bitmap_of, no_ref}
-use Rattle.proof_shape.specs.Beneath.machine_model.specs.declared.reading.After.{After}
-use Rattle.proof_shape.specs.Beneath.machine_model.specs.declared.reading.After.TheVariants.{Goes, Gives}
-use Rattle.proof_shape.specs.Beneath.machine_model.specs.declared.reading.ReadLine.{ReadLine}
+use Rattle.proof_shape.specs.Beneath.machine_model.specs.declared.reading.After.TheVariants.{Goes}
 use Rattle.proof_shape.specs.Beneath.machine_model.specs.declared.reading.ReadLine.TheVariants as read
-use Rattle.proof_shape.specs.Beneath.machine_model.specs.declared.roots.RootWord.{RootWord}
-use Rattle.proof_shape.specs.Beneath.machine_model.specs.declared.roots.RootWord.TheVariants.{Plain, Offer}
-use Rattle.proof_shape.specs.Beneath.machine_model.specs.Paths.{current, above, depth_of, is_below_root}
-use Rattle.proof_shape.specs.Beneath.machine_model.specs.States.{State}
-use Rattle.proof_shape.specs.Beneath.machine_model.specs.Reading.{Verdict, Commits, Fails, Overtaken, read_after, after_prev, after_ask, after_decide, after_restore, verdict}
 use Rattle.proof_shape.specs.Beneath.proof_memory.specs.Wants.{AnIndirection, meets, is_indirection, Is, Holds, AllHold, read_wants}
 use Rattle.proof_shape.specs.Beneath.proof_memory.proofs.Claims.Uses.{safe_of, meets_of}
 use Rattle.proof_shape.specs.Beneath.proof_memory.specs.Levels.{NodeLevel, PrevLevel}

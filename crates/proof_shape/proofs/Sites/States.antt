@@ -2,32 +2,14 @@
 use Rattle.std.proofs.Common.{◌≡◌, ℕ, suc, ◌*◌, ◌^◌, ◌<◌, true, is_some, get_or, Option, Some, None, refl, sym, ap, ◌∙◌, subst, ◌⊎◌, inl, inr}
 use Rattle.std.proofs.lemmas.Bool.{cases_eq, or_cases, false≢true}
 use Rattle.std.proofs.lemmas.Option.{none-some, same_Some}
-use Rattle.proof_shape.specs.Beneath.ctrie_base.specs.Hashes.{hash_of}
-use Rattle.proof_shape.specs.Beneath.ctrie_base.specs.declared.hashes.HashKind.{HashKind}
-use Rattle.proof_shape.specs.Beneath.history.specs.declared.calls.Call.{Call}
-use Rattle.proof_shape.specs.Beneath.history.specs.declared.calls.Call.TheVariants.{Close, Entries}
-use Rattle.proof_shape.specs.Beneath.slot_arena.specs.declared.refs.Ref.{Ref}
-use Rattle.proof_shape.specs.Beneath.slot_arena.specs.declared.nodes.Node.{Node}
-use Rattle.proof_shape.specs.Beneath.slot_arena.specs.declared.nodes.Node.TheVariants.{Indirection, Branch, Single, Tomb, List as Listed}
+use Rattle.proof_shape.specs.Vocabulary.{hash_of, HashKind, Call, Close, Entries, Ref, Node, Indirection, Branch, Single, Tomb, List as Listed, Slot, with_main_word, main_changed, prev_changed}
+use Rattle.proof_shape.specs.Vocabulary.{next_ref, Action, Operation, Root, Outcome, Step, handle_of, key_of, State, root_at, word_of, operation_of, action_of, first_line, operation_after, gone}
+use Rattle.proof_shape.specs.Vocabulary.{settled, Begins, Ends, Sweeps, Moves, GoesOn, begun_operation, standing, FitsKey}
 use Rattle.proof_shape.specs.Beneath.slot_arena.specs.declared.nodes.Prev.TheVariants as prev
-use Rattle.proof_shape.specs.Beneath.slot_arena.specs.declared.nodes.Slot.{Slot}
-use Rattle.proof_shape.specs.Beneath.slot_arena.specs.Heaps.{with_main_word, main_changed, prev_changed, next_ref}
-use Rattle.proof_shape.specs.Beneath.machine_model.specs.declared.actions.Action.{Action}
 use Rattle.proof_shape.specs.Beneath.machine_model.specs.declared.actions.Action.TheVariants as act
-use Rattle.proof_shape.specs.Beneath.machine_model.specs.declared.operations.Operation.{Operation}
-use Rattle.proof_shape.specs.Beneath.machine_model.specs.declared.roots.Root.{Root}
-use Rattle.proof_shape.specs.Beneath.machine_model.specs.declared.steps.Outcome.{Outcome}
-use Rattle.proof_shape.specs.Beneath.machine_model.specs.declared.steps.Step.{Step}
 use Rattle.proof_shape.specs.Beneath.machine_model.specs.declared.steps.Step.TheVariants as step
-use Rattle.proof_shape.specs.Beneath.machine_model.specs.Calls.{handle_of, key_of}
-use Rattle.proof_shape.specs.Beneath.machine_model.specs.States.{State, root_at, word_of, operation_of}
-use Rattle.proof_shape.specs.Beneath.machine_model.specs.Operations.{action_of, first_line}
-use Rattle.proof_shape.specs.Beneath.machine_model.specs.Acting.{operation_after, gone}
-use Rattle.proof_shape.specs.Beneath.machine_model.specs.Counting.{settled}
-use Rattle.proof_shape.specs.Beneath.machine_model.specs.Moves.{Begins, Goes, Ends, Sweeps}
-use Rattle.proof_shape.specs.Beneath.machine_model.specs.Moves.{Moves, GoesOn, begun_operation}
+use Rattle.proof_shape.specs.Beneath.machine_model.specs.Moves.{Goes}
 use Rattle.proof_shape.specs.Beneath.machine_model.proofs.Actors.{IsOf, is_of, mark_one, mark_only, marks_in, marks_by, of_others, of_itself, of_begin, of_end}
-use Rattle.proof_shape.specs.Beneath.machine_model.specs.Grown.{standing}
 use Rattle.proof_shape.specs.Beneath.proof_memory.specs.Laws.{IsInUse}
 use Rattle.proof_shape.specs.Beneath.proof_memory.proofs.Heap.Under.{fresh_slot, taken_all}
 use Rattle.proof_shape.specs.Beneath.proof_memory.proofs.Safety.EachStep.{at_place}
@@ -43,7 +25,6 @@ use Rattle.proof_shape.specs.Beneath.proof_memory.proofs.Levels.ShapeStates.{Has
 use Rattle.proof_shape.specs.Beneath.proof_contents.specs.Lines.Changes.{KnowsLine}
 use Rattle.proof_shape.specs.Sites.Nodes.{path_to, depth_at, leads_by}
 use Rattle.proof_shape.specs.Sites.Lines.{Sites, bare, InsideSite, PrevSite, LineSite}
-use Rattle.proof_shape.specs.Beneath.machine_model.specs.Keys.{FitsKey}
 use Rattle.proof_shape.proofs.Sites.Seen.{Sees}
 use Rattle.proof_shape.proofs.Sites.Made.{AtSite, ActionSite}
 use Rattle.proof_shape.proofs.Sites.Born.{IsBorn, born}

@@ -1,14 +1,9 @@
 -- The steps of a list that are taken lead from each state of its run to the next one.
 use Rattle.std.proofs.Common.{◌≡◌, ℕ, zero, suc, cond, ◌<◌, List, ◌∷◌, length, slice_index_or, Ok, Err, refl, ap, subst, sym, arith, []}
-use Rattle.proof_shape.specs.Beneath.machine_model.specs.declared.steps.Bounds.{Bounds}
-use Rattle.proof_shape.specs.Beneath.machine_model.specs.declared.steps.Outcome.{Outcome}
-use Rattle.proof_shape.specs.Beneath.machine_model.specs.declared.steps.Step.{Step}
+use Rattle.proof_shape.specs.Vocabulary.{Bounds, Outcome, Step, State, first_state, Answer, next, next_state, state_after, is_taken_step, taken_from, Moves, MovesIfTaken, states_from, states_of}
+use Rattle.proof_shape.specs.Vocabulary.{last_of}
 use Rattle.proof_shape.specs.Beneath.machine_model.specs.declared.steps.Step.TheVariants as step
-use Rattle.proof_shape.specs.Beneath.machine_model.specs.States.{State, first_state}
-use Rattle.proof_shape.specs.Beneath.machine_model.specs.Machine.{Answer, next, next_state, state_after, is_taken_step, taken_from}
 use Rattle.proof_shape.specs.Beneath.machine_model.proofs.Moves.{moves}
-use Rattle.proof_shape.specs.Beneath.machine_model.specs.Moves.{Moves, MovesIfTaken}
-use Rattle.proof_shape.specs.Beneath.machine_model.specs.Times.{states_from, states_of, last_of}
 use Rattle.proof_shape.specs.Sites.Nodes.{steps_of}
 use Rattle.proof_shape.specs.Sites.At.{TakesSteps}
 use Rattle.proof_shape.specs.Beneath.machine_model.proofs.Times.{states_from-zero}

@@ -1,9 +1,7 @@
 -- The paths of two hashes: alike to a depth, and one level deeper where their indices are.
 use Rattle.std.proofs.Common.{◌≡◌, ℕ, zero, suc, ◌+◌, ◌*◌, ◌%◌, ◌^◌, ◌<◌, ◌≤◌, sym, ap, ap₂, subst, ◌∙◌, arith, pow_pos, mod-lt, mod-eq_of_lt}
 use Rattle.std.proofs.lemmas.Nat.{mod-pow-add, mod-mul-add}
-use Rattle.proof_shape.specs.Beneath.nodes.specs.Levels.{index_in}
-use Rattle.proof_shape.specs.Beneath.ctrie_base.specs.declared.hashes.HashKind.{HashKind}
-use Rattle.proof_shape.specs.Beneath.slot_arena.specs.declared.refs.Ref.{Ref}
+use Rattle.proof_shape.specs.Vocabulary.{index_in, HashKind, Ref}
 use Rattle.proof_shape.specs.Sites.Nodes.{path_to, depth_at}
 use Rattle.proof_shape.specs.Sites.Lines.{Sites, IsOnWay}
 

@@ -1,19 +1,10 @@
 -- What an operation's line knows of the tomb that it climbs from.
 use Rattle.std.specs.Prelude.{◌≡◌, ℕ, Bool, slice_index_or, slice_set}
 use Rattle.arrayvec.specs.ArrayVec.{ArrayVec}
-use Rattle.proof_shape.specs.Beneath.history.specs.declared.calls.Call.{Call}
-use Rattle.proof_shape.specs.Beneath.slot_arena.specs.declared.refs.Ref.{Ref}
-use Rattle.proof_shape.specs.Beneath.slot_arena.specs.declared.nodes.Node.TheVariants.{Indirection, Tomb}
-use Rattle.proof_shape.specs.Beneath.slot_arena.specs.Heaps.{no_ref}
-use Rattle.proof_shape.specs.Beneath.nodes.specs.Builders.{contracted}
-use Rattle.proof_shape.specs.Beneath.machine_model.specs.declared.repairs.Climb.{Climb}
-use Rattle.proof_shape.specs.Beneath.machine_model.specs.declared.repairs.ClimbLine.{ClimbLine}
+use Rattle.proof_shape.specs.Vocabulary.{Call, Ref, Indirection, Tomb, no_ref, contracted, Climb, ClimbLine, Line, key_of, current, above, depth_of}
 use Rattle.proof_shape.specs.Beneath.machine_model.specs.declared.repairs.ClimbLine.TheVariants as climb
-use Rattle.proof_shape.specs.Beneath.machine_model.specs.declared.lines.Line.{Line}
 use Rattle.proof_shape.specs.Beneath.machine_model.specs.declared.lines.Line.TheVariants as line
 use Rattle.proof_shape.specs.Beneath.machine_model.specs.declared.lines.Purpose.TheVariants as purpose
-use Rattle.proof_shape.specs.Beneath.machine_model.specs.Calls.{key_of}
-use Rattle.proof_shape.specs.Beneath.machine_model.specs.Paths.{current, above, depth_of}
 use Rattle.proof_shape.specs.Beneath.proof_contents.specs.Lines.Changes.{Known, IsFlagged}
 
 -- Was says that a main node was once that of an indirection.

@@ -1,25 +1,10 @@
 -- Which steps change a main node, whose fresh node it is, and what its owner knows.
 use Rattle.std.specs.Prelude.{◌≡◌, ◌≢◌, ℕ, suc, ◌==◌, ◌<◌, false, List, ◌∷◌, Some, None, if◌then◌else◌, []}
-use Rattle.proof_shape.specs.Beneath.history.specs.declared.calls.Access.TheVariants.{Writable}
-use Rattle.proof_shape.specs.Beneath.history.specs.declared.calls.Call.{Call}
-use Rattle.proof_shape.specs.Beneath.places.specs.declared.place.Place.{Place}
-use Rattle.proof_shape.specs.Beneath.slot_arena.specs.declared.refs.Ref.{Ref}
-use Rattle.proof_shape.specs.Beneath.slot_arena.specs.Heaps.{generation_of}
-use Rattle.proof_shape.specs.Beneath.machine_model.specs.declared.lines.Purpose.{Purpose}
+use Rattle.proof_shape.specs.Vocabulary.{Writable, Call, Place, Ref, generation_of, Purpose, Operation, ReadLine, SwapLine, Deciding, Bounds, Outcome, Step, depth_of, State, operation_of, Moves}
+use Rattle.proof_shape.specs.Vocabulary.{node_under, committed_now, entrant_of, told_in, Record, place_of, entered, noted}
 use Rattle.proof_shape.specs.Beneath.machine_model.specs.declared.lines.Purpose.TheVariants as purpose
-use Rattle.proof_shape.specs.Beneath.machine_model.specs.declared.operations.Operation.{Operation}
-use Rattle.proof_shape.specs.Beneath.machine_model.specs.declared.reading.ReadLine.{ReadLine}
-use Rattle.proof_shape.specs.Beneath.machine_model.specs.declared.reading.SwapLine.{SwapLine}
-use Rattle.proof_shape.specs.Beneath.machine_model.specs.declared.reading.SwapLine.TheVariants.{Deciding}
 use Rattle.proof_shape.specs.Beneath.machine_model.specs.declared.lines.Line.TheVariants as line
-use Rattle.proof_shape.specs.Beneath.machine_model.specs.declared.steps.Bounds.{Bounds}
-use Rattle.proof_shape.specs.Beneath.machine_model.specs.declared.steps.Outcome.{Outcome}
-use Rattle.proof_shape.specs.Beneath.machine_model.specs.declared.steps.Step.{Step}
 use Rattle.proof_shape.specs.Beneath.machine_model.specs.declared.steps.Step.TheVariants as step
-use Rattle.proof_shape.specs.Beneath.machine_model.specs.Paths.{depth_of}
-use Rattle.proof_shape.specs.Beneath.machine_model.specs.States.{State, operation_of}
-use Rattle.proof_shape.specs.Beneath.machine_model.specs.Moves.{Moves}
-use Rattle.proof_shape.specs.Beneath.machine_model.specs.Grown.{node_under}
 use Rattle.proof_shape.specs.Beneath.proof_commits.specs.Laws.{IsInSwap}
 use Rattle.proof_shape.specs.Beneath.proof_contents.specs.Lines.Changes.{KnowsSwap}
 use Rattle.proof_shape.specs.Beneath.proof_contents.specs.Lines.Repairs.{IsRepaired}
@@ -27,8 +12,6 @@ use Rattle.proof_shape.specs.Beneath.proof_contents.specs.Runs.{counting_main}
 use Rattle.proof_shape.specs.Lines.Given.{GaveBelow, Was}
 use Rattle.proof_shape.specs.Lines.Climbing.{IsClimbed}
 use Rattle.proof_shape.specs.Lines.Knowing.{known_with, first_main, SwapsAt}
-use Rattle.proof_shape.specs.Beneath.machine_model.specs.Tellings.{committed_now, entrant_of, told_in}
-use Rattle.proof_shape.specs.Beneath.machine_model.specs.Records.{Record, place_of, entered, noted}
 
 -- by its generation, and a time, the main nodes of the indirections that an operation made, as far as they are told
 abbrev pub Firsts : Type 0

@@ -1,20 +1,7 @@
 -- What a READ of an operation gave of an indirection, when the READ began, and from when on that was so.
 use Rattle.std.specs.Prelude.{◌≡◌, ℕ, suc, ◌≤◌, ◌<◌, Some, None}
-use Rattle.proof_shape.specs.Beneath.slot_arena.specs.declared.refs.Ref.{Ref}
-use Rattle.proof_shape.specs.Beneath.machine_model.specs.declared.operations.Operation.{Operation}
-use Rattle.proof_shape.specs.Beneath.machine_model.specs.declared.reading.Read.{Read}
-use Rattle.proof_shape.specs.Beneath.machine_model.specs.declared.steps.Outcome.{Outcome}
-use Rattle.proof_shape.specs.Beneath.machine_model.specs.declared.steps.Step.TheVariants.{Go}
-use Rattle.proof_shape.specs.Beneath.machine_model.specs.declared.reading.After.TheVariants.{Gives}
-use Rattle.proof_shape.specs.Beneath.machine_model.specs.declared.reading.ReadLine.{ReadLine}
+use Rattle.proof_shape.specs.Vocabulary.{Ref, Operation, Read, Outcome, Go, Gives, ReadLine, handle_of, State, operation_of, word_at, read_after, read_step, read_of, Moves, Record, noted, told_in}
 use Rattle.proof_shape.specs.Beneath.machine_model.specs.declared.reading.ReadLine.TheVariants as read
-use Rattle.proof_shape.specs.Beneath.machine_model.specs.Calls.{handle_of}
-use Rattle.proof_shape.specs.Beneath.machine_model.specs.States.{State, operation_of, word_at}
-use Rattle.proof_shape.specs.Beneath.machine_model.specs.Reading.{read_after, read_step}
-use Rattle.proof_shape.specs.Beneath.machine_model.specs.Operations.{read_of}
-use Rattle.proof_shape.specs.Beneath.machine_model.specs.Moves.{Moves}
-use Rattle.proof_shape.specs.Beneath.machine_model.specs.Records.{Record, noted}
-use Rattle.proof_shape.specs.Beneath.machine_model.specs.Tellings.{told_in}
 use Rattle.proof_shape.specs.Beneath.proof_commits.specs.Protocol.{Reads}
 use Rattle.proof_shape.specs.Beneath.proof_commits.specs.Stages.{stage_of}
 use Rattle.proof_shape.specs.Beneath.proof_commits.specs.Words.{words_of}

@@ -1,21 +1,13 @@
 -- What the line of each running operation knows, at each time of a run.
 use Rattle.std.specs.Prelude.{◌≡◌, ℕ, ◌≤◌, Option, Some}
-use Rattle.proof_shape.specs.Beneath.slot_arena.specs.declared.refs.Ref.{Ref}
-use Rattle.proof_shape.specs.Beneath.machine_model.specs.declared.lines.Line.{Line}
+use Rattle.proof_shape.specs.Vocabulary.{Ref, Line, Purpose, Operation, Bounds, State, operation_of, current, above, node_under, Record}
 use Rattle.proof_shape.specs.Beneath.machine_model.specs.declared.lines.Line.TheVariants as line
-use Rattle.proof_shape.specs.Beneath.machine_model.specs.declared.lines.Purpose.{Purpose}
 use Rattle.proof_shape.specs.Beneath.machine_model.specs.declared.lines.Purpose.TheVariants as purpose
-use Rattle.proof_shape.specs.Beneath.machine_model.specs.declared.operations.Operation.{Operation}
-use Rattle.proof_shape.specs.Beneath.machine_model.specs.declared.steps.Bounds.{Bounds}
-use Rattle.proof_shape.specs.Beneath.machine_model.specs.States.{State, operation_of}
-use Rattle.proof_shape.specs.Beneath.machine_model.specs.Paths.{current, above}
-use Rattle.proof_shape.specs.Beneath.machine_model.specs.Grown.{node_under}
 use Rattle.proof_shape.specs.Beneath.proof_contents.specs.Lines.Changes.{Known, KnowsLine}
 use Rattle.proof_shape.specs.Beneath.proof_contents.specs.Lines.Repairs.{KnowsRepair}
 use Rattle.proof_shape.specs.Beneath.proof_contents.specs.Runs.{counting_main}
 use Rattle.proof_shape.specs.Lines.Given.{GaveBelow, Was}
 use Rattle.proof_shape.specs.Lines.Climbing.{KnowsClimbing}
-use Rattle.proof_shape.specs.Beneath.machine_model.specs.Records.{Record}
 
 -- the nodes of a run, where indirections have these main nodes
 abbrev pub known_with : Bounds → (ℕ → State) → ℕ → (Ref → Ref) → Known

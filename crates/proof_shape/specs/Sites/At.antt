@@ -1,33 +1,17 @@
 -- What is asked of a run, and where nodes and paths of operations stand at each time of it.
 use Rattle.std.specs.Prelude.{◌≡◌, ℕ, suc, ◌^◌, ◌<◌, ◌≤◌, true, List, length, slice_index_or, Option, Some, []}
-use Rattle.proof_shape.specs.Beneath.ctrie_base.specs.Hashes.{hash_of}
-use Rattle.proof_shape.specs.Beneath.slot_arena.specs.declared.refs.Ref.{Ref}
-use Rattle.proof_shape.specs.Beneath.slot_arena.specs.Heaps.{no_ref}
-use Rattle.proof_shape.specs.Beneath.machine_model.specs.declared.finding.KeyLine.{KeyLine}
+use Rattle.proof_shape.specs.Vocabulary.{hash_of, Ref, no_ref, KeyLine, Line, Operation, CleanLine, ClimbLine, Bounds, Outcome, Step, Swap, key_of, current, depth_of, State, operation_of}
+use Rattle.proof_shape.specs.Vocabulary.{node_under, Moves, FitsKey}
 use Rattle.proof_shape.specs.Beneath.machine_model.specs.declared.finding.KeyLine.TheVariants as key
-use Rattle.proof_shape.specs.Beneath.machine_model.specs.declared.lines.Line.{Line}
 use Rattle.proof_shape.specs.Beneath.machine_model.specs.declared.lines.Line.TheVariants as line
 use Rattle.proof_shape.specs.Beneath.machine_model.specs.declared.lines.Purpose.TheVariants as purpose
-use Rattle.proof_shape.specs.Beneath.machine_model.specs.declared.operations.Operation.{Operation}
-use Rattle.proof_shape.specs.Beneath.machine_model.specs.declared.repairs.CleanLine.{CleanLine}
 use Rattle.proof_shape.specs.Beneath.machine_model.specs.declared.repairs.CleanLine.TheVariants as clean
-use Rattle.proof_shape.specs.Beneath.machine_model.specs.declared.repairs.ClimbLine.{ClimbLine}
 use Rattle.proof_shape.specs.Beneath.machine_model.specs.declared.repairs.ClimbLine.TheVariants as climb
-use Rattle.proof_shape.specs.Beneath.machine_model.specs.declared.steps.Bounds.{Bounds}
-use Rattle.proof_shape.specs.Beneath.machine_model.specs.declared.steps.Outcome.{Outcome}
-use Rattle.proof_shape.specs.Beneath.machine_model.specs.declared.steps.Step.{Step}
-use Rattle.proof_shape.specs.Beneath.machine_model.specs.declared.reading.Swap.{Swap}
-use Rattle.proof_shape.specs.Beneath.machine_model.specs.Calls.{key_of}
-use Rattle.proof_shape.specs.Beneath.machine_model.specs.Paths.{current, depth_of}
-use Rattle.proof_shape.specs.Beneath.machine_model.specs.States.{State, operation_of}
-use Rattle.proof_shape.specs.Beneath.machine_model.specs.Grown.{node_under}
-use Rattle.proof_shape.specs.Beneath.machine_model.specs.Moves.{Moves}
 use Rattle.proof_shape.specs.Beneath.proof_memory.specs.Wants.{is_indirection}
 use Rattle.proof_shape.specs.Beneath.proof_memory.specs.Levels.{LineLevel}
 use Rattle.proof_generations.specs.Falling.{renew_path, purpose_path}
 use Rattle.proof_shape.specs.Sites.Nodes.{path_to, level_until, depth_of_run, path_of_run}
 use Rattle.proof_shape.specs.Sites.Lines.{LineSite, sites_of}
-use Rattle.proof_shape.specs.Beneath.machine_model.specs.Keys.{FitsKey}
 use Rattle.proof_shape.specs.Beneath.proof_contents.specs.Lines.Changes.{build_path}
 
 -- ---- what is given

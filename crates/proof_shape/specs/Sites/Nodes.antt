@@ -1,19 +1,9 @@
 -- The site of each node of a run: its level and the part of a hash that leads to it, both given in the step that makes it and fixed for life.
 use Rattle.std.specs.Prelude.{ℕ, zero, suc, ◌-◌, ◌*◌, ◌%◌, ◌^◌, List, slice_index_or, Option, Some, None, if◌then◌else◌}
-use Rattle.proof_shape.specs.Beneath.slot_arena.specs.declared.refs.Ref.{Ref}
-use Rattle.proof_shape.specs.Beneath.machine_model.specs.declared.operations.Operation.{Operation}
+use Rattle.proof_shape.specs.Vocabulary.{Ref, Operation, Line, Step, hash_in, State, operation_of, Bounds, is_number, taken_steps, states_of, last_of, next_entry, node_under}
 use Rattle.proof_shape.specs.Beneath.machine_model.specs.declared.repairs.RenewLine.TheVariants as renew
-use Rattle.proof_shape.specs.Beneath.machine_model.specs.declared.lines.Line.{Line}
 use Rattle.proof_shape.specs.Beneath.machine_model.specs.declared.lines.Line.TheVariants as line
-use Rattle.proof_shape.specs.Beneath.machine_model.specs.declared.steps.Step.{Step}
 use Rattle.proof_shape.specs.Beneath.machine_model.specs.declared.steps.Step.TheVariants as step
-use Rattle.proof_shape.specs.Beneath.machine_model.specs.Paths.{hash_in}
-use Rattle.proof_shape.specs.Beneath.machine_model.specs.States.{State, operation_of}
-use Rattle.proof_shape.specs.Beneath.machine_model.specs.declared.steps.Bounds.{Bounds}
-use Rattle.proof_shape.specs.Beneath.machine_model.specs.Machine.{is_number, taken_steps}
-use Rattle.proof_shape.specs.Beneath.machine_model.specs.Times.{states_of, last_of}
-use Rattle.proof_shape.specs.Beneath.machine_model.specs.Renewing.{next_entry}
-use Rattle.proof_shape.specs.Beneath.machine_model.specs.Grown.{node_under}
 use Rattle.proof_shape.specs.Beneath.proof_memory.specs.Wants.{is_indirection}
 use Rattle.proof_shape.specs.Beneath.proof_memory.specs.Making.{made_now, level_now}
 

@@ -1,27 +1,11 @@
 -- How a call makes the nodes of its change, and what then stands in the slots.
 use Rattle.std.proofs.Common.{◌≡◌, ℕ, suc, ◌+◌, ◌≤◌, Bool, true, false, unwrap_or, length, Option, Some, None, refl, sym, ap, ◌∙◌, subst, eqb-true, arith}
-use Rattle.proof_straight.specs.Beneath.history.specs.declared.calls.Access.{Access}
-use Rattle.proof_straight.specs.Beneath.history.specs.declared.calls.Access.TheVariants.{Writable, ReadOnly}
-use Rattle.proof_straight.specs.Beneath.history.specs.declared.calls.Call.{Call}
+use Rattle.proof_straight.specs.Vocabulary.{Access, Writable, ReadOnly, Call, Node, Slot, Ref, Heap, stored, node_at, generation_at, generation_of, slot_of, BuildLine, Sets, Removes, Line}
+use Rattle.proof_straight.specs.Vocabulary.{with_made as private_with, build_action, build_after_made, build_if_made, handle_of, inserts, needs_writable, when_found, passes, access_of, begin_denial}
+use Rattle.proof_straight.specs.Vocabulary.{begun_operation, is_access, State, root_at, Record, carried_by, counts_from}
 use Rattle.proof_straight.specs.Beneath.history.specs.declared.calls.Call.TheVariants as call
-use Rattle.proof_straight.specs.Beneath.slot_arena.specs.declared.nodes.Node.{Node}
-use Rattle.proof_straight.specs.Beneath.slot_arena.specs.declared.nodes.Slot.{Slot}
-use Rattle.proof_straight.specs.Beneath.slot_arena.specs.declared.refs.Ref.{Ref}
-use Rattle.proof_straight.specs.Beneath.slot_arena.specs.Heaps.{Heap, stored, node_at, generation_at, generation_of}
-use Rattle.proof_straight.specs.Beneath.slot_arena.specs.Refs.{slot_of}
 use Rattle.machine_model.specs.declared.actions.Action.TheVariants as act
-use Rattle.machine_model.specs.declared.building.BuildLine.{BuildLine}
-use Rattle.machine_model.specs.declared.finding.WhenFound.TheVariants.{Sets, Removes}
-use Rattle.machine_model.specs.declared.lines.Line.{Line}
 use Rattle.machine_model.specs.declared.lines.Line.TheVariants as line
-use Rattle.machine_model.specs.Acting.{with_made as private_with}
-use Rattle.machine_model.specs.Building.{build_action, build_after_made, build_if_made}
-use Rattle.machine_model.specs.Calls.{handle_of, inserts, needs_writable, when_found}
-use Rattle.machine_model.specs.Finding.{passes}
-use Rattle.machine_model.specs.Machine.{access_of, begin_denial, begun_operation, is_access}
-use Rattle.machine_model.specs.States.{State, root_at}
-use Rattle.machine_model.specs.Records.{Record}
-use Rattle.machine_model.specs.Tellings.{carried_by, counts_from}
 use Rattle.proof_straight.proofs.Steps.Noting.{quiet}
 use Rattle.proof_straight.specs.Drafts.{Draft, first_draft, next_made, with_made}
 use Rattle.proof_straight.specs.Places.{Leads, to_root, below}

@@ -1,34 +1,17 @@
 -- Changes of one key: the new main node is made and swapped in.
 use Rattle.std.proofs.Common.{◌≡◌, ℕ, suc, ◌+◌, ◌*◌, ◌-◌, ◌<◌, ◌≤◌, true, false, List, length, Option, Some, None, refl, sym, ap, ◌∙◌, subst, arith}
 use Rattle.std.proofs.lemmas.Bool.{false≢true}
-use Rattle.proof_straight.specs.Beneath.history.specs.declared.calls.Access.TheVariants.{Writable}
-use Rattle.proof_straight.specs.Beneath.history.specs.declared.calls.Call.{Call}
-use Rattle.proof_straight.specs.Beneath.slot_arena.specs.declared.nodes.Node.{Node}
-use Rattle.proof_straight.specs.Beneath.slot_arena.specs.declared.nodes.Node.TheVariants.{Indirection, Branch, Single, Tomb, List as Listed}
-use Rattle.proof_straight.specs.Beneath.slot_arena.specs.declared.nodes.Slot.{Slot}
-use Rattle.proof_straight.specs.Beneath.slot_arena.specs.declared.refs.Ref.{Ref}
-use Rattle.proof_straight.specs.Beneath.slot_arena.specs.Arenas.{IsLive, has_birth}
-use Rattle.proof_straight.specs.Beneath.slot_arena.specs.Heaps.{Heap, stored, node_at, main_at, main_of, generation_of}
-use Rattle.proof_straight.specs.Beneath.slot_arena.specs.Refs.{birth_of}
-use Rattle.proof_straight.specs.Beneath.nodes.specs.Levels.{flag_of}
+use Rattle.proof_straight.specs.Vocabulary.{Writable, Call, Node, Indirection, Branch, Single, Tomb, List as Listed, Slot, Ref, IsLive, has_birth, Heap, stored, node_at, main_at, main_of}
+use Rattle.proof_straight.specs.Vocabulary.{generation_of, birth_of, flag_of, Change, Operation, after_update, Plain, changed, changed_reply, handle_of, is_close, key_of, begun_operation, State}
+use Rattle.proof_straight.specs.Vocabulary.{key_hash, word_at, swapping, Record}
 use Rattle.machine_model.specs.declared.actions.Action.TheVariants as act
 use Rattle.machine_model.specs.declared.building.BuildLine.TheVariants as build
-use Rattle.machine_model.specs.declared.building.Change.{Change}
 use Rattle.machine_model.specs.declared.building.Change.TheVariants as change
 use Rattle.machine_model.specs.declared.lines.Line.TheVariants as line
 use Rattle.machine_model.specs.declared.lines.Purpose.TheVariants as purpose
-use Rattle.machine_model.specs.declared.operations.Operation.{Operation}
-use Rattle.machine_model.specs.Operations.{after_update}
 use Rattle.proof_straight.specs.Recorded.{entrant_with}
-use Rattle.machine_model.specs.declared.roots.RootWord.TheVariants.{Plain}
-use Rattle.machine_model.specs.Building.{changed}
-use Rattle.machine_model.specs.Calls.{changed_reply, handle_of, is_close, key_of}
-use Rattle.machine_model.specs.Machine.{begun_operation}
-use Rattle.machine_model.specs.States.{State, key_hash, word_at}
-use Rattle.machine_model.specs.Swapping.{swapping}
 use Rattle.proof_straight.specs.Changes.{ChangesTo, changed_main, with_change}
 use Rattle.proof_straight.specs.Drafts.{Draft, after_call, with_made}
-use Rattle.machine_model.specs.Records.{Record}
 use Rattle.proof_straight.specs.Places.{read_in}
 use Rattle.proof_straight.specs.Recorded.{changed_record}
 use Rattle.proof_straight.specs.Running.{ComesTo}

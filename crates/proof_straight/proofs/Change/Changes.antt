@@ -2,28 +2,17 @@
 use Rattle.std.proofs.Common.{◌≡◌, ℕ, zero, suc, ◌+◌, ◌-◌, ◌<◌, ◌≤◌, ◌==◌, ◌&&◌, Bool, true, false, cond, nat_lt, List, length, Option, Some, None, refl, sym, ap, ◌∙◌, subst}
 use Rattle.std.proofs.Common.{eq-eqb, ne_eqb, lt-ltb, arith}
 use Rattle.std.proofs.lemmas.Bool.{le-ltb}
-use Rattle.proof_straight.specs.Beneath.history.specs.declared.calls.Call.{Call}
-use Rattle.proof_straight.specs.Beneath.slot_arena.specs.declared.nodes.Node.TheVariants.{Single}
-use Rattle.proof_straight.specs.Beneath.slot_arena.specs.declared.refs.Ref.{Ref}
-use Rattle.proof_straight.specs.Beneath.slot_arena.specs.Arenas.{IsLive}
-use Rattle.proof_straight.specs.Beneath.slot_arena.specs.Heaps.{node_at, main_at, entry_at}
+use Rattle.proof_straight.specs.Vocabulary.{Call, Single, Ref, IsLive, node_at, main_at, entry_at, Change, Site, Line, after_single, key_of, needs_writable, value_of, after_sibling, found_so}
+use Rattle.proof_straight.specs.Vocabulary.{removing, State, Record}
 use Rattle.machine_model.specs.declared.building.BuildLine.TheVariants as build
-use Rattle.machine_model.specs.declared.building.Change.{Change}
 use Rattle.machine_model.specs.declared.building.Change.TheVariants as change
-use Rattle.machine_model.specs.declared.building.Site.{Site}
 use Rattle.machine_model.specs.declared.building.Site.TheVariants as site
 use Rattle.machine_model.specs.declared.finding.KeyLine.TheVariants as key
-use Rattle.machine_model.specs.declared.lines.Line.{Line}
 use Rattle.machine_model.specs.declared.lines.Line.TheVariants as line
-use Rattle.machine_model.specs.Building.{after_single}
-use Rattle.machine_model.specs.Calls.{key_of, needs_writable, value_of}
-use Rattle.machine_model.specs.Finding.{after_sibling, found_so, removing}
-use Rattle.machine_model.specs.States.{State}
 use Rattle.proof_straight.specs.Changes.{ChangesTo, with_change, with_single}
 use Rattle.proof_straight.specs.Drafts.{first_draft}
 use Rattle.proof_straight.specs.Laws.{SetsStraight, InsertsStraight, RemovesStraight}
 use Rattle.proof_straight.specs.Places.{ComesDown, Finds, Leaves, Misses, in_branch, in_list, no_entry, beside_other, not_listed, at_root, not_two, an_indirection, not_two_listed}
-use Rattle.machine_model.specs.Records.{Record}
 use Rattle.proof_straight.specs.Places.{steps_down}
 use Rattle.proof_straight.specs.Running.{IsKeyed, IsReady}
 use Rattle.proof_straight.proofs.Steps.Alone.{Alone, on_line}

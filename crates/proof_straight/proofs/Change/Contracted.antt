@@ -4,34 +4,15 @@ use Rattle.std.specs.Prelude.{slice_index_or}
 use Rattle.std.proofs.lemmas.Bool.{cases_eq}
 use Rattle.std.proofs.lemmas.List.{length-set}
 use Rattle.arrayvec.specs.ArrayVec.{ArrayVec}
-use Rattle.proof_straight.specs.Beneath.ctrie_base.specs.Paths.{position_of}
-use Rattle.proof_straight.specs.Beneath.history.specs.declared.calls.Access.TheVariants.{Writable}
-use Rattle.proof_straight.specs.Beneath.history.specs.declared.calls.Call.{Call}
-use Rattle.proof_straight.specs.Beneath.slot_arena.specs.declared.nodes.Node.{Node}
-use Rattle.proof_straight.specs.Beneath.slot_arena.specs.declared.nodes.Slot.{Slot}
-use Rattle.proof_straight.specs.Beneath.slot_arena.specs.declared.refs.Ref.{Ref}
-use Rattle.proof_straight.specs.Beneath.slot_arena.specs.Arenas.{IsLive}
-use Rattle.proof_straight.specs.Beneath.slot_arena.specs.Heaps.{stored, node_at, main_at, main_of, entries_of, generation_at, generation_of, main_changed, no_ref}
-use Rattle.proof_straight.specs.Beneath.slot_arena.specs.Refs.{slot_of}
-use Rattle.proof_straight.specs.Beneath.nodes.specs.Levels.{flag_of}
+use Rattle.proof_straight.specs.Vocabulary.{position_of, Writable, Call, Node, Slot, Ref, IsLive, stored, node_at, main_at, main_of, entries_of, generation_at, generation_of, main_changed, no_ref}
+use Rattle.proof_straight.specs.Vocabulary.{slot_of, flag_of, Climb, Plain, changed, changed_reply, handle_of, key_of, climbed, begun_operation, after_update, above, current, reading, Record, State}
+use Rattle.proof_straight.specs.Vocabulary.{key_hash, word_at, swapping, Removes, when_found, found_so, removing, moment_after, moment_at, noted_end, noted_progress, Progress, Reply}
 use Rattle.machine_model.specs.declared.actions.Action.TheVariants as act
 use Rattle.machine_model.specs.declared.building.BuildLine.TheVariants as build
 use Rattle.machine_model.specs.declared.building.Change.TheVariants as change
 use Rattle.machine_model.specs.declared.lines.Line.TheVariants as line
 use Rattle.machine_model.specs.declared.lines.Purpose.TheVariants as purpose
-use Rattle.machine_model.specs.declared.repairs.Climb.{Climb}
 use Rattle.machine_model.specs.declared.repairs.ClimbLine.TheVariants as climb
-use Rattle.machine_model.specs.declared.roots.RootWord.TheVariants.{Plain}
-use Rattle.machine_model.specs.Building.{changed}
-use Rattle.machine_model.specs.Calls.{changed_reply, handle_of, key_of}
-use Rattle.machine_model.specs.Climbing.{climbed}
-use Rattle.machine_model.specs.Machine.{begun_operation}
-use Rattle.machine_model.specs.Operations.{after_update}
-use Rattle.machine_model.specs.Paths.{above, current}
-use Rattle.machine_model.specs.Reading.{reading}
-use Rattle.machine_model.specs.Records.{Record}
-use Rattle.machine_model.specs.States.{State, key_hash, word_at}
-use Rattle.machine_model.specs.Swapping.{swapping}
 use Rattle.proof_straight.specs.Changes.{changed_main, contracted_node, single_left, with_contraction, with_tomb}
 use Rattle.proof_straight.specs.Drafts.{Draft, first_draft, with_made}
 use Rattle.proof_straight.specs.Recorded.{entrant_with}
@@ -45,12 +26,6 @@ use Rattle.proof_straight.proofs.Steps.Going.{Stands, read_fits}
 use Rattle.proof_straight.proofs.Steps.Settled.{settled_once}
 use Rattle.proof_straight.proofs.Change.Slots.{generation_stays, indirection_stands, made_slot, node_again, others_stay, prev_stays, same_free, same_stored, slots_stay_empty, takes}
 use Rattle.proof_straight.proofs.Change.SwapsIn.{swaps_in}
-use Rattle.machine_model.specs.declared.finding.WhenFound.TheVariants.{Removes}
-use Rattle.machine_model.specs.Calls.{when_found}
-use Rattle.machine_model.specs.Finding.{found_so, removing}
-use Rattle.machine_model.specs.Records.{moment_after, moment_at, noted_end, noted_progress}
-use Rattle.machine_model.specs.declared.records.Progress.{Progress}
-use Rattle.proof_straight.specs.Beneath.history.specs.declared.replies.Reply.{Reply}
 use Rattle.proof_straight.specs.Drafts.{after_call, swapped_in}
 use Rattle.proof_straight.specs.Laws.{ContractsStraight, LastsFor}
 use Rattle.proof_straight.specs.Places.{Finds, LeavesSingle, StandsOver, steps_down}

@@ -6,41 +6,19 @@ use Rattle.std.proofs.Math.Seq.{take-append_seam}
 use Rattle.std.proofs.lemmas.Bool.{le-ltb, true≢false}
 use Rattle.std.proofs.lemmas.List.{length-append, length-set}
 use Rattle.arrayvec.specs.ArrayVec.{ArrayVec}
-use Rattle.proof_straight.specs.Beneath.ctrie_base.specs.Paths.{position_of}
-use Rattle.proof_straight.specs.Beneath.history.specs.declared.calls.Call.{Call}
-use Rattle.proof_straight.specs.Beneath.slot_arena.specs.declared.nodes.Node.{Node}
-use Rattle.proof_straight.specs.Beneath.slot_arena.specs.declared.nodes.Node.TheVariants.{Indirection, Branch, Single, Tomb, List as Listed}
+use Rattle.proof_straight.specs.Vocabulary.{position_of, Call, Node, Indirection, Branch, Single, Tomb, List as Listed, Slot, Ref, Heap, stored, node_at, main_at, prev_at, entry_at, entries_of}
+use Rattle.proof_straight.specs.Vocabulary.{bitmap_of, no_ref, slot_of, flag_of, has_flag, contracted, renewed, Operation, Climb, ClimbLine, with_made as private_with, climb_after_contracted}
+use Rattle.proof_straight.specs.Vocabulary.{climb_after_main, climb_after_read, climbed, begun_operation, after_prev, at_indirection, reading, swapping, given_by, Line, changed, key_of, when_found}
+use Rattle.proof_straight.specs.Vocabulary.{after_sibling, found_so, going_down, removing, above, current, Record, State, key_hash}
 use Rattle.proof_straight.specs.Beneath.slot_arena.specs.declared.nodes.Prev.TheVariants as prev
-use Rattle.proof_straight.specs.Beneath.slot_arena.specs.declared.nodes.Slot.{Slot}
-use Rattle.proof_straight.specs.Beneath.slot_arena.specs.declared.refs.Ref.{Ref}
-use Rattle.proof_straight.specs.Beneath.slot_arena.specs.Heaps.{Heap, stored, node_at, main_at, prev_at, entry_at, entries_of, bitmap_of, no_ref}
-use Rattle.proof_straight.specs.Beneath.slot_arena.specs.Refs.{slot_of}
-use Rattle.proof_straight.specs.Beneath.nodes.specs.Levels.{flag_of, has_flag}
-use Rattle.proof_straight.specs.Beneath.nodes.specs.Builders.{contracted, renewed}
 use Rattle.machine_model.specs.declared.actions.Action.TheVariants as act
 use Rattle.machine_model.specs.declared.building.BuildLine.TheVariants as build
 use Rattle.machine_model.specs.declared.lines.Purpose.TheVariants as purpose
-use Rattle.machine_model.specs.declared.operations.Operation.{Operation}
 use Rattle.machine_model.specs.declared.reading.ReadLine.TheVariants as read
-use Rattle.machine_model.specs.declared.repairs.Climb.{Climb}
-use Rattle.machine_model.specs.declared.repairs.ClimbLine.{ClimbLine}
 use Rattle.machine_model.specs.declared.repairs.ClimbLine.TheVariants as climb
-use Rattle.machine_model.specs.Acting.{with_made as private_with}
-use Rattle.machine_model.specs.Climbing.{climb_after_contracted, climb_after_main, climb_after_read, climbed}
-use Rattle.machine_model.specs.Machine.{begun_operation}
-use Rattle.machine_model.specs.Reading.{after_prev, at_indirection, reading}
-use Rattle.machine_model.specs.Swapping.{swapping}
-use Rattle.machine_model.specs.Tellings.{given_by}
 use Rattle.machine_model.specs.declared.building.Change.TheVariants as change
 use Rattle.machine_model.specs.declared.finding.KeyLine.TheVariants as key
-use Rattle.machine_model.specs.declared.lines.Line.{Line}
 use Rattle.machine_model.specs.declared.lines.Line.TheVariants as line
-use Rattle.machine_model.specs.Building.{changed}
-use Rattle.machine_model.specs.Calls.{key_of, when_found}
-use Rattle.machine_model.specs.Finding.{after_sibling, found_so, going_down, removing}
-use Rattle.machine_model.specs.Paths.{above, current}
-use Rattle.machine_model.specs.Records.{Record}
-use Rattle.machine_model.specs.States.{State, key_hash}
 use Rattle.proof_straight.specs.Changes.{contracted_node, single_left}
 use Rattle.proof_straight.specs.Drafts.{Draft, first_draft, with_made}
 use Rattle.proof_straight.specs.Places.{Finds, LeavesSingle, StandsOver, entry_for, of_branch, of_list, steps_down}

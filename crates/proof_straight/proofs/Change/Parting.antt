@@ -1,28 +1,17 @@
 -- A key is inserted where the single of another key stands in its place.
 use Rattle.std.proofs.Common.{◌≡◌, ℕ, zero, suc, ◌+◌, ◌*◌, ◌-◌, ◌≤◌, cond, List, length, Option, Some, None, refl, sym, ap, ◌∙◌, subst, eq-eqb, ne_eqb, arith}
 use Rattle.std.specs.Prelude.{slice_index_or}
-use Rattle.proof_straight.specs.Beneath.history.specs.declared.calls.Call.{Call}
-use Rattle.proof_straight.specs.Beneath.slot_arena.specs.declared.nodes.Node.{Node}
-use Rattle.proof_straight.specs.Beneath.slot_arena.specs.declared.nodes.Node.TheVariants.{Indirection, Single}
-use Rattle.proof_straight.specs.Beneath.slot_arena.specs.declared.nodes.Slot.{Slot}
-use Rattle.proof_straight.specs.Beneath.slot_arena.specs.declared.refs.Ref.{Ref}
-use Rattle.proof_straight.specs.Beneath.slot_arena.specs.Arenas.{IsLive}
-use Rattle.proof_straight.specs.Beneath.slot_arena.specs.Heaps.{Heap, stored, node_of, node_at, main_at, entry_at, entries_of, generation_at, no_ref}
-use Rattle.proof_straight.specs.Beneath.nodes.specs.Builders.{pair, rung}
+use Rattle.proof_straight.specs.Vocabulary.{Call, Node, Indirection, Single, Slot, Ref, IsLive, Heap, stored, node_of, node_at, main_at, entry_at, entries_of, generation_at, no_ref, pair, rung}
+use Rattle.proof_straight.specs.Vocabulary.{Line, key_in, old_hash, pair_depth, key_of, value_of, State, key_hash, Record}
 use Rattle.machine_model.specs.declared.actions.Action.TheVariants as act
 use Rattle.machine_model.specs.declared.building.BuildLine.TheVariants as build
 use Rattle.machine_model.specs.declared.building.Change.TheVariants as change
 use Rattle.machine_model.specs.declared.building.Site.TheVariants as site
-use Rattle.machine_model.specs.declared.lines.Line.{Line}
 use Rattle.machine_model.specs.declared.lines.Line.TheVariants as line
-use Rattle.machine_model.specs.Building.{key_in, old_hash, pair_depth}
-use Rattle.machine_model.specs.Calls.{key_of, value_of}
-use Rattle.machine_model.specs.States.{State, key_hash}
 use Rattle.proof_straight.specs.Changes.{parts_at, with_change, with_link, with_links, with_pair, with_single}
 use Rattle.proof_straight.specs.Drafts.{Draft, first_draft, with_made}
 use Rattle.proof_straight.specs.Laws.{PartsStraight}
 use Rattle.proof_straight.specs.Places.{HasRoom, Misses, beside_other, steps_down}
-use Rattle.machine_model.specs.Records.{Record}
 use Rattle.proof_straight.proofs.Steps.Alone.{Alone, on_line}
 use Rattle.proof_straight.proofs.Change.Builds.{IsDraft, builds, first_is, has_made, inserts_write, leads_own, node_stays, writable_at}
 use Rattle.proof_straight.proofs.Change.Changed.{changed_lasting, changes_main, live_stands, so_many}

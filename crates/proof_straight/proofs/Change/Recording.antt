@@ -4,20 +4,10 @@ use Rattle.std.specs.List.{list_any}
 use Rattle.std.proofs.lemmas.Bool.{cond_both, or_left, or_right}
 use Rattle.std.proofs.lemmas.List.{set-set, append-nil, get_or-set_same, length-replicate, length-set}
 use Rattle.std.proofs.lemmas.List.Folds.{list_any-append}
-use Rattle.proof_straight.specs.Beneath.history.specs.declared.calls.Call.{Call}
+use Rattle.proof_straight.specs.Vocabulary.{Call, Reply, Ref, generation_at, main_at, Place, on_time, place_by, Entrant, Moment, is_close, begun_operation, Record, closing_for, entered_at_end}
+use Rattle.proof_straight.specs.Vocabulary.{is_placed, moment_at, first_record, no_moment, noted_end, noted_progress, place_of, State}
 use Rattle.proof_straight.specs.Beneath.history.specs.declared.events.Event.TheVariants as event
-use Rattle.proof_straight.specs.Beneath.history.specs.declared.replies.Reply.{Reply}
 use Rattle.proof_straight.specs.Beneath.history.specs.declared.replies.Reply.TheVariants as reply
-use Rattle.proof_straight.specs.Beneath.slot_arena.specs.declared.refs.Ref.{Ref}
-use Rattle.proof_straight.specs.Beneath.slot_arena.specs.Heaps.{generation_at, main_at}
-use Rattle.machine_model.specs.Beneath.places.specs.declared.place.Place.{Place}
-use Rattle.machine_model.specs.Beneath.places.specs.Places.{on_time, place_by}
-use Rattle.machine_model.specs.declared.records.Entrant.{Entrant}
-use Rattle.machine_model.specs.declared.records.Moment.{Moment}
-use Rattle.machine_model.specs.Calls.{is_close}
-use Rattle.machine_model.specs.Machine.{begun_operation}
-use Rattle.machine_model.specs.Records.{Record, closing_for, entered_at_end, is_placed, moment_at, first_record, no_moment, noted_end, noted_progress, place_of}
-use Rattle.machine_model.specs.States.{State}
 use Rattle.proof_straight.specs.Recorded.{changed_record, contracted_record, copied_record, entrant_with, moment_of, unchanged_record, with_begun}
 use Rattle.proof_straight.specs.Running.{IsRecordOf}
 use Rattle.proof_straight.proofs.Steps.Going.{begun_record}

@@ -3,17 +3,9 @@ use Rattle.std.proofs.Common.{◌≡◌, ℕ, suc, ◌+◌, ◌≤◌, ◌==◌,
 use Rattle.std.proofs.lemmas.Bool.{cases_eq, cases_lt}
 use Rattle.std.proofs.lemmas.List.{get_or-set_same, get_or-set_other, get_or_past, length-set}
 use Rattle.std.proofs.lemmas.Option.{none-some}
-use Rattle.proof_straight.specs.Beneath.slot_arena.specs.declared.nodes.Node.{Node}
-use Rattle.proof_straight.specs.Beneath.slot_arena.specs.declared.nodes.Node.TheVariants.{Indirection, Branch, Single, Tomb, List as Listed}
-use Rattle.proof_straight.specs.Beneath.slot_arena.specs.declared.nodes.Prev.{Prev}
+use Rattle.proof_straight.specs.Vocabulary.{Node, Indirection, Branch, Single, Tomb, List as Listed, Prev, Slot, Ref, Heap, stored, node_of, node_at, main_at, generation_of, generation_at, written}
+use Rattle.proof_straight.specs.Vocabulary.{main_changed, prev_changed, prev_at, prev_of, with_main_word, with_main, with_prev, taken, next_ref, ref_to, slot_of, times, if_changed, published}
 use Rattle.proof_straight.specs.Beneath.slot_arena.specs.declared.nodes.Prev.TheVariants as prev
-use Rattle.proof_straight.specs.Beneath.slot_arena.specs.declared.nodes.Slot.{Slot}
-use Rattle.proof_straight.specs.Beneath.slot_arena.specs.declared.refs.Ref.{Ref}
-use Rattle.proof_straight.specs.Beneath.slot_arena.specs.Heaps.{Heap, stored, node_of, node_at, main_at, generation_of, generation_at, written, main_changed, prev_changed, prev_at, prev_of}
-use Rattle.proof_straight.specs.Beneath.slot_arena.specs.Heaps.{with_main_word, with_main, with_prev, taken, next_ref}
-use Rattle.proof_straight.specs.Beneath.slot_arena.specs.Refs.{ref_to, slot_of}
-use Rattle.proof_straight.specs.Beneath.slot_arena.specs.Times.{times}
-use Rattle.machine_model.specs.Acting.{if_changed, published}
 use Rattle.machine_model.proofs.Found.{found_within}
 use Rattle.proof_straight.specs.Beneath.slot_arena.proofs.Live.{slot_of_ref}
 use Rattle.proof_straight.specs.Beneath.ctrie_base.proofs.Sorting.{count_more}

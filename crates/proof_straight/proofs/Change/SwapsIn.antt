@@ -1,38 +1,16 @@
 -- How a change is swapped in: from the SWAP of its main node to the answer.
 use Rattle.std.proofs.Common.{◌≡◌, ℕ, suc, ◌+◌, ◌≤◌, Bool, true, false, nat_eq, [], Option, Some, refl, sym, ap, ◌∙◌, subst, eq-eqb, arith}
 use Rattle.std.specs.Option.{option_eq}
-use Rattle.proof_straight.specs.Beneath.history.specs.declared.calls.Access.{Access}
-use Rattle.proof_straight.specs.Beneath.history.specs.declared.calls.Access.TheVariants.{Writable}
-use Rattle.proof_straight.specs.Beneath.history.specs.declared.calls.Call.{Call}
+use Rattle.proof_straight.specs.Vocabulary.{Access, Writable, Call, Slot, Ref, stored, node_at, prev_at, prev_of, main_at, generation_at, slot_of, Line, Purpose, Reply, changer_for, Operation}
+use Rattle.proof_straight.specs.Vocabulary.{After, Entrant, Progress, ReadLine, SwapLine, Plain, decided, handle_of, begun_operation, swapped, Commits, after_ask, after_decide}
+use Rattle.proof_straight.specs.Vocabulary.{at_indirection as read_at, committed_so, after_prev, is_pending, verdict, verdict_by, State, word_at, after_check, after_deciding, after_publish}
+use Rattle.proof_straight.specs.Vocabulary.{swapping, on_line as at_swap_line, Record, noted_end, noted_progress, given_by}
 use Rattle.proof_straight.specs.Beneath.slot_arena.specs.declared.nodes.Prev.TheVariants as prev
-use Rattle.proof_straight.specs.Beneath.slot_arena.specs.declared.nodes.Slot.{Slot}
-use Rattle.proof_straight.specs.Beneath.slot_arena.specs.declared.refs.Ref.{Ref}
-use Rattle.proof_straight.specs.Beneath.slot_arena.specs.Heaps.{stored, node_at, prev_at, prev_of, main_at, generation_at}
-use Rattle.proof_straight.specs.Beneath.slot_arena.specs.Refs.{slot_of}
 use Rattle.machine_model.specs.declared.actions.Action.TheVariants as act
-use Rattle.machine_model.specs.declared.lines.Line.{Line}
 use Rattle.machine_model.specs.declared.lines.Line.TheVariants as line
-use Rattle.machine_model.specs.declared.lines.Purpose.{Purpose}
-use Rattle.proof_straight.specs.Beneath.history.specs.declared.replies.Reply.{Reply}
-use Rattle.machine_model.specs.Tellings.{changer_for}
-use Rattle.machine_model.specs.declared.operations.Operation.{Operation}
-use Rattle.machine_model.specs.declared.reading.After.{After}
-use Rattle.machine_model.specs.declared.records.Entrant.{Entrant}
-use Rattle.machine_model.specs.declared.records.Progress.{Progress}
-use Rattle.machine_model.specs.declared.reading.ReadLine.{ReadLine}
 use Rattle.machine_model.specs.declared.reading.ReadLine.TheVariants as read
-use Rattle.machine_model.specs.declared.reading.SwapLine.{SwapLine}
 use Rattle.machine_model.specs.declared.reading.SwapLine.TheVariants as swap
-use Rattle.machine_model.specs.declared.roots.RootWord.TheVariants.{Plain}
-use Rattle.machine_model.specs.Acting.{decided}
-use Rattle.machine_model.specs.Calls.{handle_of}
-use Rattle.machine_model.specs.Machine.{begun_operation}
-use Rattle.machine_model.specs.Operations.{after_swap, swapped}
-use Rattle.machine_model.specs.Reading.{Commits, after_ask, after_decide, at_indirection as read_at, committed_so, after_prev, is_pending, verdict, verdict_by}
-use Rattle.machine_model.specs.States.{State, word_at}
-use Rattle.machine_model.specs.Swapping.{after_check, after_deciding, after_publish, swapping, on_line as at_swap_line}
-use Rattle.machine_model.specs.Records.{Record, noted_end, noted_progress}
-use Rattle.machine_model.specs.Tellings.{given_by}
+use Rattle.machine_model.specs.Operations.{after_swap}
 use Rattle.proof_straight.specs.Recorded.{entrant_with}
 use Rattle.proof_straight.proofs.Steps.Noting.{committing, publishing, reading as reading_of}
 use Rattle.proof_straight.specs.Drafts.{Draft, after_call, redrafted, swapped_in, with_commit, with_published}

@@ -3,13 +3,7 @@ use Rattle.std.proofs.Common.{◌≡◌, ℕ, zero, suc, ◌+◌, ◌*◌, ◌<�
 use Rattle.std.proofs.Math.Seq.{get_or-append_seam}
 use Rattle.std.proofs.lemmas.Bool.{false≢true}
 use Rattle.std.proofs.lemmas.List.{get_or_append_left, length-append}
-use Rattle.proof_straight.specs.Beneath.slot_arena.specs.declared.nodes.Node.{Node}
-use Rattle.proof_straight.specs.Beneath.slot_arena.specs.declared.nodes.Node.TheVariants.{Indirection}
-use Rattle.proof_straight.specs.Beneath.slot_arena.specs.declared.nodes.Slot.{Slot}
-use Rattle.proof_straight.specs.Beneath.slot_arena.specs.declared.refs.Ref.{Ref}
-use Rattle.proof_straight.specs.Beneath.slot_arena.specs.Heaps.{Heap, generation_at, main_at, no_ref, stored}
-use Rattle.proof_straight.specs.Beneath.slot_arena.specs.Refs.{slot_of}
-use Rattle.machine_model.specs.States.{State}
+use Rattle.proof_straight.specs.Vocabulary.{Node, Indirection, Slot, Ref, Heap, generation_at, main_at, no_ref, stored, slot_of, State}
 use Rattle.proof_straight.specs.Drafts.{next_made}
 use Rattle.proof_straight.specs.Renewals.{Renewal, is_old, renewal_slots, renewal_steps, renewed_entries, renewed_entry}
 use Rattle.proof_straight.proofs.Change.Builds.{IsDraft, has_made}

@@ -2,15 +2,8 @@
 use Rattle.std.proofs.Common.{◌≡◌, ℕ, zero, suc, ◌+◌, ◌*◌, ◌≤◌, inl, inr, true, not, [], length, get_or, refl, sym, ap, ◌∙◌, arith}
 use Rattle.std.proofs.lemmas.List.{take_all}
 use Rattle.arrayvec.specs.ArrayVec.{ArrayVec}
-use Rattle.proof_straight.specs.Beneath.ctrie_base.specs.Paths.{position_of}
-use Rattle.proof_straight.specs.Beneath.history.specs.declared.calls.Call.{Call}
-use Rattle.proof_straight.specs.Beneath.nodes.specs.Levels.{flag_of}
-use Rattle.proof_straight.specs.Beneath.slot_arena.specs.declared.nodes.Node.TheVariants.{Branch, Indirection}
-use Rattle.proof_straight.specs.Beneath.slot_arena.specs.declared.refs.Ref.{Ref}
-use Rattle.proof_straight.specs.Beneath.slot_arena.specs.Heaps.{entries_from, entries_of, generation_at, main_at, no_ref, node_at, prev_at}
-use Rattle.machine_model.specs.Calls.{key_of}
-use Rattle.machine_model.specs.Records.{Record, first_record}
-use Rattle.machine_model.specs.States.{State, key_hash}
+use Rattle.proof_straight.specs.Vocabulary.{position_of, Call, flag_of, Branch, Indirection, Ref, entries_from, entries_of, generation_at, main_at, no_ref, node_at, prev_at, key_of, Record}
+use Rattle.proof_straight.specs.Vocabulary.{first_record, State, key_hash}
 use Rattle.proof_straight.specs.Drafts.{first_draft}
 use Rattle.proof_straight.specs.Passing.{IsRenewed, MeetsOld, Passes, PassesRenewal, Visits}
 use Rattle.proof_straight.specs.Places.{HasEntry, entry_for}

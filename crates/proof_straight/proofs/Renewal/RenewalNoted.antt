@@ -1,18 +1,9 @@
 -- What is recorded of a renewal is what was recorded before the call, with the new branch.
 use Rattle.std.proofs.Common.{◌≡◌, ℕ, suc, false, cond, max, List, [], ◌∷◌, ◌++◌, get_or, set, Option, Some, None, refl, sym, ap, ◌∙◌}
 use Rattle.std.proofs.lemmas.List.{append-nil, set-set}
-use Rattle.proof_straight.specs.Beneath.history.specs.declared.calls.Call.{Call}
+use Rattle.proof_straight.specs.Vocabulary.{Call, Ref, Heap, Zeroed, Place, on_time, Moment, is_close, opens_handle, begun_operation, least_free, Record, no_moment, noted_progress, with_moment}
+use Rattle.proof_straight.specs.Vocabulary.{State}
 use Rattle.proof_straight.specs.Beneath.history.specs.declared.events.Event.TheVariants as event
-use Rattle.proof_straight.specs.Beneath.slot_arena.specs.declared.refs.Ref.{Ref}
-use Rattle.proof_straight.specs.Beneath.slot_arena.specs.Heaps.{Heap}
-use Rattle.proof_straight.specs.Beneath.epochs.specs.declared.limbo.Zeroed.{Zeroed}
-use Rattle.machine_model.specs.Beneath.places.specs.declared.place.Place.{Place}
-use Rattle.machine_model.specs.Beneath.places.specs.Places.{on_time}
-use Rattle.machine_model.specs.declared.records.Moment.{Moment}
-use Rattle.machine_model.specs.Calls.{is_close, opens_handle}
-use Rattle.machine_model.specs.Machine.{begun_operation, least_free}
-use Rattle.machine_model.specs.Records.{Record, no_moment, noted_progress, with_moment}
-use Rattle.machine_model.specs.States.{State}
 use Rattle.proof_straight.specs.Recorded.{moment_of}
 use Rattle.proof_straight.specs.Renewals.{renewed_record}
 use Rattle.proof_straight.proofs.Steps.Going.{begun_record}

@@ -3,35 +3,16 @@ use Rattle.std.proofs.Common.{◌≡◌, ℕ, suc, ◌+◌, ◌*◌, ◌<◌, �
 use Rattle.std.specs.Option.{option_eq}
 use Rattle.std.proofs.lemmas.Bool.{cases_eq}
 use Rattle.arrayvec.specs.ArrayVec.{ArrayVec}
-use Rattle.proof_straight.specs.Beneath.ctrie_base.specs.Paths.{position_of}
-use Rattle.proof_straight.specs.Beneath.history.specs.declared.calls.Access.{Access}
-use Rattle.proof_straight.specs.Beneath.history.specs.declared.calls.Access.TheVariants.{Writable}
-use Rattle.proof_straight.specs.Beneath.history.specs.declared.calls.Call.{Call}
-use Rattle.proof_straight.specs.Beneath.nodes.specs.Builders.{renewed}
-use Rattle.proof_straight.specs.Beneath.nodes.specs.Levels.{flag_of}
-use Rattle.proof_straight.specs.Beneath.slot_arena.specs.declared.nodes.Node.{Node}
-use Rattle.proof_straight.specs.Beneath.slot_arena.specs.declared.nodes.Node.TheVariants.{Indirection}
+use Rattle.proof_straight.specs.Vocabulary.{position_of, Access, Writable, Call, renewed, flag_of, Node, Indirection, Slot, Ref, IsLive, stored, node_at, main_at, main_of, prev_at, entry_at}
+use Rattle.proof_straight.specs.Vocabulary.{bitmap_of, generation_at, generation_of, slot_of, Line, with_made as private_with, key_of, needs_writable, going_down, key_after_entry, passes}
+use Rattle.proof_straight.specs.Vocabulary.{begun_operation, reading, Record, noted_progress, renew_after_branch, State, key_hash, swapping, limbo_after, main_changed, prev_of, with_main_word}
+use Rattle.proof_straight.specs.Vocabulary.{outside, key_after_read, after_prev, at_indirection as at_read, given_by}
 use Rattle.proof_straight.specs.Beneath.slot_arena.specs.declared.nodes.Prev.TheVariants as prev
-use Rattle.proof_straight.specs.Beneath.slot_arena.specs.declared.nodes.Slot.{Slot}
-use Rattle.proof_straight.specs.Beneath.slot_arena.specs.declared.refs.Ref.{Ref}
-use Rattle.proof_straight.specs.Beneath.slot_arena.specs.Arenas.{IsLive}
-use Rattle.proof_straight.specs.Beneath.slot_arena.specs.Heaps.{stored, node_at, main_at, main_of, prev_at, entry_at, bitmap_of, generation_at, generation_of}
-use Rattle.proof_straight.specs.Beneath.slot_arena.specs.Refs.{slot_of}
 use Rattle.machine_model.specs.declared.actions.Action.TheVariants as act
 use Rattle.machine_model.specs.declared.finding.KeyLine.TheVariants as key
-use Rattle.machine_model.specs.declared.lines.Line.{Line}
 use Rattle.machine_model.specs.declared.lines.Line.TheVariants as line
 use Rattle.machine_model.specs.declared.lines.Purpose.TheVariants as purpose
 use Rattle.machine_model.specs.declared.repairs.RenewLine.TheVariants as renew
-use Rattle.machine_model.specs.Acting.{with_made as private_with}
-use Rattle.machine_model.specs.Calls.{key_of, needs_writable}
-use Rattle.machine_model.specs.Finding.{going_down, key_after_entry, passes}
-use Rattle.machine_model.specs.Machine.{begun_operation}
-use Rattle.machine_model.specs.Reading.{reading}
-use Rattle.machine_model.specs.Records.{Record, noted_progress}
-use Rattle.machine_model.specs.Renewing.{renew_after_branch}
-use Rattle.machine_model.specs.States.{State, key_hash}
-use Rattle.machine_model.specs.Swapping.{swapping}
 use Rattle.proof_straight.specs.Drafts.{Draft, first_draft, with_made}
 use Rattle.proof_straight.specs.Places.{ComesDown, HasEntry, entry_for}
 use Rattle.proof_straight.specs.Renewals.{AreRenewable, Renewal, renewal_of, renewal_slots, renewal_steps, with_renewal}
@@ -50,13 +31,7 @@ use Rattle.proof_straight.proofs.Change.Slots.{same_free, standing_indirection, 
 use Rattle.proof_straight.proofs.Change.SwapsIn.{swaps_in}
 use Rattle.proof_straight.proofs.Way.Unchanged.{fits_at}
 use Rattle.std.proofs.lemmas.List.{append-nil}
-use Rattle.proof_straight.specs.Beneath.epochs.specs.Limbo.{limbo_after}
-use Rattle.proof_straight.specs.Beneath.slot_arena.specs.Heaps.{main_changed, prev_of, with_main_word}
 use Rattle.machine_model.specs.declared.reading.ReadLine.TheVariants as read
-use Rattle.machine_model.specs.Counting.{outside}
-use Rattle.machine_model.specs.Finding.{key_after_read}
-use Rattle.machine_model.specs.Reading.{after_prev, at_indirection as at_read}
-use Rattle.machine_model.specs.Tellings.{given_by}
 use Rattle.proof_straight.specs.Renewals.{renewed_record, renewed_state}
 use Rattle.proof_straight.specs.Running.{IsAtRest}
 use Rattle.proof_straight.proofs.Change.Contracted.{fits_longer}

@@ -5,28 +5,14 @@ use Rattle.std.proofs.Math.Seq.{get_or-append_seam}
 use Rattle.std.proofs.lemmas.Bool.{cases_Bool, le-ltb, true≢false, false≢true}
 use Rattle.std.proofs.lemmas.List.{append_assoc, length-append, length-set}
 use Rattle.arrayvec.specs.ArrayVec.{ArrayVec}
-use Rattle.proof_straight.specs.Beneath.history.specs.declared.calls.Call.{Call}
-use Rattle.proof_straight.specs.Beneath.slot_arena.specs.declared.nodes.Node.{Node}
-use Rattle.proof_straight.specs.Beneath.slot_arena.specs.declared.nodes.Node.TheVariants.{Indirection, Branch, Single, Tomb, List as Listed}
+use Rattle.proof_straight.specs.Vocabulary.{Call, Node, Indirection, Branch, Single, Tomb, List as Listed, Slot, Ref, Heap, stored, node_of, node_at, main_at, main_of, prev_at, entry_at, entries_of}
+use Rattle.proof_straight.specs.Vocabulary.{generation_at, no_ref, Line, Operation, RenewLine, begun_operation, after_prev, at_indirection, reading, Record, renew_after_entry, renew_after_link}
+use Rattle.proof_straight.specs.Vocabulary.{renew_after_read, with_made as private_with, State, given_by, IsLive}
 use Rattle.proof_straight.specs.Beneath.slot_arena.specs.declared.nodes.Prev.TheVariants as prev
-use Rattle.proof_straight.specs.Beneath.slot_arena.specs.declared.nodes.Slot.{Slot}
-use Rattle.proof_straight.specs.Beneath.slot_arena.specs.declared.refs.Ref.{Ref}
-use Rattle.proof_straight.specs.Beneath.slot_arena.specs.Heaps.{Heap, stored, node_of, node_at, main_at, main_of, prev_at, entry_at, entries_of, generation_at, no_ref}
-use Rattle.machine_model.specs.declared.lines.Line.{Line}
 use Rattle.machine_model.specs.declared.lines.Line.TheVariants as line
-use Rattle.machine_model.specs.declared.operations.Operation.{Operation}
 use Rattle.machine_model.specs.declared.reading.ReadLine.TheVariants as read
-use Rattle.machine_model.specs.declared.repairs.RenewLine.{RenewLine}
 use Rattle.machine_model.specs.declared.repairs.RenewLine.TheVariants as renew
-use Rattle.machine_model.specs.Machine.{begun_operation}
-use Rattle.machine_model.specs.Reading.{after_prev, at_indirection, reading}
-use Rattle.machine_model.specs.Records.{Record}
-use Rattle.machine_model.specs.Renewing.{renew_after_entry, renew_after_link, renew_after_read}
-use Rattle.machine_model.specs.Acting.{with_made as private_with}
-use Rattle.machine_model.specs.States.{State}
-use Rattle.machine_model.specs.Tellings.{given_by}
 use Rattle.proof_straight.specs.Drafts.{Draft, with_made}
-use Rattle.proof_straight.specs.Beneath.slot_arena.specs.Arenas.{IsLive}
 use Rattle.proof_straight.proofs.Change.Changed.{live_stands}
 use Rattle.proof_straight.specs.Recorded.{moment_of}
 use Rattle.proof_straight.specs.Renewals.{AreRenewable, IsRenewable, Renewal, is_of_other, is_old, renewal_slots, renewal_steps, renewed_entries, renewed_entry}

@@ -2,25 +2,12 @@
 use Rattle.std.proofs.Common.{◌≡◌, ℕ, zero, suc, ◌+◌, ◌*◌, ◌<◌, ◌≤◌, ◌==◌, ◌&&◌, Bool, true, false, not, is_some, nat_le, List, [], ◌∷◌, length, Option, Some, None, refl, sym, ap, ◌∙◌, subst, arith}
 use Rattle.std.proofs.lemmas.Bool.{lt-leb}
 use Rattle.arrayvec.specs.ArrayVec.{ArrayVec}
-use Rattle.proof_straight.specs.Beneath.ctrie_base.specs.declared.refusals.Refusal.{Refusal}
+use Rattle.proof_straight.specs.Vocabulary.{Refusal, Call, Reply, Indirection, Ref, IsLive, Heap, main_at, node_at, prev_at, generation_at, slot_of, Operation, handle_of, is_close, key_of}
+use Rattle.proof_straight.specs.Vocabulary.{needs_read_only, needs_writable, opens_handle, access_of, begin_denial, begun_operation, first_reason, handles_taken, is_access, is_actor, is_running}
+use Rattle.proof_straight.specs.Vocabulary.{runs_on, Record, State, handle_limit, key_hash, root_at, Zeroed, Access, ReadOnly, Writable}
 use Rattle.proof_straight.specs.Beneath.ctrie_base.specs.declared.refusals.Refusal.TheVariants as refuse
-use Rattle.proof_straight.specs.Beneath.history.specs.declared.calls.Call.{Call}
-use Rattle.proof_straight.specs.Beneath.history.specs.declared.replies.Reply.{Reply}
-use Rattle.proof_straight.specs.Beneath.slot_arena.specs.declared.nodes.Node.TheVariants.{Indirection}
-use Rattle.proof_straight.specs.Beneath.slot_arena.specs.declared.refs.Ref.{Ref}
-use Rattle.proof_straight.specs.Beneath.slot_arena.specs.Arenas.{IsLive}
-use Rattle.proof_straight.specs.Beneath.slot_arena.specs.Heaps.{Heap, main_at, node_at, prev_at, generation_at}
-use Rattle.proof_straight.specs.Beneath.slot_arena.specs.Refs.{slot_of}
 use Rattle.machine_model.specs.declared.finding.KeyLine.TheVariants as key
 use Rattle.machine_model.specs.declared.lines.Line.TheVariants as line
-use Rattle.machine_model.specs.declared.operations.Operation.{Operation}
-use Rattle.machine_model.specs.Calls.{handle_of, is_close, key_of, needs_read_only, needs_writable, opens_handle}
-use Rattle.machine_model.specs.Machine.{access_of, begin_denial, begun_operation, first_reason, handles_taken, is_access, is_actor, is_running, runs_on}
-use Rattle.machine_model.specs.Records.{Record}
-use Rattle.machine_model.specs.States.{State, handle_limit, key_hash, root_at}
-use Rattle.proof_straight.specs.Beneath.epochs.specs.declared.limbo.Zeroed.{Zeroed}
-use Rattle.proof_straight.specs.Beneath.history.specs.declared.calls.Access.{Access}
-use Rattle.proof_straight.specs.Beneath.history.specs.declared.calls.Access.TheVariants.{ReadOnly, Writable}
 use Rattle.proof_straight.specs.Drafts.{first_draft}
 use Rattle.proof_straight.specs.Places.{ComesDown, HasEntry, Leads, entry_for}
 use Rattle.proof_straight.specs.Renewals.{AreRenewable, RenewsStraight, renewal_slots, renewal_steps, renewed_in, renewed_record, renewed_state, steps_of_renewal, with_renewal}

@@ -1,16 +1,9 @@
 -- Two calls that come to the same state go on alike.
 use Rattle.std.proofs.Common.{◌≡◌, ℕ, zero, suc, ◌+◌, ◌-◌, ◌<◌, ◌≤◌, ◌⊎◌, inl, inr, Ok, Err, refl, sym, ap, ◌∙◌, subst, arith}
 use Rattle.std.proofs.lemmas.Bool.{cases_eq, cases_lt}
-use Rattle.proof_straight.specs.Beneath.ctrie_base.specs.declared.kinds.Kind.{Kind}
-use Rattle.proof_straight.specs.Beneath.history.specs.declared.calls.Call.{Call}
-use Rattle.proof_straight.specs.Beneath.history.specs.declared.replies.Reply.{Reply}
-use Rattle.machine_model.specs.declared.steps.Outcome.{Outcome}
+use Rattle.proof_straight.specs.Vocabulary.{Kind, Call, Reply, Outcome, Answer, next, Record, noted, State, told_in}
 use Rattle.machine_model.specs.declared.steps.Outcome.TheVariants as outcome
 use Rattle.machine_model.specs.declared.steps.Step.TheVariants as step
-use Rattle.machine_model.specs.Machine.{Answer, next}
-use Rattle.machine_model.specs.Records.{Record, noted}
-use Rattle.machine_model.specs.States.{State}
-use Rattle.machine_model.specs.Tellings.{told_in}
 use Rattle.proof_straight.specs.Running.{ComesTo, GoesAlone, begins, goes}
 
 -- the state of an answer

@@ -2,14 +2,9 @@
 use Rattle.std.proofs.Common.{◌≡◌, zero, suc, ◌+◌, ◌-◌, false, List, [], ◌∷◌, ◌++◌, set, Some, Ok, refl, ap, ◌∙◌, subst, arith}
 use Rattle.proof_straight.specs.Beneath.history.specs.declared.calls.Call.TheVariants as call
 use Rattle.proof_straight.specs.Beneath.history.specs.declared.replies.Reply.TheVariants as reply
-use Rattle.proof_straight.specs.Beneath.slot_arena.specs.declared.refs.Ref.{Ref}
-use Rattle.proof_straight.specs.Beneath.epochs.specs.Limbo.{limbo_after}
-use Rattle.machine_model.specs.declared.operations.Operation.{Operation}
+use Rattle.proof_straight.specs.Vocabulary.{Ref, limbo_after, Operation, settled, begin_unless, begun_operation, next, State, Record, moment_at, noted_end, entrant_of, Entrant, on_time, Call}
 use Rattle.machine_model.specs.declared.steps.Outcome.TheVariants as outcome
 use Rattle.machine_model.specs.declared.steps.Step.TheVariants as step
-use Rattle.machine_model.specs.Counting.{settled}
-use Rattle.machine_model.specs.Machine.{begin_unless, begun_operation, next}
-use Rattle.machine_model.specs.States.{State}
 use Rattle.machine_model.proofs.Actors.{begin_actor, begin_counts}
 use Rattle.machine_model.proofs.Alike.{actor_within}
 use Rattle.proof_straight.specs.Copies.{closed}
@@ -17,11 +12,6 @@ use Rattle.proof_straight.specs.Drafts.{Draft, after_call}
 use Rattle.proof_straight.specs.Laws.{ClosesStraight}
 use Rattle.proof_straight.specs.Running.{ComesTo, begins}
 use Rattle.proof_straight.specs.Recorded.{closed_record}
-use Rattle.machine_model.specs.Records.{Record, moment_at, noted_end}
-use Rattle.machine_model.specs.Tellings.{entrant_of}
-use Rattle.machine_model.specs.declared.records.Entrant.{Entrant}
-use Rattle.machine_model.specs.Beneath.places.specs.Places.{on_time}
-use Rattle.proof_straight.specs.Beneath.history.specs.declared.calls.Call.{Call}
 use Rattle.proof_straight.specs.Beneath.history.specs.declared.events.Event.TheVariants as event
 use Rattle.proof_straight.proofs.Change.Recording.{placed_at_end, placed_last}
 use Rattle.std.proofs.lemmas.List.{append-nil}

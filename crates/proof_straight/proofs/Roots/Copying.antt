@@ -3,29 +3,18 @@ use Rattle.std.proofs.Common.{◌≡◌, ℕ, zero, suc, ◌+◌, ◌-◌, ◌<�
 use Rattle.std.proofs.lemmas.Bool.{false≢true}
 use Rattle.std.proofs.lemmas.List.{length-set}
 use Rattle.proof_straight.specs.Beneath.history.specs.declared.replies.Reply.TheVariants as reply
-use Rattle.proof_straight.specs.Beneath.history.specs.declared.calls.Call.{Call}
+use Rattle.proof_straight.specs.Vocabulary.{Call, Indirection, Slot, Ref, Heap, empty_branch, generation_at, generation_of, main_at, main_of, prev_at, stored, Root, with_made as private_with}
+use Rattle.proof_straight.specs.Vocabulary.{handle_of, after_given, copy_after_read, copy_if_made, access_of, begin_denial, begun_operation, least_free, after_prev, at_indirection, reading, State}
+use Rattle.proof_straight.specs.Vocabulary.{root_at, Record, no_moment, given_by}
 use Rattle.proof_straight.specs.Beneath.history.specs.declared.calls.Call.TheVariants as call
-use Rattle.proof_straight.specs.Beneath.slot_arena.specs.declared.nodes.Node.TheVariants.{Indirection}
 use Rattle.proof_straight.specs.Beneath.slot_arena.specs.declared.nodes.Prev.TheVariants as prev
-use Rattle.proof_straight.specs.Beneath.slot_arena.specs.declared.nodes.Slot.{Slot}
-use Rattle.proof_straight.specs.Beneath.slot_arena.specs.declared.refs.Ref.{Ref}
-use Rattle.proof_straight.specs.Beneath.slot_arena.specs.Heaps.{Heap, empty_branch, generation_at, generation_of, main_at, main_of, prev_at, stored}
 use Rattle.machine_model.specs.declared.copying.CopyLine.TheVariants as copy
 use Rattle.machine_model.specs.declared.lines.Line.TheVariants as line
 use Rattle.machine_model.specs.declared.reading.ReadLine.TheVariants as read
-use Rattle.machine_model.specs.declared.roots.Root.{Root}
-use Rattle.machine_model.specs.Acting.{with_made as private_with}
-use Rattle.machine_model.specs.Calls.{handle_of}
-use Rattle.machine_model.specs.Copying.{after_given, copy_after_read, copy_if_made}
-use Rattle.machine_model.specs.Machine.{access_of, begin_denial, begun_operation, least_free}
-use Rattle.machine_model.specs.Reading.{after_prev, at_indirection, reading}
-use Rattle.machine_model.specs.States.{State, root_at}
 use Rattle.proof_straight.specs.Copies.{Course, IsSettled, cleared, first_course, frozen, offer_of, snapshotted, with_new_root}
 use Rattle.proof_straight.specs.Drafts.{after_call, first_draft, with_made}
 use Rattle.proof_straight.specs.Laws.{ClearsStraight, FreezesStraight, SnapshotsStraight}
 use Rattle.proof_straight.specs.Running.{ComesTo}
-use Rattle.machine_model.specs.Records.{Record, no_moment}
-use Rattle.machine_model.specs.Tellings.{given_by}
 use Rattle.proof_straight.proofs.Steps.Alone.{Alone, IsCalm, on_line}
 use Rattle.proof_straight.proofs.Change.Changed.{live_stands}
 use Rattle.proof_straight.proofs.Way.Descent.{OnLine, rooted}

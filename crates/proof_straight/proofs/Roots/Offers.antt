@@ -1,39 +1,16 @@
 -- How a snapshot, a freeze or a clear that runs alone makes its roots, offers, and carries its offer out.
 use Rattle.std.proofs.Common.{◌≡◌, ℕ, suc, ◌+◌, ◌<◌, ◌≤◌, ◌==◌, ◌&&◌, true, false, cond, [], map, length, Option, Some, None, refl, sym, ap, ◌∙◌, subst, eq-eqb, arith}
-use Rattle.proof_straight.specs.Beneath.history.specs.declared.calls.Call.{Call}
-use Rattle.proof_straight.specs.Beneath.history.specs.declared.replies.Reply.{Reply}
-use Rattle.proof_straight.specs.Beneath.slot_arena.specs.declared.nodes.Node.TheVariants.{Indirection}
+use Rattle.proof_straight.specs.Vocabulary.{Call, Reply, Indirection, Ref, generation_at, main_at, next_ref, prev_at, taken, CopyLine, Line, Operation, Gives, ReadLine, Carried as CarriedOut}
+use Rattle.proof_straight.specs.Vocabulary.{Progress, Complete, CompleteLine, Bounds, Descriptor, Root, RootWord, Plain, Offer, carried_out, if_changed, marked, new_root_taken, opened}
+use Rattle.proof_straight.specs.Vocabulary.{with_made as private_with, handle_of, after_offer, copied_reply, copy_action, copy_after, copy_after_complete, begun_operation, after_prev}
+use Rattle.proof_straight.specs.Vocabulary.{at_indirection, read_action, State, root_at, with_operation, with_word, word_at, after_reading, complete_action, complete_action_at, completing, is_plain}
+use Rattle.proof_straight.specs.Vocabulary.{of_offer, stands_in, Record, noted_end, noted_progress, given_by, progress_of}
 use Rattle.proof_straight.specs.Beneath.slot_arena.specs.declared.nodes.Prev.TheVariants as prev
-use Rattle.proof_straight.specs.Beneath.slot_arena.specs.declared.refs.Ref.{Ref}
-use Rattle.proof_straight.specs.Beneath.slot_arena.specs.Heaps.{generation_at, main_at, next_ref, prev_at, taken}
 use Rattle.machine_model.specs.declared.actions.Action.TheVariants as act
-use Rattle.machine_model.specs.declared.copying.CopyLine.{CopyLine}
 use Rattle.machine_model.specs.declared.copying.CopyLine.TheVariants as copy
-use Rattle.machine_model.specs.declared.lines.Line.{Line}
 use Rattle.machine_model.specs.declared.lines.Line.TheVariants as line
-use Rattle.machine_model.specs.declared.operations.Operation.{Operation}
-use Rattle.machine_model.specs.declared.reading.After.TheVariants.{Gives}
-use Rattle.machine_model.specs.declared.reading.ReadLine.{ReadLine}
 use Rattle.machine_model.specs.declared.reading.ReadLine.TheVariants as read
-use Rattle.machine_model.specs.declared.records.Carried.{Carried as CarriedOut}
-use Rattle.machine_model.specs.declared.records.Progress.{Progress}
-use Rattle.machine_model.specs.declared.roots.Complete.{Complete}
-use Rattle.machine_model.specs.declared.roots.CompleteLine.{CompleteLine}
-use Rattle.machine_model.specs.declared.steps.Bounds.{Bounds}
 use Rattle.machine_model.specs.declared.roots.CompleteLine.TheVariants as complete
-use Rattle.machine_model.specs.declared.roots.Descriptor.{Descriptor}
-use Rattle.machine_model.specs.declared.roots.Root.{Root}
-use Rattle.machine_model.specs.declared.roots.RootWord.{RootWord}
-use Rattle.machine_model.specs.declared.roots.RootWord.TheVariants.{Plain, Offer}
-use Rattle.machine_model.specs.Acting.{carried_out, if_changed, marked, new_root_taken, opened, with_made as private_with}
-use Rattle.machine_model.specs.Calls.{handle_of}
-use Rattle.machine_model.specs.Copying.{after_offer, copied_reply, copy_action, copy_after, copy_after_complete}
-use Rattle.machine_model.specs.Machine.{begun_operation}
-use Rattle.machine_model.specs.Reading.{after_prev, at_indirection, read_action}
-use Rattle.machine_model.specs.States.{State, root_at, with_operation, with_word, word_at}
-use Rattle.machine_model.specs.Swapping.{after_reading, complete_action, complete_action_at, completing, is_plain, of_offer, stands_in}
-use Rattle.machine_model.specs.Records.{Record, noted_end, noted_progress}
-use Rattle.machine_model.specs.Tellings.{given_by, progress_of}
 use Rattle.proof_straight.specs.Recorded.{entrant_with}
 use Rattle.proof_straight.specs.Copies.{Course, offer_of, with_new_root, with_offer, with_successor}
 use Rattle.proof_straight.specs.Drafts.{Draft, next_made, redrafted}

@@ -3,27 +3,12 @@ use Rattle.std.proofs.Common.{◌≡◌, ℕ, zero, suc, ◌+◌, ◌-◌, ◌<�
 use Rattle.std.specs.List.{list_any}
 use Rattle.std.proofs.lemmas.Bool.{true≢false}
 use Rattle.std.proofs.lemmas.List.{set-set, get_or-set_same}
-use Rattle.proof_straight.specs.Beneath.history.specs.declared.calls.Call.{Call}
-use Rattle.proof_straight.specs.Beneath.slot_arena.specs.Heaps.{Heap}
-use Rattle.proof_straight.specs.Beneath.slot_arena.specs.declared.refs.Ref.{Ref}
-use Rattle.proof_straight.specs.Beneath.epochs.specs.Limbo.{limbo_after}
-use Rattle.machine_model.specs.declared.actions.Action.{Action}
-use Rattle.machine_model.specs.declared.operations.Operation.{Operation}
-use Rattle.machine_model.specs.declared.roots.Root.{Root}
-use Rattle.machine_model.specs.declared.roots.RootWord.{RootWord}
+use Rattle.proof_straight.specs.Vocabulary.{Call, Heap, Ref, limbo_after, Action, Operation, Root, RootWord, acted, marked, operation_after, handle_of, refs_of_operation, refs_of_root, settled}
+use Rattle.proof_straight.specs.Vocabulary.{next, GoesOn, action_of, kind_of, State, rewritten, root_at, with_operation, with_word, word_at, word_of, Progress, Record, noted, noted_progress}
+use Rattle.proof_straight.specs.Vocabulary.{progress_of, told_in}
 use Rattle.machine_model.specs.declared.steps.Outcome.TheVariants as outcome
 use Rattle.machine_model.specs.declared.steps.Step.TheVariants as step
-use Rattle.machine_model.specs.Acting.{acted, marked, operation_after}
-use Rattle.machine_model.specs.Calls.{handle_of}
-use Rattle.machine_model.specs.Counting.{refs_of_operation, refs_of_root, settled}
-use Rattle.machine_model.specs.Machine.{next}
-use Rattle.machine_model.specs.Moves.{GoesOn}
-use Rattle.machine_model.specs.Operations.{action_of, kind_of}
-use Rattle.machine_model.specs.States.{State, rewritten, root_at, with_operation, with_word, word_at, word_of}
 use Rattle.machine_model.proofs.Found.{found_within}
-use Rattle.machine_model.specs.declared.records.Progress.{Progress}
-use Rattle.machine_model.specs.Records.{Record, noted, noted_progress}
-use Rattle.machine_model.specs.Tellings.{progress_of, told_in}
 use Rattle.proof_straight.specs.Drafts.{Draft, redrafted}
 use Rattle.proof_straight.specs.Running.{GoesAlone, goes}
 use Rattle.proof_straight.proofs.Steps.Alone.{Alone, goes_by, held_standing, stand, steps_by, tells_so}

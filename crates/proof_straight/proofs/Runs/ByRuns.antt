@@ -1,15 +1,8 @@
 -- What a call comes to a run of its steps comes to.
 use Rattle.std.proofs.Common.{◌≡◌, ℕ, zero, suc, List, [], ◌∷◌, ◌++◌, replicate, cond, Ok, refl, sym, ap, ◌∙◌}
 use Rattle.std.proofs.lemmas.List.{append-nil}
-use Rattle.proof_straight.specs.Beneath.history.specs.declared.calls.Call.{Call}
-use Rattle.machine_model.specs.declared.steps.Outcome.{Outcome}
-use Rattle.machine_model.specs.declared.steps.Step.{Step}
+use Rattle.proof_straight.specs.Vocabulary.{Call, Outcome, Step, is_taken_step, next, run_from, state_after, Record, noted, record_from, State, told_in, Reply}
 use Rattle.machine_model.specs.declared.steps.Step.TheVariants as step
-use Rattle.machine_model.specs.Machine.{is_taken_step, next, run_from, state_after}
-use Rattle.machine_model.specs.Records.{Record, noted, record_from}
-use Rattle.machine_model.specs.States.{State}
-use Rattle.machine_model.specs.Tellings.{told_in}
-use Rattle.proof_straight.specs.Beneath.history.specs.declared.replies.Reply.{Reply}
 use Rattle.proof_straight.specs.Running.{Comes, ComesByRun, ComesTo, GoesAlone, GoesOn, begins, goes, starts, walks}
 
 one_earlier : {X : Type 0} (n : ℕ) (x : X) (xs : List X) → replicate n x ++ x ∷ xs ≡ x ∷ replicate n x ++ xs

@@ -4,22 +4,9 @@ use Rattle.std.proofs.Common.{replicate, count_by, Option, Some, None, refl, sym
 use Rattle.std.proofs.Math.ListN.{get_or-map}
 use Rattle.std.proofs.lemmas.Bool.{true≢false}
 use Rattle.std.proofs.lemmas.List.{length-map}
-use Rattle.proof_straight.specs.Beneath.slot_arena.specs.declared.nodes.Slot.{Slot}
-use Rattle.proof_straight.specs.Beneath.slot_arena.specs.declared.refs.Ref.{Ref}
-use Rattle.proof_straight.specs.Beneath.slot_arena.specs.Counts.{count_of}
-use Rattle.proof_straight.specs.Beneath.slot_arena.specs.Heaps.{taken, named_from, refs_of_slot}
-use Rattle.proof_straight.specs.Beneath.slot_arena.specs.Refs.{ref_to}
-use Rattle.proof_straight.specs.Beneath.slot_arena.specs.Times.{times}
-use Rattle.proof_straight.specs.Beneath.epochs.specs.declared.limbo.Zeroed.{Zeroed}
-use Rattle.proof_straight.specs.Beneath.epochs.specs.Limbo.{by_birth, limbo_after}
-use Rattle.machine_model.specs.declared.steps.Bounds.{Bounds}
-use Rattle.machine_model.specs.declared.steps.Outcome.{Outcome}
-use Rattle.machine_model.specs.declared.steps.Step.{Step}
-use Rattle.machine_model.specs.Acting.{ended, gone}
-use Rattle.machine_model.specs.Counting.{settled, outside, refs_of_operation}
-use Rattle.machine_model.specs.Machine.{begun_operation, run, swept, with_begin}
-use Rattle.machine_model.specs.Moves.{Moves, Begins, Goes, Ends, Sweeps}
-use Rattle.machine_model.specs.States.{State, first_heap, first_state}
+use Rattle.proof_straight.specs.Vocabulary.{Slot, Ref, count_of, taken, named_from, refs_of_slot, ref_to, times, Zeroed, by_birth, limbo_after, Bounds, Outcome, Step, ended, gone, settled, outside}
+use Rattle.proof_straight.specs.Vocabulary.{refs_of_operation, begun_operation, run, swept, with_begin, Moves, Begins, Ends, Sweeps, State, first_heap, first_state}
+use Rattle.machine_model.specs.Moves.{Goes}
 use Rattle.machine_model.proofs.Along.{along}
 use Rattle.machine_model.proofs.Basics.{two_or_more}
 use Rattle.machine_model.proofs.Rest.{one_if}

@@ -5,26 +5,13 @@ use Rattle.std.specs.List.{list_any}
 use Rattle.std.proofs.lemmas.Bool.{false≢true, true≢false, lt-leb}
 use Rattle.std.proofs.lemmas.List.{set-set, append-nil, get_or-set_same}
 use Rattle.proof_straight.specs.Beneath.ctrie_base.specs.declared.refusals.Refusal.TheVariants as refuse
-use Rattle.proof_straight.specs.Beneath.history.specs.declared.replies.Reply.{Reply}
-use Rattle.proof_straight.specs.Beneath.slot_arena.specs.declared.refs.Ref.{Ref}
-use Rattle.proof_straight.specs.Beneath.slot_arena.specs.Heaps.{Heap, taken}
-use Rattle.proof_straight.specs.Beneath.epochs.specs.Limbo.{limbo_after}
-use Rattle.machine_model.specs.declared.actions.Action.{Action}
+use Rattle.proof_straight.specs.Vocabulary.{Reply, Ref, Heap, taken, limbo_after, Action, Line, Operation, handle_of, GoesOn, verdict, State, operation_of, with_operation, action_of, kind_of, acted}
+use Rattle.proof_straight.specs.Vocabulary.{published, decided, operation_after, outside, refs_of_root, refs_of_operation, settled, next, first_reason, go_denial, go_unless, go_on, step_by, is_busy}
+use Rattle.proof_straight.specs.Vocabulary.{entrant_of, progress_of, told_by, told_in, told_of}
 use Rattle.machine_model.specs.declared.actions.Action.TheVariants as act
-use Rattle.machine_model.specs.declared.lines.Line.{Line}
-use Rattle.machine_model.specs.declared.operations.Operation.{Operation}
 use Rattle.machine_model.specs.declared.steps.Outcome.TheVariants as outcome
 use Rattle.machine_model.specs.declared.steps.Step.TheVariants as step
-use Rattle.machine_model.specs.Calls.{handle_of}
-use Rattle.machine_model.specs.Moves.{GoesOn}
-use Rattle.machine_model.specs.Reading.{verdict}
-use Rattle.machine_model.specs.States.{State, operation_of, with_operation}
-use Rattle.machine_model.specs.Operations.{action_of, kind_of}
-use Rattle.machine_model.specs.Acting.{acted, published, decided, operation_after}
-use Rattle.machine_model.specs.Counting.{outside, refs_of_root, refs_of_operation, settled}
-use Rattle.machine_model.specs.Machine.{next, first_reason, go_denial, go_unless, go_on, step_by, is_busy}
 use Rattle.machine_model.specs.declared.records.Told.TheVariants as told
-use Rattle.machine_model.specs.Tellings.{entrant_of, progress_of, told_by, told_in, told_of}
 use Rattle.machine_model.proofs.Actors.{actor_by}
 use Rattle.proof_straight.specs.Drafts.{Draft, held_with, redrafted}
 

@@ -1,27 +1,12 @@
 -- A call that runs alone, from its begin to its end, by what its steps do to its draft.
 use Rattle.std.proofs.Common.{length-set, ◌≡◌, ℕ, suc, ◌+◌, ◌-◌, ◌≤◌, false, cond, List, [], set, Option, Some, None, Ok, refl, ap, ◌∙◌, subst, arith, length, ◌<◌}
-use Rattle.proof_straight.specs.Beneath.history.specs.declared.calls.Call.{Call}
-use Rattle.proof_straight.specs.Beneath.history.specs.declared.replies.Reply.{Reply}
-use Rattle.proof_straight.specs.Beneath.slot_arena.specs.declared.nodes.Node.{Node}
-use Rattle.proof_straight.specs.Beneath.slot_arena.specs.declared.refs.Ref.{Ref}
-use Rattle.proof_straight.specs.Beneath.slot_arena.specs.Heaps.{next_ref}
-use Rattle.proof_straight.specs.Beneath.epochs.specs.Limbo.{limbo_after}
-use Rattle.machine_model.specs.declared.actions.Action.{Action}
+use Rattle.proof_straight.specs.Vocabulary.{Call, Reply, Node, Ref, next_ref, limbo_after, Action, Line, Operation, handle_of, is_close, State, with_operation, with_root, action_of}
+use Rattle.proof_straight.specs.Vocabulary.{generation_after, line_after, operation_after, private_after, attempt_after, mark_after, outside, settled, next, begin_denial, begin_unless}
+use Rattle.proof_straight.specs.Vocabulary.{begun_operation, with_begin, Progress, Record, no_moment, noted, noted_end, noted_progress, entrant_of, progress_of, told_in}
 use Rattle.machine_model.specs.declared.actions.Action.TheVariants as act
-use Rattle.machine_model.specs.declared.lines.Line.{Line}
 use Rattle.machine_model.specs.declared.lines.Line.TheVariants as line
-use Rattle.machine_model.specs.declared.operations.Operation.{Operation}
 use Rattle.machine_model.specs.declared.steps.Outcome.TheVariants as outcome
 use Rattle.machine_model.specs.declared.steps.Step.TheVariants as step
-use Rattle.machine_model.specs.Calls.{handle_of, is_close}
-use Rattle.machine_model.specs.States.{State, with_operation, with_root}
-use Rattle.machine_model.specs.Operations.{action_of, generation_after, line_after}
-use Rattle.machine_model.specs.Acting.{operation_after, private_after, attempt_after, mark_after}
-use Rattle.machine_model.specs.Counting.{outside, settled}
-use Rattle.machine_model.specs.Machine.{next, begin_denial, begin_unless, begun_operation, with_begin}
-use Rattle.machine_model.specs.declared.records.Progress.{Progress}
-use Rattle.machine_model.specs.Records.{Record, no_moment, noted, noted_end, noted_progress}
-use Rattle.machine_model.specs.Tellings.{entrant_of, progress_of, told_in}
 use Rattle.proof_straight.specs.Drafts.{Draft, first_draft, held_with, redrafted, with_made, next_made}
 use Rattle.proof_straight.specs.Recorded.{moment_of}
 use Rattle.proof_straight.specs.Running.{GoesAlone, begins, goes, ComesTo}

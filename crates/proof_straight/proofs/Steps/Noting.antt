@@ -2,15 +2,7 @@
 use Rattle.std.proofs.Common.{◌≡◌, ℕ, suc, ◌-◌, ◌<◌, ◌==◌, Bool, true, false, cond, max, List, [], ◌∷◌, ◌++◌, length, get_or, set, Option, Some, None, refl, ap, ◌∙◌, eq-eqb, arith}
 use Rattle.std.specs.Prelude.{find, option_and_then}
 use Rattle.std.proofs.lemmas.List.{set-set, append-nil, get_or-set_same, set-get_or}
-use Rattle.proof_straight.specs.Beneath.slot_arena.specs.declared.refs.Ref.{Ref}
-use Rattle.machine_model.specs.Beneath.places.specs.declared.place.Place.{Place}
-use Rattle.machine_model.specs.Beneath.places.specs.Places.{on_time}
-use Rattle.machine_model.specs.declared.records.Closing.{Closing}
-use Rattle.machine_model.specs.declared.records.Entrant.{Entrant}
-use Rattle.machine_model.specs.declared.records.Moment.{Moment}
-use Rattle.machine_model.specs.declared.records.Progress.{Progress}
-use Rattle.machine_model.specs.declared.records.Publication.{Publication}
-use Rattle.machine_model.specs.Records.{Record, committed_at, entered, entered_by, moment_after, no_moment, noted_progress}
+use Rattle.proof_straight.specs.Vocabulary.{Ref, Place, on_time, Closing, Entrant, Moment, Progress, Publication, Record, committed_at, entered, entered_by, moment_after, no_moment, noted_progress}
 use Rattle.proof_straight.specs.Recorded.{moment_of}
 
 -- of a step that tells nothing nothing is recorded

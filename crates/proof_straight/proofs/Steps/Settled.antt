@@ -7,10 +7,8 @@ use Rattle.std.proofs.lemmas.List.Elements.{All-nil, All-cons, All-head, All-tai
 use Rattle.std.proofs.lemmas.List.Folds.{list_any-append}
 use Rattle.std.proofs.lemmas.Map.Views.{any-filter_same}
 use Rattle.proof_straight.specs.Beneath.ctrie_base.proofs.Sorting.{sorted_all}
-use Rattle.proof_straight.specs.Beneath.slot_arena.specs.declared.refs.Ref.{Ref}
-use Rattle.proof_straight.specs.Beneath.slot_arena.specs.Heaps.{Heap, in_use}
-use Rattle.proof_straight.specs.Beneath.epochs.specs.declared.limbo.Zeroed.{Zeroed}
-use Rattle.proof_straight.specs.Beneath.epochs.specs.Limbo.{is_zero, is_in, is_in_use, by_birth, put_in, newly_zero, limbo_after}
+use Rattle.proof_straight.specs.Vocabulary.{Ref, Heap, in_use, Zeroed, is_zero, is_in, is_in_use, by_birth, newly_zero, limbo_after}
+use Rattle.proof_straight.specs.Beneath.epochs.specs.Limbo.{put_in}
 
 -- a filter that each passes keeps all
 filter_all : {X : Type 0} (p : X → Bool) (xs : List X) → All (λ x. p x ≡ true) xs → filter p xs ≡ xs

@@ -4,29 +4,13 @@ use Rattle.std.specs.Option.{option_eq}
 use Rattle.std.proofs.Math.Seq.{get_or-append_seam}
 use Rattle.std.proofs.lemmas.List.{length-append, length-set}
 use Rattle.arrayvec.specs.ArrayVec.{ArrayVec}
-use Rattle.proof_straight.specs.Beneath.ctrie_base.specs.Paths.{position_of}
-use Rattle.proof_straight.specs.Beneath.history.specs.declared.calls.Access.{Access}
-use Rattle.proof_straight.specs.Beneath.history.specs.declared.calls.Call.{Call}
-use Rattle.proof_straight.specs.Beneath.slot_arena.specs.declared.refs.Ref.{Ref}
-use Rattle.proof_straight.specs.Beneath.slot_arena.specs.declared.nodes.Node.TheVariants.{Indirection}
+use Rattle.proof_straight.specs.Vocabulary.{position_of, Access, Call, Ref, Indirection, Heap, node_at, main_at, prev_at, entry_at, generation_at, no_ref, flag_of, has_flag, KeyLine, Line}
+use Rattle.proof_straight.specs.Vocabulary.{Operation, key_of, passes, going_down, absent, key_action, key_after, key_after_read, key_after_main, key_after_entry, begun_operation, current, reading}
+use Rattle.proof_straight.specs.Vocabulary.{after_prev, at_indirection, renew_next, State, key_hash, Record, no_moment, given_by, progress_of}
 use Rattle.proof_straight.specs.Beneath.slot_arena.specs.declared.nodes.Prev.TheVariants as prev
-use Rattle.proof_straight.specs.Beneath.slot_arena.specs.Heaps.{Heap, node_at, main_at, prev_at, entry_at, generation_at, no_ref}
-use Rattle.proof_straight.specs.Beneath.nodes.specs.Levels.{flag_of, has_flag}
-use Rattle.machine_model.specs.declared.finding.KeyLine.{KeyLine}
 use Rattle.machine_model.specs.declared.finding.KeyLine.TheVariants as key
-use Rattle.machine_model.specs.declared.lines.Line.{Line}
 use Rattle.machine_model.specs.declared.lines.Line.TheVariants as line
-use Rattle.machine_model.specs.declared.operations.Operation.{Operation}
 use Rattle.machine_model.specs.declared.reading.ReadLine.TheVariants as read
-use Rattle.machine_model.specs.Calls.{key_of}
-use Rattle.machine_model.specs.Finding.{passes, going_down, absent, key_action, key_after, key_after_read, key_after_main, key_after_entry}
-use Rattle.machine_model.specs.Machine.{begun_operation}
-use Rattle.machine_model.specs.Paths.{current}
-use Rattle.machine_model.specs.Reading.{reading, after_prev, at_indirection}
-use Rattle.machine_model.specs.Renewing.{renew_next}
-use Rattle.machine_model.specs.States.{State, key_hash}
-use Rattle.machine_model.specs.Records.{Record, no_moment}
-use Rattle.machine_model.specs.Tellings.{given_by, progress_of}
 use Rattle.proof_straight.specs.Recorded.{moment_of}
 use Rattle.proof_straight.specs.Drafts.{first_draft}
 use Rattle.proof_straight.specs.Places.{HasEntry, Leads, entry_for, to_root, below}

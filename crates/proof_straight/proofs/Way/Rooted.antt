@@ -1,20 +1,11 @@
 -- How a call on one key begins, reads its root, and comes to where its key stands or would.
 use Rattle.std.proofs.Common.{◌≡◌, ℕ, suc, ◌+◌, false, [], None, refl, ap, ◌∙◌, subst, arith}
 use Rattle.std.proofs.lemmas.List.{append-nil}
-use Rattle.proof_straight.specs.Beneath.history.specs.declared.calls.Call.{Call}
+use Rattle.proof_straight.specs.Vocabulary.{Call, Ref, limbo_after, Operation, is_close, opens_handle, going_down, new_try, begun_operation, first_line, after_root, given_root, State}
+use Rattle.proof_straight.specs.Vocabulary.{after_root_word, Record}
 use Rattle.proof_straight.specs.Beneath.history.specs.declared.calls.Call.TheVariants as call
-use Rattle.proof_straight.specs.Beneath.slot_arena.specs.declared.refs.Ref.{Ref}
-use Rattle.proof_straight.specs.Beneath.epochs.specs.Limbo.{limbo_after}
 use Rattle.machine_model.specs.declared.actions.Action.TheVariants as act
-use Rattle.machine_model.specs.declared.operations.Operation.{Operation}
-use Rattle.machine_model.specs.Calls.{is_close, opens_handle}
-use Rattle.machine_model.specs.Finding.{going_down}
-use Rattle.machine_model.specs.Lines.{new_try}
-use Rattle.machine_model.specs.Machine.{begun_operation}
-use Rattle.machine_model.specs.Operations.{first_line, from_root, after_root, given_root}
-use Rattle.machine_model.specs.States.{State}
-use Rattle.machine_model.specs.Swapping.{after_root_word}
-use Rattle.machine_model.specs.Records.{Record}
+use Rattle.machine_model.specs.Operations.{from_root}
 use Rattle.machine_model.proofs.Actors.{begin_actor}
 use Rattle.machine_model.proofs.Alike.{actor_within}
 use Rattle.proof_straight.specs.Drafts.{Draft, first_draft}

@@ -2,25 +2,15 @@
 use Rattle.std.proofs.Common.{◌≡◌, ℕ, zero, suc, ◌+◌, ◌*◌, ◌<◌, ◌≤◌, ◌==◌, ◌&&◌, nat_le, Bool, true, false, cond, nat_lt, List, [], length, None, refl, sym, ap, ◌∙◌, subst, eq-eqb, lt-ltb, arith}
 use Rattle.std.proofs.lemmas.Bool.{le-leb, le-ltb, lt-leb}
 use Rattle.arrayvec.specs.ArrayVec.{ArrayVec}
-use Rattle.proof_straight.specs.Beneath.ctrie_base.specs.Paths.{position_of}
-use Rattle.proof_straight.specs.Beneath.history.specs.declared.calls.Call.{Call}
-use Rattle.proof_straight.specs.Beneath.slot_arena.specs.declared.refs.Ref.{Ref}
-use Rattle.proof_straight.specs.Beneath.slot_arena.specs.declared.nodes.Node.{Node}
-use Rattle.proof_straight.specs.Beneath.slot_arena.specs.declared.nodes.Node.TheVariants.{Branch, Single, List as Listed}
+use Rattle.proof_straight.specs.Vocabulary.{position_of, Call, Ref, Node, Branch, Single, List as Listed, node_at, main_at, prev_at, entry_at, entries_of, flag_of, has_flag, Site, Line, key_of}
+use Rattle.proof_straight.specs.Vocabulary.{when_found, inserts, absent_reply, going_down, absent, absent_beside, absent_listed, found, found_so, key_after_main, key_after_entry, after_listed}
+use Rattle.proof_straight.specs.Vocabulary.{State, key_hash, Record}
 use Rattle.proof_straight.specs.Beneath.slot_arena.specs.declared.nodes.Prev.TheVariants as prev
-use Rattle.proof_straight.specs.Beneath.slot_arena.specs.Heaps.{node_at, main_at, prev_at, entry_at, entries_of}
-use Rattle.proof_straight.specs.Beneath.nodes.specs.Levels.{flag_of, has_flag}
 use Rattle.proof_straight.specs.Beneath.history.specs.declared.replies.Reply.TheVariants as reply
 use Rattle.machine_model.specs.declared.building.BuildLine.TheVariants as build
-use Rattle.machine_model.specs.declared.building.Site.{Site}
 use Rattle.machine_model.specs.declared.building.Site.TheVariants as site
 use Rattle.machine_model.specs.declared.finding.KeyLine.TheVariants as key
-use Rattle.machine_model.specs.declared.lines.Line.{Line}
 use Rattle.machine_model.specs.declared.lines.Line.TheVariants as line
-use Rattle.machine_model.specs.Calls.{key_of, when_found, inserts, absent_reply}
-use Rattle.machine_model.specs.Finding.{going_down, absent, absent_beside, absent_listed, found, found_so, key_after_main, key_after_entry, after_listed}
-use Rattle.machine_model.specs.States.{State, key_hash}
-use Rattle.machine_model.specs.Records.{Record}
 use Rattle.proof_straight.specs.Drafts.{first_draft}
 use Rattle.proof_straight.specs.Places.{ComesDown, steps_down}
 use Rattle.proof_straight.specs.Places.{HasEntry, HasRoom, Finds, IsOther, Misses, entry_for, in_branch, in_list, no_entry, beside_other, not_listed}

@@ -1,24 +1,15 @@
 -- Calls on one key that change nothing.
 use Rattle.std.proofs.Common.{◌≡◌, ℕ, zero, suc, ◌+◌, ◌*◌, ◌<◌, ◌==◌, Bool, true, false, length, refl, ap, ◌∙◌, subst, arith}
-use Rattle.proof_straight.specs.Beneath.history.specs.declared.calls.Call.{Call}
+use Rattle.proof_straight.specs.Vocabulary.{Call, Reply, Ref, main_at, WhenFound, Answers, Sets, Removes, absent_reply, answers_unless, when_found, found_so, State, Record, noted_end}
 use Rattle.proof_straight.specs.Beneath.history.specs.declared.calls.Call.TheVariants as call
-use Rattle.proof_straight.specs.Beneath.history.specs.declared.replies.Reply.{Reply}
 use Rattle.proof_straight.specs.Beneath.history.specs.declared.replies.Reply.TheVariants as reply
-use Rattle.proof_straight.specs.Beneath.slot_arena.specs.declared.refs.Ref.{Ref}
-use Rattle.proof_straight.specs.Beneath.slot_arena.specs.Heaps.{main_at}
-use Rattle.machine_model.specs.declared.finding.WhenFound.{WhenFound}
-use Rattle.machine_model.specs.declared.finding.WhenFound.TheVariants.{Answers, Sets, Removes}
 use Rattle.machine_model.specs.declared.lines.Line.TheVariants as line
-use Rattle.machine_model.specs.Calls.{absent_reply, answers_unless, when_found}
-use Rattle.machine_model.specs.Finding.{found_so}
-use Rattle.machine_model.specs.States.{State}
 use Rattle.machine_model.proofs.Actors.{begin_counts}
 use Rattle.proof_straight.specs.Drafts.{after_call, first_draft}
 use Rattle.proof_straight.specs.Laws.{LastsFor, ChangesNothing, AnswersStraight, MissesStraight, CrowdedStraight}
 use Rattle.proof_straight.specs.Running.{ComesTo, IsReady, IsKeyed, IsRecordOf}
 use Rattle.proof_straight.specs.Places.{read_in, steps_down}
 use Rattle.proof_straight.specs.Recorded.{entrant_with}
-use Rattle.machine_model.specs.Records.{Record, noted_end}
 use Rattle.proof_straight.proofs.Way.Descent.{OnLine, rooted}
 use Rattle.proof_straight.proofs.Steps.Going.{begun_record, ends_so}
 use Rattle.proof_straight.proofs.Steps.Noting.{with_read}

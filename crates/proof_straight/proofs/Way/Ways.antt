@@ -5,15 +5,8 @@ use Rattle.std.specs.Int.Bits.{and_zero_l}
 use Rattle.std.specs.Option.{option_eq}
 use Rattle.std.proofs.lemmas.Bool.{false≢true}
 use Rattle.arrayvec.specs.ArrayVec.{ArrayVec}
-use Rattle.proof_straight.specs.Beneath.ctrie_base.specs.Paths.{position_of}
-use Rattle.proof_straight.specs.Beneath.history.specs.declared.calls.Access.{Access}
-use Rattle.proof_straight.specs.Beneath.slot_arena.specs.declared.nodes.Node.TheVariants.{Indirection, Branch}
-use Rattle.proof_straight.specs.Beneath.slot_arena.specs.declared.nodes.Slot.{Slot}
-use Rattle.proof_straight.specs.Beneath.slot_arena.specs.declared.refs.Ref.{Ref}
-use Rattle.proof_straight.specs.Beneath.slot_arena.specs.Heaps.{Heap, stored, node_of, node_at, main_at, main_of, prev_at, entries_of, bitmap_of, generation_at, no_ref}
-use Rattle.proof_straight.specs.Beneath.slot_arena.specs.Refs.{slot_of}
-use Rattle.proof_straight.specs.Beneath.nodes.specs.Levels.{flag_of, has_flag}
-use Rattle.machine_model.specs.Finding.{passes}
+use Rattle.proof_straight.specs.Vocabulary.{position_of, Access, Indirection, Branch, Slot, Ref, Heap, stored, node_of, node_at, main_at, main_of, prev_at, entries_of, bitmap_of, generation_at}
+use Rattle.proof_straight.specs.Vocabulary.{no_ref, slot_of, flag_of, has_flag, passes}
 use Rattle.proof_straight.specs.Places.{HasEntry, Leads, entry_for, to_root, below}
 use Rattle.proof_straight.proofs.Change.Contracting.{two_slots}
 use Rattle.proof_straight.proofs.Way.Descent.{path_along}

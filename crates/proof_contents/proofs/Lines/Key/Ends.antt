@@ -4,29 +4,15 @@ use Rattle.std.proofs.lemmas.Bool.{and_parts, cond_both}
 use Rattle.std.proofs.Common.{sym, ap, ap₂, subst, ◌∙◌, eqb-true, take_all, ltb-false, leb-true, take-append-drop}
 use Rattle.std.proofs.lemmas.Grind.{take_at_read}
 use Rattle.arrayvec.specs.ArrayVec.{ArrayVec}
-use Rattle.proof_contents.specs.Beneath.ctrie_base.specs.Paths.{position_of}
-use Rattle.proof_contents.specs.Beneath.ctrie_base.specs.Hashes.{hash_of}
-use Rattle.proof_contents.specs.Beneath.history.specs.declared.replies.Reply.{Reply}
+use Rattle.proof_contents.specs.Vocabulary.{position_of, hash_of, Reply, Ref, Node, Indirection, Branch, Single, Tomb, List as Listed, node_at, entry_at, entries_of, no_ref, has_flag, Operation}
+use Rattle.proof_contents.specs.Vocabulary.{WhenFound, Answers, Sets, Removes, Line, key_of, inserts, absent_reply, when_found, State, depth_of, renew_next, going_down, absent, absent_beside}
+use Rattle.proof_contents.specs.Vocabulary.{absent_listed, found_so, found, key_after_main, is_passable, key_after_entry, after_listed}
 use Rattle.proof_contents.specs.Beneath.history.specs.declared.replies.Reply.TheVariants as reply
-use Rattle.proof_contents.specs.Beneath.slot_arena.specs.declared.refs.Ref.{Ref}
-use Rattle.proof_contents.specs.Beneath.slot_arena.specs.declared.nodes.Node.{Node}
-use Rattle.proof_contents.specs.Beneath.slot_arena.specs.declared.nodes.Node.TheVariants.{Indirection, Branch, Single, Tomb, List as Listed}
-use Rattle.proof_contents.specs.Beneath.slot_arena.specs.Heaps.{node_at, entry_at, entries_of, no_ref}
-use Rattle.proof_contents.specs.Beneath.nodes.specs.Levels.{has_flag}
-use Rattle.machine_model.specs.declared.operations.Operation.{Operation}
 use Rattle.machine_model.specs.declared.building.Site.TheVariants as site
 use Rattle.machine_model.specs.declared.building.BuildLine.TheVariants as build
 use Rattle.machine_model.specs.declared.finding.KeyLine.TheVariants as key
-use Rattle.machine_model.specs.declared.finding.WhenFound.{WhenFound}
-use Rattle.machine_model.specs.declared.finding.WhenFound.TheVariants.{Answers, Sets, Removes}
-use Rattle.machine_model.specs.declared.lines.Line.{Line}
 use Rattle.machine_model.specs.declared.lines.Line.TheVariants as line
-use Rattle.machine_model.specs.Calls.{key_of, inserts, absent_reply, when_found}
-use Rattle.machine_model.specs.States.{State}
 use Rattle.machine_model.specs.Paths as path
-use Rattle.machine_model.specs.Paths.{depth_of}
-use Rattle.machine_model.specs.Renewing.{renew_next}
-use Rattle.machine_model.specs.Finding.{going_down, absent, absent_beside, absent_listed, found_so, found, key_after_main, is_passable, key_after_entry, after_listed}
 use Rattle.proof_contents.specs.Nodes.Looking.{Found, Absent, Has, look_at, look_among, or_else}
 use Rattle.proof_contents.specs.Nodes.Changing.{look}
 use Rattle.proof_contents.proofs.Nodes.Branches.{differ}

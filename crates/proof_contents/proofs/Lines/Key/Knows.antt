@@ -4,36 +4,18 @@ use Rattle.std.proofs.lemmas.Bool.{and_parts}
 use Rattle.std.proofs.Common.{inr, refl, sym, ap, ap₂, subst, ◌∙◌, eqb-true, take_all, ltb-true, ltb-false, leb-false}
 use Rattle.std.proofs.lemmas.Grind.{take_at_read}
 use Rattle.arrayvec.specs.ArrayVec.{ArrayVec}
-use Rattle.proof_contents.specs.Beneath.ctrie_base.specs.Paths.{position_of}
-use Rattle.proof_contents.specs.Beneath.history.specs.declared.calls.Access.TheVariants.{ReadOnly}
-use Rattle.proof_contents.specs.Beneath.history.specs.declared.calls.Call.{Call}
-use Rattle.proof_contents.specs.Beneath.history.specs.declared.calls.Call.TheVariants.{Get}
-use Rattle.proof_contents.specs.Beneath.slot_arena.specs.declared.refs.Ref.{Ref}
-use Rattle.proof_contents.specs.Beneath.slot_arena.specs.declared.nodes.Node.{Node}
-use Rattle.proof_contents.specs.Beneath.slot_arena.specs.declared.nodes.Node.TheVariants.{Indirection, Branch, Single, Tomb, List as Listed}
-use Rattle.proof_contents.specs.Beneath.slot_arena.specs.Heaps.{node_at, entry_at, entries_of, no_ref}
-use Rattle.proof_contents.specs.Beneath.nodes.specs.Levels.{has_flag}
-use Rattle.machine_model.specs.declared.operations.Operation.{Operation}
-use Rattle.machine_model.specs.declared.reading.After.{After}
-use Rattle.machine_model.specs.declared.reading.After.TheVariants.{Goes, Gives}
-use Rattle.machine_model.specs.declared.reading.Read.{Read}
+use Rattle.proof_contents.specs.Vocabulary.{position_of, ReadOnly, Call, Get, Ref, Node, Indirection, Branch, Single, Tomb, List as Listed, node_at, entry_at, entries_of, no_ref, has_flag}
+use Rattle.proof_contents.specs.Vocabulary.{Operation, After, Gives, Read, KeyLine, WhenFound, Answers, Sets, Removes, key_of, inserts, absent_reply, when_found, State, depth_of, is_below_root}
+use Rattle.proof_contents.specs.Vocabulary.{read_step, renew_next, going_down, absent, absent_beside, absent_listed, removing, found_so, found, key_after_read, key_after_main, is_passable}
+use Rattle.proof_contents.specs.Vocabulary.{key_after_entry, after_listed, after_sibling, key_after}
+use Rattle.machine_model.specs.declared.reading.After.TheVariants.{Goes}
 use Rattle.machine_model.specs.declared.building.Site.TheVariants as site
 use Rattle.machine_model.specs.declared.building.Change.TheVariants as change
 use Rattle.machine_model.specs.declared.building.BuildLine.TheVariants as build
-use Rattle.machine_model.specs.declared.finding.KeyLine.{KeyLine}
 use Rattle.machine_model.specs.declared.finding.KeyLine.TheVariants as key
-use Rattle.machine_model.specs.declared.finding.WhenFound.{WhenFound}
-use Rattle.machine_model.specs.declared.finding.WhenFound.TheVariants.{Answers, Sets, Removes}
 use Rattle.machine_model.specs.declared.lines.Line.TheVariants as line
 use Rattle.proof_contents.specs.Beneath.history.specs.declared.replies.Reply.TheVariants as reply
-use Rattle.machine_model.specs.Calls.{key_of, inserts, absent_reply, when_found}
-use Rattle.machine_model.specs.States.{State}
 use Rattle.machine_model.specs.Paths as path
-use Rattle.machine_model.specs.Paths.{depth_of, is_below_root}
-use Rattle.machine_model.specs.Reading.{read_step}
-use Rattle.machine_model.specs.Renewing.{renew_next}
-use Rattle.machine_model.specs.Finding.{going_down, absent, absent_beside, absent_listed, removing, found_so, found, key_after_read, key_after_main, is_passable}
-use Rattle.machine_model.specs.Finding.{key_after_entry, after_listed, after_sibling, key_after}
 use Rattle.proof_contents.specs.Nodes.Looking.{Absent, look_among, or_else}
 use Rattle.proof_contents.proofs.Nodes.Branches.{differ}
 use Rattle.proof_contents.proofs.Nodes.Changes.{look-other}

@@ -1,12 +1,6 @@
 use lib.Count.{ones, ones_in}
 use Rattle.std.proofs.Common.{refl}
-use Rattle.proof_counterexamples.specs.Beneath.slot_arena.specs.Heaps.{stored, node_at, prev_at, with_main, with_prev, taken, freed}
-use Rattle.proof_counterexamples.specs.Beneath.slot_arena.specs.Counts.{count_of}
-use Rattle.proof_counterexamples.specs.Beneath.places.specs.Places.{ids_by_place}
-use Rattle.machine_model.specs.States.{first_state}
-use Rattle.machine_model.specs.Records.{order_of}
-use Rattle.machine_model.specs.Machine.{taken_below, least_from, next}
-use Rattle.machine_model.specs.Runs.{sized}
+use Rattle.proof_counterexamples.specs.Vocabulary.{stored, node_at, prev_at, with_main, with_prev, taken, freed, count_of, ids_by_place, first_state, order_of, taken_below, least_from, next, sized}
 use Rattle.proof_counterexamples.specs.Machines.{record_by, machine_from, without_the_single}
 use Rattle.proof_counterexamples.specs.Runs.{cleaning_get}
 use Rattle.proof_counterexamples.proofs.Refuting.{begun_as, ended_as, is_refuted, refused}

@@ -1,4 +1,4 @@
-use Rattle.machine_model.specs.Machine.{run}
+use Rattle.proof_memory.specs.Vocabulary.{run}
 use Rattle.proof_memory.proofs.Safety.AtEachTime.{safe_along}
 use Rattle.proof_memory.proofs.Safety.AtTimes.{line_finds_in, action_finds}
 use Rattle.proof_memory.proofs.Safety.Steps.{of_actor}

@@ -1,4 +1,4 @@
-use Rattle.machine_model.specs.Machine.{run}
+use Rattle.proof_memory.specs.Vocabulary.{run}
 use Rattle.proof_memory.proofs.Safety.AtEachTime.{safe_along}
 use Rattle.proof_memory.proofs.Levels.Runs.{levels_of, has_levels}
 use Rattle.proof_memory.proofs.Limbo.Zeros.{has_zeros}

@@ -1,4 +1,4 @@
-use Rattle.machine_model.specs.Machine.{run}
+use Rattle.proof_memory.specs.Vocabulary.{run}
 use Rattle.proof_memory.proofs.Safety.AtEachTime.{safe_along}
 use Rattle.proof_memory.proofs.Safety.Held.{held_in_use}
 use Rattle.proof_memory.proofs.Safety.Standing.{in_root, in_private_list, in_any_slot}

@@ -1,8 +1,6 @@
 use Rattle.std.proofs.Common.{◌≡◌, refl}
 use Rattle.std.proofs.lemmas.Bool.{cond_both}
-use Rattle.machine_model.specs.Machine.{run, next, is_taken_step}
-use Rattle.machine_model.specs.Records.{record_of}
-use Rattle.machine_model.specs.declared.steps.Step.TheVariants.{Sweep}
+use Rattle.proof_memory.specs.Vocabulary.{run, next, is_taken_step, record_of, Sweep}
 use Rattle.proof_memory.proofs.Safety.AtEachTime.{safe_along}
 use Rattle.proof_memory.proofs.Limbo.Sweeps.{sweep_leaves}
 use Rattle.proof_memory.proofs.laws.sweep_leaves.Goals as goal

@@ -1,5 +1,4 @@
-use Rattle.proof_generations.specs.Beneath.machine_model.specs.Machine.{run}
-use Rattle.proof_generations.specs.Beneath.machine_model.specs.Records.{record_of}
+use Rattle.proof_generations.specs.Vocabulary.{run, record_of}
 use Rattle.proof_generations.proofs.Roots.Along.{ordered_along}
 use Rattle.proof_generations.proofs.Roots.OfLists.{standing_below, operation_below}
 use Rattle.proof_generations.proofs.Counter.Below.{closed_below}

@@ -1,5 +1,5 @@
 use Rattle.std.proofs.Common.{suc, sym, ap, ◌∙◌}
-use Rattle.proof_generations.specs.Beneath.machine_model.specs.Machine.{run}
+use Rattle.proof_generations.specs.Vocabulary.{run}
 use Rattle.proof_generations.proofs.Roots.OfLists.{has_handles_along}
 use Rattle.proof_generations.proofs.Handles.Running.{place_of_actor}
 use Rattle.proof_generations.proofs.laws.roots.handles_of_operations.Goals as goal

@@ -1,5 +1,5 @@
 use Rattle.std.proofs.Common.{sym, suc}
-use Rattle.proof_generations.specs.Beneath.machine_model.specs.Machine.{run}
+use Rattle.proof_generations.specs.Vocabulary.{run}
 use Rattle.proof_generations.proofs.Roots.OfLists.{has_handles_along}
 use Rattle.proof_generations.proofs.Offers.Standing.{own_numbers, completes_it}
 use Rattle.proof_generations.proofs.Offers.Same.{same_offer}

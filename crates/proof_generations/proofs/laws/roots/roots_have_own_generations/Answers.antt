@@ -1,8 +1,6 @@
 use Rattle.std.proofs.Common.{◌≡◌, true, false, refl, sym, ap, ◌∙◌, ◌++◌, Some}
 use Rattle.std.proofs.lemmas.Option.{none-some}
-use Rattle.proof_generations.specs.Beneath.machine_model.specs.States.{first_state}
-use Rattle.proof_generations.specs.Beneath.machine_model.specs.Records.{closed_at, first_record, record_of}
-use Rattle.proof_generations.specs.Beneath.machine_model.specs.Machine.{run}
+use Rattle.proof_generations.specs.Vocabulary.{first_state, closed_at, first_record, record_of, run}
 use Rattle.proof_generations.specs.Beneath.machine_model.proofs.Recorded.{record-append}
 use Rattle.proof_generations.specs.Beneath.proof_memory.proofs.Safety.AtEachTime.{safe_along}
 use Rattle.proof_generations.proofs.Roots.Along.{ordered_along, read_only_plain, closed_later, alone_on, offered_unused, offered_apart}
