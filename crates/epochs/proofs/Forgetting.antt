@@ -61,7 +61,7 @@ module _ (heap : Heap) (outside : List Ref) (epoch : ℕ) (entry : Zeroed) (limb
   now = freed heap entry.at
 
   gone : times entry.at (in_use now) ≡ 0
-  gone = times-in_use now entry.at (omega (arith, length-freed heap entry.at)) ∙ ap bit (freed_dead heap entry.at)
+  gone = times-in_use now entry.at ∙ ap bit (freed_dead heap entry.at)
 
   leaves : staying now outside (entry ∷ limbo) ≡ staying now outside limbo
   leaves =

@@ -252,6 +252,14 @@ taken_steps limits steps = taken_from (first_state limits) steps
 abbrev pub longest_life : ℕ
 longest_life = 2 ^ 45 - 2 ^ 21
 
--- the bounds are in range
+-- the bounds are in range: of slots and of steps there may be any number
 abbrev pub AreBounds : Bounds → Type 0
 AreBounds limits = (2 ≤ limits.slots) × (1 ≤ limits.actors) × (limits.actors ≤ 64)
+
+-- so few slots and steps that the references and the births of a program fit into words
+abbrev pub BoundsFit : Bounds → Type 0
+BoundsFit limits = (limits.slots ≤ most_slots) × (limits.steps ≤ longest_life)
+
+-- the bounds are those of a program
+abbrev pub AreProgramBounds : Bounds → Type 0
+AreProgramBounds limits = AreBounds limits × BoundsFit limits

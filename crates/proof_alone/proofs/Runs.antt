@@ -6,7 +6,7 @@ use Rattle.proof_alone.specs.Beneath.machine_model.specs.declared.steps.Bounds.{
 use Rattle.proof_alone.specs.Beneath.machine_model.specs.declared.steps.Outcome.{Outcome}
 use Rattle.proof_alone.specs.Beneath.machine_model.specs.declared.steps.Step.{Step}
 use Rattle.proof_alone.specs.Beneath.machine_model.specs.Keys.{FitsKey, KeysFit}
-use Rattle.proof_alone.specs.Beneath.machine_model.specs.Machine.{AreBounds, is_taken_step, next, run, state_after}
+use Rattle.proof_alone.specs.Beneath.machine_model.specs.Machine.{AreBounds, BoundsFit, is_taken_step, next, run, state_after}
 use Rattle.proof_alone.specs.Beneath.machine_model.specs.Records.{first_record, noted, record_of}
 use Rattle.proof_alone.specs.Beneath.machine_model.specs.States.{State, first_state}
 use Rattle.proof_alone.specs.Beneath.machine_model.specs.Tellings.{told_in}
@@ -19,12 +19,13 @@ pub by_run : (P : State → Type 0) → ((limits : Bounds) (steps : List Step) �
 by_run P each state h = subst P (sym h.is) (each state.limits h.steps h.limits h.keys)
 
 -- a run leads to the state behind it
-pub of_run : (limits : Bounds) (steps : List Step) → AreBounds limits → KeysFit steps → IsOfRun (run limits steps)
-of_run limits steps ok fit = record {
+pub of_run : (limits : Bounds) (steps : List Step) → AreBounds limits → BoundsFit limits → KeysFit steps → IsOfRun (run limits steps)
+of_run limits steps ok fits keys = record {
   steps = steps;
   is = ap (λ l. run l steps) (sym (limits_along limits steps));
   limits = subst AreBounds (sym (limits_along limits steps)) ok;
-  keys = fit;
+  fits = subst BoundsFit (sym (limits_along limits steps)) fits;
+  keys = keys;
 }
 
 -- the state that a taken step leads to, and what is recorded then
@@ -42,6 +43,7 @@ abbrev LeadsBehind : State → Type 0
 LeadsBehind state = (s : Step) (o : Outcome) (after : State) → FitsKey s → next state s ≡ Ok (o, after) → IsOfRun after
 
 pub of_run_behind : (state : State) → IsOfRun state → LeadsBehind state
-of_run_behind =
-    by_run LeadsBehind
-    (λ limits steps ok fit s o after fits e. subst IsOfRun (stepped limits steps s o after e) (of_run limits (steps ++ s ∷ []) ok (All-push FitsKey steps s fit fits)))
+of_run_behind state h =
+    by_run (λ state. BoundsFit state.limits → LeadsBehind state)
+    (λ limits steps ok keys fits s o after fits_key e. subst IsOfRun (stepped limits steps s o after e)
+    (of_run limits (steps ++ s ∷ []) ok (subst BoundsFit (limits_along limits steps) fits) (All-push FitsKey steps s keys fits_key))) state h h.fits

@@ -2,7 +2,7 @@
 use Rattle.std.proofs.Common.{◌≡◌, ℕ, ◌+◌, ◌*◌, ◌≤◌, false, length, List, [], ◌∷◌, ◌++◌, Option, Some, None, Ok, refl, sym, ap, ◌∙◌, subst, arith, leb-false, map}
 use Rattle.proof_core.specs.Vocabulary.{Call, Ref, Node, Action, Operation, Bounds, Outcome, Step, handle_of, Heap, empty_branch, with_main, with_prev, taken, take_from, freed, ref_to, Indirection}
 use Rattle.proof_core.specs.Vocabulary.{State, empty_heap, first_state, action_of, Prev, Reclaimer, ripe, sweep_by, acted, new_root_taken, attempt_after, operation_after, next, next_state}
-use Rattle.proof_core.specs.Vocabulary.{state_after, is_spent, begin_denial, go_denial, with_begin, pin_of, reclaimer_of, run, run_from, AreBounds, Begins, Ends, Sweeps, Moves, begun_operation}
+use Rattle.proof_core.specs.Vocabulary.{state_after, is_spent, begin_denial, go_denial, with_begin, pin_of, reclaimer_of, run, run_from, AreBounds, AreProgramBounds, BoundsFit, Begins, Ends, Sweeps, Moves, begun_operation}
 use Rattle.proof_core.specs.Vocabulary.{FitsKey}
 use Rattle.proof_core.specs.Beneath.machine_model.specs.declared.actions.Action.TheVariants as act
 use Rattle.proof_core.specs.Beneath.machine_model.specs.declared.steps.Step.TheVariants as step
@@ -225,13 +225,13 @@ grows_along : (limits : Bounds) (steps : List Step) → Grows limits (run limits
 grows_along limits = along limits (Grows limits) (grows_at_first limits) (λ steps s o after m h. grows_after limits (run limits steps) s o after m h)
 
 -- after each run the numbers are bounded
-bounded_along : (limits : Bounds) → AreBounds limits → (steps : List Step) → IsBounded (run limits steps)
-bounded_along limits ok steps =
+bounded_along : (limits : Bounds) → AreBounds limits → BoundsFit limits → (steps : List Step) → IsBounded (run limits steps)
+bounded_along limits ok fits steps =
     let h = grows_along limits steps in
     let sound = sound_along limits ok steps in
     record {
-      slots = omega (arith, sound.heap.size, ok.1);
-      steps = omega (arith, h.steps, ok.4);
+      slots = omega (arith, sound.heap.size, fits.0);
+      steps = omega (arith, h.steps, fits.1);
       births = omega (arith, h.births, sound.heap.size);
       generations = h.generations;
       epoch = h.epoch;
@@ -241,7 +241,7 @@ bounded_along limits ok steps =
 
 -- the state of a run is bounded
 pub bounded : (state : State) → IsOfRun state → IsBounded state
-bounded state h = subst IsBounded (sym h.is) (bounded_along state.limits h.limits h.steps)
+bounded state h = subst IsBounded (sym h.is) (bounded_along state.limits h.limits h.fits h.steps)
 
 -- ---- a step from a state of a run
 
@@ -257,6 +257,7 @@ run_on state s fits h =
       steps = h.steps ++ s ∷ [];
       is = ap (λ x. next_state x s) h.is ∙ sym (run_push (first_state state.limits) h.steps s) ∙ ap (λ l. run l (h.steps ++ s ∷ [])) (sym same);
       limits = subst (λ l. AreBounds l) (sym same) h.limits;
+      fits = subst (λ l. BoundsFit l) (sym same) h.fits;
       keys = All-push FitsKey h.steps s h.keys fits;
     }
 
@@ -265,12 +266,13 @@ pub taken_run : (before after : State) (s : Step) (o : Outcome) → next before 
 taken_run before after s o e fits h = subst IsOfRun (ap (λ a. state_after before a) e) (run_on before s fits h)
 
 -- the first state is one of a run
-pub first_run : (limits : Bounds) (state : State) → AreBounds limits → state ≡ first_state limits → IsOfRun state
+pub first_run : (limits : Bounds) (state : State) → AreProgramBounds limits → state ≡ first_state limits → IsOfRun state
 unfolding first_state run_from
 first_run limits state ok e = record {
   steps = [];
   is = e ∙ ap first_state (sym (ap (λ x. x.limits) e));
-  limits = subst (λ l. AreBounds l) (sym (ap (λ x. x.limits) e)) ok;
+  limits = subst (λ l. AreBounds l) (sym (ap (λ x. x.limits) e)) ok.0;
+  fits = subst (λ l. BoundsFit l) (sym (ap (λ x. x.limits) e)) ok.1;
   keys = All-nil FitsKey;
 }
 

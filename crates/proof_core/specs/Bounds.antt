@@ -1,6 +1,6 @@
 -- What bounds the numbers of a machine, and what a step that may lack memory comes to.
 use Rattle.std.specs.Prelude.{◌≡◌, ℕ, ◌+◌, ◌*◌, ◌≤◌, ◌⊎◌, true, length, Option, Some, None, Result, Ok, Err}
-use Rattle.proof_core.specs.Vocabulary.{Refusal, Operation, Bounds, Outcome, Step, needs_read_only, State, operation_of, settled, Answer, next, is_taken_step, longest_life, AreBounds, most_slots}
+use Rattle.proof_core.specs.Vocabulary.{Refusal, Operation, Bounds, Outcome, Step, needs_read_only, State, operation_of, settled, Answer, next, is_taken_step, longest_life, AreProgramBounds, most_slots}
 use Rattle.proof_core.specs.Beneath.ctrie_base.specs.declared.refusals.Refusal.TheVariants as refuse
 
 -- No number outgrows its type: most grow by at most 1 in each step. A step draws a birth or frees a slot, and not both, so about every other one draws a birth.
@@ -15,7 +15,7 @@ pub record IsBounded (state : State) : Type 0 where
 
 -- the bounds are out of range, or memory was lacking for bounds in range
 abbrev pub RefusesBounds : Bounds → Refusal → Type 0
-RefusesBounds bounds refusal = ((¬ AreBounds bounds) × (refusal ≡ refuse.BadLimits)) ⊎ (AreBounds bounds × (refusal ≡ refuse.Memory))
+RefusesBounds bounds refusal = ((¬ AreProgramBounds bounds) × (refusal ≡ refuse.BadLimits)) ⊎ (AreProgramBounds bounds × (refusal ≡ refuse.Memory))
 
 -- What a step comes to, by what the definition answers: where it is taken, its outcome and the state are those; where it is
 -- refused nothing has changed, and the refusal is that of the definition.

@@ -2,7 +2,10 @@
 use Rattle.std.proofs.Common.{arith}
 use Rattle.proof_runs.specs.Beneath.machine_model.specs.declared.steps.Limits.{Limits}
 use Rattle.proof_runs.specs.Beneath.machine_model.specs.Limits.{AreLimits, bounded}
-use Rattle.proof_runs.specs.Beneath.machine_model.specs.Machine.{AreBounds}
+use Rattle.proof_runs.specs.Beneath.machine_model.specs.Machine.{AreBounds, AreProgramBounds}
 
 pub in_bounds : (limits : Limits) → AreLimits limits → AreBounds (bounded limits)
-in_bounds limits ok = (ok.0, omega arith, ok.2, ok.3, omega arith)
+in_bounds limits ok = (ok.0, ok.2, ok.3)
+
+pub in_program_bounds : (limits : Limits) → AreLimits limits → AreProgramBounds (bounded limits)
+in_program_bounds limits ok = (in_bounds limits ok, (omega arith, omega arith))

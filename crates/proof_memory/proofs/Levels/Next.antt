@@ -211,7 +211,7 @@ module _ (lv : Ref → ℕ) (state : State) (operation : Operation) (S : Ref →
 
   -- ---- what comes after
 
-  module _ (W : WordLevel lv (word_at state (handle_of operation.call))) (older : (r made : Ref) → S r → next_ref state.heap ≡ Some made → r < made) where
+  module _ (W : WordLevel lv (word_at state (handle_of operation.call))) (older : (r made : Ref) → S r → next_ref state.heap ≡ Some made → birth_of r < birth_of made) where
     -- the node that is made has its level
     abbrev Made : Line → Type 0
     Made l = (node : SlotNode) (made : Ref) → made_node state (line_action state operation l) ≡ Some node → next_ref state.heap ≡ Some made → lv made ≡ made_level l

@@ -122,7 +122,7 @@ module _ (heap : Heap) (outside : List Ref) (now : ℕ) (limbo : List Zeroed) (r
 
 pub zeros_stand : (state : State) → IsSafe state → All (λ z. IsZero state z.at) state.limbo
 zeros_stand state I k d within =
-    (stands_in_use state.heap (get_or state.limbo k d).at (omega (arith, I.small, I.sound.heap.size)) (I.sound.limbo k d within), eqb-true _ 0 (I.zeros k d within))
+    (stands_in_use state.heap (get_or state.limbo k d).at (I.sound.limbo k d within), eqb-true _ 0 (I.zeros k d within))
 
 pub in_limbo_zero : (state : State) → IsSafe state → (r : Ref) → Contains (map (λ z. z.at) state.limbo) r → IsZero state r
 in_limbo_zero state I r c = All-contains (IsZero state) (map (λ z. z.at) state.limbo) r (All-map (IsZero state) (λ z. z.at) state.limbo (zeros_stand state I)) c
