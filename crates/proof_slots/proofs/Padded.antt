@@ -2,7 +2,7 @@
 pub mod Lists
 pub mod Heaps
 pub mod Reads
--- later Lines
--- later Acts
--- later Steps
--- later Runs
+pub mod Lines
+pub mod Acts
+pub mod Steps
+pub mod Runs
