@@ -9,6 +9,7 @@ pub mod Parts
 pub mod Pools
 mod Pairing
 pub mod Live
+pub mod Births
 pub mod Exact
 pub mod Changed
 pub mod Waiting
