@@ -1,5 +1,5 @@
 -- Exact counts: what the change of one slot, and of what is held from outside, leaves of them.
-use Rattle.std.proofs.Common.{◌≡◌, ℕ, ◌<◌, ◌≤◌, true, false, cond, List, [], ◌∷◌, length, get_or, slice_index, All, Option, Some, None, is_some, refl, ap, ◌∙◌, inl, inr, arith}
+use Rattle.std.proofs.Common.{◌≡◌, ℕ, ◌<◌, ◌≤◌, true, false, cond, List, [], ◌∷◌, get_or, slice_index, All, Option, Some, None, refl, ap, ◌∙◌, inl, inr, arith}
 use Rattle.std.specs.List.{sum_by, flat_map}
 use Rattle.std.proofs.lemmas.Bool.{cases_Bool}
 use Rattle.std.proofs.lemmas.List.Elements.{All-nil, All-cons}
@@ -13,7 +13,6 @@ use Rattle.slot_arena.specs.Times.{times}
 use Rattle.slot_arena.specs.Tallies.{naming}
 use Rattle.slot_arena.specs.Kept.{live, found, counted}
 use Rattle.slot_arena.proofs.Times.{once_same, times-cons, times-append}
-use Rattle.slot_arena.proofs.Parts.{used_within}
 use Rattle.slot_arena.proofs.Live.{live_times, live_ref, unnamed, slot_of_ref}
 
 -- how often a reference stands in what a slot holds

@@ -1,5 +1,5 @@
 -- References that name slots in use.
-use Rattle.std.proofs.Common.{◌≡◌, ℕ, ◌+◌, ◌*◌, ◌/◌, ◌%◌, ◌<◌, ◌==◌, true, false, List, [], ◌∷◌, length, get_or, All, Option, Some, None, refl, sym, ap, ◌∙◌, subst, inl, inr, arith, eq-eqb, eqb-true}
+use Rattle.std.proofs.Common.{◌≡◌, ℕ, ◌/◌, ◌%◌, ◌<◌, ◌==◌, true, false, List, [], ◌∷◌, length, get_or, All, Option, Some, None, refl, sym, ap, ◌∙◌, subst, inl, inr, arith, eq-eqb, eqb-true}
 use Rattle.std.proofs.lemmas.Bool.{cases_eq, cases_lt, false≢true}
 use Rattle.std.proofs.lemmas.List.{get_or_past}
 use Rattle.std.proofs.lemmas.List.Elements.{All-nil, All-cons, All-head, All-tail}
@@ -41,7 +41,7 @@ ref_again r =
     let birth : birth_of r / birth_limit ≡ p.0 = omega arith in
     let slot : slot_of r / most_slots ≡ p.1 = omega arith in
     let number : pair_number (birth_of r / birth_limit) (slot_of r / most_slots) ≡ r / word_limit =
-        ap (λ a. pair_number a (slot_of r / most_slots)) birth ∙ ap (λ b. pair_number p.0 b) slot ∙ number_again (r / word_limit) in
+    ap (λ a. pair_number a (slot_of r / most_slots)) birth ∙ ap (λ b. pair_number p.0 b) slot ∙ number_again (r / word_limit) in
     let low_birth : birth_of r % birth_limit ≡ r % word_limit / most_slots = omega arith in
     let low_slot : slot_of r % most_slots ≡ r % most_slots = omega arith in
     omega arith

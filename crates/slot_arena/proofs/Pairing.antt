@@ -1,5 +1,5 @@
 -- Each number is that of one pair.
-use Rattle.std.proofs.Common.{◌≡◌, ℕ, zero, suc, ◌+◌, refl, sym, ap, ◌∙◌, arith}
+use Rattle.std.proofs.Common.{◌≡◌, ℕ, zero, suc, ◌+◌, refl, ap, ◌∙◌, arith}
 use Rattle.slot_arena.specs.Pairing.{triangle, pair_number, next_pair, pair_of}
 
 -- along one diagonal

@@ -1,6 +1,6 @@
 -- Which slots wait for nothing to refer to them, by counts.
-use Rattle.std.proofs.Common.{◌≡◌, ℕ, ◌<◌, ◌==◌, Bool, true, false, cond, List, get_or, slice_index, Option, Some, None}
-use Rattle.std.proofs.Common.{is_some, refl, sym, ap, subst, ◌∙◌, ◌⊎◌, inl, inr, arith, eq-eqb, eqb-true}
+use Rattle.std.proofs.Common.{◌≡◌, ℕ, ◌==◌, Bool, true, false, cond, List, get_or, slice_index, Option, Some, None}
+use Rattle.std.proofs.Common.{refl, sym, ap, subst, ◌∙◌, ◌⊎◌, inl, inr, eq-eqb, eqb-true}
 use Rattle.std.proofs.lemmas.Bool.{cases_Bool}
 use Rattle.slot_arena.specs.Cells.{birth_of_slot}
 use Rattle.slot_arena.specs.declared.refs.Ref.{Ref}
@@ -15,7 +15,6 @@ use Rattle.slot_arena.specs.Tallies.{NotesZeros}
 use Rattle.slot_arena.specs.Chains.{Chain}
 use Rattle.slot_arena.specs.Arenas.{Contents, IsLive, has_birth, waiting, waiting_in, NotesWaiting, NotesWaitingBut}
 use Rattle.slot_arena.specs.Kept.{live, IsKept}
-use Rattle.slot_arena.proofs.Parts.{used_within}
 use Rattle.slot_arena.proofs.Live.{live_ref, slot_of_ref, birth_of_ref, ref_again}
 use Rattle.slot_arena.proofs.Reading.{live_seen, live_shown}
 use Rattle.slot_arena.proofs.Exact.{count_found, exact_live}

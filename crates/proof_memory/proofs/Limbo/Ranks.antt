@@ -74,13 +74,12 @@ module _ (state : State) (I : IsSafe state) (zeros : HasZeros state) (empty : st
   referrer_at : (k : ℕ) (o : Option Slot) → get_or state.heap.slots k None ≡ o → (r : Ref) → Contains (refs_of_slot o) r → Referrer r
   unfolding Referrer stored
   referrer_at k None e r c = none_contained r c
-  referrer_at k (Some slot) e r c =
-      (
-        ref_to slot.birth k,
-        slot,
-        standing_from state.heap (ref_to slot.birth k) slot (ap (λ i. get_or state.heap.slots i None) (slot_of_ref slot.birth k) ∙ e) (sym (birth_of_ref slot.birth k)),
-        c,
-      )
+  referrer_at k (Some slot) e r c = (
+    ref_to slot.birth k,
+    slot,
+    standing_from state.heap (ref_to slot.birth k) slot (ap (λ i. get_or state.heap.slots i None) (slot_of_ref slot.birth k) ∙ e) (sym (birth_of_ref slot.birth k)),
+    c,
+  )
 
   -- it stands in a root word or in a slot
   referred_from : (r : Ref) → IsInUse state.heap r → IsReached state r ⊎ Referrer r

@@ -15,7 +15,8 @@ use Rattle.machine_model.specs.States.{State, word_at, with_word, with_operation
 use Rattle.machine_model.specs.Reading.{Verdict, Commits, Fails, Overtaken, verdict}
 use Rattle.machine_model.specs.Swapping.{stands_in, is_plain}
 use Rattle.machine_model.specs.Operations.{action_of, line_after, generation_after}
-use Rattle.machine_model.specs.Acting.{acted, completed, carried_out, opened, marked, if_changed, published, restored, decided, new_root_taken, with_made, private_after, attempt_after, mark_after, operation_after, gone}
+use Rattle.machine_model.specs.Acting.{acted, completed, carried_out, opened, marked, if_changed, published, restored, decided, new_root_taken, with_made, private_after, attempt_after}
+use Rattle.machine_model.specs.Acting.{mark_after, operation_after, gone}
 use Rattle.proof_slots.specs.Padding.{padded, padded_heap}
 use Rattle.proof_slots.proofs.Padded.Heaps.{HasFree, wide, node_wide, with_main_wide, with_prev_wide, next_wide, taken_wide}
 use Rattle.proof_slots.proofs.Padded.Reads.{verdict_wide}
@@ -127,11 +128,11 @@ module _ (more : ℕ) where
       let wider : State = padded more state in
       ap (λ a. changed_so operation (private_after wider operation.private a) a (generation_after wider operation) (line_after wider operation operation.line)) (acts_wide more state operation)
       ∙ ap (λ p. changed_so operation p (action_of state operation) (generation_after wider operation) (line_after wider operation operation.line))
-          (private_wide state operation.private (action_of state operation) free)
+      (private_wide state operation.private (action_of state operation) free)
       ∙ ap (λ g. changed_so operation (private_after state operation.private (action_of state operation)) (action_of state operation) g (line_after wider operation operation.line))
-          (generation_wide more state operation)
+      (generation_wide more state operation)
       ∙ ap (λ l. changed_so operation (private_after state operation.private (action_of state operation)) (action_of state operation) (generation_after state operation) l)
-          (line_wide more state operation free)
+      (line_wide more state operation free)
 
   pub gone_wide : (state : State) (actor : ℕ) (operation : Operation) → HasFree state.heap → gone (padded more state) actor operation ≡ padded more (gone state actor operation)
   gone_wide state actor operation free =

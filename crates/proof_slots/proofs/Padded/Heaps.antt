@@ -1,5 +1,6 @@
 -- The padded heap is looked up, written and swept like the heap.
-use Rattle.std.proofs.Common.{◌≡◌, ℕ, zero, suc, ◌+◌, ◌<◌, ◌≤◌, ◌==◌, ◌&&◌, ◌++◌, Bool, true, false, not, List, [], ◌∷◌, length, get_or, set, map, count_by, option_map, Option, Some, None, refl, sym, ap, ◌∙◌, arith}
+use Rattle.std.proofs.Common.{◌≡◌, ℕ, zero, suc, ◌+◌, ◌<◌, ◌≤◌, ◌==◌, ◌&&◌, ◌++◌, Bool, true, false, not, List, [], ◌∷◌, length, get_or, set, map, count_by, option_map, Option, Some, None, refl}
+use Rattle.std.proofs.Common.{sym, ap, ◌∙◌, arith}
 use Rattle.std.specs.Prelude.{filter}
 use Rattle.std.specs.List.{list_any, range_with_len}
 use Rattle.std.proofs.lemmas.List.{get_or_past}
@@ -8,7 +9,8 @@ use Rattle.proof_slots.specs.Beneath.slot_arena.specs.declared.nodes.Node.{Node}
 use Rattle.proof_slots.specs.Beneath.slot_arena.specs.declared.nodes.Prev.{Prev}
 use Rattle.proof_slots.specs.Beneath.slot_arena.specs.declared.nodes.Slot.{Slot}
 use Rattle.proof_slots.specs.Beneath.slot_arena.specs.Refs.{slot_of}
-use Rattle.proof_slots.specs.Beneath.slot_arena.specs.Heaps.{Heap, stored, node_at, node_of, prev_at, prev_of, with_main, with_prev, written, main_changed, prev_changed, next_ref, ref_in, taken, take_from, freed}
+use Rattle.proof_slots.specs.Beneath.slot_arena.specs.Heaps.{Heap, stored, node_at, node_of, prev_at, prev_of, with_main, with_prev, written, main_changed, prev_changed, next_ref, ref_in, taken}
+use Rattle.proof_slots.specs.Beneath.slot_arena.specs.Heaps.{take_from, freed}
 use Rattle.proof_slots.specs.Beneath.slot_arena.specs.Heaps.{in_use, heap_refs}
 use Rattle.proof_slots.specs.Beneath.slot_arena.specs.Counts.{count_of}
 use Rattle.proof_slots.specs.Beneath.epochs.specs.declared.limbo.Zeroed.{Zeroed}
@@ -46,7 +48,7 @@ module _ (more slots : ℕ) (heap : Heap) where
       let same : option_map change (stored wide r) ≡ option_map change (stored heap r) = ap (option_map change) (stored_wide r) in
       ap (λ (s : Option Slot). record { slots = set (longer more heap.slots) (slot_of r) s; free = heap.free ++ range_with_len slots more; births = heap.births }) same
       ∙ ap (λ (l : List (Option Slot)). record { slots = l; free = heap.free ++ range_with_len slots more; births = heap.births })
-          (set_longer more heap.slots (slot_of r) (option_map change (stored heap r)) (λ past. ap (option_map change) (get_or_past heap.slots (slot_of r) None past)))
+      (set_longer more heap.slots (slot_of r) (option_map change (stored heap r)) (λ past. ap (option_map change) (get_or_past heap.slots (slot_of r) None past)))
 
   pub with_main_wide : (r m : Ref) → with_main wide r m ≡ padded_heap more slots (with_main heap r m)
   unfolding with_main
@@ -74,7 +76,8 @@ module _ (more slots : ℕ) (heap : Heap) where
   pub next_wide : HasFree heap → next_ref wide ≡ next_ref heap
   next_wide (slot, rest, e, within) = ref_by heap.free slot rest e
 
-  take_by : (node : Node) (slot : ℕ) (free : List ℕ) → slot < length heap.slots → take_from wide node (slot ∷ free ++ range_with_len slots more) ≡ padded_heap more slots (take_from heap node (slot ∷ free))
+  take_by : (node : Node) (slot : ℕ) (free : List ℕ) → slot < length heap.slots →
+      take_from wide node (slot ∷ free ++ range_with_len slots more) ≡ padded_heap more slots (take_from heap node (slot ∷ free))
   take_by node slot free within =
       ap (λ (l : List (Option Slot)). record { slots = l; free = free ++ range_with_len slots more; births = heap.births + 1 })
       (set_longer more heap.slots slot _ (λ past. absurd (omega (arith, past, within))))

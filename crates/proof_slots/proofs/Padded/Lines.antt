@@ -42,7 +42,8 @@ use Rattle.machine_model.specs.Swapping.{complete_after, root_after, swap_after}
 use Rattle.machine_model.specs.Renewing.{renew_action, renew_after, renew_next, next_entry, renew_after_entry, renew_after_read, renew_after_link, renew_after_branch}
 use Rattle.machine_model.specs.Finding.{key_action, key_after, key_after_read, key_after_main, key_after_entry, after_listed, after_sibling, found, found_so, removing, absent_beside, absent_listed}
 use Rattle.machine_model.specs.Building.{build_action, build_after, build_if_made, build_after_made, after_single}
-use Rattle.machine_model.specs.Cleaning.{clean_action, clean_after, clean_next, clean_after_read, clean_after_main, clean_after_entry, after_child, clean_after_tomb, clean_after_contracted, leaves_single, cleaned, is_single}
+use Rattle.machine_model.specs.Cleaning.{clean_action, clean_after, clean_next, clean_after_read, clean_after_main, clean_after_entry, after_child, clean_after_tomb, clean_after_contracted}
+use Rattle.machine_model.specs.Cleaning.{leaves_single, cleaned, is_single}
 use Rattle.machine_model.specs.Climbing.{climb_action, climb_after, climb_after_read, climb_after_main, climb_after_contracted, climb_after_root, climbed_node}
 use Rattle.machine_model.specs.Copying.{copy_after, copy_after_read, copy_after_complete, copy_if_made}
 use Rattle.machine_model.specs.Walking.{walk_after, walk_after_read, walk_after_entry, walk_next, first_of, rest_of}

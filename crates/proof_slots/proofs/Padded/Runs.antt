@@ -108,10 +108,11 @@ module _ (limits : Bounds) (ok : AreBounds limits) where
       FreeAlong (run limits done) rest
   unfolding FreeAlong
   free_behind done [] free = tt
-  free_behind done (s ∷ rest) free =
-      (has_free limits.slots (run limits done).heap (sound_along limits ok done).heap (free done rest s refl),
-      subst (λ x. FreeAlong x rest) (run_push (first_state limits) done s)
-      (free_behind (done ++ s ∷ []) rest (λ before more t e. free before more t (sym (append_assoc done (s ∷ []) rest) ∙ e))))
+  free_behind done (s ∷ rest) free = (
+    has_free limits.slots (run limits done).heap (sound_along limits ok done).heap (free done rest s refl),
+    subst (λ x. FreeAlong x rest) (run_push (first_state limits) done s)
+        (free_behind (done ++ s ∷ []) rest (λ before more t e. free before more t (sym (append_assoc done (s ∷ []) rest) ∙ e))),
+  )
 
   free_along : (steps : List Step) → HasFreeSlots limits steps → FreeAlong (first_state limits) steps
   unfolding run_from

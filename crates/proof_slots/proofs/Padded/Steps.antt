@@ -1,5 +1,6 @@
 -- Each step of a padded state, and what it tells.
-use Rattle.std.proofs.Common.{◌≡◌, ℕ, zero, suc, ◌+◌, ◌-◌, ◌&&◌, Bool, true, false, not, nat_le, is_some, List, [], ◌∷◌, length, map, slice_index_or, Option, Some, None, Ok, Err, if◌then◌else◌, refl, sym, ap, ◌∙◌}
+use Rattle.std.proofs.Common.{◌≡◌, ℕ, zero, suc, ◌+◌, ◌-◌, ◌&&◌, Bool, true, false, not, nat_le, is_some, List, [], ◌∷◌, length, map, slice_index_or, Option, Some, None, Ok, Err, if◌then◌else◌}
+use Rattle.std.proofs.Common.{refl, sym, ap, ◌∙◌}
 use Rattle.proof_slots.specs.Beneath.ctrie_base.specs.declared.refusals.Refusal.{Refusal}
 use Rattle.proof_slots.specs.Beneath.ctrie_base.specs.declared.refusals.Refusal.TheVariants as refuse
 use Rattle.proof_slots.specs.Beneath.history.specs.declared.calls.Access.TheVariants.{Writable, ReadOnly}
@@ -27,8 +28,9 @@ use Rattle.machine_model.specs.Swapping.{is_carried_out}
 use Rattle.machine_model.specs.Counting.{outside, settled}
 use Rattle.machine_model.specs.Operations.{action_of, kind_of, read_of}
 use Rattle.machine_model.specs.Acting.{gone}
-use Rattle.machine_model.specs.Machine.{Answer, next, next_state, state_after, is_taken_step, is_spent, is_taken, taken_below, least_from, settled_after, begin_denial, begin_unless, begun_operation, with_begin}
-use Rattle.machine_model.specs.Machine.{access_of, first_reason, is_actor, is_running, is_access, runs_on, go_denial, go_unless, go_on, step_by, pin_of, reclaimer_of, swept_with, sweep}
+use Rattle.machine_model.specs.Machine.{Answer, next, next_state, state_after, is_taken_step, is_spent, is_taken, taken_below, least_from, settled_after, begin_denial, begin_unless}
+use Rattle.machine_model.specs.Machine.{begun_operation, with_begin}
+use Rattle.machine_model.specs.Machine.{access_of, first_reason, is_actor, is_running, is_access, runs_on, go_denial, go_unless, go_on, step_by, pin_of, reclaimer_of, swept, swept_with}
 use Rattle.machine_model.specs.Records.{Record, noted, next_record}
 use Rattle.machine_model.specs.Tellings.{told_in, told_of, told_by, begin_told, committed_in, committed_now, given_by, given_in, given_now, counts_from, published_by, carried_by, progress_of}
 use Rattle.proof_slots.specs.Padding.{padded, padded_heap, padded_answer}
@@ -94,7 +96,7 @@ module _ (more : ℕ) where
   begin_unless_wide state actor call None =
       ap (λ (o : Operation). settled_after (padded more state) (outcome.Began o.id, with_begin (padded more state) actor call o)) (begun_wide state call)
       ∙ settles state (outcome.Began (begun_operation state call).id) _ (with_begin state actor call (begun_operation state call))
-          (closed_wide state actor call (begun_operation state call) (is_close call))
+      (closed_wide state actor call (begun_operation state call) (is_close call))
 
   begin_reasons : State → ℕ → Call → ℕ → Option Refusal
   begin_reasons state actor call taken =
@@ -127,8 +129,8 @@ module _ (more : ℕ) where
   swept_wide state None = scanned_wide state (is_passed state.epoch (slice_index_or (map pin_of state.actors) (state.cursor - 1) None)) (nat_le state.cursor (length (map pin_of state.actors)))
 
   sweep_unless : (state : State) (spent : Bool) →
-      (if spent then Err refuse.Spent else settled_after (padded more state) (swept_with (padded more state) (sweep_by (map pin_of state.actors) (reclaimer_of (padded more state)) (ripe state.epoch state.limbo))))
-      ≡ padded_answer more (if spent then Err refuse.Spent else settled_after state (swept_with state (sweep_by (map pin_of state.actors) (reclaimer_of state) (ripe state.epoch state.limbo))))
+      (if spent then Err refuse.Spent else settled_after (padded more state) (swept (padded more state)))
+      ≡ padded_answer more (if spent then Err refuse.Spent else settled_after state (swept state))
   sweep_unless state true = refl
   sweep_unless state false = swept_wide state (ripe state.epoch state.limbo)
 
@@ -176,11 +178,11 @@ module _ (more : ℕ) where
       let handle : ℕ = handle_of operation.call in
       ap (λ a. told_so (committed_now wider operation) (given_now wider operation) (counts_from a) (published_by operation operation.line) (carried_by wider handle a)) (acts_wide more state operation)
       ∙ ap (λ c. told_so c (given_now wider operation) (counts_from (action_of state operation)) (published_by operation operation.line) (carried_by wider handle (action_of state operation)))
-          (committed_by_read state (read_of operation.line))
+      (committed_by_read state (read_of operation.line))
       ∙ ap (λ g. told_so (committed_now state operation) g (counts_from (action_of state operation)) (published_by operation operation.line) (carried_by wider handle (action_of state operation)))
-          (given_by_read state operation (read_of operation.line))
+      (given_by_read state operation (read_of operation.line))
       ∙ ap (λ c. told_so (committed_now state operation) (given_now state operation) (counts_from (action_of state operation)) (published_by operation operation.line) c)
-          (carried_told state handle (action_of state operation))
+      (carried_told state handle (action_of state operation))
 
   told_by_wide : (state : State) (actor : ℕ) (operation : Operation) (action : Action) → told_by (padded more state) actor operation action ≡ told_by state actor operation action
   told_by_wide state actor operation (act.End answer) = refl

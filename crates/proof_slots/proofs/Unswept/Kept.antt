@@ -13,7 +13,6 @@ use Rattle.machine_model.specs.Grown.{standing}
 use Rattle.machine_model.specs.States.{first_state}
 use Rattle.machine_model.specs.Machine.{AreBounds, next_state, run}
 use Rattle.machine_model.proofs.Along.{run_push}
-
 use Rattle.machine_model.proofs.Grown.{standing_parts}
 use Rattle.proof_memory.specs.Laws.{IsInUse}
 use Rattle.proof_memory.proofs.Heap.Later.{one_node}

@@ -14,7 +14,6 @@ use Rattle.proof_slots.specs.Beneath.slot_arena.specs.Refs.{slot_of, birth_of, r
 use Rattle.proof_slots.specs.Beneath.slot_arena.specs.Heaps.{Heap, stored, empty_branch, taken, take_from, written, with_main, with_prev, main_changed, prev_changed}
 use Rattle.machine_model.specs.States.{first_state, empty_heap, first_heap}
 use Rattle.machine_model.specs.Machine.{run}
-
 use Rattle.machine_model.proofs.Found.{found_here, found_elsewhere, none_found}
 use Rattle.machine_model.proofs.Grown.{standing_parts}
 use Rattle.machine_model.proofs.HeapMoves.{HeapMoves, Stays, Takes, Publishes, Restores, Commit, Fail, Frees}

@@ -1,4 +1,4 @@
-use Rattle.std.proofs.Common.{◌<◌, length, get_or, slice_index, Some, None, inl, inr, refl, sym, ap, ◌∙◌, arith, eq-eqb, eqb-true}
+use Rattle.std.proofs.Common.{get_or, slice_index, Some, None, inl, inr, refl, sym, ap, ◌∙◌, eq-eqb, eqb-true}
 use Rattle.std.proofs.lemmas.Bool.{false≢true}
 use Rattle.slot_arena.specs.Refs.{slot_of}
 use Rattle.slot_arena.specs.Heaps.{Heap}
@@ -32,11 +32,10 @@ returns-clause-waiting c =
     ∙ ap (λ (a : Contents). waiting a c.args.slot) c.self.view_is
 
 pub returns-clause-live : goal.returns-clause-live
-returns-clause-live c =
-    (
-      ap slot_of c.new.ensures ∙ slot_of_ref c.birth-birth.result c.args.slot,
-      live_shown c.args.self.now.heap c.new.result
-          (ap (λ r. live c.args.self.now.heap.slots r) c.new.ensures
-          ∙ live_read c.args.self.now.heap.slots c.args.slot c.birth-birth.result (c.birth-birth.ensures.birth
-          ∙ ap (λ (a : Contents). birth_of_slot (get_or a.heap.slots c.args.slot None)) c.self.view_is) c.if-birth-eq0.false),
-    )
+returns-clause-live c = (
+  ap slot_of c.new.ensures ∙ slot_of_ref c.birth-birth.result c.args.slot,
+  live_shown c.args.self.now.heap c.new.result
+      (ap (λ r. live c.args.self.now.heap.slots r) c.new.ensures
+      ∙ live_read c.args.self.now.heap.slots c.args.slot c.birth-birth.result (c.birth-birth.ensures.birth
+      ∙ ap (λ (a : Contents). birth_of_slot (get_or a.heap.slots c.args.slot None)) c.self.view_is) c.if-birth-eq0.false),
+)
