@@ -1,5 +1,5 @@
 -- What limbo after a step doesn't depend on.
-use Rattle.std.proofs.Common.{◌≡◌, ℕ, ◌<◌, ◌≤◌, ◌==◌, ◌&&◌, ◌||◌, not, nat_lt, Bool, false, cond, List, [], ◌∷◌, ◌++◌}
+use Rattle.std.proofs.Common.{◌≡◌, ℕ, ◌<◌, ◌==◌, ◌&&◌, ◌||◌, not, nat_lt, Bool, false, cond, List, [], ◌∷◌, ◌++◌}
 use Rattle.std.proofs.Common.{length, map, get_or, set, filter, Option, None, refl, ap, ◌∙◌, inl, inr, arith}
 use Rattle.std.proofs.lemmas.Bool.{cases_lt, ne_eqb}
 use Rattle.std.proofs.lemmas.List.{get_or_past, get_or-set_same, length-set}
@@ -19,7 +19,7 @@ use Rattle.epochs.specs.Limbo.{is_zero, is_in, is_in_use, newly_zero, by_birth}
 use Rattle.epochs.specs.Memories.{staying}
 use Rattle.epochs.specs.Laws.{AreAlike, FreedLeaves, CountsAlone}
 use Rattle.epochs.proofs.Filters.{filter_same}
-use Rattle.epochs.proofs.Listing.{all_members, length-freed}
+use Rattle.epochs.proofs.Listing.{all_members}
 use Rattle.epochs.proofs.InUse.{times-in_use}
 use Rattle.epochs.proofs.Staying.{any_times}
 

@@ -1,5 +1,5 @@
 -- Which references name a slot in use, and that those in limbo do.
-use Rattle.std.proofs.Common.{◌≡◌, ℕ, zero, suc, ◌+◌, ◌<◌, ◌≤◌, ◌==◌, ◌&&◌, true, false, cond, nat_lt, not, is_some, List, [], ◌∷◌, length, map, get_or, All, Option}
+use Rattle.std.proofs.Common.{◌≡◌, ℕ, zero, suc, ◌+◌, ◌==◌, ◌&&◌, true, false, cond, nat_lt, not, is_some, List, [], ◌∷◌, length, map, get_or, All, Option}
 use Rattle.std.proofs.Common.{Some, None, refl, ap, ◌∙◌, subst, inl, inr, eqb-true, arith}
 use Rattle.std.specs.List.{list_any}
 use Rattle.std.proofs.Math.ListN.{get_or-map}

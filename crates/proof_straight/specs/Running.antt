@@ -1,5 +1,5 @@
 -- A call that runs alone, from its begin to its end, and when it can be done at once.
-use Rattle.std.specs.Prelude.{◌≡◌, ℕ, zero, suc, ◌<◌, ◌≤◌, false, List, [], ◌∷◌, length, replicate, slice_index_or, Option, None, Ok}
+use Rattle.std.specs.Prelude.{◌≡◌, ℕ, zero, suc, ◌<◌, false, List, [], ◌∷◌, length, replicate, slice_index_or, Option, None, Ok}
 use Rattle.proof_straight.specs.Vocabulary.{Kind, Call, Reply, Ref, Slot, Heap, times, limbo_after, Plain, Step, handle_of, State, word_at, outside, next, begin_denial, is_busy, run_from, Record}
 use Rattle.proof_straight.specs.Vocabulary.{is_placed, noted, record_from, told_in}
 use Rattle.proof_straight.specs.Beneath.history.specs.declared.calls.Call.TheVariants as call

@@ -1,5 +1,5 @@
 -- What a step does to what stands under references, and that all but what is freed stays, with its node but for the main word.
-use Rattle.std.proofs.Common.{◌≡◌, ℕ, ◌+◌, ◌≤◌, ◌==◌, Bool, true, false, List, [], ◌∷◌, Option, Some, None, refl, sym, ap, ◌∙◌, subst, inl, inr, eqb-true}
+use Rattle.std.proofs.Common.{◌≡◌, ℕ, ◌+◌, ◌==◌, Bool, true, false, List, [], ◌∷◌, Option, Some, None, refl, sym, ap, ◌∙◌, subst, inl, inr, eqb-true}
 use Rattle.std.proofs.lemmas.Bool.{cases_eq, false≢true}
 use Rattle.std.proofs.lemmas.Option.{none-some, same_Some}
 use Rattle.proof_memory.specs.Vocabulary.{birth_of, Ref, Node, Indirection, Branch, Single, Tomb, List as Listed, Prev, Slot, Heap, node_at, main_at, main_of, with_main, with_prev}

@@ -9,7 +9,6 @@ use Rattle.proof_memory.specs.Vocabulary.{ref_to, Ref, Slot, stored, heap_refs, 
 use Rattle.proof_memory.specs.Vocabulary.{is_busy, standing}
 use Rattle.machine_model.specs.Contents.{from_root}
 use Rattle.machine_model.proofs.Rest.{one_if}
-use Rattle.machine_model.proofs.Found.{found_within}
 use Rattle.proof_memory.specs.Laws.{IsInUse}
 use Rattle.proof_memory.proofs.Heap.Under.{standing_from}
 use Rattle.proof_memory.proofs.Safety.States.{IsSafe}

@@ -1,5 +1,5 @@
 -- Memory is safe: what is taken for a node of a kind is one, after every step. One invariant for nodes, root words, lines and private lists.
-use Rattle.std.proofs.Common.{◌≡◌, ℕ, ◌+◌, ◌<◌, ◌≤◌, true, nat_le, is_some, List, [], ◌∷◌, ◌++◌, All, Contains, length, get_or, Option, Some, None, refl, sym, ap, ◌∙◌, subst}
+use Rattle.std.proofs.Common.{◌≡◌, ℕ, ◌+◌, ◌≤◌, true, nat_le, is_some, List, [], ◌∷◌, ◌++◌, All, Contains, get_or, Option, Some, None, refl, sym, ap, ◌∙◌, subst}
 use Rattle.std.proofs.Common.{◌⊎◌, inl, inr, leb-true, arith}
 use Rattle.std.proofs.lemmas.Bool.{cases_eq, false≢true}
 use Rattle.std.proofs.lemmas.Option.{none-some, same_Some, cond_some}
@@ -8,7 +8,6 @@ use Rattle.proof_memory.specs.Vocabulary.{slot_of, birth_of, Ref, Node, Indirect
 use Rattle.proof_memory.specs.Vocabulary.{main_changed, prev_changed, heap_refs, refs_of_node, refs_of_prev, refs_of_slot, refs_of_option, limbo_after, ripe, Operation, Root, RootWord, Plain, Offer}
 use Rattle.proof_memory.specs.Vocabulary.{State, root_at, word_of, word_at, outside, refs_of_word, standing}
 use Rattle.proof_memory.specs.Beneath.slot_arena.specs.declared.nodes.Prev.TheVariants as prev
-use Rattle.machine_model.proofs.Found.{found_within}
 use Rattle.machine_model.proofs.InUse.{InUse}
 use Rattle.machine_model.proofs.Slots.{IsSound}
 use Rattle.proof_memory.specs.Wants.{AMain, is_formed, Claim, Is, So, Holds, AllHold, node_wants, prev_wants, word_wants, line_wants}

@@ -1,5 +1,5 @@
 use Rattle.std.specs.Prelude.{slice_index_or, None}
-use Rattle.std.proofs.Common.{◌<◌, ◌≡◌, ◌≤◌, true, ℕ, ◌+◌, List, [], length, sym, ap, ◌∙◌, subst, arith}
+use Rattle.std.proofs.Common.{◌<◌, ◌≡◌, true, ℕ, ◌+◌, List, [], length, sym, ap, ◌∙◌, subst, arith}
 use Rattle.std.specs.List.{list_all}
 use Rattle.std.proofs.lemmas.Option.{MatchOption-at_none}
 use Rattle.epochs.specs.declared.limbo.Zeroed.{Zeroed}

@@ -1,4 +1,4 @@
-use Rattle.std.proofs.Common.{◌≡◌, ◌≤◌, [], length, refl, ap, subst, arith}
+use Rattle.std.proofs.Common.{◌≡◌, [], length, refl, ap, subst, arith}
 use Rattle.std.proofs.lemmas.List.{nil_from_length}
 use Rattle.epochs.specs.Limbo.{limbo_after}
 use Rattle.epochs.specs.Memories.{Memory, staying}

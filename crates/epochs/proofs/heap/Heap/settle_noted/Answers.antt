@@ -1,4 +1,4 @@
-use Rattle.std.proofs.Common.{◌≤◌, length, sym, ap, ◌∙◌, subst, arith}
+use Rattle.std.proofs.Common.{length, sym, ap, ◌∙◌, subst, arith}
 use Rattle.std.proofs.lemmas.List.Sorted.{length_permutation}
 use Rattle.slot_arena.specs.Heaps.{Heap}
 use Rattle.epochs.specs.Limbo.{limbo_after, newly_zero}
