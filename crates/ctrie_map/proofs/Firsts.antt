@@ -13,10 +13,10 @@ use Rattle.std.proofs.lemmas.List.FromFn.{length-range_with_len}
 use Rattle.ctrie_base.specs.declared.hashes.HashKind.{HashKind}
 use Rattle.ctrie_base.specs.declared.refusals.Refusal.{Refusal}
 use Rattle.machine_model.specs.declared.steps.Bounds.{Bounds}
-use Rattle.machine_model.specs.Machine.{AreProgramBounds, longest_life, run_from}
+use Rattle.machine_model.specs.Machine.{longest_life, run_from}
 use Rattle.machine_model.specs.States.{State, first_heap, first_state}
 use Rattle.ctrie_map.specs.Beneath.map_worlds.proofs.First.{first_is_shown}
-use Rattle.ctrie_map.specs.Beneath.proof_core.specs.Bounds.{RefusesBounds}
+use Rattle.ctrie_map.specs.Beneath.proof_core.specs.Bounds.{AreInRange, RefusesBounds}
 use Rattle.ctrie_map.specs.Beneath.slot_arena.specs.Heaps.{taken}
 use Rattle.ctrie_map.specs.declared.errors.MapError.{MapError}
 use Rattle.ctrie_map.specs.Cores.{IsCalm}
@@ -102,7 +102,7 @@ module _ (slots : ℕ) (hash : HashKind) where
   unfolding first_state
   first_calm = record { one = refl; life = refl; rest = refl; clean = refl }
 
-  is_first : AreProgramBounds sizes → world_of (first_state sizes) ≡ first_world
+  is_first : AreInRange sizes → world_of (first_state sizes) ≡ first_world
   unfolding run_from first_state
   is_first ok = first_is_shown sizes ok.0
 
@@ -119,22 +119,22 @@ module _ (slots : ℕ) (hash : HashKind) where
   abbrev map_of : MapState
   map_of = map_with (first_state sizes) first_names
 
-  first_new : AreProgramBounds sizes → IsNew slots hash map_of
+  first_new : AreInRange sizes → IsNew slots hash map_of
   unfolding run_from first_state
   first_new ok = (refl, refl, ap (handles_under first_names) (is_first ok) ∙ first_handles, refl, free_first slots ok.0.0)
 
-  first_whole : AreProgramBounds sizes → IsWhole map_of
+  first_whole : AreInRange sizes → IsWhole map_of
   first_whole ok = record { calm = first_calm; named = subst (λ w. AreNamesOf w first_names) (sym (is_first ok)) named }
 
   same_map : (state : State) → state ≡ first_state sizes → (names : NameTable) → names ≡ first_names → map_with state names ≡ map_of
   same_map state is names same = ap (λ s. map_with s names) is ∙ ap (map_with (first_state sizes)) same
 
-  pub whole : (state : State) → state ≡ first_state sizes → AreProgramBounds sizes → (names : NameTable) → names ≡ first_names → IsWhole (map_with state names)
+  pub whole : (state : State) → state ≡ first_state sizes → AreInRange sizes → (names : NameTable) → names ≡ first_names → IsWhole (map_with state names)
   whole state is ok names same = subst IsWhole (sym (same_map state is names same)) (first_whole ok)
 
-  pub is_new : (state : State) → state ≡ first_state sizes → AreProgramBounds sizes → (names : NameTable) → names ≡ first_names → IsNew slots hash (map_with state names)
+  pub is_new : (state : State) → state ≡ first_state sizes → AreInRange sizes → (names : NameTable) → names ≡ first_names → IsNew slots hash (map_with state names)
   is_new state is ok names same = subst (IsNew slots hash) (sym (same_map state is names same)) (first_new ok)
 
   pub refuses : (why : Refusal) (told : MapError) → told ≡ of_refusal why → RefusesBounds sizes why → RefusesSizes slots told
-  refuses why told e (inl (bad, is)) = inl ((λ ok. bad ((ok.0, omega arith, omega arith), (ok.1, omega arith))), e ∙ ap of_refusal is)
-  refuses why told e (inr (ok, is)) = inr ((ok.0.0, ok.1.0), e ∙ ap of_refusal is)
+  refuses why told e (inl (bad, is)) = inl ((λ ok. bad ((ok.0, omega arith, omega arith), omega arith, ok.1)), e ∙ ap of_refusal is)
+  refuses why told e (inr (ok, is)) = inr ((ok.0.0, ok.2), e ∙ ap of_refusal is)

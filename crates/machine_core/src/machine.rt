@@ -5,9 +5,9 @@ ghost use Rattle.slot_arena.specs.Heaps.{in_use};
 ghost use Rattle.machine_model.specs.declared.steps.Step.TheVariants as steps;
 ghost use Rattle.machine_model.specs.States.{first_state, root_at};
 ghost use Rattle.machine_model.specs.Contents.{content_at};
-ghost use Rattle.machine_model.specs.Machine.{next, is_running, is_busy, next_kind, runs_on, begin_denial, denial_of, is_access, is_spent, access_of, handles_taken, AreProgramBounds};
+ghost use Rattle.machine_model.specs.Machine.{next, is_running, is_busy, next_kind, runs_on, begin_denial, denial_of, is_access, is_spent, access_of, handles_taken};
 ghost use Rattle.machine_model.specs.Refusing.{RefusesContent};
-ghost use Rattle.proof_core.specs.Bounds.{Answers, Applies, RefusesBounds};
+ghost use Rattle.proof_core.specs.Bounds.{Answers, Applies, AreInRange, RefusesBounds};
 ghost use Rattle.machine_core.specs.Beneath.proof_straight.specs.Resting.{IsOfRun};
 ghost use Rattle.machine_core.specs.Finding.{found_along};
 ghost use Rattle.machine_core.specs.Straight.{CarriesOut};
@@ -68,7 +68,7 @@ impl Core {
         ensures made { IfOk result (λ core. core.state ≡ first_state bounds) }
         ensures work { IfOk result (λ core. core.work ≤ bounds.slots + ticks_of_a_start) }
         ensures refused { IfErr result (λ refusal. RefusesBounds bounds refusal) }
-        ensures in_range { OnOk result (AreProgramBounds bounds) }
+        ensures in_range { OnOk result (AreInRange bounds) }
     {
         if !are_bounds(bounds) {
             return Err(Refusal::BadLimits);

@@ -8,7 +8,7 @@ ghost use Rattle.epochs.specs.Limbo.{limbo_after};
 ghost use Rattle.epochs.specs.Memories.{AreSizes};
 ghost use Rattle.handle_table.specs.Numbers.{no_numbers, with_taken};
 ghost use Rattle.machine_model.specs.States.{first_heap, first_state};
-ghost use Rattle.machine_model.specs.Machine.{AreProgramBounds};
+ghost use Rattle.proof_core.specs.Bounds.{AreInRange};
 ghost use Rattle.machine_core.specs.Beneath.rdcss_root.specs.Tables.{new_table, with_root_in};
 ghost use Rattle.machine_core.specs.Keeping.{IsKept};
 ghost use Rattle.machine_core.specs.Seen.{seen};
@@ -31,7 +31,7 @@ pub const LONGEST_LIFE: u64 = (1 << 45) - (1 << 21);
 
 /// Whether the bounds are in range.
 pub fn are_bounds(bounds: Bounds) -> bool
-    ensures { IsTrue result ↔ AreProgramBounds bounds }
+    ensures { IsTrue result ↔ AreInRange bounds }
 {
     2 <= bounds.slots
         && bounds.slots <= MOST_SLOTS
@@ -134,7 +134,7 @@ fn idle_actors(alloc: Global, hashes: HashKind, actors: u8) -> Result<Vec<Actor>
 /// The first state, with nothing left to settle.
 #[tactic(auto, unfolding(machine_model::specs::States::first_state))]
 pub fn first_parts(alloc: Global, bounds: Bounds) -> Result<Parts, Refusal>
-    requires { AreProgramBounds bounds }
+    requires { AreInRange bounds }
     ensures first { IfOk result (λ parts. seen parts ≡ first_state bounds) }
     ensures kept { IfOk result (λ parts. IsKept parts) }
     ensures noted { IfOk result (λ parts. parts.heap.noted ≡ []) }

@@ -24,7 +24,6 @@ use Rattle.machine_model.specs.States.{State, first_state, handle_limit, root_at
 use Rattle.machine_model.specs.Operations.{first_line, action_of, kind_of}
 use Rattle.machine_model.specs.Acting.{gone, ended}
 use Rattle.machine_model.specs.Counting.{settled}
-use Rattle.machine_model.specs.Beneath.slot_arena.specs.Refs.{most_slots}
 
 -- what a step gives: its outcome and the state after it, or a refusal
 abbrev pub Answer : Type 0
@@ -255,11 +254,3 @@ longest_life = 2 ^ 45 - 2 ^ 21
 -- the bounds are in range: of slots and of steps there may be any number
 abbrev pub AreBounds : Bounds → Type 0
 AreBounds limits = (2 ≤ limits.slots) × (1 ≤ limits.actors) × (limits.actors ≤ 64)
-
--- so few slots and steps that the references and the births of a program fit into words
-abbrev pub BoundsFit : Bounds → Type 0
-BoundsFit limits = (limits.slots ≤ most_slots) × (limits.steps ≤ longest_life)
-
--- the bounds are those of a program
-abbrev pub AreProgramBounds : Bounds → Type 0
-AreProgramBounds limits = AreBounds limits × BoundsFit limits

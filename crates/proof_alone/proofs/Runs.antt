@@ -1,12 +1,13 @@
 -- States that runs lead to, and one step from there.
-use Rattle.std.specs.Prelude.{◌≡◌, List, [], ◌∷◌, ◌++◌, Ok}
+use Rattle.std.specs.Prelude.{◌≡◌, ◌≤◌, List, [], ◌∷◌, ◌++◌, Ok}
 use Rattle.std.proofs.Common.{cond, sym, ap, subst, ◌∙◌}
 use Rattle.std.proofs.lemmas.List.Elements.{All-push}
+use Rattle.proof_alone.specs.Beneath.slot_arena.specs.Refs.{most_slots}
 use Rattle.proof_alone.specs.Beneath.machine_model.specs.declared.steps.Bounds.{Bounds}
 use Rattle.proof_alone.specs.Beneath.machine_model.specs.declared.steps.Outcome.{Outcome}
 use Rattle.proof_alone.specs.Beneath.machine_model.specs.declared.steps.Step.{Step}
 use Rattle.proof_alone.specs.Beneath.machine_model.specs.Keys.{FitsKey, KeysFit}
-use Rattle.proof_alone.specs.Beneath.machine_model.specs.Machine.{AreBounds, BoundsFit, is_taken_step, next, run, state_after}
+use Rattle.proof_alone.specs.Beneath.machine_model.specs.Machine.{AreBounds, longest_life, is_taken_step, next, run, state_after}
 use Rattle.proof_alone.specs.Beneath.machine_model.specs.Records.{first_record, noted, record_of}
 use Rattle.proof_alone.specs.Beneath.machine_model.specs.States.{State, first_state}
 use Rattle.proof_alone.specs.Beneath.machine_model.specs.Tellings.{told_in}
@@ -19,13 +20,15 @@ pub by_run : (P : State → Type 0) → ((limits : Bounds) (steps : List Step) �
 by_run P each state h = subst P (sym h.is) (each state.limits h.steps h.limits h.keys)
 
 -- a run leads to the state behind it
-pub of_run : (limits : Bounds) (steps : List Step) → AreBounds limits → BoundsFit limits → KeysFit steps → IsOfRun (run limits steps)
-of_run limits steps ok fits keys = record {
+pub of_run : (limits : Bounds) (steps : List Step) → AreBounds limits → limits.slots ≤ most_slots → limits.steps ≤ longest_life → KeysFit steps →
+    IsOfRun (run limits steps)
+of_run limits steps ok few life fit = record {
   steps = steps;
   is = ap (λ l. run l steps) (sym (limits_along limits steps));
   limits = subst AreBounds (sym (limits_along limits steps)) ok;
-  fits = subst BoundsFit (sym (limits_along limits steps)) fits;
-  keys = keys;
+  few = subst (λ (l : Bounds). l.slots ≤ most_slots) (sym (limits_along limits steps)) few;
+  life = subst (λ (l : Bounds). l.steps ≤ longest_life) (sym (limits_along limits steps)) life;
+  keys = fit;
 }
 
 -- the state that a taken step leads to, and what is recorded then
@@ -44,6 +47,6 @@ LeadsBehind state = (s : Step) (o : Outcome) (after : State) → FitsKey s → n
 
 pub of_run_behind : (state : State) → IsOfRun state → LeadsBehind state
 of_run_behind state h =
-    by_run (λ state. BoundsFit state.limits → LeadsBehind state)
-    (λ limits steps ok keys fits s o after fits_key e. subst IsOfRun (stepped limits steps s o after e)
-    (of_run limits (steps ++ s ∷ []) ok (subst BoundsFit (limits_along limits steps) fits) (All-push FitsKey steps s keys fits_key))) state h h.fits
+    subst LeadsBehind (sym h.is)
+    (λ s o after fits e. subst IsOfRun (stepped state.limits h.steps s o after e)
+    (of_run state.limits (h.steps ++ s ∷ []) h.limits h.few h.life (All-push FitsKey h.steps s h.keys fits)))

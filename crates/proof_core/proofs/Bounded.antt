@@ -2,7 +2,7 @@
 use Rattle.std.proofs.Common.{◌≡◌, ℕ, ◌+◌, ◌*◌, ◌≤◌, false, length, List, [], ◌∷◌, ◌++◌, Option, Some, None, Ok, refl, sym, ap, ◌∙◌, subst, arith, leb-false, map}
 use Rattle.proof_core.specs.Vocabulary.{Call, Ref, Node, Action, Operation, Bounds, Outcome, Step, handle_of, Heap, empty_branch, with_main, with_prev, taken, take_from, freed, ref_to, Indirection}
 use Rattle.proof_core.specs.Vocabulary.{State, empty_heap, first_state, action_of, Prev, Reclaimer, ripe, sweep_by, acted, new_root_taken, attempt_after, operation_after, next, next_state}
-use Rattle.proof_core.specs.Vocabulary.{state_after, is_spent, begin_denial, go_denial, with_begin, pin_of, reclaimer_of, run, run_from, AreBounds, AreProgramBounds, BoundsFit, Begins, Ends}
+use Rattle.proof_core.specs.Vocabulary.{state_after, is_spent, begin_denial, go_denial, with_begin, pin_of, reclaimer_of, run, run_from, AreBounds, longest_life, most_slots, Begins, Ends}
 use Rattle.proof_core.specs.Vocabulary.{Sweeps, Moves, begun_operation}
 use Rattle.proof_core.specs.Vocabulary.{FitsKey}
 use Rattle.proof_core.specs.Beneath.machine_model.specs.declared.actions.Action.TheVariants as act
@@ -18,7 +18,7 @@ use Rattle.proof_core.specs.Beneath.machine_model.specs.Moves.{Goes}
 use Rattle.proof_core.specs.Beneath.machine_model.proofs.Slots.{sound_along}
 use Rattle.proof_core.specs.Beneath.proof_memory.proofs.Safety.Steps.{gone_epoch}
 use Rattle.proof_core.specs.Beneath.proof_generations.proofs.Counter.Drawn.{aborted_generations, completed_generations, offered_generations}
-use Rattle.proof_core.specs.Bounds.{IsBounded}
+use Rattle.proof_core.specs.Bounds.{IsBounded, AreInRange}
 use Rattle.std.proofs.lemmas.List.Elements.{All-nil, All-push}
 use Rattle.proof_straight.specs.Resting.{IsOfRun}
 
@@ -226,13 +226,13 @@ grows_along : (limits : Bounds) (steps : List Step) → Grows limits (run limits
 grows_along limits = along limits (Grows limits) (grows_at_first limits) (λ steps s o after m h. grows_after limits (run limits steps) s o after m h)
 
 -- after each run the numbers are bounded
-bounded_along : (limits : Bounds) → AreBounds limits → BoundsFit limits → (steps : List Step) → IsBounded (run limits steps)
-bounded_along limits ok fits steps =
+bounded_along : (limits : Bounds) → AreBounds limits → limits.slots ≤ most_slots → limits.steps ≤ longest_life → (steps : List Step) → IsBounded (run limits steps)
+bounded_along limits ok few life steps =
     let h = grows_along limits steps in
     let sound = sound_along limits ok steps in
     record {
-      slots = omega (arith, sound.heap.size, fits.0);
-      steps = omega (arith, h.steps, fits.1);
+      slots = omega (arith, sound.heap.size, few);
+      steps = omega (arith, h.steps, life);
       births = omega (arith, h.births, sound.heap.size);
       generations = h.generations;
       epoch = h.epoch;
@@ -242,7 +242,7 @@ bounded_along limits ok fits steps =
 
 -- the state of a run is bounded
 pub bounded : (state : State) → IsOfRun state → IsBounded state
-bounded state h = subst IsBounded (sym h.is) (bounded_along state.limits h.limits h.fits h.steps)
+bounded state h = subst IsBounded (sym h.is) (bounded_along state.limits h.limits h.few h.life h.steps)
 
 -- ---- a step from a state of a run
 
@@ -258,7 +258,8 @@ run_on state s fits h =
       steps = h.steps ++ s ∷ [];
       is = ap (λ x. next_state x s) h.is ∙ sym (run_push (first_state state.limits) h.steps s) ∙ ap (λ l. run l (h.steps ++ s ∷ [])) (sym same);
       limits = subst (λ l. AreBounds l) (sym same) h.limits;
-      fits = subst (λ l. BoundsFit l) (sym same) h.fits;
+      few = subst (λ (l : Bounds). l.slots ≤ most_slots) (sym same) h.few;
+      life = subst (λ (l : Bounds). l.steps ≤ longest_life) (sym same) h.life;
       keys = All-push FitsKey h.steps s h.keys fits;
     }
 
@@ -267,13 +268,14 @@ pub taken_run : (before after : State) (s : Step) (o : Outcome) → next before 
 taken_run before after s o e fits h = subst IsOfRun (ap (λ a. state_after before a) e) (run_on before s fits h)
 
 -- the first state is one of a run
-pub first_run : (limits : Bounds) (state : State) → AreProgramBounds limits → state ≡ first_state limits → IsOfRun state
+pub first_run : (limits : Bounds) (state : State) → AreInRange limits → state ≡ first_state limits → IsOfRun state
 unfolding first_state run_from
 first_run limits state ok e = record {
   steps = [];
   is = e ∙ ap first_state (sym (ap (λ x. x.limits) e));
   limits = subst (λ l. AreBounds l) (sym (ap (λ x. x.limits) e)) ok.0;
-  fits = subst (λ l. BoundsFit l) (sym (ap (λ x. x.limits) e)) ok.1;
+  few = subst (λ (l : Bounds). l.slots ≤ most_slots) (sym (ap (λ x. x.limits) e)) ok.2;
+  life = subst (λ (l : Bounds). l.steps ≤ longest_life) (sym (ap (λ x. x.limits) e)) ok.1;
   keys = All-nil FitsKey;
 }
 

@@ -5,14 +5,14 @@ use Rattle.machine_model.specs.declared.steps.Bounds.{Bounds}
 use Rattle.machine_model.specs.declared.steps.Limits.{Limits}
 use Rattle.machine_model.specs.declared.steps.Step.{Step}
 use Rattle.machine_model.specs.Limits.{AreLimits, bounded}
-use Rattle.machine_model.specs.Machine.{AreProgramBounds, run}
+use Rattle.machine_model.specs.Machine.{run}
 use Rattle.machine_model.specs.Refusing.{RefusesLimits}
 use Rattle.machine_model.proofs.Along.{limits_along}
-use Rattle.step_machine.specs.Beneath.proof_core.specs.Bounds.{RefusesBounds}
-use Rattle.proof_runs.proofs.Bounds.{in_program_bounds}
+use Rattle.step_machine.specs.Beneath.proof_core.specs.Bounds.{AreInRange, RefusesBounds}
+use Rattle.proof_runs.proofs.Bounds.{in_bounds, in_life, few_slots}
 
 pub refuses : (limits : Limits) (bounds : Bounds) (refusal : Refusal) → bounds ≡ bounded limits → AreLimits limits → RefusesBounds bounds refusal → RefusesLimits limits refusal
-refuses limits bounds refusal is ok (inl (bad, told)) = absurd (bad (subst AreProgramBounds (sym is) (in_program_bounds limits ok)))
+refuses limits bounds refusal is ok (inl (bad, told)) = absurd (bad (subst AreInRange (sym is) (in_bounds limits ok, in_life limits ok, few_slots limits ok)))
 refuses limits bounds refusal is ok (inr (fits, told)) = inr (ok, told)
 
 -- no more steps than a machine of these limits may take

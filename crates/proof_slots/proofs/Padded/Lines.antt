@@ -1,12 +1,10 @@
 -- What an operation's next step does in a padded state, and where it stands after it.
-use Rattle.std.proofs.Common.{◌≡◌, ℕ, ◌+◌, ◌==◌, ◌&&◌, Bool, true, false, nat_lt, nat_eq, List, [], ◌∷◌, ◌++◌, length, slice_index_or, Option, Some, None, if◌then◌else◌, refl, sym, ap, ◌∙◌}
+use Rattle.std.proofs.Common.{◌≡◌, ℕ, ◌+◌, ◌==◌, Bool, nat_lt, List, [], ◌∷◌, ◌++◌, length, Option, Some, None, if◌then◌else◌, refl, ap, ◌∙◌}
 use Rattle.proof_slots.specs.Beneath.slot_arena.specs.declared.refs.Ref.{Ref}
 use Rattle.proof_slots.specs.Beneath.slot_arena.specs.declared.nodes.Node.{Node}
 use Rattle.proof_slots.specs.Beneath.slot_arena.specs.declared.nodes.Node.TheVariants.{Indirection, Branch, Single, Tomb, List as Listed}
-use Rattle.proof_slots.specs.Beneath.slot_arena.specs.Heaps.{node_at, prev_at, next_ref, generation_at, entries_of, entry_at}
+use Rattle.proof_slots.specs.Beneath.slot_arena.specs.Heaps.{node_at, next_ref, entries_of, entry_at}
 use Rattle.machine_model.specs.declared.operations.Operation.{Operation}
-use Rattle.machine_model.specs.declared.actions.Action.{Action}
-use Rattle.machine_model.specs.declared.actions.Action.TheVariants as act
 use Rattle.machine_model.specs.declared.building.BuildLine.{BuildLine}
 use Rattle.machine_model.specs.declared.building.BuildLine.TheVariants as build
 use Rattle.machine_model.specs.declared.building.Site.{Site}
@@ -36,20 +34,19 @@ use Rattle.machine_model.specs.declared.lines.Line.TheVariants as line
 use Rattle.machine_model.specs.declared.roots.RootLine.{RootLine}
 use Rattle.machine_model.specs.Calls.{handle_of, key_of, when_found}
 use Rattle.machine_model.specs.States.{State, word_at}
-use Rattle.machine_model.specs.Paths.{is_below_root}
 use Rattle.machine_model.specs.Reading.{read_step, at_indirection}
-use Rattle.machine_model.specs.Swapping.{complete_after, root_after, swap_after}
+use Rattle.machine_model.specs.Swapping.{root_after, swap_after}
 use Rattle.machine_model.specs.Renewing.{renew_action, renew_after, renew_next, next_entry, renew_after_entry, renew_after_read, renew_after_link, renew_after_branch}
-use Rattle.machine_model.specs.Finding.{key_action, key_after, key_after_read, key_after_main, key_after_entry, after_listed, after_sibling, found, found_so, removing, absent_beside, absent_listed}
+use Rattle.machine_model.specs.Finding.{key_action, key_after, key_after_read, key_after_main, key_after_entry, after_listed, found, found_so, removing, absent_beside, absent_listed}
 use Rattle.machine_model.specs.Building.{build_action, build_after, build_if_made, build_after_made, after_single}
 use Rattle.machine_model.specs.Cleaning.{clean_action, clean_after, clean_next, clean_after_read, clean_after_main, clean_after_entry, after_child, clean_after_tomb, clean_after_contracted}
-use Rattle.machine_model.specs.Cleaning.{leaves_single, cleaned, is_single}
-use Rattle.machine_model.specs.Climbing.{climb_action, climb_after, climb_after_read, climb_after_main, climb_after_contracted, climb_after_root, climbed_node}
+use Rattle.machine_model.specs.Cleaning.{leaves_single, is_single}
+use Rattle.machine_model.specs.Climbing.{climb_action, climb_after, climb_after_read, climb_after_main, climb_after_contracted, climb_after_root}
 use Rattle.machine_model.specs.Copying.{copy_after, copy_after_read, copy_after_complete, copy_if_made}
-use Rattle.machine_model.specs.Walking.{walk_after, walk_after_read, walk_after_entry, walk_next, first_of, rest_of}
+use Rattle.machine_model.specs.Walking.{walk_after, walk_after_read, walk_after_entry, first_of, rest_of}
 use Rattle.machine_model.specs.Operations.{line_action, action_of, line_after, after_root, after_swap, swapped, given_root, generation_from, generation_after}
 use Rattle.proof_slots.specs.Padding.{padded}
-use Rattle.proof_slots.proofs.Padded.Heaps.{HasFree, node_wide, prev_wide, next_wide}
+use Rattle.proof_slots.proofs.Padded.Heaps.{HasFree, node_wide, next_wide}
 use Rattle.proof_slots.proofs.Padded.Reads.{read_wide, swap_wide, complete_wide, root_wide}
 
 module _ (more : ℕ) (state : State) (operation : Operation) where

@@ -1,7 +1,6 @@
 -- READ, SWAP, COMPLETE and ROOT go on alike in a padded heap.
-use Rattle.std.proofs.Common.{◌≡◌, ℕ, ◌==◌, Option, Some, None, refl, ap}
+use Rattle.std.proofs.Common.{◌≡◌, ℕ, Option, refl, ap}
 use Rattle.proof_slots.specs.Beneath.history.specs.declared.calls.Access.{Access}
-use Rattle.proof_slots.specs.Beneath.history.specs.declared.calls.Access.TheVariants.{Writable, ReadOnly}
 use Rattle.proof_slots.specs.Beneath.slot_arena.specs.declared.refs.Ref.{Ref}
 use Rattle.proof_slots.specs.Beneath.slot_arena.specs.Heaps.{Heap, node_at, prev_at}
 use Rattle.machine_model.specs.declared.roots.RootWord.{RootWord}
@@ -17,7 +16,7 @@ use Rattle.machine_model.specs.declared.reading.ReadLine.TheVariants as read
 use Rattle.machine_model.specs.declared.reading.Swap.{Swap}
 use Rattle.machine_model.specs.declared.reading.SwapLine.{SwapLine}
 use Rattle.machine_model.specs.declared.reading.SwapLine.TheVariants as swap
-use Rattle.machine_model.specs.Reading.{read_after, verdict, verdict_by, is_pending, after_prev, after_decide, committed_by, committed_so}
+use Rattle.machine_model.specs.Reading.{read_after, verdict, after_prev, after_decide, committed_by, committed_so}
 use Rattle.machine_model.specs.Swapping.{after_swap, swap_after, on_line, after_deciding, after_check, after_reading, after_complete, complete_after, of_offer, root_after, after_completing}
 use Rattle.proof_slots.proofs.Padded.Heaps.{wide, node_wide, prev_wide}
 

@@ -1,9 +1,8 @@
 -- Runs of padded machines.
-use Rattle.std.proofs.Common.{◌≡◌, ℕ, zero, suc, ◌+◌, ◌<◌, ◌≤◌, List, [], ◌∷◌, ◌++◌, length, map, replicate, is_some, Option, Some, None, refl, sym, ap, ◌∙◌, subst, arith, length-append}
+use Rattle.std.proofs.Common.{◌≡◌, ℕ, zero, suc, ◌+◌, ◌≤◌, List, [], ◌∷◌, ◌++◌, length, map, replicate, is_some, Option, None, refl, sym, ap, ◌∙◌, subst, arith, length-append}
 use Rattle.std.specs.List.{range_with_len}
 use Rattle.std.proofs.lemmas.List.{append_assoc, length-map, replicate-append-replicate}
 use Rattle.std.proofs.lemmas.List.FromFn.{length-range_with_len}
-use Rattle.proof_slots.specs.Beneath.slot_arena.specs.declared.nodes.Node.{Node}
 use Rattle.proof_slots.specs.Beneath.slot_arena.specs.declared.nodes.Node.TheVariants.{Indirection}
 use Rattle.proof_slots.specs.Beneath.slot_arena.specs.declared.nodes.Slot.{Slot}
 use Rattle.proof_slots.specs.Beneath.slot_arena.specs.declared.refs.Ref.{Ref}
@@ -18,7 +17,7 @@ use Rattle.machine_model.proofs.Along.{run_push, kept_by_moves}
 use Rattle.machine_model.proofs.HeapMoves.{HeapMoves, Stays, Takes, Publishes, Restores, Commit, Fail, Frees, heap_moves}
 use Rattle.machine_model.proofs.Rest.{first_free}
 use Rattle.machine_model.proofs.Slots.{AddsUp, sound_along}
-use Rattle.proof_slots.specs.Padding.{with_slots, padded, padded_heap, padded_answer}
+use Rattle.proof_slots.specs.Padding.{with_slots, padded, padded_heap}
 use Rattle.proof_slots.specs.Laws.{HasFreeSlots, MoreSlotsAlike, MoreSlotsAnswer, FewStepsHaveSlots}
 use Rattle.proof_slots.proofs.Padded.Heaps.{HasFree, taken_wide}
 use Rattle.proof_slots.proofs.Padded.Steps.{next_padded, next_state_padded, next_record_padded}

@@ -1,6 +1,6 @@
 -- Each step of a padded state, and what it tells.
 use Rattle.std.proofs.Common.{◌≡◌, ℕ, zero, suc, ◌+◌, ◌-◌, ◌&&◌, Bool, true, false, not, nat_le, is_some, List, [], ◌∷◌, length, map, slice_index_or, Option, Some, None, Ok, Err, if◌then◌else◌}
-use Rattle.std.proofs.Common.{refl, sym, ap, ◌∙◌}
+use Rattle.std.proofs.Common.{refl, ap, ◌∙◌}
 use Rattle.proof_slots.specs.Beneath.ctrie_base.specs.declared.refusals.Refusal.{Refusal}
 use Rattle.proof_slots.specs.Beneath.ctrie_base.specs.declared.refusals.Refusal.TheVariants as refuse
 use Rattle.proof_slots.specs.Beneath.history.specs.declared.calls.Access.TheVariants.{Writable, ReadOnly}
@@ -33,7 +33,7 @@ use Rattle.machine_model.specs.Machine.{begun_operation, with_begin}
 use Rattle.machine_model.specs.Machine.{access_of, first_reason, is_actor, is_running, is_access, runs_on, go_denial, go_unless, go_on, step_by, pin_of, reclaimer_of, swept, swept_with}
 use Rattle.machine_model.specs.Records.{Record, noted, next_record}
 use Rattle.machine_model.specs.Tellings.{told_in, told_of, told_by, begin_told, committed_in, committed_now, given_by, given_in, given_now, counts_from, published_by, carried_by, progress_of}
-use Rattle.proof_slots.specs.Padding.{padded, padded_heap, padded_answer}
+use Rattle.proof_slots.specs.Padding.{padded, padded_answer}
 use Rattle.proof_slots.proofs.Padded.Heaps.{HasFree, node_wide, freed_wide, limbo_wide}
 use Rattle.proof_slots.proofs.Padded.Reads.{committed_wide}
 use Rattle.proof_slots.proofs.Padded.Lines.{step_wide, acts_wide}

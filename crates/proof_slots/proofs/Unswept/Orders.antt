@@ -10,7 +10,7 @@ use Rattle.proof_slots.specs.Beneath.slot_arena.specs.declared.nodes.Node.TheVar
 use Rattle.proof_slots.specs.Beneath.slot_arena.specs.declared.nodes.Prev.{Prev}
 use Rattle.proof_slots.specs.Beneath.slot_arena.specs.declared.nodes.Prev.TheVariants as prev
 use Rattle.proof_slots.specs.Beneath.slot_arena.specs.declared.nodes.Slot.{Slot}
-use Rattle.proof_slots.specs.Beneath.slot_arena.specs.Refs.{slot_of, birth_of, ref_to}
+use Rattle.proof_slots.specs.Beneath.slot_arena.specs.Refs.{slot_of, ref_to}
 use Rattle.proof_slots.specs.Beneath.slot_arena.specs.Heaps.{Heap, stored, empty_branch, taken, take_from, written, with_main, with_prev, main_changed, prev_changed}
 use Rattle.machine_model.specs.States.{first_state, empty_heap, first_heap}
 use Rattle.machine_model.specs.Machine.{run}

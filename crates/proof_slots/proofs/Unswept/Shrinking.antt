@@ -1,8 +1,7 @@
 -- A step that isn't the sweep's frees nothing.
-use Rattle.std.proofs.Common.{◌≡◌, ℕ, ◌+◌, ◌≤◌, List, [], ◌∷◌, ◌++◌, length, Option, Some, None, refl, sym, ap, ◌∙◌, subst, arith}
+use Rattle.std.proofs.Common.{◌≡◌, ℕ, ◌≤◌, List, [], ◌∷◌, ◌++◌, length, None, refl, sym, ap, ◌∙◌, subst, arith}
 use Rattle.std.proofs.lemmas.Option.{none-some}
 use Rattle.proof_slots.specs.Beneath.slot_arena.specs.Heaps.{Heap, taken, take_from, with_main, with_prev}
-use Rattle.machine_model.specs.declared.steps.Bounds.{Bounds}
 use Rattle.machine_model.specs.declared.steps.Outcome.{Outcome}
 use Rattle.machine_model.specs.declared.steps.Step.{Step}
 use Rattle.machine_model.specs.Calls.{handle_of}
@@ -12,7 +11,6 @@ use Rattle.machine_model.specs.Machine.{begun_operation, next_state, run, run_fr
 use Rattle.machine_model.specs.Moves.{Moves, Begins, Goes, Ends, Sweeps}
 use Rattle.machine_model.proofs.Along.{kept_by_moves, run-append}
 use Rattle.machine_model.proofs.HeapMoves.{HeapMoves, Stays, Takes, Publishes, Restores, Commit, Fail, Frees, acted_heap, begin_heap}
-use Rattle.proof_slots.specs.Laws.{HasFreeSlots}
 use Rattle.proof_slots.specs.Unswept.{IsNoSweep, HasNoSweeps, FreeAtTheEnd}
 
 pub unswept_moves : (state : State) (s : Step) (o : Outcome) (after : State) → IsNoSweep s → Moves state s o after → HeapMoves state.heap None after.heap
