@@ -1,11 +1,11 @@
 -- What limbo after a step doesn't depend on.
-use Rattle.std.proofs.Common.{◌≡◌, ℕ, ◌<◌, ◌≤◌, ◌==◌, ◌&&◌, ◌||◌, not, nat_lt, Bool, false, cond, List, [], ◌∷◌, ◌++◌}
+use Rattle.std.proofs.Common.{◌≡◌, ℕ, ◌<◌, ◌==◌, ◌&&◌, ◌||◌, not, nat_lt, Bool, false, cond, List, [], ◌∷◌, ◌++◌}
 use Rattle.std.proofs.Common.{length, map, get_or, set, filter, Option, None, refl, ap, ◌∙◌, inl, inr, arith}
 use Rattle.std.proofs.lemmas.Bool.{cases_lt, ne_eqb}
 use Rattle.std.proofs.lemmas.List.{get_or_past, get_or-set_same, length-set}
 use Rattle.slot_arena.specs.declared.refs.Ref.{Ref}
 use Rattle.slot_arena.specs.declared.nodes.Slot.{Slot}
-use Rattle.slot_arena.specs.Refs.{slot_of, birth_of, most_slots}
+use Rattle.slot_arena.specs.Refs.{slot_of, birth_of}
 use Rattle.slot_arena.specs.Heaps.{Heap, in_use, freed}
 use Rattle.slot_arena.specs.Counts.{count_of}
 use Rattle.slot_arena.specs.Times.{times}
@@ -19,7 +19,7 @@ use Rattle.epochs.specs.Limbo.{is_zero, is_in, is_in_use, newly_zero, by_birth}
 use Rattle.epochs.specs.Memories.{staying}
 use Rattle.epochs.specs.Laws.{AreAlike, FreedLeaves, CountsAlone}
 use Rattle.epochs.proofs.Filters.{filter_same}
-use Rattle.epochs.proofs.Listing.{all_members, length-freed}
+use Rattle.epochs.proofs.Listing.{all_members}
 use Rattle.epochs.proofs.InUse.{times-in_use}
 use Rattle.epochs.proofs.Staying.{any_times}
 
@@ -56,12 +56,12 @@ emptied slots k = elim (cases_lt k (length slots)) [
 pub freed_dead : (heap : Heap) (r : Ref) → live (freed heap r).slots r ≡ false
 freed_dead heap r = ap (λ (h : Heap). live h.slots r) (freed_seen heap r) ∙ ap (has_birth (birth_of r)) (emptied heap.slots (slot_of r))
 
-module _ (heap : Heap) (outside : List Ref) (epoch : ℕ) (entry : Zeroed) (limbo : List Zeroed) (small : length heap.slots ≤ most_slots) where
+module _ (heap : Heap) (outside : List Ref) (epoch : ℕ) (entry : Zeroed) (limbo : List Zeroed) where
   abbrev now : Heap
   now = freed heap entry.at
 
   gone : times entry.at (in_use now) ≡ 0
-  gone = times-in_use now entry.at (omega (arith, length-freed heap entry.at)) ∙ ap bit (freed_dead heap entry.at)
+  gone = times-in_use now entry.at ∙ ap bit (freed_dead heap entry.at)
 
   leaves : staying now outside (entry ∷ limbo) ≡ staying now outside limbo
   leaves =
@@ -74,6 +74,6 @@ module _ (heap : Heap) (outside : List Ref) (epoch : ℕ) (entry : Zeroed) (limb
       (in_use now) (all_members (in_use now)))
 
 pub freed_leaves : FreedLeaves
-freed_leaves heap outside epoch entry limbo small =
-    ap (λ (l : List Zeroed). l ++ map (λ r. record { at = r; epoch = epoch }) (newly_zero (freed heap entry.at) outside (entry ∷ limbo))) (leaves heap outside epoch entry limbo small)
-    ∙ ap (λ (l : List Ref). staying (freed heap entry.at) outside limbo ++ map (λ r. record { at = r; epoch = epoch }) l) (same_new heap outside epoch entry limbo small)
+freed_leaves heap outside epoch entry limbo =
+    ap (λ (l : List Zeroed). l ++ map (λ r. record { at = r; epoch = epoch }) (newly_zero (freed heap entry.at) outside (entry ∷ limbo))) (leaves heap outside epoch entry limbo)
+    ∙ ap (λ (l : List Ref). staying (freed heap entry.at) outside limbo ++ map (λ r. record { at = r; epoch = epoch }) l) (same_new heap outside epoch entry limbo)

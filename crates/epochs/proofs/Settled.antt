@@ -8,7 +8,7 @@ use Rattle.std.proofs.lemmas.Bool.{cases_lt}
 use Rattle.std.proofs.lemmas.List.{append_assoc, append-nil, length-append, map-append}
 use Rattle.std.proofs.lemmas.List.Elements.{All-weaker, filter-append}
 use Rattle.slot_arena.specs.declared.refs.Ref.{Ref}
-use Rattle.slot_arena.specs.Refs.{slot_of, most_slots}
+use Rattle.slot_arena.specs.Refs.{slot_of}
 use Rattle.slot_arena.specs.Heaps.{Heap, in_use}
 use Rattle.slot_arena.specs.Times.{times}
 use Rattle.slot_arena.specs.Tallies.{naming}
@@ -41,7 +41,7 @@ length_filter p (r ∷ rs) = length_filter_step p r rs (p r) (length_filter p rs
 
 module _
     (arena : Contents) (bags now : Bags) (fresh sorted : List Ref) (lists : Lists arena bags) (sifted : IsSifted arena bags now fresh)
-    (permuted : IsPermutation fresh sorted) (rises : IsSortedRefs sorted) (small : length arena.heap.slots ≤ most_slots)
+    (permuted : IsPermutation fresh sorted) (rises : IsSortedRefs sorted)
   where
     times_sorted : (r : Ref) → times r sorted ≡ times r fresh
     times_sorted r = sum_by-IsPermutation (λ q. bit (q == r)) fresh sorted permuted
@@ -106,11 +106,11 @@ module _
     news epoch =
         let p : Ref → Bool = λ r. is_zero arena.heap arena.outside r && not (is_in (limbo_of epoch bags) r) in
         rising_same (by_birth (filter p (in_use arena.heap))) sorted
-        (rising_by_birth (filter p (in_use arena.heap)) (λ r. omega (arith, filter_le p r (in_use arena.heap), in_use_once arena.heap r small)))
+        (rising_by_birth (filter p (in_use arena.heap)) (λ r. omega (arith, filter_le p r (in_use arena.heap), in_use_once arena.heap r)))
         (rising_sorted sorted rises sorted_once)
         (λ r some.
         let found = filter_in p r (in_use arena.heap) (omega (arith, some, times-by_birth r (filter p (in_use arena.heap)))) in
-        let has = in_use_live arena.heap r small found.0 in
+        let has = in_use_live arena.heap r found.0 in
         let tests = and_parts (is_zero arena.heap arena.outside r) (not (is_in (limbo_of epoch bags) r)) found.1 in
         let none : times r (all_of bags) ≡ 0 = not_below (times r (all_of bags)) (sym (in_limbo epoch bags r) ∙ not-true (is_in (limbo_of epoch bags) r) tests.1) in
         omega (arith, times_sorted r, sifted.all_fresh r (zero_waits arena r has tests.0, unlisted r has none)))
@@ -120,7 +120,7 @@ module _
         let none : times r (all_of bags) ≡ 0 = omega (arith, is.1, times-le-naming r (all_of bags)) in
         let passed : p r ≡ true =
         ap (λ b. b && not (is_in (limbo_of epoch bags) r)) (waits_zero arena (slot_of r) r is.0) ∙ ap not (in_limbo epoch bags r ∙ ap (nat_lt 0) none) in
-        omega (arith, times-by_birth r (filter p (in_use arena.heap)), filter_there p r (in_use arena.heap) passed (live_in_use arena.heap r small has)))
+        omega (arith, times-by_birth r (filter p (in_use arena.heap)), filter_there p r (in_use arena.heap) passed (live_in_use arena.heap r has)))
       where
         not_below : (n : ℕ) → nat_lt 0 n ≡ false → n ≡ 0
         not_below n e = let le = ltb-false 0 n e in omega arith
@@ -135,11 +135,11 @@ module _
         filter-append p (zeroed_at (epoch - 2) bags.oldest ++ zeroed_at (epoch - 1) bags.middle) (zeroed_at epoch bags.present)
         ∙ ap (λ l. l ++ filter p (zeroed_at epoch bags.present)) (filter-append p (zeroed_at (epoch - 2) bags.oldest) (zeroed_at (epoch - 1) bags.middle))
         ∙ ap (λ l. l ++ filter p (zeroed_at (epoch - 1) bags.middle) ++ filter p (zeroed_at epoch bags.present))
-        (bag_stays arena.heap arena.outside (epoch - 2) bags.oldest small (members_live bags.oldest (in_oldest arena bags lists)) ∙ ap (zeroed_at (epoch - 2)) (sym sifted.oldest))
+        (bag_stays arena.heap arena.outside (epoch - 2) bags.oldest (members_live bags.oldest (in_oldest arena bags lists)) ∙ ap (zeroed_at (epoch - 2)) (sym sifted.oldest))
         ∙ ap (λ l. zeroed_at (epoch - 2) now.oldest ++ l ++ filter p (zeroed_at epoch bags.present))
-        (bag_stays arena.heap arena.outside (epoch - 1) bags.middle small (members_live bags.middle (in_middle arena bags lists)) ∙ ap (zeroed_at (epoch - 1)) (sym sifted.middle))
+        (bag_stays arena.heap arena.outside (epoch - 1) bags.middle (members_live bags.middle (in_middle arena bags lists)) ∙ ap (zeroed_at (epoch - 1)) (sym sifted.middle))
         ∙ ap (λ l. zeroed_at (epoch - 2) now.oldest ++ zeroed_at (epoch - 1) now.middle ++ l)
-        (bag_stays arena.heap arena.outside epoch bags.present small (members_live bags.present (in_present arena bags lists)) ∙ ap (zeroed_at epoch) (sym sifted.present))
+        (bag_stays arena.heap arena.outside epoch bags.present (members_live bags.present (in_present arena bags lists)) ∙ ap (zeroed_at epoch) (sym sifted.present))
 
     -- limbo is the definition's
     pub settled : (epoch : ℕ) → limbo_of epoch (record { oldest = now.oldest; middle = now.middle; present = now.present ++ sorted; size = now.size }) ≡ limbo_after arena.heap arena.outside
@@ -224,7 +224,7 @@ module _
     no_more = omega (arith, ap length all_now, length_filter (λ r. is_zero arena.heap arena.outside r) (all_of bags))
 
 -- where nothing is noted, all is settled
-module _ (arena : Contents) (bags : Bags) (lists : Lists arena bags) (none : arena.noted ≡ []) (small : length arena.heap.slots ≤ most_slots) (epoch : ℕ) where
+module _ (arena : Contents) (bags : Bags) (lists : Lists arena bags) (none : arena.noted ≡ []) (epoch : ℕ) where
   nothing_new : IsSifted arena bags bags []
   nothing_new = sifting_ended arena bags lists bags [] (subst (λ ns. Sifting arena bags ns bags []) none (sifting_begun arena bags lists))
 
@@ -234,7 +234,7 @@ module _ (arena : Contents) (bags : Bags) (lists : Lists arena bags) (none : are
   pub settled_already : limbo_of epoch bags ≡ limbo_after arena.heap arena.outside epoch (limbo_of epoch bags)
   settled_already =
       ap (λ rs. zeroed_at (epoch - 2) bags.oldest ++ zeroed_at (epoch - 1) bags.middle ++ zeroed_at epoch rs) (sym (append-nil bags.present))
-      ∙ settled arena bags bags [] [] lists nothing_new (IsPermutation-refl []) rises small epoch
+      ∙ settled arena bags bags [] [] lists nothing_new (IsPermutation-refl []) rises epoch
 
   pub stays_already : length (staying arena.heap arena.outside (limbo_of epoch bags)) ≡ length (all_of bags)
-  stays_already = (length_settled arena bags bags [] [] lists nothing_new (IsPermutation-refl []) rises small epoch).0
+  stays_already = (length_settled arena bags bags [] [] lists nothing_new (IsPermutation-refl []) rises epoch).0

@@ -1,5 +1,5 @@
 -- What stays in limbo, by the bags.
-use Rattle.std.proofs.Common.{◌≡◌, ℕ, ◌-◌, ◌≤◌, ◌==◌, ◌&&◌, ◌||◌, nat_lt, Bool, true, false, cond, List, [], ◌∷◌, ◌++◌, length, filter, All, refl, sym, ap, ◌∙◌, arith}
+use Rattle.std.proofs.Common.{◌≡◌, ℕ, ◌-◌, ◌==◌, ◌&&◌, ◌||◌, nat_lt, Bool, true, false, cond, List, [], ◌∷◌, ◌++◌, length, filter, All, refl, sym, ap, ◌∙◌, arith}
 use Rattle.std.specs.List.{list_any}
 use Rattle.std.proofs.lemmas.Bool.{lt-ltb}
 use Rattle.std.proofs.lemmas.List.{length-append, length-map}
@@ -15,7 +15,6 @@ use Rattle.epochs.specs.Limbo.{is_zero, is_in, is_in_use}
 use Rattle.epochs.specs.Rings.{Bags, all_of}
 use Rattle.epochs.specs.Memories.{limbo_of, zeroed_at}
 use Rattle.epochs.proofs.InUse.{live_in_use}
-use Rattle.slot_arena.specs.Refs.{most_slots}
 
 -- ---- tests on lists
 
@@ -59,12 +58,12 @@ stay_step heap outside epoch r rs b used e rest =
     by_test true = ap (λ l. (record { at = r; epoch = epoch }) ∷ l) rest
     by_test false = rest
 
-pub bag_stays : (heap : Heap) (outside : List Ref) (epoch : ℕ) (rs : List Ref) → length heap.slots ≤ most_slots → All (IsLive heap) rs →
+pub bag_stays : (heap : Heap) (outside : List Ref) (epoch : ℕ) (rs : List Ref) → All (IsLive heap) rs →
     filter (λ z. is_in_use heap z.at && is_zero heap outside z.at) (zeroed_at epoch rs) ≡ zeroed_at epoch (filter (λ q. is_zero heap outside q) rs)
-bag_stays heap outside epoch [] small all = refl
-bag_stays heap outside epoch (r ∷ rs) small all =
-    stay_step heap outside epoch r rs (is_zero heap outside r) (any_times r (in_use heap) ∙ lt-ltb 0 (times r (in_use heap)) (live_in_use heap r small (All-head (IsLive heap) r rs all))) refl
-    (bag_stays heap outside epoch rs small (All-tail (IsLive heap) r rs all))
+bag_stays heap outside epoch [] all = refl
+bag_stays heap outside epoch (r ∷ rs) all =
+    stay_step heap outside epoch r rs (is_zero heap outside r) (any_times r (in_use heap) ∙ lt-ltb 0 (times r (in_use heap)) (live_in_use heap r (All-head (IsLive heap) r rs all))) refl
+    (bag_stays heap outside epoch rs (All-tail (IsLive heap) r rs all))
 
 -- ---- lengths
 

@@ -1,5 +1,5 @@
 -- What limbo after a step doesn't depend on, and what isn't freed.
-use Rattle.std.specs.Prelude.{◌≡◌, ℕ, ◌+◌, ◌<◌, ◌≤◌, ◌⊎◌, List, ◌∷◌, length, take, drop, All, Some, None, slice_index_or}
+use Rattle.std.specs.Prelude.{◌≡◌, ℕ, ◌+◌, ◌<◌, ◌≤◌, ◌⊎◌, List, ◌∷◌, take, drop, All, Some, None, slice_index_or}
 use Rattle.slot_arena.specs.declared.refs.Ref.{Ref}
 use Rattle.slot_arena.specs.Heaps.{Heap, freed}
 use Rattle.slot_arena.specs.Times.{times}
@@ -9,7 +9,6 @@ use Rattle.epochs.specs.declared.limbo.Swept.{Swept}
 use Rattle.epochs.specs.Limbo.{limbo_after}
 use Rattle.epochs.specs.Sweeping.{swept_once, IsOlder}
 use Rattle.epochs.specs.Memories.{Memory, reclaimer_of, freed_by}
-use Rattle.slot_arena.specs.Refs.{most_slots}
 
 -- the two lists have each reference equally often
 abbrev pub AreAlike : List Ref → List Ref → Type 0
@@ -18,7 +17,7 @@ AreAlike rs qs = (r : Ref) → times r rs ≡ times r qs
 -- once its slot was freed, it doesn't matter whether an entry of limbo still stands there
 abbrev pub FreedLeaves : Type 0
 FreedLeaves =
-    (heap : Heap) (outside : List Ref) (epoch : ℕ) (entry : Zeroed) (limbo : List Zeroed) → length heap.slots ≤ most_slots →
+    (heap : Heap) (outside : List Ref) (epoch : ℕ) (entry : Zeroed) (limbo : List Zeroed) →
     limbo_after (freed heap entry.at) outside epoch (entry ∷ limbo) ≡ limbo_after (freed heap entry.at) outside epoch limbo
 
 -- of the references from outside only the counts matter

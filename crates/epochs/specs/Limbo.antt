@@ -14,7 +14,7 @@ is_zero heap outside r = count_of heap outside r == 0
 abbrev pub put_in : Ref → List Ref → List Ref
 put_in = put_by nat_lt
 
--- references by rising birth
+-- references by rising number: those that are words, by rising birth
 abbrev pub by_birth : List Ref → List Ref
 by_birth = sorted_by nat_lt
 

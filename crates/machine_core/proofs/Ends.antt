@@ -54,22 +54,22 @@ none_freed pins r = by (nat_le r.cursor (length pins))
     by false = refl
 
 -- whether what is freed left limbo at once, or at the end of the step, comes to the same
-left_by : (pins : List (Option ℕ)) (r : Reclaimer) (held : List Ref) (due : Option Ref) → length r.heap.slots ≤ most_slots → ripe r.epoch r.limbo ≡ due →
+left_by : (pins : List (Option ℕ)) (r : Reclaimer) (held : List Ref) (due : Option Ref) → ripe r.epoch r.limbo ≡ due →
     (let done = sweep_by pins r due in limbo_after done.1.heap held done.1.epoch (drop (freed_by done.0) r.limbo) ≡ limbo_after done.1.heap held done.1.epoch r.limbo)
-left_by pins r held None small e = ap (λ n. limbo_after (sweep_by pins r None).1.heap held (sweep_by pins r None).1.epoch (drop n r.limbo)) (none_freed pins r)
-left_by pins r held (Some at) small e =
+left_by pins r held None e = ap (λ n. limbo_after (sweep_by pins r None).1.heap held (sweep_by pins r None).1.epoch (drop n r.limbo)) (none_freed pins r)
+left_by pins r held (Some at) e =
     let (z, rest, is, there) = ripe_first r.epoch r.limbo at e in
     ap (λ l. limbo_after (freed r.heap at) held r.epoch (drop 1 l)) is
     ∙ ap (λ x. limbo_after (freed r.heap x) held r.epoch rest) there
-    ∙ sym (freed_leaves r.heap held r.epoch z rest small)
+    ∙ sym (freed_leaves r.heap held r.epoch z rest)
     ∙ ap (λ x. limbo_after (freed r.heap x) held r.epoch (z ∷ rest)) (sym there)
     ∙ ap (λ l. limbo_after (freed r.heap at) held r.epoch l) (sym is)
 
-pub left : (pins : List (Option ℕ)) (r : Reclaimer) (held : List Ref) (did : Swept) (after : Reclaimer) → length r.heap.slots ≤ most_slots → (did, after) ≡ swept_once pins r →
+pub left : (pins : List (Option ℕ)) (r : Reclaimer) (held : List Ref) (did : Swept) (after : Reclaimer) → (did, after) ≡ swept_once pins r →
     limbo_after after.heap held after.epoch (drop (freed_by did) r.limbo) ≡ limbo_after after.heap held after.epoch r.limbo
-left pins r held did after small e =
+left pins r held did after e =
     subst (λ (done : Swept × Reclaimer). limbo_after done.1.heap held done.1.epoch (drop (freed_by done.0) r.limbo) ≡ limbo_after done.1.heap held done.1.epoch r.limbo)
-    (sym e) (left_by pins r held (ripe r.epoch r.limbo) small refl)
+    (sym e) (left_by pins r held (ripe r.epoch r.limbo) refl)
 
 -- what the heap's step of the sweep and its settling come to
 pub record SweptTo (state : State) (before middle after : Memory) (did : Swept) : Type 0 where
@@ -91,16 +91,16 @@ swept_state : (state : State) (before middle after : Memory) (did : Swept) → S
 swept_state state before middle after did to = rw (to.heap, to.epoch, to.cursor) refl
 
 -- is the definition's step
-pub sweeps : (state : State) (before middle after : Memory) (did : Swept) → is_spent state ≡ false → length state.heap.slots ≤ most_slots →
+pub sweeps : (state : State) (before middle after : Memory) (did : Swept) → is_spent state ≡ false →
     IsTied before state.roots state.actors → SweptTo state before middle after did → next state step.Sweep ≡ Ok (outcome.Swept did, stepped state after)
-sweeps state before middle after did unspent small tied to =
+sweeps state before middle after did unspent tied to =
     let r : Reclaimer = reclaimer_of state in
     let left_with : Reclaimer = record { heap = middle.heap; limbo = before.limbo; epoch = middle.epoch; cursor = middle.cursor } in
     let done : (did, left_with) ≡ swept_once (map pin_of state.actors) r = to.swept ∙ ap (λ ps. swept_once ps r) tied.pins in
     let held : after.limbo ≡ limbo_after middle.heap (outside state) middle.epoch state.limbo =
     to.settled ∙ ap (λ rs. limbo_after middle.heap rs middle.epoch middle.limbo) to.outside
     ∙ ap (λ l. limbo_after middle.heap before.outside middle.epoch l) (to.left ∙ ap (drop (freed_by did)) to.same)
-    ∙ left (map pin_of state.actors) r before.outside did left_with small done
+    ∙ left (map pin_of state.actors) r before.outside did left_with done
     ∙ counts_alone middle.heap before.outside (outside state) middle.epoch state.limbo (alike before state tied) in
     sweep_answer state unspent ∙ ap (λ d. settled_after state (swept_with state d)) (sym done)
     ∙ ap (λ l. Ok (outcome.Swept did, record state { heap = middle.heap; limbo = l; epoch = middle.epoch; cursor = middle.cursor; steps = state.steps + 1 })) (sym held)

@@ -92,18 +92,18 @@ one_freed (swept.Advanced epoch) = omega arith
 one_freed swept.Freed = omega arith
 
 -- a step of the sweep, whose freed slot leaves limbo before it is settled
-pub swept_little : (before middle after : Memory) (did : Swept) → length before.heap.slots ≤ most_slots →
+pub swept_little : (before middle after : Memory) (did : Swept) →
     (did, record { heap = middle.heap; limbo = before.limbo; epoch = middle.epoch; cursor = middle.cursor }) ≡ swept_once before.pins (reclaimer_of before) →
     middle.limbo ≡ drop (freed_by did) before.limbo → length middle.noted ≤ 33 → TakesUpTo 43 before.ticks middle.ticks →
     after.limbo ≡ limbo_after middle.heap middle.outside middle.epoch middle.limbo → middle.ticks ≤ after.ticks →
     after.ticks + 12 * length (staying middle.heap middle.outside middle.limbo)
     ≤ middle.ticks + 3 * length middle.noted + 12 * length middle.limbo + 12 * length (newly_zero middle.heap middle.outside middle.limbo) →
     WorksUpTo ticks_of_a_sweep before.ticks before.limbo after.ticks after.limbo
-swept_little before middle after did small done left_out few ticks settled rises takes =
+swept_little before middle after did done left_out few ticks settled rises takes =
     let shorter : after.limbo ≡ limbo_after middle.heap middle.outside middle.epoch (drop (freed_by did) before.limbo) =
     settled ∙ ap (limbo_after middle.heap middle.outside middle.epoch) left_out in
     let whole : after.limbo ≡ limbo_after middle.heap middle.outside middle.epoch before.limbo =
-    shorter ∙ left before.pins (reclaimer_of before) middle.outside did (record { heap = middle.heap; limbo = before.limbo; epoch = middle.epoch; cursor = middle.cursor }) small done in
+    shorter ∙ left before.pins (reclaimer_of before) middle.outside did (record { heap = middle.heap; limbo = before.limbo; epoch = middle.epoch; cursor = middle.cursor }) done in
     let paid = sweeping_pays middle.heap middle.outside middle.epoch before.limbo after.limbo middle.ticks after.ticks (length middle.noted) (freed_by did) (one_freed did) shorter whole
     (subst
     (λ (l : List Zeroed). after.ticks + 12 * length (staying middle.heap middle.outside l)

@@ -1,19 +1,19 @@
 -- Which references name a slot in use, and that those in limbo do.
-use Rattle.std.proofs.Common.{◌≡◌, ℕ, zero, suc, ◌+◌, ◌<◌, ◌≤◌, ◌==◌, ◌&&◌, true, false, cond, nat_lt, not, is_some, List, [], ◌∷◌, length, map, get_or, All, Option}
+use Rattle.std.proofs.Common.{◌≡◌, ℕ, zero, suc, ◌+◌, ◌==◌, ◌&&◌, true, false, cond, nat_lt, not, is_some, List, [], ◌∷◌, length, map, get_or, All, Option}
 use Rattle.std.proofs.Common.{Some, None, refl, ap, ◌∙◌, subst, inl, inr, eqb-true, arith}
 use Rattle.std.specs.List.{list_any}
 use Rattle.std.proofs.Math.ListN.{get_or-map}
 use Rattle.std.proofs.lemmas.Bool.{or_cases, and_parts, false≢true}
 use Rattle.std.proofs.lemmas.List.Elements.{All-nil, All-cons, All-head, All-tail, All-weaker, All-append, All-map, All-filter, filter_passes}
 use Rattle.std.proofs.lemmas.List.Sums.{sum_by-cons}
-use Rattle.machine_model.specs.Beneath.slot_arena.specs.Refs.{ref_to, slot_of, most_slots}
+use Rattle.machine_model.specs.Beneath.slot_arena.specs.Refs.{ref_to, slot_of}
 use Rattle.machine_model.specs.Beneath.slot_arena.specs.declared.refs.Ref.{Ref}
 use Rattle.machine_model.specs.Beneath.slot_arena.specs.declared.nodes.Slot.{Slot}
 use Rattle.epochs.specs.declared.limbo.Zeroed.{Zeroed}
 use Rattle.machine_model.specs.Beneath.slot_arena.specs.Heaps.{Heap, named_from, in_use}
+use Rattle.machine_model.specs.Beneath.slot_arena.proofs.Live.{slot_of_ref}
 use Rattle.machine_model.specs.Beneath.ctrie_base.proofs.Sorting.{sorted_all}
 use Rattle.epochs.specs.Limbo.{is_zero, is_in, newly_zero, is_in_use, limbo_after}
-use Rattle.machine_model.proofs.Found.{found_within}
 use Rattle.machine_model.proofs.Rest.{used}
 
 -- the reference names a slot of the list in use, where the first of them has the number n
@@ -56,14 +56,11 @@ of_found P r (q ∷ qs) all found = elim (or_cases (q == r) (list_any (λ x. x =
   | inr later ↦ of_found P r qs (All-tail P q qs all) later
 ]
 
--- a reference names the slot that it was made of
-same_slot : (birth k n : ℕ) → k < n → n ≤ most_slots → slot_of (ref_to birth (0 + k)) ≡ k
-same_slot birth k n h size = omega arith
-
 -- the flag of its slot is set
-pub flag_of_used : (heap : Heap) (r : Ref) → length heap.slots ≤ most_slots → InUse heap r → get_or (map is_some heap.slots) (slot_of r) false ≡ true
-flag_of_used heap r size (k, slot, at_k, is) =
-    let its = ap (λ q. slot_of q) is ∙ same_slot slot.birth k (length heap.slots) (found_within heap.slots k slot at_k) size in
+pub flag_of_used : (heap : Heap) (r : Ref) → InUse heap r → get_or (map is_some heap.slots) (slot_of r) false ≡ true
+flag_of_used heap r (k, slot, at_k, is) =
+    let same : 0 + k ≡ k = omega arith in
+    let its = ap (λ q. slot_of q) is ∙ slot_of_ref slot.birth (0 + k) ∙ same in
     ap (λ i. get_or (map is_some heap.slots) i false) its ∙ get_or-map is_some heap.slots k None ∙ ap is_some at_k
 
 -- ---- limbo

@@ -1,11 +1,11 @@
 -- The slots in use and the free ones are all slots, after every run.
-use Rattle.std.proofs.Common.{◌≡◌, ℕ, zero, suc, ◌+◌, ◌≤◌, Bool, true, false, cond, nat_le, is_some, List, [], ◌∷◌, length, map, replicate, All, Option, Some, None}
+use Rattle.std.proofs.Common.{◌≡◌, ℕ, zero, suc, ◌+◌, Bool, true, false, cond, nat_le, is_some, List, [], ◌∷◌, length, map, replicate, All, Option, Some, None}
 use Rattle.std.proofs.Common.{option_map, refl, ap, ◌∙◌, subst, arith}
 use Rattle.std.proofs.Math.Seq.{map-set_same}
 use Rattle.std.proofs.lemmas.List.{map-set, length-set, length-map, length-replicate}
 use Rattle.std.proofs.lemmas.List.Elements.{All-nil, All-head}
 use Rattle.std.proofs.lemmas.Option.{none-some, same_Some}
-use Rattle.machine_model.specs.Beneath.slot_arena.specs.Refs.{slot_of, most_slots}
+use Rattle.machine_model.specs.Beneath.slot_arena.specs.Refs.{slot_of}
 use Rattle.machine_model.specs.Beneath.slot_arena.specs.declared.refs.Ref.{Ref}
 use Rattle.machine_model.specs.Beneath.slot_arena.specs.declared.nodes.Node.{Node}
 use Rattle.machine_model.specs.Beneath.slot_arena.specs.declared.nodes.Prev.{Prev}
@@ -73,24 +73,24 @@ unfolding taken
 taken_kept slots heap node h = take_from_kept slots heap node heap.free refl h
 
 -- freeing a slot in use
-freed_kept : (slots : ℕ) (heap : Heap) (r : Ref) → slots ≤ most_slots → InUse heap r → AddsUp slots heap → AddsUp slots (freed heap r)
+freed_kept : (slots : ℕ) (heap : Heap) (r : Ref) → InUse heap r → AddsUp slots heap → AddsUp slots (freed heap r)
 unfolding freed
-freed_kept slots heap r small is_used h = record {
+freed_kept slots heap r is_used h = record {
   size = length-set heap.slots (slot_of r) _ ∙ h.size;
-  rest = rw (map-set is_some heap.slots (slot_of r) None) (free_one (flags heap) (slot_of r) heap.free (h.rest) (flag_of_used heap r (omega (arith, h.size)) is_used));
+  rest = rw (map-set is_some heap.slots (slot_of r) None) (free_one (flags heap) (slot_of r) heap.free (h.rest) (flag_of_used heap r is_used));
 }
 
 -- each effect of a step
-moves_kept : (slots : ℕ) (heap after : Heap) (due : Option Ref) → slots ≤ most_slots → ((r : Ref) → due ≡ Some r → InUse heap r) → HeapMoves heap due after →
+moves_kept : (slots : ℕ) (heap after : Heap) (due : Option Ref) → ((r : Ref) → due ≡ Some r → InUse heap r) → HeapMoves heap due after →
     AddsUp slots heap → AddsUp slots after
-moves_kept slots heap after due small is_used Stays h = h
-moves_kept slots heap after due small is_used (Takes node) h = taken_kept slots heap node h
-moves_kept slots heap after due small is_used (Publishes indirection replaced fresh e) h =
+moves_kept slots heap after due is_used Stays h = h
+moves_kept slots heap after due is_used (Takes node) h = taken_kept slots heap node h
+moves_kept slots heap after due is_used (Publishes indirection replaced fresh e) h =
     with_prev_kept slots _ fresh _ (with_main_kept slots heap indirection fresh h)
-moves_kept slots heap after due small is_used (Restores indirection main previous e) h = with_main_kept slots heap indirection previous h
-moves_kept slots heap after due small is_used (Commit indirection main previous told e) h = with_prev_kept slots heap main _ h
-moves_kept slots heap after due small is_used (Fail indirection main previous told e) h = with_prev_kept slots heap main _ h
-moves_kept slots heap after due small is_used (Frees r e) h = freed_kept slots heap r small (is_used r e) h
+moves_kept slots heap after due is_used (Restores indirection main previous e) h = with_main_kept slots heap indirection previous h
+moves_kept slots heap after due is_used (Commit indirection main previous told e) h = with_prev_kept slots heap main _ h
+moves_kept slots heap after due is_used (Fail indirection main previous told e) h = with_prev_kept slots heap main _ h
+moves_kept slots heap after due is_used (Frees r e) h = freed_kept slots heap r (is_used r e) h
 
 -- ---- runs
 
@@ -118,9 +118,9 @@ settled_limbo state s o after (Sweeps spent) = limbo_in_use _ _ _ _
 settled_limbo state s o after (GivesUp d is a) = limbo_in_use _ _ _ _
 
 -- each step keeps that
-pub sound_after : (slots : ℕ) → slots ≤ most_slots → (state : State) (s : Step) → IsSound slots state → (o : Outcome) (after : State) → Moves state s o after → IsSound slots after
-sound_after slots small state s h o after m = record {
-  heap = moves_kept slots state.heap after.heap (ripe state.epoch state.limbo) small (ripe_in_use (InUse state.heap) state.epoch state.limbo (h.limbo))
+pub sound_after : (slots : ℕ) (state : State) (s : Step) → IsSound slots state → (o : Outcome) (after : State) → Moves state s o after → IsSound slots after
+sound_after slots state s h o after m = record {
+  heap = moves_kept slots state.heap after.heap (ripe state.epoch state.limbo) (ripe_in_use (InUse state.heap) state.epoch state.limbo (h.limbo))
       (heap_moves state s o after m) (h.heap);
   limbo = settled_limbo state s o after m;
 }
@@ -148,7 +148,7 @@ sound_at_first limits = record {
 -- after every run
 pub sound_along : (limits : Bounds) → AreBounds limits → (steps : List Step) → IsSound limits.slots (run limits steps)
 sound_along limits ok =
-    along limits (IsSound limits.slots) (sound_at_first limits) (λ steps s o after m h. sound_after limits.slots (omega (arith, ok.1)) (run limits steps) s h o after m)
+    along limits (IsSound limits.slots) (sound_at_first limits) (λ steps s o after m h. sound_after limits.slots (run limits steps) s h o after m)
 
 -- then the slots in use and the free ones are all slots
 pub add_up : (slots : ℕ) (heap : Heap) → AddsUp slots heap → length (in_use heap) + length heap.free ≡ slots

@@ -27,7 +27,6 @@ use Rattle.machine_model.specs.Operations.{first_line, action_of, kind_of}
 use Rattle.machine_model.specs.GivingUp.{given_up, gave_up}
 use Rattle.machine_model.specs.Acting.{gone, ended}
 use Rattle.machine_model.specs.Counting.{settled}
-use Rattle.machine_model.specs.Beneath.slot_arena.specs.Refs.{most_slots}
 
 -- what a step gives: its outcome and the state after it, or a refusal
 abbrev pub Answer : Type 0
@@ -285,6 +284,6 @@ taken_steps limits steps = taken_from (first_state limits) steps
 abbrev pub longest_life : ℕ
 longest_life = 2 ^ 45 - 2 ^ 21
 
--- the bounds are in range
+-- the bounds are in range: of slots and of steps there may be any number
 abbrev pub AreBounds : Bounds → Type 0
-AreBounds limits = (2 ≤ limits.slots) × (limits.slots ≤ most_slots) × (1 ≤ limits.actors) × (limits.actors ≤ 64)
+AreBounds limits = (2 ≤ limits.slots) × (1 ≤ limits.actors) × (limits.actors ≤ 64)

@@ -4,6 +4,7 @@ use Rattle.std.proofs.Common.{cond, sym, ap, subst, ◌∙◌}
 use Rattle.std.proofs.lemmas.List.Elements.{All-push}
 use Rattle.proof_alone.specs.Vocabulary.{Bounds, Outcome, Step, FitsKey, KeysFit, AreBounds, longest_life, is_taken_step, next, run, state_after, first_record, noted, record_of, State, first_state}
 use Rattle.proof_alone.specs.Vocabulary.{told_in}
+use Rattle.proof_alone.specs.Beneath.slot_arena.specs.Refs.{most_slots}
 use Rattle.proof_alone.specs.Beneath.machine_model.proofs.Along.{limits_along, run_push}
 use Rattle.proof_alone.specs.Beneath.machine_model.proofs.Recorded.{record_push}
 use Rattle.proof_straight.specs.Resting.{IsOfRun}
@@ -13,11 +14,13 @@ pub by_run : (P : State → Type 0) → ((limits : Bounds) (steps : List Step) �
 by_run P each state h = subst P (sym h.is) (each state.limits h.steps h.limits h.keys)
 
 -- a run leads to the state behind it
-pub of_run : (limits : Bounds) (steps : List Step) → AreBounds limits → limits.steps ≤ longest_life → KeysFit steps → IsOfRun (run limits steps)
-of_run limits steps ok life fit = record {
+pub of_run : (limits : Bounds) (steps : List Step) → AreBounds limits → limits.slots ≤ most_slots → limits.steps ≤ longest_life → KeysFit steps →
+    IsOfRun (run limits steps)
+of_run limits steps ok few life fit = record {
   steps = steps;
   is = ap (λ l. run l steps) (sym (limits_along limits steps));
   limits = subst AreBounds (sym (limits_along limits steps)) ok;
+  few = subst (λ (l : Bounds). l.slots ≤ most_slots) (sym (limits_along limits steps)) few;
   life = subst (λ (l : Bounds). l.steps ≤ longest_life) (sym (limits_along limits steps)) life;
   keys = fit;
 }
@@ -39,4 +42,5 @@ LeadsBehind state = (s : Step) (o : Outcome) (after : State) → FitsKey s → n
 pub of_run_behind : (state : State) → IsOfRun state → LeadsBehind state
 of_run_behind state h =
     subst LeadsBehind (sym h.is)
-    (λ s o after fits e. subst IsOfRun (stepped state.limits h.steps s o after e) (of_run state.limits (h.steps ++ s ∷ []) h.limits h.life (All-push FitsKey h.steps s h.keys fits)))
+    (λ s o after fits e. subst IsOfRun (stepped state.limits h.steps s o after e)
+    (of_run state.limits (h.steps ++ s ∷ []) h.limits h.few h.life (All-push FitsKey h.steps s h.keys fits)))

@@ -2,9 +2,9 @@
 use Rattle.std.proofs.Common.{◌≡◌, ℕ, ◌+◌, ◌*◌, ◌≤◌, false, length, List, [], ◌∷◌, ◌++◌, Option, Some, None, Ok, refl, sym, ap, ◌∙◌, subst, arith, leb-false, map}
 use Rattle.proof_core.specs.Vocabulary.{Call, Ref, Node, Action, Operation, Bounds, Outcome, Step, handle_of, Heap, empty_branch, with_main, with_prev, taken, take_from, freed, ref_to, Indirection}
 use Rattle.proof_core.specs.Vocabulary.{State, empty_heap, first_state, action_of, Prev, Reclaimer, ripe, sweep_by, acted, new_root_taken, attempt_after, operation_after, next, next_state}
-use Rattle.proof_core.specs.Vocabulary.{state_after, is_spent, begin_denial, go_denial, with_begin, pin_of, reclaimer_of, run}
-use Rattle.proof_core.specs.Vocabulary.{run_from, AreBounds, longest_life, Begins, Ends, Sweeps, Moves, begun_operation}
-use Rattle.proof_core.specs.Vocabulary.{FitsKey, GivesUp}
+use Rattle.proof_core.specs.Vocabulary.{state_after, is_spent, begin_denial, go_denial, with_begin, pin_of, reclaimer_of, run, run_from, AreBounds, longest_life, most_slots, Begins, Ends}
+use Rattle.proof_core.specs.Vocabulary.{Sweeps, Moves, begun_operation}
+use Rattle.proof_core.specs.Vocabulary.{FitsKey}
 use Rattle.proof_core.specs.Beneath.machine_model.specs.declared.actions.Action.TheVariants as act
 use Rattle.proof_core.specs.Beneath.machine_model.specs.declared.steps.Step.TheVariants as step
 use Rattle.std.proofs.lemmas.List.FromFn.{length-range_with_len}
@@ -233,12 +233,12 @@ grows_along : (limits : Bounds) (steps : List Step) → Grows limits (run limits
 grows_along limits = along limits (Grows limits) (grows_at_first limits) (λ steps s o after m h. grows_after limits (run limits steps) s o after m h)
 
 -- after each run the numbers are bounded
-bounded_along : (limits : Bounds) → AreBounds limits → limits.steps ≤ longest_life → (steps : List Step) → IsBounded (run limits steps)
-bounded_along limits ok life steps =
+bounded_along : (limits : Bounds) → AreBounds limits → limits.slots ≤ most_slots → limits.steps ≤ longest_life → (steps : List Step) → IsBounded (run limits steps)
+bounded_along limits ok few life steps =
     let h = grows_along limits steps in
     let sound = sound_along limits ok steps in
     record {
-      slots = omega (arith, sound.heap.size, ok.1);
+      slots = omega (arith, sound.heap.size, few);
       steps = omega (arith, h.steps, life);
       births = omega (arith, h.births, sound.heap.size);
       generations = h.generations;
@@ -249,7 +249,7 @@ bounded_along limits ok life steps =
 
 -- the state of a run is bounded
 pub bounded : (state : State) → IsOfRun state → IsBounded state
-bounded state h = subst IsBounded (sym h.is) (bounded_along state.limits h.limits h.life h.steps)
+bounded state h = subst IsBounded (sym h.is) (bounded_along state.limits h.limits h.few h.life h.steps)
 
 -- ---- a step from a state of a run
 
@@ -265,6 +265,7 @@ run_on state s fits h =
       steps = h.steps ++ s ∷ [];
       is = ap (λ x. next_state x s) h.is ∙ sym (run_push (first_state state.limits) h.steps s) ∙ ap (λ l. run l (h.steps ++ s ∷ [])) (sym same);
       limits = subst (λ l. AreBounds l) (sym same) h.limits;
+      few = subst (λ (l : Bounds). l.slots ≤ most_slots) (sym same) h.few;
       life = subst (λ (l : Bounds). l.steps ≤ longest_life) (sym same) h.life;
       keys = All-push FitsKey h.steps s h.keys fits;
     }
@@ -280,6 +281,7 @@ first_run limits state ok e = record {
   steps = [];
   is = e ∙ ap first_state (sym (ap (λ x. x.limits) e));
   limits = subst (λ l. AreBounds l) (sym (ap (λ x. x.limits) e)) ok.0;
+  few = subst (λ (l : Bounds). l.slots ≤ most_slots) (sym (ap (λ x. x.limits) e)) ok.2;
   life = subst (λ (l : Bounds). l.steps ≤ longest_life) (sym (ap (λ x. x.limits) e)) ok.1;
   keys = All-nil FitsKey;
 }

@@ -1,7 +1,8 @@
 -- Levels: each indirection and each main node has one for life, whatever step is taken; a single's is 0, and a root's is 1. Here: what that says of words, nodes and
 -- lines, where lv is the level of each reference.
 use Rattle.std.specs.Prelude.{◌≡◌, ℕ, ◌+◌, ◌<◌, ◌≤◌, List, All, length, get_or, Option, Some, None, ◌⊎◌}
-use Rattle.proof_memory.specs.Vocabulary.{Ref, Node, Indirection, Branch, Single, Prev, refs_of_option, Action, ReadLine, SwapLine, CompleteLine, Descriptor, RootLine, RootWord, Plain, Offer}
+use Rattle.proof_memory.specs.Vocabulary.{birth_of, Ref, Node, Indirection, Branch, Single, Prev, refs_of_option, Action, ReadLine, SwapLine, CompleteLine, Descriptor, RootLine, RootWord, Plain}
+use Rattle.proof_memory.specs.Vocabulary.{Offer}
 use Rattle.proof_memory.specs.Vocabulary.{KeyLine, BuildLine, Change, RenewLine, CleanLine, ClimbLine, CopyLine, WalkLine, Purpose, Line, above, depth_of}
 use Rattle.proof_memory.specs.Beneath.slot_arena.specs.declared.nodes.Prev.TheVariants as prev
 use Rattle.machine_model.specs.declared.actions.Action.TheVariants as act
@@ -44,8 +45,8 @@ module _ (lv : Ref → ℕ) where
   -- what a node stands over has its level, and is older
   abbrev pub PrevLevel : Ref → Prev → Type 0
   PrevLevel r prev.None = Unit {0}
-  PrevLevel r (prev.Pending p) = (lv p ≡ lv r) × (p < r)
-  PrevLevel r (prev.Failed p) = (lv p ≡ lv r) × (p < r)
+  PrevLevel r (prev.Pending p) = (lv p ≡ lv r) × (birth_of p < birth_of r)
+  PrevLevel r (prev.Failed p) = (lv p ≡ lv r) × (birth_of p < birth_of r)
 
   -- ---- words
 
@@ -60,7 +61,7 @@ module _ (lv : Ref → ℕ) where
 
   -- what READ found pending
   abbrev pub PairLevel : Ref → Ref → Ref → Type 0
-  PairLevel i main previous = (lv main ≡ lv i) × (lv previous ≡ lv i) × (previous < main)
+  PairLevel i main previous = (lv main ≡ lv i) × (lv previous ≡ lv i) × (birth_of previous < birth_of main)
 
   abbrev pub ReadLevel : Ref → ReadLine → Type 0
   ReadLevel i read.Main = Unit {0}
@@ -120,7 +121,7 @@ module _ (lv : Ref → ℕ) where
 
   -- the nodes of a SWAP
   abbrev pub SwapLevel : Ref → Ref → Ref → Type 0
-  SwapLevel i replaced fresh = (lv replaced ≡ lv i) × (lv fresh ≡ lv i) × (replaced < fresh)
+  SwapLevel i replaced fresh = (lv replaced ≡ lv i) × (lv fresh ≡ lv i) × (birth_of replaced < birth_of fresh)
 
   abbrev pub DoneLevel : List Ref → Ref → List Ref → Type 0
   DoneLevel path main done = PlaceLevel path main × All (EntryLevel (depth_of path + 1)) done

@@ -1,10 +1,15 @@
 -- The bounds of a machine that keeps its record are in range, where its limits are.
 use Rattle.std.proofs.Common.{◌≤◌, arith}
 use Rattle.proof_runs.specs.Vocabulary.{Limits, AreLimits, bounded, AreBounds, longest_life}
+use Rattle.proof_runs.specs.Beneath.slot_arena.specs.Refs.{most_slots}
 
 pub in_bounds : (limits : Limits) → AreLimits limits → AreBounds (bounded limits)
-in_bounds limits ok = (ok.0, omega arith, ok.2, ok.3)
+in_bounds limits ok = (ok.0, ok.2, ok.3)
 
 -- its life too
 pub in_life : (limits : Limits) → AreLimits limits → (bounded limits).steps ≤ longest_life
 in_life limits ok = omega arith
+
+-- and the number of its slots
+pub few_slots : (limits : Limits) → AreLimits limits → (bounded limits).slots ≤ most_slots
+few_slots limits ok = omega arith

@@ -1,7 +1,7 @@
 -- A call that runs alone, from its begin to its end, and when it can be done at once.
-use Rattle.std.specs.Prelude.{◌≡◌, ℕ, zero, suc, ◌<◌, ◌≤◌, false, List, [], ◌∷◌, length, replicate, slice_index_or, Option, None, Ok}
+use Rattle.std.specs.Prelude.{◌≡◌, ℕ, zero, suc, ◌<◌, false, List, [], ◌∷◌, length, replicate, slice_index_or, Option, None, Ok}
 use Rattle.proof_straight.specs.Vocabulary.{Kind, Call, Reply, Ref, Slot, Heap, times, limbo_after, Plain, Step, handle_of, State, word_at, outside, next, begin_denial, is_busy, run_from, Record}
-use Rattle.proof_straight.specs.Vocabulary.{is_placed, noted, record_from, told_in, most_slots}
+use Rattle.proof_straight.specs.Vocabulary.{is_placed, noted, record_from, told_in}
 use Rattle.proof_straight.specs.Beneath.history.specs.declared.calls.Call.TheVariants as call
 use Rattle.machine_model.specs.declared.steps.Outcome.TheVariants as outcome
 use Rattle.machine_model.specs.declared.steps.Step.TheVariants as step
@@ -40,7 +40,6 @@ AreEmpty slots (slot ∷ free) = (slot < length slots) × (slice_index_or slots 
 
 -- the free slots are empty ones
 pub record HasEmptySlots (heap : Heap) : Type 0 where
-  pub few : length heap.slots ≤ most_slots
   pub empty : AreEmpty heap.slots heap.free
 
 -- limbo is up to date

@@ -90,9 +90,7 @@ counts_small slots counts free used outside kept k = by_slot (get_or slots k Non
     by_slot None none = let zero_count = kept.unused k none in omega arith
     by_slot (Some slot) some =
         let within = used_within slots k (ap is_some some) in
-        let few = kept.few in
-        let small : k < most_slots = omega arith in
         let r : Ref = ref_to slot.birth k in
-        let is = exact_live slots counts outside kept.exact r (live_ref slots k slot some small) in
-        let at = ap (slice_index counts) (slot_of_ref slot.birth k small) in
+        let is = exact_live slots counts outside kept.exact r (live_ref slots k slot some) in
+        let at = ap (slice_index counts) (slot_of_ref slot.birth k) in
         omega (arith, sum_by-le (λ (o : Option Slot). times r (refs_of_slot o)) 33 slots (each r), kept.held r)

@@ -1,19 +1,18 @@
 -- Exact counts: what the change of one slot, and of what is held from outside, leaves of them.
-use Rattle.std.proofs.Common.{◌≡◌, ℕ, ◌<◌, ◌≤◌, true, false, cond, List, [], ◌∷◌, length, get_or, slice_index, All, Option, Some, None, is_some, refl, ap, ◌∙◌, inl, inr, arith}
+use Rattle.std.proofs.Common.{◌≡◌, ℕ, ◌<◌, ◌≤◌, true, false, cond, List, [], ◌∷◌, get_or, slice_index, All, Option, Some, None, refl, ap, ◌∙◌, inl, inr, arith}
 use Rattle.std.specs.List.{sum_by, flat_map}
 use Rattle.std.proofs.lemmas.Bool.{cases_Bool}
 use Rattle.std.proofs.lemmas.List.Elements.{All-nil, All-cons}
 use Rattle.std.proofs.lemmas.List.Sums.{sum_by-cons}
 use Rattle.slot_arena.specs.declared.refs.Ref.{Ref}
 use Rattle.slot_arena.specs.declared.nodes.Slot.{Slot}
-use Rattle.slot_arena.specs.Refs.{ref_to, slot_of, most_slots}
+use Rattle.slot_arena.specs.Refs.{ref_to, slot_of}
 use Rattle.slot_arena.specs.Heaps.{Heap, refs_of_slot}
 use Rattle.slot_arena.specs.Counts.{count_of}
 use Rattle.slot_arena.specs.Times.{times}
 use Rattle.slot_arena.specs.Tallies.{naming}
 use Rattle.slot_arena.specs.Kept.{live, found, counted}
 use Rattle.slot_arena.proofs.Times.{once_same, times-cons, times-append}
-use Rattle.slot_arena.proofs.Parts.{used_within}
 use Rattle.slot_arena.proofs.Live.{live_times, live_ref, unnamed, slot_of_ref}
 
 -- how often a reference stands in what a slot holds
@@ -52,8 +51,8 @@ module _ (slots : List (Option Slot)) (counts : List ℕ) (outside : List Ref) (
       (part_live rs (λ q. omega (arith, part q, times-cons q r rs)))
 
   -- and its slot is counted often enough
-  pub part_counted : (few : length slots ≤ most_slots) (rs : List Ref) → ((q : Ref) → times q rs ≤ found slots outside q) → (k : ℕ) → naming k rs ≤ slice_index counts k
-  part_counted few rs part k = by_slot (get_or slots k None) refl
+  pub part_counted : (rs : List Ref) → ((q : Ref) → times q rs ≤ found slots outside q) → (k : ℕ) → naming k rs ≤ slice_index counts k
+  part_counted rs part k = by_slot (get_or slots k None) refl
     where
       all : All (λ q. live slots q ≡ true) rs
       all = part_live rs part
@@ -61,10 +60,8 @@ module _ (slots : List (Option Slot)) (counts : List ℕ) (outside : List Ref) (
       by_slot : (o : Option Slot) → get_or slots k None ≡ o → naming k rs ≤ slice_index counts k
       by_slot None none = omega (arith, unnamed slots k rs none all)
       by_slot (Some slot) some =
-          let within = used_within slots k (ap is_some some) in
-          let small : k < most_slots = omega arith in
-          let at = live_ref slots k slot some small in
-          let same = slot_of_ref slot.birth k small in
+          let at = live_ref slots k slot some in
+          let same = slot_of_ref slot.birth k in
           omega (
             arith,
             live_times slots (ref_to slot.birth k) rs at all,

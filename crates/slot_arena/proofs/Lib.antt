@@ -7,7 +7,9 @@ pub mod Staying
 pub mod Chains
 pub mod Parts
 pub mod Pools
+mod Pairing
 pub mod Live
+pub mod Births
 pub mod Exact
 pub mod Changed
 pub mod Waiting

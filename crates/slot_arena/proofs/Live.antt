@@ -1,30 +1,53 @@
 -- References that name slots in use.
-use Rattle.std.proofs.Common.{◌≡◌, ℕ, ◌<◌, ◌==◌, true, false, List, [], ◌∷◌, length, get_or, All, Option, Some, None, refl, sym, ap, ◌∙◌, subst, inl, inr, arith, eq-eqb, eqb-true}
+use Rattle.std.proofs.Common.{◌≡◌, ℕ, ◌/◌, ◌%◌, ◌<◌, ◌==◌, true, false, List, [], ◌∷◌, length, get_or, All, Option, Some, None, refl, sym, ap, ◌∙◌, subst, inl, inr, arith, eq-eqb, eqb-true}
 use Rattle.std.proofs.lemmas.Bool.{cases_eq, cases_lt, false≢true}
 use Rattle.std.proofs.lemmas.List.{get_or_past}
 use Rattle.std.proofs.lemmas.List.Elements.{All-nil, All-cons, All-head, All-tail}
 use Rattle.slot_arena.specs.declared.refs.Ref.{Ref}
 use Rattle.slot_arena.specs.declared.nodes.Slot.{Slot}
-use Rattle.slot_arena.specs.Refs.{ref_to, slot_of, birth_of, most_slots}
+use Rattle.slot_arena.specs.Pairing.{pair_number, pair_of}
+use Rattle.slot_arena.specs.Refs.{ref_to, slot_of, birth_of, most_slots, birth_limit, word_limit}
 use Rattle.slot_arena.specs.Times.{times}
 use Rattle.slot_arena.specs.Tallies.{naming}
 use Rattle.slot_arena.specs.Arenas.{has_birth}
 use Rattle.slot_arena.specs.Kept.{live}
 use Rattle.slot_arena.specs.Cells.{birth_of_slot}
+use Rattle.slot_arena.proofs.Pairing.{pair_again, number_again}
 use Rattle.slot_arena.proofs.Times.{once, once_same, once_other, times-cons}
 use Rattle.slot_arena.proofs.Namings.{naming-cons}
 
-pub slot_of_ref : (birth slot : ℕ) → slot < most_slots → slot_of (ref_to birth slot) ≡ slot
-slot_of_ref birth slot small = omega arith
+-- the pair of what lies above the word that the reference would be below the limits
+above : (birth slot : ℕ) → pair_of (ref_to birth slot / word_limit) ≡ (birth / birth_limit, slot / most_slots)
+above birth slot =
+    let n : ℕ = pair_number (birth / birth_limit) (slot / most_slots) in
+    let is : ref_to birth slot / word_limit ≡ n = omega arith in
+    ap pair_of is ∙ pair_again (birth / birth_limit) (slot / most_slots)
 
-pub birth_of_ref : (birth slot : ℕ) → slot < most_slots → birth_of (ref_to birth slot) ≡ birth
-birth_of_ref birth slot small = omega arith
+pub slot_of_ref : (birth slot : ℕ) → slot_of (ref_to birth slot) ≡ slot
+slot_of_ref birth slot =
+    let high : (pair_of (ref_to birth slot / word_limit)).1 ≡ slot / most_slots = ap (λ p. p.1) (above birth slot) in
+    let low : ref_to birth slot % most_slots ≡ slot % most_slots = omega arith in
+    omega arith
 
-pub same_ref : (q r : Ref) → slot_of q ≡ slot_of r → birth_of q ≡ birth_of r → q ≡ r
-same_ref q r slot birth = omega arith
+pub birth_of_ref : (birth slot : ℕ) → birth_of (ref_to birth slot) ≡ birth
+birth_of_ref birth slot =
+    let high : (pair_of (ref_to birth slot / word_limit)).0 ≡ birth / birth_limit = ap (λ p. p.0) (above birth slot) in
+    let low : ref_to birth slot % word_limit / most_slots ≡ birth % birth_limit = omega arith in
+    omega arith
 
 pub ref_again : (r : Ref) → ref_to (birth_of r) (slot_of r) ≡ r
-ref_again r = omega arith
+ref_again r =
+    let p : ℕ × ℕ = pair_of (r / word_limit) in
+    let birth : birth_of r / birth_limit ≡ p.0 = omega arith in
+    let slot : slot_of r / most_slots ≡ p.1 = omega arith in
+    let number : pair_number (birth_of r / birth_limit) (slot_of r / most_slots) ≡ r / word_limit =
+    ap (λ a. pair_number a (slot_of r / most_slots)) birth ∙ ap (λ b. pair_number p.0 b) slot ∙ number_again (r / word_limit) in
+    let low_birth : birth_of r % birth_limit ≡ r % word_limit / most_slots = omega arith in
+    let low_slot : slot_of r % most_slots ≡ r % most_slots = omega arith in
+    omega arith
+
+pub same_ref : (q r : Ref) → slot_of q ≡ slot_of r → birth_of q ≡ birth_of r → q ≡ r
+same_ref q r slot birth = sym (ref_again q) ∙ ap (λ b. ref_to b (slot_of q)) birth ∙ ap (λ s. ref_to (birth_of r) s) slot ∙ ref_again r
 
 pub birth_known : (birth : ℕ) (o : Option Slot) (slot : Slot) → o ≡ Some slot → has_birth birth o ≡ true → slot.birth ≡ birth
 birth_known birth o slot is has = let at : (slot.birth == birth) ≡ true = sym (ap (has_birth birth) is) ∙ has in eqb-true slot.birth birth at
@@ -53,18 +76,18 @@ all_within slots n (r ∷ rs) size all =
     All-cons (λ (q : Ref). slot_of q < n) r rs (omega arith) (all_within slots n rs size (All-tail (λ (q : Ref). live slots q ≡ true) r rs all))
 
 -- a slot in use is named by its reference
-pub live_ref : (slots : List (Option Slot)) (k : ℕ) (slot : Slot) → get_or slots k None ≡ Some slot → k < most_slots → live slots (ref_to slot.birth k) ≡ true
-live_ref slots k slot is small =
-    ap (λ i. has_birth (birth_of (ref_to slot.birth k)) (get_or slots i None)) (slot_of_ref slot.birth k small) ∙ ap (has_birth (birth_of (ref_to slot.birth k))) is
-    ∙ eq-eqb slot.birth (birth_of (ref_to slot.birth k)) (sym (birth_of_ref slot.birth k small))
+pub live_ref : (slots : List (Option Slot)) (k : ℕ) (slot : Slot) → get_or slots k None ≡ Some slot → live slots (ref_to slot.birth k) ≡ true
+live_ref slots k slot is =
+    ap (λ i. has_birth (birth_of (ref_to slot.birth k)) (get_or slots i None)) (slot_of_ref slot.birth k) ∙ ap (has_birth (birth_of (ref_to slot.birth k))) is
+    ∙ eq-eqb slot.birth (birth_of (ref_to slot.birth k)) (sym (birth_of_ref slot.birth k))
 
 -- the same by the birth that is read there
-pub live_read : (slots : List (Option Slot)) (k birth : ℕ) → birth ≡ birth_of_slot (get_or slots k None) → (birth ≡ 0 → ⊥) → k < most_slots → live slots (ref_to birth k) ≡ true
-live_read slots k birth is there small = by_slot (get_or slots k None) refl
+pub live_read : (slots : List (Option Slot)) (k birth : ℕ) → birth ≡ birth_of_slot (get_or slots k None) → (birth ≡ 0 → ⊥) → live slots (ref_to birth k) ≡ true
+live_read slots k birth is there = by_slot (get_or slots k None) refl
   where
     by_slot : (o : Option Slot) → get_or slots k None ≡ o → live slots (ref_to birth k) ≡ true
     by_slot None none = absurd (there (is ∙ ap birth_of_slot none))
-    by_slot (Some slot) some = ap (λ b. live slots (ref_to b k)) (is ∙ ap birth_of_slot some) ∙ live_ref slots k slot some small
+    by_slot (Some slot) some = ap (λ b. live slots (ref_to b k)) (is ∙ ap birth_of_slot some) ∙ live_ref slots k slot some
 
 -- a slot that isn't in use is named by no live reference
 pub unnamed : (slots : List (Option Slot)) (k : ℕ) (rs : List Ref) → get_or slots k None ≡ None → All (λ r. live slots r ≡ true) rs → naming k rs ≡ 0

@@ -8,7 +8,7 @@ use Rattle.slot_arena.specs.declared.refs.Ref.{Ref}
 use Rattle.slot_arena.specs.declared.nodes.Node.{Node}
 use Rattle.slot_arena.specs.declared.nodes.Prev.TheVariants as prev
 use Rattle.slot_arena.specs.declared.nodes.Slot.{Slot}
-use Rattle.slot_arena.specs.Refs.{slot_of, birth_of, most_slots, birth_limit}
+use Rattle.slot_arena.specs.Refs.{slot_of, birth_of, birth_limit}
 use Rattle.slot_arena.specs.Heaps.{node_of, refs_of_node, refs_of_slot}
 use Rattle.slot_arena.specs.Times.{times}
 use Rattle.slot_arena.specs.Tallies.{naming}
@@ -92,14 +92,11 @@ module _
     abbrev held : Ref
     held = ref_to birth k
 
-    small : k < most_slots
-    small = let is = kept.few in omega (arith, within)
-
     held_live : live (set slots k made) held ≡ true
-    held_live = live_ref (set slots k made) k (record { birth = birth; node = node; prev = prev.None }) (get_or-set_same slots k made None within) small
+    held_live = live_ref (set slots k made) k (record { birth = birth; node = node; prev = prev.None }) (get_or-set_same slots k made None within)
 
     unheld : times held outside ≡ 0
-    unheld = omega (arith, exact_live (set slots k made) counts' outside make_kept.exact held held_live, ap (slice_index counts') (slot_of_ref birth k small), zero_there)
+    unheld = omega (arith, exact_live (set slots k made) counts' outside make_kept.exact held held_live, ap (slice_index counts') (slot_of_ref birth k), zero_there)
 
     one_more : (i : ℕ) → slice_index (set counts' k 1) i + naming i [] ≡ slice_index counts' i + naming i (held ∷ [])
     one_more i =
@@ -110,7 +107,7 @@ module _
           raised_at counts' k i below,
           ap (λ n. slice_index (set counts' k (n + 1)) i) zero_there,
           naming-cons i held [],
-          ap (once i) (slot_of_ref birth k small),
+          ap (once i) (slot_of_ref birth k),
         )
 
     pub make_held_kept : IsKept (set slots k made) (set counts' k 1) free' (used + 1) (held ∷ outside)

@@ -4,7 +4,7 @@ use Rattle.std.proofs.lemmas.Bool.{cases_eq}
 use Rattle.std.proofs.lemmas.List.{get_or-set_same, get_or-set_other}
 use Rattle.slot_arena.specs.declared.refs.Ref.{Ref}
 use Rattle.slot_arena.specs.declared.nodes.Slot.{Slot}
-use Rattle.slot_arena.specs.Refs.{ref_to, birth_of, most_slots}
+use Rattle.slot_arena.specs.Refs.{ref_to, birth_of}
 use Rattle.slot_arena.specs.Times.{times}
 use Rattle.slot_arena.specs.Tallies.{Tally, NotesZeros}
 use Rattle.slot_arena.specs.Chains.{Chain}
@@ -55,15 +55,13 @@ module _
     -- and so is what was made
     pub made_lives : at < free.size → IsLive now.heap (ref_to slot.birth at)
     made_lives below =
-        let small : at < most_slots = let few = kept.few in let is = kept.chained in omega arith in
         let within : at < length was.heap.slots = let is = kept.chained in omega arith in
         live_shown now.heap (ref_to slot.birth at)
-        (ap (λ s. live s (ref_to slot.birth at)) filled ∙ live_here was.heap.slots at (Some slot) (ref_to slot.birth at) within (slot_of_ref slot.birth at small)
-        ∙ eq-eqb slot.birth (birth_of (ref_to slot.birth at)) (sym (birth_of_ref slot.birth at small)))
+        (ap (λ s. live s (ref_to slot.birth at)) filled ∙ live_here was.heap.slots at (Some slot) (ref_to slot.birth at) within (slot_of_ref slot.birth at)
+        ∙ eq-eqb slot.birth (birth_of (ref_to slot.birth at)) (sym (birth_of_ref slot.birth at)))
 
     -- which wasn't before
     pub made_fresh : at < free.size → is_live was.heap (ref_to slot.birth at) ≡ false
     made_fresh below =
-        let small : at < most_slots = let few = kept.few in let is = kept.chained in omega arith in
         let its_birth : ℕ = birth_of (ref_to slot.birth at) in
-        live_is was.heap (ref_to slot.birth at) ∙ ap (λ i. has_birth its_birth (get_or was.heap.slots i None)) (slot_of_ref slot.birth at small) ∙ ap (has_birth its_birth) empty
+        live_is was.heap (ref_to slot.birth at) ∙ ap (λ i. has_birth its_birth (get_or was.heap.slots i None)) (slot_of_ref slot.birth at) ∙ ap (has_birth its_birth) empty

@@ -72,7 +72,7 @@ module _
     some =
         omega (
           arith,
-          part_counted slots counts outside kept.exact kept.few (from ∷ []) (word_part _ _ _ _ _ kept r has _ _ _ change) (slot_of from),
+          part_counted slots counts outside kept.exact (from ∷ []) (word_part _ _ _ _ _ kept r has _ _ _ change) (slot_of from),
           naming-cons (slot_of from) from [],
           once_here,
         )

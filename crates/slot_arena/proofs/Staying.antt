@@ -61,7 +61,7 @@ module _
 
     -- and counted
     pub refs_counted : (k : ℕ) → naming k es ≤ slice_index counts k
-    refs_counted k = part_counted slots counts outside kept.exact kept.few es part k
+    refs_counted k = part_counted slots counts outside kept.exact es part k
 
     -- and what the changed branch refers to, where what comes is
     after_live : (change : EntryChange) → All (λ q. live slots q ≡ true) (coming change) → All (λ q. live slots q ≡ true) (entries_after change es)

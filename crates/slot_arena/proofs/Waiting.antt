@@ -1,11 +1,11 @@
 -- Which slots wait for nothing to refer to them, by counts.
-use Rattle.std.proofs.Common.{◌≡◌, ℕ, ◌<◌, ◌==◌, Bool, true, false, cond, List, get_or, slice_index, Option, Some, None}
-use Rattle.std.proofs.Common.{is_some, refl, sym, ap, subst, ◌∙◌, ◌⊎◌, inl, inr, arith, eq-eqb, eqb-true}
+use Rattle.std.proofs.Common.{◌≡◌, ℕ, ◌==◌, Bool, true, false, cond, List, get_or, slice_index, Option, Some, None}
+use Rattle.std.proofs.Common.{refl, sym, ap, subst, ◌∙◌, ◌⊎◌, inl, inr, eq-eqb, eqb-true}
 use Rattle.std.proofs.lemmas.Bool.{cases_Bool}
 use Rattle.slot_arena.specs.Cells.{birth_of_slot}
 use Rattle.slot_arena.specs.declared.refs.Ref.{Ref}
 use Rattle.slot_arena.specs.declared.nodes.Slot.{Slot}
-use Rattle.slot_arena.specs.Refs.{ref_to, slot_of, birth_of, most_slots}
+use Rattle.slot_arena.specs.Refs.{ref_to, slot_of, birth_of}
 use Rattle.std.proofs.lemmas.Bool.{false≢true}
 use Rattle.std.proofs.lemmas.Option.{none-some, same_Some}
 use Rattle.slot_arena.specs.Heaps.{Heap}
@@ -15,7 +15,6 @@ use Rattle.slot_arena.specs.Tallies.{NotesZeros}
 use Rattle.slot_arena.specs.Chains.{Chain}
 use Rattle.slot_arena.specs.Arenas.{Contents, IsLive, has_birth, waiting, waiting_in, NotesWaiting, NotesWaitingBut}
 use Rattle.slot_arena.specs.Kept.{live, IsKept}
-use Rattle.slot_arena.proofs.Parts.{used_within}
 use Rattle.slot_arena.proofs.Live.{live_ref, slot_of_ref, birth_of_ref, ref_again}
 use Rattle.slot_arena.proofs.Reading.{live_seen, live_shown}
 use Rattle.slot_arena.proofs.Exact.{count_found, exact_live}
@@ -33,11 +32,8 @@ module _ (heap : Heap) (counts : List ℕ) (free : Chain) (used : ℕ) (outside 
   -- the count of a slot in use
   pub count_at : (slot : Slot) → get_or heap.slots k None ≡ Some slot → count_of heap outside (ref_to slot.birth k) ≡ slice_index counts k
   count_at slot some =
-      let within = used_within heap.slots k (ap is_some some) in
-      let few = kept.few in
-      let small : k < most_slots = omega arith in
-      count_found heap outside (ref_to slot.birth k) ∙ exact_live heap.slots counts outside kept.exact (ref_to slot.birth k) (live_ref heap.slots k slot some small)
-      ∙ ap (slice_index counts) (slot_of_ref slot.birth k small)
+      count_found heap outside (ref_to slot.birth k) ∙ exact_live heap.slots counts outside kept.exact (ref_to slot.birth k) (live_ref heap.slots k slot some)
+      ∙ ap (slice_index counts) (slot_of_ref slot.birth k)
 
   waiting_is : (o : Option Slot) → get_or heap.slots k None ≡ o → waiting_in heap outside k o ≡ waits_by k (born o) (slice_index counts k == 0)
   waiting_is None none = refl
@@ -127,8 +123,7 @@ waits_live arena r is = live_shown arena.heap r (by_slot (get_or arena.heap.slot
   where
     by_test : (slot : Slot) (b : Bool) → get_or arena.heap.slots (slot_of r) None ≡ Some slot → cond b (Some (ref_to slot.birth (slot_of r))) None ≡ Some r → live arena.heap.slots r ≡ true
     by_test slot true some at =
-        let small : slot_of r < most_slots = omega arith in
-        ap (has_birth (birth_of r)) some ∙ eq-eqb slot.birth (birth_of r) (sym (birth_of_ref slot.birth (slot_of r) small) ∙ ap birth_of (same_Some (ref_to slot.birth (slot_of r)) r at))
+        ap (has_birth (birth_of r)) some ∙ eq-eqb slot.birth (birth_of r) (sym (birth_of_ref slot.birth (slot_of r)) ∙ ap birth_of (same_Some (ref_to slot.birth (slot_of r)) r at))
     by_test slot false some at = absurd (none-some r at)
 
     by_slot : (o : Option Slot) → get_or arena.heap.slots (slot_of r) None ≡ o → live arena.heap.slots r ≡ true

@@ -129,7 +129,7 @@ module _
       word_within n size = all_within slots n minus (sym size) (part_live slots counts outside kept.exact minus word_part)
 
       pub word_counted : (i : ℕ) → naming i minus ≤ slice_index counts i
-      word_counted = part_counted slots counts outside kept.exact kept.few minus word_part
+      word_counted = part_counted slots counts outside kept.exact minus word_part
 
       pub word_kept : (counts' : List ℕ) → length counts' ≡ length counts → ((i : ℕ) → slice_index counts' i + naming i minus ≡ slice_index counts i + naming i plus) →
           All (λ q. live slots q ≡ true) plus → IsKept (changed_by change slots r) counts' free used outside

@@ -1,4 +1,5 @@
 pub mod Beneath
+pub mod Pairing
 pub mod Refs
 pub mod Heaps
 pub mod Counts

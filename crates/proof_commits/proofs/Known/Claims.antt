@@ -88,7 +88,7 @@ module _ (limits : Bounds) (states : ℕ → State) (last : ℕ) (run : IsRun li
   pub draws : (t : ℕ) → t < last → (node : Node) (n : Ref) → next_ref (states t).heap ≡ Some n → Draws states t node n
   draws t h node n e =
       let I : IsSafe (states t) = safe_at limits states last run t (omega arith) in
-      let all = taken_all (states t).limits.slots (states t).heap (I.sound.heap) (I.small) node n e in
+      let all = taken_all (states t).limits.slots (states t).heap (I.sound.heap) node n e in
       record { new = not_yet_drawn limits states last run t (omega arith) n e; birth = (states t).heap.births + 1; here = all.0; elsewhere = all.2 }
 
   pub mains_stand : (t : ℕ) → t ≤ last → (i : Ref) (slot : Slot) → standing (states t).heap i ≡ Some slot → is_indirection slot.node ≡ true →

@@ -1,8 +1,8 @@
 -- What a step does to what stands under references, and that all but what is freed stays, with its node but for the main word.
-use Rattle.std.proofs.Common.{◌≡◌, ℕ, ◌+◌, ◌≤◌, ◌==◌, Bool, true, false, List, [], ◌∷◌, Option, Some, None, refl, sym, ap, ◌∙◌, subst, inl, inr, eqb-true}
+use Rattle.std.proofs.Common.{◌≡◌, ℕ, ◌+◌, ◌==◌, Bool, true, false, List, [], ◌∷◌, Option, Some, None, refl, sym, ap, ◌∙◌, subst, inl, inr, eqb-true}
 use Rattle.std.proofs.lemmas.Bool.{cases_eq, false≢true}
 use Rattle.std.proofs.lemmas.Option.{none-some, same_Some}
-use Rattle.proof_memory.specs.Vocabulary.{birth_of, most_slots, Ref, Node, Indirection, Branch, Single, Tomb, List as Listed, Prev, Slot, Heap, node_at, main_at, main_of, with_main, with_prev}
+use Rattle.proof_memory.specs.Vocabulary.{birth_of, Ref, Node, Indirection, Branch, Single, Tomb, List as Listed, Prev, Slot, Heap, node_at, main_at, main_of, with_main, with_prev}
 use Rattle.proof_memory.specs.Vocabulary.{with_main_word, main_changed, prev_changed, taken, freed, next_ref, Action, State, Verdict, Commits, Fails, Overtaken, acted, decided, new_root_taken}
 use Rattle.proof_memory.specs.Vocabulary.{if_changed, standing}
 use Rattle.proof_memory.specs.Beneath.slot_arena.specs.declared.nodes.Prev.TheVariants as prev
@@ -90,11 +90,11 @@ module _ (S : Ref → Type 0) (heap : Heap) (due : Option Ref) (used : (r : Ref)
 
   -- ---- by what is tested
 
-  module _ (slots : ℕ) (sound : AddsUp slots heap) (small : slots ≤ most_slots) where
+  module _ (slots : ℕ) (sound : AddsUp slots heap) where
     takes_by : (node : Node) → AllHold S heap (action_wants (act.Make node)) → (o : Option Ref) → next_ref heap ≡ o → Does (taken heap node)
     takes_by node h None e = same_as (taken heap node) (none_taken heap node e)
     takes_by node h (Some made) e =
-        let (here, before, others, birth) = taken_all slots heap sound small node made e in
+        let (here, before, others, birth) = taken_all slots heap sound node made e in
         Makes made (fresh_slot heap node) birth (births_taken heap node made e) h refl before here others
 
     pub takes : (node : Node) → AllHold S heap (action_wants (act.Make node)) → Does (taken heap node)
@@ -117,19 +117,19 @@ module _ (S : Ref → Type 0) (heap : Heap) (due : Option Ref) (used : (r : Ref)
 
 -- the effect of an action of a state
 module _ (S : Ref → Type 0) (state : State) (due : Option Ref) (used : (r : Ref) → S r → IsInUse state.heap r)
-    (slots : ℕ) (sound : AddsUp slots state.heap) (small : slots ≤ most_slots) where
+    (slots : ℕ) (sound : AddsUp slots state.heap) where
   root_taken_by : (main : Ref) (o : Option Ref) → AllHold S state.heap (action_wants (act.MakeRoot main)) → Does S state.heap due used (new_root_taken state main o).heap
   root_taken_by main None h = same S state.heap due used
-  root_taken_by main (Some made) h = takes S state.heap due used slots sound small (Indirection state.generations main) (so refl, h)
+  root_taken_by main (Some made) h = takes S state.heap due used slots sound (Indirection state.generations main) (so refl, h)
 
   pub acted_effect : (handle : ℕ) (action : Action) → AllHold S state.heap (action_wants action) → Does S state.heap due used (acted state handle action).heap
   acted_effect handle (act.Abort offer) h = same_as S state.heap due used _ (aborted_heap state handle offer)
   acted_effect handle (act.Offer offer) h = same_as S state.heap due used _ (offered_heap state handle offer)
   acted_effect handle (act.Complete offer main) h = same_as S state.heap due used _ (completed_heap state handle offer main)
-  acted_effect handle (act.Publish i replaced fresh) h = published_by S state.heap due used slots sound small i replaced fresh _ refl h
-  acted_effect handle (act.Restore i main previous) h = restored_by S state.heap due used slots sound small i main previous _ refl h
-  acted_effect handle (act.Decide i main previous told) h = decided_by S state.heap due used slots sound small i main previous told _ h
-  acted_effect handle (act.Make node) h = takes S state.heap due used slots sound small node h
+  acted_effect handle (act.Publish i replaced fresh) h = published_by S state.heap due used slots sound i replaced fresh _ refl h
+  acted_effect handle (act.Restore i main previous) h = restored_by S state.heap due used slots sound i main previous _ refl h
+  acted_effect handle (act.Decide i main previous told) h = decided_by S state.heap due used slots sound i main previous told _ h
+  acted_effect handle (act.Make node) h = takes S state.heap due used slots sound node h
   acted_effect handle (act.MakeRoot main) h = root_taken_by main (next_ref state.heap) h
   acted_effect handle action h = same S state.heap due used
 

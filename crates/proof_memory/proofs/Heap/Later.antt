@@ -79,7 +79,7 @@ births_later b state I h s o after m = later (births_grow _ _ _ _ _ _ ((step_eff
 
 -- a reference that is drawn has a birth that none had
 pub drawn_birth : (state : State) → IsSafe state → (r : Ref) → next_ref state.heap ≡ Some r → birth_of r ≡ state.heap.births + 1
-drawn_birth state I r e = (taken_all state.limits.slots state.heap (I.sound.heap) (I.small) (Indirection 0 0) r e).3
+drawn_birth state I r e = (taken_all state.limits.slots state.heap (I.sound.heap) (Indirection 0 0) r e).3
 
 pub drawn_once : (limits : Bounds) → AreBounds limits → (before since : List Step) (r : Ref) → next_ref (run limits (before ++ since)).heap ≡ Some r → IsInUse (run limits before).heap r → ⊥
 drawn_once limits ok before since r e (slot, found) =

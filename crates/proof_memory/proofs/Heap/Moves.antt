@@ -72,7 +72,7 @@ module _ (state : State) (I : IsSafe state) (actor k : ℕ) (operation : Operati
   made_by : (o : Option Ref) → next_ref state.heap ≡ o → (node : Node) → made_node state (action_of state operation) ≡ Some node → (heap : Heap) → heap ≡ taken state.heap node → Moved heap
   made_by None e node is heap same = same_heap heap (same ∙ none_taken state.heap node e)
   made_by (Some made) e node is heap same =
-      let (here, none, others, birth) = taken_all state.limits.slots state.heap (I.sound.heap) (I.small) node made e in
+      let (here, none, others, birth) = taken_all state.limits.slots state.heap (I.sound.heap) node made e in
       makes actor operation node made running is e none (ap (λ h. standing h made) same ∙ here) (λ r other. ap (λ h. standing h r) same ∙ others r other)
 
   published_by : (i replaced fresh : Ref) → action_of state operation ≡ act.Publish i replaced fresh → AllHold S state.heap (action_wants (act.Publish i replaced fresh)) →
@@ -177,7 +177,7 @@ standing_move state I s o after (Ends d is a) = inl (keeps (λ r. refl))
 standing_move state I s o after (GivesUp d is a) = inl (keeps (λ r. refl))
 standing_move state I s o after (Sweeps spent) =
     inr (sweep_goes state I (map pin_of state.actors) (ripe state.epoch state.limbo)
-    (λ q due. stands_in_use state.heap q (omega (arith, I.small, I.sound.heap.size)) (ripe_in_use (InUse state.heap) state.epoch state.limbo (I.sound.limbo) q due)))
+    (λ q due. stands_in_use state.heap q (ripe_in_use (InUse state.heap) state.epoch state.limbo (I.sound.limbo) q due)))
 
 -- what stood stands after a move, with its node but for the main word
 pub moved_stays : (state : State) (f g : Ref → Option Slot) → WordMove state f g → (r : Ref) (was : Slot) → f r ≡ Some was → (now : Slot) × (g r ≡ Some now) × SameSlot was now
@@ -235,7 +235,7 @@ module _ (limits : Bounds) (states : ℕ → State) (last : ℕ) (run : IsRun li
       I = safe_at limits states last run t h
 
       its_birth : birth_of made ≡ (states t).heap.births + 1
-      its_birth = (taken_all (states t).limits.slots (states t).heap (I.sound.heap) (I.small) (Indirection 0 0) made e).3
+      its_birth = (taken_all (states t).limits.slots (states t).heap (I.sound.heap) (Indirection 0 0) made e).3
 
       by_grown : (o : Option Slot) → grown states t made ≡ o → grown states t made ≡ None
       by_grown None g = g

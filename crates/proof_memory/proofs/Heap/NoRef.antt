@@ -22,7 +22,7 @@ module _ (limits : Bounds) (states : ℕ → State) (last : ℕ) (run : IsRun li
     where
       some_ref : (slot : Slot) → standing (states zero).heap no_ref ≡ Some slot → ⊥
       some_ref slot e =
-          first_stands (λ r slot. r ≡ no_ref → ⊥) limits.slots run.limits_ok.0 run.limits_ok.1 (λ birth is. absurd (omega arith)) (λ birth is. absurd (omega arith)) no_ref slot
+          first_stands (λ r slot. r ≡ no_ref → ⊥) limits.slots run.limits_ok.0 (λ birth is. absurd (omega arith)) (λ birth is. absurd (omega arith)) no_ref slot
           (ap (λ (s : State). standing s.heap no_ref) (sym run.first) ∙ e) refl
 
       by : (o : Option Slot) → standing (states zero).heap no_ref ≡ o → standing (states zero).heap no_ref ≡ None
@@ -30,7 +30,7 @@ module _ (limits : Bounds) (states : ℕ → State) (last : ℕ) (run : IsRun li
       by (Some slot) e = absurd (some_ref slot e)
 
   birth_is : (t : ℕ) → t ≤ last → (node : Node) (made : Ref) → next_ref (states t).heap ≡ Some made → birth_of made ≡ (states t).heap.births + 1
-  birth_is t h node made e = let I : IsSafe (states t) = safe_at limits states last run t h in (taken_all (states t).limits.slots (states t).heap (I.sound.heap) (I.small) node made e).3
+  birth_is t h node made e = let I : IsSafe (states t) = safe_at limits states last run t h in (taken_all (states t).limits.slots (states t).heap (I.sound.heap) node made e).3
 
   by_move : (t : ℕ) → t ≤ last → grown states t no_ref ≡ None → WordMove (states t) (grown states t) (grown states (suc t)) → grown states (suc t) no_ref ≡ None
   by_move t h none (keeps k) = k no_ref ∙ none

@@ -1,10 +1,10 @@
 -- What stands under each reference after a write, a taking and a freeing: only what is written, taken or freed changes.
-use Rattle.std.proofs.Common.{◌≡◌, ℕ, ◌+◌, ◌<◌, ◌≤◌, false, is_some, List, [], ◌∷◌, length, map, get_or, set, Option, Some, None, option_map, refl, sym, ap, ◌∙◌, subst}
-use Rattle.std.proofs.Common.{◌⊎◌, inl, inr, eq-eqb, ne_eqb, arith}
+use Rattle.std.proofs.Common.{◌≡◌, ℕ, ◌+◌, ◌<◌, false, is_some, List, [], ◌∷◌, length, map, get_or, set, Option, Some, None, option_map, refl, sym, ap, ◌∙◌, subst}
+use Rattle.std.proofs.Common.{◌⊎◌, inl, inr, eq-eqb, ne_eqb}
 use Rattle.std.proofs.lemmas.Bool.{cases_eq, false≢true}
 use Rattle.std.proofs.lemmas.List.{get_or-set_same, get_or-set_other, get_or-map, length-map}
 use Rattle.std.proofs.lemmas.Option.{none-some, same_Some}
-use Rattle.proof_memory.specs.Vocabulary.{ref_to, slot_of, birth_of, most_slots, Ref, Node, Prev, Slot, Heap, stored, written, with_main, with_prev, main_changed, prev_changed, taken, take_from}
+use Rattle.proof_memory.specs.Vocabulary.{ref_to, slot_of, birth_of, Ref, Node, Prev, Slot, Heap, stored, written, with_main, with_prev, main_changed, prev_changed, taken, take_from}
 use Rattle.proof_memory.specs.Vocabulary.{freed, next_ref, ref_in, of_birth, standing}
 use Rattle.proof_memory.specs.Beneath.slot_arena.specs.declared.nodes.Prev.TheVariants as prev
 use Rattle.machine_model.proofs.Found.{found_within, found_here}
@@ -140,17 +140,17 @@ fresh_slot heap node = record { birth = heap.births + 1; node = node; prev = pre
 
 -- the first free slot is free, and a slot
 abbrev pub IsFree : Heap → ℕ → Type 0
-IsFree heap slot = (slot < length heap.slots) × (get_or heap.slots slot None ≡ None) × (slot < most_slots)
+IsFree heap slot = (slot < length heap.slots) × (get_or heap.slots slot None ≡ None)
 
 module _ (heap : Heap) (node : Node) (slot : ℕ) (free : List ℕ) (first : IsFree heap slot) where
   abbrev fresh : Ref
   fresh = ref_to (heap.births + 1) slot
 
   its_slot : slot_of fresh ≡ slot
-  its_slot = slot_of_ref (heap.births + 1) slot first.2
+  its_slot = slot_of_ref (heap.births + 1) slot
 
   its_birth : heap.births + 1 ≡ birth_of fresh
-  its_birth = sym (birth_of_ref (heap.births + 1) slot first.2)
+  its_birth = sym (birth_of_ref (heap.births + 1) slot)
 
   from_here : standing (take_from heap node (slot ∷ free)) fresh ≡ Some (fresh_slot heap node)
   unfolding stored
@@ -185,20 +185,20 @@ empty_slot : (o : Option Slot) → is_some o ≡ false → o ≡ None
 empty_slot None e = refl
 empty_slot (Some slot) e = absurd (false≢true (sym e))
 
-first_is_free : (slots : ℕ) (heap : Heap) → AddsUp slots heap → slots ≤ most_slots → (slot : ℕ) (free : List ℕ) → heap.free ≡ slot ∷ free → IsFree heap slot
-first_is_free slots heap h small slot free e =
+first_is_free : (slots : ℕ) (heap : Heap) → AddsUp slots heap → (slot : ℕ) (free : List ℕ) → heap.free ≡ slot ∷ free → IsFree heap slot
+first_is_free slots heap h slot free e =
     let (flagged, unused) = first_free (map is_some heap.slots) slot free (rw e at (h.rest)) in
     let within : slot < length heap.slots = rw length-map at flagged in
-    (within, empty_slot _ (sym (get_or-map is_some heap.slots slot None false within) ∙ unused), omega (arith, h.size))
+    (within, empty_slot _ (sym (get_or-map is_some heap.slots slot None false within) ∙ unused))
 
-module _ (slots : ℕ) (heap : Heap) (sound : AddsUp slots heap) (small : slots ≤ most_slots) (node : Node) (made : Ref) where
+module _ (slots : ℕ) (heap : Heap) (sound : AddsUp slots heap) (node : Node) (made : Ref) where
   -- by what is free
   taken_by : (free : List ℕ) → heap.free ≡ free → ref_in heap.births free ≡ Some made →
       (standing (take_from heap node free) made ≡ Some (fresh_slot heap node)) × (standing heap made ≡ None) × ((r : Ref) → (r ≡ made → ⊥) → standing (take_from heap node free) r ≡ standing heap r)
       × (birth_of made ≡ heap.births + 1)
   taken_by [] e is = absurd (none-some made is)
   taken_by (slot ∷ free) e is =
-      let first = first_is_free slots heap sound small slot free e in
+      let first = first_is_free slots heap sound slot free e in
       subst (λ q. (standing (take_from heap node (slot ∷ free)) q ≡ Some (fresh_slot heap node)) × (standing heap q ≡ None)
       × ((r : Ref) → (r ≡ q → ⊥) → standing (take_from heap node (slot ∷ free)) r ≡ standing heap r)
       × (birth_of q ≡ heap.births + 1)) (same_Some _ _ is)

@@ -5,7 +5,8 @@ use Rattle.std.specs.Prelude.{bit_or, bit_xor}
 use Rattle.std.proofs.lemmas.Bool.{false≢true, cond_both, eqb-false}
 use Rattle.std.proofs.lemmas.List.Elements.{All-nil, All-cons, All-take, All-set}
 use Rattle.arrayvec.specs.ArrayVec.{ArrayVec}
-use Rattle.proof_memory.specs.Vocabulary.{Call, Snapshot, Ref, Node as SlotNode, Branch, List as Listed, node_at, prev_at, main_at, entry_at, entries_of, bitmap_of, next_ref, no_ref, parting}
+use Rattle.proof_memory.specs.Vocabulary.{birth_of, Call, Snapshot, Ref, Node as SlotNode, Branch, List as Listed, node_at, prev_at, main_at, entry_at, entries_of, bitmap_of, next_ref, no_ref}
+use Rattle.proof_memory.specs.Vocabulary.{parting}
 use Rattle.proof_memory.specs.Vocabulary.{index_in, flag_of, list_depth, pair, contracted, renewed, HashKind, position_of, Operation, ReadLine, Swap, SwapLine, CompleteLine, Descriptor, RootLine}
 use Rattle.proof_memory.specs.Vocabulary.{BuildLine, Change, Site, Climb, CopyLine, Purpose, Line, handle_of, State, word_at, current, above, depth_of, flag_in, hash_in, is_below_root, read_action}
 use Rattle.proof_memory.specs.Vocabulary.{read_after, action_at, complete_action_at, root_action, is_plain, next_entry, renew_after_link, renew_after_branch, build_action, build_after}
@@ -211,7 +212,7 @@ module _ (lv : Ref → ℕ) (state : State) (operation : Operation) (S : Ref →
 
   -- ---- what comes after
 
-  module _ (W : WordLevel lv (word_at state (handle_of operation.call))) (older : (r made : Ref) → S r → next_ref state.heap ≡ Some made → r < made) where
+  module _ (W : WordLevel lv (word_at state (handle_of operation.call))) (older : (r made : Ref) → S r → next_ref state.heap ≡ Some made → birth_of r < birth_of made) where
     -- the node that is made has its level
     abbrev Made : Line → Type 0
     Made l = (node : SlotNode) (made : Ref) → made_node state (line_action state operation l) ≡ Some node → next_ref state.heap ≡ Some made → lv made ≡ made_level l

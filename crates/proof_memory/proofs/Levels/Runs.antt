@@ -185,7 +185,7 @@ module _ (limits : Bounds) (ok : AreBounds limits) (lv : Ref → ℕ) (old : (r 
   first_levels : HasLevels lv (first_state limits)
   unfolding first_state
   first_levels = record {
-    nodes = first_stands (SlotLevel lv) limits.slots ok.0 ok.1 (λ birth. ((branch_level ∙ sym root_level, positive (ref_to 2 1) root_level), tt))
+    nodes = first_stands (SlotLevel lv) limits.slots ok.0 (λ birth. ((branch_level ∙ sym root_level, positive (ref_to 2 1) root_level), tt))
         (λ birth. ((All-nil (EntryLevel lv (lv (ref_to 1 0))), positive (ref_to 1 0) branch_level), tt));
     words = first_words (WordLevel lv) _ root_level;
     lines = λ k operation found. absurd (none_found limits.actors k operation found);

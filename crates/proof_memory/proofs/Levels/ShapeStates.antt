@@ -98,7 +98,7 @@ module _ (lv : Ref → ℕ) (state : State) (I : IsSafe state) (h : HasLevels lv
       made_node state (action_of state operation) ≡ Some node
   gone_makes actor operation k found (Some other) a node made e none new =
       let stood = ap (λ heap. standing heap made) (made_heap _ (handle_of operation.call) (action_of state operation) other made a e)
-      ∙ (taken_all state.limits.slots state.heap (I.sound.heap) (I.small) other made e).0 in
+      ∙ (taken_all state.limits.slots state.heap (I.sound.heap) other made e).0 in
       a ∙ ap (λ (x : Slot). Some x.node) (same_Some _ _ (sym stood ∙ new))
   gone_makes actor operation k found None a node made e none new =
       elim (stood_or_made _ _ _ _ _ _ (gone_effect state I actor k operation found) made (fresh_slot state.heap node) new) [
@@ -143,7 +143,7 @@ module _ (lv : Ref → ℕ) (state : State) (I : IsSafe state) (h : HasLevels lv
   fresh_shape s o after (GivesUp d is a) gives = nothing_new after (λ r. inl refl)
   fresh_shape s o after (Sweeps spent) gives =
       nothing_new after (sweep_goes state I (map pin_of state.actors) (ripe state.epoch state.limbo)
-      (λ q due. stands_in_use state.heap q (omega (arith, I.small, I.sound.heap.size)) (ripe_in_use (InUse state.heap) state.epoch state.limbo (I.sound.limbo) q due)))
+      (λ q due. stands_in_use state.heap q (ripe_in_use (InUse state.heap) state.epoch state.limbo (I.sound.limbo) q due)))
 
   nodes_shape : (s : Step) (o : Outcome) (after : State) → Moves state s o after → GivesLevel lv state s → (r : Ref) (slot : Slot) → standing after.heap r ≡ Some slot → ShapeAt deep (lv r) slot.node
   nodes_shape s o after m gives r slot e = by_move (standing_move state I s o after m)
@@ -237,7 +237,7 @@ module _ (limits : Bounds) (ok : AreBounds limits) (steps : List Step) where
   first_shapes =
       let old = old_level steps (first_state limits) (safe_at_first limits ok) in
       record {
-        nodes = first_stands (λ r slot. ShapeAt (list_depth limits.hash) (lv r) slot.node) limits.slots ok.0 ok.1
+        nodes = first_stands (λ r slot. ShapeAt (list_depth limits.hash) (lv r) slot.node) limits.slots ok.0
             (λ birth. at_root (lv (ref_to 2 1)) (root_level limits ok lv old)) (λ birth. at_branch (lv (ref_to 1 0)) (branch_level limits ok lv old) (deep_low limits.hash));
         lines = λ k operation found. absurd (none_found limits.actors k operation found);
       }

@@ -172,11 +172,11 @@ module _ (lv : Ref → ℕ) (state : State) (I : IsSafe state) (h : HasLevels lv
   word_by (Some root) handle e s = h.words handle root e
 
   -- what is in use is older than what is made
-  older : (r made : Ref) → IsInUse state.heap r → next_ref state.heap ≡ Some made → r < made
+  older : (r made : Ref) → IsInUse state.heap r → next_ref state.heap ≡ Some made → birth_of r < birth_of made
   older r made (slot, found) e =
-      by_births (I.births r slot found) ((taken_all state.limits.slots state.heap (I.sound.heap) (I.small) (Indirection 0 0) made e).3)
+      by_births (I.births r slot found) ((taken_all state.limits.slots state.heap (I.sound.heap) (Indirection 0 0) made e).3)
     where
-      by_births : birth_of r ≤ state.heap.births → birth_of made ≡ state.heap.births + 1 → r < made
+      by_births : birth_of r ≤ state.heap.births → birth_of made ≡ state.heap.births + 1 → birth_of r < birth_of made
       by_births a b = omega arith
 
   words_after : (s : Step) (o : Outcome) (after : State) → Moves state s o after → AllWords (WordLevel lv) after
@@ -205,7 +205,7 @@ module _ (lv : Ref → ℕ) (state : State) (I : IsSafe state) (h : HasLevels lv
       (o : Option Node) → made_node state (action_of state operation) ≡ o → FreshLevel (settled state (gone state actor operation))
   gone_made actor operation k is found gives (Some other) a node made e none new =
       let stood = ap (λ heap. standing heap made) (made_heap _ (handle_of operation.call) (action_of state operation) other made a e)
-      ∙ (taken_all state.limits.slots state.heap (I.sound.heap) (I.small) other made e).0 in
+      ∙ (taken_all state.limits.slots state.heap (I.sound.heap) other made e).0 in
       let same : other ≡ node = ap (λ (x : Slot). x.node) (same_Some _ _ (sym stood ∙ new)) in
       subst (NodeLevel lv made) same
       (made_slot lv made (made_level operation.line) other (gives actor operation other made refl is a e)
@@ -229,7 +229,7 @@ module _ (lv : Ref → ℕ) (state : State) (I : IsSafe state) (h : HasLevels lv
   fresh_after s o after (GivesUp d is a) gives = nothing_made after (λ r. inl refl)
   fresh_after s o after (Sweeps spent) gives =
       nothing_made after (sweep_goes state I (map pin_of state.actors) (ripe state.epoch state.limbo)
-      (λ q due. stands_in_use state.heap q (omega (arith, I.small, I.sound.heap.size)) (ripe_in_use (InUse state.heap) state.epoch state.limbo (I.sound.limbo) q due)))
+      (λ q due. stands_in_use state.heap q (ripe_in_use (InUse state.heap) state.epoch state.limbo (I.sound.limbo) q due)))
 
   nodes_after : (s : Step) (o : Outcome) (after : State) → Moves state s o after → GivesLevel lv state s → (r : Ref) (slot : Slot) → standing after.heap r ≡ Some slot → SlotLevel lv r slot
   nodes_after s o after m gives r slot e = by_move (standing_move state I s o after m)

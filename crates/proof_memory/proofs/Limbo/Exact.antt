@@ -10,6 +10,7 @@ use Rattle.proof_memory.specs.Vocabulary.{State, outside}
 use Rattle.proof_memory.specs.Beneath.epochs.specs.Limbo.{put_in}
 use Rattle.proof_memory.specs.Laws.{IsInUse, IsZero}
 use Rattle.proof_memory.proofs.Safety.States.{IsSafe, stands_in_use}
+use Rattle.proof_memory.specs.Beneath.slot_arena.proofs.Live.{ref_again}
 use Rattle.machine_model.proofs.Grown.{standing_parts}
 
 -- ---- membership by test
@@ -105,7 +106,9 @@ used_has heap r (slot, e) =
     named_has 0 heap.slots (slot_of r) slot at_slot r (sum r slot.birth its)
   where
     sum : (r birth : ℕ) → birth ≡ birth_of r → r ≡ ref_to birth (0 + slot_of r)
-    sum r birth its = omega arith
+    sum r birth its =
+        let none_more : slot_of r ≡ 0 + slot_of r = omega arith in
+        sym (ref_again r) ∙ ap (λ b. ref_to b (slot_of r)) (sym its) ∙ ap (λ k. ref_to birth k) none_more
 
 -- ---- limbo after a step
 
@@ -122,7 +125,7 @@ module _ (heap : Heap) (outside : List Ref) (now : ℕ) (limbo : List Zeroed) (r
 
 pub zeros_stand : (state : State) → IsSafe state → All (λ z. IsZero state z.at) state.limbo
 zeros_stand state I k d within =
-    (stands_in_use state.heap (get_or state.limbo k d).at (omega (arith, I.small, I.sound.heap.size)) (I.sound.limbo k d within), eqb-true _ 0 (I.zeros k d within))
+    (stands_in_use state.heap (get_or state.limbo k d).at (I.sound.limbo k d within), eqb-true _ 0 (I.zeros k d within))
 
 pub in_limbo_zero : (state : State) → IsSafe state → (r : Ref) → Contains (map (λ z. z.at) state.limbo) r → IsZero state r
 in_limbo_zero state I r c = All-contains (IsZero state) (map (λ z. z.at) state.limbo) r (All-map (IsZero state) (λ z. z.at) state.limbo (zeros_stand state I)) c

@@ -2,7 +2,7 @@
 use Rattle.std.proofs.Common.{◌≡◌, ℕ, ◌+◌, ◌-◌, ◌*◌, ◌<◌, ◌≤◌, ◌==◌, Bool, true, false, [], Contains, refl, sym, ap, ◌∙◌, subst, inl, inr, ne_eqb, arith}
 use Rattle.std.proofs.lemmas.Bool.{false≢true, eqb-false}
 use Rattle.std.proofs.lemmas.List.Elements.{All-contains, Contains-append_cases}
-use Rattle.proof_memory.specs.Vocabulary.{birth_of, most_slots, Ref, Node, Indirection, Branch, Single, Tomb, List as Listed, Prev, node_at, refs_of_node, refs_of_prev, State, IsReached, is_busy}
+use Rattle.proof_memory.specs.Vocabulary.{birth_of, Ref, Node, Indirection, Branch, Single, Tomb, List as Listed, Prev, node_at, refs_of_node, refs_of_prev, State, IsReached, is_busy}
 use Rattle.proof_memory.specs.Beneath.slot_arena.specs.declared.nodes.Prev.TheVariants as prev
 use Rattle.proof_memory.specs.Wants.{AMain, ASingle, is_indirection, is_main_node, Is, Holds, AllHold, node_wants, prev_wants}
 use Rattle.proof_memory.specs.Laws.{IsInUse}
@@ -23,12 +23,12 @@ step_down true n = 0
 step_down false n = n
 
 module _ (state : State) (I : IsSafe state) (lv : Ref → ℕ) (h : HasLevels lv state) where
-  -- no reference in use is greater
+  -- no birth in use is greater
   abbrev top : ℕ
-  top = (state.heap.births + 1) * most_slots
+  top = state.heap.births + 1
 
   abbrev down : Ref → ℕ
-  down r = step_down (is_indirection (node_at state.heap r)) (1 + (top - r))
+  down r = step_down (is_indirection (node_at state.heap r)) (1 + (top - birth_of r))
 
   abbrev measure : Ref → ℕ
   measure r = lv r * (top + 2) + down r
@@ -58,10 +58,10 @@ module _ (state : State) (I : IsSafe state) (lv : Ref → ℕ) (h : HasLevels lv
   no_indirection (Tomb single) e = refl
   no_indirection (Listed singles) e = refl
 
-  main_down : (r : Ref) → Holds (IsInUse state.heap) state.heap (Is r AMain) → down r ≡ 1 + (top - r)
-  main_down r c = ap (λ b. step_down b (1 + (top - r))) (no_indirection (node_at state.heap r) (meets_of c))
+  main_down : (r : Ref) → Holds (IsInUse state.heap) state.heap (Is r AMain) → down r ≡ 1 + (top - birth_of r)
+  main_down r c = ap (λ b. step_down b (1 + (top - birth_of r))) (no_indirection (node_at state.heap r) (meets_of c))
 
-  down_low : (b : Bool) (r : Ref) → step_down b (1 + (top - r)) < top + 2
+  down_low : (b : Bool) (r : Ref) → step_down b (1 + (top - birth_of r)) < top + 2
   down_low true r = omega arith
   down_low false r = omega arith
 
@@ -78,10 +78,10 @@ module _ (state : State) (I : IsSafe state) (lv : Ref → ℕ) (h : HasLevels lv
       measure q < measure r
   node_falls q r (Indirection generation main) e c n w inner =
       let same = only_one main r c in
-      let here : down q ≡ 0 = ap (λ node. step_down (is_indirection node) (1 + (top - q))) e in
-      below (ap (λ l. l * (top + 2)) (sym n.0 ∙ ap lv same)) here (subst (λ x. down x ≡ 1 + (top - x)) same (main_down main w.0))
+      let here : down q ≡ 0 = ap (λ node. step_down (is_indirection node) (1 + (top - birth_of q))) e in
+      below (ap (λ l. l * (top + 2)) (sym n.0 ∙ ap lv same)) here (subst (λ x. down x ≡ 1 + (top - birth_of x)) same (main_down main w.0))
     where
-      below : lv q * (top + 2) ≡ lv r * (top + 2) → down q ≡ 0 → down r ≡ 1 + (top - r) → measure q < measure r
+      below : lv q * (top + 2) ≡ lv r * (top + 2) → down q ≡ 0 → down r ≡ 1 + (top - birth_of r) → measure q < measure r
       below a b c = omega arith
   node_falls q r (Branch bitmap entries) e c n w inner = elim (All-contains (EntryLevel lv (lv q)) entries.items r n.0 c) [
     | inl none ↦ absurd (inner none)
@@ -96,18 +96,18 @@ module _ (state : State) (I : IsSafe state) (lv : Ref → ℕ) (h : HasLevels lv
       absurd (inner (single_zero r (from_meets r (All-contains (Meets (IsInUse state.heap) state.heap ASingle) singles.items r (all_of w.0) c))))
 
   -- in a prev word
-  old_falls : (q p : Ref) → IsInUse state.heap q → Holds (IsInUse state.heap) state.heap (Is p AMain) → lv p ≡ lv q → p < q → measure q < measure p
+  old_falls : (q p : Ref) → IsInUse state.heap q → Holds (IsInUse state.heap) state.heap (Is p AMain) → lv p ≡ lv q → birth_of p < birth_of q → measure q < measure p
   old_falls q p (slot, found) m level old =
       by_kind (is_indirection (node_at state.heap q)) refl (ap (λ l. l * (top + 2)) level) (main_down p m) (I.births q slot found)
     where
-      by_kind : (b : Bool) → is_indirection (node_at state.heap q) ≡ b → lv p * (top + 2) ≡ lv q * (top + 2) → down p ≡ 1 + (top - p) → birth_of q ≤ state.heap.births → measure q < measure p
-      by_kind true e a d births = lower (ap (λ b. step_down b (1 + (top - q))) e)
+      by_kind : (b : Bool) → is_indirection (node_at state.heap q) ≡ b → lv p * (top + 2) ≡ lv q * (top + 2) → down p ≡ 1 + (top - birth_of p) → birth_of q ≤ state.heap.births → measure q < measure p
+      by_kind true e a d births = lower (ap (λ b. step_down b (1 + (top - birth_of q))) e)
         where
           lower : down q ≡ 0 → measure q < measure p
           lower x = omega arith
-      by_kind false e a d births = younger (ap (λ b. step_down b (1 + (top - q))) e)
+      by_kind false e a d births = younger (ap (λ b. step_down b (1 + (top - birth_of q))) e)
         where
-          younger : down q ≡ 1 + (top - q) → measure q < measure p
+          younger : down q ≡ 1 + (top - birth_of q) → measure q < measure p
           younger x = omega arith
 
   prev_falls : (q r : Ref) (p : Prev) → IsInUse state.heap q → Contains (refs_of_prev p) r → PrevLevel lv q p → AllHold (IsInUse state.heap) state.heap (prev_wants p) → measure q < measure r

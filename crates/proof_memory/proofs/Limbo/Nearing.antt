@@ -6,7 +6,7 @@ use Rattle.std.proofs.Common.{refl, sym, ap, subst, arith, eq-eqb, leb-true, leb
 use Rattle.std.proofs.lemmas.Bool.{and_from, false≢true, lt-ltb}
 use Rattle.std.proofs.lemmas.List.{length-map}
 use Rattle.std.proofs.lemmas.List.Elements.{All-head}
-use Rattle.proof_memory.specs.Vocabulary.{Ref, freed, in_use, most_slots, times, Swept, Zeroed, is_in_use, is_zero, limbo_after, newly_zero, Reclaimer, advanced, is_passed, ripe, scanned, sweep_by}
+use Rattle.proof_memory.specs.Vocabulary.{Ref, freed, in_use, times, Swept, Zeroed, is_in_use, is_zero, limbo_after, newly_zero, Reclaimer, advanced, is_passed, ripe, scanned, sweep_by}
 use Rattle.proof_memory.specs.Vocabulary.{Operation, Bounds, Outcome, Step, gone, handle_of, outside, settled, is_busy, pin_of, reclaimer_of, run, swept_with, Moves, Begins, Ends, Sweeps, GivesUp}
 use Rattle.proof_memory.specs.Vocabulary.{begun_operation, action_of, State, first_state}
 use Rattle.proof_memory.specs.Beneath.epochs.proofs.InUse.{live_in_use}
@@ -81,7 +81,7 @@ none_pinned (None ∷ xs) zero idle = refl
 none_pinned (None ∷ xs) (suc k) idle = none_pinned xs k idle
 none_pinned (Some operation ∷ xs) k idle = absurd (false≢true (sym idle))
 
-module _ (state : State) (I : IsSafe state) (small : length state.heap.slots ≤ most_slots) (lies : LimboLies state) (idle : is_busy state ≡ false)
+module _ (state : State) (I : IsSafe state) (lies : LimboLies state) (idle : is_busy state ≡ false)
     (z : Zeroed) (limbo : List Zeroed) (first : state.limbo ≡ z ∷ limbo) where
   abbrev pins : List (Option ℕ)
   pins = map pin_of state.actors
@@ -93,7 +93,7 @@ module _ (state : State) (I : IsSafe state) (small : length state.heap.slots ≤
   waits : (is_in_use state.heap z.at && is_zero state.heap (outside state) z.at) ≡ true
   waits =
       let zero_there : IsZero state z.at = All-head (λ y. IsZero state y.at) z limbo (subst (λ l. All (λ y. IsZero state y.at) l) first (zeros_stand state I)) in
-      and_from _ _ (any_times z.at (in_use state.heap) ∙ lt-ltb 0 (times z.at (in_use state.heap)) (live_in_use state.heap z.at small (in_use_lives state.heap z.at zero_there.0)))
+      and_from _ _ (any_times z.at (in_use state.heap) ∙ lt-ltb 0 (times z.at (in_use state.heap)) (live_in_use state.heap z.at (in_use_lives state.heap z.at zero_there.0)))
       (eq-eqb _ 0 zero_there.1)
 
   -- so it stays there
@@ -178,4 +178,4 @@ move_nears state I lies idle some actors many o after (Sweeps spent) = (subst (�
   where
     by_limbo : (limbo : List Zeroed) → state.limbo ≡ limbo → Nears (length (map pin_of state.actors)) state after
     by_limbo [] none = absurd (some none)
-    by_limbo (z ∷ limbo) first = sweep_nears state I (let size = I.sound.heap.size in omega (arith, size, I.small)) lies idle z limbo first
+    by_limbo (z ∷ limbo) first = sweep_nears state I lies idle z limbo first

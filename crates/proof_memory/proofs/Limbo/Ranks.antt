@@ -5,11 +5,10 @@ use Rattle.std.specs.List.{list_any}
 use Rattle.std.proofs.lemmas.Bool.{cases_eq, true≢false, or_parts}
 use Rattle.std.proofs.lemmas.List.Elements.{Contains-append_right, Contains-append_cases}
 use Rattle.std.proofs.lemmas.List.Sums.{sum_by-cons}
-use Rattle.proof_memory.specs.Vocabulary.{ref_to, most_slots, Ref, Slot, stored, heap_refs, refs_of_slot, count_of, Operation, State, outside, refs_of_root, refs_of_operation, IsReached, from_slot}
+use Rattle.proof_memory.specs.Vocabulary.{ref_to, Ref, Slot, stored, heap_refs, refs_of_slot, count_of, Operation, State, outside, refs_of_root, refs_of_operation, IsReached, from_slot}
 use Rattle.proof_memory.specs.Vocabulary.{is_busy, standing}
 use Rattle.machine_model.specs.Contents.{from_root}
 use Rattle.machine_model.proofs.Rest.{one_if}
-use Rattle.machine_model.proofs.Found.{found_within}
 use Rattle.proof_memory.specs.Laws.{IsInUse}
 use Rattle.proof_memory.proofs.Heap.Under.{standing_from}
 use Rattle.proof_memory.proofs.Safety.States.{IsSafe}
@@ -74,14 +73,12 @@ module _ (state : State) (I : IsSafe state) (zeros : HasZeros state) (empty : st
   referrer_at : (k : ℕ) (o : Option Slot) → get_or state.heap.slots k None ≡ o → (r : Ref) → Contains (refs_of_slot o) r → Referrer r
   unfolding Referrer stored
   referrer_at k None e r c = none_contained r c
-  referrer_at k (Some slot) e r c =
-      let within = found_within state.heap.slots k slot e in
-      let small : k < most_slots = omega (arith, I.small, I.sound.heap.size) in (
-        ref_to slot.birth k,
-        slot,
-        standing_from state.heap (ref_to slot.birth k) slot (ap (λ i. get_or state.heap.slots i None) (slot_of_ref slot.birth k small) ∙ e) (sym (birth_of_ref slot.birth k small)),
-        c,
-      )
+  referrer_at k (Some slot) e r c = (
+    ref_to slot.birth k,
+    slot,
+    standing_from state.heap (ref_to slot.birth k) slot (ap (λ i. get_or state.heap.slots i None) (slot_of_ref slot.birth k) ∙ e) (sym (birth_of_ref slot.birth k)),
+    c,
+  )
 
   -- it stands in a root word or in a slot
   referred_from : (r : Ref) → IsInUse state.heap r → IsReached state r ⊎ Referrer r

@@ -99,7 +99,7 @@ module _ (state : State) (I : IsSafe state) (after : State) (o : Outcome) (m : M
 sweep_move : (state : State) → IsSafe state → (o : Outcome) (after : State) → Moves state step.Sweep o after → Leaves state after
 sweep_move state I o after (Sweeps spent) =
     let goes = sweep_goes state I (map pin_of state.actors) (ripe state.epoch state.limbo)
-    (λ q due. stands_in_use state.heap q (omega (arith, I.small, I.sound.heap.size)) (ripe_in_use (InUse state.heap) state.epoch state.limbo (I.sound.limbo) q due)) in
+    (λ q due. stands_in_use state.heap q (ripe_in_use (InUse state.heap) state.epoch state.limbo (I.sound.limbo) q due)) in
     λ handle root e. (e, content_same state I after o (Sweeps spent) goes refl handle root e)
 
 by_answer : (state : State) → IsSafe state → (answer : Answer) → MovesIfTaken state step.Sweep answer → Leaves state (state_after state answer)

@@ -5,7 +5,7 @@ use Rattle.std.proofs.lemmas.Bool.{cases_eq, le-leb, false≢true}
 use Rattle.std.proofs.lemmas.Nat.{ones_le_self}
 use Rattle.std.proofs.lemmas.Option.{none-some, same_Some}
 use Rattle.std.proofs.lemmas.List.Elements.{All-nil}
-use Rattle.proof_memory.specs.Vocabulary.{ref_to, slot_of, birth_of, most_slots, Ref, Node, Indirection, Slot, Heap, stored, node_at, taken, empty_branch, next_ref, heap_refs, count_of, outside}
+use Rattle.proof_memory.specs.Vocabulary.{ref_to, slot_of, birth_of, Ref, Node, Indirection, Slot, Heap, stored, node_at, taken, empty_branch, next_ref, heap_refs, count_of, outside}
 use Rattle.proof_memory.specs.Vocabulary.{refs_of_root, Root, RootWord, Bounds, State, first_state, first_heap, empty_heap, handle_limit, root_at, AreBounds, standing, of_birth}
 use Rattle.proof_memory.specs.Beneath.slot_arena.specs.declared.nodes.Prev.TheVariants as prev
 use Rattle.machine_model.specs.declared.actions.Action.TheVariants as act
@@ -29,9 +29,9 @@ record IsRight (slots : ℕ) (heap : Heap) : Type 0 where
   nodes : (r : Ref) (slot : Slot) → standing heap r ≡ Some slot → SlotHolds (IsInUse heap) heap slot
 
 -- taking a slot keeps that
-module _ (slots : ℕ) (small : slots ≤ most_slots) (heap : Heap) (h : IsRight slots heap) (node : Node) (wants : AllHold (IsInUse heap) heap (action_wants (act.Make node))) where
+module _ (slots : ℕ) (heap : Heap) (h : IsRight slots heap) (node : Node) (wants : AllHold (IsInUse heap) heap (action_wants (act.Make node))) where
   effect : Effect (AllHold (IsInUse heap) heap) (standing heap) (standing (taken heap node)) heap.births (taken heap node).births None
-  effect = takes (IsInUse heap) heap None (λ r u. u) slots (h.adds_up) small node wants
+  effect = takes (IsInUse heap) heap None (λ r u. u) slots (h.adds_up) node wants
 
   carry : Carries (IsInUse heap) heap (IsInUse (taken heap node)) (taken heap node)
   carry r u =
@@ -67,7 +67,7 @@ right_empty slots = record {
 }
 
 -- the two slots that are taken at first
-module _ (n : ℕ) (small : suc (suc n) ≤ most_slots) where
+module _ (n : ℕ) where
   abbrev slots : ℕ
   slots = suc (suc n)
 
@@ -78,23 +78,23 @@ module _ (n : ℕ) (small : suc (suc n) ≤ most_slots) where
   branch_wants = (so (le-leb (count_ones 0) 0 (ones_le_self 0)), (none_each (IsInUse (empty_heap slots)) (empty_heap slots), tt))
 
   right_one : IsRight slots one_taken
-  right_one = right_taken slots small (empty_heap slots) (right_empty slots) empty_branch branch_wants
+  right_one = right_taken slots (empty_heap slots) (right_empty slots) empty_branch branch_wants
 
   branch_stands : standing one_taken (ref_to 1 0) ≡ Some (fresh_slot (empty_heap slots) empty_branch)
-  branch_stands = (taken_all slots (empty_heap slots) (empty_adds_up slots) small empty_branch (ref_to 1 0) refl).0
+  branch_stands = (taken_all slots (empty_heap slots) (empty_adds_up slots) empty_branch (ref_to 1 0) refl).0
 
   root_wants : AllHold (IsInUse one_taken) one_taken (action_wants (act.Make (Indirection 0 (ref_to 1 0))))
   root_wants = (so refl, (is (fresh_slot (empty_heap slots) empty_branch, branch_stands) (ap (meets AMain) (node_standing one_taken (ref_to 1 0) _ branch_stands)), tt))
 
   right_two : IsRight slots (first_heap slots)
-  right_two = right_taken slots small one_taken right_one (Indirection 0 (ref_to 1 0)) root_wants
+  right_two = right_taken slots one_taken right_one (Indirection 0 (ref_to 1 0)) root_wants
 
   second_ref : next_ref one_taken ≡ Some (ref_to 2 1)
   unfolding taken
   second_ref = refl
 
   root_stands : standing (first_heap slots) (ref_to 2 1) ≡ Some (fresh_slot one_taken (Indirection 0 (ref_to 1 0)))
-  root_stands = (taken_all slots one_taken (taken_kept slots (empty_heap slots) empty_branch (empty_adds_up slots)) small (Indirection 0 (ref_to 1 0)) (ref_to 2 1) second_ref).0
+  root_stands = (taken_all slots one_taken (taken_kept slots (empty_heap slots) empty_branch (empty_adds_up slots)) (Indirection 0 (ref_to 1 0)) (ref_to 2 1) second_ref).0
 
   root_right : Holds (IsInUse (first_heap slots)) (first_heap slots) (Is (ref_to 2 1) AnIndirection)
   root_right = is (fresh_slot one_taken (Indirection 0 (ref_to 1 0)), root_stands) (ap (meets AnIndirection) (node_standing (first_heap slots) (ref_to 2 1) _ root_stands))
@@ -102,10 +102,10 @@ module _ (n : ℕ) (small : suc (suc n) ≤ most_slots) where
 abbrev FirstIsRight : ℕ → Type 0
 FirstIsRight slots = IsRight slots (first_heap slots) × Holds (IsInUse (first_heap slots)) (first_heap slots) (Is (ref_to 2 1) AnIndirection)
 
-first_right : (slots : ℕ) → 2 ≤ slots → slots ≤ most_slots → FirstIsRight slots
-first_right zero low small = absurd (omega arith)
-first_right (suc zero) low small = absurd (omega arith)
-first_right (suc (suc n)) low small = (right_two n small, root_right n small)
+first_right : (slots : ℕ) → 2 ≤ slots → FirstIsRight slots
+first_right zero low = absurd (omega arith)
+first_right (suc zero) low = absurd (omega arith)
+first_right (suc (suc n)) low = (right_two n, root_right n)
 
 -- the word of handle 0 alone
 pub first_words : (P : RootWord → Type 0) (word : Root) → P word.word → (k : ℕ) (root : Root) → get_or (set (replicate handle_limit None) 0 (Some word)) k None ≡ Some root → P root.word
@@ -118,10 +118,9 @@ first_words P word h k root e = elim (cases_eq k 0) [
 pub safe_at_first : (limits : Bounds) → AreBounds limits → IsSafe (first_state limits)
 unfolding first_state
 safe_at_first limits ok =
-    let (right, root) = first_right limits.slots ok.0 ok.1 in
+    let (right, root) = first_right limits.slots ok.0 in
     record {
       sound = sound_at_first limits;
-      small = ok.1;
       births = right.births;
       zeros = All-nil _;
       recent = λ k operation found. absurd (none_found limits.actors k operation found);
@@ -135,66 +134,66 @@ safe_at_first limits ok =
     }
 
 -- what stands under other references stood there before the two nodes were made
-one_other : (n : ℕ) (small : suc (suc n) ≤ most_slots) (r : Ref) → (r ≡ ref_to 2 1 → ⊥) → standing (first_heap (suc (suc n))) r ≡ standing (one_taken n small) r
-one_other n small = (taken_all (suc (suc n)) (one_taken n small) (taken_kept (suc (suc n)) (empty_heap (suc (suc n))) empty_branch (empty_adds_up (suc (suc n)))) small
-    (Indirection 0 (ref_to 1 0)) (ref_to 2 1) (second_ref n small)).2
+one_other : (n : ℕ) (r : Ref) → (r ≡ ref_to 2 1 → ⊥) → standing (first_heap (suc (suc n))) r ≡ standing (one_taken n) r
+one_other n = (taken_all (suc (suc n)) (one_taken n) (taken_kept (suc (suc n)) (empty_heap (suc (suc n))) empty_branch (empty_adds_up (suc (suc n))))
+    (Indirection 0 (ref_to 1 0)) (ref_to 2 1) (second_ref n)).2
 
-empty_other : (n : ℕ) (small : suc (suc n) ≤ most_slots) (r : Ref) → (r ≡ ref_to 1 0 → ⊥) → standing (one_taken n small) r ≡ standing (empty_heap (suc (suc n))) r
-empty_other n small = (taken_all (suc (suc n)) (empty_heap (suc (suc n))) (empty_adds_up (suc (suc n))) small empty_branch (ref_to 1 0) refl).2
+empty_other : (n : ℕ) (r : Ref) → (r ≡ ref_to 1 0 → ⊥) → standing (one_taken n) r ≡ standing (empty_heap (suc (suc n))) r
+empty_other n = (taken_all (suc (suc n)) (empty_heap (suc (suc n))) (empty_adds_up (suc (suc n))) empty_branch (ref_to 1 0) refl).2
 
-first_stands_in : (P : Ref → Slot → Type 0) (n : ℕ) → suc (suc n) ≤ most_slots →
+first_stands_in : (P : Ref → Slot → Type 0) (n : ℕ) →
     ((birth : ℕ) → P (ref_to 2 1) (record { birth = birth; node = Indirection 0 (ref_to 1 0); prev = prev.None })) →
     ((birth : ℕ) → P (ref_to 1 0) (record { birth = birth; node = empty_branch; prev = prev.None })) →
     (r : Ref) (slot : Slot) → standing (first_heap (suc (suc n))) r ≡ Some slot → P r slot
-first_stands_in P n small at_root at_branch r slot found = elim (cases_eq r (ref_to 2 1)) [
+first_stands_in P n at_root at_branch r slot found = elim (cases_eq r (ref_to 2 1)) [
   | inl is_root ↦
       subst (λ q. P q slot) (sym is_root)
-      (subst (P (ref_to 2 1)) (same_Some _ _ (sym (root_stands n small) ∙ ap (standing (first_heap (suc (suc n)))) (sym is_root) ∙ found)) (at_root ((one_taken n small).births + 1)))
+      (subst (P (ref_to 2 1)) (same_Some _ _ (sym (root_stands n) ∙ ap (standing (first_heap (suc (suc n)))) (sym is_root) ∙ found)) (at_root ((one_taken n).births + 1)))
   | inr other ↦
-      let before = sym (one_other n small r other) ∙ found in
+      let before = sym (one_other n r other) ∙ found in
       elim (cases_eq r (ref_to 1 0)) [
         | inl is_branch ↦
             subst (λ q. P q slot) (sym is_branch)
-            (subst (P (ref_to 1 0)) (same_Some _ _ (sym (branch_stands n small) ∙ ap (standing (one_taken n small)) (sym is_branch) ∙ before)) (at_branch ((empty_heap (suc (suc n))).births + 1)))
-        | inr another ↦ absurd (none_stands (suc (suc n)) r slot (sym (empty_other n small r another) ∙ before))
+            (subst (P (ref_to 1 0)) (same_Some _ _ (sym (branch_stands n) ∙ ap (standing (one_taken n)) (sym is_branch) ∙ before)) (at_branch ((empty_heap (suc (suc n))).births + 1)))
+        | inr another ↦ absurd (none_stands (suc (suc n)) r slot (sym (empty_other n r another) ∙ before))
       ]
 ]
 
 -- ---- what stands at first
 
 -- P holds of the root and of its branch, and so of all
-pub first_stands : (P : Ref → Slot → Type 0) (slots : ℕ) → 2 ≤ slots → slots ≤ most_slots →
+pub first_stands : (P : Ref → Slot → Type 0) (slots : ℕ) → 2 ≤ slots →
     ((birth : ℕ) → P (ref_to 2 1) (record { birth = birth; node = Indirection 0 (ref_to 1 0); prev = prev.None })) →
     ((birth : ℕ) → P (ref_to 1 0) (record { birth = birth; node = empty_branch; prev = prev.None })) →
     (r : Ref) (slot : Slot) → standing (first_heap slots) r ≡ Some slot → P r slot
-first_stands P zero low small = absurd (omega arith)
-first_stands P (suc zero) low small = absurd (omega arith)
-first_stands P (suc (suc n)) low small = first_stands_in P n small
+first_stands P zero low = absurd (omega arith)
+first_stands P (suc zero) low = absurd (omega arith)
+first_stands P (suc (suc n)) low = first_stands_in P n
 
 -- ---- each of the two slots is referred to
 
-first_counted : (n : ℕ) → suc (suc n) ≤ most_slots → (state : State) → state.heap ≡ first_heap (suc (suc n)) → (root : Root) → root_at state 0 ≡ Some root →
+first_counted : (n : ℕ) (state : State) → state.heap ≡ first_heap (suc (suc n)) → (root : Root) → root_at state 0 ≡ Some root →
     Contains (refs_of_root (Some root)) (ref_to 2 1) → (r : Ref) → IsInUse state.heap r → Contains (heap_refs state.heap ++ outside state) r
-first_counted n small state heap root word holds r (slot, found) = elim (cases_eq r (ref_to 2 1)) [
+first_counted n state heap root word holds r (slot, found) = elim (cases_eq r (ref_to 2 1)) [
   | inl is_root ↦ counted_in_root state 0 r root word (subst (Contains (refs_of_root (Some root))) (sym is_root) holds)
   | inr other ↦
-      let before = sym (one_other n small r other) ∙ ap (λ h. standing h r) (sym heap) ∙ found in
+      let before = sym (one_other n r other) ∙ ap (λ h. standing h r) (sym heap) ∙ found in
       elim (cases_eq r (ref_to 1 0)) [
-        | inl is_branch ↦ counted_in_slot state (ref_to 2 1) r (fresh_slot (one_taken n small) (Indirection 0 (ref_to 1 0))) (ap (λ h. standing h (ref_to 2 1)) heap ∙ root_stands n small)
+        | inl is_branch ↦ counted_in_slot state (ref_to 2 1) r (fresh_slot (one_taken n) (Indirection 0 (ref_to 1 0))) (ap (λ h. standing h (ref_to 2 1)) heap ∙ root_stands n)
             (zero, omega arith, sym is_branch)
-        | inr another ↦ absurd (none_stands (suc (suc n)) r slot (sym (empty_other n small r another) ∙ before))
+        | inr another ↦ absurd (none_stands (suc (suc n)) r slot (sym (empty_other n r another) ∙ before))
       ]
 ]
 
-first_counted_by : (slots : ℕ) → 2 ≤ slots → slots ≤ most_slots → (state : State) → state.heap ≡ first_heap slots → (root : Root) → root_at state 0 ≡ Some root →
+first_counted_by : (slots : ℕ) → 2 ≤ slots → (state : State) → state.heap ≡ first_heap slots → (root : Root) → root_at state 0 ≡ Some root →
     Contains (refs_of_root (Some root)) (ref_to 2 1) → (r : Ref) → IsInUse state.heap r → Contains (heap_refs state.heap ++ outside state) r
-first_counted_by zero low small = absurd (omega arith)
-first_counted_by (suc zero) low small = absurd (omega arith)
-first_counted_by (suc (suc n)) low small = first_counted n small
+first_counted_by zero low = absurd (omega arith)
+first_counted_by (suc zero) low = absurd (omega arith)
+first_counted_by (suc (suc n)) low = first_counted n
 
 -- so limbo has all with none, which it is to have
 pub first_zeros : (limits : Bounds) → AreBounds limits → HasZeros (first_state limits)
 unfolding first_state
 first_zeros limits ok r (used, zeros) =
-    let is_counted = first_counted_by limits.slots ok.0 ok.1 (first_state limits) refl _ refl (zero, omega arith, refl) r used in
+    let is_counted = first_counted_by limits.slots ok.0 (first_state limits) refl _ refl (zero, omega arith, refl) r used in
     absurd (false≢true (sym (counted (first_state limits).heap (outside (first_state limits)) r is_counted) ∙ eq-eqb (count_of (first_state limits).heap (outside (first_state limits)) r) 0 zeros))

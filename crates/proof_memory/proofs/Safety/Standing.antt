@@ -1,7 +1,7 @@
 -- The laws on references and look-ups, from safe memory.
-use Rattle.std.proofs.Common.{◌≡◌, ℕ, ◌<◌, [], All, Contains, get_or, Option, Some, None, refl, sym, ap, ◌∙◌, arith}
+use Rattle.std.proofs.Common.{◌≡◌, ℕ, [], All, Contains, get_or, Option, Some, None, refl, sym, ap, ◌∙◌, arith}
 use Rattle.std.proofs.lemmas.List.Elements.{All-contains, All-append}
-use Rattle.proof_memory.specs.Vocabulary.{ref_to, slot_of, most_slots, Ref, Slot, stored, refs_of_node, refs_of_prev, refs_of_slot, Operation, Root, State, root_at, operation_of, refs_of_root}
+use Rattle.proof_memory.specs.Vocabulary.{ref_to, slot_of, Ref, Slot, stored, refs_of_node, refs_of_prev, refs_of_slot, Operation, Root, State, root_at, operation_of, refs_of_root}
 use Rattle.proof_memory.specs.Vocabulary.{standing}
 use Rattle.proof_memory.specs.Wants.{node_wants, prev_wants}
 use Rattle.proof_memory.specs.Laws.{IsInUse}
@@ -39,9 +39,8 @@ module _ (state : State) (I : IsSafe state) where
   pub stored_stands : (q : Ref) (slot : Slot) → stored state.heap q ≡ Some slot → standing state.heap (ref_to slot.birth (slot_of q)) ≡ Some slot
   unfolding stored
   stored_stands q slot e =
-      let small : slot_of q < most_slots = omega arith in
       standing_from state.heap (ref_to slot.birth (slot_of q)) slot
-      (ap (λ k. get_or state.heap.slots k None) (slot_of_ref slot.birth (slot_of q) small) ∙ e) (sym (birth_of_ref slot.birth (slot_of q) small))
+      (ap (λ k. get_or state.heap.slots k None) (slot_of_ref slot.birth (slot_of q)) ∙ e) (sym (birth_of_ref slot.birth (slot_of q)))
 
   in_slot_by : (q r : Ref) (o : Option Slot) → stored state.heap q ≡ o → Contains (refs_of_slot o) r → IsInUse state.heap r
   in_slot_by q r None e c = none_contained r c

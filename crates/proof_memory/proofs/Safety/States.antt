@@ -1,14 +1,13 @@
 -- Memory is safe: what is taken for a node of a kind is one, after every step. One invariant for nodes, root words, lines and private lists.
-use Rattle.std.proofs.Common.{◌≡◌, ℕ, ◌+◌, ◌<◌, ◌≤◌, true, nat_le, is_some, List, [], ◌∷◌, ◌++◌, All, Contains, length, get_or, Option, Some, None, refl, sym, ap, ◌∙◌, subst}
+use Rattle.std.proofs.Common.{◌≡◌, ℕ, ◌+◌, ◌≤◌, true, nat_le, is_some, List, [], ◌∷◌, ◌++◌, All, Contains, get_or, Option, Some, None, refl, sym, ap, ◌∙◌, subst}
 use Rattle.std.proofs.Common.{◌⊎◌, inl, inr, leb-true, arith}
 use Rattle.std.proofs.lemmas.Bool.{cases_eq, false≢true}
 use Rattle.std.proofs.lemmas.Option.{none-some, same_Some, cond_some}
 use Rattle.std.proofs.lemmas.List.Elements.{All-head, Contains-append_left, Contains-append_right, Contains-get_or}
-use Rattle.proof_memory.specs.Vocabulary.{slot_of, birth_of, most_slots, Ref, Node, Indirection, Branch, Single, Tomb, List as Listed, Prev, Slot, Zeroed, Heap, stored, node_at, with_main_word}
+use Rattle.proof_memory.specs.Vocabulary.{slot_of, birth_of, Ref, Node, Indirection, Branch, Single, Tomb, List as Listed, Prev, Slot, Zeroed, Heap, stored, node_at, with_main_word}
 use Rattle.proof_memory.specs.Vocabulary.{main_changed, prev_changed, heap_refs, refs_of_node, refs_of_prev, refs_of_slot, refs_of_option, limbo_after, ripe, Operation, Root, RootWord, Plain, Offer}
 use Rattle.proof_memory.specs.Vocabulary.{State, root_at, word_of, word_at, outside, refs_of_word, standing}
 use Rattle.proof_memory.specs.Beneath.slot_arena.specs.declared.nodes.Prev.TheVariants as prev
-use Rattle.machine_model.proofs.Found.{found_within}
 use Rattle.machine_model.proofs.InUse.{InUse}
 use Rattle.machine_model.proofs.Slots.{IsSound}
 use Rattle.proof_memory.specs.Wants.{AMain, is_formed, Claim, Is, So, Holds, AllHold, node_wants, prev_wants, word_wants, line_wants}
@@ -25,7 +24,6 @@ use Rattle.proof_memory.specs.Beneath.slot_arena.proofs.Live.{slot_of_ref, birth
 
 pub record IsSafe (state : State) : Type 0 where
   pub sound : IsSound state.limits.slots state
-  pub small : state.limits.slots ≤ most_slots
   -- no slot in use has a birth that is still to be drawn
   pub births : (r : Ref) (slot : Slot) → standing state.heap r ≡ Some slot → birth_of r ≤ state.heap.births
   pub zeros : AllZero state
@@ -125,13 +123,11 @@ ripe_old (z ∷ limbo) now epoch r e g h =
     omega arith
 
 -- a reference into a list of slots stands
-pub stands_in_use : (heap : Heap) (r : Ref) → length heap.slots ≤ most_slots → InUse heap r → IsInUse heap r
+pub stands_in_use : (heap : Heap) (r : Ref) → InUse heap r → IsInUse heap r
 unfolding stored
-stands_in_use heap r small (k, slot, at_k, e) =
-    let within = found_within heap.slots k slot at_k in
-    let k_small : k < most_slots = omega arith in
-    let its_slot : slot_of r ≡ k = ap slot_of e ∙ slot_of_ref slot.birth (0 + k) (omega arith) ∙ zero_add k in
-    let its_birth : birth_of r ≡ slot.birth = ap birth_of e ∙ birth_of_ref slot.birth (0 + k) (omega arith) in
+stands_in_use heap r (k, slot, at_k, e) =
+    let its_slot : slot_of r ≡ k = ap slot_of e ∙ slot_of_ref slot.birth (0 + k) ∙ zero_add k in
+    let its_birth : birth_of r ≡ slot.birth = ap birth_of e ∙ birth_of_ref slot.birth (0 + k) in
     (slot, standing_from heap r slot (ap (λ i. get_or heap.slots i None) its_slot ∙ at_k) (sym its_birth))
   where
     zero_add : (k : ℕ) → 0 + k ≡ k
@@ -156,14 +152,14 @@ module _ (state after : State) (epoch : ℕ) (low : epoch ≤ state.epoch) (high
       )
 
   -- what is made is safe
-  pub made_safe : (sound : IsSound state.limits.slots state) → state.limits.slots ≤ most_slots → (made : Ref) (slot : Slot) → standing state.heap made ≡ None →
+  pub made_safe : (sound : IsSound state.limits.slots state) (made : Ref) (slot : Slot) → standing state.heap made ≡ None →
       standing after.heap made ≡ Some slot → Safe after epoch made
-  made_safe sound small made slot none found =
+  made_safe sound made slot none found =
       record { used = (slot, found); guarded = guard_kept made (λ k d within same. absurd (none_stands (get_or state.limbo k d).at same (sound.limbo k d within))) }
     where
       none_stands : (r : Ref) → r ≡ made → InUse state.heap r → ⊥
       none_stands r same u =
-          let (was, stood) = stands_in_use state.heap r (omega (arith, sound.heap.size)) u in
+          let (was, stood) = stands_in_use state.heap r u in
           none-some was (sym none ∙ ap (standing state.heap) (sym same) ∙ stood)
 
 -- safe is in use

@@ -6,7 +6,7 @@ use Rattle.std.proofs.lemmas.List.Elements.{All-weaker, All-push, All-nil}
 use Rattle.proof_memory.specs.Vocabulary.{HashKind, Access, Call, Close, Entries, Ref, Node, Slot, Heap, node_at, next_ref, taken, Swept, limbo_after, is_zero, Reclaimer, ripe, sweep_by, Operation}
 use Rattle.proof_memory.specs.Vocabulary.{Action, Bounds, Outcome, Step, handle_of, State, word_at, operation_of, action_of, line_after, first_line, gone, acted, operation_after, private_after}
 use Rattle.proof_memory.specs.Vocabulary.{with_made, new_root_taken, outside, settled, begin_denial, with_begin, pin_of, reclaimer_of, Begins, Ends, Sweeps, GivesUp, Moves, GoesOn, begun_operation}
-use Rattle.proof_memory.specs.Vocabulary.{standing, most_slots}
+use Rattle.proof_memory.specs.Vocabulary.{standing}
 use Rattle.machine_model.specs.declared.actions.Action.TheVariants as act
 use Rattle.machine_model.specs.declared.steps.Step.TheVariants as step
 use Rattle.machine_model.specs.Moves.{Goes}
@@ -99,7 +99,7 @@ module _ (state : State) (I : IsSafe state) where
 
   pub gone_effect : (actor k : ℕ) (operation : Operation) → get_or state.actors k None ≡ Some operation → Effects operation.epoch None (settled state (gone state actor operation))
   gone_effect actor k operation e =
-      acted_effect (Safe state operation.epoch) _ None (used_of state operation.epoch) state.limits.slots (I.sound.heap) (I.small) (handle_of operation.call)
+      acted_effect (Safe state operation.epoch) _ None (used_of state operation.epoch) state.limits.slots (I.sound.heap) (handle_of operation.call)
       (action_of state operation) (step_claims k operation e)
 
   sweep_effect : (pins : List (Option ℕ)) (due : Option Ref) → ripe state.epoch state.limbo ≡ due →
@@ -112,7 +112,7 @@ module _ (state : State) (I : IsSafe state) where
       (λ b. same (Safe state state.epoch) state.heap (ripe state.epoch state.limbo) (used_of state state.epoch))
   sweep_effect pins (Some q) e =
       frees (Safe state state.epoch) state.heap (ripe state.epoch state.limbo) (used_of state state.epoch) q e
-      (stands_in_use state.heap q (omega (arith, I.small, I.sound.heap.size)) (ripe_in_use (InUse state.heap) state.epoch state.limbo (I.sound.limbo) q e))
+      (stands_in_use state.heap q (ripe_in_use (InUse state.heap) state.epoch state.limbo (I.sound.limbo) q e))
 
   pub step_effect : (s : Step) (o : Outcome) (after : State) → Moves state s o after → IsEffect s after
   step_effect s o after (Begins {actor} {call} d) =
@@ -184,10 +184,10 @@ module _ (state : State) (I : IsSafe state) where
     pub made_fresh : (node : Node) (made : Ref) → made_node state (action_of state operation) ≡ Some node → next_ref state.heap ≡ Some made →
         Safe next operation.epoch made × (node_at next.heap made ≡ node)
     made_fresh node made is e =
-        let (here, none, others, birth) = taken_all state.limits.slots state.heap (I.sound.heap) (I.small) node made e in
+        let (here, none, others, birth) = taken_all state.limits.slots state.heap (I.sound.heap) node made e in
         let stood = ap (λ heap. standing heap made) (made_heap _ (handle_of operation.call) (action_of state operation) node made is e) ∙ here in (
           made_safe state next operation.epoch its_epoch.0 its_epoch.1 grows refl None (λ r e. absurd (none-some r e)) _ (gone_effect actor k operation found)
-              (I.sound) (I.small) made (fresh_slot state.heap node) none stood,
+              (I.sound) made (fresh_slot state.heap node) none stood,
           node_standing next.heap made (fresh_slot state.heap node) stood,
         )
 
@@ -277,8 +277,7 @@ module _ (state : State) (I : IsSafe state) where
 
   pub safe_after : (s : Step) (o : Outcome) (after : State) → Moves state s o after → IsSafe after
   safe_after s o after m = record {
-    sound = subst (λ (l : Bounds). IsSound l.slots after) (sym (limits_kept state s o after m)) (sound_after state.limits.slots (I.small) state s (I.sound) o after m);
-    small = subst (λ (l : Bounds). l.slots ≤ most_slots) (sym (limits_kept state s o after m)) (I.small);
+    sound = subst (λ (l : Bounds). IsSound l.slots after) (sym (limits_kept state s o after m)) (sound_after state.limits.slots state s (I.sound) o after m);
     births = births_after _ _ _ _ _ _ ((step_effect s o after m).3) (I.births);
     zeros = zeros_after s o after m;
     recent = recent_after state (I.recent) s o after m;

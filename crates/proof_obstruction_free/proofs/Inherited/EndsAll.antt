@@ -17,7 +17,7 @@ writes_end : (a : Lone) → IsOnKey a.own.call → a.own.access ≡ Writable →
 writes_end a on writes long =
     let weighing = fine_weighing a in
     let at_most = fine_at_most a a.start in
-    let actors = a.run.limits_ok.3 in
+    let actors = a.run.limits_ok.2 in
     (fine_ends a (fine a) 2 (quiet a) (stepping a) (machines a (fine a) 5 1 2 weighing (omega arith) (omega arith) (omega arith)) on writes (omega (arith, fine_most_is, at_most, actors, long))).3
 
 by_access : (a : Lone) → IsOnKey a.own.call → (x : Access) → a.own.access ≡ x → a.start + most_steps_alone ≤ a.last → ⊥

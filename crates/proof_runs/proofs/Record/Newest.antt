@@ -6,6 +6,7 @@ use Rattle.std.proofs.lemmas.List.Elements.{All-cons, All-nil, All-push, All-wea
 use Rattle.proof_runs.specs.Vocabulary.{Ref, slot_of, birth_of, Heap, Line, Operation, SwapLine, Commit, Entrant, Publication, Bounds, Outcome, Step, State, first_state, operation_of, action_at}
 use Rattle.proof_runs.specs.Vocabulary.{action_of, line_action, AreBounds, run, Moves, Begins, Ends, Sweeps, GivesUp, Record, commits_after, noted, record_of, changer_for, committed_now}
 use Rattle.proof_runs.specs.Vocabulary.{published_at, published_by, told_in, Action}
+use Rattle.proof_runs.specs.Beneath.slot_arena.proofs.Births.{rise_with_births}
 use Rattle.proof_runs.specs.Beneath.slot_arena.proofs.Live.{one_live}
 use Rattle.proof_runs.specs.Beneath.slot_arena.proofs.Reading.{live_seen}
 use Rattle.proof_runs.specs.Beneath.machine_model.specs.declared.lines.Line.TheVariants as line
@@ -45,8 +46,8 @@ record AreNewest (state : State) (past : Record) : Type 0 where
   published : AreBehind published_main state past.published
 
 -- what was drawn before is behind what is drawn now
-older : (a b births : ℕ) → birth_of a ≤ births → birth_of b ≡ births + 1 → a ≤ b
-older a b births low high = omega (arith, low, high)
+older : (a b births : ℕ) → slot_of a ≡ slot_of b → birth_of a ≤ births → birth_of b ≡ births + 1 → a ≤ b
+older a b births same low high = rise_with_births a b same (omega (arith, low, high))
 
 -- nodes in use in one slot are one
 pub same_slot : (heap : Heap) (a b : Ref) → IsInUse heap a → IsInUse heap b → slot_of a ≡ slot_of b → a ≡ b
@@ -69,7 +70,7 @@ module _ (state : State) (I : IsSafe state) (s : Step) (o : Outcome) (after : St
     drawn = All-weaker (λ t. birth_of (main_of t) ≤ state.heap.births) (λ t. birth_of (main_of t) ≤ after.heap.births) (λ t le. omega (arith, le, grows)) told h.drawn;
     newest = λ main used. elim (stood_or_made _ _ _ _ _ _ ((step_effect state I s o after m).3) main used.0 used.1) [
       | inl stood ↦ h.newest main stood
-      | inr made ↦ All-weaker (λ t. birth_of (main_of t) ≤ state.heap.births) (λ t. IsBehind main (main_of t)) (λ t le same. older (main_of t) main state.heap.births le made.0) told h.drawn
+      | inr made ↦ All-weaker (λ t. birth_of (main_of t) ≤ state.heap.births) (λ t. IsBehind main (main_of t)) (λ t le same. older (main_of t) main state.heap.births same le made.0) told h.drawn
     ];
   }
 
@@ -80,7 +81,7 @@ module _ (state : State) (I : IsSafe state) (s : Step) (o : Outcome) (after : St
   behind_now : (fresh main : Ref) → IsInUse state.heap fresh → IsInUse after.heap main → IsBehind main fresh
   behind_now fresh main at used same = elim (stood_or_made _ _ _ _ _ _ ((step_effect state I s o after m).3) main used.0 used.1) [
     | inl stood ↦ omega (arith, same_slot state.heap fresh main at stood same)
-    | inr made ↦ older fresh main state.heap.births (I.births fresh at.0 at.1) made.0
+    | inr made ↦ older fresh main state.heap.births same (I.births fresh at.0 at.1) made.0
   ]
 
   commits_now : (past : Record) (committed : Option Ref) → ((fresh : Ref) → committed ≡ Some fresh → IsInUse state.heap fresh) → AreBehind committed_main state past.commits →

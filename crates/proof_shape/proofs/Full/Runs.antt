@@ -61,7 +61,7 @@ module _ (limits : Bounds) (states : ℕ → State) (steps : ℕ → Step) (last
       let n : made_node (states t) (action_of (states t) operation) ≡ Some (Indirection g child) = ap (made_node (states t)) a in
       let stood = ap (λ (x : State). standing x.heap made) go.after ∙ ap (λ heap. standing heap made)
       (made_heap _ (handle_of operation.call) (action_of (states t) operation) (Indirection g child) made n e)
-      ∙ (taken_all (states t).limits.slots (states t).heap (I.sound.heap) (I.small) (Indirection g child) made e).0 in
+      ∙ (taken_all (states t).limits.slots (states t).heap (I.sound.heap) (Indirection g child) made e).0 in
       sym (bare_link (s.node made)) ∙ ap is_indirection (are_bare limits states steps last run takes (suc t) h made (fresh_slot (states t).heap (Indirection g child)) stood)
 
   line_next : (t : ℕ) (h : t < last) (actor : ℕ) (operation : Operation) → GoesAt states run.records t actor operation → (l : Line) →
@@ -131,7 +131,7 @@ module _ (limits : Bounds) (states : ℕ → State) (steps : ℕ → Step) (last
     first_there : (r : Ref) (slot : Slot) → standing (first_state limits).heap r ≡ Some slot → FullNode s (s.level r) slot.node
     unfolding first_state
     first_there =
-        first_stands (λ r slot. FullNode s (s.level r) slot.node) limits.slots run.limits_ok.0 run.limits_ok.1 (λ birth. tt)
+        first_stands (λ r slot. FullNode s (s.level r) slot.node) limits.slots run.limits_ok.0 (λ birth. tt)
         (λ birth deep. let root = branch_old limits states steps last run takes in absurd (omega (arith, root, deep)))
 
     pub full_grown : (t : ℕ) → t ≤ last → (r : Ref) (slot : Slot) → grown states t r ≡ Some slot → FullNode s (s.level r) slot.node

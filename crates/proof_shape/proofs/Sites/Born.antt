@@ -61,7 +61,7 @@ born state I x o after (Ends d is a) r slot none new = absurd (none-some slot (s
 born state I x o after (GivesUp d is a) r slot none new = absurd (none-some slot (sym none ∙ new))
 born state I x o after (Sweeps spent) r slot none new =
     elim (sweep_goes state I (map pin_of state.actors) (ripe state.epoch state.limbo)
-    (λ q due. stands_in_use state.heap q (omega (arith, I.small, I.sound.heap.size)) (ripe_in_use (InUse state.heap) state.epoch state.limbo (I.sound.limbo) q due)) r) [
+    (λ q due. stands_in_use state.heap q (ripe_in_use (InUse state.heap) state.epoch state.limbo (I.sound.limbo) q due)) r) [
       | inl same ↦ absurd (none-some slot (sym none ∙ sym same ∙ new))
       | inr gone ↦ absurd (none-some slot (sym gone ∙ new))
     ]
@@ -73,7 +73,7 @@ born state I x o after (Goes {actor} {operation} d is a g) r slot none new = by_
     by_node : (n : Option Node) → made_node state (action_of state operation) ≡ n → IsBorn state (step.Go actor) r slot
     by_node (Some node) n =
         let stood = ap (λ heap. standing heap r) (made_heap _ (handle_of operation.call) (action_of state operation) node r n next)
-        ∙ (taken_all state.limits.slots state.heap (I.sound.heap) (I.small) node r next).0 in
+        ∙ (taken_all state.limits.slots state.heap (I.sound.heap) node r next).0 in
         record { actor = actor; operation = operation; node = node; step_is = refl; runs = is; makes_it = n; next = next; slot_is = same_Some _ _ (sym new ∙ stood) }
     by_node None n =
         let (k, found) = of_actor state (λ k operation. get_or state.actors k None ≡ Some operation) (λ k operation e. e) actor operation is in

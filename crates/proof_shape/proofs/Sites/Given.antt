@@ -43,7 +43,7 @@ made_stands state I s o after (Goes {actor} {operation} d is a g) r e = by_node 
     by_node (Some node) n = (
       fresh_slot state.heap node,
       ap (λ heap. standing heap r) (made_heap _ (handle_of operation.call) (action_of state operation) node r n next)
-          ∙ (taken_all state.limits.slots state.heap (I.sound.heap) (I.small) node r next).0,
+          ∙ (taken_all state.limits.slots state.heap (I.sound.heap) node r next).0,
     )
 made_stands state I s o after (Ends {actor} {operation} d is a) r e =
     absurd (none-some r (sym (ap (λ x. if_made x (next_ref state.heap)) (ap (made_node state) a)) ∙ sym (ap (made_by state) is) ∙ e))
@@ -131,7 +131,7 @@ module _ (limits : Bounds) (states : ℕ → State) (steps : ℕ → Step) (last
       let (slot, found) =
       first_stands (λ r (slot : Slot). AllHold (IsInUse (first_state limits).heap) (first_state limits).heap (node_wants slot.node ++ prev_wants slot.prev) →
       r ≡ ref_to 2 1 → IsInUse (first_state limits).heap (ref_to 1 0)) limits.slots
-      run.limits_ok.0 run.limits_ok.1 (λ birth h is. safe_of h.0) (λ birth h is. absurd (omega (arith, is))) (ref_to 2 1) root at_root held refl in
+      run.limits_ok.0 (λ birth h is. safe_of h.0) (λ birth h is. absurd (omega (arith, is))) (ref_to 2 1) root at_root held refl in
       old_level (ref_to 1 0) slot found
 
   positive : (r : Ref) → level r ≡ 1 → 1 ≤ level r
@@ -147,13 +147,13 @@ module _ (limits : Bounds) (states : ℕ → State) (steps : ℕ → Step) (last
   unfolding first_state
   first_levels = (
     record {
-      nodes = first_stands (SlotLevel level) limits.slots run.limits_ok.0 run.limits_ok.1 (λ birth. ((branch_old ∙ sym root_old, positive (ref_to 2 1) root_old), tt))
+      nodes = first_stands (SlotLevel level) limits.slots run.limits_ok.0 (λ birth. ((branch_old ∙ sym root_old, positive (ref_to 2 1) root_old), tt))
           (λ birth. ((All-nil (EntryLevel level (level (ref_to 1 0))), positive (ref_to 1 0) branch_old), tt));
       words = first_words (WordLevel level) _ root_old;
       lines = λ k operation found. absurd (none_found limits.actors k operation found);
     },
     record {
-      nodes = first_stands (λ r slot. ShapeAt (list_depth limits.hash) (level r) slot.node) limits.slots run.limits_ok.0 run.limits_ok.1
+      nodes = first_stands (λ r slot. ShapeAt (list_depth limits.hash) (level r) slot.node) limits.slots run.limits_ok.0
           (λ birth. at_root (level (ref_to 2 1)) root_old) (λ birth. at_branch (level (ref_to 1 0)) branch_old (deep_low limits.hash));
       lines = λ k operation found. absurd (none_found limits.actors k operation found);
     },

@@ -85,7 +85,7 @@ module _ (limits : Bounds) (states : ℕ → State) (steps : ℕ → Step) (last
       let fits = paths_fit states steps last in
       let here : depth_at (s.level (ref_to 1 0)) ≡ 0 = ap depth_at branch in
       record {
-        nodes = first_stands (λ r slot. InsideSite limits.hash s r slot.node × PrevSite limits.hash s r slot.prev) limits.slots run.limits_ok.0 run.limits_ok.1
+        nodes = first_stands (λ r slot. InsideSite limits.hash s r slot.node × PrevSite limits.hash s r slot.prev) limits.slots run.limits_ok.0
             (λ birth. (roots_alike s fits (ref_to 1 0) (ref_to 2 1) branch root, tt))
             (λ birth. (empty_shaped (trie_at limits.hash s) fits (ref_to 1 0) (omega (arith, here, deep_low limits.hash)), tt));
         lines = λ k operation found. absurd (none_found limits.actors k operation found);

@@ -144,7 +144,7 @@ module _ (s : Sites) (fits : (i : Ref) → s.path i < 2 ^ (5 * depth_at (s.level
         standing (settled state (gone state actor operation)).heap made ≡ Some (fresh_slot state.heap node)
     stood node made a e =
         ap (λ heap. standing heap made) (made_heap _ (handle_of operation.call) (action_of state operation) node made a e)
-        ∙ (taken_all state.limits.slots state.heap (I.sound.heap) (I.small) node made e).0
+        ∙ (taken_all state.limits.slots state.heap (I.sound.heap) node made e).0
 
   fresh_after : (x : Step) (o : Outcome) (after : State) → Moves state x o after → GivesLevel s.level state x → GivesPath s state x → (node : Node) (made : Ref) → next_ref state.heap ≡ Some made →
       standing state.heap made ≡ None → standing after.heap made ≡ Some (fresh_slot state.heap node) → InsideSite kind s made node

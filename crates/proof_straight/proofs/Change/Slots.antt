@@ -103,7 +103,6 @@ used_not_free slots n slot (m ∷ free) is (within, none, once, rest) =
 written_empty : (change : Slot → Slot) (heap : Heap) (r : Ref) (slot : Slot) → stored heap r ≡ Some slot → HasEmptySlots heap → HasEmptySlots (written change heap r)
 unfolding stored
 written_empty change heap r slot is h = record {
-  few = omega (arith, h.few, length-set heap.slots (slot_of r) (option_map change (get_or heap.slots (slot_of r) None)));
   empty = still_empty heap.slots (slot_of r) _ heap.free (used_not_free heap.slots (slot_of r) slot heap.free is h.empty) h.empty;
 }
 
@@ -125,7 +124,7 @@ takes_by slots (slot ∷ free) births node h enough = record {
   here = ap (λ n. get_or (set slots slot put) n None) its ∙ get_or-set_same slots slot put None h.empty.0;
   others = λ r was is. get_or-set_other slots slot (slot_of r) put None (λ same. elsewhere r was is same) ∙ is;
   apart = λ r was is same. elsewhere r was is (same ∙ its);
-  empty = record { few = omega (arith, h.few, length-set slots slot put); empty = still_empty slots slot put free h.empty.2 h.empty.3 };
+  empty = record { empty = still_empty slots slot put free h.empty.2 h.empty.3 };
   fewer = refl;
 }
   where
@@ -133,7 +132,7 @@ takes_by slots (slot ∷ free) births node h enough = record {
     put = Some (record { birth = births + 1; node = node; prev = prev.None })
 
     its : slot_of (ref_to (births + 1) slot) ≡ slot
-    its = slot_of_ref (births + 1) slot (omega (arith, h.empty.0, h.few))
+    its = slot_of_ref (births + 1) slot
 
     elsewhere : (r : Ref) (was : Slot) → get_or slots (slot_of r) None ≡ Some was → slot_of r ≡ slot → ⊥
     elsewhere r was is same = none-some was (sym h.empty.1 ∙ ap (λ n. get_or slots n None) (sym same) ∙ is)

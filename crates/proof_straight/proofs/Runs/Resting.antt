@@ -97,6 +97,5 @@ pub free_slots_empty : FreeSlotsEmpty
 free_slots_empty limits steps ok =
     let sound = (sound_along limits ok steps).heap in
     record {
-      few = omega (arith, sound.size, ok.1);
       empty = free_are_empty (run limits steps).heap.slots (run limits steps).heap.free (λ k. omega (arith, sound.rest.each k));
     }

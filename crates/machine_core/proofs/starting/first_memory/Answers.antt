@@ -1,4 +1,8 @@
-use Rattle.std.proofs.Common.{length, ap, arith, ◌∙◌}
+use Rattle.std.specs.Prelude.{IfSome}
+use Rattle.std.proofs.Common.{◌≡◌, length, Some, sym, ap, subst, arith, ◌∙◌}
+use Rattle.slot_arena.specs.Arenas.{IsLive}
+use Rattle.slot_arena.specs.Heaps.{next_ref}
+use Rattle.slot_arena.specs.Refs.{ref_to}
 use Rattle.epochs.specs.Memories.{Memory}
 use Rattle.proof_core.proofs.Bounded.{taken_most}
 use Rattle.proof_core.proofs.Claims.{one_live}
@@ -7,6 +11,13 @@ use Rattle.machine_core.proofs.starting.first_memory.Goals as goal
 
 pub make_held-requires-2-clause-births : goal.make_held-requires-2-clause-births
 make_held-requires-2-clause-births c = omega (arith, taken_most _ _ _ c.make_held.ensures.heap, ap (λ (m : Memory). m.heap.births) c.in_ok-heap.ensures.made.0)
+
+pub make_held-requires-2-clause-live : goal.make_held-requires-2-clause-live
+make_held-requires-2-clause-live c =
+    let (made, sizes) = c.in_ok-heap.ensures.made in
+    let drawn : c.make_held.result ≡ Some (ref_to 1 0) = c.make_held.ensures.made ∙ ap (λ (m : Memory). next_ref m.heap) made ∙ next_first c.args.slots sizes.0.0 in
+    let lives : IsLive c.make_held.new.self.heap (ref_to 1 0) = subst (λ o. IfSome o (IsLive c.make_held.new.self.heap)) drawn c.make_held.ensures.lives in
+    one_live c.make_held.new.self.heap c.new-main.result (subst (IsLive c.make_held.new.self.heap) (sym c.new-main.ensures) lives)
 
 pub returns-clause-limbo : goal.returns-clause-limbo
 returns-clause-limbo c = grind (arith, next_first, next_second, first_limbo, one_live)

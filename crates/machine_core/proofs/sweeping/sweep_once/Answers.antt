@@ -16,7 +16,7 @@ returns-clause-swept c =
     let swept = c.sweep-swept.ensures in
     let settled = c.settle.ensures in
     sweeps (seen c.args.parts.now) c.args.parts.now.heap c.sweep-swept.new.self c.settle.new.self c.sweep-swept.result c.requires.unspent
-    (bounded (seen c.args.parts.now) c.requires.core.run).slots c.requires.core.kept.tied (record {
+    c.requires.core.kept.tied (record {
       swept = swept.swept;
       same = refl;
       left = swept.limbo;
@@ -49,5 +49,5 @@ pub returns-clause-work : goal.returns-clause-work
 returns-clause-work c =
     let swept = c.sweep-swept.ensures in
     let settled = c.settle.ensures in
-    swept_little c.args.parts.now.heap c.sweep-swept.new.self c.settle.new.self c.sweep-swept.result (bounded (seen c.args.parts.now) c.requires.core.run).slots
+    swept_little c.args.parts.now.heap c.sweep-swept.new.self c.settle.new.self c.sweep-swept.result
     swept.swept swept.limbo swept.few swept.ticks settled.limbo settled.rising settled.ticks

@@ -1,8 +1,7 @@
 use Rattle.std.specs.Prelude.{slice_index_or, None}
-use Rattle.std.proofs.Common.{◌<◌, ◌≡◌, ◌≤◌, true, ℕ, ◌+◌, List, [], length, sym, ap, ◌∙◌, subst, arith}
+use Rattle.std.proofs.Common.{◌<◌, ◌≡◌, true, ℕ, ◌+◌, List, [], length, sym, ap, ◌∙◌, subst, arith}
 use Rattle.std.specs.List.{list_all}
 use Rattle.std.proofs.lemmas.Option.{MatchOption-at_none}
-use Rattle.slot_arena.specs.Refs.{most_slots}
 use Rattle.epochs.specs.declared.limbo.Zeroed.{Zeroed}
 use Rattle.epochs.specs.Limbo.{limbo_after}
 use Rattle.epochs.specs.Memories.{IsMemory, IsRecent, Memory, limbo_of, reclaimer_of}
@@ -15,10 +14,9 @@ use Rattle.epochs.proofs.heap.Heap.grow.Goals as goal
 
 pub returns-then-is_ripe-clause-settled : goal.returns-then-is_ripe-clause-settled
 returns-then-is_ripe-clause-settled c =
-    let small : length c.self.inside.arena.heap.slots ≤ most_slots = omega (arith, c.len.ensures.size, c.len.ensures.few) in
     let none : c.self.inside.arena.noted ≡ [] = ap (λ (m : Memory). m.noted) c.self.view_is ∙ c.requires.settled in
     subst (λ (r : Ringed). limbo_of c.self.inside.epoch r.bags ≡ limbo_after c.self.inside.arena.heap c.self.inside.arena.outside c.self.inside.epoch (limbo_of c.self.inside.epoch r.bags))
-    (sym c.first.ensures.same) (settled_already c.self.inside.arena c.self.inside.bags.bags c.self.invariant.0.lists none small c.self.inside.epoch)
+    (sym c.first.ensures.same) (settled_already c.self.inside.arena c.self.inside.bags.bags c.self.invariant.0.lists none c.self.inside.epoch)
 
 empty_so : (c : goal.After-self-2-1) → c.self.inside.bags.bags.oldest ≡ []
 empty_so c = MatchOption-at_none _ _ (not_there c.first.result (sym c.is_some-is_ripe.ensures ∙ c.if-is_ripe.false)) c.first.ensures.first
@@ -77,7 +75,6 @@ returns-clause-settled c =
     let memory = c.self.invariant.0 in
     let n : ℕ = c.self.inside.epoch in
     let bags : Bags = c.self.inside.bags.bags in
-    let small : length c.self.inside.arena.heap.slots ≤ most_slots = omega (arith, c.len.ensures.size, c.len.ensures.few) in
     let none : c.self.inside.arena.noted ≡ [] = ap (λ (m : Memory). m.noted) c.self.view_is ∙ c.requires.settled in
     subst (λ bs. limbo_of (n + 1) bs ≡ limbo_after c.self.inside.arena.heap c.self.inside.arena.outside (n + 1) (limbo_of (n + 1) bs)) (sym (turned_so c))
-    (settled_already c.self.inside.arena (turned bags) (lists_turned c.self.inside.arena bags (empty_so c) memory.lists) none small (n + 1))
+    (settled_already c.self.inside.arena (turned bags) (lists_turned c.self.inside.arena bags (empty_so c) memory.lists) none (n + 1))

@@ -1,4 +1,4 @@
-use Rattle.std.proofs.Common.{◌≤◌, length, sym, ap, ◌∙◌, subst, arith}
+use Rattle.std.proofs.Common.{length, sym, ap, ◌∙◌, subst, arith}
 use Rattle.std.proofs.lemmas.List.Sorted.{length_permutation}
 use Rattle.slot_arena.specs.Heaps.{Heap}
 use Rattle.epochs.specs.Limbo.{limbo_after, newly_zero}
@@ -8,31 +8,27 @@ use Rattle.epochs.specs.Memories.{Memory, IsMemory, limbo_of, staying}
 use Rattle.epochs.proofs.Staying.{length-limbo_of}
 use Rattle.epochs.proofs.Settled.{single, within, settled, settled_lists, after_settling, length_settled, still_empty, no_more}
 use Rattle.epochs.proofs.heap.Heap.settle_noted.Goals as goal
-use Rattle.slot_arena.specs.Refs.{most_slots}
 
 pub enter_all-requires-clause-within : goal.enter_all-requires-clause-within
 enter_all-requires-clause-within c =
-    let small : length c.self.inside.arena.heap.slots ≤ most_slots = omega (arith, c.len.ensures.size, c.len.ensures.few) in
     within c.self.inside.arena c.self.inside.bags.bags c.sift.new.bags.bags c.sift.new.fresh.refs c.sort.new.self.refs c.self.invariant.0.lists c.sift.ensures.sifted
-    c.sort.ensures.permutation c.sort.ensures.sorted small
+    c.sort.ensures.permutation c.sort.ensures.sorted
 
 pub enter_all-requires-clause-single : goal.enter_all-requires-clause-single
 enter_all-requires-clause-single c k =
-    let small : length c.self.inside.arena.heap.slots ≤ most_slots = omega (arith, c.len.ensures.size, c.len.ensures.few) in
     single c.self.inside.arena c.self.inside.bags.bags c.sift.new.bags.bags c.sift.new.fresh.refs c.sort.new.self.refs c.self.invariant.0.lists c.sift.ensures.sifted
-    c.sort.ensures.permutation c.sort.ensures.sorted small k
+    c.sort.ensures.permutation c.sort.ensures.sorted k
 
 pub invariant_of-self : goal.invariant_of-self
 invariant_of-self c =
-    let small : length c.self.inside.arena.heap.slots ≤ most_slots = omega (arith, c.len.ensures.size, c.len.ensures.few) in
     let after : Bags = after_settling c.self.inside.arena c.self.inside.bags.bags c.sift.new.bags.bags c.sift.new.fresh.refs c.sort.new.self.refs c.self.invariant.0.lists
-    c.sift.ensures.sifted c.sort.ensures.permutation c.sort.ensures.sorted small in
+    c.sift.ensures.sifted c.sort.ensures.permutation c.sort.ensures.sorted in
     let memory = c.self.invariant.0 in
     let empty = still_empty c.self.inside.arena c.self.inside.bags.bags c.sift.new.bags.bags c.sift.new.fresh.refs c.sort.new.self.refs c.self.invariant.0.lists c.sift.ensures.sifted
-    c.sort.ensures.permutation c.sort.ensures.sorted small in
+    c.sort.ensures.permutation c.sort.ensures.sorted in
     let kept : IsMemory c.sift.new.arena after c.self.inside.epoch c.self.inside.cursor c.self.inside.pins.items = record {
       lists = settled_lists c.self.inside.arena c.self.inside.bags.bags c.sift.new.bags.bags c.sift.new.fresh.refs c.sort.new.self.refs c.self.invariant.0.lists c.sift.ensures.sifted
-          c.sort.ensures.permutation c.sort.ensures.sorted small c.sift.new.arena c.sift.ensures.heap c.sift.ensures.outside;
+          c.sort.ensures.permutation c.sort.ensures.sorted c.sift.new.arena c.sift.ensures.heap c.sift.ensures.outside;
       oldest_first = λ some. memory.oldest_first (empty.0 some);
       middle_next = λ some. memory.middle_next (empty.1 some);
       started = memory.started;
@@ -56,12 +52,11 @@ invariant_of-self c =
 
 pub returns : goal.returns
 returns c =
-    let small : length c.self.inside.arena.heap.slots ≤ most_slots = omega (arith, c.len.ensures.size, c.len.ensures.few) in
     record {
       limbo =
           ap (limbo_of c.self.inside.epoch) c.enter_all.ensures.bags
           ∙ settled c.self.inside.arena c.self.inside.bags.bags c.sift.new.bags.bags c.sift.new.fresh.refs c.sort.new.self.refs c.self.invariant.0.lists c.sift.ensures.sifted
-          c.sort.ensures.permutation c.sort.ensures.sorted small c.self.inside.epoch
+          c.sort.ensures.permutation c.sort.ensures.sorted c.self.inside.epoch
           ∙ ap (λ (m : Memory). limbo_after m.heap m.outside m.epoch m.limbo) c.self.view_is;
       settled = search;
       heap = search;
@@ -69,11 +64,11 @@ returns c =
       epochs = search;
       ticks =
           let sizes = length_settled c.self.inside.arena c.self.inside.bags.bags c.sift.new.bags.bags c.sift.new.fresh.refs c.sort.new.self.refs c.self.invariant.0.lists c.sift.ensures.sifted
-          c.sort.ensures.permutation c.sort.ensures.sorted small c.self.inside.epoch in
+          c.sort.ensures.permutation c.sort.ensures.sorted c.self.inside.epoch in
           omega (
             arith,
             no_more c.self.inside.arena c.self.inside.bags.bags c.sift.new.bags.bags c.sift.new.fresh.refs c.sort.new.self.refs c.self.invariant.0.lists c.sift.ensures.sifted
-                c.sort.ensures.permutation c.sort.ensures.sorted small,
+                c.sort.ensures.permutation c.sort.ensures.sorted,
             sizes.0,
             sizes.1,
             length-limbo_of c.self.inside.epoch c.self.inside.bags.bags,
@@ -94,7 +89,7 @@ returns c =
           omega (
             arith,
             no_more c.self.inside.arena c.self.inside.bags.bags c.sift.new.bags.bags c.sift.new.fresh.refs c.sort.new.self.refs c.self.invariant.0.lists c.sift.ensures.sifted
-                c.sort.ensures.permutation c.sort.ensures.sorted small,
+                c.sort.ensures.permutation c.sort.ensures.sorted,
             c.self.invariant.3,
             c.ticks_of-self-inside.ensures,
             c.sift.ensures.ticks,

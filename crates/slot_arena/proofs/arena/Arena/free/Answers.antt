@@ -65,7 +65,7 @@ lower_node-requires-clause-some c i =
     ∙ ap refs_of_node (c.node.ensures ∙ ap (λ k. node_of (get_or c.self.inside.cells k None)) c.slot-slot.ensures ∙ ap node_of seen.1) in
     let part : (q : Ref) → times q (refs_of_slot (Some slot)) ≤ found c.self.inside.cells c.self.inside.outside.items q =
     slot_part c.self.inside.cells c.self.inside.ledger.tally.counts c.self.inside.free c.self.inside.used c.self.inside.outside.items c.self.invariant.0 at has in
-    let counted_so = part_counted c.self.inside.cells c.self.inside.ledger.tally.counts c.self.inside.outside.items c.self.invariant.0.exact c.self.invariant.0.few (refs_of_slot (Some slot)) part i in
+    let counted_so = part_counted c.self.inside.cells c.self.inside.ledger.tally.counts c.self.inside.outside.items c.self.invariant.0.exact (refs_of_slot (Some slot)) part i in
     omega (arith, naming-append i (refs_of_node slot.node) (refs_of_prev slot.prev), ap (naming i) node_is)
 
 pub lower_node-requires-clause-lent : goal.lower_node-requires-clause-lent
@@ -100,7 +100,7 @@ lower_all-requires-clause-some c i =
     ∙ ap refs_of_prev (c.prev-prev.ensures ∙ ap (λ k. prev_of (get_or c.self.inside.cells k None)) c.slot-slot.ensures ∙ ap prev_of seen.1) in
     let part : (q : Ref) → times q (refs_of_slot (Some slot)) ≤ found c.self.inside.cells c.self.inside.outside.items q =
     slot_part c.self.inside.cells c.self.inside.ledger.tally.counts c.self.inside.free c.self.inside.used c.self.inside.outside.items c.self.invariant.0 at has in
-    let counted_so = part_counted c.self.inside.cells c.self.inside.ledger.tally.counts c.self.inside.outside.items c.self.invariant.0.exact c.self.invariant.0.few (refs_of_slot (Some slot)) part i in
+    let counted_so = part_counted c.self.inside.cells c.self.inside.ledger.tally.counts c.self.inside.outside.items c.self.invariant.0.exact (refs_of_slot (Some slot)) part i in
     omega (arith, naming-append i (refs_of_node slot.node) (refs_of_prev slot.prev), ap (naming i) node_is, ap (naming i) prev_is, c.lower_node.ensures.counts i)
 
 pub clear-requires : goal.clear-requires

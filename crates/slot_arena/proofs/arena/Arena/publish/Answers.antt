@@ -67,7 +67,7 @@ lower_all-requires-clause-some c i =
       ap (once i) c.slot-2.ensures,
       naming-cons i to [],
       ap (naming i) refs_are,
-      part_counted c.self.inside.cells c.self.inside.ledger.tally.counts c.self.inside.outside.items c.self.invariant.0.exact c.self.invariant.0.few
+      part_counted c.self.inside.cells c.self.inside.ledger.tally.counts c.self.inside.outside.items c.self.invariant.0.exact
           (refs_of_prev (prev_of (get_or c.self.inside.cells (slot_of to) None)))
           (prev_part c.self.inside.cells c.self.inside.ledger.tally.counts c.self.inside.free c.self.inside.used c.self.inside.outside.items c.self.invariant.0 to has) i,
     )

@@ -26,7 +26,7 @@ pub lower_all-requires-clause-some : goal.lower_all-requires-clause-some
 lower_all-requires-clause-some c =
     let some : 0 < times c.args.at c.self.inside.outside.items = subst (λ (a : Contents). 0 < times c.args.at a.outside) (sym c.self.view_is) c.requires in
     subst (λ rs. (k : ℕ) → naming k rs ≤ slice_index c.self.inside.ledger.tally.counts k) (sym c.from_ref.ensures.value)
-    (part_counted c.self.inside.cells c.self.inside.ledger.tally.counts c.self.inside.outside.items c.self.invariant.0.exact c.self.invariant.0.few (c.args.at ∷ [])
+    (part_counted c.self.inside.cells c.self.inside.ledger.tally.counts c.self.inside.outside.items c.self.invariant.0.exact (c.args.at ∷ [])
     (part_held c.self.inside.cells c.self.inside.outside.items c.args.at some))
 
 pub invariant_of-self : goal.invariant_of-self

@@ -1,6 +1,6 @@
-use Rattle.std.proofs.Common.{◌<◌, length, get_or, slice_index, Some, None, inl, inr, refl, sym, ap, ◌∙◌, arith, eq-eqb, eqb-true}
+use Rattle.std.proofs.Common.{get_or, slice_index, Some, None, inl, inr, refl, sym, ap, ◌∙◌, eq-eqb, eqb-true}
 use Rattle.std.proofs.lemmas.Bool.{false≢true}
-use Rattle.slot_arena.specs.Refs.{slot_of, most_slots}
+use Rattle.slot_arena.specs.Refs.{slot_of}
 use Rattle.slot_arena.specs.Heaps.{Heap}
 use Rattle.slot_arena.specs.Cells.{birth_of_slot}
 use Rattle.slot_arena.specs.Arenas.{Contents, waiting}
@@ -32,12 +32,10 @@ returns-clause-waiting c =
     ∙ ap (λ (a : Contents). waiting a c.args.slot) c.self.view_is
 
 pub returns-clause-live : goal.returns-clause-live
-returns-clause-live c =
-    let few = c.self.invariant.0.few in
-    let small : c.args.slot < most_slots = omega (arith, ap (λ (a : Contents). length a.heap.slots) c.self.view_is) in (
-      ap slot_of c.new.ensures ∙ slot_of_ref c.birth-birth.result c.args.slot small,
-      live_shown c.args.self.now.heap c.new.result
-          (ap (λ r. live c.args.self.now.heap.slots r) c.new.ensures
-          ∙ live_read c.args.self.now.heap.slots c.args.slot c.birth-birth.result (c.birth-birth.ensures.birth
-          ∙ ap (λ (a : Contents). birth_of_slot (get_or a.heap.slots c.args.slot None)) c.self.view_is) c.if-birth-eq0.false small),
-    )
+returns-clause-live c = (
+  ap slot_of c.new.ensures ∙ slot_of_ref c.birth-birth.result c.args.slot,
+  live_shown c.args.self.now.heap c.new.result
+      (ap (λ r. live c.args.self.now.heap.slots r) c.new.ensures
+      ∙ live_read c.args.self.now.heap.slots c.args.slot c.birth-birth.result (c.birth-birth.ensures.birth
+      ∙ ap (λ (a : Contents). birth_of_slot (get_or a.heap.slots c.args.slot None)) c.self.view_is) c.if-birth-eq0.false),
+)

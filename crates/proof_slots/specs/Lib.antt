@@ -1,0 +1,4 @@
+pub mod Beneath
+pub mod Padding
+pub mod Laws
+pub mod Unswept
