@@ -1,7 +1,7 @@
 -- The nodes of a handle and the free slots.
 use Rattle.std.proofs.Common.{◌≡◌, ◌≢◌, ℕ, zero, suc, ◌+◌, ◌≤◌, ◌==◌, Bool, true, false, cond, None, length, ◌⊎◌, inl, inr, Option, Some, refl, ap, ◌∙◌, arith}
 use Rattle.std.proofs.lemmas.Bool.{false≢true}
-use Rattle.proof_sizes.specs.Vocabulary.{Slot, Ref, IsLive, has_birth, Heap, in_use, stored, birth_of, most_slots, times, Root, Bounds, Step, of_birth, is_busy, State, root_at, IsRun}
+use Rattle.proof_sizes.specs.Vocabulary.{Slot, Ref, IsLive, has_birth, Heap, in_use, stored, birth_of, times, Root, Bounds, Step, of_birth, is_busy, State, root_at, IsRun}
 use Rattle.proof_sizes.specs.Beneath.proof_obstruction_free.specs.Beneath.epochs.proofs.InUse.{in_use_live, in_use_once, live_in_use}
 use Rattle.proof_sizes.specs.Beneath.machine_model.proofs.Slots.{add_up}
 use Rattle.proof_sizes.specs.Beneath.proof_memory.specs.Laws.{IsInUse}
@@ -27,7 +27,7 @@ module _ (limits : Bounds) (states : ℕ → State) (steps : ℕ → Step) (last
       by (inl none) = omega (arith, none)
       by (inr used) =
           let few = nodes_once limits states steps last run takes keys t within handle root at x in
-          let some = live_in_use (states t).heap x (omega (arith, safe.sound.heap.size, safe.small)) (in_use_lives (states t).heap x used) in
+          let some = live_in_use (states t).heap x (in_use_lives (states t).heap x used) in
           omega (arith, few, some)
 
   pub few_nodes : length (nodes_of (states t) handle) + length (states t).heap.free ≤ (states t).limits.slots
@@ -58,15 +58,12 @@ module _ (limits : Bounds) (states : ℕ → State) (steps : ℕ → Step) (last
   no_less_often : (x : Ref) → times x (in_use (states last).heap) ≤ times x (nodes_of (states last) handle)
   no_less_often x = by (times x (in_use (states last).heap)) refl
     where
-      small : length (states last).heap.slots ≤ most_slots
-      small = omega (arith, safe_last.sound.heap.size, safe_last.small)
-
       by : (n : ℕ) → times x (in_use (states last).heap) ≡ n → times x (in_use (states last).heap) ≤ times x (nodes_of (states last) handle)
       by zero is = omega (arith, is)
       by (suc n) is =
-          let live = in_use_live (states last).heap x small (omega (arith, is)) in
+          let live = in_use_live (states last).heap x (omega (arith, is)) in
           let some = reached_stands limits states steps last run takes keys rest handle root at only x ((uses x).0 (lives_in_use (states last).heap x live)) in
-          omega (arith, some, in_use_once (states last).heap x small)
+          omega (arith, some, in_use_once (states last).heap x)
 
   pub all_nodes : length (nodes_of (states last) handle) + length (states last).heap.free ≡ (states last).limits.slots
   all_nodes =

@@ -20,6 +20,7 @@ use Rattle.machine_model.specs.declared.records.Publication.{Publication}
 use Rattle.machine_model.specs.declared.records.Told.TheVariants as told
 use Rattle.machine_model.specs.declared.steps.Outcome.{Outcome}
 use Rattle.machine_model.specs.declared.steps.Outcome.TheVariants as outcome
+use Rattle.machine_model.specs.declared.actions.Kind.TheVariants as kind
 use Rattle.machine_model.specs.declared.steps.Step.{Step}
 use Rattle.machine_model.specs.declared.steps.Step.TheVariants as step
 use Rattle.machine_model.specs.Calls.{handle_of, opens_handle, is_close, needs_writable, needs_read_only}
@@ -29,7 +30,9 @@ use Rattle.machine_model.specs.Counting.{outside, settled}
 use Rattle.machine_model.specs.Operations.{action_of, kind_of, read_of}
 use Rattle.machine_model.specs.Acting.{gone}
 use Rattle.machine_model.specs.Machine.{Answer, next, next_state, state_after, is_taken_step, is_spent, is_taken, taken_below, least_from, settled_after, begin_denial, begin_unless}
-use Rattle.machine_model.specs.Machine.{begun_operation, with_begin}
+use Rattle.machine_model.specs.Machine.{begun_operation, with_begin, give_up_by, give_up_on, give_up_unless}
+use Rattle.machine_model.specs.GivingUp.{given_up, gave_up}
+use Rattle.proof_slots.specs.Beneath.history.specs.declared.replies.Reply.{Reply}
 use Rattle.machine_model.specs.Machine.{access_of, first_reason, is_actor, is_running, is_access, runs_on, go_denial, go_unless, go_on, step_by, pin_of, reclaimer_of, swept, swept_with}
 use Rattle.machine_model.specs.Records.{Record, noted, next_record}
 use Rattle.machine_model.specs.Tellings.{told_in, told_of, told_by, begin_told, committed_in, committed_now, given_by, given_in, given_now, counts_from, published_by, carried_by, progress_of}
@@ -68,6 +71,22 @@ module _ (more : ℕ) where
       go_unless (padded more state) actor denial ≡ padded_answer more (go_unless state actor denial)
   go_unless_wide state actor None free = go_on_wide state actor (operation_of state actor) free
   go_unless_wide state actor (Some why) free = refl
+
+  -- ---- giving up
+
+  give_up_by_wide : (state : State) (actor : ℕ) (operation : Operation) (answer : Option Reply) →
+      give_up_by (padded more state) actor operation answer ≡ padded_answer more (give_up_by state actor operation answer)
+  give_up_by_wide state actor operation None = refl
+  give_up_by_wide state actor operation (Some answer) = settles state (outcome.Went kind.Make) _ (with_operation state actor (Some (gave_up operation answer))) refl
+
+  give_up_on_wide : (state : State) (actor : ℕ) (found : Option Operation) → give_up_on (padded more state) actor found ≡ padded_answer more (give_up_on state actor found)
+  give_up_on_wide state actor None = refl
+  give_up_on_wide state actor (Some operation) = give_up_by_wide state actor operation (given_up operation.call operation.line)
+
+  give_up_unless_wide : (state : State) (actor : ℕ) (denial : Option Refusal) →
+      give_up_unless (padded more state) actor denial ≡ padded_answer more (give_up_unless state actor denial)
+  give_up_unless_wide state actor None = give_up_on_wide state actor (operation_of state actor)
+  give_up_unless_wide state actor (Some why) = refl
 
   -- ---- a begin
 
@@ -142,6 +161,7 @@ module _ (more : ℕ) where
       ap (begin_unless (padded more state) actor call) (begin_denial_wide state actor call) ∙ begin_unless_wide state actor call (begin_denial state actor call)
   next_padded state (step.Go actor) free = go_unless_wide state actor (go_denial state actor) free
   next_padded state step.Sweep free = sweep_unless state (is_spent state)
+  next_padded state (step.GiveUp actor) free = give_up_unless_wide state actor (go_denial state actor)
 
   after_wide : (state : State) (answer : Answer) → state_after (padded more state) (padded_answer more answer) ≡ padded more (state_after state answer)
   after_wide state (Ok done) = refl
@@ -197,6 +217,7 @@ module _ (more : ℕ) where
   told_wide state (step.Begin actor call) = ap (begin_told actor call) (begun_wide state call)
   told_wide state (step.Go actor) = told_of_wide state actor (operation_of state actor)
   told_wide state step.Sweep = refl
+  told_wide state (step.GiveUp actor) = refl
 
   same_taken : (answer : Answer) → is_taken_step (padded_answer more answer) ≡ is_taken_step answer
   same_taken (Ok done) = refl

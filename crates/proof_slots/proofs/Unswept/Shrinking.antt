@@ -8,7 +8,7 @@ use Rattle.machine_model.specs.Calls.{handle_of}
 use Rattle.machine_model.specs.States.{State, first_state}
 use Rattle.machine_model.specs.Operations.{action_of}
 use Rattle.machine_model.specs.Machine.{begun_operation, next_state, run, run_from}
-use Rattle.machine_model.specs.Moves.{Moves, Begins, Goes, Ends, Sweeps}
+use Rattle.machine_model.specs.Moves.{Moves, Begins, Goes, Ends, Sweeps, GivesUp}
 use Rattle.machine_model.proofs.Along.{kept_by_moves, run-append}
 use Rattle.machine_model.proofs.HeapMoves.{HeapMoves, Stays, Takes, Publishes, Restores, Commit, Fail, Frees, acted_heap, begin_heap}
 use Rattle.proof_slots.specs.Unswept.{IsNoSweep, HasNoSweeps, FreeAtTheEnd}
@@ -18,6 +18,7 @@ unswept_moves state s o after quiet (Begins {actor} {call} d) = subst (HeapMoves
 unswept_moves state s o after quiet (Goes {actor} {operation} d is a g) = acted_heap _ None (handle_of operation.call) (action_of state operation)
 unswept_moves state s o after quiet (Ends d is a) = Stays
 unswept_moves state s o after quiet (Sweeps spent) = absurd quiet
+unswept_moves state s o after quiet (GivesUp d is a) = Stays
 
 -- what no effect but freeing breaks holds along a list without sweeps
 pub unswept_along : (P : Heap → Type 0) → ((heap after : Heap) → HeapMoves heap None after → P heap → P after) → (steps : List Step) (state : State) → HasNoSweeps steps →
