@@ -18,7 +18,7 @@ pub use Rattle.history.specs.declared.replies.Reply.{Reply}
 pub use Rattle.history.specs.declared.replies.Reply.TheVariants.{Cleared, Closed, Crowded, Found, NoSlots, Opened, Truth}
 pub use Rattle.machine_model.specs.Calls.{handle_of, is_close, key_of, needs_read_only, needs_writable, opens_handle}
 pub use Rattle.machine_model.specs.Contents.{content_at}
-pub use Rattle.machine_model.specs.Machine.{Answer, AreBounds, access_of, begin_denial, first_reason, handles_taken, is_access, is_actor, is_busy, is_running, is_spent, longest_life, names, runs_on}
+pub use Rattle.machine_model.specs.Machine.{Answer, access_of, begin_denial, first_reason, handles_taken, is_access, is_actor, is_busy, is_running, is_spent, longest_life, names, runs_on}
 unfoldable pub use Rattle.machine_model.specs.Machine.{next, run_from}
 pub use Rattle.machine_model.specs.Pairs.{comes_before}
 pub use Rattle.machine_model.specs.Refusing.{RefusesContent}

@@ -2,6 +2,7 @@
 pub use Rattle.proof_alone.specs.Beneath.ctrie_base.specs.Hashes.{hash_of}
 pub use Rattle.proof_alone.specs.Beneath.ctrie_base.specs.declared.kinds.Kind.{Kind}
 pub use Rattle.proof_alone.specs.Beneath.slot_arena.specs.Heaps.{Heap, in_use}
+pub use Rattle.proof_alone.specs.Beneath.slot_arena.specs.Refs.{most_slots}
 pub use Rattle.proof_alone.specs.Beneath.history.specs.Effects.{Effect}
 pub use Rattle.proof_alone.specs.Beneath.history.specs.Worlds.{HandleMap}
 pub use Rattle.proof_alone.specs.Beneath.history.specs.declared.calls.Call.{Call}

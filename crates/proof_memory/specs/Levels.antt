@@ -2,8 +2,7 @@
 -- lines, where lv is the level of each reference.
 use Rattle.std.specs.Prelude.{◌≡◌, ℕ, ◌+◌, ◌<◌, ◌≤◌, List, All, length, get_or, Option, Some, None, ◌⊎◌}
 use Rattle.proof_memory.specs.Vocabulary.{birth_of, Ref, Node, Indirection, Branch, Single, Prev, refs_of_option, Action, ReadLine, SwapLine, CompleteLine, Descriptor, RootLine, RootWord, Plain}
-use Rattle.proof_memory.specs.Vocabulary.{Offer}
-use Rattle.proof_memory.specs.Vocabulary.{KeyLine, BuildLine, Change, RenewLine, CleanLine, ClimbLine, CopyLine, WalkLine, Purpose, Line, above, depth_of}
+use Rattle.proof_memory.specs.Vocabulary.{Offer, KeyLine, BuildLine, Change, RenewLine, CleanLine, ClimbLine, CopyLine, WalkLine, Purpose, Line, above, depth_of}
 use Rattle.proof_memory.specs.Beneath.slot_arena.specs.declared.nodes.Prev.TheVariants as prev
 use Rattle.machine_model.specs.declared.actions.Action.TheVariants as act
 use Rattle.machine_model.specs.declared.reading.ReadLine.TheVariants as read

@@ -10,7 +10,7 @@ pub use Rattle.proof_memory.specs.Beneath.slot_arena.specs.Heaps.{Heap, bitmap_o
 pub use Rattle.proof_memory.specs.Beneath.slot_arena.specs.Heaps.{logical_main, main_at, main_changed, main_of, named_from, next_ref, no_ref, prev_changed, ref_in, refs_of_node, refs_of_option}
 pub use Rattle.proof_memory.specs.Beneath.slot_arena.specs.Heaps.{refs_of_prev, refs_of_slot, take_from, with_main_word, written}
 unfoldable pub use Rattle.proof_memory.specs.Beneath.slot_arena.specs.Heaps.{freed, node_at, prev_at, stored, taken, with_main, with_prev}
-pub use Rattle.proof_memory.specs.Beneath.slot_arena.specs.Refs.{birth_of, most_slots, ref_to, slot_of}
+pub use Rattle.proof_memory.specs.Beneath.slot_arena.specs.Refs.{birth_of, ref_to, slot_of}
 pub use Rattle.proof_memory.specs.Beneath.slot_arena.specs.Times.{times}
 pub use Rattle.proof_memory.specs.Beneath.slot_arena.specs.declared.nodes.Node.{Node}
 pub use Rattle.proof_memory.specs.Beneath.slot_arena.specs.declared.nodes.Node.TheVariants.{Branch, Indirection, List, Single, Tomb}

@@ -1,7 +1,6 @@
 -- The bounds of a machine that keeps its record are in range, where its limits are.
 use Rattle.std.proofs.Common.{◌≤◌, arith}
-use Rattle.proof_runs.specs.Vocabulary.{Limits, AreLimits, bounded, AreBounds, longest_life}
-use Rattle.proof_runs.specs.Beneath.slot_arena.specs.Refs.{most_slots}
+use Rattle.proof_runs.specs.Vocabulary.{Limits, AreLimits, bounded, AreBounds, longest_life, most_slots}
 
 pub in_bounds : (limits : Limits) → AreLimits limits → AreBounds (bounded limits)
 in_bounds limits ok = (ok.0, ok.2, ok.3)

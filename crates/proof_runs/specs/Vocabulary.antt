@@ -4,7 +4,7 @@ pub use Rattle.proof_runs.specs.Beneath.ctrie_base.specs.declared.refusals.Refus
 pub use Rattle.proof_runs.specs.Beneath.ctrie_base.specs.declared.refusals.Refusal.TheVariants.{Busy, NoHandle, Spent}
 pub use Rattle.proof_runs.specs.Beneath.slot_arena.specs.Heaps.{Heap, generation_at, generation_of, main_at, refs_of_slot}
 unfoldable pub use Rattle.proof_runs.specs.Beneath.slot_arena.specs.Heaps.{prev_at, stored}
-pub use Rattle.proof_runs.specs.Beneath.slot_arena.specs.Refs.{birth_of, slot_of}
+pub use Rattle.proof_runs.specs.Beneath.slot_arena.specs.Refs.{birth_of, most_slots, slot_of}
 pub use Rattle.proof_runs.specs.Beneath.slot_arena.specs.declared.nodes.Prev.{Prev}
 pub use Rattle.proof_runs.specs.Beneath.slot_arena.specs.declared.nodes.Slot.{Slot}
 pub use Rattle.proof_runs.specs.Beneath.slot_arena.specs.declared.refs.Ref.{Ref}

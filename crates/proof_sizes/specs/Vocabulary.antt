@@ -6,7 +6,7 @@ pub use Rattle.proof_sizes.specs.Beneath.slot_arena.specs.Arenas.{IsLive, has_bi
 pub use Rattle.proof_sizes.specs.Beneath.slot_arena.specs.Heaps.{Heap, empty_branch, entries_from, entries_of, generation_at, generation_of, in_use, logical, logical_main, main_at, main_of, no_ref}
 pub use Rattle.proof_sizes.specs.Beneath.slot_arena.specs.Heaps.{node_of, prev_of, refs_of_node, refs_of_prev, refs_of_slot}
 unfoldable pub use Rattle.proof_sizes.specs.Beneath.slot_arena.specs.Heaps.{node_at, prev_at, stored}
-pub use Rattle.proof_sizes.specs.Beneath.slot_arena.specs.Refs.{birth_of, most_slots}
+pub use Rattle.proof_sizes.specs.Beneath.slot_arena.specs.Refs.{birth_of}
 pub use Rattle.proof_sizes.specs.Beneath.slot_arena.specs.Times.{times, without}
 pub use Rattle.proof_sizes.specs.Beneath.slot_arena.specs.declared.nodes.Node.{Node}
 pub use Rattle.proof_sizes.specs.Beneath.slot_arena.specs.declared.nodes.Node.TheVariants.{Branch, Indirection, List, Single, Tomb}

@@ -1,9 +1,6 @@
 -- The laws of more slots.
 use Rattle.std.specs.Prelude.{◌≡◌, ℕ, ◌+◌, ◌≤◌, List, [], ◌∷◌, ◌++◌, length}
-use Rattle.machine_model.specs.declared.steps.Bounds.{Bounds}
-use Rattle.machine_model.specs.declared.steps.Step.{Step}
-use Rattle.machine_model.specs.Machine.{AreBounds, next, run}
-use Rattle.machine_model.specs.Records.{record_of}
+use Rattle.proof_slots.specs.Vocabulary.{Bounds, Step, AreBounds, next, run, record_of}
 use Rattle.proof_slots.specs.Padding.{with_slots, padded, padded_answer}
 
 -- before each of these steps a slot is free

@@ -1,4 +1,5 @@
 pub mod Beneath
+pub mod Vocabulary
 pub mod Padding
 pub mod Laws
 pub mod Unswept

@@ -1,10 +1,7 @@
 -- The same machine with more slots: they are empty, and are taken after all others.
 use Rattle.std.specs.Prelude.{ℕ, ◌+◌, ◌++◌, Ok, Err, None, replicate}
 use Rattle.std.specs.List.{range_with_len}
-use Rattle.proof_slots.specs.Beneath.slot_arena.specs.Heaps.{Heap}
-use Rattle.machine_model.specs.declared.steps.Bounds.{Bounds}
-use Rattle.machine_model.specs.States.{State}
-use Rattle.machine_model.specs.Machine.{Answer}
+use Rattle.proof_slots.specs.Vocabulary.{Heap, Bounds, State, Answer}
 
 -- bounds with so many slots more
 abbrev pub with_slots : ℕ → Bounds → Bounds

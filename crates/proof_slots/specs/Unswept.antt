@@ -1,14 +1,8 @@
 -- Lists of steps in which the sweep takes none: there is nothing that frees a slot.
 use Rattle.std.specs.Prelude.{◌≡◌, ◌+◌, ◌≤◌, List, [], ◌∷◌, ◌++◌, length, Some}
 use Rattle.std.specs.List.{range_with_len}
-use Rattle.proof_slots.specs.Beneath.slot_arena.specs.declared.refs.Ref.{Ref}
-use Rattle.proof_slots.specs.Beneath.slot_arena.specs.declared.nodes.Slot.{Slot}
-use Rattle.proof_slots.specs.Beneath.slot_arena.specs.Refs.{slot_of, birth_of}
-use Rattle.machine_model.specs.declared.steps.Bounds.{Bounds}
-use Rattle.machine_model.specs.declared.steps.Step.{Step}
+use Rattle.proof_slots.specs.Vocabulary.{Ref, Slot, slot_of, birth_of, Bounds, Step, standing, AreBounds, run}
 use Rattle.machine_model.specs.declared.steps.Step.TheVariants as step
-use Rattle.machine_model.specs.Grown.{standing}
-use Rattle.machine_model.specs.Machine.{AreBounds, run}
 use Rattle.proof_memory.specs.Laws.{IsInUse, SameNode}
 use Rattle.proof_slots.specs.Laws.{HasFreeSlots}
 

@@ -2,9 +2,8 @@
 use Rattle.std.proofs.Common.{◌≡◌, ℕ, ◌+◌, ◌==◌, Bool, true, false, List, [], ◌∷◌, Option, Some, None, refl, sym, ap, ◌∙◌, subst, inl, inr, eqb-true}
 use Rattle.std.proofs.lemmas.Bool.{cases_eq, false≢true}
 use Rattle.std.proofs.lemmas.Option.{none-some, same_Some}
-use Rattle.proof_memory.specs.Vocabulary.{birth_of, Ref, Node, Indirection, Branch, Single, Tomb, List as Listed, Prev, Slot, Heap, node_at, main_at, main_of, with_main, with_prev}
-use Rattle.proof_memory.specs.Vocabulary.{with_main_word, main_changed, prev_changed, taken, freed, next_ref, Action, State, Verdict, Commits, Fails, Overtaken, acted, decided, new_root_taken}
-use Rattle.proof_memory.specs.Vocabulary.{if_changed, standing}
+use Rattle.proof_memory.specs.Vocabulary.{birth_of, Ref, Node, Indirection, Branch, Single, Tomb, List as Listed, Prev, Slot, Heap, node_at, main_at, main_of, with_main, with_prev, with_main_word}
+use Rattle.proof_memory.specs.Vocabulary.{main_changed, prev_changed, taken, freed, next_ref, Action, State, Verdict, Commits, Fails, Overtaken, acted, decided, new_root_taken, if_changed, standing}
 use Rattle.proof_memory.specs.Beneath.slot_arena.specs.declared.nodes.Prev.TheVariants as prev
 use Rattle.machine_model.specs.declared.actions.Action.TheVariants as act
 use Rattle.machine_model.proofs.Slots.{AddsUp}

@@ -4,8 +4,8 @@ use Rattle.std.proofs.Common.{◌⊎◌, inl, inr, eq-eqb, ne_eqb}
 use Rattle.std.proofs.lemmas.Bool.{cases_eq, false≢true}
 use Rattle.std.proofs.lemmas.List.{get_or-set_same, get_or-set_other, get_or-map, length-map}
 use Rattle.std.proofs.lemmas.Option.{none-some, same_Some}
-use Rattle.proof_memory.specs.Vocabulary.{ref_to, slot_of, birth_of, Ref, Node, Prev, Slot, Heap, stored, written, with_main, with_prev, main_changed, prev_changed, taken, take_from}
-use Rattle.proof_memory.specs.Vocabulary.{freed, next_ref, ref_in, of_birth, standing}
+use Rattle.proof_memory.specs.Vocabulary.{ref_to, slot_of, birth_of, Ref, Node, Prev, Slot, Heap, stored, written, with_main, with_prev, main_changed, prev_changed, taken, take_from, freed}
+use Rattle.proof_memory.specs.Vocabulary.{next_ref, ref_in, of_birth, standing}
 use Rattle.proof_memory.specs.Beneath.slot_arena.specs.declared.nodes.Prev.TheVariants as prev
 use Rattle.machine_model.proofs.Found.{found_within, found_here}
 use Rattle.machine_model.proofs.Rest.{first_free}

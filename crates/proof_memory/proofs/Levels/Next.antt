@@ -6,10 +6,9 @@ use Rattle.std.proofs.lemmas.Bool.{false≢true, cond_both, eqb-false}
 use Rattle.std.proofs.lemmas.List.Elements.{All-nil, All-cons, All-take, All-set}
 use Rattle.arrayvec.specs.ArrayVec.{ArrayVec}
 use Rattle.proof_memory.specs.Vocabulary.{birth_of, Call, Snapshot, Ref, Node as SlotNode, Branch, List as Listed, node_at, prev_at, main_at, entry_at, entries_of, bitmap_of, next_ref, no_ref}
-use Rattle.proof_memory.specs.Vocabulary.{parting}
-use Rattle.proof_memory.specs.Vocabulary.{index_in, flag_of, list_depth, pair, contracted, renewed, HashKind, position_of, Operation, ReadLine, Swap, SwapLine, CompleteLine, Descriptor, RootLine}
-use Rattle.proof_memory.specs.Vocabulary.{BuildLine, Change, Site, Climb, CopyLine, Purpose, Line, handle_of, State, word_at, current, above, depth_of, flag_in, hash_in, is_below_root, read_action}
-use Rattle.proof_memory.specs.Vocabulary.{read_after, action_at, complete_action_at, root_action, is_plain, next_entry, renew_after_link, renew_after_branch, build_action, build_after}
+use Rattle.proof_memory.specs.Vocabulary.{parting, index_in, flag_of, list_depth, pair, contracted, renewed, HashKind, position_of, Operation, ReadLine, Swap, SwapLine, CompleteLine, Descriptor}
+use Rattle.proof_memory.specs.Vocabulary.{RootLine, BuildLine, Change, Site, Climb, CopyLine, Purpose, Line, handle_of, State, word_at, current, above, depth_of, flag_in, hash_in, is_below_root}
+use Rattle.proof_memory.specs.Vocabulary.{read_action, read_after, action_at, complete_action_at, root_action, is_plain, next_entry, renew_after_link, renew_after_branch, build_action, build_after}
 use Rattle.proof_memory.specs.Vocabulary.{build_if_made, build_after_made, after_single, after_link, changed, old_hash, clean_after_contracted, leaves_single, climb_after_contracted, place_in}
 use Rattle.proof_memory.specs.Vocabulary.{copy_if_made, copy_after_made, after_successor, first_of, rest_of, line_action, line_after}
 use Rattle.machine_model.specs.declared.reading.ReadLine.TheVariants as read

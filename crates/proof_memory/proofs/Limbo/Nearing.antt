@@ -6,8 +6,8 @@ use Rattle.std.proofs.Common.{refl, sym, ap, subst, arith, eq-eqb, leb-true, leb
 use Rattle.std.proofs.lemmas.Bool.{and_from, false≢true, lt-ltb}
 use Rattle.std.proofs.lemmas.List.{length-map}
 use Rattle.std.proofs.lemmas.List.Elements.{All-head}
-use Rattle.proof_memory.specs.Vocabulary.{Ref, freed, in_use, times, Swept, Zeroed, is_in_use, is_zero, limbo_after, newly_zero, Reclaimer, advanced, is_passed, ripe, scanned, sweep_by}
-use Rattle.proof_memory.specs.Vocabulary.{Operation, Bounds, Outcome, Step, gone, handle_of, outside, settled, is_busy, pin_of, reclaimer_of, run, swept_with, Moves, Begins, Ends, Sweeps, GivesUp}
+use Rattle.proof_memory.specs.Vocabulary.{Ref, freed, in_use, times, Swept, Zeroed, is_in_use, is_zero, limbo_after, newly_zero, Reclaimer, advanced, is_passed, ripe, scanned, sweep_by, Operation}
+use Rattle.proof_memory.specs.Vocabulary.{Bounds, Outcome, Step, gone, handle_of, outside, settled, is_busy, pin_of, reclaimer_of, run, swept_with, Moves, Begins, Ends, Sweeps, GivesUp}
 use Rattle.proof_memory.specs.Vocabulary.{begun_operation, action_of, State, first_state}
 use Rattle.proof_memory.specs.Beneath.epochs.proofs.InUse.{live_in_use}
 use Rattle.proof_memory.specs.Beneath.epochs.proofs.Staying.{any_times}

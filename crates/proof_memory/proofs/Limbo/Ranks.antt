@@ -5,8 +5,8 @@ use Rattle.std.specs.List.{list_any}
 use Rattle.std.proofs.lemmas.Bool.{cases_eq, true≢false, or_parts}
 use Rattle.std.proofs.lemmas.List.Elements.{Contains-append_right, Contains-append_cases}
 use Rattle.std.proofs.lemmas.List.Sums.{sum_by-cons}
-use Rattle.proof_memory.specs.Vocabulary.{ref_to, Ref, Slot, stored, heap_refs, refs_of_slot, count_of, Operation, State, outside, refs_of_root, refs_of_operation, IsReached, from_slot}
-use Rattle.proof_memory.specs.Vocabulary.{is_busy, standing}
+use Rattle.proof_memory.specs.Vocabulary.{ref_to, Ref, Slot, stored, heap_refs, refs_of_slot, count_of, Operation, State, outside, refs_of_root, refs_of_operation, IsReached, from_slot, is_busy}
+use Rattle.proof_memory.specs.Vocabulary.{standing}
 use Rattle.machine_model.specs.Contents.{from_root}
 use Rattle.machine_model.proofs.Rest.{one_if}
 use Rattle.proof_memory.specs.Laws.{IsInUse}

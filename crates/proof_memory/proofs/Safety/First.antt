@@ -5,8 +5,8 @@ use Rattle.std.proofs.lemmas.Bool.{cases_eq, le-leb, false≢true}
 use Rattle.std.proofs.lemmas.Nat.{ones_le_self}
 use Rattle.std.proofs.lemmas.Option.{none-some, same_Some}
 use Rattle.std.proofs.lemmas.List.Elements.{All-nil}
-use Rattle.proof_memory.specs.Vocabulary.{ref_to, slot_of, birth_of, Ref, Node, Indirection, Slot, Heap, stored, node_at, taken, empty_branch, next_ref, heap_refs, count_of, outside}
-use Rattle.proof_memory.specs.Vocabulary.{refs_of_root, Root, RootWord, Bounds, State, first_state, first_heap, empty_heap, handle_limit, root_at, AreBounds, standing, of_birth}
+use Rattle.proof_memory.specs.Vocabulary.{ref_to, slot_of, birth_of, Ref, Node, Indirection, Slot, Heap, stored, node_at, taken, empty_branch, next_ref, heap_refs, count_of, outside, refs_of_root}
+use Rattle.proof_memory.specs.Vocabulary.{Root, RootWord, Bounds, State, first_state, first_heap, empty_heap, handle_limit, root_at, AreBounds, standing, of_birth}
 use Rattle.proof_memory.specs.Beneath.slot_arena.specs.declared.nodes.Prev.TheVariants as prev
 use Rattle.machine_model.specs.declared.actions.Action.TheVariants as act
 use Rattle.machine_model.proofs.Found.{none_found, found_here, found_elsewhere}

@@ -1,8 +1,7 @@
 -- The laws on references and look-ups, from safe memory.
 use Rattle.std.proofs.Common.{◌≡◌, ℕ, [], All, Contains, get_or, Option, Some, None, refl, sym, ap, ◌∙◌, arith}
 use Rattle.std.proofs.lemmas.List.Elements.{All-contains, All-append}
-use Rattle.proof_memory.specs.Vocabulary.{ref_to, slot_of, Ref, Slot, stored, refs_of_node, refs_of_prev, refs_of_slot, Operation, Root, State, root_at, operation_of, refs_of_root}
-use Rattle.proof_memory.specs.Vocabulary.{standing}
+use Rattle.proof_memory.specs.Vocabulary.{ref_to, slot_of, Ref, Slot, stored, refs_of_node, refs_of_prev, refs_of_slot, Operation, Root, State, root_at, operation_of, refs_of_root, standing}
 use Rattle.proof_memory.specs.Wants.{node_wants, prev_wants}
 use Rattle.proof_memory.specs.Laws.{IsInUse}
 use Rattle.proof_memory.proofs.Claims.Uses.{first_hold, last_hold}

@@ -4,9 +4,9 @@ use Rattle.std.proofs.Common.{◌⊎◌, inl, inr, leb-true, arith}
 use Rattle.std.proofs.lemmas.Bool.{cases_eq, false≢true}
 use Rattle.std.proofs.lemmas.Option.{none-some, same_Some, cond_some}
 use Rattle.std.proofs.lemmas.List.Elements.{All-head, Contains-append_left, Contains-append_right, Contains-get_or}
-use Rattle.proof_memory.specs.Vocabulary.{slot_of, birth_of, Ref, Node, Indirection, Branch, Single, Tomb, List as Listed, Prev, Slot, Zeroed, Heap, stored, node_at, with_main_word}
-use Rattle.proof_memory.specs.Vocabulary.{main_changed, prev_changed, heap_refs, refs_of_node, refs_of_prev, refs_of_slot, refs_of_option, limbo_after, ripe, Operation, Root, RootWord, Plain, Offer}
-use Rattle.proof_memory.specs.Vocabulary.{State, root_at, word_of, word_at, outside, refs_of_word, standing}
+use Rattle.proof_memory.specs.Vocabulary.{slot_of, birth_of, Ref, Node, Indirection, Branch, Single, Tomb, List as Listed, Prev, Slot, Zeroed, Heap, stored, node_at, with_main_word, main_changed}
+use Rattle.proof_memory.specs.Vocabulary.{prev_changed, heap_refs, refs_of_node, refs_of_prev, refs_of_slot, refs_of_option, limbo_after, ripe, Operation, Root, RootWord, Plain, Offer, State}
+use Rattle.proof_memory.specs.Vocabulary.{root_at, word_of, word_at, outside, refs_of_word, standing}
 use Rattle.proof_memory.specs.Beneath.slot_arena.specs.declared.nodes.Prev.TheVariants as prev
 use Rattle.machine_model.proofs.InUse.{InUse}
 use Rattle.machine_model.proofs.Slots.{IsSound}

@@ -1,22 +1,11 @@
 -- What a step of an operation changes in a padded state.
 use Rattle.std.proofs.Common.{◌≡◌, ℕ, ◌+◌, ◌==◌, Bool, true, false, List, map, Option, Some, None, if◌then◌else◌, refl, ap, ◌∙◌}
-use Rattle.proof_slots.specs.Beneath.slot_arena.specs.declared.refs.Ref.{Ref}
-use Rattle.proof_slots.specs.Beneath.slot_arena.specs.declared.nodes.Node.TheVariants.{Indirection}
+use Rattle.proof_slots.specs.Vocabulary.{Ref, Indirection, Heap, main_at, main_of, with_main, with_prev, taken, next_ref, Operation, Action, Line, Descriptor, Plain, Offer, handle_of, State}
+use Rattle.proof_slots.specs.Vocabulary.{word_at, with_word, with_operation, Verdict, Commits, Fails, Overtaken, verdict, stands_in, is_plain, action_of, line_after, generation_after, acted}
+use Rattle.proof_slots.specs.Vocabulary.{carried_out, opened, marked, if_changed, published, restored, decided, new_root_taken, with_made, private_after, attempt_after, mark_after, operation_after}
+use Rattle.proof_slots.specs.Vocabulary.{gone}
 use Rattle.proof_slots.specs.Beneath.slot_arena.specs.declared.nodes.Prev.TheVariants as prev
-use Rattle.proof_slots.specs.Beneath.slot_arena.specs.Heaps.{Heap, main_at, main_of, with_main, with_prev, taken, next_ref}
-use Rattle.machine_model.specs.declared.operations.Operation.{Operation}
-use Rattle.machine_model.specs.declared.actions.Action.{Action}
 use Rattle.machine_model.specs.declared.actions.Action.TheVariants as act
-use Rattle.machine_model.specs.declared.lines.Line.{Line}
-use Rattle.machine_model.specs.declared.roots.Descriptor.{Descriptor}
-use Rattle.machine_model.specs.declared.roots.RootWord.TheVariants.{Plain, Offer}
-use Rattle.machine_model.specs.Calls.{handle_of}
-use Rattle.machine_model.specs.States.{State, word_at, with_word, with_operation}
-use Rattle.machine_model.specs.Reading.{Verdict, Commits, Fails, Overtaken, verdict}
-use Rattle.machine_model.specs.Swapping.{stands_in, is_plain}
-use Rattle.machine_model.specs.Operations.{action_of, line_after, generation_after}
-use Rattle.machine_model.specs.Acting.{acted, carried_out, opened, marked, if_changed, published, restored, decided, new_root_taken, with_made, private_after, attempt_after}
-use Rattle.machine_model.specs.Acting.{mark_after, operation_after, gone}
 use Rattle.proof_slots.specs.Padding.{padded, padded_heap}
 use Rattle.proof_slots.proofs.Padded.Heaps.{HasFree, wide, node_wide, with_main_wide, with_prev_wide, next_wide, taken_wide}
 use Rattle.proof_slots.proofs.Padded.Reads.{verdict_wide}

@@ -4,17 +4,8 @@ use Rattle.std.proofs.Common.{sym, ap, ◌∙◌, arith}
 use Rattle.std.specs.Prelude.{filter}
 use Rattle.std.specs.List.{list_any, range_with_len}
 use Rattle.std.proofs.lemmas.List.{get_or_past}
-use Rattle.proof_slots.specs.Beneath.slot_arena.specs.declared.refs.Ref.{Ref}
-use Rattle.proof_slots.specs.Beneath.slot_arena.specs.declared.nodes.Node.{Node}
-use Rattle.proof_slots.specs.Beneath.slot_arena.specs.declared.nodes.Prev.{Prev}
-use Rattle.proof_slots.specs.Beneath.slot_arena.specs.declared.nodes.Slot.{Slot}
-use Rattle.proof_slots.specs.Beneath.slot_arena.specs.Refs.{slot_of}
-use Rattle.proof_slots.specs.Beneath.slot_arena.specs.Heaps.{Heap, stored, node_at, node_of, prev_at, prev_of, with_main, with_prev, written, main_changed, prev_changed, next_ref, ref_in, taken}
-use Rattle.proof_slots.specs.Beneath.slot_arena.specs.Heaps.{take_from, freed}
-use Rattle.proof_slots.specs.Beneath.slot_arena.specs.Heaps.{in_use, heap_refs}
-use Rattle.proof_slots.specs.Beneath.slot_arena.specs.Counts.{count_of}
-use Rattle.proof_slots.specs.Beneath.epochs.specs.declared.limbo.Zeroed.{Zeroed}
-use Rattle.proof_slots.specs.Beneath.epochs.specs.Limbo.{limbo_after, is_in, by_birth}
+use Rattle.proof_slots.specs.Vocabulary.{Ref, Node, Prev, Slot, slot_of, Heap, stored, node_at, node_of, prev_at, prev_of, with_main, with_prev, written, main_changed, prev_changed, next_ref}
+use Rattle.proof_slots.specs.Vocabulary.{ref_in, taken, take_from, freed, in_use, heap_refs, count_of, Zeroed, limbo_after, is_in, by_birth}
 use Rattle.proof_slots.specs.Padding.{padded_heap}
 use Rattle.proof_slots.proofs.Padded.Lists.{longer, get_longer, set_longer, named_longer, held_longer}
 

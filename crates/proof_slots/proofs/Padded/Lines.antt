@@ -1,50 +1,25 @@
 -- What an operation's next step does in a padded state, and where it stands after it.
 use Rattle.std.proofs.Common.{◌≡◌, ℕ, ◌+◌, ◌==◌, Bool, nat_lt, List, [], ◌∷◌, ◌++◌, length, Option, Some, None, if◌then◌else◌, refl, ap, ◌∙◌}
-use Rattle.proof_slots.specs.Beneath.slot_arena.specs.declared.refs.Ref.{Ref}
-use Rattle.proof_slots.specs.Beneath.slot_arena.specs.declared.nodes.Node.{Node}
-use Rattle.proof_slots.specs.Beneath.slot_arena.specs.declared.nodes.Node.TheVariants.{Indirection, Branch, Single, Tomb, List as Listed}
-use Rattle.proof_slots.specs.Beneath.slot_arena.specs.Heaps.{node_at, next_ref, entries_of, entry_at}
-use Rattle.machine_model.specs.declared.operations.Operation.{Operation}
-use Rattle.machine_model.specs.declared.building.BuildLine.{BuildLine}
+use Rattle.proof_slots.specs.Vocabulary.{Ref, Node, Indirection, Branch, Single, Tomb, List as Listed, node_at, next_ref, entries_of, entry_at, Operation, BuildLine, Site, KeyLine, WhenFound}
+use Rattle.proof_slots.specs.Vocabulary.{Answers, Sets, Removes, After, Gives, Read, Swap, RenewLine, CleanLine, Climb, ClimbLine, CopyLine, WalkLine, Purpose, Line, RootLine, handle_of, key_of}
+use Rattle.proof_slots.specs.Vocabulary.{when_found, State, word_at, read_step, at_indirection, root_after, swap_after, renew_action, renew_after, renew_next, next_entry, renew_after_entry}
+use Rattle.proof_slots.specs.Vocabulary.{renew_after_read, renew_after_link, renew_after_branch, key_action, key_after, key_after_read, key_after_main, key_after_entry, after_listed, found}
+use Rattle.proof_slots.specs.Vocabulary.{found_so, removing, absent_beside, absent_listed, build_action, build_after, build_if_made, build_after_made, after_single, clean_action, clean_after}
+use Rattle.proof_slots.specs.Vocabulary.{clean_next, clean_after_read, clean_after_main, clean_after_entry, after_child, clean_after_tomb, clean_after_contracted, leaves_single, is_single}
+use Rattle.proof_slots.specs.Vocabulary.{climb_action, climb_after, climb_after_read, climb_after_main, climb_after_contracted, climb_after_root, copy_after, copy_after_read, copy_after_complete}
+use Rattle.proof_slots.specs.Vocabulary.{copy_if_made, walk_after, walk_after_read, walk_after_entry, first_of, rest_of, line_action, action_of, line_after, after_root, swapped, given_root}
+use Rattle.proof_slots.specs.Vocabulary.{generation_from, generation_after}
 use Rattle.machine_model.specs.declared.building.BuildLine.TheVariants as build
-use Rattle.machine_model.specs.declared.building.Site.{Site}
 use Rattle.machine_model.specs.declared.building.Site.TheVariants as site
-use Rattle.machine_model.specs.declared.finding.KeyLine.{KeyLine}
 use Rattle.machine_model.specs.declared.finding.KeyLine.TheVariants as key
-use Rattle.machine_model.specs.declared.finding.WhenFound.{WhenFound}
-use Rattle.machine_model.specs.declared.finding.WhenFound.TheVariants.{Answers, Sets, Removes}
-use Rattle.machine_model.specs.declared.reading.After.{After}
-use Rattle.machine_model.specs.declared.reading.After.TheVariants.{Goes, Gives}
-use Rattle.machine_model.specs.declared.reading.Read.{Read}
-use Rattle.machine_model.specs.declared.reading.Swap.{Swap}
-use Rattle.machine_model.specs.declared.repairs.RenewLine.{RenewLine}
+use Rattle.machine_model.specs.declared.reading.After.TheVariants.{Goes}
 use Rattle.machine_model.specs.declared.repairs.RenewLine.TheVariants as renew
-use Rattle.machine_model.specs.declared.repairs.CleanLine.{CleanLine}
 use Rattle.machine_model.specs.declared.repairs.CleanLine.TheVariants as clean
-use Rattle.machine_model.specs.declared.repairs.Climb.{Climb}
-use Rattle.machine_model.specs.declared.repairs.ClimbLine.{ClimbLine}
 use Rattle.machine_model.specs.declared.repairs.ClimbLine.TheVariants as climb
-use Rattle.machine_model.specs.declared.copying.CopyLine.{CopyLine}
 use Rattle.machine_model.specs.declared.copying.CopyLine.TheVariants as copy
-use Rattle.machine_model.specs.declared.walking.WalkLine.{WalkLine}
 use Rattle.machine_model.specs.declared.walking.WalkLine.TheVariants as walk
-use Rattle.machine_model.specs.declared.lines.Purpose.{Purpose}
-use Rattle.machine_model.specs.declared.lines.Line.{Line}
 use Rattle.machine_model.specs.declared.lines.Line.TheVariants as line
-use Rattle.machine_model.specs.declared.roots.RootLine.{RootLine}
-use Rattle.machine_model.specs.Calls.{handle_of, key_of, when_found}
-use Rattle.machine_model.specs.States.{State, word_at}
-use Rattle.machine_model.specs.Reading.{read_step, at_indirection}
-use Rattle.machine_model.specs.Swapping.{root_after, swap_after}
-use Rattle.machine_model.specs.Renewing.{renew_action, renew_after, renew_next, next_entry, renew_after_entry, renew_after_read, renew_after_link, renew_after_branch}
-use Rattle.machine_model.specs.Finding.{key_action, key_after, key_after_read, key_after_main, key_after_entry, after_listed, found, found_so, removing, absent_beside, absent_listed}
-use Rattle.machine_model.specs.Building.{build_action, build_after, build_if_made, build_after_made, after_single}
-use Rattle.machine_model.specs.Cleaning.{clean_action, clean_after, clean_next, clean_after_read, clean_after_main, clean_after_entry, after_child, clean_after_tomb, clean_after_contracted}
-use Rattle.machine_model.specs.Cleaning.{leaves_single, is_single}
-use Rattle.machine_model.specs.Climbing.{climb_action, climb_after, climb_after_read, climb_after_main, climb_after_contracted, climb_after_root}
-use Rattle.machine_model.specs.Copying.{copy_after, copy_after_read, copy_after_complete, copy_if_made}
-use Rattle.machine_model.specs.Walking.{walk_after, walk_after_read, walk_after_entry, first_of, rest_of}
-use Rattle.machine_model.specs.Operations.{line_action, action_of, line_after, after_root, after_swap, swapped, given_root, generation_from, generation_after}
+use Rattle.machine_model.specs.Operations.{after_swap}
 use Rattle.proof_slots.specs.Padding.{padded}
 use Rattle.proof_slots.proofs.Padded.Heaps.{HasFree, node_wide, next_wide}
 use Rattle.proof_slots.proofs.Padded.Reads.{read_wide, swap_wide, complete_wide, root_wide}

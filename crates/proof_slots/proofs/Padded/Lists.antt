@@ -1,8 +1,6 @@
 -- Lists with empty places at the end.
 use Rattle.std.proofs.Common.{◌≡◌, ℕ, zero, suc, ◌+◌, ◌≤◌, ◌++◌, List, [], ◌∷◌, length, replicate, get_or, set, flat_map, Option, Some, None, refl, ap, ◌∙◌, arith}
-use Rattle.proof_slots.specs.Beneath.slot_arena.specs.declared.nodes.Slot.{Slot}
-use Rattle.proof_slots.specs.Beneath.slot_arena.specs.Refs.{ref_to}
-use Rattle.proof_slots.specs.Beneath.slot_arena.specs.Heaps.{named_from, refs_of_slot}
+use Rattle.proof_slots.specs.Vocabulary.{Slot, ref_to, named_from, refs_of_slot}
 
 module _ (more : ℕ) where
   abbrev pub longer : List (Option Slot) → List (Option Slot)

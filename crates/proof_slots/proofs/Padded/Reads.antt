@@ -1,23 +1,13 @@
 -- READ, SWAP, COMPLETE and ROOT go on alike in a padded heap.
 use Rattle.std.proofs.Common.{◌≡◌, ℕ, Option, refl, ap}
-use Rattle.proof_slots.specs.Beneath.history.specs.declared.calls.Access.{Access}
-use Rattle.proof_slots.specs.Beneath.slot_arena.specs.declared.refs.Ref.{Ref}
-use Rattle.proof_slots.specs.Beneath.slot_arena.specs.Heaps.{Heap, node_at, prev_at}
-use Rattle.machine_model.specs.declared.roots.RootWord.{RootWord}
-use Rattle.machine_model.specs.declared.roots.RootWord.TheVariants.{Plain, Offer}
-use Rattle.machine_model.specs.declared.roots.Descriptor.{Descriptor}
-use Rattle.machine_model.specs.declared.roots.Complete.{Complete}
-use Rattle.machine_model.specs.declared.roots.CompleteLine.{CompleteLine}
+use Rattle.proof_slots.specs.Vocabulary.{Access, Ref, Heap, node_at, prev_at, RootWord, Plain, Offer, Descriptor, Complete, CompleteLine, RootLine, ReadLine, Swap, SwapLine, read_after, verdict}
+use Rattle.proof_slots.specs.Vocabulary.{after_prev, after_decide, committed_by, committed_so, swap_after, on_line, after_deciding, after_check, after_reading, after_complete, complete_after}
+use Rattle.proof_slots.specs.Vocabulary.{of_offer, root_after, after_completing}
 use Rattle.machine_model.specs.declared.roots.CompleteLine.TheVariants as complete
-use Rattle.machine_model.specs.declared.roots.RootLine.{RootLine}
 use Rattle.machine_model.specs.declared.roots.RootLine.TheVariants as root
-use Rattle.machine_model.specs.declared.reading.ReadLine.{ReadLine}
 use Rattle.machine_model.specs.declared.reading.ReadLine.TheVariants as read
-use Rattle.machine_model.specs.declared.reading.Swap.{Swap}
-use Rattle.machine_model.specs.declared.reading.SwapLine.{SwapLine}
 use Rattle.machine_model.specs.declared.reading.SwapLine.TheVariants as swap
-use Rattle.machine_model.specs.Reading.{read_after, verdict, after_prev, after_decide, committed_by, committed_so}
-use Rattle.machine_model.specs.Swapping.{after_swap, swap_after, on_line, after_deciding, after_check, after_reading, after_complete, complete_after, of_offer, root_after, after_completing}
+use Rattle.machine_model.specs.Swapping.{after_swap}
 use Rattle.proof_slots.proofs.Padded.Heaps.{wide, node_wide, prev_wide}
 
 module _ (more slots : ℕ) (heap : Heap) where

@@ -3,16 +3,8 @@ use Rattle.std.proofs.Common.{◌≡◌, ℕ, zero, suc, ◌+◌, ◌≤◌, Lis
 use Rattle.std.specs.List.{range_with_len}
 use Rattle.std.proofs.lemmas.List.{append_assoc, length-map, replicate-append-replicate}
 use Rattle.std.proofs.lemmas.List.FromFn.{length-range_with_len}
-use Rattle.proof_slots.specs.Beneath.slot_arena.specs.declared.nodes.Node.TheVariants.{Indirection}
-use Rattle.proof_slots.specs.Beneath.slot_arena.specs.declared.nodes.Slot.{Slot}
-use Rattle.proof_slots.specs.Beneath.slot_arena.specs.declared.refs.Ref.{Ref}
-use Rattle.proof_slots.specs.Beneath.slot_arena.specs.Refs.{ref_to}
-use Rattle.proof_slots.specs.Beneath.slot_arena.specs.Heaps.{Heap, empty_branch, taken, take_from, freed, with_main, with_prev}
-use Rattle.machine_model.specs.declared.steps.Bounds.{Bounds}
-use Rattle.machine_model.specs.declared.steps.Step.{Step}
-use Rattle.machine_model.specs.States.{State, first_state, empty_heap, first_heap}
-use Rattle.machine_model.specs.Machine.{AreBounds, next, next_state, run, run_from}
-use Rattle.machine_model.specs.Records.{Record, first_record, next_record, record_from, record_of}
+use Rattle.proof_slots.specs.Vocabulary.{Indirection, Slot, Ref, ref_to, Heap, empty_branch, taken, take_from, freed, with_main, with_prev, Bounds, Step, State, first_state, empty_heap, first_heap}
+use Rattle.proof_slots.specs.Vocabulary.{AreBounds, next, next_state, run, run_from, Record, first_record, next_record, record_from, record_of}
 use Rattle.machine_model.proofs.Along.{run_push, kept_by_moves}
 use Rattle.machine_model.proofs.HeapMoves.{HeapMoves, Stays, Takes, Publishes, Restores, Commit, Fail, Frees, heap_moves}
 use Rattle.machine_model.proofs.Rest.{first_free}

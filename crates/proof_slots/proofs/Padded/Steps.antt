@@ -1,41 +1,20 @@
 -- Each step of a padded state, and what it tells.
 use Rattle.std.proofs.Common.{◌≡◌, ℕ, zero, suc, ◌+◌, ◌-◌, ◌&&◌, Bool, true, false, not, nat_le, is_some, List, [], ◌∷◌, length, map, slice_index_or, Option, Some, None, Ok, Err, if◌then◌else◌}
 use Rattle.std.proofs.Common.{refl, ap, ◌∙◌}
-use Rattle.proof_slots.specs.Beneath.ctrie_base.specs.declared.refusals.Refusal.{Refusal}
+use Rattle.proof_slots.specs.Vocabulary.{Refusal, Writable, ReadOnly, Call, Ref, Heap, generation_at, generation_of, node_at, Zeroed, ripe, is_passed, scanned, advanced, sweep_by, Operation, Action}
+use Rattle.proof_slots.specs.Vocabulary.{Read, Carried, Progress, Publication, Outcome, Step, handle_of, opens_handle, is_close, needs_writable, needs_read_only, State, handle_limit, root_at}
+use Rattle.proof_slots.specs.Vocabulary.{operation_of, word_at, with_root, with_operation, is_carried_out, outside, settled, action_of, kind_of, read_of, gone, Answer, next, next_state, state_after}
+use Rattle.proof_slots.specs.Vocabulary.{is_taken_step, is_spent, is_taken, taken_below, least_from, settled_after, begin_denial, begin_unless, begun_operation, with_begin, give_up_by, give_up_on}
+use Rattle.proof_slots.specs.Vocabulary.{give_up_unless, given_up, gave_up, Reply, access_of, first_reason, is_actor, is_running, is_access, runs_on, go_denial, go_unless, go_on, step_by, pin_of}
+use Rattle.proof_slots.specs.Vocabulary.{reclaimer_of, swept, swept_with, Record, noted, next_record, told_in, told_of, told_by, begin_told, committed_in, committed_now, given_by, given_in}
+use Rattle.proof_slots.specs.Vocabulary.{given_now, counts_from, published_by, carried_by, progress_of}
 use Rattle.proof_slots.specs.Beneath.ctrie_base.specs.declared.refusals.Refusal.TheVariants as refuse
-use Rattle.proof_slots.specs.Beneath.history.specs.declared.calls.Access.TheVariants.{Writable, ReadOnly}
-use Rattle.proof_slots.specs.Beneath.history.specs.declared.calls.Call.{Call}
-use Rattle.proof_slots.specs.Beneath.slot_arena.specs.declared.refs.Ref.{Ref}
-use Rattle.proof_slots.specs.Beneath.slot_arena.specs.Heaps.{Heap, generation_at, generation_of, node_at}
 use Rattle.proof_slots.specs.Beneath.epochs.specs.declared.limbo.Swept.TheVariants as sweeping
-use Rattle.proof_slots.specs.Beneath.epochs.specs.declared.limbo.Zeroed.{Zeroed}
-use Rattle.proof_slots.specs.Beneath.epochs.specs.Sweeping.{ripe, is_passed, scanned, advanced, sweep_by}
-use Rattle.machine_model.specs.declared.operations.Operation.{Operation}
-use Rattle.machine_model.specs.declared.actions.Action.{Action}
 use Rattle.machine_model.specs.declared.actions.Action.TheVariants as act
-use Rattle.machine_model.specs.declared.reading.Read.{Read}
-use Rattle.machine_model.specs.declared.records.Carried.{Carried}
-use Rattle.machine_model.specs.declared.records.Progress.{Progress}
-use Rattle.machine_model.specs.declared.records.Publication.{Publication}
 use Rattle.machine_model.specs.declared.records.Told.TheVariants as told
-use Rattle.machine_model.specs.declared.steps.Outcome.{Outcome}
 use Rattle.machine_model.specs.declared.steps.Outcome.TheVariants as outcome
-use Rattle.machine_model.specs.declared.actions.Kind.TheVariants as kind
-use Rattle.machine_model.specs.declared.steps.Step.{Step}
+use Rattle.proof_slots.specs.Beneath.ctrie_base.specs.declared.kinds.Kind.TheVariants as kind
 use Rattle.machine_model.specs.declared.steps.Step.TheVariants as step
-use Rattle.machine_model.specs.Calls.{handle_of, opens_handle, is_close, needs_writable, needs_read_only}
-use Rattle.machine_model.specs.States.{State, handle_limit, root_at, operation_of, word_at, with_root, with_operation}
-use Rattle.machine_model.specs.Swapping.{is_carried_out}
-use Rattle.machine_model.specs.Counting.{outside, settled}
-use Rattle.machine_model.specs.Operations.{action_of, kind_of, read_of}
-use Rattle.machine_model.specs.Acting.{gone}
-use Rattle.machine_model.specs.Machine.{Answer, next, next_state, state_after, is_taken_step, is_spent, is_taken, taken_below, least_from, settled_after, begin_denial, begin_unless}
-use Rattle.machine_model.specs.Machine.{begun_operation, with_begin, give_up_by, give_up_on, give_up_unless}
-use Rattle.machine_model.specs.GivingUp.{given_up, gave_up}
-use Rattle.proof_slots.specs.Beneath.history.specs.declared.replies.Reply.{Reply}
-use Rattle.machine_model.specs.Machine.{access_of, first_reason, is_actor, is_running, is_access, runs_on, go_denial, go_unless, go_on, step_by, pin_of, reclaimer_of, swept, swept_with}
-use Rattle.machine_model.specs.Records.{Record, noted, next_record}
-use Rattle.machine_model.specs.Tellings.{told_in, told_of, told_by, begin_told, committed_in, committed_now, given_by, given_in, given_now, counts_from, published_by, carried_by, progress_of}
 use Rattle.proof_slots.specs.Padding.{padded, padded_answer}
 use Rattle.proof_slots.proofs.Padded.Heaps.{HasFree, node_wide, freed_wide, limbo_wide}
 use Rattle.proof_slots.proofs.Padded.Reads.{committed_wide}

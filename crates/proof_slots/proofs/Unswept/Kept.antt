@@ -2,16 +2,8 @@
 use Rattle.std.proofs.Common.{◌≡◌, List, [], ◌∷◌, ◌++◌, get_or, Option, Some, None, refl, sym, ap, ◌∙◌, subst}
 use Rattle.std.proofs.lemmas.List.{append_assoc, append-nil}
 use Rattle.std.proofs.lemmas.Option.{none-some, same_Some}
-use Rattle.proof_slots.specs.Beneath.slot_arena.specs.declared.refs.Ref.{Ref}
-use Rattle.proof_slots.specs.Beneath.slot_arena.specs.declared.nodes.Slot.{Slot}
-use Rattle.proof_slots.specs.Beneath.slot_arena.specs.Refs.{slot_of}
-use Rattle.proof_slots.specs.Beneath.slot_arena.specs.Heaps.{Heap, stored}
+use Rattle.proof_slots.specs.Vocabulary.{Ref, Slot, slot_of, Heap, stored, Bounds, Step, standing, first_state, AreBounds, next_state, run}
 use Rattle.proof_slots.specs.Beneath.slot_arena.proofs.Live.{same_ref}
-use Rattle.machine_model.specs.declared.steps.Bounds.{Bounds}
-use Rattle.machine_model.specs.declared.steps.Step.{Step}
-use Rattle.machine_model.specs.Grown.{standing}
-use Rattle.machine_model.specs.States.{first_state}
-use Rattle.machine_model.specs.Machine.{AreBounds, next_state, run}
 use Rattle.machine_model.proofs.Along.{run_push}
 use Rattle.machine_model.proofs.Grown.{standing_parts}
 use Rattle.proof_memory.specs.Laws.{IsInUse}

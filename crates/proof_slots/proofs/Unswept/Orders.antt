@@ -4,16 +4,9 @@ use Rattle.std.specs.List.{range_with_len}
 use Rattle.std.proofs.lemmas.Bool.{cases_eq}
 use Rattle.std.proofs.lemmas.List.FromFn.{length-range_with_len}
 use Rattle.std.proofs.lemmas.Option.{none-some, same_Some}
-use Rattle.proof_slots.specs.Beneath.slot_arena.specs.declared.refs.Ref.{Ref}
-use Rattle.proof_slots.specs.Beneath.slot_arena.specs.declared.nodes.Node.{Node}
-use Rattle.proof_slots.specs.Beneath.slot_arena.specs.declared.nodes.Node.TheVariants.{Indirection}
-use Rattle.proof_slots.specs.Beneath.slot_arena.specs.declared.nodes.Prev.{Prev}
+use Rattle.proof_slots.specs.Vocabulary.{Ref, Node, Indirection, Prev, Slot, slot_of, ref_to, Heap, stored, empty_branch, taken, take_from, written, with_main, with_prev, main_changed, prev_changed}
+use Rattle.proof_slots.specs.Vocabulary.{first_state, empty_heap, first_heap, run}
 use Rattle.proof_slots.specs.Beneath.slot_arena.specs.declared.nodes.Prev.TheVariants as prev
-use Rattle.proof_slots.specs.Beneath.slot_arena.specs.declared.nodes.Slot.{Slot}
-use Rattle.proof_slots.specs.Beneath.slot_arena.specs.Refs.{slot_of, ref_to}
-use Rattle.proof_slots.specs.Beneath.slot_arena.specs.Heaps.{Heap, stored, empty_branch, taken, take_from, written, with_main, with_prev, main_changed, prev_changed}
-use Rattle.machine_model.specs.States.{first_state, empty_heap, first_heap}
-use Rattle.machine_model.specs.Machine.{run}
 use Rattle.machine_model.proofs.Found.{found_here, found_elsewhere, none_found}
 use Rattle.machine_model.proofs.Grown.{standing_parts}
 use Rattle.machine_model.proofs.HeapMoves.{HeapMoves, Stays, Takes, Publishes, Restores, Commit, Fail, Frees}

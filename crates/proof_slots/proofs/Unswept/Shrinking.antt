@@ -1,14 +1,9 @@
 -- A step that isn't the sweep's frees nothing.
 use Rattle.std.proofs.Common.{◌≡◌, ℕ, ◌≤◌, List, [], ◌∷◌, ◌++◌, length, None, refl, sym, ap, ◌∙◌, subst, arith}
 use Rattle.std.proofs.lemmas.Option.{none-some}
-use Rattle.proof_slots.specs.Beneath.slot_arena.specs.Heaps.{Heap, taken, take_from, with_main, with_prev}
-use Rattle.machine_model.specs.declared.steps.Outcome.{Outcome}
-use Rattle.machine_model.specs.declared.steps.Step.{Step}
-use Rattle.machine_model.specs.Calls.{handle_of}
-use Rattle.machine_model.specs.States.{State, first_state}
-use Rattle.machine_model.specs.Operations.{action_of}
-use Rattle.machine_model.specs.Machine.{begun_operation, next_state, run, run_from}
-use Rattle.machine_model.specs.Moves.{Moves, Begins, Goes, Ends, Sweeps, GivesUp}
+use Rattle.proof_slots.specs.Vocabulary.{Heap, taken, take_from, with_main, with_prev, Outcome, Step, handle_of, State, first_state, action_of, begun_operation, next_state, run, run_from, Moves}
+use Rattle.proof_slots.specs.Vocabulary.{Begins, Ends, Sweeps, GivesUp}
+use Rattle.machine_model.specs.Moves.{Goes}
 use Rattle.machine_model.proofs.Along.{kept_by_moves, run-append}
 use Rattle.machine_model.proofs.HeapMoves.{HeapMoves, Stays, Takes, Publishes, Restores, Commit, Fail, Frees, acted_heap, begin_heap}
 use Rattle.proof_slots.specs.Unswept.{IsNoSweep, HasNoSweeps, FreeAtTheEnd}

@@ -4,9 +4,8 @@ use Rattle.std.proofs.Common.{replicate, count_by, Option, Some, None, refl, sym
 use Rattle.std.proofs.Math.ListN.{get_or-map}
 use Rattle.std.proofs.lemmas.Bool.{true≢false}
 use Rattle.std.proofs.lemmas.List.{length-map}
-use Rattle.proof_straight.specs.Vocabulary.{Slot, Ref, count_of, taken, named_from, refs_of_slot, ref_to, times, Zeroed}
-use Rattle.proof_straight.specs.Vocabulary.{by_birth, limbo_after, Bounds, Outcome, Step, ended, gone, settled, outside, with_operation}
-use Rattle.proof_straight.specs.Vocabulary.{refs_of_operation, begun_operation, run, swept, with_begin, Moves, Begins, Ends, Sweeps, State, first_heap, first_state, GivesUp, gave_up}
+use Rattle.proof_straight.specs.Vocabulary.{Slot, Ref, count_of, taken, named_from, refs_of_slot, ref_to, times, Zeroed, by_birth, limbo_after, Bounds, Outcome, Step, ended, gone, settled, outside}
+use Rattle.proof_straight.specs.Vocabulary.{with_operation, refs_of_operation, begun_operation, run, swept, with_begin, Moves, Begins, Ends, Sweeps, State, first_heap, first_state, GivesUp, gave_up}
 use Rattle.machine_model.specs.Moves.{Goes}
 use Rattle.machine_model.proofs.Along.{along}
 use Rattle.machine_model.proofs.Basics.{two_or_more}

@@ -1,8 +1,6 @@
 use Rattle.std.specs.Prelude.{IfSome}
 use Rattle.std.proofs.Common.{◌≡◌, length, Some, sym, ap, subst, arith, ◌∙◌}
-use Rattle.slot_arena.specs.Arenas.{IsLive}
-use Rattle.slot_arena.specs.Heaps.{next_ref}
-use Rattle.slot_arena.specs.Refs.{ref_to}
+use Rattle.machine_core.specs.Vocabulary.{IsLive, next_ref, ref_to}
 use Rattle.epochs.specs.Memories.{Memory}
 use Rattle.proof_core.proofs.Bounded.{taken_most}
 use Rattle.proof_core.proofs.Claims.{one_live}
