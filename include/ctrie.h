@@ -7,7 +7,7 @@
  *
  *     struct ctrie map = CTRIE_NONE;
  *     uint64_t value;
- *     uint32_t code = ctrie_new(&map, 1024, CTRIE_FOLD);
+ *     uint32_t code = ctrie_new(&map, 1024, CTRIE_WIDE);
  *     if (!CTRIE_REFUSED(code)) code = ctrie_put(&map, 0, 7, 250, NULL);
  *     if (!CTRIE_REFUSED(code)) code = ctrie_get(&map, 0, 7, &value);
  *     if (code == CTRIE_YES) printf("%llu\n", (unsigned long long)value);
@@ -20,7 +20,7 @@
  * end.
  *
  * Each call answers a code: CTRIE_DONE, CTRIE_NO or CTRIE_YES where it was done, else why it was refused. A call that
- * is refused changes no map. What a call has to tell beside its code it writes where the last pointer says, and only
+ * is refused changes no map. What a call returns beside its code it writes where the last pointer says, and only
  * then: a value at CTRIE_YES, a number or a handle at CTRIE_DONE.
  *
  * What the caller owes: no pointer is null but where a call lets NULL stand, each points to what its type says, and no
@@ -53,9 +53,9 @@ extern "C" {
 
 /* Holds a map, or none.
 
-   Its handles are numbers from 0 to 255. Each new one is the next number behind the one that was given last, round
-   about, that isn't open. So a handle that was closed is refused until the count comes round to its number, and names
-   that copy from then on, which nothing tells from the old one. A handle of one map is taken by another. */
+   Its handles are numbers from 0 to 255. Each new one is the next number that isn't open after the one that was given
+   last; 0 follows 255. So a handle that was closed is refused until its number is given again, and names the new copy
+   from then on: nothing shows that it isn't the old one. A handle of one map is taken by another. */
 struct ctrie {
     void *at;
 };
@@ -64,8 +64,8 @@ struct ctrie {
 
 enum ctrie_code {
     CTRIE_DONE = 0,         /* it is done */
-    CTRIE_NO = 0,           /* it is done, and tells no: there is no value, or it isn't so */
-    CTRIE_YES = 1,          /* it is done, and tells yes: there is a value, or it is so */
+    CTRIE_NO = 0,           /* it is done, and the answer is no: there is no value, or it isn't so */
+    CTRIE_YES = 1,          /* it is done, and the answer is yes: there is a value, or it is so */
     CTRIE_NO_HANDLE = 2,    /* the handle isn't open */
     CTRIE_READ_ONLY = 3,    /* a change by a read-only handle */
     CTRIE_HANDLES_FULL = 4, /* a snapshot, a freeze, a restore or a put_all while 256 are open */
@@ -79,16 +79,21 @@ enum ctrie_code {
     CTRIE_WORN_OUT = 8,     /* no more work is left than a call may take, of 2^45 - 2^21 steps; the map can be read */
     CTRIE_MEMORY = 9,       /* malloc refused: only of ctrie_new, ctrie_entries, ctrie_scan, ctrie_diff, ctrie_put_all, and of
                                ctrie_shared_open, _new, _split, _entries and _scan */
-    CTRIE_NO_MAP = 11,      /* no map is held, or no seat at a shared one */
+    CTRIE_NO_MAP = 11,      /* no map is held, or no seat at a shared one; or another call has it at this time, which is
+                               a mistake: one call at a time uses a struct */
     CTRIE_HAS_MAP = 12,     /* ctrie_new where a map is held already, which stays; ctrie_shared_open, _new, _split where a
                                seat is */
-    CTRIE_BAD_HASH = 13     /* ctrie_new, ctrie_shared_open, _new: the number is none of enum ctrie_hash */
+    CTRIE_BAD_HASH = 13,    /* ctrie_new, ctrie_shared_open, _new: the number is none of enum ctrie_hash */
+    CTRIE_NULL = 16         /* ctrie_put_all of a number of pairs with NULL for their place */
 };
 
-/* Whether a code tells of a refusal. */
+/* Whether a code is that of a refusal. */
 #define CTRIE_REFUSED(code) ((code) > CTRIE_YES)
 
-/* How keys are hashed. At most 32 keys of a map have one hash: a key more is CROWDED. */
+/* How keys are hashed. Take CTRIE_WIDE: no key is ever crowded, whatever the keys are. The others are for who knows his
+   keys: at most 32 keys of a map have one hash, and a key more is CROWDED. No hash has a seed, so who chooses the keys may
+   choose such as fill the map early: by CTRIE_WIDE pairs of keys that have their low 60 bits in common, of which 65,536
+   slots hold some 5,800 in place of 39,000 random ones. */
 enum ctrie_hash {
     CTRIE_LOW = 0,  /* the key modulo 2^32 */
     CTRIE_FOLD = 1, /* the key's low half xor its high half: not for two small numbers packed into a key */
@@ -129,7 +134,7 @@ uint32_t ctrie_version(void);
 /* What a code says, in a few words; of a code of ctrie_shared.h ctrie_shared_error does. */
 static inline const char *ctrie_error(uint32_t code) {
     switch (code) {
-    case CTRIE_DONE: return "done";
+    case CTRIE_DONE: return "done, or no"; /* CTRIE_NO is the same number */
     case CTRIE_YES: return "yes";
     case CTRIE_NO_HANDLE: return "the handle isn't open";
     case CTRIE_READ_ONLY: return "the map is read-only";
@@ -139,9 +144,10 @@ static inline const char *ctrie_error(uint32_t code) {
     case CTRIE_BAD_SIZES: return "the number of slots is out of range";
     case CTRIE_WORN_OUT: return "the map's steps are used up";
     case CTRIE_MEMORY: return "no memory";
-    case CTRIE_NO_MAP: return "no map is held";
+    case CTRIE_NO_MAP: return "no map is held, or another call has it";
     case CTRIE_HAS_MAP: return "a map is held already";
     case CTRIE_BAD_HASH: return "no hash has this number";
+    case CTRIE_NULL: return "NULL stands for the place of pairs";
     default: return "no call of ctrie.h answers this code";
     }
 }
@@ -175,7 +181,7 @@ uint32_t ctrie_is_open(struct ctrie *map, uint16_t handle);
 CTRIE_MUST_USE
 uint32_t ctrie_is_writable(struct ctrie *map, uint16_t handle);
 
-/* YES with a key and its value, whichever is found first, or NO where no key has a value. NO_HANDLE. */
+/* YES with any one key and its value, or NO where no key has a value. NO_HANDLE. */
 CTRIE_MUST_USE
 uint32_t ctrie_first(struct ctrie *map, uint16_t handle, struct ctrie_pair *pair);
 
@@ -200,8 +206,8 @@ uint32_t ctrie_entries(struct ctrie *map, uint16_t handle, struct ctrie_cursor *
                        size_t room, uint64_t *count);
 
 /* The same in the map's own order, that of the keys' hashes: each call takes a way down and what it writes, and not a walk
-   over all pairs, so a large map is listed by this one. Keys that come in or go in between don't move the others: one that
-   stays is listed once. NO_HANDLE, MEMORY. */
+   over all pairs, so a large map is listed by this one. Keys that are set or removed in between don't move the others: one
+   that stays is listed once. NO_HANDLE, MEMORY. */
 CTRIE_MUST_USE
 uint32_t ctrie_scan(struct ctrie *map, uint16_t handle, struct ctrie_cursor *cursor, struct ctrie_pair *pairs, size_t room,
                     uint64_t *count);
@@ -216,7 +222,7 @@ uint32_t ctrie_scan(struct ctrie *map, uint16_t handle, struct ctrie_cursor *cur
        if (ctrie_diff(&map, older, newer, differences, 64, &count) != CTRIE_DONE) return 1;
        for (uint64_t i = 0; i < count && i < 64; i++) use(&differences[i]);
 
-   Where the count is more than there was room for, a call with so much room tells them all. */
+   Where the count is more than there was room for, a call with as much room writes them all. */
 CTRIE_MUST_USE
 uint32_t ctrie_diff(struct ctrie *map, uint16_t older, uint16_t newer, struct ctrie_difference *differences,
                     size_t room, uint64_t *count);
@@ -251,7 +257,8 @@ uint32_t ctrie_put_if_absent(struct ctrie *map, uint16_t handle, uint64_t key, u
 
 /* Sets the values of all these keys, or of none: where it is refused, no map has changed. Of pairs of one key the last
    one counts. It works on a copy: for the moment this takes one more handle, slots for what the copy doesn't share, and
-   memory for a list of the pairs. For the place of no pairs NULL may stand. DONE. CROWDED, HANDLES_FULL, MEMORY. */
+   memory for a list of the pairs. For the place of no pairs NULL may stand. DONE. CROWDED, HANDLES_FULL, MEMORY; NULL
+   before all others where there are pairs and no place for them. */
 CTRIE_MUST_USE
 uint32_t ctrie_put_all(struct ctrie *map, uint16_t handle, const struct ctrie_pair *pairs, size_t count);
 
@@ -271,7 +278,7 @@ uint32_t ctrie_remove(struct ctrie *map, uint16_t handle, uint64_t key, uint64_t
 CTRIE_MUST_USE
 uint32_t ctrie_remove_if(struct ctrie *map, uint16_t handle, uint64_t key, uint64_t value);
 
-/* Takes a key out, whichever is found first. YES with it and the value that it had, or NO where no key has a value. */
+/* Takes any one key out. YES with it and the value that it had, or NO where no key has a value. */
 CTRIE_MUST_USE
 uint32_t ctrie_pop(struct ctrie *map, uint16_t handle, struct ctrie_pair *pair);
 
@@ -294,7 +301,8 @@ uint32_t ctrie_freeze(struct ctrie *map, uint16_t handle, uint16_t *copy);
 CTRIE_MUST_USE
 uint32_t ctrie_restore(struct ctrie *map, uint16_t handle, uint16_t copy);
 
-/* Takes the handle away, and its map. DONE; never FULL or HANDLES_FULL. */
+/* Takes the handle away, and its map. DONE; never FULL or HANDLES_FULL. Where it was the last one, the map can only be
+   freed: nothing opens another. */
 uint32_t ctrie_close(struct ctrie *map, uint16_t handle);
 
 /* ---- NULL for a place that nothing is written to or read from: the library itself has to have one */
@@ -349,7 +357,8 @@ CTRIE_MUST_USE
 static inline uint32_t ctrie_put_all_or_null(struct ctrie *map, uint16_t handle, const struct ctrie_pair *pairs,
                                              size_t count) {
     const struct ctrie_pair none = {0, 0};
-    return ctrie_put_all(map, handle, pairs ? pairs : &none, pairs ? count : 0);
+    if (!pairs && count) return CTRIE_NULL;
+    return ctrie_put_all(map, handle, pairs ? pairs : &none, count);
 }
 
 #define ctrie_get ctrie_get_or_null

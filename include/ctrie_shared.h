@@ -8,10 +8,10 @@
  * (SharedMap::finish), a call that C hasn't. The map lies in shards, from 1 to 64: a call on one key takes the key's
  * shard, a scan and a hear the one that they name, any other call all. A call that finds a shard taken waits, for how
  * long nothing promises: threads take turns at a shard, in no order that is promised. Of the calls of ctrie.h a seat
- * hasn't slots, diff, put_all, pop, open_handles and entries behind a cursor (scan has one).
+ * hasn't slots, diff, put_all, pop, open_handles and entries after a cursor (scan has one).
  *
  *     struct ctrie_seat seats[4] = {CTRIE_NO_SEAT, CTRIE_NO_SEAT, CTRIE_NO_SEAT, CTRIE_NO_SEAT};
- *     if (ctrie_shared_new(seats, 4, 1024, CTRIE_FOLD, 8) != CTRIE_DONE) return 1;
+ *     if (ctrie_shared_new(seats, 4, 1024, CTRIE_WIDE, 8) != CTRIE_DONE) return 1;
  *     ... each thread has one of them: ctrie_shared_put(&seats[i], 0, 7, 250, NULL) ...
  *     for (int i = 0; i < 4; i++) ctrie_shared_free(&seats[i]);
  *
@@ -52,9 +52,9 @@ enum ctrie_shared_code {
 };
 
 /* ---- the calls that try: each answers CTRIE_BUSY where another seat had a shard that it is about, and nothing is done
-   then. The calls below, of the same names without try, call them until they come in: so a call on one key, a scan or a
+   then. The calls below, of the same names without try, call them until they are done: so a call on one key, a scan or a
    hear that is to be made at once, or not at all, is one of these. A call about all shards takes one of them at once, or
-   gives up, and then waits for each other one a short while, up to 256 tries with a pause behind each; meanwhile it holds
+   gives up, and then waits for each other one a short while, up to 256 tries with a pause after each; meanwhile it holds
    those that it has. For the place of a value NULL may not stand here. */
 
 CTRIE_MUST_USE
@@ -111,8 +111,8 @@ uint32_t ctrie_shared_try_close(struct ctrie_seat *seat, uint16_t handle);
 
 /* ---- a shared map and its seats: these don't wait */
 
-/* Makes a shared map in so many shards, from 1 to 64, each as ctrie_new makes a map with so many slots; and so many
-   seats at it, from 1 to 255. The struct holds one, which hands out the others. Keys spread over the shards, some of which
+/* Makes a shared map in this number of shards, from 1 to 64, each of which is as ctrie_new makes a map with these slots;
+   and this number of seats at it, from 1 to 255. The struct holds one, which hands out the others. Keys spread over the shards, some of which
    get more than their share: a call is FULL where its key's shard is, whatever the others have. DONE; BAD_HASH, before all others; HAS_MAP
    where it holds one already; BAD_SIZES where the number of slots or of shards is out of range; MEMORY; NO_SEATS where
    there are to be none. */
@@ -138,7 +138,13 @@ uint32_t ctrie_shared_last(struct ctrie_seat *seat, struct ctrie_count *last);
 CTRIE_MUST_USE
 uint32_t ctrie_shared_shards(struct ctrie_seat *seat, uint64_t *shards);
 
-/* Makes a shared map in so many shards, each with so many slots, and gives each of these structs, which hold none, a
+#ifdef __cplusplus
+#define CTRIE_BYTE(number) static_cast<uint8_t>(number)
+#else
+#define CTRIE_BYTE(number) ((uint8_t)(number))
+#endif
+
+/* Makes a shared map in this number of shards, each with these slots, and gives each of these structs, which hold none, a
    seat at it. DONE; HAS_MAP where one of them holds one, before all others; NO_SEATS where there are none or more than 255;
    else as ctrie_shared_open. Where it isn't DONE all that was made is freed. */
 CTRIE_MUST_USE
@@ -149,7 +155,7 @@ static inline uint32_t ctrie_shared_new(struct ctrie_seat *seats, size_t count, 
     for (made = 0; made < count; made++)
         if (seats[made].at) return CTRIE_HAS_MAP;
     if (count == 0 || count > 255) return CTRIE_NO_SEATS;
-    code = ctrie_shared_open(&seats[0], slots, hash, (uint8_t)count, shards);
+    code = ctrie_shared_open(&seats[0], slots, hash, CTRIE_BYTE(count), shards);
     for (made = 1; code == CTRIE_DONE && made < count; made++) code = ctrie_shared_split(&seats[0], &seats[made]);
     if (code != CTRIE_DONE)
         for (made = 0; made < count; made++) ctrie_shared_free(&seats[made]);
@@ -160,7 +166,7 @@ static inline uint32_t ctrie_shared_new(struct ctrie_seat *seats, size_t count, 
 static inline const char *ctrie_shared_error(uint32_t code) {
     switch (code) {
     case CTRIE_BAD_SIZES: return "the number of slots or shards is out of range";
-    case CTRIE_NO_MAP: return "no seat is held";
+    case CTRIE_NO_MAP: return "no seat is held, or another call has it";
     case CTRIE_HAS_MAP: return "a seat is held already";
     case CTRIE_BUSY: return "another seat has the shard";
     case CTRIE_NO_SEATS: return "no seat is left, or the number of seats is out of range";
@@ -190,13 +196,13 @@ static inline void ctrie_shared_wait(uint32_t *tries) {
     }
 }
 
-/* Makes this call until it comes in. */
+/* Makes this call until no other seat has what it is about. */
 #define CTRIE_SHARED_WAIT(call)                       \
     do {                                              \
-        uint32_t ctrie_tries = 0, ctrie_told;         \
-        while ((ctrie_told = (call)) == CTRIE_BUSY)   \
+        uint32_t ctrie_tries = 0, ctrie_answer;       \
+        while ((ctrie_answer = (call)) == CTRIE_BUSY) \
             ctrie_shared_wait(&ctrie_tries);          \
-        return ctrie_told;                            \
+        return ctrie_answer;                          \
     } while (0)
 
 /* YES with the key's value, or NO; for the value's place NULL may stand. NO_HANDLE. */
@@ -225,23 +231,25 @@ static inline uint32_t ctrie_shared_is_writable(struct ctrie_seat *seat, uint16_
     CTRIE_SHARED_WAIT(ctrie_shared_try_is_writable(seat, handle));
 }
 
-/* YES with a key and its value, whichever is found first, or NO where no key has a value. Others wait while it looks at
-   the shards up to the first that has a key, and goes one way down there, in no memory. NO_HANDLE. A list of work is
-   this and a remove_if, again where that tells NO. */
+/* YES with any one key and its value, or NO where no key has a value. Others wait while it looks at the shards up to the
+   first that has a key, and goes one way down there, in no memory. NO_HANDLE. A list of work is this and a remove_if,
+   again where that answers NO. */
 CTRIE_MUST_USE
 static inline uint32_t ctrie_shared_first(struct ctrie_seat *seat, uint16_t handle, struct ctrie_pair *pair) {
     CTRIE_SHARED_WAIT(ctrie_shared_try_first(seat, handle, pair));
 }
 
-/* DONE with how many keys have a value. Others wait while it walks over them, in no memory. NO_HANDLE. */
+/* DONE with how many keys have a value. Others wait while it walks over them, in no memory: who counts a large map again
+   and again leaves others little time between. Where others write, freeze it, scan the copy shard by shard, and close it.
+   NO_HANDLE. */
 CTRIE_MUST_USE
 static inline uint32_t ctrie_shared_count(struct ctrie_seat *seat, uint16_t handle, uint64_t *count) {
     CTRIE_SHARED_WAIT(ctrie_shared_try_count(seat, handle, count));
 }
 
 /* DONE with how many keys have a value; the first of them are written with their values in ascending order of keys,
-   as many as there is room for: all of one moment. Others wait while all are listed, in memory for all. NO_HANDLE,
-   MEMORY. */
+   as many as there is room for: all of one moment. Others wait while all are listed, in memory for all; where they
+   write, list a large map as ctrie_shared_count says. NO_HANDLE, MEMORY. */
 CTRIE_MUST_USE
 static inline uint32_t ctrie_shared_entries(struct ctrie_seat *seat, uint16_t handle, struct ctrie_pair *pairs,
                                             size_t room, uint64_t *count) {
@@ -251,7 +259,9 @@ static inline uint32_t ctrie_shared_entries(struct ctrie_seat *seat, uint16_t ha
 /* Writes the next pairs of those that lie in one shard, as ctrie_scan does: those after the cursor, as many as there is
    room for. DONE with how many; fewer than there is room for where none are left in the shard. Only this shard is held, for
    what is written and a way down: so a large map is listed shard by shard while other threads go on, and a frozen copy is
-   of one moment all the same. Shards are counted from 0, and a number beyond the last counts round again. NO_HANDLE, MEMORY.
+   of one moment all the same. A get of a copy takes its shard as one of the map does, so much of a copy is read sooner by
+   scans with more room. Shards are counted from 0; a number beyond the last is taken modulo the number of shards.
+   NO_HANDLE, MEMORY.
 
        for (uint64_t shard = 0; shard < shards; shard++) {
            struct ctrie_cursor cursor = CTRIE_START;
@@ -286,10 +296,10 @@ static inline uint32_t ctrie_shared_has_room(struct ctrie_seat *seat) {
     CTRIE_SHARED_WAIT(ctrie_shared_try_has_room(seat));
 }
 
-/* YES where so many calls about the shard have been made, as far as the seat sees then; else NO, and NO of a shard that
-   isn't there, for which it looks at the first one. Who was told the number of another seat's call, by ctrie_shared_last,
-   and hears YES of it, calls behind it from then on, whichever shards these calls are about. That YES comes of each call
-   that was made isn't promised, nor that a try comes in. */
+/* YES where as many calls about the shard have been made, as far as the seat sees then; else NO, and NO of a shard that
+   isn't there, for which it looks at the first one. Who has the number of another seat's call, from ctrie_shared_last,
+   and gets YES here, makes all later calls after that one, whichever shards these are about. It isn't promised that YES
+   comes of each call that was made, nor that a try ends in a call. */
 CTRIE_MUST_USE
 static inline uint32_t ctrie_shared_hear(struct ctrie_seat *seat, struct ctrie_count count) {
     CTRIE_SHARED_WAIT(ctrie_shared_try_hear(seat, &count));
@@ -319,8 +329,8 @@ static inline uint32_t ctrie_shared_replace(struct ctrie_seat *seat, uint16_t ha
     CTRIE_SHARED_WAIT(ctrie_shared_try_replace(seat, handle, key, value, before ? before : &unwanted));
 }
 
-/* As ctrie_replace_if: NO_HANDLE, READ_ONLY, FULL, WORN_OUT. A counter is a get and this, again where it tells NO; and a
-   put_if_absent where the get tells NO. */
+/* As ctrie_replace_if: NO_HANDLE, READ_ONLY, FULL, WORN_OUT. A counter is a get and this, again where it answers
+   NO; and a put_if_absent where the get answers NO. */
 CTRIE_MUST_USE
 static inline uint32_t ctrie_shared_replace_if(struct ctrie_seat *seat, uint16_t handle, uint64_t key,
                                                uint64_t before, uint64_t value) {

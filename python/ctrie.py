@@ -10,7 +10,7 @@
 
 It prints 250 300. A `Map` is a dictionary of whole numbers from 0 to 2^64 - 1, in a given number of slots for nodes, whose memory is what
 it took at first. A snapshot or a freeze of it is one too, in the same slots: it has what the map has at that moment, by a bounded number of
-steps, and changes on its own or never. A map goes back to a copy by `restore`, `diff` tells what has changed since, and `put_all`
+steps, and changes on its own or never. A map goes back to a copy by `restore`, `diff` returns what has changed since, and `put_all`
 sets several keys, all or none.
 
 What is otherwise than of a dictionary:
@@ -18,16 +18,18 @@ What is otherwise than of a dictionary:
 - A key or value that is set is refused with OverflowError where it is out of range, with TypeError where it is no whole number. What is
   looked up may be anything: what is equal to no key has no value, and a complex number never has one.
 - A call that the map refuses raises an `Error` and changes nothing, but that `update` keeps what it has set before.
-- Keys are listed in ascending order, and `popitem` takes any. A map may be changed while it is listed: `__iter__` tells what is seen.
+- Keys are listed in ascending order, and `popitem` takes any. A map may be changed while it is listed: `__iter__` says what is seen.
 - `len`, and each 4,096 entries of a listing, take a walk over the whole map; but those of `scan` don't.
-- `|`, `reversed`, `copy`, `fromkeys` and a `repr` that shows the entries aren't there.
+- `|`, `reversed`, `copy` and `fromkeys` aren't there, and `repr` shows how many keys there are, by such a walk, and no entries.
 
-A map and its copies are used on the thread that made the map, and not in a child made by fork. What another thread lets go of is given
-back at the next call of a map on that thread, and the maps that a thread has made are closed as it ends. Calls that may take long let
-other threads run.
+A map and its copies may be used by any thread: the calls of a map take turns at its lock, and those that may take long let other threads
+run meanwhile. Each is made whole; where a method takes several, as `setdefault`, `update` or a listing, those of other threads may come
+between them. (That a thread may go on with a map that another one made is tested, and not proved: include/ctrie.h says what is.) They
+aren't used in a child made by fork.
 
 The library is the shared object that `./build ctrie_c` makes. It is the file that the environment's CTRIE_LIBRARY names, or else
-libctrie.so beside this file, the one that was built, or the one that the system finds.
+libctrie.so beside this file, the one that was built, or the one that the system finds. Where there is none, or another version, the
+import of this module raises an ImportError.
 """
 from __future__ import annotations
 
@@ -38,26 +40,28 @@ import threading
 import weakref
 from ctypes import CDLL, POINTER, PyDLL, Structure, byref, c_bool, c_size_t, c_uint16, c_uint32, c_uint64, c_void_p
 from typing import (
-    Any, Dict, ItemsView, Iterable, Iterator, List, Mapping, MutableMapping, NamedTuple, Optional, Set, Tuple, Type, TypeVar, Union,
+    Any, Dict, ItemsView, Iterable, Iterator, List, Mapping, MutableMapping, NamedTuple, Optional, Tuple, Type, TypeVar, Union,
     ValuesView, overload,
 )
 
 __all__ = [
     "Map", "Copy", "Difference", "Hash", "Error", "NoHandle", "ReadOnly", "HandlesFull", "Crowded", "Full", "BadSizes", "WornOut",
-    "OutOfMemory", "Closed", "WrongThread",
+    "OutOfMemory", "Closed", "slots_for",
 ]
 __version__ = "0.1.0"
 
-# So many entries are listed at once.
+# How many entries are listed at once.
 _ROOM = 4096
-# So many handles are open at most.
+# How many handles are open at most.
 _HANDLES = 256
 _Default = TypeVar("_Default")
 _View = TypeVar("_View", bound="_Handle")
 
 
 class Error(Exception):
-    """A call of a map was refused."""
+    """A call of a map was refused. Of `put_many`, `done` says how many pairs were set before."""
+
+    done = 0
 
 
 class NoHandle(Error):
@@ -96,12 +100,9 @@ class Closed(Error):
     """The map is closed."""
 
 
-class WrongThread(Error):
-    """Another thread made the map."""
-
-
 class Hash(enum.IntEnum):
-    """How a map hashes its keys. At most 32 keys of a map have one hash: a key more is `Crowded`."""
+    """How a map hashes its keys. `WIDE` suits keys of any form; the others are for who knows his keys. Of these at most 32 keys of a map
+    have one hash: a key more is `Crowded`."""
 
     LOW = 0  # the key modulo 2^32
     FOLD = 1  # the key's low half xor its high half: not for two small numbers packed into a key
@@ -111,7 +112,6 @@ class Hash(enum.IntEnum):
 
 class _Held(Structure):
     _fields_ = [("at", c_void_p)]
-    __hash__ = object.__hash__
 
 
 class _Pair(Structure):
@@ -173,8 +173,14 @@ def _declared(call: Any, result: Any, *words: Any) -> Any:
 def _load() -> Dict[str, Any]:
     """Returns the calls of the library. They keep the interpreter's lock, but for those that may take long."""
     file = _library_file()
-    short, long = PyDLL(file), CDLL(file)
-    major, rest = divmod(_declared(short.ctrie_version, c_uint32)(), 10_000)
+    try:
+        short, long = PyDLL(file), CDLL(file)
+        version_number = _declared(short.ctrie_version, c_uint32)()
+    except (OSError, AttributeError) as fault:
+        raise ImportError(
+            f"no library of the map ({fault}). ./build ctrie_c makes it, and the environment's CTRIE_LIBRARY may name its file"
+        ) from fault
+    major, rest = divmod(version_number, 10_000)
     version = ".".join(map(str, (major, *divmod(rest, 100))))
     if version != __version__:
         raise ImportError(f"{file} has the version {version}, and this module {__version__}")
@@ -204,85 +210,67 @@ def _key(wanted: Any) -> Optional[int]:
         return None
 
 
-class _Thread:
-    """A thread, with the maps that are used on it alone. It is known by this object: its number is given again once it has ended."""
+def _free(held: _Held, lock: Any) -> None:
+    """Frees a map, unless a call of it is under way: that can be so only as the interpreter ends."""
+    if lock.acquire(blocking=False):
+        try:
+            _LIBRARY["free"](byref(held))
+        finally:
+            lock.release()
 
-    def __init__(self) -> None:
-        self.number = threading.get_ident()
-        self.maps: Set[_Held] = set()
-        # Maps that are to be freed, and handles that are to be closed; other threads put them there too.
-        self.left: List[Tuple[_Held, Optional[int]]] = []
 
-    def let_go(self, held: _Held, handle: Optional[int] = None) -> None:
-        """Frees a map that is open, or closes one of its handles: at once, or for another thread at this one's next call."""
-        if held in self.maps:
-            self.left.append((held, handle))
-            # It has a map, so it hasn't ended, and its number is its own. (As it ends, `_CURRENT` may be gone.)
-            if threading.get_ident() == self.number:
+class _Owner:
+    """What holds a map in the library. Its lock is held while the library is called, and while a handle is looked up for that. A thread
+    that has it may take it again, as for what the collector finds meanwhile."""
+
+    def __init__(self, slots: int, hash: Hash) -> None:
+        self.held, self.lock, self.is_open = _Held(None), threading.RLock(), False
+        # Handles of copies that were dropped, and are to be closed.
+        self.left: List[int] = []
+        self.free = weakref.finalize(self, _free, self.held, self.lock)
+        if not 0 <= operator.index(slots) < 2**32:
+            raise BadSizes(BadSizes.__doc__)
+        self.call("new", slots, Hash(hash))
+        self.is_open = True
+
+    def call(self, name: str, *words: Any) -> bool:
+        """Carries out a call, and returns whether it answers yes."""
+        with self.lock:
+            self.give_back()
+            code: int = _LIBRARY[name](byref(self.held), *words)
+        return _is_yes(code)
+
+    def let_go(self, handle: int) -> None:
+        """Closes a handle: at once, or at the next call, where a call of another thread is under way. It never waits, since the collector
+        calls it anywhere."""
+        self.left.append(handle)
+        if self.lock.acquire(blocking=False):
+            try:
                 self.give_back()
+            finally:
+                self.lock.release()
 
     def give_back(self) -> None:
         while self.left:
             try:
-                held, handle = self.left.pop()
+                handle = self.left.pop()
             except IndexError:
-                # A call that came in between, by a signal or the collector, has given all back.
+                # What came in between, by a signal or the collector, has given all back.
                 return
-            if handle is None:
-                self.maps.discard(held)
-                _LIBRARY["free"](byref(held))
-            else:
-                _LIBRARY["close"](byref(held), handle)
-
-    def end(self) -> None:
-        """Frees all maps, which nobody can use any more. (As the interpreter ends, it is called of threads that go on too.)"""
-        if threading.get_ident() == self.number:
-            self.left.extend((held, None) for held in list(self.maps))
-            self.give_back()
+            _LIBRARY["close"](byref(self.held), handle)
 
 
-class _Life:
-    """Of a thread: nothing else refers to it, so it goes as the thread ends."""
+def _is_yes(code: int) -> bool:
+    """Returns whether a call answered yes; raises what it was refused by."""
+    if code > _YES:
+        raise _REFUSALS[code](_REFUSALS[code].__doc__)
+    return code == _YES
 
 
-class _Current(threading.local):
-    """The thread that runs, which each one sees as itself."""
-
-    def __init__(self) -> None:
-        self.thread, self.life = _Thread(), _Life()
-        weakref.finalize(self.life, self.thread.end)
-
-
-_CURRENT = _Current()
-
-
-class _Owner:
-    """What holds a map in the library."""
-
-    def __init__(self, slots: int, hash: Hash) -> None:
-        self.held, self.thread = _Held(None), _CURRENT.thread
-        self.thread.maps.add(self.held)
-        self.free = weakref.finalize(self, self.thread.let_go, self.held)
-        if not 0 <= operator.index(slots) < 2**32:
-            raise BadSizes(BadSizes.__doc__)
-        self.call("new", slots, Hash(hash))
-
-    def is_open(self) -> bool:
-        # What is held isn't asked: while a call is under way, the library has taken the map out of it.
-        return self.held in self.thread.maps
-
-    def check_thread(self) -> None:
-        if _CURRENT.thread is not self.thread:
-            raise WrongThread(WrongThread.__doc__)
-
-    def call(self, name: str, *words: Any) -> bool:
-        """Carries out a call, and returns whether it tells yes."""
-        self.check_thread()
-        self.thread.give_back()
-        code: int = _LIBRARY[name](byref(self.held), *words)
-        if code > _YES:
-            raise _REFUSALS[code](_REFUSALS[code].__doc__)
-        return code == _YES
+def slots_for(keys: int) -> int:
+    """Returns how many slots to ask for, for so many keys: three for each, and 40. It is a guide, and no promise: random keys have room then
+    for one open copy while a third of them are changed."""
+    return 3 * operator.index(keys) + 40
 
 
 class Difference(NamedTuple):
@@ -293,8 +281,8 @@ class Difference(NamedTuple):
     after: Optional[int]
 
 
-def _difference(told: _Difference) -> Difference:
-    return Difference(told.key, told.before if told.was_there else None, told.after if told.is_there else None)
+def _difference(found: _Difference) -> Difference:
+    return Difference(found.key, found.before if found.was_there else None, found.after if found.is_there else None)
 
 
 class _Items(ItemsView[int, int]):
@@ -321,7 +309,7 @@ class _Handle(MutableMapping[int, int]):
 
     @property
     def handle(self) -> int:
-        """The number by which the library knows it. Once it is closed, that may be another copy's, and isn't told."""
+        """The number by which the library knows it. Once it is closed, that may be another copy's: `NoHandle`."""
         if self._handle is None:
             raise NoHandle(NoHandle.__doc__)
         return self._handle
@@ -329,7 +317,7 @@ class _Handle(MutableMapping[int, int]):
     @property
     def is_open(self) -> bool:
         """Whether neither it nor its map is closed."""
-        return self._handle is not None and self._owner.is_open()
+        return self._handle is not None and self._owner.is_open
 
     @property
     def is_writable(self) -> bool:
@@ -337,28 +325,35 @@ class _Handle(MutableMapping[int, int]):
         return self._call("is_writable")
 
     def _handle_beside(self, other: _Handle) -> int:
-        """Returns the other's handle, if it is one of the same map: the library can't tell."""
+        """Returns the other's handle, if it is one of the same map: the library can't know."""
+        if not isinstance(other, _Handle):
+            raise TypeError(f"it is a {type(other).__name__}, and no map or copy of this module")
         if other._owner is not self._owner:
             raise ValueError("it is a copy of another map")
         return other.handle
 
     def _call(self, name: str, *words: Any) -> bool:
-        return self._owner.call(name, self.handle, *words)
+        with self._owner.lock:
+            return self._owner.call(name, self.handle, *words)
 
-    def _told(self, name: str, *words: int) -> Optional[int]:
-        """Returns the value that a call tells, if it tells one."""
+    def _call_beside(self, name: str, other: _Handle, *words: Any) -> bool:
+        with self._owner.lock:
+            return self._call(name, self._handle_beside(other), *words)
+
+    def _value(self, name: str, *words: int) -> Optional[int]:
+        """Returns the value that a call answers, if it answers one."""
         value = c_uint64()
         return value.value if self._call(name, *words, byref(value)) else None
 
     def _looked_up(self, name: str, wanted: Any) -> Optional[int]:
-        """Returns the value that a call on a key tells, if it tells one."""
+        """Returns the value that a call on a key answers, if it answers one."""
         key = _key(wanted)
         if key is None:
             # As a look for a key a closed map refuses it, and as a removal a frozen one.
             if not self._call("is_writable") and name == "remove":
                 raise ReadOnly(ReadOnly.__doc__)
             return None
-        return self._told(name, key)
+        return self._value(name, key)
 
     def _pairs(self, name: str = "entries") -> Iterator[Tuple[int, int]]:
         cursor, pairs, count = _Cursor(0, False), (_Pair * _ROOM)(), c_uint64(_ROOM)
@@ -378,7 +373,7 @@ class _Handle(MutableMapping[int, int]):
         return value
 
     def __setitem__(self, key: int, value: int) -> None:
-        self._told("put", _number(key), _number(value))
+        self._value("put", _number(key), _number(value))
 
     def __delitem__(self, key: int) -> None:
         if self._looked_up("remove", key) is None:
@@ -393,12 +388,20 @@ class _Handle(MutableMapping[int, int]):
         self._call("count", byref(count))
         return count.value
 
+    def __repr__(self) -> str:
+        """Says what it is, and how many keys it has by a walk over them; or why it can't be read."""
+        try:
+            said = f"{'writable' if self.is_writable else 'frozen'}, {len(self)} keys"
+        except Error as refused:
+            said = type(refused).__name__
+        return f"<ctrie.{type(self).__name__}: {said}>"
+
     def __bool__(self) -> bool:
         """Returns whether a key has a value, by a walk to the first one."""
         return self._call("first", byref(_Pair()))
 
     def __iter__(self) -> Iterator[int]:
-        """Goes through the keys. It reads 4,096 entries at a time, and what is changed behind that is seen from the next ones on: these
+        """Goes through the keys. It reads 4,096 entries at a time, and what is changed after that is seen from the next ones on: these
         begin after the last key that was read, whether it is there still or not. A frozen copy is of one moment."""
         return (key for key, _ in self._pairs())
 
@@ -442,11 +445,37 @@ class _Handle(MutableMapping[int, int]):
         return default if value is None else value
 
     def popitem(self) -> Tuple[int, int]:
-        """Removes a key, whichever is found first, and returns it with its value; a KeyError where there is none."""
+        """Removes any one key, and returns it with its value; a KeyError where there is none."""
         pair = _Pair()
         if not self._call("pop", byref(pair)):
             raise KeyError("no key has a value")
         return pair.key, pair.value
+
+    def get_many(self, keys: Iterable[int]) -> List[Optional[int]]:
+        """Returns the values of these keys, one after the other, None for one that has none: as `get` of each would, and sooner."""
+        wanted, value, values = [_key(it) for it in keys], c_uint64(), []
+        with self._owner.lock:
+            self._call("is_writable")
+            get, held, handle, place = _LIBRARY["get"], byref(self._owner.held), self.handle, byref(value)
+            for key in wanted:
+                values.append(value.value if key is not None and _is_yes(get(held, handle, key, place)) else None)
+        return values
+
+    def put_many(self, pairs: Union[Mapping[int, int], Iterable[Tuple[int, int]]]) -> None:
+        """Sets the values of these keys, one after the other, as `update` does, and sooner. It stops at the first that is refused: the
+        error's `done` says how many were set before."""
+        entries = [(_number(key), _number(value)) for key, value in (pairs.items() if isinstance(pairs, Mapping) else pairs)]
+        before, done = c_uint64(), 0
+        with self._owner.lock:
+            self._call("is_writable")
+            put, held, handle, place = _LIBRARY["put"], byref(self._owner.held), self.handle, byref(before)
+            try:
+                for key, value in entries:
+                    _is_yes(put(held, handle, key, value, place))
+                    done += 1
+            except Error as refused:
+                refused.done = done
+                raise
 
     def put_all(self, pairs: Union[Mapping[int, int], Iterable[Tuple[int, int]]]) -> None:
         """Sets the values of all these keys, or of none. (`update` sets one after the other, as a dictionary's, and what it has set before
@@ -461,10 +490,10 @@ class _Handle(MutableMapping[int, int]):
     def diff(self, newer: _Handle) -> List[Difference]:
         """Returns the keys of which this map and a newer one, a copy of the same map, have different values, in ascending order. Its work
         goes by what was changed from one to the other, whatever else is there."""
-        handle, room, count = self._handle_beside(newer), _ROOM, c_uint64(_ROOM + 1)
+        room, count = _ROOM, c_uint64(_ROOM + 1)
         while True:
             found = (_Difference * room)()
-            self._call("diff", handle, found, room, byref(count))
+            self._call_beside("diff", newer, found, room, byref(count))
             if count.value <= room:
                 return [_difference(it) for it in found[: count.value]]
             room = count.value
@@ -472,7 +501,7 @@ class _Handle(MutableMapping[int, int]):
     def restore(self, copy: _Handle) -> None:
         """Goes back to what the copy has, which is one of the same map, a frozen one too, and stays. For the moment it takes one more
         handle."""
-        self._call("restore", self._handle_beside(copy))
+        self._call_beside("restore", copy)
 
     def snapshot(self) -> Copy:
         """Returns a copy that can be changed, of a frozen one too."""
@@ -497,35 +526,39 @@ class _Handle(MutableMapping[int, int]):
 
 class Copy(_Handle):
     """A snapshot or a freeze of a map, with a handle of its own. It is open until it is closed, by close(), by the end of a `with` or as
-    nothing refers to it any more; or until the map is. Closed, it raises `NoHandle`. Where another thread was the last that referred
-    to it, it is closed at the next call of a map on its own thread."""
+    nothing refers to it any more; or until the map is. Closed, it raises `NoHandle`. What nothing refers to any more while a call of
+    another thread is under way is closed at the next call of the map."""
 
     def close(self) -> None:
         """Gives the handle back, and what slots the copy alone has."""
-        if self.is_open:
-            self._call("close")
-        self._handle = None
+        with self._owner.lock:
+            if self.is_open:
+                self._call("close")
+            self._handle = None
 
     def __del__(self) -> None:
-        if self.is_open:
-            self._owner.thread.let_go(self._owner.held, self._handle)
+        if self._handle is not None and self._owner.is_open:
+            self._owner.let_go(self._handle)
         self._handle = None
 
 
 class Map(_Handle):
     """A map with the given number of slots for nodes, from 2 to 1,048,576: some 1.7 for each key, and more for what copies keep.
 
-    It is open until it is closed, by close(), by the end of a `with` or as nothing refers to it or to a copy of it any more; or until its
-    thread ends. Closed, it and its copies raise `Closed`. Where another thread was the last that referred to it, its memory is given back
-    at the next call of a map on its own thread."""
+    Instead of the slots it may be given the number of keys, as by `slots_for`.
 
-    def __init__(self, slots: int, hash: Hash = Hash.FOLD) -> None:
-        super().__init__(_Owner(slots, hash), 0)
+    It is open until it is closed, by close(), by the end of a `with` or as nothing refers to it or to a copy of it any more. Closed, it and
+    its copies raise `Closed`."""
+
+    def __init__(self, slots: Optional[int] = None, hash: Hash = Hash.WIDE, *, keys: Optional[int] = None) -> None:
+        if (slots is None) == (keys is None):
+            raise TypeError("a map takes a number of slots, or of keys")
+        super().__init__(_Owner(slots_for(keys) if slots is None else slots, hash), 0)
 
     def close(self) -> None:
         """Frees the map."""
-        if self._owner.is_open():
-            self._owner.check_thread()
+        with self._owner.lock:
+            self._owner.is_open = False
             self._owner.free()
 
     @property

@@ -1,9 +1,13 @@
 """Checks python/ctrie.py beside Python's dictionaries, how it refuses, and what becomes of maps where there are threads. `c` runs it."""
+import concurrent.futures
 import copy
+import ctypes.util
 import decimal
 import fractions
 import gc
+import os
 import random
+import subprocess
 import sys
 import threading
 import unittest
@@ -192,35 +196,59 @@ class Refusals(unittest.TestCase):
 
 
 class Threads(unittest.TestCase):
-    def refused(self, *calls):
-        """Returns what these calls raise on another thread."""
-        raised = []
+    def at_once(self, count, call):
+        """Makes this call on so many threads, and raises what one of them raised."""
+        with concurrent.futures.ThreadPoolExecutor(count) as pool:
+            return list(pool.map(call, range(count)))
 
-        def use():
-            for call in calls:
-                try:
-                    call()
-                except ctrie.Error as refused:
-                    raised.append(type(refused))
-
-        on_another_thread(use)
-        return raised
-
-    def test_a_thread_of_its_own(self):
-        with ctrie.Map(64) as one, one.snapshot() as copied:
-            raised = self.refused(lambda: one.get(1), copied.close, one.close)
-            self.assertEqual((raised, len(one), len(copied)), ([ctrie.WrongThread] * 3, 0, 0))
-
-    def test_a_thread_that_has_ended(self):
-        """The system gives its number to a later one."""
+    def test_any_thread(self):
+        """A thread makes a map, others use it and its copies, and it is open when its thread has ended."""
         made = []
-        on_another_thread(lambda: made.append(ctrie.Map(64)))
-        on_another_thread(lambda: made.append(made[0].is_open))
-        for _ in range(20):
-            self.assertEqual(self.refused(lambda: made[0].get(1), made[0].freeze), [ctrie.WrongThread] * 2)
-        self.assertEqual((made[0].is_open, made[1]), (False, False))
+        on_another_thread(lambda: made.append(ctrie.Map(256)))
+        one = made.pop()
+        one[7] = 250
+        copies = self.at_once(1, lambda _: one.freeze())
+        one[7] = 300
+        self.assertEqual((self.at_once(1, lambda _: one[7]), copies[0][7], one.open_handles()), ([300], 250, [0, 1]))
+        on_another_thread(copies[0].close)
+        on_another_thread(one.close)
+        self.assertEqual((one.is_open, copies[0].is_open), (False, False))
+        self.assertRaises(ctrie.Closed, lambda: one.get(7))
 
-    def test_copies_that_another_thread_drops(self):
+    def test_no_call_is_lost(self):
+        """Eight threads add to one map, some of it by calls that let other threads run, and each takes copies and drops them."""
+        interval = sys.getswitchinterval()
+        sys.setswitchinterval(1e-6)
+        with ctrie.Map(65_536) as one:
+
+            def use(thread):
+                for number in range(250):
+                    one[1_000 * thread + number] = number
+                    copied = one.freeze() if number % 10 == thread else None
+                    self.assertEqual(one[1_000 * thread + number], number)
+                    if copied:
+                        self.assertLessEqual(number, len(copied))
+                one.put_all((1_000 * thread + number, thread) for number in range(500, 750))
+
+            try:
+                self.at_once(8, use)
+            finally:
+                sys.setswitchinterval(interval)
+            wanted = {1_000 * thread + number: number if number < 250 else thread for thread in range(8) for number in (*range(250), *range(500, 750))}
+            self.assertEqual((dict(one.items()), one.open_handles()), (wanted, [0]))
+
+    def test_a_copy_is_closed_once(self):
+        """Of many threads that close it one does; the number is another copy's then, which stays."""
+        with ctrie.Map(1024) as one:
+            for _ in range(50):
+                copied = one.freeze()
+                kept = self.at_once(4, lambda _: copied.close() or one.freeze())
+                self.assertEqual([it.is_open for it in kept], [True] * 4)
+                self.assertEqual(one.open_handles(), sorted([0, *(it.handle for it in kept)]))
+                del kept
+
+    def test_what_another_thread_drops(self):
+        """It is given back at once, or where a call is under way with the next one; and a closed map has nothing to give back."""
         with ctrie.Map(256) as one, ctrie.Map(256) as other:
             kept = one.freeze()
             free = one.free_slots
@@ -228,29 +256,37 @@ class Threads(unittest.TestCase):
             copies[0][1] = 1
             on_another_thread(copies.clear)
             self.assertEqual((one.open_handles(), one.free_slots, len(kept)), ([0, kept.handle], free, 0))
-            # A map that is closed before has nothing to give back.
             copies.append(one.freeze())
-            on_another_thread(copies.clear)
+            # As while another thread is in a call.
+            with one._owner.lock:
+                on_another_thread(copies.clear)
+                self.assertEqual(len(one._owner.left), 1)
+            self.assertEqual((one.open_handles(), one._owner.left), ([0, kept.handle], []))
+            copies.append(one.freeze())
             one.close()
+            on_another_thread(copies.clear)
             self.assertEqual(len(other), 0)
 
-    def test_maps_are_freed_on_their_threads(self):
-        """One that another thread drops, one that is kept as its thread ends, and one that a thread keeps for itself."""
-        threads = {"new": [], "free": []}
+    def test_maps_are_freed(self):
+        """One that another thread drops, one that it closes, and one that stays to the end of its thread."""
+        calls = {"new": 0, "free": 0}
 
         def noted(name):
             call = ctrie._LIBRARY[name]
-            return lambda *words: threads[name].append(threading.get_ident()) or call(*words)
 
-        with unittest.mock.patch.dict(ctrie._LIBRARY, {name: noted(name) for name in threads}):
-            maps, own = [ctrie.Map(64)], threading.local()
+            def note(*words):
+                calls[name] += 1
+                return call(*words)
+
+            return note
+
+        with unittest.mock.patch.dict(ctrie._LIBRARY, {name: noted(name) for name in calls}):
+            maps, own = [ctrie.Map(64), ctrie.Map(64)], threading.local()
+            on_another_thread(maps.pop().close)
             on_another_thread(maps.clear)
-            self.assertEqual(len(threads["free"]), 0)
-            ctrie.Map(64).close()
-            self.assertEqual(len(threads["free"]), 2)
-            on_another_thread(lambda: maps.append(ctrie.Map(64)))
             on_another_thread(lambda: setattr(own, "map", ctrie.Map(64)))
-            self.assertEqual((threads["free"], len(threads["new"])), (threads["new"], 4))
+            gc.collect()
+            self.assertEqual(calls, {"new": 3, "free": 3})
 
     def test_long_calls_let_other_threads_run(self):
         with ctrie.Map(65_536) as one:
@@ -274,11 +310,78 @@ class Threads(unittest.TestCase):
             thread.join()
 
 
+class Imports(unittest.TestCase):
+    def test_no_library(self):
+        """Where there is none, and where there is another one, it is an ImportError that says what to do."""
+        for file in ("no/such.so", ctypes.util.find_library("c")):
+            words = [sys.executable, "-c", "import ctrie"]
+            ran = subprocess.run(words, env={**os.environ, "CTRIE_LIBRARY": file}, stderr=subprocess.PIPE, text=True)
+            self.assertRegex(ran.stderr, r"ImportError: no library of the map \(.*\)\. \./build ctrie_c makes it, and the environment's CTRIE_LIBRARY")
+
+
 class Lives(unittest.TestCase):
     def test_copies_of_another_map(self):
         with ctrie.Map(64) as one, ctrie.Map(64) as other, other.freeze() as copied:
             for call in (lambda: one.restore(other), lambda: one.restore(copied), lambda: one.diff(other), lambda: copied.diff(one)):
                 self.assertRaises(ValueError, call)
+
+    def test_what_is_no_map(self):
+        with ctrie.Map(64) as one:
+            for other in ({}, None, 3, [one]):
+                for call in (lambda: one.restore(other), lambda: one.diff(other)):
+                    self.assertRaisesRegex(TypeError, f"it is a {type(other).__name__}, and no map", call)
+
+    def test_what_repr_says(self):
+        one = ctrie.Map(256)
+        frozen = one.freeze()
+        one.update({1: 2, 3: 4})
+        self.assertEqual((repr(one), str(frozen)), ("<ctrie.Map: writable, 2 keys>", "<ctrie.Copy: frozen, 0 keys>"))
+        frozen.close()
+        self.assertEqual(repr(frozen), "<ctrie.Copy: NoHandle>")
+        one.close()
+        self.assertEqual(repr(one), "<ctrie.Map: Closed>")
+
+    def test_many_at_once(self):
+        with ctrie.Map(keys=1_000) as one, one.freeze() as frozen:
+            self.assertEqual(one.slots, 3_040)
+            one.put_many((key, key + 1) for key in range(1_000))
+            one.put_many({3: 7, True: LARGEST})
+            wanted = [7, LARGEST, None, 1, 11, None]
+            self.assertEqual(one.get_many([3, 1, 1_000, 0.0, 10, "x"]), wanted)
+            self.assertEqual(one.get_many([3, 1, 1_000, 0.0, 10, "x"]), [one.get(it) for it in (3, 1, 1_000, 0.0, 10, "x")])
+            self.assertEqual((frozen.get_many(range(3)), one.get_many([])), ([None] * 3, []))
+            for pairs, refusal in (([(1, 2), (LARGEST + 1, 1)], OverflowError), ([(1, 2), (3, None)], TypeError)):
+                self.assertRaises(refusal, one.put_many, pairs)
+            self.assertEqual(one[1], LARGEST)
+            self.assertRaises(ctrie.ReadOnly, frozen.put_many, {1: 2})
+        for call in (lambda: one.get_many([1]), lambda: one.get_many([]), lambda: one.put_many({})):
+            self.assertRaises(ctrie.Closed, call)
+
+    def test_how_many_were_set(self):
+        """Of 33 keys of one hash the last is refused."""
+        with ctrie.Map(4_096, ctrie.Hash.LOW) as one:
+            with self.assertRaises(ctrie.Crowded) as refused:
+                one.put_many((at << 32, at) for at in range(40))
+            self.assertEqual((refused.exception.done, len(one)), (32, 32))
+
+    def test_sizes(self):
+        for words in ({}, {"slots": 64, "keys": 64}):
+            self.assertRaises(TypeError, lambda: ctrie.Map(**words))
+        for words in ({"keys": -20}, {"keys": 10**6}, {"slots": 1}, {"slots": -1}):
+            self.assertRaises(ctrie.BadSizes, lambda: ctrie.Map(**words))
+        # As many random keys as it was made for, and a third of them changed under a copy.
+        keys = random.Random(4).sample(range(2**63 - 1), 10_000)
+        with ctrie.Map(keys=10_000) as one:
+            one.put_many((key, 1) for key in keys)
+            with one.freeze():
+                one.put_many((key, 2) for key in keys[:3_333])
+
+    def test_no_key_is_crowded(self):
+        """By the hash that a map has where none is named: two small numbers packed into a key, of which many have one xor."""
+        with ctrie.Map(4096) as one:
+            keys = [at << 32 | at for at in range(40)]
+            one.update(dict.fromkeys(keys, 1))
+            self.assertEqual(list(one), keys)
 
     def test_which_are_open(self):
         one = ctrie.Map(64)

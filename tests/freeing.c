@@ -1,16 +1,26 @@
-/* Makes and frees a map of 65,536 slots again and again. `c` runs it where there is memory for few of them. */
-#include <ctrie.h>
+/* Makes and frees a map of 65,536 slots again and again, and then shared ones of as many slots in eight shards, with all their
+   seats. `c` runs it where there is memory for few of them. */
+#include <ctrie_shared.h>
 #include <stdio.h>
+
+enum { MAPS = 200, SLOTS = 65536, SHARDS = 8, SEATS = 4 };
+
+/* Whether a map was made; what was told of it is written where it wasn't. */
+static bool is_made(const char *call, uint32_t code, int made) {
+    if (code != CTRIE_DONE) printf("%s told %u behind %d maps\n", call, (unsigned)code, made);
+    return code == CTRIE_DONE;
+}
 
 int main(void) {
     struct ctrie map = CTRIE_NONE;
-    for (int made = 0; made < 200; made++) {
-        uint32_t code = ctrie_new(&map, 65536, CTRIE_LOW);
-        if (code != CTRIE_DONE) {
-            printf("ctrie_new told %u behind %d maps\n", (unsigned)code, made);
-            return 1;
-        }
+    struct ctrie_seat seats[SEATS] = {CTRIE_NO_SEAT, CTRIE_NO_SEAT, CTRIE_NO_SEAT, CTRIE_NO_SEAT};
+    for (int made = 0; made < MAPS; made++) {
+        if (!is_made("ctrie_new", ctrie_new(&map, SLOTS, CTRIE_LOW), made)) return 1;
         ctrie_free(&map);
+    }
+    for (int made = 0; made < MAPS; made++) {
+        if (!is_made("ctrie_shared_new", ctrie_shared_new(seats, SEATS, SLOTS / SHARDS, CTRIE_LOW, SHARDS), made)) return 1;
+        for (int seat = 0; seat < SEATS; seat++) ctrie_shared_free(&seats[seat]);
     }
     return 0;
 }

@@ -98,6 +98,7 @@ static void without_memory(void) {
     told(ctrie_put(&map, now, KEYS, 2, NULL));
     refusing = true;
     expect(ctrie_entries(&map, now, &cursor, &entry, 1, &count) == CTRIE_MEMORY);
+    expect(ctrie_scan(&map, now, &cursor, &entry, 1, &count) == CTRIE_MEMORY);
     expect(ctrie_diff(&map, before, now, &difference, 1, &count) == CTRIE_MEMORY);
     expect(ctrie_put_all(&map, now, &pair, 1) == CTRIE_MEMORY);
     refusing = false;

@@ -43,10 +43,10 @@ static uint32_t steps_from(struct cache *cache, uint64_t number, uint64_t *steps
     return CTRIE_REFUSED(code) ? code : CTRIE_DONE;
 }
 
-/* Asks a cache of so many slots for 40 numbers three times, and for 27 after each. */
+/* Asks a cache of this size for 40 numbers three times, and for 27 after each. */
 static uint32_t ask(struct cache *cache, uint32_t slots) {
     uint64_t most = 0, known;
-    uint32_t code = ctrie_new(&cache->map, slots, CTRIE_FOLD);
+    uint32_t code = ctrie_new(&cache->map, slots, CTRIE_WIDE);
     if (code == CTRIE_DONE) code = ctrie_snapshot(&cache->map, 0, &cache->now);
     for (int round = 0; round < 3; round++)
         for (uint64_t number = 1; number < 41 && code == CTRIE_DONE; number++) {

@@ -4,11 +4,11 @@
 
 static struct ctrie map = CTRIE_NONE;
 
-/* Prints what a call answered, and then what it told. */
-#define TELL(name, call, told) \
+/* Prints what a call answered, and then what it wrote. */
+#define TELL(name, call, written) \
     do { \
         unsigned code = (call); \
-        printf("%-24s %2u %llu\n", name, code, (unsigned long long)(told)); \
+        printf("%-24s %2u %llu\n", name, code, (unsigned long long)(written)); \
     } while (0)
 
 static void lists(uint16_t handle, size_t room) {
@@ -21,7 +21,7 @@ static void lists(uint16_t handle, size_t room) {
     } while (room != 0 && count == room);
 }
 
-/* In the map's own order: key 33 comes behind key 1, with which it shares the lowest five bits, and before key 2. */
+/* In the map's own order: key 33 comes after key 1, with which it shares the lowest five bits, and before key 2. */
 static void scans(uint16_t handle, size_t room) {
     struct ctrie_cursor cursor = CTRIE_START;
     struct ctrie_pair pairs[4] = {{0, 0}, {0, 0}, {0, 0}, {0, 0}};
@@ -69,6 +69,7 @@ static void sets_several(uint16_t frozen) {
     TELL("put all", ctrie_put_all(&map, 0, three, 3), 0);
     TELL("put all", ctrie_put_all(&map, 0, many, 64), 0);
     TELL("put all", ctrie_put_all(&map, 0, NULL, 0), 0);
+    TELL("put all of NULL", ctrie_put_all(&map, 0, NULL, 5), 0);
     TELL("put all of a frozen one", ctrie_put_all(&map, frozen, three, 3), 0);
     TELL("remove", ctrie_remove(&map, 0, 2, &value), value);
     compares(frozen, 0, 4);
@@ -85,7 +86,7 @@ static void lists_handles(size_t room) {
     for (size_t i = 0; i < 4; i++) printf("  %u\n", (unsigned)handles[i]);
 }
 
-/* The value isn't told where NULL stands for its place. */
+/* The value isn't written where NULL stands for its place. */
 static void tells_no_value(void) {
     TELL("put", ctrie_put(&map, 0, 5, 50, NULL), 0);
     TELL("put", ctrie_put(&map, 0, 5, 51, NULL), 0);
@@ -102,7 +103,7 @@ int main(void) {
     uint16_t copy = 99, frozen = 99, thawed = 99;
     struct ctrie_pair pair = {99, 99};
     printf("version %u\n", (unsigned)ctrie_version());
-    for (uint32_t code = 0; code < 15; code++) printf("code %u: %s\n", (unsigned)code, ctrie_error(code));
+    for (uint32_t code = 0; code <= CTRIE_NULL; code++) printf("code %u: %s\n", (unsigned)code, ctrie_error(code));
     TELL("get of no map", ctrie_get(&map, 0, 1, &value), value);
     lists_no_map();
     TELL("new of 1 slot", ctrie_new(&map, 1, CTRIE_LOW), 0);

@@ -77,7 +77,7 @@ static void run(struct ctrie *map) {
 
 int main(void) {
     struct ctrie map = CTRIE_NONE;
-    if (done(ctrie_new(&map, 256, CTRIE_FOLD))) run(&map);
+    if (done(ctrie_new(&map, 256, CTRIE_WIDE))) run(&map);
     ctrie_free(&map);
     if (refusal != CTRIE_DONE) fprintf(stderr, "refused: %s\n", ctrie_error(refusal));
     return refusal != CTRIE_DONE;

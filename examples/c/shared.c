@@ -115,7 +115,7 @@ int main(void) {
     struct ctrie_count last;
     uint64_t i, value, wrong = 0;
 
-    check(ctrie_shared_new(seats, WORKERS + 1, 1024, CTRIE_FOLD, 8), "new");
+    check(ctrie_shared_new(seats, WORKERS + 1, 1024, CTRIE_WIDE, 8), "new");
     for (i = 0; i < WORKERS; i++) {
         workers[i].seat = &seats[i];
         workers[i].number = i;
@@ -139,7 +139,7 @@ int main(void) {
     last.calls = 1;
     printf("the first one of a ninth shard: %s\n", heard(&seats[0], last));
 
-    /* Nobody else is there now: a try comes in. */
+    /* Nobody else is there now, so a try ends in a call. */
     printf("a try: %s\n", ctrie_shared_error(ctrie_shared_try_get(mine, 0, 7, &value)));
     printf("one seat more: %s\n", ctrie_shared_error(ctrie_shared_split(mine, &other)));
     for (i = 0; i <= WORKERS; i++) ctrie_shared_free(&seats[i]);

@@ -1,6 +1,6 @@
 /*
  * A list of work that threads share. Who is free takes any one task: it finds one by ctrie_shared_first and removes it by
- * ctrie_shared_remove_if, which tells YES to one alone of those that found it. So each task is done once, whoever does it,
+ * ctrie_shared_remove_if, which answers YES to one alone of those that found it. So each task is done once, whoever does it,
  * and a task may add others. The list was frozen before the work began, and in the end all is as planned again. Another list
  * is drafted in a copy.
  *
@@ -110,7 +110,7 @@ int main(void) {
     uint64_t i, count;
     uint16_t plan;
 
-    check(ctrie_shared_new(seats, WORKERS + 1, 2048, CTRIE_FOLD, 8), "new");
+    check(ctrie_shared_new(seats, WORKERS + 1, 2048, CTRIE_WIDE, 8), "new");
     for (i = 0; i < PLANNED; i++) check(ctrie_shared_put(mine, 0, i, 1, NULL), "put");
     check(ctrie_shared_freeze(mine, 0, &plan), "freeze");
     print_plan(mine, plan);
@@ -131,7 +131,7 @@ int main(void) {
     printf("as it was planned once: %s\n", answer(ctrie_shared_restore(mine, 0, plan)));
 
     /* No call finds CTRIE_SLOTS_FOR_A_CALL slots in 64, of which a new map takes two. */
-    check(ctrie_shared_new(&small, 1, 64, CTRIE_FOLD, 1), "new");
+    check(ctrie_shared_new(&small, 1, 64, CTRIE_WIDE, 1), "new");
     printf("room for any call in a small map: %s", answer(ctrie_shared_has_room(&small)));
     check(ctrie_shared_free_slots(&small, &count), "free_slots");
     printf(", free slots: %" PRIu64 "\n", count);

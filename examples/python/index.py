@@ -10,7 +10,7 @@ TEXT = "the cat and the dog and the bird"
 def main():
     words = sorted(set(TEXT.split()))
 
-    def told(entries):
+    def shown(entries):
         return ", ".join(f"{words[key]} {value}" for key, value in entries.items())
 
     with ctrie.Map(256) as index:
@@ -21,9 +21,9 @@ def main():
             index[key] = index.get(key, 0) + 1
         with index.freeze() as frozen:
             index[words.index("the")] = 100
-            print("frozen:", told(frozen))
-            print("now:", told(index))
-            print("after three words:", told(undo[3]))
+            print("frozen:", shown(frozen))
+            print("now:", shown(index))
+            print("after three words:", shown(undo[3]))
             try:
                 frozen[0] = 0
             except ctrie.ReadOnly as refused:
@@ -31,7 +31,7 @@ def main():
         differences = undo[3].diff(index)
         print("changed since then:", ", ".join(f"{words[key]} {before} {after}" for key, before, after in differences))
         index.restore(undo[3])
-        print("back there:", told(index))
+        print("back there:", shown(index))
 
 
 main()

@@ -5,7 +5,7 @@ use ctrie_map::{Handle, HashKind, Map, MapError};
 
 fn main(rt: HostRuntime) -> Result<(), MapError> {
     let stock = Handle::first();
-    let mut map = Map::new(rt.alloc(), 1_024, HashKind::Fold)?;
+    let mut map = Map::new(rt.alloc(), 1_024, HashKind::Wide)?;
     map.put(stock, 7, 250)?;
     map.put(stock, 8, 40)?;
     let morning = map.freeze(stock)?;

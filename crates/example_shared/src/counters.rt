@@ -50,7 +50,7 @@ fn raise_often<N: MapName, R: Wait>(
 
 /// What the counter has, once four threads have raised it 250 times each.
 pub(crate) fn count<R: Threads + Wait + Sync + AllocGlobal>(rt: &R) -> Result<u64, MapError> {
-    let mut map = Map::new(rt.alloc(), 1_024, HashKind::Fold)?;
+    let mut map = Map::new(rt.alloc(), 1_024, HashKind::Wide)?;
     map.put(Handle::first(), COUNTER, 0)?;
     let Ok((map, seats)) = SharedMap::of(rt.alloc(), map, 4) else {
         return Err(MapError::Memory);

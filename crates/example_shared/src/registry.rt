@@ -116,7 +116,7 @@ fn export_often<N: MapName, R: Wait + AllocGlobal>(
 
 /// Three threads register while the one with seat 1 exports: how many exports were of one moment.
 pub(crate) fn run<R: Threads + Wait + Sync + AllocGlobal>(rt: &R) -> Result<u64, MapError> {
-    let (map, seats) = SharedMap::new(rt.alloc(), 1_024, HashKind::Fold, 4, 8)?;
+    let (map, seats) = SharedMap::new(rt.alloc(), 1_024, HashKind::Wide, 4, 8)?;
     run_by::<Brand, R>(rt, map, seats)
 }
 

@@ -62,7 +62,7 @@ fn work<N: MapName, R: Wait>(
 
 /// What all tasks are worth that four threads do: 50 of 1, and 50 of 10 that come of them.
 pub(crate) fn run<R: Threads + Wait + Sync + AllocGlobal>(rt: &R) -> Result<u64, MapError> {
-    let mut map = Map::new(rt.alloc(), 1_024, HashKind::Fold)?;
+    let mut map = Map::new(rt.alloc(), 1_024, HashKind::Wide)?;
     for task in 0..TASKS {
         map.put(Handle::first(), task, 1)?;
     }

@@ -31,7 +31,7 @@ fn slow(number: u64) -> u64 {
 impl Cache {
     /// The first handle stays empty. What is cached stands in copies of it.
     fn new(alloc: Global, slots: u32) -> Result<Cache, MapError> {
-        let mut map = Map::new(alloc, slots, HashKind::Fold)?;
+        let mut map = Map::new(alloc, slots, HashKind::Wide)?;
         let now = map.snapshot(Handle::first())?;
         Ok(Cache {
             map,

@@ -16,7 +16,7 @@ struct Index {
 impl Index {
     /// 20 accounts with 50 each, which make 1,000.
     fn new(alloc: Global) -> Result<Index, MapError> {
-        let mut map = Map::new(alloc, 256, HashKind::Fold)?;
+        let mut map = Map::new(alloc, 256, HashKind::Wide)?;
         let now = Handle::first();
         for account in 1..21 {
             map.put(now, account, 50)?;

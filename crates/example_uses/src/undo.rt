@@ -17,7 +17,7 @@ struct Sheet {
 impl Sheet {
     fn new(alloc: Global, slots: u32) -> Result<Sheet, MapError> {
         Ok(Sheet {
-            map: Map::new(alloc, slots, HashKind::Fold)?,
+            map: Map::new(alloc, slots, HashKind::Wide)?,
             cells: Handle::first(),
             before: Vec::new(alloc),
         })

@@ -77,8 +77,9 @@ impl Core {
         Ok(Core { parts })
     }
 
-    /// Begins an operation, or refuses to; the refusal is the definition's, and nothing has changed then. Each step looks at
-    /// the slots that it is about, and at no other: its work is bounded, however many slots, actors and handles there are.
+    /// Begins an operation, or refuses to; the refusal is the definition's, and nothing has changed then. What is counted of
+    /// each step's work is bounded, however many slots, actors and handles there are. That a step looks at the nodes of no other
+    /// slots than those that it is about is so by reading and by measurement, and in no clause.
     pub fn begin(&mut self, actor: u8, call: Call) -> Result<Begun, Refusal>
         ensures answers { Answers (began result) self.old.state (next self.old.state (steps.Begin actor call)) self.new.state }
         ensures tells { IfOk result (λ begun. TellsBegin self.old.state actor call begun) }

@@ -257,7 +257,8 @@ fn hears<R: Wait>(
     bank.hear(rt, seat, ShardCount { shard, calls })
 }
 
-/// A branch counts the orders that are about it, or about all, whichever seat gives them. A branch that isn't there has none.
+/// A branch counts the orders that are about it, or about all, whichever seat gives them. A branch that isn't there has none. A
+/// try comes in where nobody else has a branch.
 #[test]
 fn orders_have_numbers(rt: HostRuntime) -> Result<(), Fail> {
     let mut branches = Vec::new(rt.alloc());
@@ -288,5 +289,11 @@ fn orders_have_numbers(rt: HostRuntime) -> Result<(), Fail> {
     assert_eq!(rt; one.last(), third);
     assert!(rt; !hears(&rt, &bank, &mut one, 0, 2));
     assert!(rt; !hears(&rt, &bank, &mut one, 2, 1));
+    let other = Order::Store {
+        branch: 0,
+        amount: 4,
+    };
+    assert_eq!(rt; bank.try_call(&mut one, other), Some(4));
+    assert_eq!(rt; bank.try_call(&mut two, Order::Sum), Some(20));
     Ok(())
 }

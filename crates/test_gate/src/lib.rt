@@ -7,6 +7,8 @@ mod counters;
 #[cfg(test)]
 mod endings;
 #[cfg(test)]
+mod meanwhile;
+#[cfg(test)]
 mod numbers;
 #[cfg(test)]
 mod pools;

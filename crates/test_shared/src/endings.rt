@@ -4,9 +4,7 @@ ghost use Rattle.std.specs.Prelude.{◌≡◌};
 ghost use Rattle.shared_map.specs.Seats.{AreSeatsOf};
 
 use crate::kinds::put_and_get;
-use shared_map::{
-    Handle, HashKind, Map, MapCalls, MapError, MapName, MapSeat, SharedMap, only_shard,
-};
+use shared_map::{Handle, HashKind, Map, MapCalls, MapName, MapSeat, SharedMap, only_shard};
 use std::alloc::AllocGlobal;
 use std::marker::Brand;
 use std::process::Abort;
@@ -75,17 +73,5 @@ fn shards_are_shared_again(rt: HostRuntime) -> Result<(), Fail> {
     };
     assert_eq!(rt; (map.slots(), map.shards(), seat.number()), (512, 8, 2));
     assert_eq!(rt; seat.get(&rt, &map, Handle::first(), 5), Ok(Some(50)));
-    Ok(())
-}
-
-/// A shared map is refused as a map is, and where it would have no shard or too many.
-#[test]
-fn sizes_are_bounded(rt: HostRuntime) -> Result<(), Fail> {
-    for (slots, shards) in [(1, 2), (64, 0), (64, 65)] {
-        assert_eq!(rt;
-            SharedMap::new(rt.alloc(), slots, HashKind::Fold, 2, shards).err(),
-            Some(MapError::BadSizes)
-        );
-    }
     Ok(())
 }

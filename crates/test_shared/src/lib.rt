@@ -15,5 +15,3 @@ mod parts;
 mod pools;
 #[cfg(test)]
 mod shards;
-#[cfg(test)]
-mod threads;

@@ -41,46 +41,6 @@ fn parts<R: Wait>(rt: &R, map: &SharedMap, seat: &mut MapSeat) -> Result<bool, M
     Ok(are_first && are_next && are_last && none.is_empty())
 }
 
-/// How many keys a scan of a shard hands out, in parts of three, and whether each comes with its value.
-fn scan_shard<R: Wait>(
-    rt: &R,
-    map: &SharedMap,
-    seat: &mut MapSeat,
-    shard: usize,
-) -> Result<(u64, bool), MapError>
-    requires { IsSeatOf map.now seat.old }
-    ensures { IsSeatOf map.now seat.new }
-{
-    let mut count = 0u64;
-    let mut are_right = true;
-    let mut after = None;
-    for _ in 0..100 {
-        let part = seat.scan(rt, map, Handle::first(), shard, after, 3)?;
-        for (key, value) in part.as_slice() {
-            count = count.wrapping_add(1);
-            are_right = are_right && key.wrapping_add(value.wrapping_mul(7)) == 693;
-            after = Some(*key);
-        }
-    }
-    Ok((count, are_right))
-}
-
-/// Whether the scans of all shards hand out each key once.
-fn scans<R: Wait>(rt: &R, map: &SharedMap, seat: &mut MapSeat) -> Result<bool, MapError>
-    requires { IsSeatOf map.now seat.old }
-    ensures { IsSeatOf map.now seat.new }
-{
-    let mut all = 0u64;
-    for shard in 0..map.shards() {
-        let (count, are_right) = scan_shard(rt, map, seat, shard)?;
-        if !are_right || count == 0 {
-            return Ok(false);
-        }
-        all = all.wrapping_add(count);
-    }
-    Ok(all == 100)
-}
-
 /// Whether a cleared map has the frozen one's keys again, and the frozen one stays read-only.
 fn restored<R: Wait>(rt: &R, map: &SharedMap, seat: &mut MapSeat) -> Result<bool, MapError>
     requires { IsSeatOf map.now seat.old }
@@ -105,7 +65,6 @@ fn parts_and_restores(rt: HostRuntime) -> Result<(), Fail> {
     };
     assert_eq!(rt; fill(&rt, &map, &mut seat), Ok(()));
     assert_eq!(rt; parts(&rt, &map, &mut seat), Ok(true));
-    assert_eq!(rt; scans(&rt, &map, &mut seat), Ok(true));
     assert_eq!(rt; restored(&rt, &map, &mut seat), Ok(true));
     Ok(())
 }

@@ -1,6 +1,7 @@
 //! Two machines take the same calls: one carries out at once what goes at once, the other takes all their steps.
 
 use crate::draws::Draws;
+use crate::kinds::Kinds;
 use ctrie_base::{HashKind, Refusal};
 use history::{Call, Reply};
 use machine_core::{Core, Stepped};
@@ -19,11 +20,12 @@ const MOST_SWEEPS: u64 = 1 << 20;
 /// How many calls are made in each test.
 const CALLS: u64 = 250_000;
 
-/// How many calls went at once, and how many of these renewed a branch.
+/// How many calls went at once, how many of these renewed a branch, and of which kinds they were.
 #[derive(Clone, Copy)]
 struct Counts {
     at_once: u64,
     renewing: u64,
+    kinds: Kinds,
 }
 
 /// A call from its begin to its end, step by step; and whether it swapped a node in that is no change of its key.
@@ -128,6 +130,7 @@ fn call_both(
     let (reply, repairs) = step_through(other, call)?;
     let same = match at_once(one, call)? {
         Some(reply) => {
+            counts.kinds.add(call);
             counts.at_once = counts.at_once.saturating_add(1);
             counts.renewing = counts.renewing.saturating_add(u64::from(repairs));
             reply
@@ -150,6 +153,7 @@ fn call_often(
     let mut counts = Counts {
         at_once: 0,
         renewing: 0,
+        kinds: Kinds::new(),
     };
     for n in 0..CALLS {
         if !call_both(one, other, draws, &mut counts)? {
@@ -178,6 +182,7 @@ fn wide(rt: HostRuntime) -> Result<(), Fail> {
     let mut other = Core::new(rt.alloc(), bounds(4096, HashKind::Wide))?;
     let counts = call_often(&mut one, &mut other, &mut Draws::new(1))?;
     assert!(rt; counts.is_some_and(|c| c.at_once > CALLS / 2 && c.renewing > CALLS / 100));
+    assert!(rt; counts.is_some_and(|c| c.kinds.are_all()));
     Ok(())
 }
 
@@ -188,6 +193,7 @@ fn fold(rt: HostRuntime) -> Result<(), Fail> {
     let mut other = Core::new(rt.alloc(), bounds(2048, HashKind::Fold))?;
     let counts = call_often(&mut one, &mut other, &mut Draws::new(2))?;
     assert!(rt; counts.is_some_and(|c| c.at_once > CALLS / 2 && c.renewing > CALLS / 100));
+    assert!(rt; counts.is_some_and(|c| c.kinds.are_all()));
     Ok(())
 }
 

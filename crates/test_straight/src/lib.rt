@@ -6,3 +6,5 @@
 mod beside;
 #[cfg(test)]
 mod draws;
+#[cfg(test)]
+mod kinds;

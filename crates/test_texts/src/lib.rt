@@ -8,3 +8,5 @@ mod pictures;
 mod streams;
 #[cfg(test)]
 mod words;
+#[cfg(test)]
+mod worlds;

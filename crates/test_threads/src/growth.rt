@@ -5,11 +5,11 @@ ghost use Rattle.std.specs.Prelude.{IfOk};
 ghost use Rattle.lock_runner.specs.Seats.{IsSeatOf};
 
 use crate::records::is_right;
-use crate::support::{get, put, two_seats};
+use crate::support::{Counting, get, put, two_seats};
 use ctrie_base::Refusal;
 use history::Event;
 use lock_runner::{Nothing, Record, Runner, Seat, Stop, Unfinished};
-use std::alloc::{AllocError, AllocGlobal, Global};
+use std::alloc::{AllocError, AllocGlobal};
 use std::process::Abort;
 use std::sync::Wait;
 
@@ -46,7 +46,7 @@ fn write<R: Wait>(rt: &R, runner: &Runner, seat: &mut Seat, calls: u64) -> Came
 
 /// The record, though the order finds no memory the first time.
 fn finished(
-    alloc: Global,
+    rt: &(impl AllocGlobal + Print),
     runner: Runner,
     one: Seat,
     two: Seat,
@@ -54,13 +54,16 @@ fn finished(
     requires one { IsSeatOf runner one }
     requires two { IsSeatOf runner two }
 {
-    let mut seats = Vec::with_capacity(alloc, 2)?;
+    let mut seats = Vec::with_capacity(rt.alloc(), 2)?;
     seats.push(one)?;
     seats.push(two)?;
     match runner.finish(seats) {
         Ok(record) => Ok(Some(record)),
         Err(Unfinished::Missing(_, _)) => Ok(None),
-        Err(Unfinished::Memory(machine)) => Ok(machine.into_record().ok()),
+        Err(Unfinished::Memory(machine)) => {
+            let _ = println!(rt; "the order found no memory");
+            Ok(machine.into_record().ok())
+        }
     }
 }
 
@@ -83,7 +86,7 @@ fn a_refused_growth_stops_one_seat(rt: HostRuntime) {
     let second = write(&rt, &runner, &mut two, 100);
     assert!(rt; first != Came::Wrong && second != Came::Wrong);
     assert!(rt; first == Came::Answered || second == Came::Answered);
-    if let Ok(Some(record)) = finished(rt.alloc(), runner, one, two) {
+    if let Ok(Some(record)) = finished(&rt, runner, one, two) {
         judge(&rt, &record, 1);
         if unended(record.events.as_slice()) == 1 {
             let _ = println!(rt; "an operation is left in its middle");
@@ -109,16 +112,21 @@ fn a_refused_growth_is_made_good(rt: HostRuntime) {
         go_on(&rt, &runner, &mut one);
         assert!(rt; write(&rt, &runner, &mut two, 100) == Came::Answered);
     }
-    if let Ok(Some(record)) = finished(rt.alloc(), runner, one, two) {
+    if let Ok(Some(record)) = finished(&rt, runner, one, two) {
         judge(&rt, &record, 0);
     }
 }
 
-/// The seat's call ends, or it runs none.
-fn go_on(rt: &(impl Abort + Wait), runner: &Runner, seat: &mut Seat)
+/// The seat's call ends, or it runs none. What it is told between its further steps goes up by one from 1.
+fn go_on(rt: &(impl Abort + Wait + Print), runner: &Runner, seat: &mut Seat)
     requires { IsSeatOf runner.now seat.old }
     ensures { IsSeatOf runner.now seat.new }
 {
-    let again = seat.resume(rt, runner, &Nothing).err();
+    let counting = Counting::new(1);
+    let again = seat.resume(rt, runner, &counting).err();
     assert!(rt; again == None || again == Some(Stop::Denied(Refusal::Idle)));
+    assert!(rt; counting.is_told());
+    if counting.calls() > 0 {
+        let _ = println!(rt; "an operation went on");
+    }
 }

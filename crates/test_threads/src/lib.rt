@@ -15,5 +15,3 @@ mod support;
 mod threads;
 #[cfg(test)]
 mod turns;
-#[cfg(test)]
-mod wanting;

@@ -1,84 +1,9 @@
-//! What a record and the seats' answers are judged by.
+//! What a record is judged by.
 
 use ctrie_base::Refusal;
-use history::{Call, Event, Reply, is_order};
-use lock_runner::{Answer, Record, run};
-use std::alloc::{AllocError, Global};
-
-/// A begin, with its place.
-#[derive(Drop)]
-struct Begun {
-    place: u64,
-    actor: u8,
-    call: Call,
-}
-
-/// Copies of what a seat was answered.
-pub(crate) fn copies(alloc: Global, answers: &[Answer]) -> Result<Vec<Answer>, AllocError> {
-    let mut copies = Vec::new(alloc);
-    for answer in answers {
-        copies.push(Answer {
-            id: answer.id,
-            call: answer.call,
-            reply: answer.reply.copy()?,
-            began: answer.began,
-            ended: answer.ended,
-        })?;
-    }
-    Ok(copies)
-}
-
-/// The begins of a history, in order. Their ids are their indexes.
-fn begins(alloc: Global, events: &[Event]) -> Result<Vec<Begun>, AllocError> {
-    let mut begins = Vec::new(alloc);
-    for (place, event) in events.iter().enumerate() {
-        if let Event::Begin { actor, call, .. } = event {
-            begins.push(Begun {
-                place: place as u64,
-                actor: *actor,
-                call: *call,
-            })?;
-        }
-    }
-    Ok(begins)
-}
-
-/// Whether these answers are the ends of the actor's operations, in order, each with its begin.
-pub(crate) fn are_ends(
-    alloc: Global,
-    events: &[Event],
-    actor: u8,
-    answers: &[Answer],
-) -> Result<bool, AllocError> {
-    let begins = begins(alloc, events)?;
-    let mut rest = answers.iter();
-    for (place, event) in events.iter().enumerate() {
-        let Event::End { id, reply } = event else {
-            continue;
-        };
-        let Some(begun) = begins.get(*id as usize) else {
-            return Ok(false);
-        };
-        if begun.actor != actor {
-            continue;
-        }
-        let Some(answer) = rest.next() else {
-            return Ok(false);
-        };
-        if answer.id != *id || !tells(answer, begun, place as u64, reply) {
-            return Ok(false);
-        }
-    }
-    Ok(rest.next().is_none())
-}
-
-/// Whether the answer is that of the call, with this end.
-fn tells(answer: &Answer, begun: &Begun, ended: u64, reply: &Reply) -> bool {
-    answer.began == begun.place
-        && answer.ended == ended
-        && answer.call == begun.call
-        && answer.reply.is_same(reply)
-}
+use history::{Event, is_order};
+use lock_runner::{Record, run};
+use std::alloc::Global;
 
 /// Whether the two are the same event.
 fn is_same(one: &Event, other: &Event) -> bool {

@@ -2,11 +2,8 @@
 
 ghost use Rattle.lock_runner.specs.Seats.{IsSeatOf};
 
-use crate::records::{are_ends, copies, is_right};
-use crate::support::{get, limits, put, two_seats};
-use history::Event;
-use lock_runner::{Answer, Between, Nothing, Runner, Seat};
-use std::alloc::{AllocError, AllocGlobal, Global};
+use crate::support::{put, two_seats};
+use lock_runner::{Between, Nothing};
 use std::process::Abort;
 use std::sync::Wait;
 use std::sync::atomic::{AtomicBool, Ordering};
@@ -77,82 +74,5 @@ fn between_holds_call_one(rt: HostRuntime) -> Result<(), Fail> {
     );
     assert!(rt; first && second);
     assert!(rt; !holder.gave_up.load(Ordering::SeqCst));
-    Ok(())
-}
-
-/// A hundred puts and gets over forty keys.
-fn write<R: Wait>(rt: &R, runner: &Runner, seat: &mut Seat, n: u64) -> bool
-    requires { IsSeatOf runner.now seat.old }
-    ensures { IsSeatOf runner.now seat.new }
-{
-    for k in 0..100u64 {
-        let key = n.wrapping_add(7 * k) % 40;
-        let call = if k % 2 == 0 { put(key, k) } else { get(key) };
-        if seat.perform(rt, runner, call, &Nothing).is_err() {
-            return false;
-        }
-    }
-    true
-}
-
-/// Steps of the sweep.
-fn clean<R: Wait>(rt: &R, runner: &Runner, seat: &mut Seat) -> bool
-    requires { IsSeatOf runner.now seat.old }
-    ensures { IsSeatOf runner.now seat.new }
-{
-    for _ in 0..2_000 {
-        if runner.sweep(rt, seat).is_err() {
-            return false;
-        }
-    }
-    true
-}
-
-/// Four seats write and a fifth one sweeps, each on a thread of its own.
-#[test]
-fn four_writers(rt: HostRuntime) -> Result<(), Fail> {
-    let (runner, mut seats) = Runner::new(rt.alloc(), limits(512, 5), 5)?;
-    thread::for_each_mut(
-        &rt,
-        seats.as_mut_slice(),
-        5,
-        &|n, seat| {
-            if n < 4 {
-                write(&rt, &runner, seat, n as u64);
-            } else {
-                clean(&rt, &runner, seat);
-            }
-        },
-    );
-    let told = all_told(rt.alloc(), seats.as_slice())?;
-    let Ok(record) = runner.finish(seats) else {
-        panic!(rt; "all seats are there")
-    };
-    assert!(rt; is_right(rt.alloc(), &record)?);
-    judge(&rt, record.events.as_slice(), told.as_slice())?;
-    Ok(())
-}
-
-/// Copies of what each seat was answered.
-fn all_told(alloc: Global, seats: &[Seat]) -> Result<Vec<Vec<Answer>>, AllocError> {
-    let mut told = Vec::new(alloc);
-    for seat in seats {
-        told.push(copies(alloc, seat.answers())?)?;
-    }
-    Ok(told)
-}
-
-/// Each writer was answered all its calls, and the fifth seat none, as the history tells.
-fn judge(
-    rt: &(impl Abort + AllocGlobal),
-    events: &[Event],
-    told: &[Vec<Answer>],
-) -> Result<(), AllocError> {
-    let mut actor = 0u8;
-    for answers in told {
-        actor = actor.wrapping_add(1);
-        assert_eq!(rt; answers.len(), if actor <= 4 { 100 } else { 0 });
-        assert!(rt; are_ends(rt.alloc(), events, actor, answers.as_slice())?);
-    }
     Ok(())
 }

@@ -1,0 +1,9 @@
+//! How many nodes a handle reaches: with the free slots no more than all slots, and a call that adds no key makes them no more.
+#![tactic(auto)]
+
+mod laws;
+
+pub use laws::{
+    calls_grow_little, copies_are_no_larger, empty_has_two, handles_use_slots, one_handle_uses_all,
+    others_grow_nothing, sweeps_keep_nodes,
+};
