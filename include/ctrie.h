@@ -7,7 +7,7 @@
  *
  *     struct ctrie map = CTRIE_NONE;
  *     uint64_t value;
- *     uint32_t code = ctrie_new(&map, 1024, CTRIE_WIDE);
+ *     uint32_t code = ctrie_new(&map, ctrie_slots_for(300), CTRIE_WIDE); // for some 300 keys
  *     if (!CTRIE_REFUSED(code)) code = ctrie_put(&map, 0, 7, 250, NULL);
  *     if (!CTRIE_REFUSED(code)) code = ctrie_get(&map, 0, 7, &value);
  *     if (code == CTRIE_YES) printf("%llu\n", (unsigned long long)value);
