@@ -248,8 +248,8 @@ CTRIE_MUST_USE
 uint32_t ctrie_free_slots(struct ctrie *map, uint32_t *free);
 
 /* ---- changing: NO_HANDLE, READ_ONLY, FULL, WORN_OUT, NO_MAP; others only where it is said, and no memory but there.
-   FULL is none while one handle alone is open, but a call that gives a value to a key that has none. For the place of
-   the value before NULL may stand */
+   While one handle alone is open none is FULL but a call that gives a value to a key that has none, and ctrie_put_all,
+   which works on a copy. For the place of the value before NULL may stand */
 
 /* Sets the key's value. YES with the value before, or NO where it had none. CROWDED. */
 CTRIE_MUST_USE
