@@ -57,10 +57,6 @@ module _ (hash : ℕ → ℕ) where
         | Greater ↦ λ _ rest. before_head _ _ _ _ _ _ (crowd_of-cons h e (remove_entry (is_at (nat_cmp k)) es)) (crowd_of-cons h e es) (crowd_of-remove_entry h k v es rest)
       ] refl some
 
-  -- no hash has more keys than there are
-  pub crowd_of-le-length : (h : ℕ) (es : List (ℕ × ℕ)) → crowd_of hash es h ≤ length es
-  crowd_of-le-length h es = omega (arith, count_by-le-length (λ q. hash q == h) (keys_of es), length-keys_of es)
-
   -- the other keys with the hash of an absent key are all that have it
   others_of_absent : (k : ℕ) (es : List (ℕ × ℕ)) → lookup (is_at (nat_cmp k)) es ≡ None → count_by (λ q. (hash q == hash k) && not (q == k)) (keys_of es) ≡ crowd_of hash es (hash k)
   others_of_absent k [] none = refl

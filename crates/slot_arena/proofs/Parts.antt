@@ -223,14 +223,6 @@ same_all zero x i = refl
 same_all (suc n) x zero = refl
 same_all (suc n) x (suc i) = same_all n x i
 
--- no slot is in use
-pub none_parts : (count : ℕ) → AreParts (replicate count 0) (replicate count None) (replicate count prev.None)
-none_parts count = record {
-  nodes_all = (let none : Option Node = None in length-replicate count none) ∙ sym (length-replicate count 0);
-  prevs_all = length-replicate count prev.None ∙ sym (length-replicate count 0);
-  each = λ slot. agree_by 0 _ None _ prev.None _ (same_all count 0 slot) (same_all count None slot) (same_all count prev.None slot) (refl, refl);
-}
-
 pub none_used : (count : ℕ) → slots_from (replicate count 0) (replicate count None) (replicate count prev.None) ≡ replicate count None
 none_used zero = refl
 none_used (suc n) = ap (λ s. None ∷ s) (none_used n)

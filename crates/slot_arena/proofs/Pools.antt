@@ -316,15 +316,6 @@ module _ (cells : List Cell) (pool : Pool) (h : HasRows cells pool) (k : ℕ) (w
 
 -- ---- at the beginning
 
-pub no_rows : (n : ℕ) → HasRows (replicate n cell.Free) (record { rows = []; spare = []; size = n })
-no_rows n = let long = length-replicate n cell.Free in record {
-  once = λ row below. absurd (omega arith);
-  never = λ row past. omega (arith, counts_none (has row) n cell.Free refl);
-  all = omega (arith, counts_none has_row n cell.Free refl);
-  room = omega arith;
-  fits = omega arith;
-}
-
 pub no_nodes : (rows : List (ArrayVec Ref)) (n : ℕ) (cells : List Cell) → cells ≡ replicate n cell.Free → map (node_in rows) cells ≡ replicate n None
 no_nodes rows n cells is = ap (map (node_in rows)) is ∙ each n
   where
