@@ -31,8 +31,9 @@ pub struct Bounds {
 /// One atomic step.
 #[derive(Clone, Copy, Debug, PartialEq, Eq)]
 pub enum Step {
-    /// The actor begins an operation.
-    Begin { actor: u8, call: Call },
+    /// The actor begins an operation. A handle that its call opens gets this number, or the least free one where
+    /// none is chosen, as programs have it: threads on memory words reserve a number before they begin.
+    Begin { actor: u8, call: Call, number: Option<u16> },
     /// The next step of the actor's operation.
     Go { actor: u8 },
     /// A step of the sweep.
