@@ -114,8 +114,13 @@ gives_up_so : (state : State) (operation : Operation) (e : kind_of (action_of st
     operation_after state operation ≡ gave_up operation (comes_to state operation none operation.line e).answer
 gives_up_so state operation e none =
     let to = comes_to state operation none operation.line e in
-    rw (private_none state operation.private (action_of state operation) e none, attempt_same operation.attempt (action_of state operation) e,
-        mark_same operation.is_marked (action_of state operation) e, to.ends, to.rootless) refl
+    rw (
+      private_none state operation.private (action_of state operation) e none,
+      attempt_same operation.attempt (action_of state operation) e,
+      mark_same operation.is_marked (action_of state operation) e,
+      to.ends,
+      to.rootless,
+    ) refl
 
 -- what the step comes to
 goes_so : (state : State) (actor : ℕ) (operation : Operation) (action : Action) → kind_of action ≡ kind.Make →

@@ -33,14 +33,22 @@ pub struct Bounds {
 pub enum Step {
     /// The actor begins an operation. A handle that its call opens gets this number, or the least free one where
     /// none is chosen, as programs have it: threads on memory words reserve a number before they begin.
-    Begin { actor: u8, call: Call, number: Option<u16> },
+    Begin {
+        actor: u8,
+        call: Call,
+        number: Option<u16>,
+    },
     /// The next step of the actor's operation.
-    Go { actor: u8 },
+    Go {
+        actor: u8,
+    },
     /// A step of the sweep.
     Sweep,
     /// The actor's operation gives up, where it has published nothing of its own. No program asks for it: threads
     /// on memory words meet it.
-    GiveUp { actor: u8 },
+    GiveUp {
+        actor: u8,
+    },
 }
 
 /// What a step did.
