@@ -38,5 +38,6 @@ pub mod Numbered
 pub mod Basics
 pub mod Taking
 pub mod Fates
+pub mod Numbers
 pub mod GivingUp
 pub mod Edges

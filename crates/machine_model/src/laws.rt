@@ -1,6 +1,6 @@
 //! Laws of the definition, for every list of steps.
 
-ghost use Rattle.machine_model.specs.Laws.{SlotsAddUp, RefusedForWantAlone, GivingUpIsFindingNone, ReadersMakeNothing, TakenStepsSuffice};
+ghost use Rattle.machine_model.specs.Laws.{SlotsAddUp, RefusedForWantAlone, GivingUpIsFindingNone, BeginsReserveFree, LeastIsChosen, ReadersMakeNothing, TakenStepsSuffice};
 ghost use Rattle.machine_model.specs.Lasting.{LifeChangesNothing};
 ghost use Rattle.machine_model.specs.Taking.{OneSlotAStep, ReadersNeverRefused};
 
@@ -18,6 +18,17 @@ pub fn refused_for_want_alone()
 /// A law: where an operation is to make a node and no slot is free, to give up comes to the same as to go on.
 pub fn giving_up_is_finding_none()
     ensures { GivingUpIsFindingNone }
+{}
+
+/// A law: a begin of a call that opens a handle reserves a number that is below the limit, and neither open nor
+/// reserved.
+pub fn begins_reserve_free()
+    ensures { BeginsReserveFree }
+{}
+
+/// A law: a begin that chooses the least free number is one that chooses none.
+pub fn least_is_chosen()
+    ensures { LeastIsChosen }
 {}
 
 /// A law: an operation on a read-only handle makes no node.

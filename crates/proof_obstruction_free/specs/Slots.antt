@@ -39,9 +39,9 @@ EnoughSlots =
 -- the same of a call that begins where as many slots are free
 abbrev pub EnoughAtBegin : Type 0
 EnoughAtBegin =
-    (limits : Bounds) (steps : List Step) (actor : ℕ) (call : Call) (operation : Operation) → operation_of (run limits steps) actor ≡ None →
-    RunsAlone limits (steps ++ Begin actor call ∷ []) actor operation → most_steps_alone ≤ length (run limits steps).heap.free →
-    (n id : ℕ) (answer : Reply) (after : State) → next (alone_after limits (steps ++ Begin actor call ∷ []) actor n) (Go actor) ≡ Ok (Ended id answer, after) → answer ≢ NoSlots
+    (limits : Bounds) (steps : List Step) (actor : ℕ) (call : Call) (number : Option ℕ) (operation : Operation) → operation_of (run limits steps) actor ≡ None →
+    RunsAlone limits (steps ++ Begin actor call number ∷ []) actor operation → most_steps_alone ≤ length (run limits steps).heap.free →
+    (n id : ℕ) (answer : Reply) (after : State) → next (alone_after limits (steps ++ Begin actor call number ∷ []) actor n) (Go actor) ≡ Ok (Ended id answer, after) → answer ≢ NoSlots
 
 -- ---- from where a try begins
 
@@ -64,9 +64,9 @@ EnoughForTries =
 -- nor is a call that begins where as many are free
 abbrev pub TriesEnoughAtBegin : Type 0
 TriesEnoughAtBegin =
-    (limits : Bounds) (steps : List Step) (actor : ℕ) (call : Call) (operation : Operation) → operation_of (run limits steps) actor ≡ None →
-    RunsAlone limits (steps ++ Begin actor call ∷ []) actor operation → most_makes_alone ≤ length (run limits steps).heap.free →
-    (n id : ℕ) (answer : Reply) (after : State) → next (alone_after limits (steps ++ Begin actor call ∷ []) actor n) (Go actor) ≡ Ok (Ended id answer, after) → answer ≢ NoSlots
+    (limits : Bounds) (steps : List Step) (actor : ℕ) (call : Call) (number : Option ℕ) (operation : Operation) → operation_of (run limits steps) actor ≡ None →
+    RunsAlone limits (steps ++ Begin actor call number ∷ []) actor operation → most_makes_alone ≤ length (run limits steps).heap.free →
+    (n id : ℕ) (answer : Reply) (after : State) → next (alone_after limits (steps ++ Begin actor call number ∷ []) actor n) (Go actor) ≡ Ok (Ended id answer, after) → answer ≢ NoSlots
 
 -- ---- a snapshot, a freeze or a clear
 
@@ -87,6 +87,6 @@ EnoughForCopies =
 
 abbrev pub CopiesEnoughAtBegin : Type 0
 CopiesEnoughAtBegin =
-    (limits : Bounds) (steps : List Step) (actor : ℕ) (call : Call) (operation : Operation) → operation_of (run limits steps) actor ≡ None →
-    RunsAlone limits (steps ++ Begin actor call ∷ []) actor operation → IsCopying call → most_steps_of_copies ≤ length (run limits steps).heap.free →
-    (n id : ℕ) (answer : Reply) (after : State) → next (alone_after limits (steps ++ Begin actor call ∷ []) actor n) (Go actor) ≡ Ok (Ended id answer, after) → answer ≢ NoSlots
+    (limits : Bounds) (steps : List Step) (actor : ℕ) (call : Call) (number : Option ℕ) (operation : Operation) → operation_of (run limits steps) actor ≡ None →
+    RunsAlone limits (steps ++ Begin actor call number ∷ []) actor operation → IsCopying call → most_steps_of_copies ≤ length (run limits steps).heap.free →
+    (n id : ℕ) (answer : Reply) (after : State) → next (alone_after limits (steps ++ Begin actor call number ∷ []) actor n) (Go actor) ≡ Ok (Ended id answer, after) → answer ≢ NoSlots

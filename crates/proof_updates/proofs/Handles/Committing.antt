@@ -112,8 +112,8 @@ module _ (limits : Bounds) (states : ℕ → State) (records : ℕ → Record) (
   pub no_repair : CommitsNone (states t) s → CommitsRepair (states t) s → ⊥
   no_repair none r = none-some r.swap.fresh (sym (none_committed none) ∙ r.commits)
 
-  pub begins_none : (actor : ℕ) (call : Call) → s ≡ step.Begin actor call → CommitsRepair (states t) s → ⊥
-  begins_none actor call e r = none-some r.swap.fresh (sym (ap (committed_by_step (states t)) e) ∙ r.commits)
+  pub begins_none : (actor : ℕ) (call : Call) (number : Option ℕ) → s ≡ step.Begin actor call number → CommitsRepair (states t) s → ⊥
+  begins_none actor call number e r = none-some r.swap.fresh (sym (ap (committed_by_step (states t)) e) ∙ r.commits)
 
   -- who carries an offer out commits nothing
   pub carries_nothing : (handle : ℕ) (offer : Descriptor) → CarriesOut (states t) s handle offer → Own → ⊥
