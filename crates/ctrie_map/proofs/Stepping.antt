@@ -34,18 +34,18 @@ IsOnWay start c now = (n : ℕ) × GoesOn start the_actor c n now
 
 module _ (start : State) (c : Call) (can : CanCall start the_actor c) where
   module _ (law : CallsBegin) where
-    begins_by : (id : ℕ) (after first : State) → GoesOn start the_actor c zero first → next start (Begin the_actor c) ≡ Ok (Began id, after) → GoesOn start the_actor c zero after
+    begins_by : (id : ℕ) (after first : State) → GoesOn start the_actor c zero first → next start (Begin the_actor c None) ≡ Ok (Began id, after) → GoesOn start the_actor c zero after
     begins_by id after first (starts e) is =
         let same : first ≡ after = ap (λ p. p.1) (same_answer _ _ (sym e ∙ is)) in subst (GoesOn start the_actor c zero) same (starts e)
 
     -- it begins
-    pub begins : (id : ℕ) (after : State) → next start (Begin the_actor c) ≡ Ok (Began id, after) → IsOnWay start c after
+    pub begins : (id : ℕ) (after : State) → next start (Begin the_actor c None) ≡ Ok (Began id, after) → IsOnWay start c after
     begins id after is = let (first, goes) = law start the_actor c can in (0, begins_by id after first goes is)
 
-    not_refused_by : (why : Refusal) (first : State) → GoesOn start the_actor c zero first → next start (Begin the_actor c) ≡ Err why → ⊥
+    not_refused_by : (why : Refusal) (first : State) → GoesOn start the_actor c zero first → next start (Begin the_actor c None) ≡ Err why → ⊥
     not_refused_by why first (starts e) is = no_refusal _ _ why e is
 
-    pub begin_not_refused : (why : Refusal) (after : State) → Answers (Err why) start (next start (Begin the_actor c)) after → ⊥
+    pub begin_not_refused : (why : Refusal) (after : State) → Answers (Err why) start (next start (Begin the_actor c None)) after → ⊥
     begin_not_refused why after refused = let (first, goes) = law start the_actor c can in not_refused_by why first goes refused.1
 
   module _ (law : CallsGoOn) (now : State) (way : IsOnWay start c now) where

@@ -24,7 +24,7 @@ Pass = gate.Seated Shared Ask Told
 
 -- the step of the actor whose seat has this number
 abbrev pub step_of : ℕ → Work → Step
-step_of seat (work.Begin call) = step.Begin seat call
+step_of seat (work.Begin call) = step.Begin seat call None
 step_of seat work.Go = step.Go seat
 step_of seat work.Sweep = step.Sweep
 

@@ -6,7 +6,7 @@ use Rattle.machine_core.specs.Vocabulary.{Step as AnyStep}
 use Rattle.machine_model.specs.declared.steps.Step.TheVariants as any
 
 abbrev pub asked : Step → AnyStep
-asked (Begin actor call) = any.Begin actor call
+asked (Begin actor call) = any.Begin actor call None
 asked (Go actor) = any.Go actor
 asked Sweep = any.Sweep
 

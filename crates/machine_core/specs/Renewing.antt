@@ -106,7 +106,7 @@ pub record IsDown (start state : State) (actor : ℕ) (call : Call) (root : Ref)
   pub can : CanGo state actor call root levels
   pub keyed : IsKeyed call
   pub writes : needs_writable call ≡ true
-  pub fits : FitsKey (step.Begin actor call)
+  pub fits : FitsKey (step.Begin actor call None)
   pub leads : LeadsTo start state actor call depth
   pub down : Leads state.heap Writable (key_hash state (key_of call)) root depth indirection
   pub on : LeadsOn state.heap (key_hash state (key_of call)) (key_of call) place node depth (main_at state.heap indirection)

@@ -26,7 +26,7 @@ ended (Err refusal) = Err refusal
 -- ---- what is told beside it
 
 abbrev pub TellsBegin : State → ℕ → Call → Begun → Type 0
-TellsBegin state actor call begun = told_in state (step.Begin actor call) ≡ told.Began begun.id actor call begun.opens
+TellsBegin state actor call begun = told_in state (step.Begin actor call None) ≡ told.Began begun.id actor call begun.opens
 
 abbrev pub TellsStep : State → ℕ → Stepped → Type 0
 TellsStep state actor taken = told_in state (step.Go actor) ≡ told.Went actor taken.progress

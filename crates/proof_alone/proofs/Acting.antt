@@ -55,10 +55,10 @@ module _ (limits : Bounds) (steps : List Step) (ok : AreBounds limits) (keys : K
   before = run limits steps
 
   abbrev behind : List Step
-  behind = Begin actor call ∷ replicate (suc n) (Go actor)
+  behind = Begin actor call None ∷ replicate (suc n) (Go actor)
 
   all_steps : began limits steps actor call ++ replicate (suc n) (Go actor) ≡ steps ++ behind
-  all_steps = append_assoc steps (Begin actor call ∷ []) (replicate (suc n) (Go actor))
+  all_steps = append_assoc steps (Begin actor call None ∷ []) (replicate (suc n) (Go actor))
 
   is_after : there limits steps actor call (suc n) ≡ after
   is_after = end_is_there limits steps actor call n h.last answer after h.goes h.ends

@@ -24,8 +24,8 @@ use Rattle.proof_straight.specs.Resting.{IsOfRun}
 -- ---- steps
 
 -- a begin that isn't denied is of a machine that isn't spent
-begin_unspent : (state : State) (actor : ℕ) (call : Call) → begin_denial state actor call ≡ None → is_spent state ≡ false
-begin_unspent state actor call d = grind arith
+begin_unspent : (state : State) (actor : ℕ) (call : Call) (number : Option ℕ) → begin_denial state actor call number ≡ None → is_spent state ≡ false
+begin_unspent state actor call number d = grind arith
 
 -- so is a step that goes on
 go_unspent : (state : State) (actor : ℕ) → go_denial state actor ≡ None → is_spent state ≡ false
@@ -33,7 +33,7 @@ go_unspent state actor d = grind arith
 
 -- a step is taken only where the machine isn't spent
 unspent : (state : State) (s : Step) (o : Outcome) (after : State) → Moves state s o after → is_spent state ≡ false
-unspent state s o after (Begins {actor} {call} d) = begin_unspent state actor call d
+unspent state s o after (Begins {actor} {call} {number} d) = begin_unspent state actor call number d
 unspent state s o after (Goes {actor} d is a g) = go_unspent state actor d
 unspent state s o after (Ends {actor} d is a) = go_unspent state actor d
 unspent state s o after (GivesUp {actor} d is a) = go_unspent state actor d
@@ -111,7 +111,7 @@ begin_generations : (state : State) (actor : ℕ) (call : Call) (operation : Ope
 begin_generations state actor call operation = grind arith
 
 generations_after : (state : State) (s : Step) (o : Outcome) (after : State) → Moves state s o after → after.generations ≤ state.generations + 1
-generations_after state s o after (Begins {actor} {call} d) = omega (arith, begin_generations state actor call (begun_operation state call))
+generations_after state s o after (Begins {actor} {call} {number} d) = omega (arith, begin_generations state actor call (begun_operation state call number))
 generations_after state s o after (Goes {actor} {operation} d is a g) = acted_generations _ (handle_of operation.call) (action_of state operation)
 generations_after state s o after (Ends d is a) = omega arith
 generations_after state s o after (GivesUp d is a) = omega arith
@@ -126,7 +126,7 @@ sweep_epoch : (pins : List (Option ℕ)) (r : Reclaimer) (due : Option Ref) → 
 sweep_epoch pins r due = grind arith
 
 epoch_after : (state : State) (s : Step) (o : Outcome) (after : State) → Moves state s o after → after.epoch ≤ state.epoch + 1
-epoch_after state s o after (Begins {actor} {call} d) = omega (arith, begin_epoch state actor call (begun_operation state call))
+epoch_after state s o after (Begins {actor} {call} {number} d) = omega (arith, begin_epoch state actor call (begun_operation state call number))
 epoch_after state s o after (Goes {actor} {operation} d is a g) = omega (arith, gone_epoch state actor operation)
 epoch_after state s o after (Ends d is a) = omega arith
 epoch_after state s o after (GivesUp d is a) = omega arith
@@ -136,14 +136,14 @@ epoch_after state s o after (Sweeps spent) = sweep_epoch (map pin_of state.actor
 
 -- whether a step begins an operation
 abbrev pub one_if_begin : Step → ℕ
-one_if_begin (step.Begin actor call) = 1
+one_if_begin (step.Begin actor call number) = 1
 one_if_begin (step.Go actor) = 0
 one_if_begin (step.GiveUp actor) = 0
 one_if_begin step.Sweep = 0
 
 -- a begin is one more, and nothing else is
 begins_after : (state : State) (s : Step) (o : Outcome) (after : State) → Moves state s o after → after.begun ≡ state.begun + one_if_begin s
-begins_after state s o after (Begins {actor} {call} d) = omega arith
+begins_after state s o after (Begins {actor} {call} {number} d) = omega arith
 begins_after state s o after (Goes {actor} {operation} d is a g) =
     (acted_framed _ (handle_of operation.call) (action_of state operation)).begun ∙ (let none : state.begun ≡ state.begun + 0 = omega arith in none)
 begins_after state s o after (Ends d is a) = omega arith
@@ -152,7 +152,7 @@ begins_after state s o after (Sweeps spent) = omega arith
 
 -- at most one
 one_if_begin_most : (s : Step) → one_if_begin s ≤ 1
-one_if_begin_most (step.Begin actor call) = omega arith
+one_if_begin_most (step.Begin actor call number) = omega arith
 one_if_begin_most (step.Go actor) = omega arith
 one_if_begin_most (step.GiveUp actor) = omega arith
 one_if_begin_most step.Sweep = omega arith

@@ -31,7 +31,7 @@ pub use Rattle.machine_model.specs.GivingUp.{gave_up, given_up}
 pub use Rattle.machine_model.specs.Grown.{standing}
 pub use Rattle.machine_model.specs.Machine.{Answer, AreBounds, access_of, begin_denial, begin_unless, begun_operation, first_reason, give_up_by, give_up_on, give_up_unless, go_denial, go_on}
 pub use Rattle.machine_model.specs.Machine.{go_unless, is_access, is_actor, is_running, is_spent, is_taken, is_taken_step, next_state, pin_of, reclaimer_of, run, runs_on, settled_after, state_after}
-pub use Rattle.machine_model.specs.Machine.{step_by, swept, swept_with, with_begin}
+pub use Rattle.machine_model.specs.Machine.{lacks_number, step_by, swept, swept_with, with_begin}
 unfoldable pub use Rattle.machine_model.specs.Machine.{least_from, next, run_from, taken_below}
 pub use Rattle.machine_model.specs.Moves.{Begins, Ends, GivesUp, Moves, Sweeps}
 pub use Rattle.machine_model.specs.Operations.{action_of, after_root, generation_after, generation_from, given_root, kind_of, line_action, line_after, read_of, swapped}

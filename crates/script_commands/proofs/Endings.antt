@@ -31,7 +31,7 @@ use Rattle.script_commands.proofs.Carrying.{recorded_append, taken, going_stops,
 
 -- ---- keys of a script have 64 bits
 
-call_fits : (actor : ℕ) (call : Call) → CallFits call → FitsKey (step.Begin actor call)
+call_fits : (actor : ℕ) (call : Call) → CallFits call → FitsKey (step.Begin actor call None)
 call_fits actor (Get h k) fits = omega (arith, fits.1)
 call_fits actor (Put h k v) fits = omega (arith, fits.1)
 call_fits actor (PutIfAbsent h k v) fits = omega (arith, fits.1)
@@ -57,11 +57,11 @@ doing_fits state actor begins None fits = All-cons FitsKey begins _ fits (going_
 
 line_fits : (state : State) (line : Command) → CommandFits line → KeysFit (steps_of state line)
 unfolding steps_of
-line_fits state (Begin actor call) fits = All-cons FitsKey (step.Begin actor call) [] (call_fits actor call fits.1) (All-nil FitsKey)
+line_fits state (Begin actor call) fits = All-cons FitsKey (step.Begin actor call None) [] (call_fits actor call fits.1) (All-nil FitsKey)
 line_fits state (Go actor times) fits = going_fits times None actor state
 line_fits state (Until actor kind) fits = going_fits go_limit (Some kind) actor state
 line_fits state (Finish actor) fits = going_fits go_limit None actor state
-line_fits state (Do actor call) fits = doing_fits state actor (step.Begin actor call) (begin_denial state actor call) (call_fits actor call fits.1)
+line_fits state (Do actor call) fits = doing_fits state actor (step.Begin actor call None) (begin_denial state actor call None) (call_fits actor call fits.1)
 line_fits state (Sweep times) fits = All-replicate FitsKey times step.Sweep tt
 
 all_fit : (lines : List Command) (state : State) → AllByRecursion CommandFits lines → KeysFit (all_steps state lines)
@@ -151,23 +151,23 @@ module _ (law : AloneItEnds) (closes : ClosesEnd) (before : Taken) (sizes : AreL
       ended (bounded before.limits) before.steps actor operation law closes (in_bounds before.limits sizes) keys runs sure
 
   -- a begin, and the steps behind it
-  begun_ends : (actor : ℕ) (call : Call) → FitsKey (step.Begin actor call) → begin_denial (state_of before) actor call ≡ None → IsSure (state_of before) call (1 + most_steps_alone) →
-      let after = recorded_from (recorded_in before) (doing actor (step.Begin actor call) None (state_of before)) in
+  begun_ends : (actor : ℕ) (call : Call) → FitsKey (step.Begin actor call None) → begin_denial (state_of before) actor call None ≡ None → IsSure (state_of before) call (1 + most_steps_alone) →
+      let after = recorded_from (recorded_in before) (doing actor (step.Begin actor call None) None (state_of before)) in
       HasEnded after.state after.past.events actor (begun (past_of before).events)
   unfolding run_from record_from
   begun_ends actor call fits d sure =
-      let begins = step.Begin actor call in
-      let operation = begun_operation (state_of before) call in
+      let begins = step.Begin actor call None in
+      let operation = begun_operation (state_of before) call None in
       subst (λ id. let after = recorded_from (recorded_in before) (doing actor begins None (state_of before)) in HasEnded after.state after.past.events actor id)
       (sym (alike_along (bounded before.limits) before.steps).begun_are)
       (subst (λ (r : Recorded). let after = recorded_from r (going go_limit None actor r.state) in HasEnded after.state after.past.events actor operation.id) (taken before begins)
       (ended (bounded before.limits) (before.steps ++ begins ∷ []) actor operation law closes (in_bounds before.limits sizes) (All-push FitsKey before.steps begins keys fits)
       (begun_runs_on before actor call d) (sure_behind before actor call d most_steps_alone sure)))
 
-  do_ends : (actor : ℕ) (call : Call) → FitsKey (step.Begin actor call) → DoEnds (recorded_in before) actor call (after_line (recorded_in before) (Do actor call))
+  do_ends : (actor : ℕ) (call : Call) → FitsKey (step.Begin actor call None) → DoEnds (recorded_in before) actor call (after_line (recorded_in before) (Do actor call))
   unfolding steps_of
   do_ends actor call fits d sure =
-      subst (λ denial. let after = recorded_from (recorded_in before) (doing actor (step.Begin actor call) denial (state_of before)) in
+      subst (λ denial. let after = recorded_from (recorded_in before) (doing actor (step.Begin actor call None) denial (state_of before)) in
       HasEnded after.state after.past.events actor (begun (past_of before).events)) (sym d) (begun_ends actor call fits d sure)
 
   line_ends : (line : Command) → CommandFits line → LineEnds (recorded_in before) line

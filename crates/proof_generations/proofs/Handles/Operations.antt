@@ -209,7 +209,7 @@ module _ (state : State) (I : HasOffers state) (H : HasHandles state) where
         (ap (marks_in state) is ∙ ap (marks_by state) running ∙ ap (marks_of state (handle_of operation.call)) c.is_it ∙ ap (λ x. cond x (Some offer.operation) None) c.carried
         ∙ ap Some (mine.its ∙ ap (λ (x : Operation). x.id) one)))
     unopened_by k n found (inr (call, number, is, d, it)) unmarked its =
-        let (opening, low, free) = begun_opens state (suc k) call number d n (ap (λ (x : Operation). x.opens) (sym it) ∙ its) in
+        let (opening, (low, free)) = begun_opens state (suc k) call number d n (ap (λ (x : Operation). x.opens) (sym it) ∙ its) in
         stays_none s o after m n (no_handle state n free) (λ actor operation offer go running c opens. let wrong : ⊥ = clash actor k call number go is in wrong)
       where
         clash : (actor k : ℕ) (call : Call) (number : Option ℕ) → s ≡ step.Go actor → s ≡ step.Begin (suc k) call number → ⊥
@@ -225,10 +225,10 @@ module _ (state : State) (I : HasOffers state) (H : HasHandles state) where
     reserved_by_two k j n a b (inl r) (inl q) ua ub oa ob =
         H.reserved k j n r.was q.was r.at_k q.at_k (r.unmarked ua) (q.unmarked ub) (sym r.opens ∙ oa) (sym q.opens ∙ ob)
     reserved_by_two k j n a b (inl r) (inr (call, number, is, d, it)) ua ub oa ob =
-        let (opening, low, free) = begun_opens state (suc j) call number d n (ap (λ (x : Operation). x.opens) (sym it) ∙ ob) in
+        let (opening, (low, free)) = begun_opens state (suc j) call number d n (ap (λ (x : Operation). x.opens) (sym it) ∙ ob) in
         absurd (none_reserves state n k r.was free r.at_k (r.unmarked ua) (sym r.opens ∙ oa))
     reserved_by_two k j n a b (inr (call, number, is, d, it)) (inl q) ua ub oa ob =
-        let (opening, low, free) = begun_opens state (suc k) call number d n (ap (λ (x : Operation). x.opens) (sym it) ∙ oa) in
+        let (opening, (low, free)) = begun_opens state (suc k) call number d n (ap (λ (x : Operation). x.opens) (sym it) ∙ oa) in
         absurd (none_reserves state n j q.was free q.at_k (q.unmarked ub) (sym q.opens ∙ ob))
     reserved_by_two k j n a b (inr (x, m, is, d, it)) (inr (y, n', is', d', it')) ua ub oa ob = same_begin k j x y m n' is is'
 

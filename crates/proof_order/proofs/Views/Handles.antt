@@ -74,7 +74,7 @@ InRange state = (k : ℕ) (operation : Operation) → Runs state k operation →
 in_range_by : (state : State) (s : Step) → InRange state → (k : ℕ) (found : Operation) → Comes state s k found → (n : ℕ) → found.opens ≡ Some n → n < handle_limit
 unfolding InRange
 in_range_by state s h k found (began call number is d it) n opening =
-    let (opens, low, free) = begun_opens state (suc k) call number d n (ap (λ (x : Operation). x.opens) (sym it) ∙ opening) in low
+    let (opens, (low, free)) = begun_opens state (suc k) call number d n (ap (λ (x : Operation). x.opens) (sym it) ∙ opening) in low
 in_range_by state s h k found (rested was at_k it other) n opening = h k was at_k n (ap (λ (x : Operation). x.opens) (sym (it ∙ mark_only (marks_in state s) was)) ∙ opening)
 in_range_by state s h k found (went was is at_k g it) n opening =
     h k was at_k n (ap (λ (x : Operation). x.opens) (sym (it ∙ mark_only (marks_in state s) (operation_after state was))) ∙ opening)

@@ -19,7 +19,7 @@ use Rattle.proof_straight.proofs.Way.Seeking.{again, looked, comes_crowded, come
 
 -- there is no actor 0
 pub no_actor : {state : State} {call : Call} {root : Ref} → IsReady state 0 call root → ⊥
-no_actor {state} {call} ready = omega (arith, begin_counts state 0 call ready.allowed)
+no_actor {state} {call} ready = omega (arith, begin_counts state 0 call None ready.allowed)
 
 -- a call that is answered where it finds its key isn't refused
 abbrev GivesAnswer : WhenFound → Type 0
