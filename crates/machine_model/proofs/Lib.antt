@@ -39,5 +39,6 @@ pub mod Basics
 pub mod Taking
 pub mod Fates
 pub mod Numbers
+pub mod Embedding
 pub mod GivingUp
 pub mod Edges

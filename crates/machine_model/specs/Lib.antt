@@ -30,6 +30,7 @@ pub mod Laws
 pub mod Lasting
 pub mod Grown
 pub mod Moves
+pub mod Reads
 pub mod Edges
 pub mod Times
 pub mod Taking

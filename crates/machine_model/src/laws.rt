@@ -2,6 +2,7 @@
 
 ghost use Rattle.machine_model.specs.Laws.{SlotsAddUp, RefusedForWantAlone, GivingUpIsFindingNone, BeginsReserveFree, LeastIsChosen, ReadersMakeNothing, TakenStepsSuffice};
 ghost use Rattle.machine_model.specs.Lasting.{LifeChangesNothing};
+ghost use Rattle.machine_model.specs.Reads.{EachEmbeds, StepsOfReads};
 ghost use Rattle.machine_model.specs.Taking.{OneSlotAStep, ReadersNeverRefused};
 
 /// A law: the slots in use and the free ones are all slots.
@@ -54,4 +55,16 @@ pub fn one_slot_a_step()
 /// A law: an operation on a read-only handle is never refused for want of slots, unless it gave up.
 pub fn readers_never_refused()
     ensures { ReadersNeverRefused }
+{}
+
+/// A law: the line of each program that is in a READ embeds it: its step is the READ's, and the program goes on with
+/// what the READ comes to.
+pub fn each_embeds()
+    ensures { EachEmbeds }
+{}
+
+/// A law: a step of a READ is the same in all programs: what it does is the READ's, and of the operation it changes the
+/// line alone.
+pub fn steps_of_reads()
+    ensures { StepsOfReads }
 {}

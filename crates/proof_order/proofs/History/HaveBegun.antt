@@ -191,7 +191,7 @@ place_begun state past s o after (Sweeps spent) h p a = inl a
 
 changers_begun : (state : State) (past : Record) (s : Step) (o : Outcome) (after : State) → Moves state s o after → Begun state past → ChangersBegun (noted past state.steps (told_in state s))
 changers_begun state past s o after (Begins {actor} {call} {number} d) h p e a its =
-    still_begun past.events _ e.id (events_grow state past s o after (Begins {actor = actor} {call = call} {number} d)) (h.changers p e a its)
+    still_begun past.events _ e.id (events_grow state past s o after (Begins {actor = actor} {call = call} {number = number} d)) (h.changers p e a its)
 changers_begun state past s o after (Goes {actor} {operation} {action} d is b g) h p e a its =
     let grown = events_grow state past s o after (Goes {actor = actor} {operation = operation} {action = action} d is b g) in
     let (k, actors, runs) = place_of_actor state actor operation is in

@@ -158,7 +158,7 @@ module _ (limits : Bounds) (states : ℕ → State) (last : ℕ) (r : IsRun limi
       end_kind t actor lt o operation answer _ (subst (λ x. Moves (states t) x o (states (suc t))) e m)
       (subst (λ x. Notes states r.records t x) e notes) is does refl places closings (kept_all t lt same) (facts.still t s o lt m notes none)
   by_change t lt s o m notes (each.closes actor handle number root e is none places closings gone others) =
-      close_kind t lt s o actor handle _ m notes e none places closings (ap (standing_of (states t).heap) is) gone others
+      close_kind t lt s o actor handle number _ m notes e none places closings (ap (standing_of (states t).heap) is) gone others
   by_change t lt s o m notes (each.swaps handle offer carries none places closings roots heap) = swap_kind t lt s o handle offer m notes carries none places closings roots heap
 
   -- the kind of each step

@@ -18,7 +18,7 @@ module _ (limits : Bounds) (states : ℕ → State) (records : ℕ → Record) (
   none_committed none = by_step s none
     where
       by_step : (x : Step) → CommitsNone (states t) x → committed_by_step (states t) x ≡ None
-      by_step x (begins actor call) = refl
+      by_step x (begins actor call number) = refl
       by_step x (goes actor operation runs nothing) = ap (committed_of (states t)) runs ∙ nothing
       by_step x sweeps = refl
       by_step x (gives_up actor) = refl
