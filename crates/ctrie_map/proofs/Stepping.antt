@@ -1,5 +1,5 @@
 -- A call of the core that goes on to its end, and the sweep behind it: no step of either is refused.
-use Rattle.std.specs.Prelude.{◌≡◌, ◌+◌, ◌-◌, ◌<◌, ℕ, zero, suc, true, false, Some, Result, Ok, Err}
+use Rattle.std.specs.Prelude.{None, ◌≡◌, ◌+◌, ◌-◌, ◌<◌, ℕ, zero, suc, true, false, Some, Result, Ok, Err}
 use Rattle.std.proofs.Common.{sym, ap, subst, inl, inr, arith, ◌∙◌}
 use Rattle.ctrie_map.specs.Vocabulary.{Kind, Refusal, Call, Reply, Operation, Outcome, Began, Went, Ended, Go, needs_read_only, Answer, is_busy, is_spent, next, State, operation_of}
 use Rattle.history.specs.declared.calls.Call.TheVariants as call

@@ -1,5 +1,5 @@
 -- What the seats ask of the machine behind the gate, and what they are told.
-use Rattle.std.specs.Prelude.{ℕ, Result, Ok, Err}
+use Rattle.std.specs.Prelude.{None, ℕ, Result, Ok, Err}
 use Rattle.lock_runner.specs.Vocabulary.{Step, Outcome}
 use Rattle.lock_runner.specs.Beneath.machine_model.specs.declared.steps.Step.TheVariants as step
 use Rattle.gate.specs.declared.objects.Entry.{Entry}

@@ -1,5 +1,5 @@
 -- The steps that programs ask for, as the definition's.
-use Rattle.std.specs.Prelude.{List, map}
+use Rattle.std.specs.Prelude.{None, List, map}
 use Rattle.machine_core.specs.declared.asked.Step.{Step}
 use Rattle.machine_core.specs.declared.asked.Step.TheVariants.{Begin, Go, Sweep}
 use Rattle.machine_core.specs.Vocabulary.{Step as AnyStep}

@@ -1,5 +1,5 @@
 -- The way down to a key past indirections of any generation, and what is renewed on it.
-use Rattle.std.specs.Prelude.{◌≡◌, ℕ, suc, ◌+◌, ◌<◌, ◌≤◌, true, List, [], drop, length}
+use Rattle.std.specs.Prelude.{None, ◌≡◌, ℕ, suc, ◌+◌, ◌<◌, ◌≤◌, true, List, [], drop, length}
 use Rattle.arrayvec.specs.ArrayVec.{ArrayVec}
 use Rattle.machine_core.specs.Vocabulary.{position_of, Writable, Call, Node, Branch, Indirection, Single, Ref, AreLive, IsLive, Heap, entries_of, entry_at, generation_at, main_at, node_at, prev_at}
 use Rattle.machine_core.specs.Vocabulary.{key_of, needs_writable, most_levels, FitsKey, State, key_hash, flag_of, has_flag}

@@ -40,5 +40,6 @@ pub mod Taking
 pub mod Fates
 pub mod Numbers
 pub mod Embedding
+mod OneWord
 pub mod GivingUp
 pub mod Edges

@@ -31,6 +31,7 @@ pub mod Lasting
 pub mod Grown
 pub mod Moves
 pub mod Reads
+pub mod Words
 pub mod Edges
 pub mod Times
 pub mod Taking

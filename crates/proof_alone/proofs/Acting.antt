@@ -1,5 +1,5 @@
 -- What a call does that runs alone from rest.
-use Rattle.std.specs.Prelude.{◌≡◌, ◌≢◌, ◌≤◌, ◌+◌, ℕ, suc, true, List, [], ◌∷◌, ◌++◌, length, replicate, Option}
+use Rattle.std.specs.Prelude.{None, ◌≡◌, ◌≢◌, ◌≤◌, ◌+◌, ℕ, suc, true, List, [], ◌∷◌, ◌++◌, length, replicate, Option}
 use Rattle.std.proofs.Common.{refl, sym, ap, subst, arith, ◌∙◌}
 use Rattle.std.proofs.lemmas.List.{append_assoc}
 use Rattle.proof_alone.specs.Vocabulary.{hash_of, Call, Clear, Close, Count, Entries, Freeze, Snapshot, Reply, Closed, NoSlots, Effect, HandleMap, Heap, Bounds, Ended, Step, Go, is_close, KeysFit}

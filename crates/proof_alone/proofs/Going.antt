@@ -1,5 +1,5 @@
 -- A call that goes on alone: it has one way, and that is a run of its steps.
-use Rattle.std.specs.Prelude.{◌≡◌, ◌⊎◌, ◌<◌, ◌≤◌, ◌+◌, ℕ, zero, suc, List, [], ◌∷◌, ◌++◌, Some, Ok}
+use Rattle.std.specs.Prelude.{None, ◌≡◌, ◌⊎◌, ◌<◌, ◌≤◌, ◌+◌, ℕ, zero, suc, List, [], ◌∷◌, ◌++◌, Some, Ok}
 use Rattle.std.proofs.Common.{inl, inr, refl, sym, ap, subst, arith, ◌∙◌}
 use Rattle.std.proofs.lemmas.Bool.{cases_lt}
 use Rattle.proof_alone.specs.Vocabulary.{Kind, Call, Reply, Operation, Bounds, Began, Ended, Went, Step, Go, FitsKey, next, next_state, run, state_after, State, operation_of}

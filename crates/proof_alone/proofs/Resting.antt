@@ -1,5 +1,5 @@
 -- From rest one actor alone takes steps, and the end of its operation leaves rest.
-use Rattle.std.specs.Prelude.{◌≡◌, ℕ, false}
+use Rattle.std.specs.Prelude.{None, ◌≡◌, ℕ, false}
 use Rattle.std.proofs.Common.{refl}
 use Rattle.proof_alone.specs.Vocabulary.{Call, Reply, Ended, Go, is_busy, State}
 use Rattle.proof_alone.specs.Beneath.machine_model.specs.declared.steps.Step.TheVariants.{Begin}

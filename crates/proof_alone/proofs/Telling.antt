@@ -1,5 +1,5 @@
 -- What a call tells that runs alone: its begin and its end, and nothing else.
-use Rattle.std.specs.Prelude.{◌≡◌, ◌<◌, ℕ, zero, suc, List, [], ◌∷◌, ◌++◌, Option, Ok}
+use Rattle.std.specs.Prelude.{None, ◌≡◌, ◌<◌, ℕ, zero, suc, List, [], ◌∷◌, ◌++◌, Option, Ok}
 use Rattle.std.proofs.Common.{cond, refl, ap, arith, ◌∙◌}
 use Rattle.std.proofs.lemmas.List.{append-nil, append_assoc}
 use Rattle.proof_alone.specs.Vocabulary.{Kind, Call, Event, Reply, Bounds, Outcome, Began, Ended, Went, Step, Go, begun_operation, is_taken_step, next, run, Begins, Ends, Moves, Sweeps, GivesUp}

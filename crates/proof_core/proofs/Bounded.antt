@@ -176,7 +176,7 @@ attempt_most attempt action = omega arith
 few_attempts : (limits : Bounds) (steps : List Step) → OfEach FewAttempts (run limits steps)
 few_attempts limits =
     of_each_along limits FewAttempts
-    (λ steps actor call d. omega arith)
+    (λ steps actor call number d. omega arith)
     (λ steps actor operation is g h.
     omega (
       arith,

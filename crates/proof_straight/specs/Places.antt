@@ -1,5 +1,5 @@
 -- Where a call on one key comes to, on a way that needs no repair.
-use Rattle.std.specs.Prelude.{◌≡◌, ℕ, zero, suc, ◌+◌, ◌*◌, ◌-◌, ◌<◌, ◌≤◌, ◌==◌, true, false, nat_eq, length, Some}
+use Rattle.std.specs.Prelude.{None, ◌≡◌, ℕ, zero, suc, ◌+◌, ◌*◌, ◌-◌, ◌<◌, ◌≤◌, ◌==◌, true, false, nat_eq, length, Some}
 use Rattle.std.specs.Option.{option_eq}
 use Rattle.proof_straight.specs.Vocabulary.{position_of, Access, Call, Ref, Node, Indirection, Branch, Single, List as Listed, Heap, node_at, main_at, prev_at, entry_at, generation_at, slot_of}
 use Rattle.proof_straight.specs.Vocabulary.{flag_of, has_flag, Site, key_of, passes, begun_operation, State, key_hash}

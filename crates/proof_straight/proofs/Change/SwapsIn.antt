@@ -1,5 +1,5 @@
 -- How a change is swapped in: from the SWAP of its main node to the answer.
-use Rattle.std.proofs.Common.{◌≡◌, ℕ, suc, ◌+◌, ◌≤◌, Bool, true, false, nat_eq, [], Option, Some, refl, sym, ap, ◌∙◌, subst, eq-eqb, arith}
+use Rattle.std.proofs.Common.{None, ◌≡◌, ℕ, suc, ◌+◌, ◌≤◌, Bool, true, false, nat_eq, [], Option, Some, refl, sym, ap, ◌∙◌, subst, eq-eqb, arith}
 use Rattle.std.specs.Option.{option_eq}
 use Rattle.proof_straight.specs.Vocabulary.{Access, Writable, Call, Slot, Ref, stored, node_at, prev_at, prev_of, main_at, generation_at, slot_of, Line, Purpose, Reply, changer_for, Operation}
 use Rattle.proof_straight.specs.Vocabulary.{After, Entrant, Progress, ReadLine, SwapLine, Plain, decided, handle_of, begun_operation, swapped, Commits, after_ask, after_decide}

@@ -1,5 +1,5 @@
 -- Two calls that come to the same state go on alike.
-use Rattle.std.proofs.Common.{◌≡◌, ℕ, zero, suc, ◌+◌, ◌-◌, ◌<◌, ◌≤◌, ◌⊎◌, inl, inr, Ok, Err, refl, sym, ap, ◌∙◌, subst, arith}
+use Rattle.std.proofs.Common.{None, ◌≡◌, ℕ, zero, suc, ◌+◌, ◌-◌, ◌<◌, ◌≤◌, ◌⊎◌, inl, inr, Ok, Err, refl, sym, ap, ◌∙◌, subst, arith}
 use Rattle.std.proofs.lemmas.Bool.{cases_eq, cases_lt}
 use Rattle.proof_straight.specs.Vocabulary.{Kind, Call, Reply, Outcome, Answer, next, Record, noted, State, told_in}
 use Rattle.machine_model.specs.declared.steps.Outcome.TheVariants as outcome

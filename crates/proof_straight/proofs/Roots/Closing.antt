@@ -1,5 +1,5 @@
 -- A close that runs alone.
-use Rattle.std.proofs.Common.{◌≡◌, zero, suc, ◌+◌, ◌-◌, false, List, [], ◌∷◌, ◌++◌, set, Some, Ok, refl, ap, ◌∙◌, subst, arith}
+use Rattle.std.proofs.Common.{None, ◌≡◌, zero, suc, ◌+◌, ◌-◌, false, List, [], ◌∷◌, ◌++◌, set, Some, Ok, refl, ap, ◌∙◌, subst, arith}
 use Rattle.proof_straight.specs.Beneath.history.specs.declared.calls.Call.TheVariants as call
 use Rattle.proof_straight.specs.Beneath.history.specs.declared.replies.Reply.TheVariants as reply
 use Rattle.proof_straight.specs.Vocabulary.{Ref, limbo_after, Operation, settled, begin_unless, begun_operation, next, State, Record, moment_at, noted_end, entrant_of, Entrant, on_time, Call}

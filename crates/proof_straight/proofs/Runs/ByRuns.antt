@@ -1,5 +1,5 @@
 -- What a call comes to a run of its steps comes to.
-use Rattle.std.proofs.Common.{◌≡◌, ℕ, zero, suc, List, [], ◌∷◌, ◌++◌, replicate, cond, Ok, refl, sym, ap, ◌∙◌}
+use Rattle.std.proofs.Common.{None, ◌≡◌, ℕ, zero, suc, List, [], ◌∷◌, ◌++◌, replicate, cond, Ok, refl, sym, ap, ◌∙◌}
 use Rattle.std.proofs.lemmas.List.{append-nil}
 use Rattle.proof_straight.specs.Vocabulary.{Call, Outcome, Step, is_taken_step, next, run_from, state_after, Record, noted, record_from, State, told_in, Reply}
 use Rattle.machine_model.specs.declared.steps.Step.TheVariants as step

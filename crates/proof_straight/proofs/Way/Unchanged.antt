@@ -1,5 +1,5 @@
 -- Calls on one key that change nothing.
-use Rattle.std.proofs.Common.{◌≡◌, ℕ, zero, suc, ◌+◌, ◌*◌, ◌<◌, ◌==◌, Bool, true, false, length, refl, ap, ◌∙◌, subst, arith}
+use Rattle.std.proofs.Common.{None, ◌≡◌, ℕ, zero, suc, ◌+◌, ◌*◌, ◌<◌, ◌==◌, Bool, true, false, length, refl, ap, ◌∙◌, subst, arith}
 use Rattle.proof_straight.specs.Vocabulary.{Call, Reply, Ref, main_at, WhenFound, Answers, Sets, Removes, absent_reply, answers_unless, when_found, found_so, State, Record, noted_end}
 use Rattle.proof_straight.specs.Beneath.history.specs.declared.calls.Call.TheVariants as call
 use Rattle.proof_straight.specs.Beneath.history.specs.declared.replies.Reply.TheVariants as reply

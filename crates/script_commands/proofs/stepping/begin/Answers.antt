@@ -1,4 +1,4 @@
-use Rattle.std.proofs.Common.{◌≡◌, IfOk, OnOk, Option, subst, sym}
+use Rattle.std.proofs.Common.{None, ◌≡◌, IfOk, OnOk, Option, subst, sym}
 use Rattle.script_commands.specs.Vocabulary.{Refusal}
 use Rattle.script_commands.specs.Beneath.machine_model.specs.declared.steps.Step.TheVariants.{Begin}
 use Rattle.script_commands.specs.Beneath.proof_runs.specs.Machines.{state_of}

@@ -1,4 +1,4 @@
-use Rattle.std.proofs.Common.{sym, ◌∙◌}
+use Rattle.std.proofs.Common.{None, sym, ◌∙◌}
 use Rattle.script_commands.specs.Beneath.machine_model.specs.declared.steps.Step.TheVariants.{Begin}
 use Rattle.script_commands.specs.Recorded.{recorded_in}
 use Rattle.script_commands.proofs.Carrying.{performed}
