@@ -41,5 +41,6 @@ pub mod Fates
 pub mod Numbers
 pub mod Embedding
 mod OneWord
+pub mod Looks
 pub mod GivingUp
 pub mod Edges

@@ -1,14 +1,18 @@
 -- Which words a step of an operation reads and changes. Threads see a root word for each handle, and of each slot a main word, a prev word, and what else
 -- its node has, which never changes while it stands there. Beside these a step reads and changes what no thread sees: counts, limbo, the epoch's records.
-use Rattle.std.specs.Prelude.{◌≡◌, ◌⊎◌, ℕ, true, List, ◌∷◌, Option, Some, None, option_map, slice_index_or, Ok}
+use Rattle.std.specs.Prelude.{◌≡◌, ◌⊎◌, ℕ, true, false, List, ◌∷◌, Option, Some, None, option_map, slice_index_or, Ok}
 use Rattle.machine_model.specs.Beneath.slot_arena.specs.declared.refs.Ref.{Ref}
 use Rattle.machine_model.specs.Beneath.slot_arena.specs.declared.nodes.Node.{Node}
 use Rattle.machine_model.specs.Beneath.slot_arena.specs.declared.nodes.Prev.{Prev}
 use Rattle.machine_model.specs.Beneath.slot_arena.specs.declared.nodes.Slot.{Slot}
+use Rattle.machine_model.specs.Beneath.slot_arena.specs.Arenas.{is_indirection}
 use Rattle.machine_model.specs.Beneath.slot_arena.specs.Refs.{slot_of}
 use Rattle.machine_model.specs.Beneath.slot_arena.specs.Heaps.{Heap, main_at, main_of, next_ref, no_ref, node_at, node_of, prev_at, prev_of, with_main_word}
 use Rattle.machine_model.specs.declared.actions.Action.{Action}
 use Rattle.machine_model.specs.declared.actions.Action.TheVariants as act
+use Rattle.machine_model.specs.declared.building.BuildLine.TheVariants as build
+use Rattle.machine_model.specs.declared.lines.Line.{Line}
+use Rattle.machine_model.specs.declared.lines.Line.TheVariants as line
 use Rattle.machine_model.specs.declared.operations.Operation.{Operation}
 use Rattle.machine_model.specs.declared.steps.Outcome.{Outcome}
 use Rattle.machine_model.specs.declared.steps.Step.TheVariants.{Go}
@@ -42,10 +46,15 @@ SameWord one other handle (act.Look at) = Unit {0}
 SameWord one other handle (act.End answer) = Unit {0}
 SameWord one other handle action = word_at one handle ≡ word_at other handle
 
+-- a line on which a changed main node is to be made holds one to change, as each line of a run does (the law each_lookup_finds of proof_memory)
+abbrev pub HoldsMain : Heap → Line → Type 0
+HoldsMain heap (line.Build (build.Main path main c former)) = is_indirection (node_at heap main) ≡ false
+HoldsMain heap l = Unit {0}
+
 -- a law: what an operation's next step does depends on contents alone, and what becomes of the operation on the one word that it names besides
 abbrev pub StepsReadOneWord : Type 0
 StepsReadOneWord =
-    (one other : State) (operation : Operation) → SameContents one other →
+    (one other : State) (operation : Operation) → SameContents one other → HoldsMain one.heap operation.line →
     (action_of one operation ≡ action_of other operation)
     × (SameWord one other (handle_of operation.call) (action_of one operation) → operation_after one operation ≡ operation_after other operation)
 
