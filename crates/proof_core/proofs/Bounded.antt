@@ -13,7 +13,7 @@ use Rattle.proof_core.specs.Beneath.machine_model.proofs.Actors.{mark_one, mark_
 use Rattle.proof_core.specs.Beneath.machine_model.proofs.EachOperation.{OfEach, of_each_along, of_running}
 use Rattle.proof_core.specs.Beneath.machine_model.proofs.Frames.{acted_framed, limits_kept, steps_counted}
 use Rattle.proof_core.specs.Beneath.machine_model.proofs.HeapMoves.{HeapMoves, Stays, Takes, Publishes, Restores, Commit, Fail, Frees, heap_moves}
-use Rattle.proof_core.specs.Beneath.machine_model.specs.Moves.{Goes}
+use Rattle.proof_core.specs.Beneath.machine_model.specs.Moves.{Goes, GivesUp}
 use Rattle.proof_core.specs.Beneath.machine_model.proofs.Slots.{sound_along}
 use Rattle.proof_core.specs.Beneath.proof_memory.proofs.Safety.Steps.{gone_epoch}
 use Rattle.proof_core.specs.Beneath.proof_generations.proofs.Counter.Drawn.{aborted_generations, completed_generations, offered_generations}

@@ -23,7 +23,7 @@ use Rattle.proof_sizes.specs.Beneath.machine_model.specs.declared.steps.Step.The
 use Rattle.proof_sizes.specs.Beneath.machine_model.proofs.Actors.{mark_one, mark_only, marks_in}
 use Rattle.proof_sizes.specs.Beneath.proof_commits.proofs.Resting.{none_at}
 use Rattle.proof_sizes.specs.Beneath.proof_generations.specs.Running.{Runs}
-use Rattle.proof_sizes.specs.Beneath.proof_generations.proofs.Handles.Running.{Comes, began, comes, place_of_actor, rested, went}
+use Rattle.proof_sizes.specs.Beneath.proof_generations.proofs.Handles.Running.{Comes, began, comes, place_of_actor, rested, went, gave}
 use Rattle.proof_sizes.specs.Beneath.proof_order.specs.Facts.{Notes}
 use Rattle.proof_sizes.specs.Beneath.proof_order.specs.Phases.{OwnUpdate}
 use Rattle.proof_sizes.specs.Beneath.proof_order.proofs.Phases.OwnUpdates.{own_updates_enter}
@@ -146,6 +146,7 @@ module _ (limits : Bounds) (states : ℕ → State) (steps : ℕ → Step) (last
             record { actor_is = whose; id_is = ap (λ (x : Operation). x.id) it; call_is = ap (λ (x : Operation). x.call) it ∙ what }
         by (rested was at_k it other_step) = absurd (none_at (states start).actors rest k was at_k)
         by (went was s at_k g it) = absurd (let bad : step.Begin actor call None ≡ step.Go (suc k) = sym begins ∙ s in cc)
+        by (gave was answer s at_k may it) = absurd (let bad : step.Begin actor call None ≡ step.GiveUp (suc k) = sym begins ∙ s in cc)
     only_calls (suc d) within k operation runs =
         by (only_calls d (omega (arith, within)))
         (comes (states (start + suc d)) (steps (start + suc d)) (takes (start + suc d) (omega (arith, within))).0 (states (suc (start + suc d)))
@@ -166,6 +167,7 @@ module _ (limits : Bounds) (states : ℕ → State) (steps : ℕ → Step) (last
             let c = before k was at_k in
             marked_calls k (marks_in (states (start + suc d)) (steps (start + suc d))) (operation_after (states (start + suc d)) was) operation it
             (record { actor_is = c.actor_is; id_is = c.id_is; call_is = c.call_is })
+        by before (gave was answer s at_k may it) = absurd (let bad : step.Go actor ≡ step.GiveUp (suc k) = sym its ∙ s in cc)
 
     pub its_operation : (u : ℕ) → start ≤ u → u ≤ last → (other : ℕ) (operation : Operation) → operation_of (states u) other ≡ Some operation →
         (operation.id ≡ id) × (operation.call ≡ call) × (other ≡ actor)
