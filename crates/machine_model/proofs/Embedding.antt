@@ -15,7 +15,6 @@ use Rattle.machine_model.specs.declared.reading.After.{After}
 use Rattle.machine_model.specs.declared.reading.After.TheVariants.{Goes, Gives}
 use Rattle.machine_model.specs.declared.reading.Read.{Read}
 use Rattle.machine_model.specs.declared.reading.ReadLine.{ReadLine}
-use Rattle.machine_model.specs.declared.reading.Swap.{Swap}
 use Rattle.machine_model.specs.declared.reading.SwapLine.{SwapLine}
 use Rattle.machine_model.specs.declared.reading.SwapLine.TheVariants as swap
 use Rattle.machine_model.specs.declared.repairs.CleanLine.{CleanLine}
@@ -37,7 +36,7 @@ use Rattle.machine_model.specs.Copying.{copy_after_read, copy_after_complete}
 use Rattle.machine_model.specs.Finding.{key_after_read}
 use Rattle.machine_model.specs.States.{State, word_at}
 use Rattle.machine_model.specs.Calls.{handle_of}
-use Rattle.machine_model.specs.Acting.{attempt_after, mark_after, operation_after, private_after}
+use Rattle.machine_model.specs.Acting.{attempt_after, mark_after, private_after}
 use Rattle.machine_model.specs.Operations.{action_of, generation_after, generation_from, given_root, line_action, line_after}
 use Rattle.machine_model.specs.Operations.{after_root, after_swap, completing_read, swapping_read, keying_read}
 use Rattle.machine_model.specs.Operations.{renewing_read, cleaning_read, climbing_read, copying_read, walking_read}
@@ -257,7 +256,7 @@ steps_of_reads state operation r is =
     ap (line_after state operation) (sym e.here) ∙ e.leads state operation r.line in (
       acts,
       ap (λ a. with_action state operation a (generation_after state operation) (line_after state operation operation.line)) acts
-      ∙ ap (λ g. with_action state operation (read_action r.indirection r.line) g (line_after state operation operation.line)) generation
-      ∙ ap (with_action state operation (read_action r.indirection r.line) operation.generation) leads
-      ∙ quiet state operation r.indirection r.line _,
+          ∙ ap (λ g. with_action state operation (read_action r.indirection r.line) g (line_after state operation operation.line)) generation
+          ∙ ap (with_action state operation (read_action r.indirection r.line) operation.generation) leads
+          ∙ quiet state operation r.indirection r.line _,
     )

@@ -1,6 +1,6 @@
 -- How many steps a machine may take changes nothing of those that it takes.
-use Rattle.std.proofs.Common.{◌≡◌, ℕ, zero, suc, ◌+◌, ◌<◌, ◌≤◌, ◌==◌, ◌&&◌, Bool, true, false, List, [], ◌∷◌, ◌++◌}
-use Rattle.std.proofs.Common.{length, map, Option, Some, None, Ok, Err, refl, sym, ap, ◌∙◌, arith, nat_le, is_some, not, if◌then◌else◌, length-append}
+use Rattle.std.proofs.Common.{◌≡◌, ℕ, zero, suc, ◌+◌, ◌<◌, ◌≤◌, ◌==◌, ◌&&◌, Bool, true, false, List, [], ◌∷◌}
+use Rattle.std.proofs.Common.{length, map, Option, Some, None, Ok, Err, refl, sym, ap, ◌∙◌, arith, nat_le, is_some, not, if◌then◌else◌}
 use Rattle.std.proofs.lemmas.Bool.{lt-leb}
 use Rattle.machine_model.specs.Beneath.ctrie_base.specs.declared.refusals.Refusal.{Refusal}
 use Rattle.machine_model.specs.Beneath.ctrie_base.specs.declared.refusals.Refusal.TheVariants as refuse
@@ -23,16 +23,15 @@ use Rattle.machine_model.specs.Swapping.{stands_in, is_plain}
 use Rattle.machine_model.specs.Operations.{action_of, kind_of}
 use Rattle.machine_model.specs.Acting.{acted, completed, carried_out, opened, marked, if_changed, new_root_taken, gone, operation_after}
 use Rattle.machine_model.specs.Calls.{handle_of, opens_handle, is_close, needs_writable, needs_read_only}
-use Rattle.machine_model.specs.Machine.{Answer, next, next_state, state_after, run, run_from, is_spent}
+use Rattle.machine_model.specs.Machine.{Answer, next, next_state, state_after, run_from, is_spent}
 use Rattle.machine_model.specs.Machine.{is_taken, taken_below, least_from, lacks_number, settled_after, begin_denial, begin_unless, begun_operation, with_begin}
 use Rattle.machine_model.specs.Machine.{access_of, first_reason, is_actor, is_running, is_access, runs_on, go_denial, go_unless, go_on, step_by, sweep, swept, give_up_unless, give_up_on, give_up_by}
-use Rattle.machine_model.proofs.Along.{run_push, kept_by_moves, limits_along}
+use Rattle.machine_model.proofs.Along.{kept_by_moves}
 use Rattle.machine_model.proofs.Frames.{limits_kept, steps_counted}
 use Rattle.machine_model.specs.Machine.{is_taken_step}
-use Rattle.machine_model.specs.Records.{Record, first_record, noted, next_record, record_from, record_of}
+use Rattle.machine_model.specs.Records.{Record, first_record, noted, next_record, record_from}
 use Rattle.machine_model.specs.Tellings.{told_in, told_of, told_by, begin_told}
-use Rattle.machine_model.proofs.Recorded.{record_push}
-use Rattle.machine_model.specs.GivingUp.{given_up, gave_up}
+use Rattle.machine_model.specs.GivingUp.{given_up}
 use Rattle.machine_model.specs.Lasting.{lasting, living, LifeChangesNothing}
 
 abbrev lasting_answer : ℕ → Answer → Answer

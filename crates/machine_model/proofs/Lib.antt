@@ -42,5 +42,7 @@ pub mod Numbers
 pub mod Embedding
 mod OneWord
 pub mod Looks
+pub mod LooksOn
+pub mod LooksAfter
 pub mod GivingUp
 pub mod Edges

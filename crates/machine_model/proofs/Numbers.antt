@@ -1,5 +1,5 @@
 -- Numbers of handles: the one that a begin reserves is below the limit, and neither open nor reserved.
-use Rattle.std.proofs.Common.{◌≡◌, ℕ, zero, suc, ◌+◌, ◌<◌, ◌≤◌, ◌⊎◌, inl, inr, Bool, true, false, cond, nat_lt, nat_le, not, ◌&&◌, Option, Some, None, Ok, refl, sym, ap, ◌∙◌, subst}
+use Rattle.std.proofs.Common.{◌≡◌, ℕ, zero, suc, ◌+◌, ◌<◌, ◌≤◌, ◌⊎◌, inl, inr, Bool, true, false, cond, nat_lt, nat_le, not, ◌&&◌, Option, Some, None, Ok, refl, ap, ◌∙◌, subst}
 use Rattle.std.proofs.Common.{add-one, leb-true, lt-ltb, arith}
 use Rattle.std.proofs.lemmas.Bool.{cases_lt, le-ltb}
 use Rattle.std.proofs.Math.Bool.{and-false}

@@ -1,12 +1,11 @@
 -- A step of an operation changes the words alone that its action names.
-use Rattle.std.proofs.Common.{◌≡◌, ℕ, zero, suc, ◌+◌, ◌-◌, ◌==◌, ◌⊎◌, inl, inr, Bool, true, false, List, ◌∷◌, [], map, set, get_or, Option, Some, None, option_map, Ok, length}
+use Rattle.std.proofs.Common.{◌≡◌, ℕ, zero, suc, ◌+◌, ◌-◌, ◌==◌, ◌⊎◌, inl, inr, Bool, true, false, List, ◌∷◌, [], set, get_or, Option, Some, None, option_map, length}
 use Rattle.std.proofs.Common.{refl, sym, ap, subst, ◌<◌, if◌then◌else◌, ◌∙◌, arith, length-set, get_or-set_same, get_or-set_other}
 use native.Mathlib.Decide.{ℕ_discrete}
 use Rattle.std.proofs.lemmas.Bool.{cases_lt}
 use Rattle.std.proofs.lemmas.List.{get_or_past}
 use Rattle.std.proofs.Math.ListN.{get_or-map}
 use Rattle.std.proofs.lemmas.Option.{same_Some}
-use Rattle.history.specs.declared.replies.Reply.{Reply}
 use Rattle.machine_model.specs.Beneath.slot_arena.specs.declared.refs.Ref.{Ref}
 use Rattle.machine_model.specs.Beneath.slot_arena.specs.declared.nodes.Node.{Node}
 use Rattle.machine_model.specs.Beneath.slot_arena.specs.declared.nodes.Node.TheVariants.{Indirection, Branch, Single, Tomb, List as Listed}
@@ -14,13 +13,12 @@ use Rattle.machine_model.specs.Beneath.slot_arena.specs.declared.nodes.Prev.{Pre
 use Rattle.machine_model.specs.Beneath.slot_arena.specs.declared.nodes.Prev.TheVariants as prev
 use Rattle.machine_model.specs.Beneath.slot_arena.specs.declared.nodes.Slot.{Slot}
 use Rattle.machine_model.specs.Beneath.slot_arena.specs.Refs.{slot_of}
-use Rattle.machine_model.specs.Beneath.slot_arena.specs.Heaps.{Heap, main_at, main_changed, main_of, next_ref, no_ref, node_of, prev_changed, prev_of, stored, take_from, taken}
+use Rattle.machine_model.specs.Beneath.slot_arena.specs.Heaps.{Heap, main_at, main_changed, main_of, next_ref, node_of, prev_changed, prev_of, stored, take_from, taken}
 use Rattle.machine_model.specs.Beneath.slot_arena.specs.Heaps.{with_main, with_main_word, with_prev, written}
 use Rattle.machine_model.specs.declared.actions.Action.{Action}
 use Rattle.machine_model.specs.declared.actions.Action.TheVariants as act
 use Rattle.machine_model.specs.declared.operations.Operation.{Operation}
 use Rattle.machine_model.specs.declared.roots.Descriptor.{Descriptor}
-use Rattle.machine_model.specs.declared.roots.Root.{Root}
 use Rattle.machine_model.specs.declared.steps.Outcome.{Outcome}
 use Rattle.machine_model.specs.declared.steps.Step.TheVariants as step
 use Rattle.machine_model.specs.Calls.{handle_of}
@@ -34,7 +32,6 @@ use Rattle.machine_model.specs.Reading.{Verdict, Commits, Fails, Overtaken, verd
 use Rattle.machine_model.specs.Operations.{action_of}
 use Rattle.machine_model.specs.Acting.{acted, carried_out, decided, ended, gone, if_changed, marked, new_root_taken, opened, opened_root, operation_after}
 use Rattle.machine_model.specs.Moves.{Moves, Begins, Ends, GivesUp, Goes, Sweeps}
-use Rattle.machine_model.specs.Machine.{next}
 use Rattle.machine_model.specs.Words.{ChangesNoOther, IsNextFree, NamesMain, NamesPrev, NamesRoot, NamesSlot, StepsChangeOneWord, content_in, content_of, in_slot, main_in, prev_in, with_mark}
 use Rattle.machine_model.proofs.Actors.{after_marks, go_counts, gone_actors, marks_by}
 use Rattle.machine_model.proofs.HeapMoves.{aborted_heap, offered_heap, completed_heap}

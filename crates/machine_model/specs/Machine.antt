@@ -298,6 +298,10 @@ taken_steps limits steps = taken_from (first_state limits) steps
 abbrev pub longest_life : ℕ
 longest_life = 2 ^ 45 - 2 ^ 21
 
--- the bounds are in range: of slots and of steps there may be any number
+-- how many actors a program's machine has at most
+abbrev pub most_actors : ℕ
+most_actors = 64
+
+-- the bounds are in range: of slots and of steps there may be any number, and up to 255 actors
 abbrev pub AreBounds : Bounds → Type 0
-AreBounds limits = (2 ≤ limits.slots) × (1 ≤ limits.actors) × (limits.actors ≤ 64)
+AreBounds limits = (2 ≤ limits.slots) × (1 ≤ limits.actors) × (limits.actors ≤ 255)

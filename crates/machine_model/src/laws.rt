@@ -3,6 +3,7 @@
 ghost use Rattle.machine_model.specs.Laws.{SlotsAddUp, RefusedForWantAlone, GivingUpIsFindingNone, BeginsReserveFree, LeastIsChosen, ReadersMakeNothing, TakenStepsSuffice};
 ghost use Rattle.machine_model.specs.Lasting.{LifeChangesNothing};
 ghost use Rattle.machine_model.specs.Reads.{EachEmbeds, StepsOfReads};
+ghost use Rattle.machine_model.specs.Words.{StepsChangeOneWord, StepsReadOneWord};
 ghost use Rattle.machine_model.specs.Taking.{OneSlotAStep, ReadersNeverRefused};
 
 /// A law: the slots in use and the free ones are all slots.
@@ -67,4 +68,15 @@ pub fn each_embeds()
 /// line alone.
 pub fn steps_of_reads()
     ensures { StepsOfReads }
+{}
+
+/// A law: what an operation's next step does depends on contents of nodes alone, and what becomes of the operation on
+/// the one word besides that the step names.
+pub fn steps_read_one_word()
+    ensures { StepsReadOneWord }
+{}
+
+/// A law: a step of an operation changes the words alone that its action names.
+pub fn steps_change_one_word()
+    ensures { StepsChangeOneWord }
 {}

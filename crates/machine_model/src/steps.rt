@@ -20,7 +20,7 @@ pub struct Limits {
 pub struct Bounds {
     /// The number of slots, 2 to 1,048,576.
     pub slots: u32,
-    /// The number of actors.
+    /// The number of actors, 1 to 255; a machine of a program has 64 at most.
     pub actors: u8,
     /// The hash of keys.
     pub hash: HashKind,
