@@ -56,6 +56,10 @@ module _ (limits : Bounds) (steps : List Step) (ok : AreBounds limits) (keys : K
   pub fit : KeysFit (began limits steps actor call)
   fit = All-push FitsKey steps (Begin actor call None) keys can.fits
 
+  -- it has few actors
+  few_actors : limits.actors ≤ 64
+  few_actors = let same = ap (λ (b : Bounds). b.actors) (limits_along limits steps) in omega (arith, same, can.of_run.actors)
+
   -- as many steps are left as it takes
   left : (run limits (began limits steps actor call)).steps + most_steps_alone ≤ limits.steps
   left =
@@ -66,7 +70,7 @@ module _ (limits : Bounds) (steps : List Step) (ok : AreBounds limits) (keys : K
   left_one = omega (arith, left)
 
   pub alone : IsOnKeyOrRoot call → RunsAlone limits (began limits steps actor call) actor own
-  alone on = record { limits_ok = ok; keys_fit = fit; runs = runs; call = on; left = left }
+  alone on = record { limits_ok = ok; keys_fit = fit; runs = runs; call = on; left = omega (arith, left, few_actors) }
 
   -- ---- its end
 
@@ -81,7 +85,7 @@ module _ (limits : Bounds) (steps : List Step) (ok : AreBounds limits) (keys : K
   closes closing = (closes_end limits (began limits steps actor call) actor own runs closing left_one).0
 
   leads_by : IsOnKeyOrRoot call ⊎ (is_close call ≡ true) → LeadsToEnd
-  leads_by (inl on) = let (n, few, goes, last) = each_step_leads_to_its_end limits (began limits steps actor call) actor own (alone on) in record { at = n; few = few; goes = goes; ends = last }
+  leads_by (inl on) = let (n, few, goes, last) = each_step_leads_to_its_end limits (began limits steps actor call) actor own (alone on) in record { at = n; few = omega (arith, few, few_actors); goes = goes; ends = last }
   leads_by (inr closing) = record {
     at = 0;
     few = omega arith;

@@ -2,7 +2,7 @@
 use Rattle.std.proofs.Common.{◌≡◌, ℕ, ◌+◌, ◌*◌, ◌≤◌, false, length, List, [], ◌∷◌, ◌++◌, Option, Some, None, Ok, refl, sym, ap, ◌∙◌, subst, arith, leb-false, map}
 use Rattle.proof_core.specs.Vocabulary.{Call, Ref, Node, Action, Operation, Bounds, Outcome, Step, handle_of, Heap, empty_branch, with_main, with_prev, taken, take_from, freed, ref_to, Indirection}
 use Rattle.proof_core.specs.Vocabulary.{State, empty_heap, first_state, action_of, Prev, Reclaimer, ripe, sweep_by, acted, new_root_taken, attempt_after, operation_after, next, next_state}
-use Rattle.proof_core.specs.Vocabulary.{state_after, is_spent, begin_denial, go_denial, with_begin, pin_of, reclaimer_of, run, run_from, AreBounds, longest_life, most_slots, Begins, Ends, Sweeps}
+use Rattle.proof_core.specs.Vocabulary.{state_after, is_spent, begin_denial, go_denial, with_begin, pin_of, reclaimer_of, run, run_from, AreBounds, longest_life, most_actors, most_slots, Begins, Ends, Sweeps}
 use Rattle.proof_core.specs.Vocabulary.{Moves, begun_operation, FitsKey}
 use Rattle.proof_core.specs.Beneath.machine_model.specs.declared.actions.Action.TheVariants as act
 use Rattle.proof_core.specs.Beneath.machine_model.specs.declared.steps.Step.TheVariants as step
@@ -265,6 +265,7 @@ run_on state s fits h =
       is = ap (λ x. next_state x s) h.is ∙ sym (run_push (first_state state.limits) h.steps s) ∙ ap (λ l. run l (h.steps ++ s ∷ [])) (sym same);
       limits = subst (λ l. AreBounds l) (sym same) h.limits;
       few = subst (λ (l : Bounds). l.slots ≤ most_slots) (sym same) h.few;
+      actors = subst (λ (l : Bounds). l.actors ≤ most_actors) (sym same) h.actors;
       life = subst (λ (l : Bounds). l.steps ≤ longest_life) (sym same) h.life;
       keys = All-push FitsKey h.steps s h.keys fits;
     }
@@ -280,8 +281,9 @@ first_run limits state ok e = record {
   steps = [];
   is = e ∙ ap first_state (sym (ap (λ x. x.limits) e));
   limits = subst (λ l. AreBounds l) (sym (ap (λ x. x.limits) e)) ok.0;
-  few = subst (λ (l : Bounds). l.slots ≤ most_slots) (sym (ap (λ x. x.limits) e)) ok.2;
-  life = subst (λ (l : Bounds). l.steps ≤ longest_life) (sym (ap (λ x. x.limits) e)) ok.1;
+  few = subst (λ (l : Bounds). l.slots ≤ most_slots) (sym (ap (λ x. x.limits) e)) ok.3;
+  actors = subst (λ (l : Bounds). l.actors ≤ most_actors) (sym (ap (λ x. x.limits) e)) ok.1;
+  life = subst (λ (l : Bounds). l.steps ≤ longest_life) (sym (ap (λ x. x.limits) e)) ok.2;
   keys = All-nil FitsKey;
 }
 

@@ -88,7 +88,7 @@ some_root (Some root) e = (root, refl)
 -- no more run on a handle than there are actors
 pub few_run : (numbers : Numbers) (state : State) (handle : ℕ) → IsOfRun state → KnowsNumbers numbers state → running_on numbers handle < 255
 few_run numbers state handle h known =
-    omega (arith, known.running handle, count_by-le-length (names handle) state.actors, (sizes state h).1, h.limits.2)
+    omega (arith, known.running handle, count_by-le-length (names handle) state.actors, (sizes state h).1, h.actors)
 
 module _ (numbers : Numbers) (state : State) (actor : ℕ) (call : Call) (h : IsOfRun state) (d : begin_denial state actor call None ≡ None) (known : KnowsNumbers numbers state) where
   abbrev operation : Operation

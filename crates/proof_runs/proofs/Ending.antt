@@ -26,7 +26,7 @@ use Rattle.proof_runs.specs.Machines.{Taken, past_of, state_of, with_step, Appli
 use Rattle.proof_runs.specs.Callers.{after_go, going_on, Resumes, Completes, CompletesUnless}
 use Rattle.proof_runs.specs.Ending.{EndsIfSure, EndsIn, IsAnswer, IsNearer, IsSure}
 use Rattle.proof_obstruction_free.specs.Calls.{slots_of}
-use Rattle.proof_runs.proofs.Bounds.{in_bounds}
+use Rattle.proof_runs.proofs.Bounds.{few_actors, in_bounds}
 use Rattle.proof_runs.proofs.Going.{goes, ends}
 
 -- one step more of the same
@@ -136,11 +136,13 @@ module _ (machine : Taken) (actor : ℕ) where
         (n : ℕ) × (n < most_steps_alone) × ((k : ℕ) → k < n → GoesOnAt (bounded machine.limits) machine.steps actor k) × EndsAt (bounded machine.limits) machine.steps actor operation.id n
 
     alone_facts : IsOnKeyOrRoot operation.call → RunsAlone (bounded machine.limits) machine.steps actor operation
-    alone_facts call = record { limits_ok = in_bounds machine.limits sizes; keys_fit = keys; runs = runs; call = call; left = steps_left }
+    alone_facts call = record { limits_ok = in_bounds machine.limits sizes; keys_fit = keys; runs = runs; call = call; left = omega (arith, steps_left, few_actors machine.limits sizes) }
 
     -- each of its steps goes on, and the last one ends it
     leads : IsOnKeyOrRoot operation.call ⊎ (is_close operation.call ≡ true) → LeadsToEnd
-    leads (inl call) = law (bounded machine.limits) machine.steps actor operation (alone_facts call)
+    leads (inl call) =
+        let (n, few, on, last) = law (bounded machine.limits) machine.steps actor operation (alone_facts call) in
+        (n, omega (arith, few, few_actors machine.limits sizes), on, last)
     leads (inr closing) =
         let ends_now = (closes (bounded machine.limits) machine.steps actor operation runs closing (omega (arith, steps_left))).0 in
         let last = alone_after (bounded machine.limits) machine.steps actor 1 in

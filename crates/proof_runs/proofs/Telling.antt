@@ -124,7 +124,7 @@ pub record Tells (before after : Taken) (actor : ℕ) (call : Call) (answer : Re
 -- what the begin tells runs then
 pub begun_runs : (state after : State) (past now : Record) (actor : ℕ) (call : Call) (opens : Option ℕ) → Books state past → Books after now →
     now.events ≡ past.events ++ Begin state.begun actor call opens ∷ [] → (operation : Operation) × (operation_of after actor ≡ Some operation) × (operation.id ≡ state.begun)
-begun_runs state after past now actor call opens before None books told =
+begun_runs state after past now actor call opens before books told =
     let id = state.begun in
     let at : BeginsAt now.events (length past.events) id (record { actor = actor; call = call; opens = opens }) =
     subst (λ h. slice_get h (length past.events) ≡ Some (Begin id actor call opens)) (sym told) (get_at_end past.events (Begin id actor call opens)) in
@@ -150,7 +150,7 @@ tells n before after actor call answer goes o state e =
     let told : (past_of middle).events ≡ (past_of before).events ++ Begin id actor call opens ∷ [] =
     ap (λ (r : Record). r.events) (noted_step before (step.Begin actor call None) o state e) in
     let (operation, runs, same) =
-    begun_runs (state_of before) (state_of middle) (past_of before) (past_of middle) actor call opens (books_of (bounded before.limits) before.steps) None
+    begun_runs (state_of before) (state_of middle) (past_of before) (past_of middle) actor call opens (books_of (bounded before.limits) before.steps)
     (books_of (bounded middle.limits) middle.steps) told in
     record {
       id = id;
