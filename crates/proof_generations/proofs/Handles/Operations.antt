@@ -1,11 +1,11 @@
 -- Handles: that of a running operation is open and of its kind, and the number that an operation is to open is its own and names no open handle until it is marked.
-use Rattle.std.proofs.Common.{◌≡◌, ℕ, zero, suc, ◌+◌, ◌≤◌, Bool, true, false, cond, nat_le, is_some, inl, inr, ◌⊎◌, List, ◌∷◌, set, get_or, Option, Some, None, unwrap_or, refl}
-use Rattle.std.proofs.Common.{sym, ap, ◌∙◌, subst, eq-eqb, add-one, arith, []}
+use Rattle.std.proofs.Common.{◌≡◌, ℕ, zero, suc, ◌≤◌, Bool, true, false, cond, is_some, inl, inr, ◌⊎◌, List, ◌∷◌, set, get_or, Option, Some, None, unwrap_or, refl}
+use Rattle.std.proofs.Common.{sym, ap, ◌∙◌, subst, eq-eqb, arith, []}
 use Rattle.std.specs.List.{list_any}
 use Rattle.std.proofs.lemmas.Bool.{true≢false, false≢true, cond_both, or_parts}
-use Rattle.std.proofs.lemmas.Option.{none-some, same_Some}
-use Rattle.proof_generations.specs.Vocabulary.{Access, Writable, Call, Operation, Descriptor, Root, Bounds, Outcome, Step, handle_of, is_close, opens_handle, State, first_state, root_at, word_of}
-use Rattle.proof_generations.specs.Vocabulary.{word_at, operation_of, handle_limit, action_of, line_action, line_after, operation_after, gone, mark_after, begin_denial, handle_closed, access_of}
+use Rattle.std.proofs.lemmas.Option.{none-some}
+use Rattle.proof_generations.specs.Vocabulary.{Access, Writable, Call, Operation, Descriptor, Root, Bounds, Outcome, Step, handle_of, is_close, State, first_state, root_at, word_of}
+use Rattle.proof_generations.specs.Vocabulary.{word_at, operation_of, action_of, line_action, line_after, operation_after, gone, mark_after, begin_denial, handle_closed, access_of}
 use Rattle.proof_generations.specs.Vocabulary.{runs_on, is_taken, is_number, reserved_by, Begins, Ends, Sweeps, GivesUp, Moves, GoesOn}
 use Rattle.proof_generations.specs.Vocabulary.{begun_operation, IsRun, is_carried_out, gave_up, Reply}
 use Rattle.proof_generations.specs.Beneath.machine_model.specs.declared.steps.Step.TheVariants as step
@@ -89,7 +89,7 @@ pub record Ran (state : State) (s : Step) (k : ℕ) (found : Operation) : Type 0
 module _ (state : State) (I : HasOffers state) (H : HasHandles state) where
   ran_so : (s : Step) (k : ℕ) (was next found : Operation) → Runs state k was → next.id ≡ was.id → next.call ≡ was.call → next.access ≡ was.access → next.opens ≡ was.opens →
       ((next.line ≡ was.line) ⊎ (((s ≡ step.Go (suc k)) × (next.line ≡ line_after state was was.line)) ⊎ ((answer : Reply) × (next.line ≡ line.End answer)))) → (next.is_marked ≡ false →
-          was.is_marked ≡ false) →
+      was.is_marked ≡ false) →
       found ≡ mark_one (marks_in state s) next → Ran state s k found
   ran_so s k was next found at_k id call access opening from unmarked it =
       let same = it ∙ mark_only (marks_in state s) next in

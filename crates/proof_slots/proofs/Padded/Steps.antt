@@ -4,10 +4,10 @@ use Rattle.std.proofs.Common.{refl, ap, ◌∙◌}
 use Rattle.proof_slots.specs.Vocabulary.{Refusal, Writable, ReadOnly, Call, Ref, Heap, generation_at, generation_of, node_at, Zeroed, ripe, is_passed, scanned, advanced, sweep_by, Operation, Action}
 use Rattle.proof_slots.specs.Vocabulary.{Read, Carried, Progress, Publication, Outcome, Step, handle_of, opens_handle, is_close, needs_writable, needs_read_only, State, handle_limit, root_at}
 use Rattle.proof_slots.specs.Vocabulary.{operation_of, word_at, with_root, with_operation, is_carried_out, outside, settled, action_of, kind_of, read_of, gone, Answer, next, next_state, state_after}
-use Rattle.proof_slots.specs.Vocabulary.{is_taken_step, is_spent, is_taken, taken_below, least_from, lacks_number, settled_after, begin_denial, begin_unless, begun_operation, with_begin, give_up_by, give_up_on}
-use Rattle.proof_slots.specs.Vocabulary.{give_up_unless, given_up, gave_up, Reply, access_of, first_reason, is_actor, is_running, is_access, runs_on, go_denial, go_unless, go_on, step_by, pin_of}
-use Rattle.proof_slots.specs.Vocabulary.{reclaimer_of, swept, swept_with, Record, noted, next_record, told_in, told_of, told_by, begin_told, committed_in, committed_now, given_by, given_in}
-use Rattle.proof_slots.specs.Vocabulary.{given_now, counts_from, published_by, carried_by, progress_of}
+use Rattle.proof_slots.specs.Vocabulary.{is_taken_step, is_spent, is_taken, taken_below, least_from, lacks_number, settled_after, begin_denial, begin_unless, begun_operation, with_begin, give_up_by}
+use Rattle.proof_slots.specs.Vocabulary.{give_up_on, give_up_unless, given_up, gave_up, Reply, access_of, first_reason, is_actor, is_running, is_access, runs_on, go_denial, go_unless, go_on}
+use Rattle.proof_slots.specs.Vocabulary.{step_by, pin_of, reclaimer_of, swept, swept_with, Record, noted, next_record, told_in, told_of, told_by, begin_told, committed_in, committed_now, given_by}
+use Rattle.proof_slots.specs.Vocabulary.{given_in, given_now, counts_from, published_by, carried_by, progress_of}
 use Rattle.proof_slots.specs.Beneath.ctrie_base.specs.declared.refusals.Refusal.TheVariants as refuse
 use Rattle.proof_slots.specs.Beneath.epochs.specs.declared.limbo.Swept.TheVariants as sweeping
 use Rattle.machine_model.specs.declared.actions.Action.TheVariants as act
