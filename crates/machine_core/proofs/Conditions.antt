@@ -24,7 +24,7 @@ use Rattle.machine_core.specs.Beneath.rdcss_root.specs.declared.root.ReadRoot.Th
 use Rattle.machine_core.specs.Beneath.rdcss_root.specs.Holding.{IsReady}
 use Rattle.machine_core.specs.Beneath.rdcss_root.specs.Programs.{CanCompleteAt, CanRootOn, ReadsItsRoot, ReadsOffered, complete_line_at, root_of}
 use Rattle.machine_core.specs.Beneath.rdcss_root.specs.Tables.{Table}
-use Rattle.machine_core.specs.Beneath.root_asking.specs.Inside.{completing_at, rooting_at, swapping_at, with_read}
+use Rattle.machine_core.specs.Beneath.machine_model.specs.Reads.{completing_at, rooting_at, swapping_at, with_read}
 use Rattle.machine_core.specs.Beneath.operate.specs.Beneath.key_change.specs.declared.change.ChangeAt.{ChangeAt}
 use Rattle.machine_core.specs.Beneath.operate.specs.Beneath.key_change.specs.declared.change.ChangeAt.TheVariants as change
 use Rattle.machine_core.specs.Beneath.operate.specs.Beneath.key_change.specs.Lines.{line_at as change_at}

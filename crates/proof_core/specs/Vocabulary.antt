@@ -32,7 +32,7 @@ pub use Rattle.proof_core.specs.Beneath.machine_model.specs.Counting.{outside, r
 pub use Rattle.proof_core.specs.Beneath.machine_model.specs.Grown.{node_under}
 pub use Rattle.proof_core.specs.Beneath.machine_model.specs.Keys.{FitsKey, KeysFit}
 pub use Rattle.proof_core.specs.Beneath.machine_model.specs.Machine.{Answer, AreBounds, begin_denial, begun_operation, go_denial, handle_closed, handles_taken, is_number, is_running, is_spent}
-pub use Rattle.proof_core.specs.Beneath.machine_model.specs.Machine.{is_taken, is_taken_step, least_free, longest_life, names, next_state, pin_of, reclaimer_of, reserved_by, run, runs_on}
+pub use Rattle.proof_core.specs.Beneath.machine_model.specs.Machine.{is_taken, is_taken_step, least_free, longest_life, most_actors, names, next_state, pin_of, reclaimer_of, reserved_by, run, runs_on}
 pub use Rattle.proof_core.specs.Beneath.machine_model.specs.Machine.{state_after, with_begin}
 unfoldable pub use Rattle.proof_core.specs.Beneath.machine_model.specs.Machine.{least_from, next, run_from, taken_below}
 pub use Rattle.proof_core.specs.Beneath.machine_model.specs.Moves.{Begins, Ends, GoesOn, Moves, Sweeps}

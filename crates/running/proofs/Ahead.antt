@@ -6,7 +6,7 @@ use Rattle.running.specs.Beneath.machine_model.specs.declared.lines.Line.TheVari
 use Rattle.running.specs.Beneath.machine_model.specs.declared.reading.SwapLine.TheVariants as swap
 use Rattle.running.specs.Beneath.root_asking.specs.declared.asking.Asking.{Asking}
 use Rattle.running.specs.Beneath.root_asking.specs.declared.asking.Asking.TheVariants.{Unasked, Met, Told}
-use Rattle.running.specs.Beneath.root_asking.specs.Inside.{swapping_at, with_read}
+use Rattle.running.specs.Beneath.machine_model.specs.Reads.{swapping_at, with_read}
 use Rattle.running.specs.declared.job.Program.{Program}
 use Rattle.running.specs.declared.programs.Programs.{Programs}
 use Rattle.running.specs.declared.programs.ProgramAt.{ProgramAt}

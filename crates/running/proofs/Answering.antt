@@ -6,7 +6,7 @@ use Rattle.running.specs.Beneath.machine_model.specs.declared.lines.Line.TheVari
 use Rattle.running.specs.Beneath.gcas.specs.declared.read.Read.{Read}
 use Rattle.running.specs.Beneath.root_asking.specs.declared.asking.Asking.{Asking}
 use Rattle.running.specs.Beneath.root_asking.specs.declared.asking.Asking.TheVariants.{Unasked, Met, Told}
-use Rattle.running.specs.Beneath.root_asking.specs.Inside.{with_read}
+use Rattle.running.specs.Beneath.machine_model.specs.Reads.{with_read}
 use Rattle.snapshot.specs.declared.copy_op.Making.TheVariants as making
 use Rattle.snapshot.specs.declared.copy_op.CopyAt.{CopyAt}
 use Rattle.snapshot.specs.declared.copy_op.CopyAt.TheVariants as at

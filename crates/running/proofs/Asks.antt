@@ -24,8 +24,8 @@ use Rattle.running.specs.Beneath.rdcss_root.specs.Programs.{table_after_abort}
 use Rattle.running.specs.Beneath.root_asking.specs.declared.asking.Asking.{Asking}
 use Rattle.running.specs.Beneath.root_asking.specs.declared.asking.Asking.TheVariants.{Unasked, Met, Told}
 use Rattle.running.specs.Beneath.root_asking.specs.Asked.{AsksOn, IsUntold, abort_of, ask_action, asked_at, asked_line, asked_read}
-use Rattle.running.specs.Beneath.root_asking.specs.Inside.{rooting_at, with_read}
-use Rattle.running.specs.Beneath.root_asking.proofs.Embedding.{each_embeds}
+use Rattle.running.specs.Beneath.machine_model.specs.Reads.{rooting_at, with_read}
+use Rattle.running.specs.Beneath.machine_model.proofs.Embedding.{each_embeds}
 use Rattle.snapshot.specs.Tasks.{drawn_by, with_generation}
 use Rattle.snapshot.specs.declared.tasks.WalkCall.TheVariants.{Entries, Count}
 use Rattle.running.specs.declared.job.Job.{Job}

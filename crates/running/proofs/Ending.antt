@@ -7,7 +7,7 @@ use Rattle.running.specs.Beneath.machine_model.specs.declared.actions.Action.The
 use Rattle.running.specs.Beneath.machine_model.specs.declared.lines.Line.TheVariants as line
 use Rattle.running.specs.Beneath.root_asking.specs.declared.asking.Asking.{Asking}
 use Rattle.running.specs.Beneath.root_asking.specs.declared.asking.Asking.TheVariants.{Unasked, Met, Told}
-use Rattle.running.specs.Beneath.root_asking.specs.Inside.{with_read}
+use Rattle.running.specs.Beneath.machine_model.specs.Reads.{with_read}
 use Rattle.running.specs.declared.job.Job.{Job}
 use Rattle.running.specs.declared.job.Program.{Program}
 use Rattle.running.specs.declared.programs.Programs.{Programs}

@@ -7,7 +7,7 @@ use Rattle.running.specs.Beneath.trie_parts.specs.Steps.{IsAskingLine}
 use Rattle.running.specs.Beneath.rdcss_root.specs.declared.complete.CompleteAt.{CompleteAt}
 use Rattle.running.specs.Beneath.rdcss_root.specs.declared.complete.CompleteAt.TheVariants as complete
 use Rattle.running.specs.Beneath.rdcss_root.specs.declared.root.ReadRoot.TheVariants as rooting
-use Rattle.running.specs.Beneath.root_asking.specs.Inside.{with_read}
+use Rattle.running.specs.Beneath.machine_model.specs.Reads.{with_read}
 use Rattle.snapshot.specs.declared.copy_op.Making.TheVariants as making
 use Rattle.snapshot.specs.declared.copy_op.CopyOp.{CopyOp as ACopyOp}
 use Rattle.snapshot.specs.declared.copy_op.CopyAt.{CopyAt}

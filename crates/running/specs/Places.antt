@@ -12,7 +12,7 @@ use Rattle.running.specs.Beneath.trie_parts.specs.Tasks.{call_of as key_call}
 use Rattle.running.specs.Beneath.rdcss_root.specs.Tables.{Table}
 use Rattle.running.specs.Beneath.root_asking.specs.declared.asking.Asking.{Asking}
 use Rattle.running.specs.Beneath.root_asking.specs.declared.asking.Asking.TheVariants.{Unasked, Met, Told}
-use Rattle.running.specs.Beneath.root_asking.specs.Inside.{with_read}
+use Rattle.running.specs.Beneath.machine_model.specs.Reads.{with_read}
 use Rattle.operate.specs.Places.{key_line}
 use Rattle.operate.specs.Steps.{line_behind as line_answered, ReadsKey}
 use Rattle.snapshot.specs.declared.tasks.CopyCall.{CopyCall}

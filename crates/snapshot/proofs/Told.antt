@@ -6,7 +6,7 @@ use Rattle.snapshot.specs.Beneath.gcas.specs.Reads.{line_of}
 use Rattle.snapshot.specs.Beneath.rdcss_root.specs.declared.complete.CompleteAt.{CompleteAt}
 use Rattle.snapshot.specs.Beneath.rdcss_root.specs.declared.complete.CompleteAt.TheVariants as complete
 use Rattle.snapshot.specs.Beneath.rdcss_root.specs.declared.root.ReadRoot.TheVariants as rooting
-use Rattle.root_asking.specs.Inside.{with_read}
+use Rattle.snapshot.specs.Beneath.machine_model.specs.Reads.{with_read}
 use Rattle.snapshot.specs.declared.copy_op.Making.TheVariants as making
 use Rattle.snapshot.specs.declared.copy_op.CopyAt.{CopyAt}
 use Rattle.snapshot.specs.declared.copy_op.CopyAt.TheVariants as at
