@@ -4,10 +4,9 @@ use Rattle.std.proofs.Common.{sym, ap, ◌∙◌, subst, eq-eqb, arith, []}
 use Rattle.std.specs.List.{list_any}
 use Rattle.std.proofs.lemmas.Bool.{true≢false, false≢true, cond_both, or_parts}
 use Rattle.std.proofs.lemmas.Option.{none-some}
-use Rattle.proof_generations.specs.Vocabulary.{Access, Writable, Call, Operation, Descriptor, Root, Bounds, Outcome, Step, handle_of, is_close, State, first_state, root_at, word_of}
-use Rattle.proof_generations.specs.Vocabulary.{word_at, operation_of, action_of, line_action, line_after, operation_after, gone, mark_after, begin_denial, handle_closed, access_of}
-use Rattle.proof_generations.specs.Vocabulary.{runs_on, is_taken, is_number, reserved_by, Begins, Ends, Sweeps, GivesUp, Moves, GoesOn}
-use Rattle.proof_generations.specs.Vocabulary.{begun_operation, IsRun, is_carried_out, gave_up, Reply}
+use Rattle.proof_generations.specs.Vocabulary.{Access, Writable, Call, Operation, Descriptor, Root, Bounds, Outcome, Step, handle_of, is_close, State, first_state, root_at, word_of, word_at}
+use Rattle.proof_generations.specs.Vocabulary.{operation_of, action_of, line_action, line_after, operation_after, gone, mark_after, begin_denial, handle_closed, access_of, runs_on, is_taken}
+use Rattle.proof_generations.specs.Vocabulary.{is_number, reserved_by, Begins, Ends, Sweeps, GivesUp, Moves, GoesOn, begun_operation, IsRun, is_carried_out, gave_up, Reply}
 use Rattle.proof_generations.specs.Beneath.machine_model.specs.declared.steps.Step.TheVariants as step
 use Rattle.proof_generations.specs.Beneath.machine_model.specs.Moves.{Goes}
 use Rattle.proof_generations.specs.Beneath.machine_model.proofs.Actors.{mark_one, mark_only, marks_in, marks_by, marks_of}
