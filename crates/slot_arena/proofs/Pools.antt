@@ -2,7 +2,7 @@
 use Rattle.std.proofs.Common.{◌≡◌, ℕ, zero, suc, ◌+◌, ◌<◌, ◌==◌, Bool, true, false, cond, List, [], ◌∷◌, ◌++◌, length, get_or, set, map, replicate}
 use Rattle.std.proofs.Common.{count_by, Option, Some, None, refl, sym, ap, ◌∙◌, subst, inl, inr, arith}
 use Rattle.std.proofs.lemmas.Bool.{cases_eq, cases_lt}
-use Rattle.std.proofs.lemmas.List.{get_or-set_same, get_or-set_other, get_or_push, length_push, length-map, length-replicate, length-set, map-set}
+use Rattle.std.proofs.lemmas.List.{get_or-set_same, get_or-set_other, get_or_push, length_push, length-map, length-set, map-set}
 use Rattle.std.proofs.lemmas.List.Sums.{sum_by-cons, sum_by-set, get_or-le-sum_by, count_by-le-length}
 use Rattle.std.specs.Prelude.{option_map}
 use Rattle.arrayvec.specs.ArrayVec.{ArrayVec}
