@@ -1,6 +1,6 @@
 //! A call about one shard, made while another seat stands inside of its call about another one.
 
-ghost use Rattle.std.specs.Prelude.{◌%◌, Some, ⊤};
+ghost use Rattle.std.specs.Prelude.{if◌then◌else◌, nat_lt, None, Some, ⊤};
 ghost use Rattle.gate.specs.Seats.{IsSeatOf};
 
 use sharded_gate::{Sharded, ShardedGate, ShardedSeat, Shards};
@@ -23,7 +23,7 @@ const ANSWERED: u64 = 2;
 /// How far the two seats are.
 type Stage = Arc<AtomicU64, Global>;
 
-/// A room. Who calls the first one stays there until another seat was answered.
+/// A room. Who calls the first one stays there until another seat was answered. What is about no room is about all.
 #[derive(Drop)]
 struct Room {
     stage: Stage,
@@ -32,10 +32,13 @@ struct Room {
 impl Sharded<usize, bool> for Room {
     ghost answers = { λ _ _ _ _ _. ⊤ };
 
-    ghost about = { λ rooms room. Some (room % rooms) };
+    ghost about = { λ rooms room. if nat_lt room rooms then Some room else None };
 
     fn shard_about(room: &usize, rooms: usize) -> Option<usize> {
-        Some(*room % rooms)
+        if *room < rooms {
+            return Some(*room);
+        }
+        None
     }
 
     fn perform(&mut self, _seat: u8, room: usize) -> bool {

@@ -117,7 +117,7 @@ fn a_refused_growth_is_made_good(rt: HostRuntime) {
     }
 }
 
-/// The seat's call ends, or it runs none. After each of its further steps but its last it is told how many of them were taken.
+/// The seat's call ends, or it runs none. What it is told between its further steps goes up by one from 1.
 fn go_on(rt: &(impl Abort + Wait + Print), runner: &Runner, seat: &mut Seat)
     requires { IsSeatOf runner.now seat.old }
     ensures { IsSeatOf runner.now seat.new }
