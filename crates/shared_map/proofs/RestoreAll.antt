@@ -1,5 +1,5 @@
 -- A restore in all shards is one of the whole.
-use Rattle.std.proofs.Common.{◌≡◌, ◌≢◌, ◌⊎◌, inl, inr, ℕ, ◌≤◌, ◌*◌, Bool, true, false, ◌&&◌, not, nat_eq, nat_le, nat_lt, if◌then◌else◌}
+use Rattle.std.proofs.Common.{◌≡◌, ◌≢◌, ◌⊎◌, inl, inr, ℕ, ◌≤◌, ◌*◌, Bool, true, false, ◌&&◌, not, nat_eq, nat_le, if◌then◌else◌}
 use Rattle.std.proofs.Common.{List, [], ◌∷◌, length, map, Option, Some, None, option_map, Result, Ok, Err}
 use Rattle.std.proofs.Common.{refl, sym, ap, ap₂, subst, ◌∙◌, arith}
 use Rattle.std.specs.FinMap as maps
@@ -271,7 +271,7 @@ module _ (hash : HashKind) (s t : MapState) (hash_is : s.core.limits.hash ≡ ha
   not_full_one done (shown, writable, at, becomes) apart life tells full =
       let room = ap (λ o. denial_by false true o (maps.len (handles_of s))) (sym at) ∙ full.0 in
       let none = ap₂ (λ o p. restore_denial_by o p (not (nat_eq h copy) && nat_le handle_limit (maps.len (handles_of s)))) writable.1 at
-          ∙ open_undenied writable.0 shown (not (nat_eq h copy)) (nat_le handle_limit (maps.len (handles_of s))) room in
+      ∙ open_undenied writable.0 shown (not (nat_eq h copy)) (nat_le handle_limit (maps.len (handles_of s))) room in
       let bad = tells (apart, none, life, full.3) in cc
 
   comes_one : (told : Result (Unit {0}) MapError) → ComesTo s h copy told t →
