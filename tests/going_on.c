@@ -162,7 +162,7 @@ int main(void) {
     static const uint8_t shards[] = {0, 1, 8};
     for (int size = 0; size < 4; size++)
         for (uint32_t hash = 0; hash < 4; hash++)
-            for (uint32_t free = 0; free <= MOST_FREE; free += sizes[size] < 4096 ? 1 : sizes[size] < 65536 ? 5 : 40)
+            for (uint32_t free = 0; free <= MOST_FREE; free += sizes[size] < 65536 ? 1 : 40)
                 for (int kind = 0; kind < 3; kind++) {
                     try_full(shards[kind], sizes[size], hash, free, false);
                     try_full(shards[kind], sizes[size], hash, free, true);
