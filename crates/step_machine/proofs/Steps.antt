@@ -6,6 +6,7 @@ use Rattle.step_machine.specs.Vocabulary.{Bounds, Limits, Step, Outcome, State, 
 use Rattle.machine_model.proofs.Recorded.{record_push}
 use Rattle.chronicle.specs.Chronicled.{Chronicled}
 use Rattle.step_machine.specs.Taking.{HasTaken, TakesAndTells}
+use Rattle.proof_runs.specs.Machines.{Taken, Applied}
 use Rattle.proof_runs.proofs.Steps.{run_with, taken_push, keys_with}
 
 pub holds_after : (limits : Limits) (before after : State) (past now : Chronicled) (steps items : List Step) (s : Step) (o : Outcome) → HasTaken limits steps before past →
@@ -28,6 +29,18 @@ pub holds_roomy : (limits : Limits) (steps items : List Step) (state : State) (p
 holds_roomy limits steps items state past now h same slots is =
     subst (λ xs. HasTaken limits xs state now) (sym is)
     (record { led = h.led; past = same ∙ h.past; slots = slots ∙ h.slots; in_range = h.in_range; taken = h.taken; keys = h.keys })
+
+-- a machine of these sizes that has taken these steps
+abbrev pub machine_of : Limits → List Step → Taken
+machine_of limits steps = record { limits = limits; steps = steps }
+
+-- so a step that was taken is what contracts say of it
+pub taken_applied : (limits : Limits) (before after : State) (steps items : List Step) (s : Step) (o : Outcome) → before ≡ run (bounded limits) steps → next before s ≡ Ok (o, after) →
+    items ≡ steps ++ s ∷ [] → Applied (Ok o) (machine_of limits steps) s (machine_of limits items)
+taken_applied limits before after steps items s o led takes is =
+    let answer : next (run (bounded limits) steps) s ≡ Ok (o, after) = subst (λ state. next state s ≡ Ok (o, after)) led takes in
+    let later : after ≡ run (bounded limits) items = run_with (bounded limits) steps s o after answer ∙ ap (run (bounded limits)) (sym is) in
+    (ap (λ (xs : List Step). machine_of limits xs) is, answer ∙ ap (λ (x : State). Ok (o, x)) later)
 
 -- what one step more leaves and leads to
 pub ruleset one_more = (run_with, holds_after, holds_roomy)

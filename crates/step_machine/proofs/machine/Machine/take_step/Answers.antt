@@ -1,8 +1,9 @@
-use Rattle.std.proofs.Common.{arith, refl}
+use Rattle.std.proofs.Common.{Ok, arith, refl, subst}
+use Rattle.proof_runs.specs.Machines.{Taken, Applied}
 use Rattle.machine_core.specs.Asking.{asked, asked_all}
 use Rattle.step_machine.proofs.Asked.{pushed}
 use Rattle.step_machine.proofs.Feeding.{can_tell}
-use Rattle.step_machine.proofs.Steps.{holds_after, holds_roomy}
+use Rattle.step_machine.proofs.Steps.{holds_after, holds_roomy, taken_applied, machine_of}
 use Rattle.step_machine.proofs.machine.Machine.take_step.Goals as goal
 
 pub take-requires-clause-fits : goal.take-requires-clause-fits
@@ -13,8 +14,15 @@ take-requires-clause-fits c =
 pub invariant_of-self-2 : goal.invariant_of-self-2
 invariant_of-self-2 c =
     holds_after c.self.inside.limits c.self.inside.body.state c.take.new.body.state c.make_room.new.kept c.take.new.kept (asked_all c.self.inside.steps.items)
-        (asked_all c.push_reserved.new.self.items)
+    (asked_all c.push_reserved.new.self.items)
     (asked c.args.step) c.in_ok-outcome.outcome
     (holds_roomy c.self.inside.limits (asked_all c.self.inside.steps.items) (asked_all c.self.inside.steps.items) c.self.inside.body.state c.self.inside.kept c.make_room.new.kept c.self.invariant
     c.make_room.ensures.past c.make_room.ensures.slots refl)
     c.in_ok-outcome.ensures (pushed c.self.inside.steps.items c.push_reserved.new.self.items c.args.step (grind (arith, c.push_reserved.ensures, c.make_room.ensures.steps))) c.fits.ensures
+
+pub returns : goal.returns
+returns c =
+    subst (λ (m : Taken). Applied (Ok c.in_ok-outcome.outcome) m (asked c.args.step) (machine_of c.self.inside.limits (asked_all c.push_reserved.new.self.items))) c.self.view_is (
+    taken_applied c.self.inside.limits c.self.inside.body.state c.take.new.body.state (asked_all c.self.inside.steps.items) (asked_all c.push_reserved.new.self.items) (asked c.args.step)
+    c.in_ok-outcome.outcome c.self.invariant.led c.in_ok-outcome.ensures.0
+    (pushed c.self.inside.steps.items c.push_reserved.new.self.items c.args.step (grind (arith, c.push_reserved.ensures, c.make_room.ensures.steps))))
