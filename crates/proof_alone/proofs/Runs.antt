@@ -2,7 +2,8 @@
 use Rattle.std.specs.Prelude.{◌≡◌, ◌≤◌, List, [], ◌∷◌, ◌++◌, Ok}
 use Rattle.std.proofs.Common.{cond, sym, ap, subst, ◌∙◌}
 use Rattle.std.proofs.lemmas.List.Elements.{All-push}
-use Rattle.proof_alone.specs.Vocabulary.{Bounds, Outcome, Step, FitsKey, KeysFit, AreBounds, longest_life, most_actors, is_taken_step, next, run, state_after, first_record, noted, record_of, State, first_state}
+use Rattle.proof_alone.specs.Vocabulary.{Bounds, Outcome, Step, FitsKey, KeysFit, AreBounds, longest_life, most_actors, is_taken_step, next, run, state_after, first_record, noted}
+use Rattle.proof_alone.specs.Vocabulary.{record_of, State, first_state}
 use Rattle.proof_alone.specs.Vocabulary.{told_in, most_slots}
 use Rattle.proof_alone.specs.Beneath.machine_model.proofs.Along.{limits_along, run_push}
 use Rattle.proof_alone.specs.Beneath.machine_model.proofs.Recorded.{record_push}

@@ -16,7 +16,8 @@ pub use Rattle.proof_alone.specs.Beneath.machine_model.specs.Contents.{content_a
 pub use Rattle.proof_alone.specs.Beneath.machine_model.specs.Counting.{settled}
 pub use Rattle.proof_alone.specs.Beneath.machine_model.specs.Keys.{FitsKey, KeysFit}
 pub use Rattle.proof_alone.specs.Beneath.machine_model.specs.Laws.{FindsNoSlot}
-pub use Rattle.proof_alone.specs.Beneath.machine_model.specs.Machine.{Answer, AreBounds, begin_denial, begin_unless, begun_operation, is_busy, is_taken_step, longest_life, most_actors, next_state, run}
+pub use Rattle.proof_alone.specs.Beneath.machine_model.specs.Machine.{Answer, AreBounds, begin_denial, begin_unless, begun_operation, is_busy, is_taken_step, longest_life, most_actors}
+pub use Rattle.proof_alone.specs.Beneath.machine_model.specs.Machine.{next_state, run}
 pub use Rattle.proof_alone.specs.Beneath.machine_model.specs.Machine.{state_after, with_begin}
 unfoldable pub use Rattle.proof_alone.specs.Beneath.machine_model.specs.Machine.{next}
 pub use Rattle.proof_alone.specs.Beneath.machine_model.specs.Moves.{Begins, Ends, GivesUp, Moves, Sweeps}

@@ -1,6 +1,7 @@
 -- What bounds the numbers of a machine, and what a step that may lack memory comes to.
 use Rattle.std.specs.Prelude.{◌≡◌, ℕ, ◌+◌, ◌*◌, ◌≤◌, ◌⊎◌, true, length, Option, Some, None, Result, Ok, Err}
-use Rattle.proof_core.specs.Vocabulary.{Refusal, Operation, Bounds, Outcome, Step, needs_read_only, State, operation_of, settled, Answer, next, is_taken_step, longest_life, AreBounds, most_actors, most_slots}
+use Rattle.proof_core.specs.Vocabulary.{Refusal, Operation, Bounds, Outcome, Step, needs_read_only, State, operation_of, settled, Answer, next, is_taken_step, longest_life, AreBounds}
+use Rattle.proof_core.specs.Vocabulary.{most_actors, most_slots}
 use Rattle.proof_core.specs.Beneath.ctrie_base.specs.declared.refusals.Refusal.TheVariants as refuse
 
 -- No number outgrows its type: most grow by at most 1 in each step. A step draws a birth or frees a slot, and not both, so about every other one draws a birth.

@@ -2,7 +2,8 @@
 use native.Mathlib.Decide.{ℕ_discrete}
 use Rattle.std.proofs.Common.{◌≡◌, ℕ, List, Some, refl, sym, ap, subst, ◌∙◌, arith}
 use Rattle.std.proofs.lemmas.Option.{none-some, same_Some}
-use Rattle.proof_commits.specs.Vocabulary.{Ref, Operation, Read, ReadLine, SwapLine, Publish, Deciding, Check, Line, Bounds, Step, State, operation_of, read_of, swapping_read, AreBounds, run, states_of}
+use Rattle.proof_commits.specs.Vocabulary.{Ref, Operation, Read, ReadLine, SwapLine, Publish, Deciding, Check, Line, Bounds, Step, State, operation_of, read_of, swapping_read, AreBounds}
+use Rattle.proof_commits.specs.Vocabulary.{run, states_of}
 use Rattle.proof_commits.specs.Vocabulary.{last_of, prev_at}
 use Rattle.proof_commits.specs.Beneath.slot_arena.specs.declared.nodes.Prev.TheVariants as prev
 use Rattle.proof_commits.specs.Beneath.machine_model.specs.declared.lines.Line.TheVariants as line
