@@ -59,8 +59,8 @@ unfolding first_state
 first_alike limits = record { begun_are = refl; moments = length-replicate limits.actors no_moment }
 
 -- at each time of a run
-pub alike : (limits : Bounds) (states : ℕ → State) (last : ℕ) (r : IsRun limits states last) (t : ℕ) → t ≤ last → AreAlike (states t) (r.records t)
-alike limits states last r = at_each_record limits states last r AreAlike (first_alike limits) noted_alike
+pub alike : {limits : Bounds} {states : ℕ → State} {last : ℕ} (r : IsRun limits states last) (t : ℕ) → t ≤ last → AreAlike (states t) (r.records t)
+alike {limits} {states} {last} r = at_each_record r AreAlike (first_alike limits) noted_alike
 
 -- and after each list of steps
 pub alike_along : (limits : Bounds) (steps : List Step) → AreAlike (run limits steps) (record_of limits steps)

@@ -19,12 +19,12 @@ abbrev pub KeptByNotes : (State → Record → Type 0) → Type 0
 KeptByNotes P = (before : State) (past : Record) (s : Step) (o : Outcome) (after : State) → Moves before s o after → P before past →
     P after (noted past before.steps (told_in before s))
 
-pub at_each_record : (limits : Bounds) (states : ℕ → State) (last : ℕ) (r : IsRun limits states last) (P : State → Record → Type 0) →
+pub at_each_record : {limits : Bounds} {states : ℕ → State} {last : ℕ} (r : IsRun limits states last) (P : State → Record → Type 0) →
     P (first_state limits) (first_record limits) → KeptByNotes P → (t : ℕ) → t ≤ last → P (states t) (r.records t)
-at_each_record limits states last r P first keeps zero h =
+at_each_record {limits} {states} {last} r P first keeps zero h =
     subst (λ q. P (states zero) q) (sym r.nothing_recorded) (subst (λ q. P q (first_record limits)) (sym r.first) first)
-at_each_record limits states last r P first keeps (suc t) h =
-    by_turn P keeps (r.turn t h) (r.recorded t h) (at_each_record limits states last r P first keeps t (omega arith))
+at_each_record {limits} {states} {last} r P first keeps (suc t) h =
+    by_turn P keeps (r.turn t h) (r.recorded t h) (at_each_record r P first keeps t (omega arith))
   where
     by_turn : (P : State → Record → Type 0) → KeptByNotes P → {before after : State} {past now : Record} (turn : Turn before after) → now ≡ noted_turn turn past →
         P before past → P after now

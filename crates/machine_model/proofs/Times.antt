@@ -14,26 +14,26 @@ use Rattle.machine_model.proofs.Noted.{notes_along, recorded_of, turn_of}
 pub use Rattle.machine_model.proofs.Noted.{states_from-zero}
 
 -- what holds at first, and is kept by each turn, holds at each time of a run; what was shown before of that time can be used
-pub along_run : (limits : Bounds) (states : ℕ → State) (last : ℕ) → IsRun limits states last → (P : ℕ → Type 0) → P zero →
+pub along_run : {limits : Bounds} {states : ℕ → State} {last : ℕ} → IsRun limits states last → (P : ℕ → Type 0) → P zero →
     ((t : ℕ) → t < last → Turn (states t) (states (suc t)) → P t → P (suc t)) → (t : ℕ) → t ≤ last → P t
-along_run limits states last r P first keeps zero h = first
-along_run limits states last r P first keeps (suc t) h = keeps t h (r.turn t h) (along_run limits states last r P first keeps t (omega arith))
+along_run {limits} {states} {last} r P first keeps zero h = first
+along_run {limits} {states} {last} r P first keeps (suc t) h = keeps t h (r.turn t h) (along_run r P first keeps t (omega arith))
 
 -- an invariant: what holds of the first state and is kept by each move
-pub at_each_time : (limits : Bounds) (states : ℕ → State) (last : ℕ) → IsRun limits states last → (P : State → Type 0) → P (first_state limits) →
+pub at_each_time : {limits : Bounds} {states : ℕ → State} {last : ℕ} → IsRun limits states last → (P : State → Type 0) → P (first_state limits) →
     ((before : State) (s : Step) (o : Outcome) (after : State) → Moves before s o after → P before → P after) → (t : ℕ) → t ≤ last → P (states t)
-at_each_time limits states last r P first keeps =
-    along_run limits states last r (λ t. P (states t)) (subst P (sym r.first) first) (λ t h turn p. by_turn P (states t) (states (suc t)) keeps turn p)
+at_each_time {limits} {states} {last} r P first keeps =
+    along_run r (λ t. P (states t)) (subst P (sym r.first) first) (λ t h turn p. by_turn P (states t) (states (suc t)) keeps turn p)
   where
     by_turn : (P : State → Type 0) (before after : State) → ((before : State) (s : Step) (o : Outcome) (after : State) → Moves before s o after → P before → P after) →
         Turn before after → P before → P after
     by_turn P before after keeps (turns s o m) p = keeps before s o after m p
 
 -- the number of a step is its time
-pub steps_at : (limits : Bounds) (states : ℕ → State) (last : ℕ) → IsRun limits states last → (t : ℕ) → t ≤ last → (states t).steps ≡ t
+pub steps_at : {limits : Bounds} {states : ℕ → State} {last : ℕ} → IsRun limits states last → (t : ℕ) → t ≤ last → (states t).steps ≡ t
 unfolding first_state
-steps_at limits states last r =
-    along_run limits states last r (λ t. (states t).steps ≡ t) (ap (λ (state : State). state.steps) r.first) (λ t h turn e. by_turn (states t) (states (suc t)) t e turn)
+steps_at {limits} {states} {last} r =
+    along_run r (λ t. (states t).steps ≡ t) (ap (λ (state : State). state.steps) r.first) (λ t h turn e. by_turn (states t) (states (suc t)) t e turn)
   where
     by_turn : (before after : State) (t : ℕ) → before.steps ≡ t → Turn before after → after.steps ≡ suc t
     by_turn before after t e (turns s o m) = omega (arith, steps_counted before s o after m, e)

@@ -117,7 +117,7 @@ module _ (limits : Bounds) (steps more : List Step) (ok : AreBounds limits) (id 
 
   apart : AreApart (before.places ++ grown.0)
   apart = subst AreApart (ap (λ (s : Record). s.places) (record_ends limits (steps ++ more)) ∙ grown.1)
-      (apart_at limits (states_of limits (steps ++ more)) (last_of limits (steps ++ more)) (run_is limits (steps ++ more) ok) V1 facts1 (last_of limits (steps ++ more)) (omega arith))
+      (apart_at (run_is limits (steps ++ more) ok) V1 facts1 (last_of limits (steps ++ more)) (omega arith))
 
   -- a new place is of this operation
   new_begun : (p : Place) → Among p grown.0 → HasBegun before.events p.id → ⊥
@@ -159,7 +159,7 @@ module _ (limits : Bounds) (steps more : List Step) (ok : AreBounds limits) (id 
 
   old_early : (p : Place) → Among p before.places → p.step < last_of limits steps
   old_early p a =
-      step_within limits (states_of limits steps) (last_of limits steps) (run_is limits steps ok) V0 facts0 p (subst (λ (s : Record). Among p s.places) (sym (record_ends limits steps)) a)
+      step_within (run_is limits steps ok) V0 facts0 p (subst (λ (s : Record). Among p s.places) (sym (record_ends limits steps)) a)
 
   -- its own place, if it has one, is the last
   abbrev Enters : Type 0

@@ -16,21 +16,21 @@ use Rattle.proof_linearizable.specs.Beneath.proof_shape.specs.Sites.At.{TakesSte
 use Rattle.proof_linearizable.specs.Beneath.proof_shape.specs.Shaped.{trie_of_run}
 use Rattle.proof_updates.proofs.Tries.OfRuns.{is_trie, steps_keep, updates_follow, replies_right}
 
-module _ (limits : Bounds) (states : ℕ → State) (last : ℕ) (run : IsRun limits states last) (steps : ℕ → Step) (takes : TakesSteps states steps last) (keys : StepsFit steps last) where
+module _ {limits : Bounds} {states : ℕ → State} {last : ℕ} (run : IsRun limits states last) (steps : ℕ → Step) (takes : TakesSteps states steps last) (keys : StepsFit steps last) where
   pub facts : Facts limits states run.records last (content (trie_of_run limits states steps last))
   facts =
       let depth = depth_of_run states steps last in
       let path = path_of_run states steps last in
-      let ok = is_trie limits states steps last run takes keys in record {
-        starts = starts_so limits states last run depth path ok;
-        still = λ t s o within m notes none generation stood. steps_keep limits states steps last run takes keys t s o within m notes none generation;
-        updates = updates_follow limits states steps last run takes keys;
+      let ok = is_trie steps run takes keys in record {
+        starts = starts_so run depth path ok;
+        still = λ t s o within m notes none generation stood. steps_keep steps run takes keys t s o within m notes none generation;
+        updates = updates_follow steps run takes keys;
         swaps = λ t s o within m notes handle offer carries k offerer runs its.
-            swap_so limits states last run depth path ok t s o within m notes handle offer carries k offerer runs its
-            (offers_unplaced limits states last run t s o within m notes handle offer carries);
-        replies = replies_right limits states steps last run takes keys;
-        refused = refused_unplaced limits states last run;
-        runs_behind = run_behind limits states last run;
-        keeps_generation = keeps_generation limits states last run;
-        contents = handles_show limits states last run depth path ok;
+            swap_so run depth path ok t s o within m notes handle offer carries k offerer runs its
+            (offers_unplaced run t s o within m notes handle offer carries);
+        replies = replies_right steps run takes keys;
+        refused = refused_unplaced run;
+        runs_behind = run_behind run;
+        keeps_generation = keeps_generation run;
+        contents = handles_show run depth path ok;
       }

@@ -38,7 +38,7 @@ module _ (limits : Bounds) (steps : List Step) (ok : AreBounds limits) (actor : 
   running = ap (λ (x : State). operation_of x actor) (run_ends limits steps) ∙ is
 
   claims : AllHold (IsInUse end.heap) end.heap (line_wants limits.hash operation.call operation.access operation.line)
-  claims = line_at limits (states_of limits steps) last (run_is limits steps ok) last (omega arith) actor operation running
+  claims = line_at (run_is limits steps ok) last (omega arith) actor operation running
 
   few : (r : Ref) → length (entries_of (node_at end.heap r)) ≤ 32
   few r = subst (λ (x : State). length (entries_of (node_at x.heap r)) ≤ 32) (sym (run_ends limits steps)) (few_entries limits steps r)
@@ -52,16 +52,16 @@ module _ (limits : Bounds) (steps : List Step) (ok : AreBounds limits) (actor : 
   level : LineLevel (level_until (states_of limits steps) (steps_of limits steps) last) operation.line
   level =
       let (k, found) = of_actor end (λ k operation. get_or end.actors k None ≡ Some operation) (λ k operation e. e) actor operation running in
-      (levels_there limits (states_of limits steps) (steps_of limits steps) last (run_is limits steps ok) (takes_steps limits steps) last (omega arith)).0.lines k operation found
+      (levels_there (steps_of limits steps) (run_is limits steps ok) (takes_steps limits steps) last (omega arith)).0.lines k operation found
 
   entry_short : (path : List Ref) (main : Ref) (position : ℕ) → operation.line ≡ line.Key (key.Entry path main position) → length path < 14
   entry_short path main position e =
       let lv = level_until (states_of limits steps) (steps_of limits steps) last in
       let its = (stands (line.Key (key.Entry path main position)) e).1.1.0 in
       let used = safe_of its in
-      let shape = (levels_there limits (states_of limits steps) (steps_of limits steps) last (run_is limits steps ok) (takes_steps limits steps) last (omega arith)).1.nodes
+      let shape = (levels_there (steps_of limits steps) (run_is limits steps ok) (takes_steps limits steps) last (omega arith)).1.nodes
       main used.0 used.1 in
-      let same = limits_at limits (states_of limits steps) last (run_is limits steps ok) last (omega arith) in
+      let same = limits_at (run_is limits steps ok) last (omega arith) in
       let branch : meets ABranch used.0.node ≡ true = ap (meets ABranch) (sym (node_standing end.heap main used.0 used.1)) ∙ meets_of its in
       let low = branch_high (list_depth limits.hash) (lv main) used.0.node branch (subst (λ (l : Bounds). ShapeAt (list_depth l.hash) (lv main) used.0.node) same shape) in
       let high = (subst (LineLevel lv) e level).1 in

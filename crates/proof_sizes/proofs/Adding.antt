@@ -54,7 +54,7 @@ pub copies_stay_open : (copied handle : ℕ) (call : Call) → Copies copied cal
 copies_stay_open copied handle call by_snapshot e = let bad : ⊥ = cc e in bad
 copies_stay_open copied handle call by_freeze e = let bad : ⊥ = cc e in bad
 
-module _ (limits : Bounds) (states : ℕ → State) (steps : ℕ → Step) (last : ℕ) (run : IsRun limits states last) (takes : TakesSteps states steps last) (keys : StepsFit steps last)
+module _ {limits : Bounds} {states : ℕ → State} (steps : ℕ → Step) {last : ℕ} (run : IsRun limits states last) (takes : TakesSteps states steps last) (keys : StepsFit steps last)
     (notes : (u : ℕ) → u < last → Notes states run.records u (steps u)) where
   -- ---- one step, as the last of a run
 
@@ -75,7 +75,7 @@ module _ (limits : Bounds) (states : ℕ → State) (steps : ℕ → Step) (last
   keys_to u lt v h = keys v (omega (arith, h, lt))
 
   abbrev p : Protocol
-  p = protocol limits states last (known_run limits states last run)
+  p = protocol limits states last (known_run run)
 
   -- who commits its own change of its key has a place after the step
   update_placed : (u : ℕ) → (lt : u < last) → (o : Outcome) → Moves (states u) (steps u) o (states (suc u)) → (own : OwnCommit limits states run.records last (assigned_at states last) u (steps u)) →
@@ -88,7 +88,7 @@ module _ (limits : Bounds) (states : ℕ → State) (steps : ℕ → Step) (last
       claim : Holds (IsInUse (states u).heap) (states u).heap (Is own.indirection AnIndirection)
       claim =
           (subst (λ l. AllHold (IsInUse (states u).heap) (states u).heap (line_wants limits.hash own.owner.call own.owner.access l)) own.swaps
-          (line_at limits states last run u (omega (arith, lt)) own.actor own.owner own.runs)).0
+          (line_at run u (omega (arith, lt)) own.actor own.owner own.runs)).0
 
       linked : p.words.link u own.indirection ≡ true
       linked =
@@ -101,11 +101,11 @@ module _ (limits : Bounds) (states : ℕ → State) (steps : ℕ → Step) (last
 
       by : MainTurn p.words u own.indirection → is_placed (run.records (suc u)) own.owner.id ≡ true
       by (MainStays same) =
-          absurd (own.differ (sym own.after ∙ main_linked limits states last run (suc u) own.indirection linked_then ∙ same
-          ∙ sym (main_linked limits states last run u own.indirection linked) ∙ own.before))
+          absurd (own.differ (sym own.after ∙ main_linked run (suc u) own.indirection linked_then ∙ same
+          ∙ sym (main_linked run u own.indirection linked) ∙ own.before))
       by (MainChanges c) =
-          let fresh : c.fresh ≡ own.fresh = sym c.after ∙ sym (main_linked limits states last run (suc u) own.indirection linked_then) ∙ own.after in
-          commit_places limits states last run u place.0 lt (steps u) o m (notes u lt) own.owner place.2 path former own.indirection own.replaced own.fresh own.deciding
+          let fresh : c.fresh ≡ own.fresh = sym c.after ∙ sym (main_linked run (suc u) own.indirection linked_then) ∙ own.after in
+          commit_places run u place.0 lt (steps u) o m (notes u lt) own.owner place.2 path former own.indirection own.replaced own.fresh own.deciding
           (own.swaps ∙ ap (λ why. line.Swap why (record { indirection = own.indirection; replaced = own.replaced; fresh = own.fresh; line = Deciding own.deciding })) e)
           c.replaced (subst (λ f. CommitsNode p.words u f c.replaced) fresh c.commits)
 
@@ -194,7 +194,7 @@ module _ (limits : Bounds) (states : ℕ → State) (steps : ℕ → Step) (last
       pub adds : adds_key call answer ≡ true
 
     pub adds_now : (u : ℕ) → start ≤ u → (lt : u < last) → (handle : ℕ) → AddsKey (states u) (steps u) handle → AddsNow u
-    adds_now u past lt handle a = by_main (fresh_commits_at limits states last run u lt (steps u) o m (notes u lt))
+    adds_now u past lt handle a = by_main (fresh_commits_at run u lt (steps u) o m (notes u lt))
       where
         o : Outcome
         o = (takes u lt).0
@@ -224,10 +224,10 @@ module _ (limits : Bounds) (states : ℕ → State) (steps : ℕ → Step) (last
         by_main (stays none same) = absurd (no_update limits states run.records last u (steps u) none a.indirection a.call None a.commits)
         by_main (changes_main own) =
             let w = owned limits states run.records last u (steps u) own a.indirection a.call None a.commits in
-            let enters = own_enters limits states last run u (omega (arith, lt)) (steps u) own ∙ ap (places_for (run.records u) own.owner u) w.purpose_is in
+            let enters = own_enters run u (omega (arith, lt)) (steps u) own ∙ ap (places_for (run.records u) own.owner u) w.purpose_is in
             let mine : own.owner ≡ a.commits.operation =
             same_Some _ _ (sym own.runs ∙ ap (operation_of (states u)) ((its_operation u past (omega (arith, lt)) own.actor own.owner own.runs).2 ∙ sym its.2) ∙ a.commits.runs) in
             by_update
-            (own_updates_enter limits states last run u (steps u) o lt m (notes u lt)
+            (own_updates_enter run u (steps u) o lt m (notes u lt)
             (λ none. let bad : [] ≡ place_of (run.records u) (entrant_of own.owner) u false ∷ [] = sym none ∙ enters in cc))
             (ap (λ (x : Operation). is_placed (run.records (suc u)) x.id) (sym mine) ∙ update_placed u lt o m own w.path None w.purpose_is)

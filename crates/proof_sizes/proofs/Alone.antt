@@ -15,7 +15,7 @@ use Rattle.proof_sizes.proofs.Adding.{adds_now, copies_add_nothing, copies_stay_
 use Rattle.proof_sizes.proofs.Others.{own_handle}
 use Rattle.proof_sizes.proofs.Steps.{AddsKey, Copies, opened_no_larger, steps_grow_little}
 
-module _ (limits : Bounds) (states : ℕ → State) (steps : ℕ → Step) (last : ℕ) (run : IsRun limits states last) (takes : TakesSteps states steps last) (keys : StepsFit steps last)
+module _ {limits : Bounds} {states : ℕ → State} (steps : ℕ → Step) {last : ℕ} (run : IsRun limits states last) (takes : TakesSteps states steps last) (keys : StepsFit steps last)
     (notes : (u : ℕ) → u < last → Notes states run.records u (steps u)) (start actor : ℕ) (call : Call) (more : start < last) (rest : is_busy (states start) ≡ false)
     (begins : steps start ≡ step.Begin actor call None) (goes : (u : ℕ) → start < u → u < last → steps u ≡ step.Go actor) (answer : Reply)
     (ended : HasEnded (run.records last).events (states start).begun answer) where
@@ -27,17 +27,17 @@ module _ (limits : Bounds) (states : ℕ → State) (steps : ℕ → Step) (last
   -- whatever runs is its operation
   mine : (u : ℕ) → start ≤ u → u ≤ last → (other : ℕ) (operation : Operation) → operation_of (states u) other ≡ Some operation →
       (operation.id ≡ id) × (operation.call ≡ call) × (other ≡ actor)
-  mine = its_operation limits states steps last run takes keys notes start actor call more rest begins goes answer ended
+  mine = its_operation steps run takes keys notes start actor call more rest begins goes answer ended
 
   -- a step as the last of a run
   abbrev run_at : (u : ℕ) → u < last → IsRun limits states (suc u)
-  run_at u lt = run_to limits states steps last run takes keys notes u lt
+  run_at u lt = run_to steps run takes keys notes u lt
 
   takes_at : (u : ℕ) → u < last → TakesSteps states steps (suc u)
-  takes_at u lt = takes_to limits states steps last run takes keys notes u lt
+  takes_at u lt = takes_to steps run takes keys notes u lt
 
   keys_at : (u : ℕ) → u < last → StepsFit steps (suc u)
-  keys_at u lt = keys_to limits states steps last run takes keys notes u lt
+  keys_at u lt = keys_to steps run takes keys notes u lt
 
   -- what the call may have added before a step
   abbrev added_by : ℕ → ℕ
@@ -89,11 +89,11 @@ module _ (limits : Bounds) (states : ℕ → State) (steps : ℕ → Step) (last
         by (stood first was few others) (inl less) = stood first was (omega (arith, few, less, added_grows u lt)) (λ apart. let same = others apart in omega (arith, same, less))
         by (copied none copies few) (inl less) = copied none copies (omega (arith, few, less))
         by (stood first was few others) (inr (adds, less)) =
-            let a = adds_now limits states steps last run takes keys notes start actor call more rest begins goes answer ended u past lt handle adds in
+            let a = adds_now steps run takes keys notes start actor call more rest begins goes answer ended u past lt handle adds in
             let none : added_by u ≡ 0 = ap (λ b. cond b (growth call answer) 0) a.unplaced in
             let all : added_by (suc u) ≡ most_growth = ap (λ b. cond b (growth call answer) 0) a.placed ∙ ap (λ b. cond b most_growth 0) a.adds in
             stood first was (omega (arith, few, less, none, all))
-            (λ apart. absurd (apart (own_handle limits states steps last run takes keys notes start actor call more rest begins goes answer ended
+            (λ apart. absurd (apart (own_handle steps run takes keys notes start actor call more rest begins goes answer ended
             u past lt handle root at adds)))
         by (copied none copies few) (inr (adds, less)) =
             let its = mine u past (omega (arith, lt)) adds.commits.actor adds.commits.operation adds.commits.runs in
@@ -138,7 +138,7 @@ module _ (limits : Bounds) (states : ℕ → State) (steps : ℕ → Step) (last
         shut_so : (handle : ℕ) (root : Root) → root_at (states start) handle ≡ Some root → root_at (states (suc u)) handle ≡ None → call ≡ Close handle
         shut_so handle root first gone = by (root_at (states u) handle) refl
           where
-            by_step : (now : Root) → HandleStep limits states last run u lt (steps u) o m (notes u lt) handle now → call ≡ Close handle
+            by_step : (now : Root) → HandleStep run u lt (steps u) o m (notes u lt) handle now → call ≡ Close handle
             by_step now (keeps stands) = absurd (none-some stands.root (sym gone ∙ stands.is_open))
             by_step now (changes_root offer carries was stands) = absurd (none-some stands.root (sym gone ∙ stands.is_open))
             by_step now (is_closed closer number e shut) = by_time (cases_lt start u)
@@ -152,7 +152,7 @@ module _ (limits : Bounds) (states : ℕ → State) (steps : ℕ → Step) (last
 
             by : (now : Option Root) → root_at (states u) handle ≡ now → call ≡ Close handle
             by None at = kept.shut handle root first at
-            by (Some now) at = by_step now (handle_step limits states last run u lt (steps u) o m (notes u lt) handle now at)
+            by (Some now) at = by_step now (handle_step run u lt (steps u) o m (notes u lt) handle now at)
 
   keeps_all : (d : ℕ) → start + d ≤ last → Keeps (start + d)
   keeps_all zero within =

@@ -76,7 +76,7 @@ link_is_no_main (Single k v) e = absurd (false≢true e)
 link_is_no_main (Tomb s) e = absurd (false≢true e)
 link_is_no_main (Listed ss) e = absurd (false≢true e)
 
-module _ (limits : Bounds) (states : ℕ → State) (steps : ℕ → Step) (last : ℕ) (run : IsRun limits states last) (takes : TakesSteps states steps last) (keys : StepsFit steps last)
+module _ {limits : Bounds} {states : ℕ → State} (steps : ℕ → Step) {last : ℕ} (run : IsRun limits states last) (takes : TakesSteps states steps last) (keys : StepsFit steps last)
     (rest : is_busy (states last) ≡ false) where
   abbrev trie : Trie
   trie = trie_of_run limits states steps last
@@ -85,13 +85,13 @@ module _ (limits : Bounds) (states : ℕ → State) (steps : ℕ → Step) (last
   heap = (states last).heap
 
   abbrev p : Protocol
-  p = protocol limits states last (known_run limits states last run)
+  p = protocol limits states last (known_run run)
 
   safe : IsSafe (states last)
-  safe = safe_at limits states last run last (omega arith)
+  safe = safe_at run last (omega arith)
 
   shape : HasShape (trie_of_run limits states steps last)
-  shape = runs_have_shape limits states steps last run takes keys
+  shape = runs_have_shape steps run takes keys
 
   -- ---- nobody decides a node
 
@@ -127,7 +127,7 @@ module _ (limits : Bounds) (states : ℕ → State) (steps : ℕ → Step) (last
       by_node : (there : Slot) → grown states s.at i ≡ Some there → (n : Node) → there.node ≡ n → is_indirection n ≡ true → WordMade states s.at n → is_main_node slot.node ≡ true
       by_node there is (Indirection g w) n_is link (main, made, is_main) =
           let same : w ≡ q = sym (ap main_of n_is) ∙ sym (ap (λ x. main_of (node_of x)) is) ∙ s.is in
-          let (now, found_now, stays) = grown_stays limits states last run s.at last s.past (omega arith) w main made in
+          let (now, found_now, stays) = grown_stays run s.at last s.past (omega arith) w main made in
           let one : now ≡ slot = same_Some _ _ (sym found_now ∙ ap (grown states last) same ∙ grown_in_use states last q slot found) in
           ap (λ (x : Slot). is_main_node x.node) (sym one) ∙ meets_same AMain main.node now.node stays.0 ∙ is_main
       by_node there is (Branch b es) n_is link made = absurd (false≢true link)
@@ -138,7 +138,7 @@ module _ (limits : Bounds) (states : ℕ → State) (steps : ℕ → Step) (last
       by_slot : (o : Option Slot) → grown states s.at i ≡ o → is_main_node slot.node ≡ true
       by_slot None is = absurd (false≢true (sym (ap (λ x. is_indirection (node_of x)) is) ∙ s.link))
       by_slot (Some there) is =
-          by_node there is there.node refl (sym (ap (λ x. is_indirection (node_of x)) is) ∙ s.link) (grown_sites limits states steps last run takes keys s.at s.past i there is).word
+          by_node there is there.node refl (sym (ap (λ x. is_indirection (node_of x)) is) ∙ s.link) (grown_sites steps run takes keys s.at s.past i there is).word
 
   -- what is no main node has no prev word
   no_main_decided : (q : Ref) (slot : Slot) → standing heap q ≡ Some slot → is_main_node slot.node ≡ false → slot.prev ≡ over.None
@@ -157,7 +157,7 @@ module _ (limits : Bounds) (states : ℕ → State) (steps : ℕ → Step) (last
 
   module _ (i : Ref) (used : IsInUse heap i) (link : is_indirection (node_under states last i) ≡ true) where
     linked : is_indirection (node_at heap i) ≡ true
-    linked = link_same limits states steps last run takes keys last (omega arith) i used ∙ link
+    linked = link_same steps run takes keys last (omega arith) i used ∙ link
 
     main_used_now : IsInUse heap (main_at heap i)
     main_used_now =
@@ -173,7 +173,7 @@ module _ (limits : Bounds) (states : ℕ → State) (steps : ℕ → Step) (last
         same ∙ word_decided i m (ap (λ o. is_indirection (node_of o)) (grown_in_use states last i used.0 used.1) ∙ ap is_indirection (sym (node_standing heap i used.0 used.1)) ∙ linked) word
 
     pub main_counts : main_at heap i ≡ trie.main last i
-    main_counts = sym (ap (logical (main_at heap i)) main_prev) ∙ main_same limits states steps last run takes keys last (omega arith) i used link
+    main_counts = sym (ap (logical (main_at heap i)) main_prev) ∙ main_same steps run takes keys last (omega arith) i used link
 
   -- ---- what is referred to
 
@@ -237,7 +237,7 @@ module _ (limits : Bounds) (states : ℕ → State) (steps : ℕ → Step) (last
         from_main : q ≡ trie.main last i → Contains (entries_of (node_in trie last i)) r
         from_main same =
             let m = logical_main heap i in
-            let main_is : m ≡ trie.main last i = main_same limits states steps last run takes keys last (omega arith) i used link in
+            let main_is : m ≡ trie.main last i = main_same steps run takes keys last (omega arith) i used link in
             let its : main_at heap i ≡ q = main_counts i used link ∙ sym same in
             let node = indirection_is (node_at heap i) (linked i used link) in
             let claim = (subst (λ n. AllHold (IsInUse heap) heap (node_wants n)) node.2 ((heaped_in_use (states last) safe).inside i used)).0 in
@@ -246,20 +246,20 @@ module _ (limits : Bounds) (states : ℕ → State) (steps : ℕ → Step) (last
             let within = refs_decided q r used_q none refers in
             let there : Contains (entries_of (node_at heap m)) r =
             subst (λ x. Contains (entries_of (node_at heap x)) r) (same ∙ sym main_is) (subst (λ l. Contains l r) (main_refs (node_at heap q) kind) within) in
-            subst (λ l. Contains l r) (entries_same limits states steps last run takes keys last (omega arith) i used link) there
+            subst (λ l. Contains l r) (entries_same steps run takes keys last (omega arith) i used link) there
 
         -- an entry that is met leads on
         by_entry : ((h : ℕ) (e w : Ref) → IsInUse heap e → trie.node e ≡ Indirection h w → levels + trie.depth e ≡ most_levels → trie.depth e ≤ 13 → 0 < met q levels e → 0 < met r levels e) →
             (e : Ref) → Contains (entries_of (node_in trie last i)) e → 0 < met q levels e → 0 < met r levels e
-        by_entry rest_of e within met_e = by_kind (kinds limits states steps last run takes keys last (omega arith) i e word g used is within)
+        by_entry rest_of e within met_e = by_kind (kinds steps run takes keys last (omega arith) i e word g used is within)
           where
             used_e : IsInUse heap e
-            used_e = under limits states steps last run takes keys last (omega arith) i e word g used is within
+            used_e = under steps run takes keys last (omega arith) i e word g used is within
 
             -- a single refers to nothing
             nothing : (k v : ℕ) → trie.node e ≡ Single k v → q ≡ e → ⊥
             nothing k v e_is same =
-                let bare_is = node_same limits states steps last run takes keys last (omega arith) e used_e ∙ ap bare e_is in
+                let bare_is = node_same steps run takes keys last (omega arith) e used_e ∙ ap bare e_is in
                 let here : node_at heap q ≡ Single k v = ap (node_at heap) same ∙ bare_single (node_at heap e) k v bare_is in
                 let kind : is_main_node used_q.0.node ≡ false = ap is_main_node (sym (node_standing heap q used_q.0 used_q.1) ∙ here) in
                 let c = subst (λ n. Contains (refs_of_node n) r) here (refs_decided q r used_q (no_main_decided q used_q.0 used_q.1 kind) refers) in
@@ -309,7 +309,7 @@ module _ (limits : Bounds) (states : ℕ → State) (steps : ℕ → Step) (last
     word_is : (w : RootWord) → root.word ≡ w → (r : Ref) → Contains (refs_of_word w) r → r ≡ root_of root.word
     word_is (Plain q) is r within = sym (only_one q r within) ∙ sym (ap root_of is)
     word_is (Offer offer) is r within =
-        absurd (let s = (offers_at limits states last run last (omega arith)).own.offers handle offer (ap word_of at ∙ is) in none_at (states last).actors rest s.k s.owner s.runs)
+        absurd (let s = (offers_at run last (omega arith)).own.offers handle offer (ap word_of at ∙ is) in none_at (states last).actors rest s.k s.owner s.runs)
 
     from_word : (other : ℕ) (r : Ref) → Contains (refs_of_root (root_at (states last) other)) r → r ≡ root_of root.word
     from_word other r within = by (ℕ_discrete other handle)
@@ -321,18 +321,18 @@ module _ (limits : Bounds) (states : ℕ → State) (steps : ℕ → Step) (last
     pub reached_is_met : (r : Ref) → IsReached (states last) r → IsInUse heap r × (0 < met r most_levels top)
     reached_is_met r (from_root other q within) =
         let same = from_word other r within in
-        (subst (IsInUse heap) (sym same) (root_used limits states steps last run takes keys last (omega arith) handle root at), subst (λ x. 0 < met r most_levels x) same (met_here r 14))
+        (subst (IsInUse heap) (sym same) (root_used steps run takes keys last (omega arith) handle root at), subst (λ x. 0 < met r most_levels x) same (met_here r 14))
     reached_is_met r (from_slot q s reached within) =
         let (used_q, met_q) = reached_is_met q reached in
-        let node = indirection_is (node_under states last top) (root_link limits states steps last run takes keys last (omega arith) handle root at) in
-        let deep = root_deep limits states steps last run takes keys last (omega arith) handle root at in (
+        let node = indirection_is (node_under states last top) (root_link steps run takes keys last (omega arith) handle root at) in
+        let deep = root_deep steps run takes keys last (omega arith) handle root at in (
           in_any_slot (states last) safe q r within,
           met_on q r used_q within most_levels node.0 top node.1
-              (root_used limits states steps last run takes keys last (omega arith) handle root at) node.2 (omega (arith, deep)) (omega (arith, deep)) met_q,
+              (root_used steps run takes keys last (omega arith) handle root at) node.2 (omega (arith, deep)) (omega (arith, deep)) met_q,
         )
 
     pub reached_stands : (r : Ref) → IsReached (states last) r → 0 < times r (nodes_of (states last) handle)
     reached_stands r reached =
-        let weighs = handle_weighs limits states steps last run takes keys last (omega arith) handle root at (once r) in
+        let weighs = handle_weighs steps run takes keys last (omega arith) handle root at (once r) in
         let more = (reached_is_met r reached).1 in
         omega (arith, weighs, more)

@@ -43,7 +43,7 @@ no_more_left : {X : Type 0} (xs ys : List X) → xs ++ ys ≡ [] → xs ≡ []
 no_more_left [] ys e = refl
 no_more_left (x ∷ xs) ys e = absurd (let bad : x ∷ (xs ++ ys) ≡ [] = e in cc)
 
-module _ (limits : Bounds) (states : ℕ → State) (steps : ℕ → Step) (last : ℕ) (run : IsRun limits states last) (takes : TakesSteps states steps last) (keys : StepsFit steps last)
+module _ {limits : Bounds} {states : ℕ → State} (steps : ℕ → Step) {last : ℕ} (run : IsRun limits states last) (takes : TakesSteps states steps last) (keys : StepsFit steps last)
     (t : ℕ) (within : t ≤ last) where
   abbrev trie : Trie
   trie = trie_of_run limits states steps last
@@ -52,10 +52,10 @@ module _ (limits : Bounds) (states : ℕ → State) (steps : ℕ → Step) (last
   heap = (states t).heap
 
   safe : IsSafe (states t)
-  safe = safe_at limits states last run t within
+  safe = safe_at run t within
 
   shape : HasShape (trie_of_run limits states steps last)
-  shape = runs_have_shape limits states steps last run takes keys
+  shape = runs_have_shape steps run takes keys
 
   -- ---- below the root main nodes have entries
 
@@ -67,18 +67,18 @@ module _ (limits : Bounds) (states : ℕ → State) (steps : ℕ → Step) (last
     m = logical_main heap i
 
     used_main : IsInUse heap m
-    used_main = main_used limits states steps last run takes keys t within i used link
+    used_main = main_used steps run takes keys t within i used link
 
     main_is : m ≡ trie.main t i
-    main_is = main_same limits states steps last run takes keys t within i used link
+    main_is = main_same steps run takes keys t within i used link
 
     its_level : 2 ≤ level_until states steps last m
     its_level =
-        let site = (sites limits states steps last run takes keys t within i word g used is).0 in
+        let site = (sites steps run takes keys t within i word g used is).0 in
         omega (arith, below, ap (λ q. depth_at (level_until states steps last q)) main_is, site)
 
     bare_is : bare used_main.0.node ≡ bare (node_in trie t i)
-    bare_is = ap bare (sym (node_standing heap m used_main.0 used_main.1)) ∙ node_same limits states steps last run takes keys t within m used_main ∙ ap (λ q. bare (trie.node q)) main_is
+    bare_is = ap bare (sym (node_standing heap m used_main.0 used_main.1)) ∙ node_same steps run takes keys t within m used_main ∙ ap (λ q. bare (trie.node q)) main_is
 
     some_entry : 1 ≤ length (entries_of (node_in trie t i))
     some_entry = by (shape.shaped t i within)
@@ -87,7 +87,7 @@ module _ (limits : Bounds) (states : ℕ → State) (steps : ℕ → Step) (last
         by (branch b es places n_is has shallow in_place led children) =
             let node = bare_branch used_main.0.node b es (bare_is ∙ ap bare n_is) in
             let full = subst (FullNode (sites_of states steps last) (level_until states steps last m)) node
-            (full_grown limits states steps last run takes keys t within m used_main.0 (grown_in_use states t m used_main.0 used_main.1)) in
+            (full_grown steps run takes keys t within m used_main.0 (grown_in_use states t m used_main.0 used_main.1)) in
             omega (arith, ap (λ n. length (entries_of n)) n_is, (full its_level).0)
         by (list ss n_is are most deep one_hash) =
             let node = bare_list used_main.0.node ss (bare_is ∙ ap bare n_is) in
@@ -102,7 +102,7 @@ module _ (limits : Bounds) (states : ℕ → State) (steps : ℕ → Step) (last
   unfolding pairs_below
   some_pair zero e used kind low site none = omega (arith, low)
   some_pair (suc levels) e used (a_single k v is) low site none =
-      let here = bare_single (node_at heap e) k v (node_same limits states steps last run takes keys t within e used ∙ ap bare is) in
+      let here = bare_single (node_at heap e) k v (node_same steps run takes keys t within e used ∙ ap bare is) in
       let bad : ◌≡◌ {A = List (ℕ × ℕ)} ((k, v) ∷ []) [] = sym (ap (pairs_at (pairs_below levels heap) heap e) here) ∙ none in
       cc
   some_pair (suc levels) e used (a_link g word is) low site none = by (λ q. some_pair levels q) (entries_of (node_in trie t e)) refl
@@ -115,8 +115,8 @@ module _ (limits : Bounds) (states : ℕ → State) (steps : ℕ → Step) (last
 
       nothing : flat_map (pairs_below levels heap) (entries_of (node_in trie t e)) ≡ []
       nothing =
-          let node = indirection_is (node_at heap e) (link_same limits states steps last run takes keys t within e used ∙ linked) in
-          sym (ap (flat_map (pairs_below levels heap)) (entries_same limits states steps last run takes keys t within e used linked))
+          let node = indirection_is (node_at heap e) (link_same steps run takes keys t within e used ∙ linked) in
+          sym (ap (flat_map (pairs_below levels heap)) (entries_same steps run takes keys t within e used linked))
           ∙ sym (ap (pairs_at (pairs_below levels heap) heap e) node.2) ∙ none
 
       by : ((q : Ref) → IsInUse heap q → IsEntry (trie.node q) → 1 ≤ levels →
@@ -125,8 +125,8 @@ module _ (limits : Bounds) (states : ℕ → State) (steps : ℕ → Step) (last
       by rest [] at = omega (arith, some_entry e word g used is deep.0, ap length at)
       by rest (q ∷ es) at =
           let first : Contains (entries_of (node_in trie t e)) q = subst (λ l. Contains l q) (sym at) (0, omega arith, refl) in
-          rest q (under limits states steps last run takes keys t within e q word g used is first)
-          (kinds limits states steps last run takes keys t within e q word g used is first) (omega (arith, deep))
+          rest q (under steps run takes keys t within e q word g used is first)
+          (kinds steps run takes keys t within e q word g used is first) (omega (arith, deep))
           (λ h w q_is.
           let deeper = deeper_by trie e q w h (node_in trie t e) (shape.shaped t e within) first q_is in
           (omega (arith, deeper), link_deep trie e q w h (node_in trie t e) (shape.shaped t e within) first q_is, omega (arith, deeper, deep)))
@@ -137,10 +137,10 @@ module _ (limits : Bounds) (states : ℕ → State) (steps : ℕ → Step) (last
   empty_has_two handle root at none = by (entries_of (node_in trie t (root_of root.word))) refl
     where
       used : IsInUse heap (root_of root.word)
-      used = root_used limits states steps last run takes keys t within handle root at
+      used = root_used steps run takes keys t within handle root at
 
       linked : is_indirection (node_under states last (root_of root.word)) ≡ true
-      linked = root_link limits states steps last run takes keys t within handle root at
+      linked = root_link steps run takes keys t within handle root at
 
       node : (g : ℕ) × (word : Ref) × (node_under states last (root_of root.word) ≡ Indirection g word)
       node = indirection_is (node_under states last (root_of root.word)) linked
@@ -150,22 +150,22 @@ module _ (limits : Bounds) (states : ℕ → State) (steps : ℕ → Step) (last
 
       nothing : flat_map (pairs_below 14 heap) (entries_of (node_in trie t (root_of root.word))) ≡ []
       nothing =
-          let here = indirection_is (node_at heap (root_of root.word)) (link_same limits states steps last run takes keys t within (root_of root.word) used ∙ linked) in
-          sym (ap (flat_map (pairs_below 14 heap)) (entries_same limits states steps last run takes keys t within (root_of root.word) used linked))
+          let here = indirection_is (node_at heap (root_of root.word)) (link_same steps run takes keys t within (root_of root.word) used ∙ linked) in
+          sym (ap (flat_map (pairs_below 14 heap)) (entries_same steps run takes keys t within (root_of root.word) used linked))
           ∙ sym (ap (pairs_at (pairs_below 14 heap) heap (root_of root.word)) here.2) ∙ no_pairs
 
       deep : trie.depth (root_of root.word) ≡ 0
-      deep = root_deep limits states steps last run takes keys t within handle root at
+      deep = root_deep steps run takes keys t within handle root at
 
       by : (es : List Ref) → entries_of (node_in trie t (root_of root.word)) ≡ es → length (nodes_of (states t) handle) ≡ 2
       by [] at_es =
-          let size = handle_size limits states steps last run takes keys t within handle root at in
+          let size = handle_size steps run takes keys t within handle root at in
           let linked_size = weight_link one trie.node (trie.main t) 14 node.0 (root_of root.word) node.1 node.2 in
           omega (arith, size, linked_size, ap (sum_by (size_from trie.node (trie.main t) 14)) at_es)
       by (e ∷ es) at_es =
           let first : Contains (entries_of (node_in trie t (root_of root.word))) e = subst (λ l. Contains l e) (sym at_es) (0, omega arith, refl) in
-          absurd (some_pair 14 e (under limits states steps last run takes keys t within (root_of root.word) e node.1 node.0 used node.2 first)
-          (kinds limits states steps last run takes keys t within (root_of root.word) e node.1 node.0 used node.2 first) (omega arith)
+          absurd (some_pair 14 e (under steps run takes keys t within (root_of root.word) e node.1 node.0 used node.2 first)
+          (kinds steps run takes keys t within (root_of root.word) e node.1 node.0 used node.2 first) (omega arith)
           (λ h w e_is.
           let deeper = deeper_by trie (root_of root.word) e w h (node_in trie t (root_of root.word)) (shape.shaped t (root_of root.word) within) first e_is in
           (omega (arith, deeper), omega (arith, deeper, deep), omega (arith, deeper, deep)))

@@ -49,7 +49,7 @@ handles_use_slots state handle root of_run at =
         length (nodes_of (run limits steps) handle) + length (run limits steps).heap.free ≤ (run limits steps).limits.slots
     by limits steps ok fit at =
         subst (λ (s : State). length (nodes_of s handle) + length s.heap.free ≤ s.limits.slots) (run_ends limits steps)
-        (few_nodes limits (states_of limits steps) (steps_of limits steps) (last_of limits steps) (run_is limits steps ok) (takes_steps limits steps) (keys_fit limits steps fit)
+        (few_nodes (steps_of limits steps) (run_is limits steps ok) (takes_steps limits steps) (keys_fit limits steps fit)
         (last_of limits steps) (omega arith) handle root (ap (λ s. root_at s handle) (run_ends limits steps) ∙ at))
 
 pub one_handle_uses_all : OneHandleUsesAll
@@ -64,7 +64,7 @@ one_handle_uses_all state handle root of_run at rest swept only =
     by limits steps ok fit at rest uses only =
         let ends = run_ends limits steps in
         subst (λ (s : State). length (nodes_of s handle) + length s.heap.free ≡ s.limits.slots) ends
-        (all_nodes limits (states_of limits steps) (steps_of limits steps) (last_of limits steps) (run_is limits steps ok) (takes_steps limits steps) (keys_fit limits steps fit)
+        (all_nodes (steps_of limits steps) (run_is limits steps ok) (takes_steps limits steps) (keys_fit limits steps fit)
         (ap is_busy ends ∙ rest) (subst UsesReached (sym ends) uses) handle root (ap (λ s. root_at s handle) ends ∙ at) (λ other apart. ap (λ s. root_at s other) ends ∙ only other apart))
 
 pub empty_has_two : EmptyHasTwo
@@ -75,7 +75,7 @@ empty_has_two state handle root of_run at = by_run (λ s. root_at s handle ≡ S
     by limits steps ok fit at none =
         let ends = run_ends limits steps in
         ap (λ s. length (nodes_of s handle)) (sym ends)
-        ∙ two_left limits (states_of limits steps) (steps_of limits steps) (last_of limits steps) (run_is limits steps ok) (takes_steps limits steps) (keys_fit limits steps fit)
+        ∙ two_left (steps_of limits steps) (run_is limits steps ok) (takes_steps limits steps) (keys_fit limits steps fit)
         (last_of limits steps) (omega arith) handle root (ap (λ s. root_at s handle) ends ∙ at) (ap (λ s. content_at s handle) ends ∙ none)
 
 -- ---- a call alone

@@ -53,7 +53,7 @@ brings_inserts states last t on offer call (freezes n opens none first main) = r
 
 -- ---- generations of what is met below a root
 
-module _ (limits : Bounds) (states : ℕ → State) (steps : ℕ → Step) (last : ℕ) (run : IsRun limits states last) (takes : TakesSteps states steps last) (keys : StepsFit steps last)
+module _ {limits : Bounds} {states : ℕ → State} (steps : ℕ → Step) {last : ℕ} (run : IsRun limits states last) (takes : TakesSteps states steps last) (keys : StepsFit steps last)
     (u : ℕ) (within : u ≤ last) (g : ℕ) (opened : WasOpened states u g) (x word_x : Ref) (h_x : ℕ) (is_x : node_under states last x ≡ Indirection h_x word_x) where
   abbrev trie : Trie
   trie = trie_of_run limits states steps last
@@ -62,11 +62,11 @@ module _ (limits : Bounds) (states : ℕ → State) (steps : ℕ → Step) (last
   met levels r = weight_from (once x) trie.node (trie.main u) levels r
 
   shape : HasShape (trie_of_run limits states steps last)
-  shape = runs_have_shape limits states steps last run takes keys
+  shape = runs_have_shape steps run takes keys
 
   was_opened : (h : ℕ) → MayStandBelow run.records u g h → WasOpened states u h
   was_opened h (inl same) = subst (WasOpened states u) (sym same) opened
-  was_opened h (inr (less, closed)) = was_closed_so limits states last run u within h closed
+  was_opened h (inr (less, closed)) = was_closed_so run u within h closed
 
   main_apart : (i : Ref) → IsShaped trie i (node_in trie u i) → x ≡ trie.main u i → ⊥
   main_apart i (branch b es places n_is has shallow in_place led children) same = let bad : Branch b es ≡ Indirection h_x word_x = sym n_is ∙ ap trie.node (sym same) ∙ is_x in cc
@@ -89,14 +89,14 @@ module _ (limits : Bounds) (states : ℕ → State) (steps : ℕ → Step) (last
 
       linked_then : is_indirection (node_under states u i) ≡ true
       linked_then = ap (λ o. is_indirection (node_of o)) (grown_in_use states u i used.0 used.1) ∙ ap is_indirection (sym (node_standing (states u).heap i used.0 used.1))
-          ∙ link_same limits states steps last run takes keys u within i used ∙ link
+          ∙ link_same steps run takes keys u within i used ∙ link
 
       main_is : trie.main u i ≡ main_before states u i
       main_is = counting_main-made states last u i (ap is_some (grown_in_use states u i used.0 used.1))
 
       by_entry : ((k : ℕ) (e w : Ref) → IsInUse (states u).heap e → trie.node e ≡ Indirection k w → MayStandBelow run.records u g k → 0 < weight_from (once x) trie.node (trie.main u) levels e →
           MayStandBelow run.records u g h_x) → (e : Ref) → Contains (entries_of (node_in trie u i)) e → 0 < weight_from (once x) trie.node (trie.main u) levels e → MayStandBelow run.records u g h_x
-      by_entry rest_of e c met_e = by_kind (kinds limits states steps last run takes keys u within i e word h used is c)
+      by_entry rest_of e c met_e = by_kind (kinds steps run takes keys u within i e word h used is c)
         where
           by_single : (k v : ℕ) → trie.node e ≡ Single k v → (l : ℕ) → 0 < weight_from (once x) trie.node (trie.main u) l e → MayStandBelow run.records u g h_x
           by_single k v e_is zero some_e = absurd (omega (arith, some_e, weight_none (once x) trie.node (trie.main u) e))
@@ -109,11 +109,11 @@ module _ (limits : Bounds) (states : ℕ → State) (steps : ℕ → Step) (last
           by_kind : IsEntry (trie.node e) → MayStandBelow run.records u g h_x
           by_kind (a_single k v e_is) = by_single k v e_is levels met_e
           by_kind (a_link k w e_is) =
-              let falls = (all_falls limits states last run u within).mains.falls i (main_before states u i) (main_stood limits states last run u within i linked_then)
+              let falls = (all_falls run u within).mains.falls i (main_before states u i) (main_stood run u within i linked_then)
               (subst (WasOpened states u) (sym (ap generation_of is)) (was_opened h below)) in
               let there = subst (λ m. Contains (entries_of (node_under states last m)) e) main_is c in
               let fits = falls there.0 e there.1 k (w, ap (node_under states last) there.2 ∙ e_is) in
-              rest_of k e w (under limits states steps last run takes keys u within i e word h used is c) e_is
+              rest_of k e w (under steps run takes keys u within i e word h used is c) e_is
               (below_below states run.records last u g h k below (subst (λ n. MayStandBelow run.records u n k) (ap generation_of is) fits)) met_e
 
       by : ((k : ℕ) (e w : Ref) → IsInUse (states u).heap e → trie.node e ≡ Indirection k w → MayStandBelow run.records u g k → 0 < weight_from (once x) trie.node (trie.main u) levels e →
@@ -129,7 +129,7 @@ module _ (limits : Bounds) (states : ℕ → State) (steps : ℕ → Step) (last
 
 -- ---- the handle of a key that is added
 
-module _ (limits : Bounds) (states : ℕ → State) (steps : ℕ → Step) (last : ℕ) (run : IsRun limits states last) (takes : TakesSteps states steps last) (keys : StepsFit steps last)
+module _ {limits : Bounds} {states : ℕ → State} (steps : ℕ → Step) {last : ℕ} (run : IsRun limits states last) (takes : TakesSteps states steps last) (keys : StepsFit steps last)
     (notes : (u : ℕ) → u < last → Notes states run.records u (steps u)) (start actor : ℕ) (call : Call) (more : start < last) (rest : is_busy (states start) ≡ false)
     (begins : steps start ≡ step.Begin actor call None) (goes : (u : ℕ) → start < u → u < last → steps u ≡ step.Go actor) (answer : Reply)
     (ended : HasEnded (run.records last).events (states start).begun answer) where
@@ -139,7 +139,7 @@ module _ (limits : Bounds) (states : ℕ → State) (steps : ℕ → Step) (last
   -- whatever runs is the call's operation
   mine : (u : ℕ) → start ≤ u → u ≤ last → (other : ℕ) (operation : Operation) → operation_of (states u) other ≡ Some operation →
       (operation.id ≡ (states start).begun) × (operation.call ≡ call) × (other ≡ actor)
-  mine = its_operation limits states steps last run takes keys notes start actor call more rest begins goes answer ended
+  mine = its_operation steps run takes keys notes start actor call more rest begins goes answer ended
 
   -- the handle is writable, over a root of this generation
   record StandsOn (u g : ℕ) : Type 0 where
@@ -151,17 +151,17 @@ module _ (limits : Bounds) (states : ℕ → State) (steps : ℕ → Step) (last
   -- a call that inserts swaps no root
   module _ (inserting : inserts call ≡ true) where
     stands_on : (u g : ℕ) → start ≤ u → (lt : u < last) → StandsOn u g → StandsOn (suc u) g
-    stands_on u g past lt on = by (handle_step limits states last run u lt (steps u) (takes u lt).0 (takes u lt).1 (notes u lt) (handle_of call) on.root on.is_open)
+    stands_on u g past lt on = by (handle_step run u lt (steps u) (takes u lt).0 (takes u lt).1 (notes u lt) (handle_of call) on.root on.is_open)
       where
         by_root : (stands : StandsOver (states (suc u)) (handle_of call) on.root.access (root_of on.root.word)) → StandsOn (suc u) g
         by_root stands = record { root = stands.root; is_open = stands.is_open; kind = stands.kind ∙ on.kind; its = ap gen stands.over ∙ on.its }
 
-        by : HandleStep limits states last run u lt (steps u) (takes u lt).0 (takes u lt).1 (notes u lt) (handle_of call) on.root → StandsOn (suc u) g
+        by : HandleStep run u lt (steps u) (takes u lt).0 (takes u lt).1 (notes u lt) (handle_of call) on.root → StandsOn (suc u) g
         by (keeps stands) = by_root stands
         by (changes_root offer carries was stands) =
-            let r = run_to limits states steps last run takes keys notes u lt in
-            let t = takes_to limits states steps last run takes keys notes u lt in
-            let k = keys_to limits states steps last run takes keys notes u lt in
+            let r = run_to steps run takes keys notes u lt in
+            let t = takes_to steps run takes keys notes u lt in
+            let k = keys_to steps run takes keys notes u lt in
             let calls = carries_call limits states steps u r t k (steps u) (takes u lt).0 (takes u lt).1 (notes u lt) (handle_of call) offer carries offer.opens refl in
             let brought = brings limits states steps u r t k (steps u) (takes u lt).0 (takes u lt).1 (notes u lt) (handle_of call) offer carries in
             let its = mine u past (omega (arith, lt)) calls.actor calls.operation calls.runs in
@@ -190,11 +190,11 @@ module _ (limits : Bounds) (states : ℕ → State) (steps : ℕ → Step) (last
       by None e = absurd (none-some (access, g) (sym (ap (λ x. standing (states u) (handle_of x)) same ∙ ap (standing_of (states u).heap) e) ∙ is))
       by (Some root) e =
           let parts = some_pair_parts root.access access _ g (sym (ap (λ x. standing (states u) (handle_of x)) same ∙ ap (standing_of (states u).heap) e) ∙ is) in
-          record { root = root; is_open = e; kind = parts.0 ∙ kind; its = standing_generation limits states last run u within (handle_of call) root e ∙ parts.1 }
+          record { root = root; is_open = e; kind = parts.0 ∙ kind; its = standing_generation run u within (handle_of call) root e ∙ parts.1 }
 
   pub own_handle : (u : ℕ) → start ≤ u → (lt : u < last) → (handle : ℕ) (root : Root) → root_at (states u) handle ≡ Some root → AddsKey (states u) (steps u) handle → handle ≡ handle_of call
   own_handle u past lt handle root at a =
-      by_swap (swaps_in_own_generation limits states last run u (omega (arith, lt)) a.commits.actor a.commits.operation a.commits.runs _ a.commits.swap a.commits.swaps)
+      by_swap (swaps_in_own_generation run u (omega (arith, lt)) a.commits.actor a.commits.operation a.commits.runs _ a.commits.swap a.commits.swaps)
     where
       its : (a.commits.operation.id ≡ (states start).begun) × (a.commits.operation.call ≡ call) × (a.commits.actor ≡ actor)
       its = mine u past (omega (arith, lt)) a.commits.actor a.commits.operation a.commits.runs
@@ -212,40 +212,40 @@ module _ (limits : Bounds) (states : ℕ → State) (steps : ℕ → Step) (last
       claim : Holds (IsInUse (states u).heap) (states u).heap (Is a.commits.swap.indirection AnIndirection)
       claim =
           (subst (λ l. AllHold (IsInUse (states u).heap) (states u).heap (line_wants limits.hash a.commits.operation.call a.commits.operation.access l)) a.commits.swaps
-          (line_at limits states last run u within a.commits.actor a.commits.operation a.commits.runs)).0
+          (line_at run u within a.commits.actor a.commits.operation a.commits.runs)).0
 
       linked : is_indirection (node_under states last a.indirection) ≡ true
       linked = ap (λ i. is_indirection (node_under states last i)) (sym a.commits.into)
-          ∙ sym (link_same limits states steps last run takes keys u within a.commits.swap.indirection (safe_of claim)) ∙ meets_of claim
+          ∙ sym (link_same steps run takes keys u within a.commits.swap.indirection (safe_of claim)) ∙ meets_of claim
 
       node : (h : ℕ) × (word : Ref) × (node_under states last a.indirection ≡ Indirection h word)
       node = indirection_is (node_under states last a.indirection) linked
 
       node_root : (h : ℕ) × (word : Ref) × (node_under states last (root_of root.word) ≡ Indirection h word)
-      node_root = indirection_is (node_under states last (root_of root.word)) (root_link limits states steps last run takes keys u within handle root at)
+      node_root = indirection_is (node_under states last (root_of root.word)) (root_link steps run takes keys u within handle root at)
 
       opened : WasOpened states u (gen (root_of root.word))
-      opened = (u, omega arith, (handle, root, at, sym (standing_generation limits states last run u within handle root at)))
+      opened = (u, omega arith, (handle, root, at, sym (standing_generation run u within handle root at)))
 
       below : MayStandBelow run.records u (gen (root_of root.word)) node.0
       below =
-          let weighs = handle_weighs limits states steps last run takes keys u within handle root at (once a.indirection) in
-          met_falls limits states steps last run takes keys u within (gen (root_of root.word)) opened a.indirection node.1 node.0 node.2 most_levels node_root.0 (root_of root.word) node_root.1
-          (root_used limits states steps last run takes keys u within handle root at) node_root.2 (inl (sym (ap generation_of node_root.2))) (omega (arith, weighs, a.reached))
+          let weighs = handle_weighs steps run takes keys u within handle root at (once a.indirection) in
+          met_falls steps run takes keys u within (gen (root_of root.word)) opened a.indirection node.1 node.0 node.2 most_levels node_root.0 (root_of root.word) node_root.1
+          (root_used steps run takes keys u within handle root at) node_root.2 (inl (sym (ap generation_of node_root.2))) (omega (arith, weighs, a.reached))
 
       ordered : IsOrdered (states u) (run.records u)
-      ordered = ordered_at limits states last run u within
+      ordered = ordered_at run u within
 
       by_on : StandsOn u node.0 → handle ≡ handle_of call
       by_on on = by below
         where
           own_is : generation_at (states u).heap (root_of on.root.word) ≡ node.0
-          own_is = sym (standing_generation limits states last run u within (handle_of call) on.root on.is_open) ∙ on.its
+          own_is = sym (standing_generation run u within (handle_of call) on.root on.is_open) ∙ on.its
 
           by : MayStandBelow run.records u (gen (root_of root.word)) node.0 → handle ≡ handle_of call
           by (inl same) =
               alone_on (states u) (run.records u) ordered (handle_of call) handle on.root root on.is_open on.kind at
-              (sym (standing_generation limits states last run u within handle root at) ∙ sym same ∙ sym own_is)
+              (sym (standing_generation run u within handle root at) ∙ sym same ∙ sym own_is)
           by (inr (less, (c, early, closed))) =
               absurd (none-some c (sym (ordered.roots.unclosed (handle_of call) on.root on.is_open on.kind) ∙ ap (closed_at (run.records u)) own_is ∙ closed))
 
@@ -262,5 +262,5 @@ module _ (limits : Bounds) (states : ℕ → State) (steps : ℕ → Step) (last
       by_swap : (a.commits.operation.access ≡ Writable) × (a.commits.operation.generation ≡ Some (gen a.commits.swap.indirection)) → handle ≡ handle_of call
       by_swap (writable, generation) =
           by_try writable
-          ((run_since limits states last run u at_place.0 a.commits.operation within at_place.2).tries node.0
+          ((run_since run u at_place.0 a.commits.operation within at_place.2).tries node.0
           (generation ∙ ap (λ i. Some (gen i)) a.commits.into ∙ ap (λ n. Some (generation_of n)) node.2))

@@ -68,7 +68,7 @@ entries_are S heap (Branch b es) e h (k, lt, at) = subst (λ r. is_entry (node_a
 entries_are S heap (Tomb s) e h within = subst (λ r. is_entry (node_at heap r) ≡ true) (only_one s e within) (single_kind (node_at heap s) (meets_of h.0))
 entries_are S heap (Listed ss) e h (k, lt, at) = subst (λ r. is_entry (node_at heap r) ≡ true) at (single_kind _ (all_of h.0 k e lt).1)
 
-module _ (limits : Bounds) (states : ℕ → State) (steps : ℕ → Step) (last : ℕ) (run : IsRun limits states last) (takes : TakesSteps states steps last) (keys : StepsFit steps last)
+module _ {limits : Bounds} {states : ℕ → State} (steps : ℕ → Step) {last : ℕ} (run : IsRun limits states last) (takes : TakesSteps states steps last) (keys : StepsFit steps last)
     (t : ℕ) (within : t ≤ last) where
   abbrev trie : Trie
   trie = trie_of_run limits states steps last
@@ -77,10 +77,10 @@ module _ (limits : Bounds) (states : ℕ → State) (steps : ℕ → Step) (last
   heap = (states t).heap
 
   safe : IsSafe (states t)
-  safe = safe_at limits states last run t within
+  safe = safe_at run t within
 
   shape : HasShape (trie_of_run limits states steps last)
-  shape = runs_have_shape limits states steps last run takes keys
+  shape = runs_have_shape steps run takes keys
 
   -- ---- nodes
 
@@ -88,7 +88,7 @@ module _ (limits : Bounds) (states : ℕ → State) (steps : ℕ → Step) (last
   unfolding nodes_below nodes_from
   nodes_shown zero r used = refl
   nodes_shown (suc levels) r used =
-      sym (bare_nodes_at (nodes_below levels heap) heap r (node_at heap r)) ∙ ap (nodes_at (nodes_below levels heap) heap r) (node_same limits states steps last run takes keys t within r used)
+      sym (bare_nodes_at (nodes_below levels heap) heap r (node_at heap r)) ∙ ap (nodes_at (nodes_below levels heap) heap r) (node_same steps run takes keys t within r used)
       ∙ bare_nodes_at (nodes_below levels heap) heap r (node_under states last r) ∙ by_node (λ q. nodes_shown levels q) (node_under states last r) refl
     where
       by_node : ((q : Ref) → IsInUse heap q → nodes_below levels heap q ≡ nodes_from (node_under states last) (counting_main states last t) levels q) → (n : Node) → node_under states last r ≡ n →
@@ -98,10 +98,10 @@ module _ (limits : Bounds) (states : ℕ → State) (steps : ℕ → Step) (last
           let m = logical_main heap r in
           ap (λ l. r ∷ m ∷ l)
           (flat_same (nodes_below levels heap) (nodes_from (node_under states last) (counting_main states last t) levels) (entries_of (node_at heap m))
-          (λ q c. rest q (entry_used limits states steps last run takes keys t within m q (main_used limits states steps last run takes keys t within r used link) c))
-          ∙ ap (flat_map (nodes_from (node_under states last) (counting_main states last t) levels)) (entries_same limits states steps last run takes keys t within r used link))
+          (λ q c. rest q (entry_used steps run takes keys t within m q (main_used steps run takes keys t within r used link) c))
+          ∙ ap (flat_map (nodes_from (node_under states last) (counting_main states last t) levels)) (entries_same steps run takes keys t within r used link))
           ∙ ap (λ q. r ∷ q ∷ flat_map (nodes_from (node_under states last) (counting_main states last t) levels) (entries_of (node_under states last (counting_main states last t r))))
-          (main_same limits states steps last run takes keys t within r used link)
+          (main_same steps run takes keys t within r used link)
       by_node rest (Single k v) is = refl
       by_node rest (Branch b es) is = refl
       by_node rest (Tomb s) is = refl
@@ -112,25 +112,25 @@ module _ (limits : Bounds) (states : ℕ → State) (steps : ℕ → Step) (last
   pub under : (i e word : Ref) (g : ℕ) → IsInUse heap i → trie.node i ≡ Indirection g word → Contains (entries_of (node_in trie t i)) e → IsInUse heap e
   under i e word g used is c =
       let link : is_indirection (node_under states last i) ≡ true = ap is_indirection is in
-      entry_used limits states steps last run takes keys t within (logical_main heap i) e (main_used limits states steps last run takes keys t within i used link)
-      (subst (λ l. Contains l e) (sym (entries_same limits states steps last run takes keys t within i used link)) c)
+      entry_used steps run takes keys t within (logical_main heap i) e (main_used steps run takes keys t within i used link)
+      (subst (λ l. Contains l e) (sym (entries_same steps run takes keys t within i used link)) c)
 
   pub kinds : (i e word : Ref) (g : ℕ) → IsInUse heap i → trie.node i ≡ Indirection g word → Contains (entries_of (node_in trie t i)) e → IsEntry (trie.node e)
   kinds i e word g used is c =
       let link : is_indirection (node_under states last i) ≡ true = ap is_indirection is in
       let m = logical_main heap i in
-      let inside = (heaped_in_use (states t) safe).inside m (main_used limits states steps last run takes keys t within i used link) in
-      let there = entries_are (IsInUse heap) heap (node_at heap m) e inside (subst (λ l. Contains l e) (sym (entries_same limits states steps last run takes keys t within i used link)) c) in
+      let inside = (heaped_in_use (states t) safe).inside m (main_used steps run takes keys t within i used link) in
+      let there = entries_are (IsInUse heap) heap (node_at heap m) e inside (subst (λ l. Contains l e) (sym (entries_same steps run takes keys t within i used link)) c) in
       entry_kind (node_under states last e)
-      (sym (bare_kind (node_under states last e)) ∙ ap is_entry (sym (node_same limits states steps last run takes keys t within e (under i e word g used is c))) ∙ bare_kind (node_at heap e) ∙ there)
+      (sym (bare_kind (node_under states last e)) ∙ ap is_entry (sym (node_same steps run takes keys t within e (under i e word g used is c))) ∙ bare_kind (node_at heap e) ∙ there)
 
   pub sites : (i word : Ref) (g : ℕ) → IsInUse heap i → trie.node i ≡ Indirection g word →
       (depth_at (level_until states steps last (trie.main t i)) ≡ trie.depth i) × (path_until states steps last (trie.main t i) ≡ trie.path i)
   sites i word g used is =
       let link : is_indirection (node_under states last i) ≡ true = ap is_indirection is in
       let made = grown_in_use states t i used.0 used.1 in
-      let linked = ap is_indirection (sym (node_standing heap i used.0 used.1)) ∙ link_same limits states steps last run takes keys t within i used ∙ link in
-      let c = counts limits states steps last run takes keys t within i used.0 made linked in
+      let linked = ap is_indirection (sym (node_standing heap i used.0 used.1)) ∙ link_same steps run takes keys t within i used ∙ link in
+      let c = counts steps run takes keys t within i used.0 made linked in
       let main_is : counting_main states last t i ≡ main_before states t i = counting_main-made states last t i (ap is_some made) in (
         ap (λ m. depth_at (level_until states steps last m)) main_is ∙ ap depth_at c.level ∙ sym (ap (λ b. cond b (depth_at (level_until states steps last i)) 0) link),
         ap (path_until states steps last) main_is ∙ c.path ∙ sym (ap (λ b. cond b (path_until states steps last i) 0) link),
@@ -161,7 +161,7 @@ module _ (limits : Bounds) (states : ℕ → State) (steps : ℕ → Step) (last
           linked = ap is_indirection is
 
           used_main : IsInUse heap (trie.main t r)
-          used_main = subst (IsInUse heap) (main_same limits states steps last run takes keys t within r used linked) (main_used limits states steps last run takes keys t within r used linked)
+          used_main = subst (IsInUse heap) (main_same steps run takes keys t within r used linked) (main_used steps run takes keys t within r used linked)
 
           by_sum : (x ≡ r → ⊥) → (x ≡ trie.main t r → ⊥) → (sum_by (weight_from (once x) trie.node (trie.main t) levels) (entries_of (node_in trie t r)) ≡ 0) ⊎ IsInUse heap x →
               (weight_from (once x) trie.node (trie.main t) (suc levels) r ≡ 0) ⊎ IsInUse heap x
@@ -184,10 +184,10 @@ module _ (limits : Bounds) (states : ℕ → State) (steps : ℕ → Step) (last
     r = root_of root.word
 
     used_root : IsInUse heap r
-    used_root = root_used limits states steps last run takes keys t within handle root at
+    used_root = root_used steps run takes keys t within handle root at
 
     link : is_indirection (node_under states last r) ≡ true
-    link = root_link limits states steps last run takes keys t within handle root at
+    link = root_link steps run takes keys t within handle root at
 
     -- the nodes of the handle are those that are reached in the trie
     pub handle_nodes : nodes_of (states t) handle ≡ nodes_from trie.node (trie.main t) most_levels (root_of root.word)
@@ -211,5 +211,5 @@ module _ (limits : Bounds) (states : ℕ → State) (steps : ℕ → Step) (last
         let node = indirection_is (node_under states last r) link in
         let few = met_once trie t shape.path_fits (λ i. shape.shaped t i within) (IsInUse heap) under kinds
         (λ m. depth_at (level_until states steps last m)) (path_until states steps last) sites x most_levels
-        node.0 r node.1 used_root node.2 (omega (arith, root_deep limits states steps last run takes keys t within handle root at)) in
+        node.0 r node.1 used_root node.2 (omega (arith, root_deep steps run takes keys t within handle root at)) in
         omega (arith, handle_weighs (once x), few)

@@ -15,18 +15,18 @@ use Rattle.proof_sizes.proofs.AtRest.{reached_stands}
 use Rattle.proof_sizes.proofs.Shown.{nodes_once, nodes_used}
 use Rattle.proof_sizes.proofs.Times.{length_by_times}
 
-module _ (limits : Bounds) (states : ℕ → State) (steps : ℕ → Step) (last : ℕ) (run : IsRun limits states last) (takes : TakesSteps states steps last) (keys : StepsFit steps last)
+module _ {limits : Bounds} {states : ℕ → State} (steps : ℕ → Step) {last : ℕ} (run : IsRun limits states last) (takes : TakesSteps states steps last) (keys : StepsFit steps last)
     (t : ℕ) (within : t ≤ last) (handle : ℕ) (root : Root) (at : root_at (states t) handle ≡ Some root) where
   safe : IsSafe (states t)
-  safe = safe_at limits states last run t within
+  safe = safe_at run t within
 
   no_more_often : (x : Ref) → times x (nodes_of (states t) handle) ≤ times x (in_use (states t).heap)
-  no_more_often x = by (nodes_used limits states steps last run takes keys t within handle root at x)
+  no_more_often x = by (nodes_used steps run takes keys t within handle root at x)
     where
       by : (times x (nodes_of (states t) handle) ≡ 0) ⊎ IsInUse (states t).heap x → times x (nodes_of (states t) handle) ≤ times x (in_use (states t).heap)
       by (inl none) = omega (arith, none)
       by (inr used) =
-          let few = nodes_once limits states steps last run takes keys t within handle root at x in
+          let few = nodes_once steps run takes keys t within handle root at x in
           let some = live_in_use (states t).heap x (in_use_lives (states t).heap x used) in
           omega (arith, few, some)
 
@@ -49,11 +49,11 @@ lives_in_use heap r live = by (stored heap r) refl live
     by None is e = absurd (false≢true e)
     by (Some slot) is e = by_birth slot is (slot.birth == birth_of r) refl e
 
-module _ (limits : Bounds) (states : ℕ → State) (steps : ℕ → Step) (last : ℕ) (run : IsRun limits states last) (takes : TakesSteps states steps last) (keys : StepsFit steps last)
+module _ {limits : Bounds} {states : ℕ → State} (steps : ℕ → Step) {last : ℕ} (run : IsRun limits states last) (takes : TakesSteps states steps last) (keys : StepsFit steps last)
     (rest : is_busy (states last) ≡ false) (uses : UsesReached (states last)) (handle : ℕ) (root : Root) (at : root_at (states last) handle ≡ Some root)
     (only : (other : ℕ) → other ≢ handle → root_at (states last) other ≡ None) where
   safe_last : IsSafe (states last)
-  safe_last = safe_at limits states last run last (omega arith)
+  safe_last = safe_at run last (omega arith)
 
   no_less_often : (x : Ref) → times x (in_use (states last).heap) ≤ times x (nodes_of (states last) handle)
   no_less_often x = by (times x (in_use (states last).heap)) refl
@@ -62,11 +62,11 @@ module _ (limits : Bounds) (states : ℕ → State) (steps : ℕ → Step) (last
       by zero is = omega (arith, is)
       by (suc n) is =
           let live = in_use_live (states last).heap x (omega (arith, is)) in
-          let some = reached_stands limits states steps last run takes keys rest handle root at only x ((uses x).0 (lives_in_use (states last).heap x live)) in
+          let some = reached_stands steps run takes keys rest handle root at only x ((uses x).0 (lives_in_use (states last).heap x live)) in
           omega (arith, some, in_use_once (states last).heap x)
 
   pub all_nodes : length (nodes_of (states last) handle) + length (states last).heap.free ≡ (states last).limits.slots
   all_nodes =
-      let less = few_nodes limits states steps last run takes keys last (omega arith) handle root at in
+      let less = few_nodes steps run takes keys last (omega arith) handle root at in
       let more = length_by_times (in_use (states last).heap) (nodes_of (states last) handle) no_less_often in
       omega (arith, less, more, add_up (states last).limits.slots (states last).heap safe_last.sound.heap)

@@ -55,7 +55,7 @@ use Rattle.proof_commits.proofs.Known.MainsInUse.{logical_standing}
 
 -- what is known of the words of every run
 abbrev pub known_from : (limits : Bounds) (steps : List Step) → AreBounds limits → Known limits (states_of limits steps) (last_of limits steps)
-known_from limits steps ok = known_run limits (states_of limits steps) (last_of limits steps) (run_is limits steps ok)
+known_from limits steps ok = known_run (run_is limits steps ok)
 
 -- roots are open where they are asked for: the layer of roots shows it
 abbrev pub RootsOfRuns : Type 0
@@ -65,7 +65,7 @@ RootsOfRuns =
 
 abbrev pub known_of : RootsOfRuns → (limits : Bounds) (steps : List Step) → AreBounds limits → Known limits (states_of limits steps) (last_of limits steps)
 known_of roots limits steps ok =
-    known_by limits (states_of limits steps) (last_of limits steps) (run_is limits steps ok) (λ g. closed_at (records_of limits steps (last_of limits steps)) g) (roots limits steps ok)
+    known_by (run_is limits steps ok) (λ g. closed_at (records_of limits steps (last_of limits steps)) g) (roots limits steps ok)
 
 -- ---- owners
 

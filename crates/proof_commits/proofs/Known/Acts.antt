@@ -185,13 +185,13 @@ heap_after before actor o after (Ends {operation = x} {answer} d is a) operation
     (record { state = before; heap = refl; generations = refl; is = ap (λ y. (acted before (handle_of x.call) y).heap) (sym a) })
 
 -- at a time of a run
-module _ (limits : Bounds) (states : ℕ → State) (last : ℕ) (run : IsRun limits states last) where
+module _ {limits : Bounds} {states : ℕ → State} {last : ℕ} (run : IsRun limits states last) where
   pub acts_at : (t : ℕ) → t < last → (actor : ℕ) (o : Outcome) → Moves (states t) (step.Go actor) o (states (suc t)) → (operation : Operation) →
       operation_of (states t) actor ≡ Some operation → ActsOn states t (action_of (states t) operation)
   acts_at t h actor o m operation runs =
       let after = heap_after (states t) actor o (states (suc t)) m operation runs in
-      acts_by states t (draws limits states last run t h) after.state after.heap after.generations (handle_of operation.call) (action_of (states t) operation)
-      (finds limits states last run t h actor operation runs) after.is
+      acts_by states t (draws run t h) after.state after.heap after.generations (handle_of operation.call) (action_of (states t) operation)
+      (finds run t h actor operation runs) after.is
 
   pub stays_at : (t : ℕ) → t < last → (s : Step) (o : Outcome) → Moves (states t) s o (states (suc t)) → IsNoGo s → GrownStays states t
   stays_at t h s o m n = stays_fewer states t (fewer (states t) s o (states (suc t)) m n)
@@ -203,12 +203,12 @@ module _ (limits : Bounds) (states : ℕ → State) (last : ℕ) (run : IsRun li
     closing = closing;
     acts = acts_at;
     stays = stays_at;
-    built_from = built_from limits states last run;
-    mains_stand = mains_stand limits states last run;
+    built_from = built_from run;
+    mains_stand = mains_stand run;
     open_root = roots;
   }
 
 -- where nothing is told of closings
-abbrev pub known_run : (limits : Bounds) (states : ℕ → State) (last : ℕ) → IsRun limits states last → Known limits states last
-known_run limits states last run =
-    known_by limits states last run (λ g. None) (λ t h actor operation runs i main previous asks writable r plain c closed. absurd (none-some c closed))
+abbrev pub known_run : {limits : Bounds} {states : ℕ → State} {last : ℕ} → IsRun limits states last → Known limits states last
+known_run {limits} {states} {last} run =
+    known_by run (λ g. None) (λ t h actor operation runs i main previous asks writable r plain c closed. absurd (none-some c closed))

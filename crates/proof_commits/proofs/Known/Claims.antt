@@ -81,20 +81,20 @@ finds_so state (act.Restore i m p) h = has_link state i h.0
 finds_so state (act.Decide i m p told) h = (has_link state i h.0, has_main state m h.1.0)
 finds_so state a h = tt
 
-module _ (limits : Bounds) (states : ℕ → State) (last : ℕ) (run : IsRun limits states last) where
+module _ {limits : Bounds} {states : ℕ → State} {last : ℕ} (run : IsRun limits states last) where
   pub finds : (t : ℕ) → t < last → (actor : ℕ) (operation : Operation) → operation_of (states t) actor ≡ Some operation → Finds (states t) (action_of (states t) operation)
-  finds t h actor operation is = finds_so (states t) (action_of (states t) operation) (action_at limits states last run t (omega arith) actor operation is)
+  finds t h actor operation is = finds_so (states t) (action_of (states t) operation) (action_at run t (omega arith) actor operation is)
 
   pub draws : (t : ℕ) → t < last → (node : Node) (n : Ref) → next_ref (states t).heap ≡ Some n → Draws states t node n
   draws t h node n e =
-      let I : IsSafe (states t) = safe_at limits states last run t (omega arith) in
+      let I : IsSafe (states t) = safe_at run t (omega arith) in
       let all = taken_all (states t).limits.slots (states t).heap (I.sound.heap) node n e in
-      record { new = not_yet_drawn limits states last run t (omega arith) n e; birth = (states t).heap.births + 1; here = all.0; elsewhere = all.2 }
+      record { new = not_yet_drawn run t (omega arith) n e; birth = (states t).heap.births + 1; here = all.0; elsewhere = all.2 }
 
   pub mains_stand : (t : ℕ) → t ≤ last → (i : Ref) (slot : Slot) → standing (states t).heap i ≡ Some slot → is_indirection slot.node ≡ true →
       (main : Slot) × (standing (states t).heap (main_of slot.node) ≡ Some main)
   mains_stand t h i slot e l =
-      by_node slot.node l (first_hold (IsInUse (states t).heap) (states t).heap (node_wants slot.node) (prev_wants slot.prev) ((safe_at limits states last run t h).nodes i slot e).0)
+      by_node slot.node l (first_hold (IsInUse (states t).heap) (states t).heap (node_wants slot.node) (prev_wants slot.prev) ((safe_at run t h).nodes i slot e).0)
     where
       by_node : (node : Node) → is_indirection node ≡ true → AllHold (IsInUse (states t).heap) (states t).heap (node_wants node) →
           (main : Slot) × (standing (states t).heap (main_of node) ≡ Some main)
@@ -106,7 +106,7 @@ module _ (limits : Bounds) (states : ℕ → State) (last : ℕ) (run : IsRun li
 
   pub built_from : (t : ℕ) → t < last → (actor : ℕ) (operation : Operation) → operation_of (states t) actor ≡ Some operation → (main : Ref) →
       BuildsFrom operation.line main → HasSolid (states t) main
-  built_from t h actor operation is main b = by_line operation.line main b (line_at limits states last run t (omega arith) actor operation is)
+  built_from t h actor operation is main b = by_line operation.line main b (line_at run t (omega arith) actor operation is)
     where
       S : Ref → Type 0
       S = IsInUse (states t).heap

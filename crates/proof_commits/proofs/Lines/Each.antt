@@ -46,7 +46,7 @@ of_begun G state call number x (inr e) = subst (λ y. OfActor G y) (sym e) (at_f
     at_first P W call = grind arith
 
 -- G of a time and an actor stays so, and is so of what a READ of the actor's operation gives then
-module _ (limits : Bounds) (states : ℕ → State) (last : ℕ) (run : IsRun limits states last) (G : ℕ → ℕ → ℕ → Ref → Ref → Type 0)
+module _ {limits : Bounds} {states : ℕ → State} {last : ℕ} (run : IsRun limits states last) (G : ℕ → ℕ → ℕ → Ref → Ref → Type 0)
     (more : (t k id : ℕ) (i m : Ref) → G t k id i m → G (suc t) k id i m)
     (now : (t : ℕ) → t < last → (k : ℕ) (operation : Operation) (o : Outcome) → Machine.Moves (states t) (step.Go k) o (states (suc t)) →
     operation_of (states t) k ≡ Some operation →

@@ -28,11 +28,11 @@ use Rattle.proof_commits.proofs.Lines.Stages.{given_up_free}
 -- ---- what a READ gives
 
 -- a READ asks for the root on a writable handle alone
-asks_rightly : (limits : Bounds) (states : ℕ → State) (last : ℕ) → IsRun limits states last → (t : ℕ) → t ≤ last → (k : ℕ) (operation : Operation) →
+asks_rightly : {limits : Bounds} {states : ℕ → State} {last : ℕ} → IsRun limits states last → (t : ℕ) → t ≤ last → (k : ℕ) (operation : Operation) →
     operation_of (states t) k ≡ Some operation → Remembers (λ i m. Unit {0}) (operation.access ≡ Writable) operation.line
-asks_rightly limits states last run t h k operation is =
+asks_rightly {limits} {states} {last} run t h k operation is =
     subst (λ x. OfActor (λ id i m. Unit {0}) x) is
-    (each_remembers limits states last run (λ v j id i m. Unit {0}) (λ v j id i m g. tt) (λ v b j x o m found e i l n on gives. tt) t h k)
+    (each_remembers run (λ v j id i m. Unit {0}) (λ v j id i m g. tt) (λ v b j x o m found e i l n on gives. tt) t h k)
 
 module _ (limits : Bounds) (states : ℕ → State) (last : ℕ) (known : Known limits states last) (t : ℕ) (h : t < last) (actor : ℕ) (operation : Operation) (o : Outcome)
     (moves : Machine.Moves (states t) (step.Go actor) o (states (suc t))) (is : operation_of (states t) actor ≡ Some operation)

@@ -69,7 +69,7 @@ pub first_heap_is : (limits : Bounds) → (first_state limits).heap ≡ first_he
 unfolding first_state
 first_heap_is limits = refl
 
-module _ (limits : Bounds) (states : ℕ → State) (last : ℕ) (r : IsRun limits states last) (stay : NodesStay states last) where
+module _ {limits : Bounds} {states : ℕ → State} {last : ℕ} (r : IsRun limits states last) (stay : NodesStay states last) where
   slots_are : (n : ℕ) × (limits.slots ≡ suc (suc n))
   slots_are = two_or_more limits.slots r.limits_ok.0
 

@@ -46,16 +46,16 @@ entry_placed kind (suc levels) heap depth path r single link = entry_by kind hea
 
 -- ---- below a root in the last state of a run
 
-module _ (limits : Bounds) (states : ℕ → State) (steps : ℕ → Step) (last : ℕ) (run : IsRun limits states last) (takes : TakesSteps states steps last) (keys : StepsFit steps last)
+module _ {limits : Bounds} {states : ℕ → State} (steps : ℕ → Step) {last : ℕ} (run : IsRun limits states last) (takes : TakesSteps states steps last) (keys : StepsFit steps last)
     (handle : ℕ) (root : Root) (at : root_at (states last) handle ≡ Some root) where
   abbrev heap : Heap
   heap = (states last).heap
 
   abbrev trie : Trie
-  trie = once.trie limits states steps last run takes keys handle root at
+  trie = once.trie steps run takes keys handle root at
 
-  ok : IsTrie (once.trie limits states steps last run takes keys handle root at)
-  ok = once.ok limits states steps last run takes keys handle root at
+  ok : IsTrie (once.trie steps run takes keys handle root at)
+  ok = once.ok steps run takes keys handle root at
 
   abbrev Reached : Ref → Type 0
   Reached i = IsReached (states last) i
@@ -67,7 +67,7 @@ module _ (limits : Bounds) (states : ℕ → State) (steps : ℕ → Step) (last
   Placed levels depth path r = IsPlaced limits.hash levels heap depth path r
 
   reaches : ReachesInUse (states last)
-  reaches = once.reaches_in_use (states last) (once.I limits states steps last run takes keys handle root at)
+  reaches = once.reaches_in_use (states last) (once.I steps run takes keys handle root at)
 
   node_is : (e : Ref) → Reached e → node_at heap e ≡ node_under states last e
   node_is = pairs.node_is states last reaches
@@ -157,8 +157,8 @@ module _ (limits : Bounds) (states : ℕ → State) (steps : ℕ → Step) (last
   placed_at =
       let r = root_of root.word in
       let root_reached : Reached r = from_root handle r (subst (λ o. Contains (refs_of_root o) r) (sym at) (names_root root.word)) in
-      let (g, w, is) = indirection_is (node_under states last r) (once.link limits states steps last run takes keys handle root at) in
-      subst (λ d. Placed most_levels d 0 r) (once.depth_is limits states steps last run takes keys handle root at)
+      let (g, w, is) = indirection_is (node_under states last r) (once.link steps run takes keys handle root at) in
+      subst (λ d. Placed most_levels d 0 r) (once.depth_is steps run takes keys handle root at)
       (subst (λ p. Placed most_levels (trie.depth r) p r) (ok.root_path 0) (placed_below most_levels r g w root_reached (node_is r root_reached ∙ is)))
 
 -- ---- in each state of a run
@@ -167,7 +167,7 @@ placed_in : (limits : Bounds) (steps : List Step) (handle : ℕ) (root : Root) �
     IsPlaced limits.hash most_levels (run_of limits steps).heap 0 0 (root_of root.word)
 placed_in limits steps handle root ok fit at =
     subst (λ (state : State). IsPlaced limits.hash most_levels state.heap 0 0 (root_of root.word)) (run_ends limits steps)
-    (placed_at limits (states_of limits steps) (steps_of limits steps) (last_of limits steps) (run_is limits steps ok) (takes_steps limits steps) (keys_fit limits steps fit) handle root
+    (placed_at (steps_of limits steps) (run_is limits steps ok) (takes_steps limits steps) (keys_fit limits steps fit) handle root
     (ap (λ state. root_at state handle) (run_ends limits steps) ∙ at))
 
 pub placed : (state : State) (run : IsOfRun state) (handle : ℕ) (root : Root) → root_at state handle ≡ Some root → IsPlaced state.limits.hash most_levels state.heap 0 0 (root_of root.word)

@@ -255,10 +255,10 @@ below_at_first limits = record {
   starts = λ k operation at_k. absurd (none_found limits.actors k operation at_k);
 }
 
-pub below_at : (limits : Bounds) (states : ℕ → State) (last : ℕ) → IsRun limits states last → (t : ℕ) → t ≤ last → IsBelow (states t)
-below_at limits states last r =
-    along_run limits states last r (λ t. IsBelow (states t)) (subst IsBelow (sym r.first) (below_at_first limits))
-    (λ t lt turn h. by_turn (states t) (states (suc t)) (safe_at limits states last r t (omega arith)) h turn)
+pub below_at : {limits : Bounds} {states : ℕ → State} {last : ℕ} → IsRun limits states last → (t : ℕ) → t ≤ last → IsBelow (states t)
+below_at {limits} {states} {last} r =
+    along_run r (λ t. IsBelow (states t)) (subst IsBelow (sym r.first) (below_at_first limits))
+    (λ t lt turn h. by_turn (states t) (states (suc t)) (safe_at r t (omega arith)) h turn)
   where
     by_turn : (before after : State) → IsSafe before → IsBelow before → Turn before after → IsBelow after
     by_turn before after I h (turns s o m) = below_after before I h s o after m

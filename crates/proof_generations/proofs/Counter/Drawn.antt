@@ -60,10 +60,10 @@ generation_kept was now (m, e) = ap generation_of e ∙ same was
 abbrev pub generation_under : (ℕ → State) → ℕ → Ref → ℕ
 generation_under states t r = generation_of (node_under states t r)
 
-pub generation_stays : (limits : Bounds) (states : ℕ → State) (last : ℕ) → IsRun limits states last → (t u : ℕ) → t ≤ u → u ≤ last → (r : Ref) (slot : Slot) → grown states t r ≡ Some slot →
+pub generation_stays : {limits : Bounds} {states : ℕ → State} {last : ℕ} → IsRun limits states last → (t u : ℕ) → t ≤ u → u ≤ last → (r : Ref) (slot : Slot) → grown states t r ≡ Some slot →
     generation_under states u r ≡ generation_under states t r
-generation_stays limits states last run t u le within r slot e =
-    let (now, found, same) = grown_stays limits states last run t u le within r slot e in
+generation_stays {limits} {states} {last} run t u le within r slot e =
+    let (now, found, same) = grown_stays run t u le within r slot e in
     ap (λ o. generation_of (node_of o)) found ∙ generation_kept slot.node now.node same.0 ∙ sym (ap (λ o. generation_of (node_of o)) e)
 
 -- ---- what is new was made by the step

@@ -61,16 +61,16 @@ standing_entries : (slots : ℕ) (r : Ref) (slot : Slot) → standing (first_hea
 unfolding stored
 standing_entries slots r slot e = first_entries slots (slot_of r) slot ((standing_parts (first_heap slots) r slot e).0)
 
-module _ (limits : Bounds) (states : ℕ → State) (last : ℕ) (run : IsRun limits states last) where
+module _ {limits : Bounds} {states : ℕ → State} {last : ℕ} (run : IsRun limits states last) where
   made_entries : (m : Ref) (o : Option Slot) → grown states zero m ≡ o → is_some o ≡ true → entries_of (node_under states last m) ≡ []
   unfolding grown first_state
   made_entries m None e made = absurd (true≢false (sym made))
   made_entries m (Some slot) e made =
-      entries_same slot.node (node_under states last m) (made_same limits states last run zero (omega arith) m slot e)
+      entries_same slot.node (node_under states last m) (made_same run zero (omega arith) m slot e)
       ∙ standing_entries limits.slots m slot (ap (λ (s : State). standing s.heap m) (sym run.first) ∙ e)
 
   no_entries : (i m : Ref) → Stood (words states run.records last) zero i m → entries_of (node_under states last m) ≡ []
-  no_entries i m stood = made_entries m (grown states zero m) refl ((sound_at (protocol_of limits states last run) zero (omega arith)).words.made i m stood)
+  no_entries i m stood = made_entries m (grown states zero m) refl ((sound_at (protocol_of run) zero (omega arith)).words.made i m stood)
 
   none_runs : (k : ℕ) (operation : Operation) → Runs (states zero) k operation → ⊥
   unfolding first_state
@@ -100,7 +100,7 @@ module _ (limits : Bounds) (states : ℕ → State) (last : ℕ) (run : IsRun li
     -- an operation that isn't marked after its step wasn't before it
     unmarked_then : (k : ℕ) (found was : Operation) → Comes (states t) s k found → s ≡ step.Go (suc k) → Runs (states t) k was → found.is_marked ≡ false → was.is_marked ≡ false
     unmarked_then k found was c go at_was e =
-        let O = ordered_at limits states last run t (omega arith) in
+        let O = ordered_at run t (omega arith) in
         elim (ran_or_began (states t) O.offers O.handles s k found c) [
           | inl ran ↦ ap (λ (x : Operation). x.is_marked) (one_at (states t) k was ran.was at_was ran.at_k) ∙ ran.unmarked e
           | inr fresh ↦ (let wrong : step.Go (suc k) ≡ step.Begin (suc k) fresh.0 fresh.1 = sym go ∙ fresh.2 in let no : ⊥ = cc wrong in absurd no)
@@ -114,10 +114,10 @@ module _ (limits : Bounds) (states : ℕ → State) (last : ℕ) (run : IsRun li
         let made = ap (made_node (states t)) makes_it in
         let inner = makes_inner (states t) was was.line (Indirection (states t).generations main) made in
         let (start, begun, known) = (all.lines k was runs).0 w inner in
-        let below = made_root limits states last run t lt k was runs start begun known main makes_it in
+        let below = made_root run t lt k was runs start begun known main makes_it in
         let goes_noted : run.records (suc t) ≡ noted_progress (run.records t) (states t).steps (suc k) (progress_of (states t) was) =
         notes ∙ ap (λ q. noted (run.records t) (states t).steps (told_in (states t) q)) go ∙ noted_going (states t) (run.records t) (suc k) was _ runs refl g in
-        fresh_new limits states last run t lt all.lines k was r main runs o (subst (λ x. Moves (states t) x o (states (suc t))) go m) g mains makes_it takes goes_noted start begun below found
+        fresh_new run t lt all.lines k was r main runs o (subst (λ x. Moves (states t) x o (states (suc t))) go m) g mains makes_it takes goes_noted start begun below found
         (same ∙ inner_generation (states t) was was.line inner)
     root_falls k was x r main runs g go makes_it takes ReadOnly w found same =
         absurd (reader_makes (Ends states run.records last t) (Shut states run.records last t) (LateEnd states run.records last t (moment_at (run.records t) (suc k)))
@@ -127,7 +127,7 @@ module _ (limits : Bounds) (states : ℕ → State) (last : ℕ) (run : IsRun li
     went_falls : (k : ℕ) (was found : Operation) (x : Bool) (r : Ref) → (runs : Runs (states t) k was) → GoesOn (action_of (states t) was) → s ≡ step.Go (suc k) → was.is_marked ≡ false →
         found.generation ≡ generation_from (states t) was was.line → FreshFrom (states t) was was.line x r → FreshFalls states run.records last (suc t) found r
     went_falls k was found x r runs g go unmarked same (had e) =
-        fresh_still limits states last run t lt all.lines k was x r runs unmarked e (all.fresh k was x r runs unmarked e) found
+        fresh_still run t lt all.lines k was x r runs unmarked e (all.fresh k was x r runs unmarked e) found
         (same ∙ inner_generation (states t) was was.line (fresh_inner was.line x r e))
     went_falls k was found x r runs g go unmarked same (new main makes_it takes side) = root_falls k was x r main runs g go makes_it takes was.access refl found same
 
@@ -138,7 +138,7 @@ module _ (limits : Bounds) (states : ℕ → State) (last : ℕ) (run : IsRun li
         let same = it ∙ mark_only (marks_in (states t) s) was in
         let open_then = unmarked_before (marks_in (states t) s) was (ap (λ (y : Operation). y.is_marked) (sym it) ∙ unmarked) in
         let has = ap (λ (y : Operation). fresh_in x y.line) (sym same) ∙ e in
-        fresh_still limits states last run t lt all.lines k was x r runs open_then has (all.fresh k was x r runs open_then has) found (ap (λ (y : Operation). y.generation) same)
+        fresh_still run t lt all.lines k was x r runs open_then has (all.fresh k was x r runs open_then has) found (ap (λ (y : Operation). y.generation) same)
     fresh_by k found x r (went was is runs g it) unmarked e =
         let same = it ∙ mark_only (marks_in (states t) s) (operation_after (states t) was) in
         went_falls k was found x r runs g is (unmarked_then k found was (went was is runs g it) is runs unmarked) (ap (λ (y : Operation). y.generation) same)
@@ -148,14 +148,14 @@ module _ (limits : Bounds) (states : ℕ → State) (last : ℕ) (run : IsRun li
     all_next : AllFalls states run.records last (suc t)
     all_next = record {
       mains = mains;
-      lines = lines_next limits states last run t lt all.lines mains s o m notes;
+      lines = lines_next run t lt all.lines mains s o m notes;
       fresh = λ k found x r runs. fresh_by k found x r (comes (states t) s o (states (suc t)) m k found runs);
     }
 
   all_turn : (t : ℕ) → t < last → (turn : Turn (states t) (states (suc t))) → run.records (suc t) ≡ noted_turn turn (run.records t) → AllFalls states run.records last t →
       AllFalls states run.records last (suc t)
-  all_turn t lt (turns s o m) notes all = all_next t lt all (mains_next limits states last run t lt all.lines all.mains all.fresh) s o m notes
+  all_turn t lt (turns s o m) notes all = all_next t lt all (mains_next run t lt all.lines all.mains all.fresh) s o m notes
 
   -- at each time
   pub all_falls : (t : ℕ) → t ≤ last → AllFalls states run.records last t
-  all_falls = along_run limits states last run (λ t. AllFalls states run.records last t) all_at_first (λ t lt turn all. all_turn t lt (run.turn t lt) (run.recorded t lt) all)
+  all_falls = along_run run (λ t. AllFalls states run.records last t) all_at_first (λ t lt turn all. all_turn t lt (run.turn t lt) (run.recorded t lt) all)

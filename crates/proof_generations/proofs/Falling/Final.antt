@@ -103,7 +103,7 @@ below_inner (line.Walk l) b = absurd b
 below_inner (line.End answer) b = absurd b
 below_inner line.Impossible b = absurd b
 
-module _ (limits : Bounds) (states : ℕ → State) (last : ℕ) (run : IsRun limits states last) where
+module _ {limits : Bounds} {states : ℕ → State} {last : ℕ} (run : IsRun limits states last) where
   -- ---- closed before
 
   closed_by : (t : ℕ) (x : Moment) (operation : Operation) (r : Read) → read_of operation.line ≡ Some r → KnowsGenerations states run.records last t x operation →
@@ -119,7 +119,7 @@ module _ (limits : Bounds) (states : ℕ → State) (last : ℕ) (run : IsRun li
 
   pub closed_before_read : ClosedBeforeRead states run.records last
   closed_before_read t within actor operation r is e closed = closed_by t (moment_at (run.records t) actor) operation r e
-      (knows_at limits states last run t within actor operation is) operation.access refl closed
+      (knows_at run t within actor operation is) operation.access refl closed
 
   -- ---- what is given
 
@@ -129,7 +129,7 @@ module _ (limits : Bounds) (states : ℕ → State) (last : ℕ) (run : IsRun li
 
   module _ (t : ℕ) (lt : t < last) (actor : ℕ) (operation : Operation) (i m : Ref) (g : GivesAt states run.records t actor operation i m) where
     goes : GoesOn (action_of (states t) operation)
-    goes = reads_goes limits states last run t lt actor operation g.runs g.read (reads_stage operation.line g.read g.no_swap g.reads)
+    goes = reads_goes run t lt actor operation g.runs g.read (reads_stage operation.line g.read g.no_swap g.reads)
 
     noted : run.records (suc t) ≡ noted_progress (run.records t) (states t).steps actor (progress_of (states t) operation)
     noted = g.notes ∙ noted_going (states t) (run.records t) actor operation _ g.runs refl goes
@@ -148,16 +148,16 @@ module _ (limits : Bounds) (states : ℕ → State) (last : ℕ) (run : IsRun li
     moment =
         subst (λ j. IsMoment (words states run.records last) j m now_read.read_at now_read.moment t) g.of
         (subst (λ (x : Moment). IsMoment (words states run.records last) g.read.indirection m x.read_at x.moment t) told
-        (moment_noted limits states last (known limits states last run) t lt actor operation g.outcome g.moves g.runs noted g.read.indirection g.read.line own_stage m
+        (moment_noted limits states last (known run) t lt actor operation g.outcome g.moves g.runs noted g.read.indirection g.read.line own_stage m
         (given_read g.read.indirection (read_after (states t).heap operation.access (word_at (states t) (handle_of operation.call)) g.read.indirection g.read.line) m g.gives)))
       where
         told : moment_after (run.records t) (states t).steps (progress_of (states t) operation) (moment_at (run.records t) actor) ≡ now_read
-        told = sym (ap (λ past. moment_at past actor) noted ∙ moment_goes (states t) (run.records t) actor operation (alike limits states last run t (omega arith)) own)
+        told = sym (ap (λ past. moment_at past actor) noted ∙ moment_goes (states t) (run.records t) actor operation (alike run t (omega arith)) own)
 
     -- the indirection is one from what the READ counts from on
     link_from : (u : ℕ) → now_read.moment < u → u ≤ last → (words states run.records last).link u i ≡ true
     link_from u after within =
-        link_stays (protocol_of limits states last run) i (suc now_read.read_at) u (omega (arith, moment.from, after)) within moment.link
+        link_stays (protocol_of run) i (suc now_read.read_at) u (omega (arith, moment.from, after)) within moment.link
 
     -- what was closed before the READ is final
     final : ReadsClosed operation (gen_of states last i) → (u : ℕ) → now_read.moment < u → u ≤ last → counting_main states last u i ≡ m
@@ -165,9 +165,9 @@ module _ (limits : Bounds) (states : ℕ → State) (last : ℕ) (run : IsRun li
         let late = closed_before_read t (omega arith) actor operation g.read g.runs g.reads (subst (λ j. ReadsClosed operation (gen_of states last j)) (sym g.of) closed) in
         let (c, before, is, since) = subst (λ j. IsLate run.records t (moment_at (run.records t) actor) g.read (gen_of states last j)) g.of late in
         counts_in_trie u within i m (link_from u after within)
-        (given_for_good (protocol_of limits states last run) i m now_read.read_at now_read.moment t c lt moment
-        (closed_until limits states last run t last (omega arith) (omega arith) (gen_of states last i) c is)
-        (late_after limits states last run t lt actor operation g.runs g.read own_stage noted own c before since) u after within)
+        (given_for_good (protocol_of run) i m now_read.read_at now_read.moment t c lt moment
+        (closed_until run t last (omega arith) (omega arith) (gen_of states last i) c is)
+        (late_after run t lt actor operation g.runs g.read own_stage noted own c before since) u after within)
 
     once : (now_read.moment ≤ t) × (counting_main states last (suc now_read.moment) i ≡ m)
     once = (

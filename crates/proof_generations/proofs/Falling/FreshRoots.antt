@@ -68,12 +68,12 @@ pub not_rooted : (states : ℕ → State) (records : ℕ → Record) (t handle g
 not_rooted states records t handle g u (inl on) = let (root, is, writable, its) = standing_root (states t) handle Writable g on in u.alone handle root is its
 not_rooted states records t handle g u (inr (c, before, closed, on)) = none-some c (sym u.unclosed ∙ closed)
 
-module _ (limits : Bounds) (states : ℕ → State) (last : ℕ) (run : IsRun limits states last) where
+module _ {limits : Bounds} {states : ℕ → State} {last : ℕ} (run : IsRun limits states last) where
   pub fresh_stands : (t : ℕ) → t ≤ last → (k : ℕ) (operation : Operation) (x : Bool) (r : Ref) → Runs (states t) k operation → fresh_in x operation.line ≡ Some r →
       (words states run.records last).link t r ≡ true
   fresh_stands t within k operation x r runs e =
       let claim = fresh_link (IsInUse (states t).heap) (states t).heap (states t) operation operation.line
-      (line_finds (states t) (safe_at limits states last run t within) (suc k) operation runs) x r e in
+      (line_finds (states t) (safe_at run t within) (suc k) operation runs) x r e in
       let (h, word, is) = indirection_is (node_at (states t).heap r) (meets_of claim) in
       ap is_indirection (sym (node_found states t r (safe_of claim)) ∙ is)
 
@@ -81,23 +81,23 @@ module _ (limits : Bounds) (states : ℕ → State) (last : ℕ) (run : IsRun li
       (unmarked : was.is_marked ≡ false) (has : fresh_in x was.line ≡ Some r)
       (falls : FreshFalls states run.records last t was r) where
     at_end : gen_of states last r ≡ generation_at (states t).heap r
-    at_end = used_generation limits states last run t (omega arith) r (fresh_used limits states last run t (omega arith) k was x r runs has)
+    at_end = used_generation run t (omega arith) r (fresh_used run t (omega arith) k was x r runs has)
 
     unused : IsUnused (states t) (run.records t) (gen_of states last r)
-    unused = subst (IsUnused (states t) (run.records t)) (sym at_end) ((ordered_at limits states last run t (omega arith)).roots.fresh k was x r runs unmarked has)
+    unused = subst (IsUnused (states t) (run.records t)) (sym at_end) ((ordered_at run t (omega arith)).roots.fresh k was x r runs unmarked has)
 
     counted : gen_of states last r < (states t).generations
-    counted = omega (arith, at_end, looked_up_below (states t) (below_at limits states last run t (omega arith)) r)
+    counted = omega (arith, at_end, looked_up_below (states t) (below_at run t (omega arith)) r)
 
     -- no operation has its generation
     no_start : (j : ℕ) (other : Operation) → Runs (states t) j other → other.access ≡ Writable → IsInner other.line → (g : ℕ) → other.generation ≡ Some g → gen_of states last r ≡ g → ⊥
     no_start j other runs w inner g begun same =
-        not_rooted states run.records t (handle_of other.call) g (subst (IsUnused (states t) (run.records t)) same unused) (inner_rooted limits states last run t lt j other runs w inner g begun)
+        not_rooted states run.records t (handle_of other.call) g (subst (IsUnused (states t) (run.records t)) same unused) (inner_rooted run t lt j other runs w inner g begun)
 
     only_by : (i : Ref) (b : Bool) → (words states run.records last).link t i ≡ b → (words states run.records last).link (suc t) i ≡ true → gen_of states last i ≡ gen_of states last r → i ≡ r
     only_by i true was now same = falls.only i was same
     only_by i false was now same =
-        let n = new_link limits states last run t lt know i was now in
+        let n = new_link run t lt know i was now in
         absurd (elim n.kind [
           | inl own ↦ no_start n.k n.operation n.runs n.writable n.inner n.g n.begun (sym same ∙ own)
           | inr drawn ↦ omega (arith, counted, drawn, same)
@@ -105,16 +105,16 @@ module _ (limits : Bounds) (states : ℕ → State) (last : ℕ) (run : IsRun li
 
     falls_by : (m : Ref) (g : ℕ) → was.generation ≡ Some g → Stood (words states run.records last) t r m ⊎ Brought (words states run.records last) t r m →
         FallsBelow states run.records last (suc t) g m
-    falls_by m g begun (inl stood) = falls_next limits states last run t lt g m (falls.falls m g stood begun)
+    falls_by m g begun (inl stood) = falls_next run t lt g m (falls.falls m g stood begun)
     falls_by m g begun (inr (makes none is main)) = absurd (true≢false (sym (fresh_stands t (omega arith) k was x r runs has) ∙ none))
     falls_by m g begun (inr (swaps j a stage)) =
-        let s = swaps_in limits states last run t lt know j r a m stage in
+        let s = swaps_in run t lt know j r a m stage in
         absurd (no_start s.k s.operation s.runs s.writable s.inner s.g s.begun s.own)
 
     pub fresh_still : (found : Operation) → found.generation ≡ was.generation → FreshFalls states run.records last (suc t) found r
     fresh_still found same = record {
       only = λ i link gen. only_by i ((words states run.records last).link t i) refl link gen;
-      falls = λ m g stood begun. falls_by m g (sym same ∙ begun) (comes_in (protocol_of limits states last run) t lt r m stood);
+      falls = λ m g stood begun. falls_by m g (sym same ∙ begun) (comes_in (protocol_of run) t lt r m stood);
       newer = λ g begun. falls.newer g (sym same ∙ begun);
     }
 
@@ -126,42 +126,42 @@ module _ (limits : Bounds) (states : ℕ → State) (last : ℕ) (run : IsRun li
       (takes : next_ref (states t).heap ≡ Some r)
       (noted : run.records (suc t) ≡ noted_progress (run.records t) (states t).steps (suc k) (progress_of (states t) was)) where
     new_used_root : IsInUse (states (suc t)).heap r × (node_at (states (suc t)).heap r ≡ Indirection (states t).generations main)
-    new_used_root = new_used limits states last run t lt mains k was runs o moves goes noted (Indirection (states t).generations main) r (ap (made_node (states t)) makes_it) takes
+    new_used_root = new_used run t lt mains k was runs o moves goes noted (Indirection (states t).generations main) r (ap (made_node (states t)) makes_it) takes
 
     drawn : gen_of states last r ≡ (states t).generations
     drawn =
-        told_generation states last (states t).generations r (link_used limits states last run (suc t) lt r new_used_root.0 (states t).generations main new_used_root.1)
+        told_generation states last (states t).generations r (link_used run (suc t) lt r new_used_root.0 (states t).generations main new_used_root.1)
 
     its_main : main_word states (suc t) r ≡ main
     its_main = ap main_of (sym (node_found states (suc t) r new_used_root.0) ∙ new_used_root.1)
 
     unmade : grown states t r ≡ None
-    unmade = not_yet_drawn limits states last run t (omega arith) r takes
+    unmade = not_yet_drawn run t (omega arith) r takes
 
     no_link : (words states run.records last).link t r ≡ false
     no_link = ap (λ q. is_indirection (node_of q)) unmade
 
     new_only_by : (i : Ref) (before : Option Slot) → grown states t i ≡ before → is_indirection (node_of before) ≡ false → (words states run.records last).link (suc t) i ≡ true → i ≡ r
-    new_only_by i before was none now = same_Some _ _ (sym (new_link limits states last run t lt know i (ap (λ q. is_indirection (node_of q)) was ∙ none) now).takes ∙ takes)
+    new_only_by i before was none now = same_Some _ _ (sym (new_link run t lt know i (ap (λ q. is_indirection (node_of q)) was ∙ none) now).takes ∙ takes)
 
     new_only : (i : Ref) (before : Option Slot) → grown states t i ≡ before → (words states run.records last).link (suc t) i ≡ true → gen_of states last i ≡ gen_of states last r → i ≡ r
     new_only i None was now same = new_only_by i None was refl now
-    new_only i (Some slot) was now same = absurd (omega (arith, made_below limits states last run t (omega arith) i slot was, same, drawn))
+    new_only i (Some slot) was now same = absurd (omega (arith, made_below run t (omega arith) i slot was, same, drawn))
 
     module _ (g : ℕ) (begun : was.generation ≡ Some g) (falls : FallsBelow states run.records last t g main) where
       new_falls_by : (m : Ref) → Stood (words states run.records last) t r m ⊎ Brought (words states run.records last) t r m → FallsBelow states run.records last (suc t) g m
       new_falls_by m (inl stood) =
-          absurd (true≢false (sym ((sound_at (protocol_of limits states last run) t (omega arith)).words.link r m stood) ∙ no_link))
-      new_falls_by m (inr (makes none is word)) = subst (FallsBelow states run.records last (suc t) g) (sym its_main ∙ word) (falls_next limits states last run t lt g main falls)
+          absurd (true≢false (sym ((sound_at (protocol_of run) t (omega arith)).words.link r m stood) ∙ no_link))
+      new_falls_by m (inr (makes none is word)) = subst (FallsBelow states run.records last (suc t) g) (sym its_main ∙ word) (falls_next run t lt g main falls)
       new_falls_by m (inr (swaps j a stage)) =
-          let s = swaps_in limits states last run t lt know j r a m stage in
-          absurd (omega (arith, start_below limits states last run t (omega arith) (suc s.k) s.operation s.g s.runs s.begun, s.own, drawn))
+          let s = swaps_in run t lt know j r a m stage in
+          absurd (omega (arith, start_below run t (omega arith) (suc s.k) s.operation s.g s.runs s.begun, s.own, drawn))
 
       pub fresh_new : (found : Operation) → found.generation ≡ was.generation → FreshFalls states run.records last (suc t) found r
       fresh_new found same = record {
         only = λ i link gen. new_only i (grown states t i) refl link gen;
         falls = λ m h stood told.
-            subst (λ y. FallsBelow states run.records last (suc t) y m) (same_Some _ _ (sym begun ∙ sym same ∙ told)) (new_falls_by m (comes_in (protocol_of limits states last run) t lt r m stood));
+            subst (λ y. FallsBelow states run.records last (suc t) y m) (same_Some _ _ (sym begun ∙ sym same ∙ told)) (new_falls_by m (comes_in (protocol_of run) t lt r m stood));
         newer = λ h told.
-            omega (arith, start_below limits states last run t (omega arith) (suc k) was h runs (sym same ∙ told), drawn);
+            omega (arith, start_below run t (omega arith) (suc k) was h runs (sym same ∙ told), drawn);
       }

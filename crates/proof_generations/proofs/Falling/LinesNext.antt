@@ -63,7 +63,7 @@ first_reader Ends Shut Late call = tt
 
 -- ---- ROOT
 
-module _ (limits : Bounds) (states : ℕ → State) (last : ℕ) (run : IsRun limits states last) (t : ℕ) (lt : t < last) (know : AllKnow states run.records last t)
+module _ {limits : Bounds} {states : ℕ → State} {last : ℕ} (run : IsRun limits states last) (t : ℕ) (lt : t < last) (know : AllKnow states run.records last t)
     (mains : MainsFall states run.records last (suc t)) where
   module _ (k : ℕ) (operation : Operation) (runs : Runs (states t) k operation) (o : Outcome) (moves : Moves (states t) (step.Go (suc k)) o (states (suc t)))
       (goes : GoesOn (action_of (states t) operation))
@@ -82,9 +82,9 @@ module _ (limits : Bounds) (states : ℕ → State) (last : ℕ) (run : IsRun li
     root_found : (r : Ref) → word_at (states t) (handle_of operation.call) ≡ Plain r → IsInUse (states t).heap r
     root_found r plain =
         let (root, found, access) =
-        (ordered_at limits states last run t (omega arith)).handles.on_open k operation runs
-        (no_close_at limits states last run t (omega arith) k operation runs (going_on (states t) operation operation.line goes)) in
-        let claim = root_claim (states t) root.word ((safe_at limits states last run t (omega arith)).words (handle_of operation.call) root found) in
+        (ordered_at run t (omega arith)).handles.on_open k operation runs
+        (no_close_at run t (omega arith) k operation runs (going_on (states t) operation operation.line goes)) in
+        let claim = root_claim (states t) root.word ((safe_at run t (omega arith)).words (handle_of operation.call) root found) in
         subst (λ w. IsInUse (states t).heap (root_of w)) (sym (ap word_of found) ∙ plain) (safe_of claim)
 
     abbrev KnowsAfter : After RootLine Ref → Type 0
@@ -97,7 +97,7 @@ module _ (limits : Bounds) (states : ℕ → State) (last : ℕ) (run : IsRun li
     root_knows l (Continues next) e i = absurd i
     root_knows l (Gives r) e i =
         let g = generation_at (states t).heap r in
-        let own : IsOwn states last g r = used_generation limits states last run t (omega arith) r (root_found r (root_given (states t) operation l r e)) in (
+        let own : IsOwn states last g r = used_generation run t (omega arith) r (root_found r (root_given (states t) operation l r e)) in (
           g,
           refl,
           begins_falls (IsOwn states last g) (FitsBelow states run.records last (suc t) g) (FallsBelow states run.records last (suc t) g) (LateBelow states run.records last (suc t) now_read g)
@@ -107,7 +107,7 @@ module _ (limits : Bounds) (states : ℕ → State) (last : ℕ) (run : IsRun li
     inner_by : (w : operation.access ≡ Writable) → IsInner operation.line → KnowsWritable states run.records last t was_read operation → KnowsWritable states run.records last (suc t) now_read now
     inner_by w inner knows i =
         let (g, begun, known) = knows inner in
-        (g, inner_generation (states t) operation operation.line inner ∙ begun, inner_knows limits states last run t lt mains k operation runs o moves goes noted w inner g begun known)
+        (g, inner_generation (states t) operation operation.line inner ∙ begun, inner_knows run t lt mains k operation runs o moves goes noted w inner g begun known)
 
     writable_by : (l : Line) → operation.line ≡ l → operation.access ≡ Writable → KnowsWritable states run.records last t was_read operation →
         KnowsWritable states run.records last (suc t) now_read now
@@ -130,7 +130,7 @@ module _ (limits : Bounds) (states : ℕ → State) (last : ℕ) (run : IsRun li
     goes_knows : KnowsGenerations states run.records last (suc t) now_read now
     goes_knows = (
       λ w. writable_by operation.line refl w ((know k operation runs).0 w),
-      λ r. reader_knows limits states last run t lt mains k operation runs o moves goes noted r ((know k operation runs).1 r),
+      λ r. reader_knows run t lt mains k operation runs o moves goes noted r ((know k operation runs).1 r),
     )
 
   begins_knows : (x : Moment) (call : Call) (number : Option ℕ) → KnowsGenerations states run.records last (suc t) x (begun_operation (states t) call number)
@@ -147,7 +147,7 @@ module _ (limits : Bounds) (states : ℕ → State) (last : ℕ) (run : IsRun li
         subst (λ x. KnowsGenerations states run.records last (suc t) x found) (sym same)
         (subst (KnowsGenerations states run.records last (suc t) (moment_at (run.records t) (suc k))) (sym it)
         (marked_knows states run.records last (suc t) (moment_at (run.records t) (suc k)) (marks_in (states t) s) was
-        (knows_next limits states last run t lt (moment_at (run.records t) (suc k)) was (know k was at_was))))
+        (knows_next run t lt (moment_at (run.records t) (suc k)) was (know k was at_was))))
     comes_knows k found (went was is at_was g it) =
         let goes_noted : run.records (suc t) ≡ noted_progress (run.records t) (states t).steps (suc k) (progress_of (states t) was) =
         notes ∙ ap (λ q. noted (run.records t) (states t).steps (told_in (states t) q)) is ∙ noted_going (states t) (run.records t) (suc k) was _ at_was refl g in

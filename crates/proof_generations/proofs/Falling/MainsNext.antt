@@ -42,12 +42,12 @@ inner_goes : (l : Line) → IsInner l → is_end l ≡ false
 inner_goes (line.End answer) i = absurd i
 inner_goes l i = refl
 
-module _ (limits : Bounds) (states : ℕ → State) (last : ℕ) (run : IsRun limits states last) (t : ℕ) (lt : t < last) where
+module _ {limits : Bounds} {states : ℕ → State} {last : ℕ} (run : IsRun limits states last) (t : ℕ) (lt : t < last) where
   -- an operation that has a generation is rooted there
   pub inner_rooted : (k : ℕ) (operation : Operation) → Runs (states t) k operation → operation.access ≡ Writable → IsInner operation.line → (g : ℕ) → operation.generation ≡ Some g →
       IsRooted states run.records t (handle_of operation.call) g
   inner_rooted k operation runs w inner g e =
-      rooted_at limits states last run t (omega arith) k operation g runs (no_close_at limits states last run t (omega arith) k operation runs (inner_goes operation.line inner)) w e
+      rooted_at run t (omega arith) k operation g runs (no_close_at run t (omega arith) k operation runs (inner_goes operation.line inner)) w e
 
   module _ (know : AllKnow states run.records last t) where
     -- ---- what is swapped in
@@ -85,12 +85,12 @@ module _ (limits : Bounds) (states : ℕ → State) (last : ℕ) (run : IsRun li
     -- ---- below what is brought in
 
     module _ (mains : MainsFall states run.records last t) (fresh : FreshFall states run.records last t) where
-      new_older : (i m : Ref) → NewLink limits states last run t lt know i → main_word states (suc t) i ≡ m →
+      new_older : (i m : Ref) → NewLink run t lt know i → main_word states (suc t) i ≡ m →
           All (NotNewer states last (gen_of states last i)) (entries_of (node_under states last m))
       new_older i m n is = elim n.kind [
         | inl own ↦ subst (λ g. All (NotNewer states last g) (entries_of (node_under states last m))) (sym own) older
         | inr drawn ↦
-            let less = start_below limits states last run t (omega arith) (suc n.k) n.operation n.g n.runs n.begun in
+            let less = start_below run t (omega arith) (suc n.k) n.operation n.g n.runs n.begun in
             All-weaker (NotNewer states last n.g) (NotNewer states last (gen_of states last i)) (λ r le h link. omega (arith, le h link, less, drawn)) (entries_of (node_under states last m)) older
       ]
         where
@@ -100,18 +100,18 @@ module _ (limits : Bounds) (states : ℕ → State) (last : ℕ) (run : IsRun li
       older_by : (i m : Ref) → Stood (words states run.records last) t i m ⊎ Brought (words states run.records last) t i m →
           All (NotNewer states last (gen_of states last i)) (entries_of (node_under states last m))
       older_by i m (inl stood) = mains.older i m stood
-      older_by i m (inr (makes was is main)) = new_older i m (new_link limits states last run t lt know i was is) main
+      older_by i m (inr (makes was is main)) = new_older i m (new_link run t lt know i was is) main
       older_by i m (inr (swaps k a stage)) =
           let s = swaps_in k i a m stage in
           subst (λ g. All (NotNewer states last g) (entries_of (node_under states last m))) (sym s.own) (falls_older states run.records last t s.g m s.falls)
 
       -- ---- what falls
 
-      new_falls : (i m : Ref) → NewLink limits states last run t lt know i → main_word states (suc t) i ≡ m → WasOpened states (suc t) (gen_of states last i) →
+      new_falls : (i m : Ref) → NewLink run t lt know i → main_word states (suc t) i ≡ m → WasOpened states (suc t) (gen_of states last i) →
           FallsBelow states run.records last (suc t) (gen_of states last i) m
       new_falls i m n is was = elim n.kind [
-        | inl own ↦ subst (λ g. FallsBelow states run.records last (suc t) g m) (sym own) (falls_next limits states last run t lt n.g m (subst (FallsBelow states run.records last t n.g) is n.falls))
-        | inr drawn ↦ absurd (drawn_unopened limits states last run t lt (subst (λ g. WasOpened states (suc t) g) drawn was))
+        | inl own ↦ subst (λ g. FallsBelow states run.records last (suc t) g m) (sym own) (falls_next run t lt n.g m (subst (FallsBelow states run.records last t n.g) is n.falls))
+        | inr drawn ↦ absurd (drawn_unopened run t lt (subst (λ g. WasOpened states (suc t) g) drawn was))
       ]
 
       -- the operation that offers has its generation, and that is the one of the root that it offers to replace
@@ -141,36 +141,36 @@ module _ (limits : Bounds) (states : ℕ → State) (last : ℕ) (run : IsRun li
       offered_root : (handle : ℕ) (offer : Descriptor) (stands : StandsBy (states t) handle offer) → generation_at (states t).heap offer.root ≡ gen_of states last offer.root
       offered_root handle offer stands =
           let (c, is, same) = completes_it stands.owner.line offer stands.completes in
-          let wants = line_finds (states t) (safe_at limits states last run t (omega arith)) (suc stands.k) stands.owner stands.runs in
+          let wants = line_finds (states t) (safe_at run t (omega arith)) (suc stands.k) stands.owner stands.runs in
           let here = subst (λ l. AllHold (IsInUse (states t).heap) (states t).heap (line_wants (states t).limits.hash stands.owner.call stands.owner.access l)) is wants in
           let used = subst (λ (d : Descriptor). IsInUse (states t).heap d.root) same (root_in_use c here) in
-          sym (used_generation limits states last run t (omega arith) offer.root used)
+          sym (used_generation run t (omega arith) offer.root used)
 
       -- below a fresh root that is carried out all is closed
-      opened_falls : (i m : Ref) → Stood (words states run.records last) t i m → Opening limits states last run t (gen_of states last i) →
+      opened_falls : (i m : Ref) → Stood (words states run.records last) t i m → Opening run t (gen_of states last i) →
           FallsBelow states run.records last (suc t) (gen_of states last i) m
-      opened_falls i m stood (before was) = falls_next limits states last run t lt (gen_of states last i) m (mains.falls i m stood was)
+      opened_falls i m stood (before was) = falls_next run t lt (gen_of states last i) m (mains.falls i m stood was)
       opened_falls i m stood (opens handle offer stands x r f its closed) =
           let own : fresh_in x stands.owner.line ≡ Some r = its_fresh stands.owner.line offer x r stands.completes f in
           let falls = fresh stands.k stands.owner x r stands.runs stands.unmarked own in
-          let sound = sound_at (protocol_of limits states last run) t (omega arith) in
+          let sound = sound_at (protocol_of run) t (omega arith) in
           let same : i ≡ r = falls.only i (sound.words.link i m stood) (sym its) in
           let (g, begun, root) = offerer handle offer stands in
           let below = falls.falls m g (subst (λ q. Stood (words states run.records last) t q m) same stood) begun in
           falls_below states run.records last (suc t) (gen_of states last i) g m
           (inr (omega (arith, falls.newer g begun, its), subst (λ h. WasClosed run.records (suc t) h) (offered_root handle offer stands ∙ root) closed))
-          (falls_next limits states last run t lt g m below)
+          (falls_next run t lt g m below)
 
       falls_by : (i m : Ref) → WasOpened states (suc t) (gen_of states last i) → Stood (words states run.records last) t i m ⊎ Brought (words states run.records last) t i m →
           FallsBelow states run.records last (suc t) (gen_of states last i) m
-      falls_by i m was (inl stood) = opened_falls i m stood (opening limits states last run t lt (gen_of states last i) was)
-      falls_by i m was (inr (makes none is main)) = new_falls i m (new_link limits states last run t lt know i none is) main was
+      falls_by i m was (inl stood) = opened_falls i m stood (opening run t lt (gen_of states last i) was)
+      falls_by i m was (inr (makes none is main)) = new_falls i m (new_link run t lt know i none is) main was
       falls_by i m was (inr (swaps k a stage)) =
           let s = swaps_in k i a m stage in
-          subst (λ g. FallsBelow states run.records last (suc t) g m) (sym s.own) (falls_next limits states last run t lt s.g m s.falls)
+          subst (λ g. FallsBelow states run.records last (suc t) g m) (sym s.own) (falls_next run t lt s.g m s.falls)
 
       pub mains_next : MainsFall states run.records last (suc t)
       mains_next = record {
-        older = λ i m stood. older_by i m (comes_in (protocol_of limits states last run) t lt i m stood);
-        falls = λ i m stood was. falls_by i m was (comes_in (protocol_of limits states last run) t lt i m stood);
+        older = λ i m stood. older_by i m (comes_in (protocol_of run) t lt i m stood);
+        falls = λ i m stood was. falls_by i m was (comes_in (protocol_of run) t lt i m stood);
       }

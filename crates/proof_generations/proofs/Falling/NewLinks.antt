@@ -48,7 +48,7 @@ reader_makes Ends Shut Late state operation (line.Clean l) n k e = k
 reader_makes Ends Shut Late state operation (line.Climb l) n k e = k
 reader_makes Ends Shut Late state operation (line.Copy l) n k e = k
 
-module _ (limits : Bounds) (states : ℕ → State) (last : ℕ) (run : IsRun limits states last) (t : ℕ) (lt : t < last) (know : AllKnow states run.records last t) where
+module _ {limits : Bounds} {states : ℕ → State} {last : ℕ} (run : IsRun limits states last) (t : ℕ) (lt : t < last) (know : AllKnow states run.records last t) where
   -- an indirection that step t makes
   pub record NewLink (n : Ref) : Type 0 where
     pub k : ℕ
@@ -64,7 +64,7 @@ module _ (limits : Bounds) (states : ℕ → State) (last : ℕ) (run : IsRun li
 
   module _ (n : Ref) (slot : Slot) (here : grown states (suc t) n ≡ Some slot) (m : Made (states t) n slot) (h : ℕ) (word : Ref) (is : m.node ≡ Indirection h word) where
     generation_is : (g : ℕ) (w : Ref) → m.node ≡ Indirection g w → gen_of states last n ≡ g
-    generation_is g w e = told_generation states last g n (link_stands limits states last run (suc t) lt n slot here g w (m.its_node ∙ e))
+    generation_is g w e = told_generation states last g n (link_stands run (suc t) lt n slot here g w (m.its_node ∙ e))
 
     -- over this main node
     link_over : (k : ℕ) → Runs (states t) k m.operation → m.operation.access ≡ Writable → (g : ℕ) → m.operation.generation ≡ Some g → (generation : ℕ) (below : Ref) →
@@ -86,7 +86,7 @@ module _ (limits : Bounds) (states : ℕ → State) (last : ℕ) (run : IsRun li
     new_by : (k : ℕ) → Runs (states t) k m.operation → m.operation.access ≡ Writable → (g : ℕ) → (begun : m.operation.generation ≡ Some g) →
         IsNewLink (states t) m.operation g begun (IsOwn states last g) (FitsBelow states run.records last t g) (FallsBelow states run.records last t g)
         (LateBelow states run.records last t (moment_at (run.records t) (suc k)) g) (IsInUse (states t).heap)
-        (own_fits states run.records last t g) (single_fits limits states last run t lt t g) (entries_fit limits states last run t lt t g) m.operation.line m.node →
+        (own_fits states run.records last t g) (single_fits run t lt t g) (entries_fit run t lt t g) m.operation.line m.node →
         NewLink n
     new_by k runs w g begun (inl (below, is_own, falls)) = link_over k runs w g begun _ below is_own falls (inl (generation_is g below is_own))
     new_by k runs w g begun (inr (action, (main, is_root, falls))) = link_over k runs w g begun _ main is_root falls (inr (generation_is (states t).generations main is_root))
@@ -98,11 +98,11 @@ module _ (limits : Bounds) (states : ℕ → State) (last : ℕ) (run : IsRun li
         new_by k runs w g begun
         (link_made (states t) m.operation g begun (IsOwn states last g) (FitsBelow states run.records last t g) (FallsBelow states run.records last t g)
         (LateBelow states run.records last t (moment_at (run.records t) (suc k)) g) (IsInUse (states t).heap)
-        (own_fits states run.records last t g) (single_fits limits states last run t lt t g) (entries_fit limits states last run t lt t g) m.operation.line m.node h word is m.makes_it
+        (own_fits states run.records last t g) (single_fits run t lt t g) (entries_fit run t lt t g) m.operation.line m.node h word is m.makes_it
         (node_made (states t) m.operation g begun (IsOwn states last g) (FitsBelow states run.records last t g) (FallsBelow states run.records last t g)
         (LateBelow states run.records last t (moment_at (run.records t) (suc k)) g) (IsInUse (states t).heap)
-        (own_fits states run.records last t g) (single_fits limits states last run t lt t g) (entries_fit limits states last run t lt t g) m.operation.line known
-        (line_finds (states t) (safe_at limits states last run t (omega arith)) m.actor m.operation m.runs) m.node m.makes_it))
+        (own_fits states run.records last t g) (single_fits run t lt t g) (entries_fit run t lt t g) m.operation.line known
+        (line_finds (states t) (safe_at run t (omega arith)) m.actor m.operation m.runs) m.node m.makes_it))
     new_from k runs ReadOnly w knows =
         absurd (reader_makes (Ends states run.records last t) (Shut states run.records last t) (LateEnd states run.records last t (moment_at (run.records t) (suc k)))
         (states t) m.operation m.operation.line m.node (knows.1 w) m.makes_it)
@@ -117,16 +117,16 @@ module _ (limits : Bounds) (states : ℕ → State) (last : ℕ) (run : IsRun li
       is_indirection (node_of after) ≡ true → NewLink n
   link_by n before None at_t at_next was is = absurd (true≢false (sym is))
   link_by n None (Some slot) at_t at_next was is =
-      made_by n slot at_next is (new_is_made (states t) (grown states t) (grown states (suc t)) (word_move limits states last run t lt) n slot at_t at_next)
+      made_by n slot at_next is (new_is_made (states t) (grown states t) (grown states (suc t)) (word_move run t lt) n slot at_t at_next)
   link_by n (Some old) (Some slot) at_t at_next was is =
-      let (now, found, ((m, e), birth)) = grown_stays limits states last run t (suc t) (omega arith) lt n old at_t in
+      let (now, found, ((m, e), birth)) = grown_stays run t (suc t) (omega arith) lt n old at_t in
       let same : is_indirection (node_of (Some slot)) ≡ is_indirection old.node = ap (λ o. is_indirection (node_of o)) (sym at_next ∙ found) ∙ ap is_indirection e ∙ link_kept m old.node in
       absurd (true≢false (sym is ∙ same ∙ was))
 
   pub new_link : (n : Ref) → (words states run.records last).link t n ≡ false → (words states run.records last).link (suc t) n ≡ true → NewLink n
   new_link n was is = link_by n (grown states t n) (grown states (suc t) n) refl refl was is
 
-module _ (limits : Bounds) (states : ℕ → State) (last : ℕ) (run : IsRun limits states last) (t : ℕ) (lt : t < last) where
+module _ {limits : Bounds} {states : ℕ → State} {last : ℕ} (run : IsRun limits states last) (t : ℕ) (lt : t < last) where
   -- ---- a root that is made
 
   module _ (k : ℕ) (operation : Operation) (runs : Runs (states t) k operation) (g : ℕ) (begun : operation.generation ≡ Some g)
@@ -138,7 +138,7 @@ module _ (limits : Bounds) (states : ℕ → State) (last : ℕ) (run : IsRun li
 
     root_below : IsNewLink (states t) operation g begun (IsOwn states last g) (FitsBelow states run.records last t g) (FallsBelow states run.records last t g)
         (LateBelow states run.records last t (moment_at (run.records t) (suc k)) g) (IsInUse (states t).heap)
-        (own_fits states run.records last t g) (single_fits limits states last run t lt t g) (entries_fit limits states last run t lt t g) operation.line root_node →
+        (own_fits states run.records last t g) (single_fits run t lt t g) (entries_fit run t lt t g) operation.line root_node →
         FallsBelow states run.records last t g main
     root_below (inl (word, is, falls)) =
         let same : main ≡ word = cc is in
@@ -153,9 +153,9 @@ module _ (limits : Bounds) (states : ℕ → State) (last : ℕ) (run : IsRun li
         root_below
         (link_made (states t) operation g begun (IsOwn states last g) (FitsBelow states run.records last t g) (FallsBelow states run.records last t g)
         (LateBelow states run.records last t (moment_at (run.records t) (suc k)) g) (IsInUse (states t).heap)
-        (own_fits states run.records last t g) (single_fits limits states last run t lt t g) (entries_fit limits states last run t lt t g) operation.line root_node
+        (own_fits states run.records last t g) (single_fits run t lt t g) (entries_fit run t lt t g) operation.line root_node
         (states t).generations main refl (ap (made_node (states t)) makes_it)
         (node_made (states t) operation g begun (IsOwn states last g) (FitsBelow states run.records last t g) (FallsBelow states run.records last t g)
         (LateBelow states run.records last t (moment_at (run.records t) (suc k)) g) (IsInUse (states t).heap)
-        (own_fits states run.records last t g) (single_fits limits states last run t lt t g) (entries_fit limits states last run t lt t g) operation.line known
-        (line_finds (states t) (safe_at limits states last run t (omega arith)) (suc k) operation runs) root_node (ap (made_node (states t)) makes_it)))
+        (own_fits states run.records last t g) (single_fits run t lt t g) (entries_fit run t lt t g) operation.line known
+        (line_finds (states t) (safe_at run t (omega arith)) (suc k) operation runs) root_node (ap (made_node (states t)) makes_it)))

@@ -6,16 +6,16 @@ use Rattle.proof_generations.specs.Beneath.proof_memory.specs.Wants.{is_indirect
 use Rattle.proof_generations.specs.Beneath.proof_memory.proofs.Claims.Nodes.{no_main}
 use Rattle.proof_generations.specs.Beneath.proof_memory.proofs.Heap.NoRef.{nothing_stands}
 
-module _ (limits : Bounds) (states : ℕ → State) (last : ℕ) (run : IsRun limits states last) where
+module _ {limits : Bounds} {states : ℕ → State} {last : ℕ} (run : IsRun limits states last) where
   -- its node is an empty branch
   pub no_node : (t : ℕ) → t ≤ last → node_under states t no_ref ≡ empty_branch
-  no_node t h = ap node_of (nothing_stands limits states last run t h)
+  no_node t h = ap node_of (nothing_stands run t h)
 
   -- what is no indirection has no main node
   pub no_main_before : (t : ℕ) → t ≤ last → (i : Ref) → is_indirection (node_under states t i) ≡ false → main_before states t i ≡ no_ref
   no_main_before t h i e =
       let word : main_word states t i ≡ no_ref = no_main (node_under states t i) e in
-      ap (λ w. logical w (prev_word states t w)) word ∙ ap (logical no_ref) (ap prev_of (nothing_stands limits states last run t h))
+      ap (λ w. logical w (prev_word states t w)) word ∙ ap (logical no_ref) (ap prev_of (nothing_stands run t h))
 
   -- the main node that counts is that of some time from then on
   pub record CountsAt (t : ℕ) (i : Ref) : Type 0 where

@@ -30,14 +30,14 @@ no_single : (node : Node) (h : ℕ) (word : Ref) → meets ASingle node ≡ true
 no_single node h word e is = false≢true (sym (ap (meets ASingle) is) ∙ e)
 
 -- what stands under a reference stays, but for main words
-pub nodes_stay : (limits : Bounds) (states : ℕ → State) (last : ℕ) → IsRun limits states last → NodesStay states last
-nodes_stay limits states last run t u le within r was e = let (now, found, same) = grown_stays limits states last run t u le within r was e in (now, found, same.0)
+pub nodes_stay : {limits : Bounds} {states : ℕ → State} {last : ℕ} → IsRun limits states last → NodesStay states last
+nodes_stay {limits} {states} {last} run t u le within r was e = let (now, found, same) = grown_stays run t u le within r was e in (now, found, same.0)
 
-module _ (limits : Bounds) (states : ℕ → State) (last : ℕ) (run : IsRun limits states last) (t : ℕ) (within : t ≤ last) where
+module _ {limits : Bounds} {states : ℕ → State} {last : ℕ} (run : IsRun limits states last) (t : ℕ) (within : t ≤ last) where
   -- what was made by then
   pub made_same : (r : Ref) (slot : Slot) → grown states t r ≡ Some slot → SameNode slot.node (node_under states last r)
   made_same r slot e =
-      let (now, found, same) = grown_stays limits states last run t last within (omega arith) r slot e in
+      let (now, found, same) = grown_stays run t last within (omega arith) r slot e in
       subst (λ o. SameNode slot.node (node_of o)) (sym found) same.0
 
   -- what is in use then

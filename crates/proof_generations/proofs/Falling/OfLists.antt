@@ -73,7 +73,7 @@ module _ (state : State) (I : IsSafe state) where
 
 -- ---- along a run
 
-module _ (limits : Bounds) (states : ℕ → State) (last : ℕ) (run : IsRun limits states last) where
+module _ {limits : Bounds} {states : ℕ → State} {last : ℕ} (run : IsRun limits states last) where
   abbrev U : Ref → Type 0
   U = IsInUse (states last).heap
 
@@ -88,8 +88,8 @@ module _ (limits : Bounds) (states : ℕ → State) (last : ℕ) (run : IsRun li
 
       by : HasMain (states last) i m → Stood (words states run.records last) last i m
       by (inl counts) =
-          subst (Stood (words states run.records last) last i) (sym (logical_standing limits states last (known limits states last run) last within i used.0 used.1 link) ∙ counts)
-          (main_stood limits states last run last within i link)
+          subst (Stood (words states run.records last) last i) (sym (logical_standing limits states last (known run) last within i used.0 used.1 link) ∙ counts)
+          (main_stood run last within i link)
       by (inr word) = stands_now link (sym (main_found states last i used) ∙ word)
 
   -- an indirection below another one
@@ -105,10 +105,10 @@ module _ (limits : Bounds) (states : ℕ → State) (last : ℕ) (run : IsRun li
   below_so i child used used_child m used_main l has among link = record {
     main = m;
     stood = main_stands i m used l has;
-    among = subst (λ es. Contains es child) (sym (used_entries limits states last run last within m used_main)) among;
+    among = subst (λ es. Contains es child) (sym (used_entries run last within m used_main)) among;
     link = let (h, word, is) = indirection_is (node_at (states last).heap child) link in
-        subst (λ g. IsIndirectionOf states last g child) (sym (ap generation_of is)) (link_used limits states last run last within child used_child h word is);
-    its = used_generation limits states last run last within i used;
+        subst (λ g. IsIndirectionOf states last g child) (sym (ap generation_of is)) (link_used run last within child used_child h word is);
+    its = used_generation run last within i used;
   }
 
   falls_so : (i child : Ref) → Below i child →
@@ -123,7 +123,7 @@ module _ (limits : Bounds) (states : ℕ → State) (last : ℕ) (run : IsRun li
   )
     where
       mains : MainsFall states run.records last last
-      mains = (all_falls limits states last run last within).mains
+      mains = (all_falls run last within).mains
 
       by : MayStandBelow run.records last (generation_at (states last).heap i) (generation_at (states last).heap child) →
           (generation_at (states last).heap child ≡ generation_at (states last).heap i) ⊎ ((c : ℕ) × (closed_at (run.records last) (generation_at (states last).heap child) ≡ Some c))

@@ -46,7 +46,7 @@ offered_root : (o : Option Root) (offer : Descriptor) → word_of o ≡ Offer of
 offered_root None offer e = let wrong : ⊥ = cc e in absurd wrong
 offered_root (Some root) offer e = (root, refl, ap root_of e)
 
-module _ (limits : Bounds) (states : ℕ → State) (last : ℕ) (run : IsRun limits states last) where
+module _ {limits : Bounds} {states : ℕ → State} {last : ℕ} (run : IsRun limits states last) where
   -- ---- closings
 
   closed_by : (t : ℕ) → IsOrdered (states t) (run.records t) → (turn : Turn (states t) (states (suc t))) → run.records (suc t) ≡ noted_turn turn (run.records t) → (g c : ℕ) →
@@ -54,7 +54,7 @@ module _ (limits : Bounds) (states : ℕ → State) (last : ℕ) (run : IsRun li
   closed_by t I (turns s o m) notes g c e = closed_stays (states t) I.offers (run.records t) (run.records (suc t)) s o (states (suc t)) m notes g c e
 
   pub closed_next : (t : ℕ) → t < last → (g c : ℕ) → closed_at (run.records t) g ≡ Some c → closed_at (run.records (suc t)) g ≡ Some c
-  closed_next t h = closed_by t (ordered_at limits states last run t (omega arith)) (run.turn t h) (run.recorded t h)
+  closed_next t h = closed_by t (ordered_at run t (omega arith)) (run.turn t h) (run.recorded t h)
 
   pub was_closed_next : (t : ℕ) → t < last → (g : ℕ) → WasClosed run.records t g → WasClosed run.records (suc t) g
   was_closed_next t h g (c, before, e) = (c, omega arith, closed_next t h g c e)
@@ -105,8 +105,8 @@ module _ (limits : Bounds) (states : ℕ → State) (last : ℕ) (run : IsRun li
     where
       by : (was : Option ℕ) → closed_at (run.records t) g ≡ was → ((g c : ℕ) → closed_at (run.records t) g ≡ Some c → (c < t) × WasOpened states t g) → (c < suc t) × WasOpened states (suc t) g
       by None is before =
-          let closes = closes_turn t (ordered_at limits states last run t (omega arith)) (run.turn t h) (run.recorded t h) g c is e in
-          (omega (arith, closes.0, steps_at limits states last run t (omega arith)), (t, omega arith, (closes.1.handle, closes.1.root, closes.1.is_open, closes.1.its)))
+          let closes = closes_turn t (ordered_at run t (omega arith)) (run.turn t h) (run.recorded t h) g c is e in
+          (omega (arith, closes.0, steps_at run t (omega arith)), (t, omega arith, (closes.1.handle, closes.1.root, closes.1.is_open, closes.1.its)))
       by (Some d) is before =
           let same : d ≡ c = same_Some _ _ (sym (closed_next t h g d is) ∙ e) in
           let past = before g d is in
@@ -118,7 +118,7 @@ module _ (limits : Bounds) (states : ℕ → State) (last : ℕ) (run : IsRun li
   -- a root that stands is in use
   pub standing_generation : (t : ℕ) → t ≤ last → (handle : ℕ) (root : Root) → root_at (states t) handle ≡ Some root → generation_of (node_under states last (root_of root.word)) ≡ gen (states t) root
   standing_generation t h handle root e =
-      used_generation limits states last run t h (root_of root.word) (root_used (states t) (safe_at limits states last run t h) handle root e)
+      used_generation run t h (root_of root.word) (root_used (states t) (safe_at run t h) handle root e)
 
   -- ---- what a step opens
 
@@ -130,7 +130,7 @@ module _ (limits : Bounds) (states : ℕ → State) (last : ℕ) (run : IsRun li
 
   module _ (t : ℕ) (h : t < last) (s : Step) (o : Outcome) (m : Moves (states t) s o (states (suc t))) (g : ℕ) where
     abbrev I : IsOrdered (states t) (run.records t)
-    I = ordered_at limits states last run t (omega arith)
+    I = ordered_at run t (omega arith)
 
     kept_root : (handle : ℕ) (root now : Root) → root_at (states t) handle ≡ Some root → root_of now.word ≡ root_of root.word → gen (states (suc t)) now ≡ g → WasOpened states t g
     kept_root handle root now e word its = (
@@ -140,7 +140,7 @@ module _ (limits : Bounds) (states : ℕ → State) (last : ℕ) (run : IsRun li
         handle,
         root,
         e,
-        sym (root_kept (states t) (safe_at limits states last run t (omega arith)) s o (states (suc t)) m handle root e)
+        sym (root_kept (states t) (safe_at run t (omega arith)) s o (states (suc t)) m handle root e)
             ∙ sym (ap (generation_at (states (suc t)).heap) word) ∙ its,
       ),
     )
@@ -154,7 +154,7 @@ module _ (limits : Bounds) (states : ℕ → State) (last : ℕ) (run : IsRun li
         by : (was : Option ℕ) → closed_at (run.records t) (generation_at (states t).heap offer.root) ≡ was → WasClosed run.records (suc t) (generation_at (states t).heap offer.root)
         by None none = (
           (states t).steps,
-          omega (arith, steps_at limits states last run t (omega arith)),
+          omega (arith, steps_at run t (omega arith)),
           ap (λ l. closed_in l (generation_at (states t).heap offer.root)) closings ∙ closed_last (run.records t).closings (closing_of (states t) offer)
               (generation_at (states t).heap offer.root) none refl,
         )
@@ -192,7 +192,7 @@ module _ (limits : Bounds) (states : ℕ → State) (last : ℕ) (run : IsRun li
   opening_turn : (t : ℕ) → t < last → (g : ℕ) (turn : Turn (states t) (states (suc t))) → run.records (suc t) ≡ noted_turn turn (run.records t) → (handle : ℕ) (now : Root) →
       root_at (states (suc t)) handle ≡ Some now → gen (states (suc t)) now ≡ g → Opening t g
   opening_turn t h g (turns s o m) notes =
-      opening_by t h s o m g (step_kind (states t) (ordered_at limits states last run t (omega arith)).offers (run.records t) (run.records (suc t)) s o (states (suc t)) m notes)
+      opening_by t h s o m g (step_kind (states t) (ordered_at run t (omega arith)).offers (run.records t) (run.records (suc t)) s o (states (suc t)) m notes)
 
   pub opening : (t : ℕ) → t < last → (g : ℕ) → WasOpened states (suc t) g → Opening t g
   opening t h g (u, le, (handle, root, e, its)) = elim (cases_eq u (suc t)) [

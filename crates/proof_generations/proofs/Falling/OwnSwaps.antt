@@ -9,13 +9,13 @@ use Rattle.proof_generations.proofs.Lines.Reader.{KnowsReader}
 use Rattle.proof_generations.proofs.Falling.Runs.{gen_of, IsOwn, FitsBelow, FallsBelow, LateBelow, Ends, Shut, LateEnd, KnowsGenerations}
 use Rattle.proof_generations.proofs.Falling.Along.{all_falls}
 
-module _ (limits : Bounds) (states : ℕ → State) (last : ℕ) (run : IsRun limits states last) where
+module _ {limits : Bounds} {states : ℕ → State} {last : ℕ} (run : IsRun limits states last) where
   -- what an operation knows of its line
   pub knows_at : (t : ℕ) → t ≤ last → (actor : ℕ) (operation : Operation) → operation_of (states t) actor ≡ Some operation →
       KnowsGenerations states run.records last t (moment_at (run.records t) actor) operation
   knows_at t within actor operation is =
       let (k, place, runs) = place_of_actor (states t) actor operation is in
-      subst (λ j. KnowsGenerations states run.records last t (moment_at (run.records t) j) operation) (sym place) ((all_falls limits states last run t within).lines k operation runs)
+      subst (λ j. KnowsGenerations states run.records last t (moment_at (run.records t) j) operation) (sym place) ((all_falls run t within).lines k operation runs)
 
   swaps_by : (t : ℕ) (x : Moment) (operation : Operation) (why : Purpose) (s : Swap) → operation.line ≡ line.Swap why s → KnowsGenerations states run.records last t x operation →
       (access : Access) → operation.access ≡ access →

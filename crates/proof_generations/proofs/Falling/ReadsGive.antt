@@ -37,7 +37,7 @@ counts_late (read.Abort m p offer) c t before lt (inl e) = let wrong : ⊥ = cc 
 counts_late (read.Decide m p told) c t before lt (inr late) = late
 counts_late (read.Decide m p told) c t before lt (inl e) = let wrong : ⊥ = cc e in absurd wrong
 
-module _ (limits : Bounds) (states : ℕ → State) (last : ℕ) (run : IsRun limits states last) (t : ℕ) (lt : t < last) (actor : ℕ) (operation : Operation)
+module _ {limits : Bounds} {states : ℕ → State} {last : ℕ} (run : IsRun limits states last) (t : ℕ) (lt : t < last) (actor : ℕ) (operation : Operation)
     (is : operation_of (states t) actor ≡ Some operation) (r : Read) (stage : stage_of operation.line ≡ Reads r.indirection r.line) where
   -- its action is the READ's
   pub reads_action : action_of (states t) operation ≡ read_action r.indirection r.line
@@ -55,16 +55,16 @@ module _ (limits : Bounds) (states : ℕ → State) (last : ℕ) (run : IsRun li
   reads_goes = subst GoesOn (sym reads_action) (read_goes r.indirection r.line)
 
 -- and what is noted of it
-module _ (limits : Bounds) (states : ℕ → State) (last : ℕ) (run : IsRun limits states last) (t : ℕ) (lt : t < last) (actor : ℕ) (operation : Operation)
+module _ {limits : Bounds} {states : ℕ → State} {last : ℕ} (run : IsRun limits states last) (t : ℕ) (lt : t < last) (actor : ℕ) (operation : Operation)
     (is : operation_of (states t) actor ≡ Some operation) (r : Read) (stage : stage_of operation.line ≡ Reads r.indirection r.line)
     (noted : run.records (suc t) ≡ noted_progress (run.records t) (states t).steps actor (progress_of (states t) operation)) where
   -- the time from which it counts
   pub counted_at : is_actor (states t) actor ≡ true → (moment_at (run.records (suc t)) actor).read_at ≡ counts_at r.line t (moment_at (run.records t) actor).read_at
   counted_at own =
       ap (λ past. (moment_at past actor).read_at) noted
-      ∙ ap (λ (x : Moment). x.read_at) (moment_goes (states t) (run.records t) actor operation (alike limits states last run t (omega arith)) own)
-      ∙ ap (λ a. read_at_after (states t).steps (counts_from a) (moment_at (run.records t) actor).read_at) (reads_action limits states last run t lt actor operation is r stage)
-      ∙ ap (λ n. read_at_after n (counts_from (read_action r.indirection r.line)) (moment_at (run.records t) actor).read_at) (steps_at limits states last run t (omega arith))
+      ∙ ap (λ (x : Moment). x.read_at) (moment_goes (states t) (run.records t) actor operation (alike run t (omega arith)) own)
+      ∙ ap (λ a. read_at_after (states t).steps (counts_from a) (moment_at (run.records t) actor).read_at) (reads_action run t lt actor operation is r stage)
+      ∙ ap (λ n. read_at_after n (counts_from (read_action r.indirection r.line)) (moment_at (run.records t) actor).read_at) (steps_at run t (omega arith))
       ∙ read_counts r.indirection r.line t (moment_at (run.records t) actor).read_at
 
   pub late_after : is_actor (states t) actor ≡ true → (c : ℕ) → c < t → (r.line ≡ read.Main) ⊎ (c < (moment_at (run.records t) actor).read_at) →
@@ -75,8 +75,8 @@ module _ (limits : Bounds) (states : ℕ → State) (last : ℕ) (run : IsRun li
   pub given_stands : (o : Outcome) → Moves (states t) (step.Go actor) o (states (suc t)) → (m : Ref) → read_step (states t) operation r ≡ Gives m →
       Stood (words states run.records last) (suc t) r.indirection m
   given_stands o moves m gives =
-      let turn = reading_turn limits states last (known limits states last run) t lt actor operation o moves is noted r.indirection r.line stage in
+      let turn = reading_turn limits states last (known run) t lt actor operation o moves is noted r.indirection r.line stage in
       let out = given_read r.indirection (read_after (states t).heap operation.access (word_at (states t) (handle_of operation.call)) r.indirection r.line) m gives in
       let given : Given (words states run.records last) (suc t) actor r.indirection m =
       record { at = t; past = omega arith; line = r.line; stage = ap stage_of_actor is ∙ stage; gives = subst (λ x. ReadTurn (words states run.records last) t r.indirection r.line x) out turn } in
-      ((sound_at (protocol_of limits states last run) (suc t) lt).given actor r.indirection m given).stood
+      ((sound_at (protocol_of run) (suc t) lt).given actor r.indirection m given).stood

@@ -115,21 +115,21 @@ module _ (states : ℕ → State) (records : ℕ → Record) (last : ℕ) where
 
 -- ---- later
 
-module _ (limits : Bounds) (states : ℕ → State) (last : ℕ) (run : IsRun limits states last) (t : ℕ) (lt : t < last) where
+module _ {limits : Bounds} {states : ℕ → State} {last : ℕ} (run : IsRun limits states last) (t : ℕ) (lt : t < last) where
   pub fits_next : (g : ℕ) (r : Ref) → FitsBelow states run.records last t g r → FitsBelow states run.records last (suc t) g r
-  fits_next g r fits h is = below_next limits states last run t lt g h (fits h is)
+  fits_next g r fits h is = below_next run t lt g h (fits h is)
 
   pub falls_next : (g : ℕ) (m : Ref) → FallsBelow states run.records last t g m → FallsBelow states run.records last (suc t) g m
   falls_next g m = All-weaker (FitsBelow states run.records last t g) (FitsBelow states run.records last (suc t) g) (fits_next g) (entries_of (node_under states last m))
 
   pub ends_next : (r : Ref) → Ends states run.records last t r → Ends states run.records last (suc t) r
-  ends_next r ends h is = was_closed_next limits states last run t lt h (ends h is)
+  ends_next r ends h is = was_closed_next run t lt h (ends h is)
 
   pub shut_next : (m : Ref) → Shut states run.records last t m → Shut states run.records last (suc t) m
   shut_next m = All-weaker (Ends states run.records last t) (Ends states run.records last (suc t)) ends_next (entries_of (node_under states last m))
 
   late_next : (x : Moment) (r : Read) (h : ℕ) → IsLate run.records t x r h → IsLate run.records (suc t) x r h
-  late_next x r h (c, before, closed, since) = (c, omega (arith, before), closed_next limits states last run t lt h c closed, since)
+  late_next x r h (c, before, closed, since) = (c, omega (arith, before), closed_next run t lt h c closed, since)
 
   below_late_next : (x : Moment) (g : ℕ) (r : Read) → LateBelow states run.records last t x g r → LateBelow states run.records last (suc t) x g r
   below_late_next x g r (link, fits, late) = (link, fits_next g r.indirection fits, λ other. late_next x r _ (late other))
@@ -155,13 +155,13 @@ module _ (limits : Bounds) (states : ℕ → State) (last : ℕ) (run : IsRun li
 
   -- with what is in use now
   pub entries_fit : (u g : ℕ) (m : Ref) → IsInUse (states t).heap m → FallsBelow states run.records last u g m → All (FitsBelow states run.records last u g) (entries_of (node_at (states t).heap m))
-  entries_fit u g m used falls = subst (All (FitsBelow states run.records last u g)) (used_entries limits states last run t (omega arith) m used) falls
+  entries_fit u g m used falls = subst (All (FitsBelow states run.records last u g)) (used_entries run t (omega arith) m used) falls
 
   pub entries_end : (u : ℕ) (m : Ref) → IsInUse (states t).heap m → Shut states run.records last u m → All (Ends states run.records last u) (entries_of (node_at (states t).heap m))
-  entries_end u m used shut = subst (All (Ends states run.records last u)) (used_entries limits states last run t (omega arith) m used) shut
+  entries_end u m used shut = subst (All (Ends states run.records last u)) (used_entries run t (omega arith) m used) shut
 
   pub single_fits : (u g : ℕ) (r : Ref) → IsInUse (states t).heap r → meets ASingle (node_at (states t).heap r) ≡ true → FitsBelow states run.records last u g r
-  single_fits u g r used e h is = absurd (used_single limits states last run t (omega arith) r used e h is)
+  single_fits u g r used e h is = absurd (used_single run t (omega arith) r used e h is)
 
 -- a mark changes nothing
 pub marked_knows : (states : ℕ → State) (records : ℕ → Record) (last t : ℕ) (x : Moment) (m : _) (operation : Operation) → KnowsGenerations states records last t x operation →

@@ -253,7 +253,7 @@ handles_at_first limits = record {
   reserved = λ k j n a b at_k. absurd (none_found limits.actors k a at_k);
 }
 
-pub has_handles_at : (limits : Bounds) (states : ℕ → State) (last : ℕ) → IsRun limits states last → (t : ℕ) → t ≤ last → HasOffers (states t) × HasHandles (states t)
-has_handles_at limits states last r =
-    at_each_time limits states last r (λ state. HasOffers state × HasHandles state) (no_offers_at_first limits, handles_at_first limits)
+pub has_handles_at : {limits : Bounds} {states : ℕ → State} {last : ℕ} → IsRun limits states last → (t : ℕ) → t ≤ last → HasOffers (states t) × HasHandles (states t)
+has_handles_at {limits} {states} {last} r =
+    at_each_time r (λ state. HasOffers state × HasHandles state) (no_offers_at_first limits, handles_at_first limits)
     (λ before s o after m I. (has_offers_after before I.0 s o after m, handles_after before I.0 I.1 s o after m))

@@ -42,7 +42,7 @@ pub inner_generation : (state : State) (operation : Operation) (l : Line) → Is
 inner_generation state operation (line.Root l) i = absurd i
 inner_generation state operation l i = refl
 
-module _ (limits : Bounds) (states : ℕ → State) (last : ℕ) (run : IsRun limits states last) (t : ℕ) (lt : t < last) (mains : MainsFall states run.records last (suc t)) (k : ℕ)
+module _ {limits : Bounds} {states : ℕ → State} {last : ℕ} (run : IsRun limits states last) (t : ℕ) (lt : t < last) (mains : MainsFall states run.records last (suc t)) (k : ℕ)
     (operation : Operation)
     (runs : Runs (states t) k operation) (o : Outcome) (moves : Moves (states t) (step.Go (suc k)) o (states (suc t))) (goes : GoesOn (action_of (states t) operation))
     (noted : run.records (suc t) ≡ noted_progress (run.records t) (states t).steps (suc k) (progress_of (states t) operation)) where
@@ -64,18 +64,18 @@ module _ (limits : Bounds) (states : ℕ → State) (last : ℕ) (run : IsRun li
   pub new_used : (n : Node) (made : Ref) → made_node (states t) (action_of (states t) operation) ≡ Some n → next_ref (states t).heap ≡ Some made →
       IsInUse (states (suc t)).heap made × (node_at (states (suc t)).heap made ≡ n)
   new_used n made e takes =
-      let fresh = made_fresh (states t) (safe_at limits states last run t (omega arith)) (suc k) k operation runs n made e takes in
+      let fresh = made_fresh (states t) (safe_at run t (omega arith)) (suc k) k operation runs n made e takes in
       let is = gone_is (states t) (suc k) o (states (suc t)) moves operation runs goes in
       (subst (λ (q : State). IsInUse q.heap made) (sym is) fresh.0.used, ap (λ (q : State). node_at q.heap made) is ∙ fresh.1)
 
   module _ (w : operation.access ≡ Writable) (inner : IsInner operation.line) (g : ℕ) (begun : operation.generation ≡ Some g) where
     opened : WasOpened states (suc t) g
-    opened = opened_next states t g (opened_rooted states run.records t _ g (inner_rooted limits states last run t lt k operation runs w inner g begun))
+    opened = opened_next states t g (opened_rooted states run.records t _ g (inner_rooted run t lt k operation runs w inner g begun))
 
     -- what stands below an entry of the path
     opened_under : (h : ℕ) → MayStandBelow run.records t g h → WasOpened states (suc t) h
     opened_under h (inl same) = subst (λ x. WasOpened states (suc t) x) (sym same) opened
-    opened_under h (inr (less, closed)) = opened_next states t h (was_closed_so limits states last run t (omega arith) h closed)
+    opened_under h (inr (less, closed)) = opened_next states t h (was_closed_so run t (omega arith) h closed)
 
     late_so : (r : Ref) (h : ℕ) → gen_of states last r ≡ h → MayStandBelow run.records (suc t) g h → (gen_of states last r ≡ g → ⊥) →
         IsLate run.records (suc t) now_read (reading r) (gen_of states last r)
@@ -87,23 +87,23 @@ module _ (limits : Bounds) (states : ℕ → State) (last : ℕ) (run : IsRun li
     own_step = record {
       writable = w;
       own_fits = own_fits states run.records last (suc t) g;
-      entries_fit = entries_fit limits states last run t lt (suc t) g;
+      entries_fit = entries_fit run t lt (suc t) g;
       goes = λ r next e. read_stays (states t) operation r next e;
       own_gives = λ r m stage own e.
           subst (λ x. FallsBelow states run.records last (suc t) x m) own
-          (mains.falls r.indirection m (given_stands limits states last run t lt (suc k) operation runs r stage noted o moves m e) (subst (λ x. WasOpened states (suc t) x) (sym own) opened));
+          (mains.falls r.indirection m (given_stands run t lt (suc k) operation runs r stage noted o moves m e) (subst (λ x. WasOpened states (suc t) x) (sym own) opened));
       late_goes = λ r next stage was e.
           let (link, fits, late) = was in
           subst (λ i. IsLink states last i × FitsBelow states run.records last (suc t) g i × ((gen_of states last i ≡ g → ⊥) → IsLate run.records (suc t) now_read next (gen_of states last i)))
           (sym (read_stays (states t) operation r next e)) (
             link,
-            fits_next limits states last run t lt g r.indirection fits,
+            fits_next run t lt g r.indirection fits,
             λ other. let (c, before, closed, since) = late other in (
               c,
               omega (arith, before),
-              closed_next limits states last run t lt _ c closed,
+              closed_next run t lt _ c closed,
               inr
-                  (late_after limits states last run t lt (suc k) operation runs r stage noted (go_actor (states t) (suc k) (not_denied moves)) c before since),
+                  (late_after run t lt (suc k) operation runs r stage noted (go_actor (states t) (suc k) (not_denied moves)) c before since),
             ),
           );
       late_gives = λ r m stage was e.
@@ -111,13 +111,13 @@ module _ (limits : Bounds) (states : ℕ → State) (last : ℕ) (run : IsRun li
           let under = fits h is in
           let told = told_generation states last h r.indirection is in
           falls_below states run.records last (suc t) g (gen_of states last r.indirection) m
-          (subst (λ x. MayStandBelow run.records (suc t) g x) (sym told) (below_next limits states last run t lt g h under))
-          (mains.falls r.indirection m (given_stands limits states last run t lt (suc k) operation runs r stage noted o moves m e)
+          (subst (λ x. MayStandBelow run.records (suc t) g x) (sym told) (below_next run t lt g h under))
+          (mains.falls r.indirection m (given_stands run t lt (suc k) operation runs r stage noted o moves m e)
           (subst (λ x. WasOpened states (suc t) x) (sym told) (opened_under h under)));
       looked = λ r h word used is same.
-          told_generation states last h r (link_used limits states last run t (omega arith) r used h word is) ∙ same_Some _ _ (sym (licensed_so operation.generation h same) ∙ begun);
+          told_generation states last h r (link_used run t (omega arith) r used h word is) ∙ same_Some _ _ (sym (licensed_so operation.generation h same) ∙ begun);
       begins = λ r h word used is fits.
-          let link = link_used limits states last run t (omega arith) r used h word is in
+          let link = link_used run t (omega arith) r used h word is in
           ((h, link), fits, late_so r h (told_generation states last h r link) (fits h link));
     }
 
@@ -135,16 +135,16 @@ module _ (limits : Bounds) (states : ℕ → State) (last : ℕ) (run : IsRun li
     abbrev MadeSo : Line → Node → Type 0
     MadeSo =
         NodeMade (states t) operation g begun (IsOwn states last g) Fits Falls (LateBelow states run.records last t was_read g) S (own_fits states run.records last (suc t) g)
-        (single_fits limits states last run t lt (suc t) g)
-        (entries_fit limits states last run t lt (suc t) g)
+        (single_fits run t lt (suc t) g)
+        (entries_fit run t lt (suc t) g)
 
     node_of_line : (l : Line) → operation.line ≡ l → Kn l → (n : Node) → made_node (states t) (line_action (states t) operation l) ≡ Some n → MadeSo l n
     node_of_line l is known n e =
         node_made (states t) operation g begun (IsOwn states last g) Fits Falls (LateBelow states run.records last t was_read g) S (own_fits states run.records last (suc t) g)
-        (single_fits limits states last run t lt (suc t) g)
-        (entries_fit limits states last run t lt (suc t) g) l known
+        (single_fits run t lt (suc t) g)
+        (entries_fit run t lt (suc t) g) l known
         (subst (λ x. AllHold S (states t).heap (line_wants (states t).limits.hash operation.call operation.access x)) is
-        (line_finds (states t) (safe_at limits states last run t (omega arith)) (suc k) operation runs)) n e
+        (line_finds (states t) (safe_at run t (omega arith)) (suc k) operation runs)) n e
 
     module _ (l : Line) (is : operation.line ≡ l) (known : Kn l) (n : Node) (e : made_node (states t) (line_action (states t) operation l) ≡ Some n) (made : Ref)
         (takes : next_ref (states t).heap ≡ Some made) where
@@ -152,13 +152,13 @@ module _ (limits : Bounds) (states : ℕ → State) (last : ℕ) (run : IsRun li
       used_new = new_used n made (ap (λ x. made_node (states t) (line_action (states t) operation x)) is ∙ e) takes
 
       single_new : meets ASingle n ≡ true → Fits made
-      single_new s h link = absurd (used_single limits states last run (suc t) lt made used_new.0 (ap (meets ASingle) used_new.1 ∙ s) h link)
+      single_new s h link = absurd (used_single run (suc t) lt made used_new.0 (ap (meets ASingle) used_new.1 ∙ s) h link)
 
       main_new : IsNoLink n × All Fits (entries_of n) → Falls made
-      main_new m = subst (All Fits) (sym (used_entries limits states last run (suc t) lt made used_new.0 ∙ ap entries_of used_new.1)) m.1
+      main_new m = subst (All Fits) (sym (used_entries run (suc t) lt made used_new.0 ∙ ap entries_of used_new.1)) m.1
 
       link_new : (word : Ref) × (n ≡ Indirection g word) × Falls word → IsOwn states last g made
-      link_new (word, same, falls) = told_generation states last g made (link_used limits states last run (suc t) lt made used_new.0 g word (used_new.1 ∙ same))
+      link_new (word, same, falls) = told_generation states last g made (link_used run (suc t) lt made used_new.0 g word (used_new.1 ∙ same))
 
     abbrev Makes : Line → Ref → Type 0
     Makes = LineMakes (states t) operation (IsOwn states last g) Fits Falls (LateBelow states run.records last t was_read g) (LateBelow states run.records last (suc t) now_read g) S own_step
@@ -221,9 +221,9 @@ module _ (limits : Bounds) (states : ℕ → State) (last : ℕ) (run : IsRun li
     inner_knows knows =
         let known = knows_still (IsOwn states last g) (FitsBelow states run.records last t g) (FallsBelow states run.records last t g)
         (LateBelow states run.records last t was_read g) Fits Falls (LateBelow states run.records last t was_read g)
-        (fits_next limits states last run t lt g) (falls_next limits states last run t lt g) (λ r late. late) operation.line knows in
+        (fits_next run t lt g) (falls_next run t lt g) (λ r late. late) operation.line knows in
         own_falls (states t) operation (IsOwn states last g) Fits Falls (LateBelow states run.records last t was_read g)
         (LateBelow states run.records last (suc t) now_read g) S own_step operation.line refl inner known
-        (line_finds (states t) (safe_at limits states last run t (omega arith)) (suc k) operation runs)
-        (action_finds (states t) (safe_at limits states last run t (omega arith)) (suc k) operation runs)
+        (line_finds (states t) (safe_at run t (omega arith)) (suc k) operation runs)
+        (action_finds (states t) (safe_at run t (omega arith)) (suc k) operation runs)
         (λ made takes. line_makes operation.line refl known made takes)

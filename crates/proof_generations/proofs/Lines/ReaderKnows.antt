@@ -40,7 +40,7 @@ pub root_claim : (state : State) (word : RootWord) → AllHold (IsInUse state.he
 root_claim state (Plain r) h = h.0
 root_claim state (Offer offer) h = h.0
 
-module _ (limits : Bounds) (states : ℕ → State) (last : ℕ) (run : IsRun limits states last) (t : ℕ) (lt : t < last) (mains : MainsFall states run.records last (suc t)) (k : ℕ)
+module _ {limits : Bounds} {states : ℕ → State} {last : ℕ} (run : IsRun limits states last) (t : ℕ) (lt : t < last) (mains : MainsFall states run.records last (suc t)) (k : ℕ)
     (operation : Operation)
     (runs : Runs (states t) k operation) (o : Outcome) (moves : Moves (states t) (step.Go (suc k)) o (states (suc t)))
     (goes : GoesOn (action_of (states t) operation))
@@ -59,7 +59,7 @@ module _ (limits : Bounds) (states : ℕ → State) (last : ℕ) (run : IsRun li
   S = IsInUse (states t).heap
 
   abbrev I : IsSafe (states t)
-  I = safe_at limits states last run t (omega arith)
+  I = safe_at run t (omega arith)
 
   abbrev handle : ℕ
   handle = handle_of operation.call
@@ -74,8 +74,8 @@ module _ (limits : Bounds) (states : ℕ → State) (last : ℕ) (run : IsRun li
 
   handle_root : HandleRoot
   handle_root =
-      let O : IsOrdered (states t) (run.records t) = ordered_at limits states last run t (omega arith) in
-      let (root, found, access) = O.handles.on_open k operation runs (no_close_at limits states last run t (omega arith) k operation runs (going_on (states t) operation operation.line goes)) in
+      let O : IsOrdered (states t) (run.records t) = ordered_at run t (omega arith) in
+      let (root, found, access) = O.handles.on_open k operation runs (no_close_at run t (omega arith) k operation runs (going_on (states t) operation operation.line goes)) in
       let (c, closed) = O.roots.is_closed handle root found (access ∙ read_only) in
       let claim = root_claim (states t) root.word (I.words handle root found) in
       let (h, word, is) = indirection_is (node_at (states t).heap (root_of root.word)) (meets_of claim) in
@@ -83,9 +83,9 @@ module _ (limits : Bounds) (states : ℕ → State) (last : ℕ) (run : IsRun li
         root = root;
         found = found;
         plain = read_only_plain (states t) (run.records t) I O handle root found (access ∙ read_only);
-        closed = subst (λ x. WasClosed run.records t x) (sym (standing_generation limits states last run t (omega arith) handle root found))
-            (c, (closed_so limits states last run t (omega arith) _ c closed).0, closed);
-        link = (h, link_used limits states last run t (omega arith) (root_of root.word) (safe_of claim) h word is);
+        closed = subst (λ x. WasClosed run.records t x) (sym (standing_generation run t (omega arith) handle root found))
+            (c, (closed_so run t (omega arith) _ c closed).0, closed);
+        link = (h, link_used run t (omega arith) (root_of root.word) (safe_of claim) h word is);
       }
 
   own : is_actor (states t) (suc k) ≡ true
@@ -99,23 +99,23 @@ module _ (limits : Bounds) (states : ℕ → State) (last : ℕ) (run : IsRun li
   reader_step = record {
     read_only = read_only;
     reads = I.fits k operation runs read_only;
-    entries_end = entries_end limits states last run t lt (suc t);
+    entries_end = entries_end run t lt (suc t);
     late_goes = λ r next stage was e.
         let (link, (c, before, closed, since)) = was in
         subst (λ i. IsLink states last i × IsLate run.records (suc t) now_read next (gen_of states last i)) (sym (read_stays (states t) operation r next e))
-        (link, (c, omega (arith, before), closed_next limits states last run t lt _ c closed, inr (late_after limits states last run t lt (suc k) operation runs r stage noted own c before since)));
+        (link, (c, omega (arith, before), closed_next run t lt _ c closed, inr (late_after run t lt (suc k) operation runs r stage noted own c before since)));
     late_gives = λ r m stage was e.
         let (link, (c, before, closed, since)) = was in
-        let still = was_closed_next limits states last run t lt (gen_of states last r.indirection) (c, before, closed) in
+        let still = was_closed_next run t lt (gen_of states last r.indirection) (c, before, closed) in
         falls_shut states run.records last (suc t) (gen_of states last r.indirection) m still
-        (mains.falls r.indirection m (given_stands limits states last run t lt (suc k) operation runs r stage noted o moves m e) (was_closed_so limits states last run (suc t) lt _ still));
+        (mains.falls r.indirection m (given_stands run t lt (suc k) operation runs r stage noted o moves m e) (was_closed_so run (suc t) lt _ still));
     begins = λ r h word used is ends.
-        let link = link_used limits states last run t (omega arith) r used h word is in
+        let link = link_used run t (omega arith) r used h word is in
         late_now r (h, link) (subst (λ x. WasClosed run.records (suc t) x) (sym (told_generation states last h r link)) (ends h link));
     plain = subst (λ w. w ≡ Plain (root_of w)) (sym (ap word_of handle_root.found)) handle_root.plain;
     root_late =
         subst (λ w. LateEnd states run.records last (suc t) now_read (reading (root_of w))) (sym (ap word_of handle_root.found))
-        (late_now (root_of handle_root.root.word) handle_root.link (was_closed_next limits states last run t lt _ handle_root.closed));
+        (late_now (root_of handle_root.root.word) handle_root.link (was_closed_next run t lt _ handle_root.closed));
   }
 
   pub reader_knows : KnowsReader (Ends states run.records last t) (Shut states run.records last t) (LateEnd states run.records last t was_read) operation.line →
@@ -123,7 +123,7 @@ module _ (limits : Bounds) (states : ℕ → State) (last : ℕ) (run : IsRun li
   reader_knows knows =
       let known = reader_still (Ends states run.records last t) (Shut states run.records last t) (LateEnd states run.records last t was_read)
       (Ends states run.records last (suc t)) (Shut states run.records last (suc t)) (LateEnd states run.records last t was_read)
-      (ends_next limits states last run t lt) (shut_next limits states last run t lt) (λ r late. late) operation.line knows in
+      (ends_next run t lt) (shut_next run t lt) (λ r late. late) operation.line knows in
       reader_falls (states t) operation (Ends states run.records last (suc t)) (Shut states run.records last (suc t)) (LateEnd states run.records last t was_read)
       (LateEnd states run.records last (suc t) now_read) S reader_step operation.line refl known
       (line_finds (states t) I (suc k) operation runs) (action_finds (states t) I (suc k) operation runs)

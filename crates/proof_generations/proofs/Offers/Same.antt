@@ -237,8 +237,8 @@ no_offers_at_first limits = record {
   known = λ k operation at_k. absurd (none_found limits.actors k operation at_k);
 }
 
-pub has_offers_at : (limits : Bounds) (states : ℕ → State) (last : ℕ) → IsRun limits states last → (t : ℕ) → t ≤ last → HasOffers (states t)
-has_offers_at limits states last r = at_each_time limits states last r HasOffers (no_offers_at_first limits) (λ before s o after m I. has_offers_after before I s o after m)
+pub has_offers_at : {limits : Bounds} {states : ℕ → State} {last : ℕ} → IsRun limits states last → (t : ℕ) → t ≤ last → HasOffers (states t)
+has_offers_at {limits} {states} {last} r = at_each_time r HasOffers (no_offers_at_first limits) (λ before s o after m I. has_offers_after before I s o after m)
 
 -- who takes an offer back or carries it out finds the very same offer
 pub same_offer : (state : State) → HasOffers state → (actor : ℕ) (operation : Operation) (offer : Descriptor) → operation_of state actor ≡ Some operation →

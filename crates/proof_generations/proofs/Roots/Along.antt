@@ -68,11 +68,11 @@ ordered_at_first limits =
 
 -- ---- at each time
 
-pub ordered_at : (limits : Bounds) (states : ℕ → State) (last : ℕ) (r : IsRun limits states last) (t : ℕ) → t ≤ last → IsOrdered (states t) (r.records t)
-ordered_at limits states last r zero le =
+pub ordered_at : {limits : Bounds} {states : ℕ → State} {last : ℕ} (r : IsRun limits states last) (t : ℕ) → t ≤ last → IsOrdered (states t) (r.records t)
+ordered_at {limits} {states} {last} r zero le =
     subst (λ q. IsOrdered (states zero) q) (sym r.nothing_recorded) (subst (λ q. IsOrdered q (first_record limits)) (sym r.first) (ordered_at_first limits))
-ordered_at limits states last r (suc t) le =
-    by_turn (states t) (states (suc t)) (r.records t) (r.records (suc t)) (safe_at limits states last r t (omega arith)) (ordered_at limits states last r t (omega arith))
+ordered_at {limits} {states} {last} r (suc t) le =
+    by_turn (states t) (states (suc t)) (r.records t) (r.records (suc t)) (safe_at r t (omega arith)) (ordered_at r t (omega arith))
     (r.turn t le) (r.recorded t le)
   where
     by_turn : (before after : State) (past now : Record) → IsSafe before → IsOrdered before past → (turn : Turn before after) → now ≡ noted_turn turn past → IsOrdered after now

@@ -35,16 +35,16 @@ unfolding first_state
 no_closes limits k operation at_k = absurd (none_found limits.actors k operation at_k)
 
 -- an operation that isn't at its end is no close
-pub no_close_at : (limits : Bounds) (states : ℕ → State) (last : ℕ) → IsRun limits states last → (t : ℕ) → t ≤ last → (k : ℕ) (operation : Operation) →
+pub no_close_at : {limits : Bounds} {states : ℕ → State} {last : ℕ} → IsRun limits states last → (t : ℕ) → t ≤ last → (k : ℕ) (operation : Operation) →
     Runs (states t) k operation → is_end operation.line ≡ false →
     is_close operation.call ≡ false
-no_close_at limits states last r t within k operation at_k going = by (is_close operation.call) refl
+no_close_at {limits} {states} {last} r t within k operation at_k going = by (is_close operation.call) refl
   where
     by : (b : Bool) → is_close operation.call ≡ b → b ≡ false
     by false e = refl
     by true e =
         absurd (true≢false
-        (sym (at_each_time limits states last r ClosesEnd (no_closes limits)
+        (sym (at_each_time r ClosesEnd (no_closes limits)
         (λ before s o after m all j found at_j. closes_by before s all j found (comes before s o after m j found at_j)) t within k operation at_k e) ∙ going))
 
 -- ---- when a generation is closed
@@ -56,7 +56,7 @@ closed_now state past s after now (quiet closings roots) g c none e = absurd (no
 closed_now state past s after now (swaps actor mover offer go is carried closings roots) g c none e =
     sym (closed_new past.closings (closing_of state offer) g c none (ap (λ l. closed_in l g) (sym closings) ∙ e)).1
 
-module _ (limits : Bounds) (states : ℕ → State) (last : ℕ) (r : IsRun limits states last) (t g : ℕ) (open_then : closed_at (r.records t) g ≡ None) where
+module _ {limits : Bounds} {states : ℕ → State} {last : ℕ} (r : IsRun limits states last) (t g : ℕ) (open_then : closed_at (r.records t) g ≡ None) where
   closed_by_turn : (u c : ℕ) → t ≤ u → u < last → (turn : Turn (states u) (states (suc u))) → r.records (suc u) ≡ noted_turn turn (r.records u) →
       IsOrdered (states u) (r.records u) → (states u).steps ≡ u → ((d : ℕ) → closed_at (r.records u) g ≡ Some d → t ≤ d) → closed_at (r.records (suc u)) g ≡ Some c → t ≤ c
   closed_by_turn u c le lt (turns s o m) notes I count before e = by (closed_at (r.records u) g) refl
@@ -78,20 +78,20 @@ module _ (limits : Bounds) (states : ℕ → State) (last : ℕ) (r : IsRun limi
   closed_from (suc u) c within le e = elim (cases_eq t (suc u)) [
     | inl same ↦ absurd (none-some c (sym open_then ∙ ap (λ v. closed_at (r.records v) g) same ∙ e))
     | inr earlier ↦
-        closed_by_turn u c (omega arith) (omega arith) (r.turn u (omega arith)) (r.recorded u (omega arith)) (ordered_at limits states last r u (omega arith))
-        (steps_at limits states last r u (omega arith))
+        closed_by_turn u c (omega arith) (omega arith) (r.turn u (omega arith)) (r.recorded u (omega arith)) (ordered_at r u (omega arith))
+        (steps_at r u (omega arith))
         (λ d was. closed_from u d (omega arith) (omega arith) was) e
   ]
 
 -- what an operation on a writable handle finds in its root word with no offer wasn't closed before
-pub open_root : (limits : Bounds) (states : ℕ → State) (last : ℕ) (run : IsRun limits states last) (t : ℕ) → t ≤ last → (actor : ℕ) (operation : Operation) →
+pub open_root : {limits : Bounds} {states : ℕ → State} {last : ℕ} (run : IsRun limits states last) (t : ℕ) → t ≤ last → (actor : ℕ) (operation : Operation) →
     operation_of (states t) actor ≡ Some operation →
     is_end operation.line ≡ false → operation.access ≡ Writable → (q : Ref) → word_at (states t) (handle_of operation.call) ≡ Plain q → (c : ℕ) →
     closed_at (run.records last) (generation_at (states t).heap q) ≡ Some c → t ≤ c
-open_root limits states last run t within actor operation is going w q word c e =
-    let I = ordered_at limits states last run t within in
+open_root {limits} {states} {last} run t within actor operation is going w q word c e =
+    let I = ordered_at run t within in
     let (k, place, at_k) = place_of_actor (states t) actor operation is in
-    let (root, found, access) = I.handles.on_open k operation at_k (no_close_at limits states last run t within k operation at_k going) in
+    let (root, found, access) = I.handles.on_open k operation at_k (no_close_at run t within k operation at_k going) in
     let its : gen (states t) root ≡ generation_at (states t).heap q = ap (λ x. generation_at (states t).heap (root_of x)) (sym (ap word_of found) ∙ word) in
-    closed_from limits states last run t (generation_at (states t).heap q)
+    closed_from run t (generation_at (states t).heap q)
     (ap (closed_at (run.records t)) (sym its) ∙ I.roots.unclosed (handle_of operation.call) root found (access ∙ w)) last c (omega arith) within e

@@ -123,11 +123,11 @@ module _ (states : ℕ → State) (records : ℕ → Record) (t : ℕ) (S : IsSa
       rooted_next states records t (handle_of found.call) g s o S I count m notes now is_open (access ∙ w) (from_before k found g (comes (states t) s o (states (suc t)) m k found at_k) no_close w e)
 
 -- a running operation's generation was its handle's root's until it was closed
-pub rooted_at : (limits : Bounds) (states : ℕ → State) (last : ℕ) (r : IsRun limits states last) (t : ℕ) → t ≤ last → AllRooted states r.records t
+pub rooted_at : {limits : Bounds} {states : ℕ → State} {last : ℕ} (r : IsRun limits states last) (t : ℕ) → t ≤ last → AllRooted states r.records t
 unfolding first_state
-rooted_at limits states last r =
-    along_run limits states last r (λ t. AllRooted states r.records t) first
-    (λ t lt turn all. turned t (safe_at limits states last r t (omega arith)) (ordered_at limits states last r t (omega arith)) (steps_at limits states last r t (omega arith)) all
+rooted_at {limits} {states} {last} r =
+    along_run r (λ t. AllRooted states r.records t) first
+    (λ t lt turn all. turned t (safe_at r t (omega arith)) (ordered_at r t (omega arith)) (steps_at r t (omega arith)) all
     (states (suc t)) refl (r.turn t lt) (r.recorded t lt))
   where
     none_runs : (state : State) → state ≡ first_state limits → (k : ℕ) (operation : Operation) → Runs state k operation → ⊥

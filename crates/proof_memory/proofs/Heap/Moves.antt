@@ -206,10 +206,10 @@ moved_stays state f g (fails actor operation i main previous told at_main takes 
   | inr other ↦ (was, others r other ∙ h, same_slot was)
 ]
 
-module _ (limits : Bounds) (states : ℕ → State) (last : ℕ) (run : IsRun limits states last) where
+module _ {limits : Bounds} {states : ℕ → State} {last : ℕ} (run : IsRun limits states last) where
   -- births
   births_so_far : (t : ℕ) → t < last → (states t).heap.births ≤ (states (suc t)).heap.births
-  births_so_far t h = by_turn (states t) (states (suc t)) (safe_at limits states last run t (omega arith)) (run.turn t h)
+  births_so_far t h = by_turn (states t) (states (suc t)) (safe_at run t (omega arith)) (run.turn t h)
     where
       by_turn : (before after : State) → IsSafe before → Turn before after → before.heap.births ≤ after.heap.births
       by_turn before after I (turns s o m) = births_grow _ _ _ _ _ _ ((step_effect before I s o after m).3)
@@ -217,7 +217,7 @@ module _ (limits : Bounds) (states : ℕ → State) (last : ℕ) (run : IsRun li
   -- what was once made has a birth that was drawn
   pub born : (t : ℕ) → t ≤ last → (r : Ref) (slot : Slot) → grown states t r ≡ Some slot → birth_of r ≤ (states t).heap.births
   unfolding grown
-  born zero h r slot e = (safe_at limits states last run zero h).births r slot e
+  born zero h r slot e = (safe_at run zero h).births r slot e
   born (suc t) h r slot e = by_standing (born t (omega arith) r slot) (standing (states (suc t)).heap r) refl
     where
       le_more : (states t).heap.births ≤ (states (suc t)).heap.births → birth_of r ≤ (states t).heap.births → birth_of r ≤ (states (suc t)).heap.births
@@ -225,14 +225,14 @@ module _ (limits : Bounds) (states : ℕ → State) (last : ℕ) (run : IsRun li
 
       by_standing : (grown states t r ≡ Some slot → birth_of r ≤ (states t).heap.births) → (o : Option Slot) → standing (states (suc t)).heap r ≡ o → birth_of r ≤ (states (suc t)).heap.births
       by_standing before None none = le_more (births_so_far t h) (before (sym (grown_freed states t r none) ∙ e))
-      by_standing before (Some now) found = (safe_at limits states last run (suc t) h).births r now found
+      by_standing before (Some now) found = (safe_at run (suc t) h).births r now found
 
   -- what is drawn next was never made
   pub not_yet_drawn : (t : ℕ) → t ≤ last → (made : Ref) → next_ref (states t).heap ≡ Some made → grown states t made ≡ None
   not_yet_drawn t h made e = by_grown (grown states t made) refl
     where
       I : IsSafe (states t)
-      I = safe_at limits states last run t h
+      I = safe_at run t h
 
       its_birth : birth_of made ≡ (states t).heap.births + 1
       its_birth = (taken_all (states t).limits.slots (states t).heap (I.sound.heap) (Indirection 0 0) made e).3
@@ -262,7 +262,7 @@ module _ (limits : Bounds) (states : ℕ → State) (last : ℕ) (run : IsRun li
       fails actor operation i main previous told at_main takes v (grown_in_use states t main _ f_main) (grown_in_use states (suc t) main _ g_main) (λ r x. grown_same states t r (others r x))
 
   pub word_move : (t : ℕ) → t < last → WordMove (states t) (grown states t) (grown states (suc t))
-  word_move t h = lifted t h (by_turn (states t) (states (suc t)) (safe_at limits states last run t (omega arith)) (run.turn t h))
+  word_move t h = lifted t h (by_turn (states t) (states (suc t)) (safe_at run t (omega arith)) (run.turn t h))
     where
       by_turn : (before after : State) → IsSafe before → Turn before after → StandingMove before after
       by_turn before after I (turns s o m) = standing_move before I s o after m
@@ -284,7 +284,7 @@ module _ (limits : Bounds) (states : ℕ → State) (last : ℕ) (run : IsRun li
   -- what is made already and in use after a step was in use before it
   used_at_step : (t : ℕ) → t < last → (r : Ref) (was now : Slot) → grown states t r ≡ Some was → standing (states (suc t)).heap r ≡ Some now → IsInUse (states t).heap r
   used_at_step t h r was now made found =
-      by_turn (states t) (states (suc t)) (safe_at limits states last run t (omega arith)) (run.turn t h) (born t (omega arith) r was made) found
+      by_turn (states t) (states (suc t)) (safe_at run t (omega arith)) (run.turn t h) (born t (omega arith) r was made) found
     where
       too_late : (births : ℕ) → birth_of r ≡ births + 1 → birth_of r ≤ births → ⊥
       too_late births a b = omega arith

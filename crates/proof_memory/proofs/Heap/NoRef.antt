@@ -15,7 +15,7 @@ born_later r n is same = not_zero (ap birth_of same ∙ is)
     not_zero : 0 ≡ n + 1 → ⊥
     not_zero e = omega (arith, e)
 
-module _ (limits : Bounds) (states : ℕ → State) (last : ℕ) (run : IsRun limits states last) where
+module _ {limits : Bounds} {states : ℕ → State} {last : ℕ} (run : IsRun limits states last) where
   first_none : grown states zero no_ref ≡ None
   unfolding grown first_state
   first_none = by (standing (states zero).heap no_ref) refl
@@ -30,7 +30,7 @@ module _ (limits : Bounds) (states : ℕ → State) (last : ℕ) (run : IsRun li
       by (Some slot) e = absurd (some_ref slot e)
 
   birth_is : (t : ℕ) → t ≤ last → (node : Node) (made : Ref) → next_ref (states t).heap ≡ Some made → birth_of made ≡ (states t).heap.births + 1
-  birth_is t h node made e = let I : IsSafe (states t) = safe_at limits states last run t h in (taken_all (states t).limits.slots (states t).heap (I.sound.heap) node made e).3
+  birth_is t h node made e = let I : IsSafe (states t) = safe_at run t h in (taken_all (states t).limits.slots (states t).heap (I.sound.heap) node made e).3
 
   by_move : (t : ℕ) → t ≤ last → grown states t no_ref ≡ None → WordMove (states t) (grown states t) (grown states (suc t)) → grown states (suc t) no_ref ≡ None
   by_move t h none (keeps k) = k no_ref ∙ none
@@ -43,4 +43,4 @@ module _ (limits : Bounds) (states : ℕ → State) (last : ℕ) (run : IsRun li
   by_move t h none (fails actor operation i main previous told at_main takes v f_main g_main others) = others no_ref (λ same. none-some at_main (sym none ∙ ap (grown states t) same ∙ f_main)) ∙ none
 
   pub nothing_stands : (t : ℕ) → t ≤ last → grown states t no_ref ≡ None
-  nothing_stands = along_run limits states last run (λ t. grown states t no_ref ≡ None) first_none (λ t lt turn none. by_move t (omega arith) none (word_move limits states last run t lt))
+  nothing_stands = along_run run (λ t. grown states t no_ref ≡ None) first_none (λ t lt turn none. by_move t (omega arith) none (word_move run t lt))

@@ -7,8 +7,8 @@ use Rattle.proof_memory.proofs.Safety.States.{IsSafe}
 use Rattle.proof_memory.proofs.Safety.Steps.{safe_after}
 use Rattle.proof_memory.proofs.Safety.First.{safe_at_first}
 
-pub safe_at : (limits : Bounds) (states : ℕ → State) (last : ℕ) → IsRun limits states last → (t : ℕ) → t ≤ last → IsSafe (states t)
-safe_at limits states last r = at_each_time limits states last r IsSafe (safe_at_first limits (r.limits_ok)) (λ before s o after m I. safe_after before I s o after m)
+pub safe_at : {limits : Bounds} {states : ℕ → State} {last : ℕ} → IsRun limits states last → (t : ℕ) → t ≤ last → IsSafe (states t)
+safe_at {limits} {states} {last} r = at_each_time r IsSafe (safe_at_first limits (r.limits_ok)) (λ before s o after m I. safe_after before I s o after m)
 
 -- after each list of steps
 pub safe_along : (limits : Bounds) → AreBounds limits → (steps : List Step) → IsSafe (run limits steps)

@@ -44,27 +44,27 @@ line_finds_in state I limits same actor operation e =
 -- ---- at a time of a run
 
 -- a machine keeps its limits
-pub limits_at : (limits : Bounds) (states : ℕ → State) (last : ℕ) → IsRun limits states last → (t : ℕ) → t ≤ last → (states t).limits ≡ limits
+pub limits_at : {limits : Bounds} {states : ℕ → State} {last : ℕ} → IsRun limits states last → (t : ℕ) → t ≤ last → (states t).limits ≡ limits
 unfolding first_state
-limits_at limits states last r = at_each_time limits states last r (λ s. s.limits ≡ limits) refl (λ before s o after m e. limits_kept before s o after m ∙ e)
+limits_at {limits} {states} {last} r = at_each_time r (λ s. s.limits ≡ limits) refl (λ before s o after m e. limits_kept before s o after m ∙ e)
 
-module _ (limits : Bounds) (states : ℕ → State) (last : ℕ) (run : IsRun limits states last) (t : ℕ) (within : t ≤ last) where
+module _ {limits : Bounds} {states : ℕ → State} {last : ℕ} (run : IsRun limits states last) (t : ℕ) (within : t ≤ last) where
   pub line_at : (actor : ℕ) (operation : Operation) → operation_of (states t) actor ≡ Some operation →
       AllHold (IsInUse (states t).heap) (states t).heap (line_wants limits.hash operation.call operation.access operation.line)
-  line_at actor operation e = line_finds_in (states t) (safe_at limits states last run t within) limits (limits_at limits states last run t within) actor operation e
+  line_at actor operation e = line_finds_in (states t) (safe_at run t within) limits (limits_at run t within) actor operation e
 
   pub action_at : (actor : ℕ) (operation : Operation) → operation_of (states t) actor ≡ Some operation →
       AllHold (IsInUse (states t).heap) (states t).heap (action_wants (action_of (states t) operation))
-  action_at actor operation e = action_finds (states t) (safe_at limits states last run t within) actor operation e
+  action_at actor operation e = action_finds (states t) (safe_at run t within) actor operation e
 
 -- what a line takes its references for they still are behind a step
-module _ (limits : Bounds) (states : ℕ → State) (last : ℕ) (run : IsRun limits states last) (t : ℕ) (within : t < last) where
+module _ {limits : Bounds} {states : ℕ → State} {last : ℕ} (run : IsRun limits states last) (t : ℕ) (within : t < last) where
   pub line_behind : (actor : ℕ) (operation : Operation) → operation_of (states t) actor ≡ Some operation →
       AllHold (IsInUse (states (suc t)).heap) (states (suc t)).heap (line_wants limits.hash operation.call operation.access operation.line)
   line_behind actor operation e =
       subst (λ (l : Bounds). AllHold (IsInUse (states (suc t)).heap) (states (suc t)).heap (line_wants l.hash operation.call operation.access operation.line))
-      (limits_at limits states last run t (omega (arith, within)))
-      (by_turn (states t) (states (suc t)) (safe_at limits states last run t (omega (arith, within))) (run.turn t within) e)
+      (limits_at run t (omega (arith, within)))
+      (by_turn (states t) (states (suc t)) (safe_at run t (omega (arith, within))) (run.turn t within) e)
     where
       by_turn : (before after : State) → IsSafe before → Turn before after → operation_of before actor ≡ Some operation →
           AllHold (IsInUse after.heap) after.heap (line_wants before.limits.hash operation.call operation.access operation.line)

@@ -70,9 +70,9 @@ at_first : (limits : Bounds) → AllDown (first_state limits)
 unfolding first_state
 at_first limits k operation runs = absurd (none_found limits.actors k operation runs)
 
-pub key_lines : (limits : Bounds) (states : ℕ → State) (last : ℕ) → IsRun limits states last → (t : ℕ) → t ≤ last → (actor : ℕ) (operation : Operation) →
+pub key_lines : {limits : Bounds} {states : ℕ → State} {last : ℕ} → IsRun limits states last → (t : ℕ) → t ≤ last → (actor : ℕ) (operation : Operation) →
     operation_of (states t) actor ≡ Some operation → IsOnKey operation.call → is_down operation.line ≡ true
-key_lines limits states last run t within actor operation runs =
+key_lines {limits} {states} {last} run t within actor operation runs =
     let (k, place, at_k) = place_of_actor (states t) actor operation runs in
-    at_each_time limits states last run AllDown (at_first limits)
+    at_each_time run AllDown (at_first limits)
     (λ before s o after m all k found now. by_coming before s k found all (comes before s o after m k found now)) t within k operation at_k

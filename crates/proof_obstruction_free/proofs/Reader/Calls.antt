@@ -90,10 +90,10 @@ none_so : (limits : Bounds) → AllSo (first_state limits)
 unfolding first_state
 none_so limits k operation at_k = absurd (none_found limits.actors k operation at_k)
 
-all_so : (limits : Bounds) (states : ℕ → State) (last : ℕ) → IsRun limits states last → (t : ℕ) → t ≤ last → AllSo (states t)
-all_so limits states last r =
-    along_run limits states last r (λ t. AllSo (states t)) (subst AllSo (sym r.first) (none_so limits))
-    (λ t h turn all. by_turn (states t) (states (suc t)) (safe_at limits states last r t (omega arith)) all turn)
+all_so : {limits : Bounds} {states : ℕ → State} {last : ℕ} → IsRun limits states last → (t : ℕ) → t ≤ last → AllSo (states t)
+all_so {limits} {states} {last} r =
+    along_run r (λ t. AllSo (states t)) (subst AllSo (sym r.first) (none_so limits))
+    (λ t h turn all. by_turn (states t) (states (suc t)) (safe_at r t (omega arith)) all turn)
   where
     by_turn : (before after : State) → IsSafe before → AllSo before → Turn before after → AllSo after
     by_turn before after I all (turns s o m) j found at_j = so_by before I s all j found (comes before s o after m j found at_j)

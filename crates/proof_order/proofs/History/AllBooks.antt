@@ -123,5 +123,5 @@ first_books limits = record {
 }
 
 -- at each time of a run
-pub books_at : (limits : Bounds) (states : ℕ → State) (last : ℕ) (r : IsRun limits states last) (t : ℕ) → t ≤ last → Books (states t) (r.records t)
-books_at limits states last r = at_each_record limits states last r Books (first_books limits) books_kept
+pub books_at : {limits : Bounds} {states : ℕ → State} {last : ℕ} (r : IsRun limits states last) (t : ℕ) → t ≤ last → Books (states t) (r.records t)
+books_at {limits} {states} {last} r = at_each_record r Books (first_books limits) books_kept

@@ -199,9 +199,9 @@ module _ (state : State) (past : Record) (s : Step) (o : Outcome) (after : State
         ];
       }
 
-module _ (limits : Bounds) (states : ℕ → State) (last : ℕ) (r : IsRun limits states last) where
+module _ {limits : Bounds} {states : ℕ → State} {last : ℕ} (r : IsRun limits states last) where
   pub phased_at : (t : ℕ) → t ≤ last → Phased (states t) (r.records t)
-  phased_at t le = at_each_record limits states last r Phased (first_phased limits) phased_kept t le
+  phased_at t le = at_each_record r Phased (first_phased limits) phased_kept t le
 
   -- the operation whose offer is carried out answers so
   pub carried_reply : (t : ℕ) (s : Step) (o : Outcome) → t < last → Moves (states t) s o (states (suc t)) → Notes states r.records t s → (handle : ℕ) (offer : Descriptor) →
@@ -211,6 +211,6 @@ module _ (limits : Bounds) (states : ℕ → State) (last : ℕ) (r : IsRun limi
       let now =
       subst (λ x. Settled offer.operation offerer.call offerer.opens (states (suc t)) x) (sym notes)
       (settled_now (states t) (r.records t) s o (states (suc t)) m (phased_at t (omega arith)) handle offer carries k offerer runs id) in
-      let then_on = holds_later limits states last r (Settled offer.operation offerer.call offerer.opens) (settled_kept offer.operation offerer.call offerer.opens) (suc t) last lt
+      let then_on = holds_later r (Settled offer.operation offerer.call offerer.opens) (settled_kept offer.operation offerer.call offerer.opens) (suc t) last lt
       (omega arith) now in
       sym (then_on.answered other ended)

@@ -86,14 +86,14 @@ refused_now state past s o after (Ends {actor} {operation} {answer = told} d is 
 refused_now state past s o after (GivesUp d is a) id ended = inl ended
 refused_now state past s o after (Sweeps spent) id ended = inl ended
 
-module _ (limits : Bounds) (states : ℕ → State) (last : ℕ) (r : IsRun limits states last) (V : ℕ → ℕ → KeyMap) (facts : Facts limits states r.records last V) where
+module _ {limits : Bounds} {states : ℕ → State} {last : ℕ} (r : IsRun limits states last) (V : ℕ → ℕ → KeyMap) (facts : Facts limits states r.records last V) where
   -- who was refused has no place
   abbrev RefusedUnplaced : ℕ → Type 0
   RefusedUnplaced t = (id : ℕ) → HasEnded (r.records t).events id reply.NoSlots → (p : Place) → Among p (r.records t).places → p.id ≡ id → ⊥
 
   ended_runs_not : (t k : ℕ) (operation : Operation) (id : ℕ) → t ≤ last → Runs (states t) k operation → operation.id ≡ id → HasEnded (r.records t).events id reply.NoSlots → ⊥
   ended_runs_not t k operation id le runs same ended =
-      let told = (books_at limits states last r t le).told k operation runs in
+      let told = (books_at r t le).told k operation runs in
       told.unended reply.NoSlots (subst (λ i. HasEnded (r.records t).events i reply.NoSlots) (sym same) ended)
 
   not_entered : (t : ℕ) (p new : Place) (id : ℕ) → Enters limits states r.records last V t new → (new.id ≡ id → ⊥) → (Among p (r.records t).places → p.id ≡ id → ⊥) →
@@ -115,7 +115,7 @@ module _ (limits : Bounds) (states : ℕ → State) (last : ℕ) (r : IsRun limi
       (sym (place_says (closing_for (r.records t) operation.generation operation.access) (moment_at (r.records t) (suc k)).moment operation.id true).2 ∙ same) ended) rest a e
   stays_out t lt id ended p rest (closes handle stood places recalls more at gone others closings still) a e =
       not_entered t p _ id places (λ same.
-      let below = ended_below (r.records t).events ended.0 id reply.NoSlots (books_at limits states last r t (omega arith)).well_formed ended.1 in omega arith) rest a e
+      let below = ended_below (r.records t).events ended.0 id reply.NoSlots (books_at r t (omega arith)).well_formed ended.1 in omega arith) rest a e
   stays_out t lt id ended p rest (swaps handle offer swap places closings roots heap still) a e =
       not_entered t p _ id places (λ same. ended_runs_not t swap.k swap.offerer id (omega arith) swap.runs (swap.is_its ∙ same) ended) rest a e
 
@@ -124,10 +124,10 @@ module _ (limits : Bounds) (states : ℕ → State) (last : ℕ) (r : IsRun limi
       let none : HasEnded [] id reply.NoSlots = subst (λ l. HasEnded l id reply.NoSlots) (ap (λ (q : Record). q.events) r.nothing_recorded) ended in
       let at = none.1 in cc at
   refused_at (suc t) le id ended p a e =
-      let step = step_at limits states last r V facts t le in
+      let step = step_at r V facts t le in
       elim (refused_now (states t) (r.records t) step.its step.outcome (states (suc t)) step.move id
       (subst (λ (q : Record). HasEnded q.events id reply.NoSlots) step.notes ended)) [
-        | inl old ↦ stays_out t le id old p (refused_at t (omega (arith, le)) id old p) (kind_at limits states last r V facts t le) a e
+        | inl old ↦ stays_out t le id old p (refused_at t (omega (arith, le)) id old p) (kind_at r V facts t le) a e
         | inr new ↦
             let (actor, operation, is, does, same, places) = new in
             unplaced (r.records t) operation.id (facts.refused t actor operation le is does) p (subst (Among p) (ap (λ (q : Record). q.places) step.notes ∙ places) a) (e ∙ sym same)
@@ -146,9 +146,9 @@ module _ (limits : Bounds) (states : ℕ → State) (last : ℕ) (r : IsRun limi
     begun_place : (p : Place) → Among p (r.records last).places → HasBegun (r.records last).events p.id
     begun_place p a =
         let (k, operation, runs, same) = behind p a in
-        let told = (books_at limits states last r (suc p.step) (within p a)).told k operation runs in
+        let told = (books_at r (suc p.step) (within p a)).told k operation runs in
         let says : Told = record { actor = suc k; call = operation.call; opens = operation.opens } in
-        subst (λ i. HasBegun (r.records last).events i) same (told.place, says, event_later limits states last r (suc p.step) last told.place _ (within p a) (omega arith) told.begins)
+        subst (λ i. HasBegun (r.records last).events i) same (told.place, says, event_later r (suc p.step) last told.place _ (within p a) (omega arith) told.begins)
 
     placed_of : (i id : ℕ) → OrderedAt order i id → (p : Place) × Among p (r.records last).places × (p.id ≡ id) × (slice_get (sorted r.records last) i ≡ Some p)
     placed_of i id at =
@@ -160,11 +160,11 @@ module _ (limits : Bounds) (states : ℕ → State) (last : ℕ) (r : IsRun limi
       distinct = λ i j id at_i at_j.
           let (p, at_p, same_p) = place_at (sorted r.records last) i id at_i in
           let (q, at_q, same_q) = place_at (sorted r.records last) j id at_j in
-          one_position (sorted r.records last) i j p q (sorted_apart limits states last r V facts) at_p at_q (same_p ∙ sym same_q);
+          one_position (sorted r.records last) i j p q (sorted_apart r V facts) at_p at_q (same_p ∙ sym same_q);
       has_begun = λ i id at. let (p, a, same, at_i) = placed_of i id at in subst (λ x. HasBegun (r.records last).events x) same (begun_place p a);
       not_refused = λ i id at ended. let (p, a, same, at_i) = placed_of i id at in refused_at last (omega arith) id ended p a same;
       answered = λ id answer ended other.
-          let (p, a, same) = answered_at limits states last r last (omega arith) id answer ended other in
+          let (p, a, same) = answered_at r last (omega arith) id answer ended other in
           let (i, at) = get_among order p.id (among_map (λ (q : Place). q.id) (sorted r.records last) p (rising_among (r.records last).places p a)) in
           (i, at ∙ ap Some same);
     }
@@ -173,7 +173,7 @@ module _ (limits : Bounds) (states : ℕ → State) (last : ℕ) (r : IsRun limi
 
     events_length : (t u : ℕ) → t ≤ u → u ≤ last → length (r.records t).events ≤ length (r.records u).events
     events_length t u le within_last =
-        holds_later limits states last r (λ state past. length (r.records t).events ≤ length past.events) longer t u le within_last (omega arith)
+        holds_later r (λ state past. length (r.records t).events ≤ length past.events) longer t u le within_last (omega arith)
       where
         longer : KeptByNotes (λ state past. length (r.records t).events ≤ length past.events)
         longer state past s o after m h =
@@ -186,9 +186,9 @@ module _ (limits : Bounds) (states : ℕ → State) (last : ℕ) (r : IsRun limi
     ends_behind p a end answer at = elim (cases_lt end (length (r.records (suc p.step)).events)) [
       | inl early ↦
           let (k, operation, runs, same) = behind p a in
-          let told = (books_at limits states last r (suc p.step) (within p a)).told k operation runs in
+          let told = (books_at r (suc p.step) (within p a)).told k operation runs in
           let (event, at_then) = at_within (r.records (suc p.step)).events end early in
-          let its : event ≡ End p.id answer = same_Some event (End p.id answer) (sym (event_later limits states last r (suc p.step) last end event (within p a) (omega arith) at_then) ∙ at) in
+          let its : event ≡ End p.id answer = same_Some event (End p.id answer) (sym (event_later r (suc p.step) last end event (within p a) (omega arith) at_then) ∙ at) in
           absurd (told.unended answer (end, at_then ∙ ap Some its ∙ ap (λ i. Some (End i answer)) (sym same)))
       | inr late ↦ late
     ]
@@ -198,11 +198,11 @@ module _ (limits : Bounds) (states : ℕ → State) (last : ℕ) (r : IsRun limi
         begin < length (r.records (suc p.step)).events
     begins_before p a begin says at =
         let (k, operation, runs, same) = behind p a in
-        let told = (books_at limits states last r (suc p.step) (within p a)).told k operation runs in
+        let told = (books_at r (suc p.step) (within p a)).told k operation runs in
         let its : Told = record { actor = suc k; call = operation.call; opens = operation.opens } in
-        let later = event_later limits states last r (suc p.step) last told.place _ (within p a) (omega arith) told.begins in
+        let later = event_later r (suc p.step) last told.place _ (within p a) (omega arith) told.begins in
         let begins : BeginsAt (r.records last).events told.place p.id its = later ∙ ap (λ i. Some (Begin i (suc k) operation.call operation.opens)) same in
-        let here : told.place ≡ begin = begins_once (r.records last).events told.place begin p.id its says (books_at limits states last r last (omega arith)).well_formed begins at in
+        let here : told.place ≡ begin = begins_once (r.records last).events told.place begin p.id its says (books_at r last (omega arith)).well_formed begins at in
         let low : told.place < length (r.records (suc p.step)).events = slice_get_within (r.records (suc p.step)).events told.place _ told.begins in
         omega arith
 

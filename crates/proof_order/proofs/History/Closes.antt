@@ -136,6 +136,6 @@ first_closing limits = record {
 }
 
 -- at each time of a run
-pub closed_reply : (limits : Bounds) (states : ℕ → State) (last : ℕ) (r : IsRun limits states last) (t : ℕ) → t ≤ last → (place id actor handle : ℕ) (opens : Option ℕ) (answer : Reply) →
+pub closed_reply : {limits : Bounds} {states : ℕ → State} {last : ℕ} (r : IsRun limits states last) (t : ℕ) → t ≤ last → (place id actor handle : ℕ) (opens : Option ℕ) (answer : Reply) →
     slice_get (r.records t).events place ≡ Some (Begin id actor (Close handle) opens) → HasEnded (r.records t).events id answer → answer ≡ reply.Closed
-closed_reply limits states last r t le = (at_each_record limits states last r Closing (first_closing limits) closing_kept t le).answers
+closed_reply {limits} {states} {last} r t le = (at_each_record r Closing (first_closing limits) closing_kept t le).answers

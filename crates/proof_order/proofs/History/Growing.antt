@@ -15,21 +15,21 @@ use Rattle.proof_order.specs.Beneath.machine_model.proofs.Notes.{noted_going, no
 
 -- ---- what a step keeps holds later
 
-pub later : (limits : Bounds) (states : ℕ → State) (last : ℕ) (r : IsRun limits states last) (Q : State → Record → Type 0) → KeptByNotes Q → (t d : ℕ) → t + d ≤ last →
+pub later : {limits : Bounds} {states : ℕ → State} {last : ℕ} (r : IsRun limits states last) (Q : State → Record → Type 0) → KeptByNotes Q → (t d : ℕ) → t + d ≤ last →
     Q (states t) (r.records t) → Q (states (t + d)) (r.records (t + d))
-later limits states last r Q keeps t zero h q = subst (λ n. Q (states n) (r.records n)) (omega arith) q
-later limits states last r Q keeps t (suc d) h q =
-    let so_far = later limits states last r Q keeps t d (omega (arith, h)) q in
+later {limits} {states} {last} r Q keeps t zero h q = subst (λ n. Q (states n) (r.records n)) (omega arith) q
+later {limits} {states} {last} r Q keeps t (suc d) h q =
+    let so_far = later r Q keeps t d (omega (arith, h)) q in
     subst (λ n. Q (states n) (r.records n)) (omega arith) (by_turn (r.turn (t + d) (omega (arith, h))) (r.recorded (t + d) (omega (arith, h))) so_far)
   where
     by_turn : {before after : State} {past now : Record} (turn : Turn before after) → now ≡ noted_turn turn past → Q before past → Q after now
     by_turn {before} {after} {past} {now} (turns s o m) e q = subst (λ x. Q after x) (sym e) (keeps before past s o after m q)
 
-pub holds_later : (limits : Bounds) (states : ℕ → State) (last : ℕ) (r : IsRun limits states last) (Q : State → Record → Type 0) → KeptByNotes Q → (t u : ℕ) → t ≤ u → u ≤ last →
+pub holds_later : {limits : Bounds} {states : ℕ → State} {last : ℕ} (r : IsRun limits states last) (Q : State → Record → Type 0) → KeptByNotes Q → (t u : ℕ) → t ≤ u → u ≤ last →
     Q (states t) (r.records t) → Q (states u) (r.records u)
-holds_later limits states last r Q keeps t u h k q =
+holds_later {limits} {states} {last} r Q keeps t u h k q =
     let e : t + (u - t) ≡ u = omega arith in
-    subst (λ n. Q (states n) (r.records n)) e (later limits states last r Q keeps t (u - t) (omega arith) q)
+    subst (λ n. Q (states n) (r.records n)) e (later r Q keeps t (u - t) (omega arith) q)
 
 -- ---- lists that grow
 
@@ -150,5 +150,5 @@ pub first_answered : (limits : Bounds) → Answered (first_record limits)
 first_answered limits id answer ended other = let at = ended.1 in let wrong : ⊥ = cc at in absurd wrong
 
 -- at each time of a run each operation that was answered has a place
-pub answered_at : (limits : Bounds) (states : ℕ → State) (last : ℕ) (r : IsRun limits states last) (t : ℕ) → t ≤ last → Answered (r.records t)
-answered_at limits states last r = at_each_record limits states last r (λ state past. Answered past) (first_answered limits) answered_kept
+pub answered_at : {limits : Bounds} {states : ℕ → State} {last : ℕ} (r : IsRun limits states last) (t : ℕ) → t ≤ last → Answered (r.records t)
+answered_at {limits} {states} {last} r = at_each_record r (λ state past. Answered past) (first_answered limits) answered_kept

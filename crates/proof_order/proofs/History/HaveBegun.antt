@@ -225,10 +225,10 @@ pub placed_begun : (limits : Bounds) (steps : List Step) (p : Place) → Among p
 placed_begun limits steps = (along_with limits Begun (first_begun limits) (λ before s o after m h. begun_kept (run limits before) (record_of limits before) s o after m h) steps).each
 
 -- at each time of a run the ids of places are below the number of those that have begun
-pub places_below : (limits : Bounds) (states : ℕ → State) (last : ℕ) (r : IsRun limits states last) (t : ℕ) → t ≤ last → (p : Place) → Among p (r.records t).places →
+pub places_below : {limits : Bounds} {states : ℕ → State} {last : ℕ} (r : IsRun limits states last) (t : ℕ) → t ≤ last → (p : Place) → Among p (r.records t).places →
     p.id < begun (r.records t).events
-places_below limits states last r t le p a =
-    let h = at_each_record limits states last r Begun (first_begun limits) begun_kept t le in
+places_below {limits} {states} {last} r t le p a =
+    let h = at_each_record r Begun (first_begun limits) begun_kept t le in
     let (place, told, at) = h.each p a in
     id_below (r.records t).events place p.id told h.offers.books.well_formed at
 

@@ -140,5 +140,5 @@ first_past limits = record {
   operations = λ k operation at_k. absurd (none_found limits.actors k operation at_k);
 }
 
-pub past_at : (limits : Bounds) (states : ℕ → State) (last : ℕ) (r : IsRun limits states last) (t : ℕ) → t ≤ last → Past (states t) (r.records t)
-past_at limits states last r = at_each_record limits states last r Past (first_past limits) past_kept
+pub past_at : {limits : Bounds} {states : ℕ → State} {last : ℕ} (r : IsRun limits states last) (t : ℕ) → t ≤ last → Past (states t) (r.records t)
+past_at {limits} {states} {last} r = at_each_record r Past (first_past limits) past_kept

@@ -17,22 +17,22 @@ use Rattle.proof_order.specs.Beneath.machine_model.proofs.Notes.{noted_ending}
 event_kept : (place : ℕ) (event : Event) → KeptByNotes (λ state past. slice_get past.events place ≡ Some event)
 event_kept place event state past s o after m at = get_grown past.events _ place event (events_grow state past s o after m) at
 
-module _ (limits : Bounds) (states : ℕ → State) (last : ℕ) (r : IsRun limits states last) where
+module _ {limits : Bounds} {states : ℕ → State} {last : ℕ} (r : IsRun limits states last) where
   pub event_later : (t u place : ℕ) (event : Event) → t ≤ u → u ≤ last → slice_get (r.records t).events place ≡ Some event → slice_get (r.records u).events place ≡ Some event
-  event_later t u place event le within at = holds_later limits states last r (λ state past. slice_get past.events place ≡ Some event) (event_kept place event) t u le within at
+  event_later t u place event le within at = holds_later r (λ state past. slice_get past.events place ≡ Some event) (event_kept place event) t u le within at
 
   -- an operation that runs at some time has begun, and the whole history says with which call
   pub recalls_running : (t k : ℕ) (operation : Operation) (answer : Reply) → t ≤ last → Runs (states t) k operation → IsReply (r.records last).events operation.id answer →
       Recalls (r.records last).events operation.id (record { call = operation.call; opens = operation.opens; answer = answer })
   recalls_running t k operation answer le runs is =
-      let told = (books_at limits states last r t le).told k operation runs in
+      let told = (books_at r t le).told k operation runs in
       let says : Told = record { actor = suc k; call = operation.call; opens = operation.opens } in
       ((told.place, says, event_later t last told.place _ le (omega arith) told.begins, refl, refl), is)
 
   -- a reply that is told is the one with which the operation ends
   pub told_reply : (t id : ℕ) (answer : Reply) → t ≤ last → HasEnded (r.records t).events id answer → IsReply (r.records last).events id answer
   told_reply t id answer le ended other ends =
-      reply_once (r.records last).events id answer other (books_at limits states last r last (omega arith)).well_formed
+      reply_once (r.records last).events id answer other (books_at r last (omega arith)).well_formed
       (ended.0, event_later t last ended.0 _ le (omega arith) ended.1) ends
 
 -- ---- the events of a step

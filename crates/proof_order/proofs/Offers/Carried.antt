@@ -24,11 +24,11 @@ pub record Carried (states : ℕ → State) (records : ℕ → Record) (last : �
   pub opens : Opens states records last V t handle (generation_at (states t).heap offer.root) offer offerer.call
 
 -- the facts, of the operation that made it
-pub carried : (limits : Bounds) (states : ℕ → State) (last : ℕ) (r : IsRun limits states last) (V : ℕ → ℕ → KeyMap) → Facts limits states r.records last V →
+pub carried : {limits : Bounds} {states : ℕ → State} {last : ℕ} (r : IsRun limits states last) (V : ℕ → ℕ → KeyMap) → Facts limits states r.records last V →
     (t : ℕ) (s : Step) (o : Outcome) → t < last →
     Moves (states t) s o (states (suc t)) → Notes states r.records t s → (handle : ℕ) (offer : Descriptor) → CarriesOut (states t) s handle offer →
     Offers (states t) (r.records t) → Carried states r.records last V t handle offer
-carried limits states last r V facts t s o lt m notes handle offer carries offers =
+carried {limits} {states} {last} r V facts t s o lt m notes handle offer carries offers =
     let st = offerer_of (states t) offers s handle offer carries in
     let facts_of = facts.swaps t s o lt m notes handle offer carries st.k st.operation st.runs st.id in
     record {
@@ -37,8 +37,8 @@ carried limits states last r V facts t s o lt m notes handle offer carries offer
       runs = st.runs;
       is_its = st.id;
       number = st.opens;
-      free = λ n e. (has_handles_at limits states last r t (omega arith)).1.unopened st.k n st.operation st.runs st.unmarked (st.opens ∙ e);
-      agrees = carried_reply limits states last r t s o lt m notes handle offer carries st.k st.operation st.runs st.id;
+      free = λ n e. (has_handles_at r t (omega arith)).1.unopened st.k n st.operation st.runs st.unmarked (st.opens ∙ e);
+      agrees = carried_reply r t s o lt m notes handle offer carries st.k st.operation st.runs st.id;
       unplaced = facts_of.unplaced;
       stands = facts_of.stands;
       is_fresh = facts_of.is_fresh;

@@ -62,5 +62,5 @@ offers_kept state past s o after m offers = record { books = books_kept state pa
 pub first_offers : (limits : Bounds) → Offers (first_state limits) (first_record limits)
 first_offers limits = record { books = first_books limits; own = no_offers_at_first limits }
 
-pub offers_at : (limits : Bounds) (states : ℕ → State) (last : ℕ) (r : IsRun limits states last) (t : ℕ) → t ≤ last → Offers (states t) (r.records t)
-offers_at limits states last r = at_each_record limits states last r Offers (first_offers limits) offers_kept
+pub offers_at : {limits : Bounds} {states : ℕ → State} {last : ℕ} (r : IsRun limits states last) (t : ℕ) → t ≤ last → Offers (states t) (r.records t)
+offers_at {limits} {states} {last} r = at_each_record r Offers (first_offers limits) offers_kept

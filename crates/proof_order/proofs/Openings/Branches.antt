@@ -72,7 +72,7 @@ module _ (state : State) (operation : Operation) (b : Ref) where
   cleared_makes (line.Root l) is = absurd (root_makes l is)
   cleared_makes l is = absurd (no_copy (line_after state operation l) b (no_copy_after state operation l refl refl) is)
 
-module _ (limits : Bounds) (states : ℕ → State) (last : ℕ) (run : IsRun limits states last) where
+module _ {limits : Bounds} {states : ℕ → State} {last : ℕ} (run : IsRun limits states last) where
   abbrev AllEmpty : ℕ → Type 0
   AllEmpty t = (k : ℕ) (operation : Operation) (b : Ref) → Runs (states t) k operation → IsCleared operation.line b → node_under states last b ≡ empty_branch
 
@@ -80,12 +80,12 @@ module _ (limits : Bounds) (states : ℕ → State) (last : ℕ) (run : IsRun li
     empty_by : (k : ℕ) (was : Operation) (b : Ref) → Runs (states t) k was → s ≡ step.Go (suc k) → MadeEmpty (states t) was was.line b → node_under states last b ≡ empty_branch
     unfolding MadeEmpty
     empty_by k was b at_k go (makes, n) =
-        let made = stands_made (states t) (safe_at limits states last run t (omega arith)) s o (states (suc t)) m k was go at_k empty_branch b makes n in
-        node_for_ever limits states last run (suc t) b empty_branch within made.0 made.1 (λ g w e. let wrong : ⊥ = cc e in wrong)
+        let made = stands_made (states t) (safe_at run t (omega arith)) s o (states (suc t)) m k was go at_k empty_branch b makes n in
+        node_for_ever run (suc t) b empty_branch within made.0 made.1 (λ g w e. let wrong : ⊥ = cc e in wrong)
 
     empty_next : AllEmpty (suc t)
     empty_next k found b now is =
-        let I = ordered_at limits states last run t (omega arith) in
+        let I = ordered_at run t (omega arith) in
         elim (ran_or_began (states t) I.offers I.handles s k found (comes (states t) s o (states (suc t)) m k found now)) [
           | inl ran ↦ elim ran.line [
             | inl same ↦ so_far k ran.was b ran.at_k (subst (λ l. IsCleared l b) same is)
@@ -96,4 +96,4 @@ module _ (limits : Bounds) (states : ℕ → State) (last : ℕ) (run : IsRun li
         ]
 
   pub empty_at : (t : ℕ) → t ≤ last → AllEmpty t
-  empty_at = along_moves limits states last run AllEmpty (λ none k operation b at_k. absurd (none k operation at_k)) (λ t h so_far s o m notes. empty_next t h so_far s o m)
+  empty_at = along_moves run AllEmpty (λ none k operation b at_k. absurd (none k operation at_k)) (λ t h so_far s o m notes. empty_next t h so_far s o m)

@@ -50,63 +50,63 @@ numbers_at_first : (limits : Bounds) → HaveNumbers (first_state limits)
 unfolding first_state
 numbers_at_first limits k operation at_k = absurd (none_found limits.actors k operation at_k)
 
-numbers_at : (limits : Bounds) (states : ℕ → State) (last : ℕ) (run : IsRun limits states last) → (t : ℕ) → t ≤ last → HaveNumbers (states t)
-numbers_at limits states last run =
-    at_each_time limits states last run HaveNumbers (numbers_at_first limits) (λ before s o after m all k found now. numbers_by before s all k found (comes before s o after m k found now))
+numbers_at : {limits : Bounds} {states : ℕ → State} {last : ℕ} (run : IsRun limits states last) → (t : ℕ) → t ≤ last → HaveNumbers (states t)
+numbers_at {limits} {states} {last} run =
+    at_each_time run HaveNumbers (numbers_at_first limits) (λ before s o after m all k found now. numbers_by before s all k found (comes before s o after m k found now))
 
 -- ---- the new roots
 
-module _ (limits : Bounds) (states : ℕ → State) (last : ℕ) (run : IsRun limits states last)
+module _ {limits : Bounds} {states : ℕ → State} {last : ℕ} (run : IsRun limits states last)
     (t handle : ℕ) (offer : Descriptor) (swap : IsSwap states run.records last t handle offer) where
   abbrev by : StandsBy (states t) handle offer
-  by = offerer limits states last run t handle offer swap
+  by = offerer run t handle offer swap
 
   copied_is : copied by.owner.line ≡ (offer.root, offer.expected)
   copied_is = let (c, at_line, its) = completes_it by.owner.line offer by.completes in ap copied at_line ∙ ap (λ (o : Descriptor). (o.root, o.expected)) its
 
-  shows : (x : Bool) (q : Ref) → fresh_of x offer ≡ Some q → Shows limits states last run t by.owner q
-  shows x q e = show_at limits states last run t (omega (arith, swap.taken)) by.k by.owner x q by.runs by.unmarked (its_fresh by.owner.line offer x q by.completes e)
+  shows : (x : Bool) (q : Ref) → fresh_of x offer ≡ Some q → Shows run t by.owner q
+  shows x q e = show_at run t (omega (arith, swap.taken)) by.k by.owner x q by.runs by.unmarked (its_fresh by.owner.line offer x q by.completes e)
 
-  is_new : (x : Bool) (q : Ref) → fresh_of x offer ≡ Some q → IsNew limits states last run t by.owner q
-  is_new x q e = new_at limits states last run t (omega (arith, swap.taken)) by.k by.owner x q by.runs by.unmarked (its_fresh by.owner.line offer x q by.completes e)
+  is_new : (x : Bool) (q : Ref) → fresh_of x offer ≡ Some q → IsNew run t by.owner q
+  is_new x q e = new_at run t (omega (arith, swap.taken)) by.k by.owner x q by.runs by.unmarked (its_fresh by.owner.line offer x q by.completes e)
 
   new_root : (x : Bool) (q : Ref) → fresh_of x offer ≡ Some q → (h : ℕ) → IsRootOf states (suc t) h q (generation_at (states t).heap q) → IsNewRoot states last t offer q
   new_root x q e h stands =
-      let one = roots_are_one limits states last run (suc t) h q (generation_at (states t).heap q) swap.taken stands in
+      let one = roots_are_one run (suc t) h q (generation_at (states t).heap q) swap.taken stands in
       record {
         newer = omega (arith, (is_new x q e).newer, ap (λ p. generation_at (states t).heap p.0) copied_is);
         is_root = one.0;
         keeps = one.1;
       }
 
-  main_shows : (x : Bool) (q : Ref) → fresh_of x offer ≡ Some q → ShowsMain limits states last run (is_clear by.owner.call) offer.expected (counting_main states last (suc t) q)
+  main_shows : (x : Bool) (q : Ref) → fresh_of x offer ≡ Some q → ShowsMain run (is_clear by.owner.call) offer.expected (counting_main states last (suc t) q)
   main_shows x q e =
       let s = shows x q e in
-      let stays = fresh_stays limits states last run t swap.taken by.k by.owner x q by.runs by.unmarked (its_fresh by.owner.line offer x q by.completes e) s.link in
-      subst (λ m. ShowsMain limits states last run (is_clear by.owner.call) offer.expected m) (sym stays)
-      (subst (λ p. ShowsMain limits states last run (is_clear by.owner.call) p.1 (counting_main states last t q)) copied_is s.main_is)
+      let stays = fresh_stays run t swap.taken by.k by.owner x q by.runs by.unmarked (its_fresh by.owner.line offer x q by.completes e) s.link in
+      subst (λ m. ShowsMain run (is_clear by.owner.call) offer.expected m) (sym stays)
+      (subst (λ p. ShowsMain run (is_clear by.owner.call) p.1 (counting_main states last t q)) copied_is s.main_is)
 
   -- ---- by the call
 
   module _ (call : Call) (is : by.owner.call ≡ call) where
-    shows_so : (x : Bool) (q : Ref) → fresh_of x offer ≡ Some q → ShowsMain limits states last run (is_clear call) offer.expected (counting_main states last (suc t) q)
-    shows_so x q e = subst (λ c. ShowsMain limits states last run (is_clear c) offer.expected (counting_main states last (suc t) q)) is (main_shows x q e)
+    shows_so : (x : Bool) (q : Ref) → fresh_of x offer ≡ Some q → ShowsMain run (is_clear call) offer.expected (counting_main states last (suc t) q)
+    shows_so x q e = subst (λ c. ShowsMain run (is_clear c) offer.expected (counting_main states last (suc t) q)) is (main_shows x q e)
 
     fits : second_fits call offer.second ≡ true
-    fits = ap (λ c. second_fits c offer.second) (sym is) ∙ (offers limits states last run t handle offer swap).second
+    fits = ap (λ c. second_fits c offer.second) (sym is) ∙ (offers run t handle offer swap).second
 
     successor_new : IsNewRoot states last t offer offer.successor
-    successor_new = new_root true offer.successor refl handle (successor_stands limits states last run t handle offer swap)
+    successor_new = new_root true offer.successor refl handle (successor_stands run t handle offer swap)
 
     number : opens_handle call ≡ true → (n : ℕ) × (offer.opens ≡ Some n)
     number opening =
-        let numbers = numbers_at limits states last run t (omega (arith, swap.taken)) by.k by.owner by.runs in
-        option_tested offer.opens (ap is_some (offers limits states last run t handle offer swap).number ∙ numbers ∙ ap opens_handle is ∙ opening)
+        let numbers = numbers_at run t (omega (arith, swap.taken)) by.k by.owner by.runs in
+        option_tested offer.opens (ap is_some (offers run t handle offer swap).number ∙ numbers ∙ ap opens_handle is ∙ opening)
 
     second_new : opens_handle call ≡ true → (second : Ref) → offer.second ≡ Some second → IsNewRoot states last t offer second
     second_new opening second e =
         let (n, opens) = number opening in
-        new_root false second e n (second_stands limits states last run t handle offer swap n second opens e)
+        new_root false second e n (second_stands run t handle offer swap n second opens e)
 
     -- the call is of this very handle
     on : handle_of call ≡ handle
@@ -114,8 +114,8 @@ module _ (limits : Bounds) (states : ℕ → State) (last : ℕ) (run : IsRun li
 
     no_number : opens_handle call ≡ false → offer.opens ≡ None
     no_number closing =
-        let numbers = numbers_at limits states last run t (omega (arith, swap.taken)) by.k by.owner by.runs in
-        option_untested offer.opens (ap is_some (offers limits states last run t handle offer swap).number ∙ numbers ∙ ap opens_handle is ∙ closing)
+        let numbers = numbers_at run t (omega (arith, swap.taken)) by.k by.owner by.runs in
+        option_untested offer.opens (ap is_some (offers run t handle offer swap).number ∙ numbers ∙ ap opens_handle is ∙ closing)
 
   -- by the call, and the second root
   brings_by : (call : Call) → by.owner.call ≡ call → (second : Option Ref) → offer.second ≡ second → second_fits call second ≡ true → Brings states last t handle offer call
@@ -143,9 +143,9 @@ module _ (limits : Bounds) (states : ℕ → State) (last : ℕ) (run : IsRun li
   pub offered_by : (actor : ℕ) (operation : Operation) → operation_of (states t) actor ≡ Some operation → operation.id ≡ offer.operation → by.owner ≡ operation
   offered_by actor operation is id =
       let (k, place, at_k) = place_of_actor (states t) actor operation is in
-      one_of_id (states t) (ordered limits states last run t handle offer swap).offers.ids by.k k by.owner operation by.runs at_k (sym (offers limits states last run t handle offer swap).its ∙ sym id)
+      one_of_id (states t) (ordered run t handle offer swap).offers.ids by.k k by.owner operation by.runs at_k (sym (offers run t handle offer swap).its ∙ sym id)
 
-pub swaps_bring : (limits : Bounds) (states : ℕ → State) (last : ℕ) (run : IsRun limits states last) → SwapsBring states run.records last
-swaps_bring limits states last run t handle offer swap actor operation is id =
-    subst (λ (x : Operation). Brings states last t handle offer x.call) (offered_by limits states last run t handle offer swap actor operation is id)
-    (brings_owner limits states last run t handle offer swap)
+pub swaps_bring : {limits : Bounds} {states : ℕ → State} {last : ℕ} (run : IsRun limits states last) → SwapsBring states run.records last
+swaps_bring {limits} {states} {last} run t handle offer swap actor operation is id =
+    subst (λ (x : Operation). Brings states last t handle offer x.call) (offered_by run t handle offer swap actor operation is id)
+    (brings_owner run t handle offer swap)

@@ -55,12 +55,12 @@ fresh_unused state past g u = (u.unclosed, λ handle access e. by handle access 
     by handle access None is e = none-some _ e
     by handle access (Some root) is e = u.alone handle root is (gens (root.access, gen state root) (access, g) e)
 
-module _ (limits : Bounds) (states : ℕ → State) (last : ℕ) (r : IsRun limits states last) (t handle : ℕ) (offer : Descriptor) (swap : IsSwap states r.records last t handle offer) where
+module _ {limits : Bounds} {states : ℕ → State} {last : ℕ} (r : IsRun limits states last) (t handle : ℕ) (offer : Descriptor) (swap : IsSwap states r.records last t handle offer) where
   pub safe : IsSafe (states t)
-  safe = safe_at limits states last r t (omega (arith, swap.taken))
+  safe = safe_at r t (omega (arith, swap.taken))
 
   pub ordered : IsOrdered (states t) (r.records t)
-  ordered = ordered_at limits states last r t (omega (arith, swap.taken))
+  ordered = ordered_at r t (omega (arith, swap.taken))
 
   pub mover : Carried (states t) swap.step handle offer
   mover = carried_of (states t) swap.step handle offer swap.carries
@@ -95,9 +95,9 @@ module _ (limits : Bounds) (states : ℕ → State) (last : ℕ) (r : IsRun limi
   second_differs second e = offered_apart (states t) (r.records t) ordered handle offer word second e
 
 -- a step leaves the generation of a handle's root as it is
-pub keeps_generation : (limits : Bounds) (states : ℕ → State) (last : ℕ) (r : IsRun limits states last) → (t handle : ℕ) (root : Root) → t < last → root_at (states t) handle ≡ Some root →
+pub keeps_generation : {limits : Bounds} {states : ℕ → State} {last : ℕ} (r : IsRun limits states last) → (t handle : ℕ) (root : Root) → t < last → root_at (states t) handle ≡ Some root →
     generation_at (states (suc t)).heap (root_of root.word) ≡ generation_at (states t).heap (root_of root.word)
-keeps_generation limits states last r t handle root within e = by (r.turn t within)
+keeps_generation {limits} {states} {last} r t handle root within e = by (r.turn t within)
   where
     by : Turn (states t) (states (suc t)) → generation_at (states (suc t)).heap (root_of root.word) ≡ generation_at (states t).heap (root_of root.word)
-    by (turns s o m) = root_kept (states t) (safe_at limits states last r t (omega arith)) s o (states (suc t)) m handle root e
+    by (turns s o m) = root_kept (states t) (safe_at r t (omega arith)) s o (states (suc t)) m handle root e

@@ -24,13 +24,13 @@ use Rattle.proof_order.specs.Beneath.proof_commits.proofs.Known.MainsInUse.{logi
 use Rattle.proof_order.specs.Beneath.proof_commits.proofs.Known.Acts.{known_run}
 use Rattle.proof_generations.proofs.Falling.Nodes.{nodes_stay}
 
-module _ (limits : Bounds) (states : ℕ → State) (last : ℕ) (run : IsRun limits states last) where
+module _ {limits : Bounds} {states : ℕ → State} {last : ℕ} (run : IsRun limits states last) where
   stands : (t handle : ℕ) (root : Root) → root_at (states t) handle ≡ Some root → IsRootOf states t handle (root_of root.word) (root_generation (states t) root)
   stands t handle root e = record { root = root; is_open = e; is = refl; its = refl }
 
   -- a root of a handle is the root of its generation
   pub root_is : (t handle : ℕ) (root : Root) → t ≤ last → root_at (states t) handle ≡ Some root → trie.root_of_generation states last (root_generation (states t) root) ≡ root_of root.word
-  root_is t handle root within e = (roots_are_one limits states last run t handle (root_of root.word) (root_generation (states t) root) within (stands t handle root e)).0
+  root_is t handle root within e = (roots_are_one run t handle (root_of root.word) (root_generation (states t) root) within (stands t handle root e)).0
 
   pub one_root : OneRootIn states last
   one_root n k le within handle other a b e f same =
@@ -39,9 +39,9 @@ module _ (limits : Bounds) (states : ℕ → State) (last : ℕ) (run : IsRun li
   -- it is an indirection for ever
   pub root_link : (t handle : ℕ) (root : Root) → t ≤ last → root_at (states t) handle ≡ Some root → is_indirection (node_under states last (root_of root.word)) ≡ true
   root_link t handle root within e =
-      let used = root_in_use limits states last run t handle (root_of root.word) (root_generation (states t) root) within (stands t handle root e) in
-      link_stays (protocol limits states last (known_run limits states last run)) (root_of root.word) t last within (omega arith)
-      (ap is_indirection (sym (node_found states t (root_of root.word) used)) ∙ (by root.word ((safe_at limits states last run t within).words handle root e)))
+      let used = root_in_use run t handle (root_of root.word) (root_generation (states t) root) within (stands t handle root e) in
+      link_stays (protocol limits states last (known_run run)) (root_of root.word) t last within (omega arith)
+      (ap is_indirection (sym (node_found states t (root_of root.word) used)) ∙ (by root.word ((safe_at run t within).words handle root e)))
     where
       by : (word : RootWord) → AllHold (IsInUse (states t).heap) (states t).heap (word_wants word) → meets AnIndirection (node_at (states t).heap (root_of word)) ≡ true
       by (Plain r) h = meets_of h.0
@@ -51,10 +51,10 @@ module _ (limits : Bounds) (states : ℕ → State) (last : ℕ) (run : IsRun li
   pub main_there : (t : ℕ) (r : Ref) → t ≤ last → IsInUse (states t).heap r → is_indirection (node_under states last r) ≡ true → logical_main (states t).heap r ≡ counting_main states last t r
   main_there t r within used l =
       let there = grown_in_use states t r used.0 used.1 in
-      let now = nodes_stay limits states last run t last within (omega arith) r used.0 there in
+      let now = nodes_stay run t last within (omega arith) r used.0 there in
       let link : is_indirection (node_under states t r) ≡ true =
       ap (λ o. is_indirection (node_of o)) there ∙ sym (link_kept now.2.0 used.0.node) ∙ ap is_indirection (sym now.2.1) ∙ sym (ap (λ o. is_indirection (node_of o)) now.1) ∙ l in
-      logical_standing limits states last (known_run limits states last run) t within r used.0 used.1 link ∙ sym (counting_main-made states last t r (ap is_some there))
+      logical_standing limits states last (known_run run) t within r used.0 used.1 link ∙ sym (counting_main-made states last t r (ap is_some there))
 
   -- the root of a generation has one main node from its closing on
   module _ (closed generation : ℕ) (so : ClosesSo states run.records last closed generation) where
@@ -62,14 +62,14 @@ module _ (limits : Bounds) (states : ℕ → State) (last : ℕ) (run : IsRun li
     closed_root =
         let within = so.swap.taken in
         ap (trie.root_of_generation states last) (sym so.its)
-        ∙ (roots_are_one limits states last run closed so.handle so.offer.root _ (omega arith) (old_stands limits states last run closed so.handle so.offer so.swap)).0
+        ∙ (roots_are_one run closed so.handle so.offer.root _ (omega arith) (old_stands run closed so.handle so.offer so.swap)).0
 
     final : (r : Ref) → trie.root_of_generation states last generation ≡ r → (u : ℕ) → closed ≤ u → u ≤ last → counting_main states last u r ≡ so.offer.expected
-    final r is u after inside = ap (λ q. counting_main states last u q) (sym is ∙ closed_root) ∙ no_late_commit limits states last run closed so.handle so.offer so.swap u after inside
+    final r is u after inside = ap (λ q. counting_main states last u q) (sym is ∙ closed_root) ∙ no_late_commit run closed so.handle so.offer so.swap u after inside
 
   pub closed_roots_stay : ClosedRootsStayIn states run.records last
   closed_roots_stay m n k closed handle root le e is from before within used_n used_k =
-      let (earlier, so) = closing_swaps limits states last run last (root_generation (states m) root) closed (omega arith) is in
+      let (earlier, so) = closing_swaps run last (root_generation (states m) root) closed (omega arith) is in
       let its = root_is m handle root le e in
       let l = root_link m handle root le e in
       main_there k (root_of root.word) within used_k l ∙ final closed (root_generation (states m) root) so (root_of root.word) its k (omega arith) within

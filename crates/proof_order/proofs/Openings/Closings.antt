@@ -87,14 +87,14 @@ pub record ClosesSo (states : ℕ → State) (records : ℕ → Record) (last t 
   pub swap : IsSwap states records last t handle offer
   pub its : generation_at (states t).heap offer.root ≡ generation
 
-module _ (limits : Bounds) (states : ℕ → State) (last : ℕ) (r : IsRun limits states last) where
+module _ {limits : Bounds} {states : ℕ → State} {last : ℕ} (r : IsRun limits states last) where
   closed_by : (t generation c : ℕ) → t < last → (s : Step) (o : Outcome) → Moves (states t) s o (states (suc t)) → Notes states r.records t s → closed_at (r.records t) generation ≡ None →
       closed_at (r.records (suc t)) generation ≡ Some c →
       StepKind (states t) (r.records t) s (states (suc t)) (r.records (suc t)) → (c ≡ t) × ClosesSo states r.records last t generation
   closed_by t generation c within s o m notes none e (quiet closings roots) = absurd (none-some c (sym none ∙ ap (λ l. closed_in l generation) (sym closings) ∙ e))
   closed_by t generation c within s o m notes none e (swaps actor mover offer go is d closings roots) =
       let new = closed_new (r.records t).closings (closing_of (states t) offer) generation c none (ap (λ l. closed_in l generation) (sym closings) ∙ e) in (
-        sym new.1 ∙ steps_at limits states last r t (omega arith),
+        sym new.1 ∙ steps_at r t (omega arith),
         record {
           handle = handle_of mover.call;
           offer = offer;
@@ -111,12 +111,12 @@ module _ (limits : Bounds) (states : ℕ → State) (last : ℕ) (r : IsRun limi
           Moves (states t) s o (states (suc t)) → Notes states r.records t s →
           (was : Option ℕ) → closed_at (r.records t) generation ≡ was → (c < suc t) × ClosesSo states r.records last c generation
       by before s o m notes None is =
-          let now = closed_by t generation c within s o m notes is e (step_kind (states t) (ordered_at limits states last r t (omega arith)).offers (r.records t)
+          let now = closed_by t generation c within s o m notes is e (step_kind (states t) (ordered_at r t (omega arith)).offers (r.records t)
           (r.records (suc t)) s o (states (suc t)) m notes) in
           (omega (arith, now.0), subst (λ n. ClosesSo states r.records last n generation) (sym now.0) now.1)
       by before s o m notes (Some d) is =
           let same : d ≡ c = same_Some d c
-          (sym (closed_stays (states t) (ordered_at limits states last r t (omega arith)).offers (r.records t) (r.records (suc t)) s o (states (suc t)) m notes generation d is) ∙ e) in
+          (sym (closed_stays (states t) (ordered_at r t (omega arith)).offers (r.records t) (r.records (suc t)) s o (states (suc t)) m notes generation d is) ∙ e) in
           let (earlier, so) = before (is ∙ ap Some same) in
           (omega arith, so)
 

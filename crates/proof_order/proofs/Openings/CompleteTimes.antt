@@ -66,7 +66,7 @@ counts_from (read.Abort m p offer) since t read_at le (inr h) = h
 counts_from (read.Decide m p told) since t read_at le (inr h) = h
 counts_from l since t read_at le (inl e) = let wrong : ⊥ = cc e in absurd wrong
 
-module _ (limits : Bounds) (states : ℕ → State) (last : ℕ) (run : IsRun limits states last) where
+module _ {limits : Bounds} {states : ℕ → State} {last : ℕ} (run : IsRun limits states last) where
   -- the words of the run, with no closing told
   abbrev pub w : Words
   w = words_of states run.records last (λ g. None)
@@ -113,16 +113,16 @@ module _ (limits : Bounds) (states : ℕ → State) (last : ℕ) (run : IsRun li
         on = completing_stage was.line (record { offer = offer; line = complete.Reading l }) is
 
         abbrev its : Moment
-        its = found limits states last (known_run limits states last run) t within (suc k) was o moved at_k noted_go offer.root l on
+        its = found limits states last (known_run run) t within (suc k) was o moved at_k noted_go offer.root l on
 
         now_is : now_of k ≡ its
         now_is =
             ap (λ r. moment_at r (suc k)) noted_go
-            ∙ moment_goes (states t) (run.records t) (suc k) was (alike limits states last run t (omega arith)) (go_actor (states t) (suc k) (not_denied moved))
+            ∙ moment_goes (states t) (run.records t) (suc k) was (alike run t (omega arith)) (go_actor (states t) (suc k) (not_denied moved))
 
         read_by : (since : ℕ) → since ≤ t → (l ≡ read.Main) ⊎ (since ≤ (before_of k).read_at) → since ≤ its.read_at
         read_by since le h =
-            let counts : its.read_at ≡ counts_at l t (before_of k).read_at = counted limits states last (known_run limits states last run) t within (suc k) was o moved at_k noted_go offer.root l on in
+            let counts : its.read_at ≡ counts_at l t (before_of k).read_at = counted limits states last (known_run run) t within (suc k) was o moved at_k noted_go offer.root l on in
             omega (arith, counts_from l since t (before_of k).read_at le h, counts)
 
         -- what comes after it
@@ -135,7 +135,7 @@ module _ (limits : Bounds) (states : ℕ → State) (last : ℕ) (run : IsRun li
             (ap (λ (y : Complete). y.offer) (sym same), subst (λ (y : Complete). CountsSince (suc t) since (now_of k) y.offer y.line) same (inr counts))
         goes_by since le h (Gives main) gives c e =
             let same : record { offer = offer; line = complete.Swap main } ≡ c = cc e in
-            let moment = moment_noted limits states last (known_run limits states last run) t within (suc k) was o moved at_k noted_go offer.root l on main gives in
+            let moment = moment_noted limits states last (known_run run) t within (suc k) was o moved at_k noted_go offer.root l on main gives in
             let counts : CountsSince (suc t) since its offer (complete.Swap main) = (read_by since le h, (t, omega arith, moment)) in (
               ap (λ (y : Complete). y.offer) (sym same),
               subst (λ (y : Complete). CountsSince (suc t) since (now_of k) y.offer y.line) same
@@ -165,7 +165,7 @@ module _ (limits : Bounds) (states : ℕ → State) (last : ℕ) (run : IsRun li
     begins k found c now e first = record {
       at = suc t;
       past = omega arith;
-      known = (ordered_at limits states last run (suc t) within).offers.known k found now c.offer (inr (c, e, refl));
+      known = (ordered_at run (suc t) within).offers.known k found now c.offer (inr (c, e, refl));
       counts = subst (λ l. CountsSince (suc t) (suc t) (now_of k) c.offer l) (sym first) (inl refl);
     }
 
@@ -190,4 +190,4 @@ module _ (limits : Bounds) (states : ℕ → State) (last : ℕ) (run : IsRun li
     all_next k found c now e = since_by k found c now e (comes (states t) s o (states (suc t)) m k found now)
 
   pub since_at : (t : ℕ) → t ≤ last → AllSince t
-  since_at = along_moves limits states last run AllSince (λ none k operation c at_k. absurd (none k operation at_k)) all_next
+  since_at = along_moves run AllSince (λ none k operation c at_k. absurd (none k operation at_k)) all_next

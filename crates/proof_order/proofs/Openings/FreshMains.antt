@@ -37,7 +37,7 @@ use Rattle.proof_order.specs.Beneath.proof_commits.proofs.Known.Acts.{known_run}
 
 -- ---- along a run
 
-module _ (limits : Bounds) (states : ℕ → State) (last : ℕ) (run : IsRun limits states last) where
+module _ {limits : Bounds} {states : ℕ → State} {last : ℕ} (run : IsRun limits states last) where
   -- the main node that was found, or, for a clear, an empty branch
   abbrev pub ShowsMain : Bool → Ref → Ref → Type 0
   ShowsMain false expected main = main ≡ expected
@@ -52,10 +52,10 @@ module _ (limits : Bounds) (states : ℕ → State) (last : ℕ) (run : IsRun li
   AllShow t = (k : ℕ) (operation : Operation) (x : Bool) (q : Ref) → Runs (states t) k operation → operation.is_marked ≡ false → fresh_in x operation.line ≡ Some q → Shows t operation q
 
   S : (t : ℕ) → t ≤ last → IsSafe (states t)
-  S t within = safe_at limits states last run t within
+  S t within = safe_at run t within
 
   I : (t : ℕ) → t ≤ last → IsOrdered (states t) (run.records t)
-  I t within = ordered_at limits states last run t within
+  I t within = ordered_at run t within
 
   -- a fresh root's main node stays in a step
   pub fresh_stays : (t : ℕ) → t < last → (k : ℕ) (operation : Operation) (x : Bool) (q : Ref) → Runs (states t) k operation → operation.is_marked ≡ false → fresh_in x operation.line ≡ Some q →
@@ -64,9 +64,9 @@ module _ (limits : Bounds) (states : ℕ → State) (last : ℕ) (run : IsRun li
       let used : IsInUse (states t).heap q =
       fresh_safe (IsInUse (states t).heap) (states t) operation operation.line (line_finds (states t) (S t (omega arith)) (suc k) operation at_k) x q e in
       let its : generation_at (states t).heap q ≡ generation_of (node_under states last q) =
-      generation_found states t q used ∙ sym (generation_stays limits states last run t last (omega arith) (omega arith) q used.0 (grown_in_use states t q used.0 used.1)) in
+      generation_found states t q used ∙ sym (generation_stays run t last (omega arith) (omega arith) q used.0 (grown_in_use states t q used.0 used.1)) in
       counting_main-stays states last t q within
-      (λ is_there. unused_stays limits states last run t within q l
+      (λ is_there. unused_stays run t within q l
       (subst (IsUnused (states t) (run.records t)) its ((I t (omega arith)).roots.fresh k operation x q at_k unmarked e)))
 
   module _ (t : ℕ) (within : t < last) (so_far : AllShow t) (s : Step) (o : Outcome) (m : Moves (states t) s o (states (suc t))) where
@@ -78,23 +78,23 @@ module _ (limits : Bounds) (states : ℕ → State) (last : ℕ) (run : IsRun li
       abbrev Held : Type 0
       Held = (is_some (grown states t main) ≡ true) × (prev_word states t main ≡ over.None)
 
-      sound : IsSound (w limits states last run) t
-      sound = sound_at (protocol limits states last (known_run limits states last run)) t (omega arith)
+      sound : IsSound (w run) t
+      sound = sound_at (protocol limits states last (known_run run)) t (omega arith)
 
-      given_held : (i : Ref) → Given (w limits states last run) t (suc k) i main → Held
+      given_held : (i : Ref) → Given (w run) t (suc k) i main → Held
       given_held i given = let d = sound.given (suc k) i main given in (sound.words.made i main d.stood, d.none)
 
       abbrev Recalls : Line → Type 0
-      Recalls l = Remembers (λ i x. Given (w limits states last run) t (suc k) i x) (was.access ≡ Writable) l
+      Recalls l = Remembers (λ i x. Given (w run) t (suc k) i x) (was.access ≡ Writable) l
 
       remembered : Recalls was.line
-      remembered = remembers_at limits states last (known_run limits states last run) t (omega arith) (suc k) was at_k
+      remembered = remembers_at limits states last (known_run run) t (omega arith) (suc k) was at_k
 
       held_by : MakesOver (states t) was was.line main → Held
       held_by (over_found root clear (inl e)) = given_held root (subst Recalls e remembered)
       held_by (over_found root clear (inr (successor, e))) = given_held root (subst Recalls e remembered)
       held_by (over_branch root found clear e) =
-          let p = subst (λ x. Staged (w limits states last run) t (suc k) x) (ap stage_of_actor at_k ∙ ap stage_of e) (sound.staged (suc k)) in (p.made, p.none)
+          let p = subst (λ x. Staged (w run) t (suc k) x) (ap stage_of_actor at_k ∙ ap stage_of e) (sound.staged (suc k)) in (p.made, p.none)
 
       made_over : MakesOver (states t) was was.line main
       made_over = makes_over (states t) was was.line main ((I t (omega arith)).offers.own k was at_k) does
@@ -102,7 +102,7 @@ module _ (limits : Bounds) (states : ℕ → State) (last : ℕ) (run : IsRun li
       takes : GrownTakes states t q (Indirection (states t).generations main)
       takes =
           subst (λ x. Taken states t (Indirection (states t).generations main) x) n
-          (subst (λ a. ActsOn states t a) does ((known_run limits states last run).acts t within (suc k) o (subst (λ x. Moves (states t) x o (states (suc t))) go m) was at_k))
+          (subst (λ a. ActsOn states t a) does ((known_run run).acts t within (suc k) o (subst (λ x. Moves (states t) x o (states (suc t))) go m) was at_k))
 
       apart : main ≡ q → ⊥
       apart same = true≢false (sym (held_by made_over).0 ∙ ap (λ r. is_some (grown states t r)) same ∙ ap is_some takes.new)
@@ -120,7 +120,7 @@ module _ (limits : Bounds) (states : ℕ → State) (last : ℕ) (run : IsRun li
           subst (λ b. ShowsMain b (copied was.line).1 (counting_main states last (suc t) q)) (sym clear) (over_main ∙ sym (ap (λ l. (copied l).1) e))
       shows_by (over_branch root found clear e) =
           subst (λ b. ShowsMain b (copied was.line).1 (counting_main states last (suc t) q)) (sym clear)
-          (ap (node_under states last) over_main ∙ empty_at limits states last run t (omega arith) k was main at_k (subst (λ l. IsCleared l main) (sym e) refl))
+          (ap (node_under states last) over_main ∙ empty_at run t (omega arith) k was main at_k (subst (λ l. IsCleared l main) (sym e) refl))
 
     -- ---- all of them
 
@@ -134,7 +134,7 @@ module _ (limits : Bounds) (states : ℕ → State) (last : ℕ) (run : IsRun li
           | inr (inr ended) ↦ absurd (none-some q (sym (ap (fresh_in x) ended.1) ∙ e))
         ] in
         record {
-          link = link_stays (protocol limits states last (known_run limits states last run)) q t (suc t) (omega arith) within before.link;
+          link = link_stays (protocol limits states last (known_run run)) q t (suc t) (omega arith) within before.link;
           main_is =
               subst (λ c. ShowsMain (is_clear c) (copied found.line).1 (counting_main states last (suc t) q)) (sym ran.call)
               (subst (λ p. ShowsMain (is_clear ran.was.call) p.1 (counting_main states last (suc t) q)) (sym same)
@@ -156,4 +156,4 @@ module _ (limits : Bounds) (states : ℕ → State) (last : ℕ) (run : IsRun li
         show_by k found x q now unmarked e (fresh_behind (states t) (run.records t) (S t (omega arith)) (I t (omega arith)) s o (states (suc t)) m k found now x q e)
 
   pub show_at : (t : ℕ) → t ≤ last → AllShow t
-  show_at = along_moves limits states last run AllShow (λ none k operation x q at_k. absurd (none k operation at_k)) (λ t h so_far s o m notes. show_next t h so_far s o m)
+  show_at = along_moves run AllShow (λ none k operation x q at_k. absurd (none k operation at_k)) (λ t h so_far s o m notes. show_next t h so_far s o m)

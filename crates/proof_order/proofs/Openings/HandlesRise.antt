@@ -23,12 +23,12 @@ use Rattle.proof_order.proofs.Openings.RootOf.{roots_are_one}
 read_only : (second : Option Ref) (offer : Descriptor) → second ≡ None → (opened_root offer second).access ≡ Writable → ⊥
 read_only second offer e w = let both : ReadOnly ≡ Writable = ap (λ x. (opened_root offer x).access) (sym e) ∙ w in cc both
 
-module _ (limits : Bounds) (states : ℕ → State) (last : ℕ) (run : IsRun limits states last) where
+module _ {limits : Bounds} {states : ℕ → State} {last : ℕ} (run : IsRun limits states last) where
   safe : (t : ℕ) → t ≤ last → IsSafe (states t)
-  safe t within = safe_at limits states last run t within
+  safe t within = safe_at run t within
 
   ordered : (t : ℕ) → t ≤ last → IsOrdered (states t) (run.records t)
-  ordered t within = ordered_at limits states last run t within
+  ordered t within = ordered_at run t within
 
   -- the same root has the same generation at all times
   same_generation : (u t handle other : ℕ) (a b : Root) → u ≤ last → t ≤ last → root_at (states u) handle ≡ Some a → root_at (states t) other ≡ Some b → root_of a.word ≡ root_of b.word →
@@ -36,8 +36,8 @@ module _ (limits : Bounds) (states : ℕ → State) (last : ℕ) (run : IsRun li
   same_generation u t handle other a b le within at_u at_t same =
       let first : IsRootOf states u handle (root_of b.word) (gen (states u) a) = record { root = a; is_open = at_u; is = same; its = ap (generation_at (states u).heap) (sym same) } in
       let second : IsRootOf states t other (root_of b.word) (gen (states t) b) = record { root = b; is_open = at_t; is = refl; its = refl } in
-      sym (roots_are_one limits states last run u handle (root_of b.word) (gen (states u) a) le first).1
-      ∙ (roots_are_one limits states last run t other (root_of b.word) (gen (states t) b) within second).1
+      sym (roots_are_one run u handle (root_of b.word) (gen (states u) a) le first).1
+      ∙ (roots_are_one run t other (root_of b.word) (gen (states t) b) within second).1
 
   abbrev Rises : ℕ → ℕ → ℕ → Root → Root → Type 0
   Rises u t handle a b = (root_of b.word ≡ root_of a.word) ⊎ (gen (states u) a < gen (states t) b)
@@ -63,8 +63,8 @@ module _ (limits : Bounds) (states : ℕ → State) (last : ℕ) (run : IsRun li
       before : IsOffered (states t) (handle_of mover.call) offer
       before = old (states t) (run.records t) (safe t (omega arith)) (ordered t (omega arith)) s o (states (suc t)) m actor mover offer is c
 
-      is_new : (x : _) (q : Ref) → fresh_of x offer ≡ Some q → IsNew limits states last run t by.owner q
-      is_new x q e = new_at limits states last run t (omega arith) by.k by.owner x q by.runs by.unmarked (its_fresh by.owner.line offer x q by.completes e)
+      is_new : (x : _) (q : Ref) → fresh_of x offer ≡ Some q → IsNew run t by.owner q
+      is_new x q e = new_at run t (omega arith) by.k by.owner x q by.runs by.unmarked (its_fresh by.owner.line offer x q by.completes e)
 
       kept : (x : _) (q : Ref) → fresh_of x offer ≡ Some q → generation_at (states (suc t)).heap q ≡ generation_at (states t).heap q
       kept x q e = brought_kept (states t) (safe t (omega arith)) s o (states (suc t)) m (handle_of mover.call) offer by x q e

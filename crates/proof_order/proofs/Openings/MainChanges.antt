@@ -29,11 +29,11 @@ pub record SwapsInto (state : State) (i : Ref) : Type 0 where
   pub stands : operation.line ≡ line.Swap why at
   pub into : at.indirection ≡ i
 
-module _ (limits : Bounds) (states : ℕ → State) (last : ℕ) (run : IsRun limits states last) where
-  sound : (t : ℕ) → t ≤ last → IsSound (w limits states last run) t
-  sound t within = sound_at (protocol limits states last (known_run limits states last run)) t within
+module _ {limits : Bounds} {states : ℕ → State} {last : ℕ} (run : IsRun limits states last) where
+  sound : (t : ℕ) → t ≤ last → IsSound (w run) t
+  sound t within = sound_at (protocol limits states last (known_run run)) t within
 
-  changes_by : (t : ℕ) → t < last → (i : Ref) → is_indirection (node_under states t i) ≡ true → MainStep (w limits states last run) t i →
+  changes_by : (t : ℕ) → t < last → (i : Ref) → is_indirection (node_under states t i) ≡ true → MainStep (w run) t i →
       (main_before states (suc t) i ≡ main_before states t i) ⊎ SwapsInto (states t) i
   changes_by t within i l (MainStays e) = inl e
   changes_by t within i l (MainChanges c) =
@@ -45,17 +45,17 @@ module _ (limits : Bounds) (states : ℕ → State) (last : ℕ) (run : IsRun li
 
   -- who changes a main node swapped into that indirection
   pub main_changes : (t : ℕ) → t < last → (i : Ref) → is_indirection (node_under states t i) ≡ true → (main_before states (suc t) i ≡ main_before states t i) ⊎ SwapsInto (states t) i
-  main_changes t within i l = changes_by t within i l (main_step (protocol limits states last (known_run limits states last run)) t within i l)
+  main_changes t within i l = changes_by t within i l (main_step (protocol limits states last (known_run run)) t within i l)
 
   -- nobody swaps in a generation that is on no handle and isn't closed
   no_swap : (t : ℕ) → t < last → (i : Ref) → IsUnused (states t) (run.records t) (generation_of (node_under states last i)) → SwapsInto (states t) i → ⊥
   no_swap t within i unused s =
-      let (writable, its) = swaps_in_own_generation limits states last run t (omega arith) s.actor s.operation s.runs s.why s.at s.stands in
+      let (writable, its) = swaps_in_own_generation run t (omega arith) s.actor s.operation s.runs s.why s.at s.stands in
       let (k, place, at_k) = place_of_actor (states t) s.actor s.operation s.runs in
       let going : is_end s.operation.line ≡ false = ap is_end s.stands in
       not_rooted states run.records t (handle_of s.operation.call) (generation_of (node_under states last i)) unused
-      (rooted_at limits states last run t (omega arith) k s.operation (generation_of (node_under states last i)) at_k
-      (no_close_at limits states last run t (omega arith) k s.operation at_k going) writable
+      (rooted_at run t (omega arith) k s.operation (generation_of (node_under states last i)) at_k
+      (no_close_at run t (omega arith) k s.operation at_k going) writable
       (its ∙ ap (λ r. Some (generation_of (node_under states last r))) s.into))
 
   -- so its main nodes stay

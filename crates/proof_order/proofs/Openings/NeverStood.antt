@@ -18,18 +18,18 @@ use Rattle.proof_order.proofs.Openings.Copy.{copied, copied_kept, copied_made, m
 use Rattle.proof_order.proofs.Openings.Fresh.{FreshBehind, stays, made, fresh_behind}
 use Rattle.proof_order.specs.Facts.{Notes}
 
-module _ (limits : Bounds) (states : ℕ → State) (last : ℕ) (run : IsRun limits states last) where
+module _ {limits : Bounds} {states : ℕ → State} {last : ℕ} (run : IsRun limits states last) where
   -- a handle's root up to a time has a generation that was drawn
   pub stood_below : (u t handle : ℕ) (root : Root) → u ≤ t → t ≤ last → gen (states u) root < (states t).generations
   stood_below u t handle root le within =
-      omega (arith, looked_up_below (states u) (ordered_at limits states last run u (omega arith)).below (root_of root.word), counted limits states last run u t le within)
+      omega (arith, looked_up_below (states u) (ordered_at run u (omega arith)).below (root_of root.word), counted run u t le within)
 
   -- the root that an operation is to replace keeps its generation
   root_stays : (t : ℕ) → t < last → (s : Step) (o : Outcome) → Moves (states t) s o (states (suc t)) → (k : ℕ) (operation : Operation) →
       Runs (states t) k operation → (c : CopyLine) → operation.line ≡ line.Copy c →
       generation_at (states (suc t)).heap (copied operation.line).0 ≡ generation_at (states t).heap (copied operation.line).0
   root_stays t within s o m k operation at_k c e =
-      let safe = safe_at limits states last run t (omega arith) in
+      let safe = safe_at run t (omega arith) in
       safe_kept (states t) safe s o (states (suc t)) m operation.epoch (safe.recent k operation at_k).0 (safe.recent k operation at_k).1 (copied operation.line).0
       (line_safe (Safe (states t) operation.epoch) (states t) operation operation.line (safe.lines k operation at_k) c e)
 
@@ -63,7 +63,7 @@ module _ (limits : Bounds) (states : ℕ → State) (last : ℕ) (run : IsRun li
     }
       where
         behind : IsOrdered (states (suc t)) (run.records (suc t))
-        behind = ordered_at limits states last run (suc t) within
+        behind = ordered_at run (suc t) within
 
         unused : IsUnused (states (suc t)) (run.records (suc t)) (generation_at (states (suc t)).heap r)
         unused = behind.roots.fresh k found x r at_k unmarked e
@@ -78,7 +78,7 @@ module _ (limits : Bounds) (states : ℕ → State) (last : ℕ) (run : IsRun li
     ]
 
     new_by : (k : ℕ) (found : Operation) (x : Bool) (r : Ref) → Runs (states (suc t)) k found → found.is_marked ≡ false → fresh_in x found.line ≡ Some r →
-        FreshBehind (states t) (run.records t) (safe_at limits states last run t (omega arith)) (ordered_at limits states last run t (omega arith)) s o
+        FreshBehind (states t) (run.records t) (safe_at run t (omega arith)) (ordered_at run t (omega arith)) s o
         (states (suc t)) m k found x r → IsNew (suc t) found r
     new_by k found x r at_k unmarked e (stays ran f kept) =
         let before = so_far k ran.was x r ran.at_k (ran.unmarked unmarked) f in
@@ -91,10 +91,10 @@ module _ (limits : Bounds) (states : ℕ → State) (last : ℕ) (run : IsRun li
         (λ u handle root le at_handle same. omega (arith, stood_below u t handle root le (omega arith), same, ap generation_of node))
         (λ u n root le its at_n. omega (arith, stood_below u t n root le (omega arith), ap generation_of node))
         (let copies = over_copies (states t) ran.was ran.was.line main
-        (makes_over (states t) ran.was ran.was.line main ((ordered_at limits states last run t (omega arith)).offers.own k ran.was ran.at_k) a) in
+        (makes_over (states t) ran.was ran.was.line main ((ordered_at run t (omega arith)).offers.own k ran.was ran.at_k) a) in
         omega (
           arith,
-          looked_up_below (states t) (ordered_at limits states last run t (omega arith)).below (copied ran.was.line).0,
+          looked_up_below (states t) (ordered_at run t (omega arith)).below (copied ran.was.line).0,
           ap generation_of node,
           root_stays t within s o m k ran.was ran.at_k copies.0 copies.1,
           ap (λ p. generation_at (states (suc t)).heap p.0) (ap copied goes ∙ copied_made (states t) ran.was ran.was.line main r a n),
@@ -103,7 +103,7 @@ module _ (limits : Bounds) (states : ℕ → State) (last : ℕ) (run : IsRun li
     all_next : AllNew (suc t)
     all_next k found x r at_k unmarked e =
         new_by k found x r at_k unmarked e
-        (fresh_behind (states t) (run.records t) (safe_at limits states last run t (omega arith)) (ordered_at limits states last run t (omega arith)) s o (states (suc t)) m k found at_k x r e)
+        (fresh_behind (states t) (run.records t) (safe_at run t (omega arith)) (ordered_at run t (omega arith)) s o (states (suc t)) m k found at_k x r e)
 
   pub new_at : (t : ℕ) → t ≤ last → AllNew t
-  new_at = along_moves limits states last run AllNew (λ none k operation x r at_k. absurd (none k operation at_k)) all_next
+  new_at = along_moves run AllNew (λ none k operation x r at_k. absurd (none k operation at_k)) all_next

@@ -63,9 +63,9 @@ made_later states t (suc u) i le e = elim (cases_lt t (suc u)) [
   | inr now ↦ let same : t ≡ suc u = omega arith in subst (λ v. is_made states v i ≡ true) same e
 ]
 
-module _ (limits : Bounds) (states : ℕ → State) (last : ℕ) (run : IsRun limits states last) (t handle : ℕ) (offer : Descriptor) (swap : IsSwap states run.records last t handle offer) where
+module _ {limits : Bounds} {states : ℕ → State} {last : ℕ} (run : IsRun limits states last) (t handle : ℕ) (offer : Descriptor) (swap : IsSwap states run.records last t handle offer) where
   abbrev carried : Carried (states t) swap.step handle offer
-  carried = mover limits states last run t handle offer swap
+  carried = mover run t handle offer swap
 
   abbrev its : Complete
   its = record { offer = offer; line = complete.Swap carried.main }
@@ -78,10 +78,10 @@ module _ (limits : Bounds) (states : ℕ → State) (last : ℕ) (run : IsRun li
   its_moment = moment_at (run.records t) (suc taking.0)
 
   -- the COMPLETE that carries it out
-  complete_since : Since limits states last run t taking.0 its
+  complete_since : Since run t taking.0 its
   complete_since =
       let at_k = taking.2 in
-      since_at limits states last run t (omega (arith, swap.taken)) taking.0 carried.mover its at_k (completes_so (states t) carried.mover carried.mover.line offer carried.main carried.completes)
+      since_at run t (omega (arith, swap.taken)) taking.0 carried.mover its at_k (completes_so (states t) carried.mover carried.mover.line offer carried.main carried.completes)
 
   abbrev since : ℕ
   since = complete_since.at
@@ -92,20 +92,20 @@ module _ (limits : Bounds) (states : ℕ → State) (last : ℕ) (run : IsRun li
   -- while it stands its root has this generation, and its handle is the one that has it
   stands_then : (u : ℕ) → since ≤ u → u ≤ t → word_at (states u) handle ≡ Offer offer
   stands_then u from before =
-      stood_since limits states last run handle offer u t before (omega (arith, swap.taken))
-      (known_later limits states last run handle offer since u from (omega (arith, swap.taken)) complete_since.known) (word limits states last run t handle offer swap)
+      stood_since run handle offer u t before (omega (arith, swap.taken))
+      (known_later run handle offer since u from (omega (arith, swap.taken)) complete_since.known) (word run t handle offer swap)
 
   offered_then : (u : ℕ) → since ≤ u → u ≤ t → IsOffered (states u) handle offer
   offered_then u from before =
-      offered_root (states u) (run.records u) (safe_at limits states last run u (omega (arith, swap.taken)))
-      (ordered_at limits states last run u (omega (arith, swap.taken))) handle offer (stands_then u from before)
+      offered_root (states u) (run.records u) (safe_at run u (omega (arith, swap.taken)))
+      (ordered_at run u (omega (arith, swap.taken))) handle offer (stands_then u from before)
 
   root_then : (u : ℕ) → since ≤ u → u ≤ t → generation_at (states u).heap offer.root ≡ g
   root_then u from before =
       let o = offered_then u from before in
       let stands : IsRootOf states u handle offer.root (generation_at (states u).heap offer.root) = record { root = o.root; is_open = o.is_open; is = ap root_of o.word; its = refl } in
-      sym (roots_are_one limits states last run u handle offer.root _ (omega (arith, swap.taken)) stands).1
-      ∙ (roots_are_one limits states last run t handle offer.root g (omega (arith, swap.taken)) (old_stands limits states last run t handle offer swap)).1
+      sym (roots_are_one run u handle offer.root _ (omega (arith, swap.taken)) stands).1
+      ∙ (roots_are_one run t handle offer.root g (omega (arith, swap.taken)) (old_stands run t handle offer swap)).1
 
   no_plain : (r : Ref) → Plain r ≡ Offer offer → ⊥
   no_plain r e = cc e
@@ -115,7 +115,7 @@ module _ (limits : Bounds) (states : ℕ → State) (last : ℕ) (run : IsRun li
       generation_at (states u).heap r ≡ g → ⊥
   not_plain u from before other root r is_open writable plain same =
       let o = offered_then u from before in
-      let I : IsOrdered (states u) (run.records u) = ordered_at limits states last run u (omega (arith, swap.taken)) in
+      let I : IsOrdered (states u) (run.records u) = ordered_at run u (omega (arith, swap.taken)) in
       let gens : gen (states u) root ≡ gen (states u) o.root =
       ap (λ x. generation_at (states u).heap (root_of x)) (sym (ap word_of is_open) ∙ plain) ∙ same ∙ sym (root_then u from before)
       ∙ ap (λ x. generation_at (states u).heap (root_of x)) (sym o.word) in
@@ -127,7 +127,7 @@ module _ (limits : Bounds) (states : ℕ → State) (last : ℕ) (run : IsRun li
   closing generation = cond (generation == g) (Some (since - 1)) None
 
   began : since ≡ suc (since - 1)
-  began = omega (arith, known_later_than_first limits states last run handle offer since complete_since.known)
+  began = omega (arith, known_later_than_first run handle offer since complete_since.known)
 
   asked_before : RootsAreOpen states last closing
   asked_before u within actor operation is i main previous asks writable r plain c closed = by (generation_at (states u).heap r == g) refl closed
@@ -138,13 +138,13 @@ module _ (limits : Bounds) (states : ℕ → State) (last : ℕ) (run : IsRun li
       -- no later than the swap, which closes it
       by_swap : generation_at (states u).heap r ≡ g → u ≤ t
       by_swap same =
-          open_root limits states last run u (omega arith) actor operation is going writable r plain t
-          (ap (closed_at (run.records last)) same ∙ closed_for_ever limits states last run t handle offer swap last (swap.taken) (omega arith))
+          open_root run u (omega arith) actor operation is going writable r plain t
+          (ap (closed_at (run.records last)) same ∙ closed_for_ever run t handle offer swap last (swap.taken) (omega arith))
 
       on_handle : (root : Root) × (root_at (states u) (handle_of operation.call) ≡ Some root) × (root.access ≡ operation.access)
       on_handle =
           let (k, place, at_k) = place_of_actor (states u) actor operation is in
-          (ordered_at limits states last run u (omega arith)).handles.on_open k operation at_k (no_close_at limits states last run u (omega arith) k operation at_k going)
+          (ordered_at run u (omega arith)).handles.on_open k operation at_k (no_close_at run u (omega arith) k operation at_k going)
 
       by_order : generation_at (states u).heap r ≡ g → (since ≤ u) ⊎ (u < since) → u ≤ since - 1
       by_order same (inr before) = omega arith
@@ -158,7 +158,7 @@ module _ (limits : Bounds) (states : ℕ → State) (last : ℕ) (run : IsRun li
       by false apart e = absurd (none-some c e)
 
   abbrev known_so : Known limits states last
-  known_so = known_by limits states last run closing asked_before
+  known_so = known_by run closing asked_before
 
   -- the READ gave the expected node
   given : carried.main ≡ offer.expected
@@ -171,7 +171,7 @@ module _ (limits : Bounds) (states : ℕ → State) (last : ℕ) (run : IsRun li
 
   its_closing : closing (generation_of (node_under states last offer.root)) ≡ Some (since - 1)
   its_closing =
-      let same = (roots_are_one limits states last run t handle offer.root g (omega (arith, swap.taken)) (old_stands limits states last run t handle offer swap)).1 in
+      let same = (roots_are_one run t handle offer.root g (omega (arith, swap.taken)) (old_stands run t handle offer swap)).1 in
       ap (λ b. cond b (Some (since - 1)) None) (eq-eqb (generation_of (node_under states last offer.root)) g same)
 
   pub stays_expected : (u : ℕ) → t ≤ u → u ≤ last → counting_main states last u offer.root ≡ offer.expected
@@ -180,8 +180,8 @@ module _ (limits : Bounds) (states : ℕ → State) (last : ℕ) (run : IsRun li
       let final : main_before states u offer.root ≡ carried.main =
       given_for_good (protocol limits states last known_so) offer.root carried.main its_moment.read_at its_moment.moment counts.1.0 (since - 1)
       (omega (arith, counts.1.1, swap.taken)) moment its_closing (omega (arith, counts.0, began)) u (omega (arith, moment.past, counts.1.1)) within in
-      let used = root_in_use limits states last run t handle offer.root g (omega (arith, swap.taken)) (old_stands limits states last run t handle offer swap) in
+      let used = root_in_use run t handle offer.root g (omega (arith, swap.taken)) (old_stands run t handle offer swap) in
       counting_main-made states last u offer.root (made_later states t u offer.root after (ap is_some (grown_in_use states t offer.root used.0 used.1))) ∙ final ∙ given
 
-pub no_late_commit : (limits : Bounds) (states : ℕ → State) (last : ℕ) (run : IsRun limits states last) → NoLateCommit states run.records last
-no_late_commit limits states last run t handle offer swap = stays_expected limits states last run t handle offer swap
+pub no_late_commit : {limits : Bounds} {states : ℕ → State} {last : ℕ} (run : IsRun limits states last) → NoLateCommit states run.records last
+no_late_commit {limits} {states} {last} run t handle offer swap = stays_expected run t handle offer swap

@@ -8,19 +8,19 @@ use Rattle.proof_order.proofs.Openings.HandlesRise as rising
 use Rattle.proof_order.proofs.Openings.RootsFollow as following
 
 pub one_root : OneRoot
-one_root limits steps ok = over.one_root limits (states_of limits steps) (last_of limits steps) (run_is limits steps ok)
+one_root limits steps ok = over.one_root (run_is limits steps ok)
 
 pub handles_rise : HandlesRise
-handles_rise limits steps ok = rising.handles_rise limits (states_of limits steps) (last_of limits steps) (run_is limits steps ok)
+handles_rise limits steps ok = rising.handles_rise (run_is limits steps ok)
 
 pub closed_roots_stay : ClosedRootsStay
-closed_roots_stay limits steps ok = over.closed_roots_stay limits (states_of limits steps) (last_of limits steps) (run_is limits steps ok)
+closed_roots_stay limits steps ok = over.closed_roots_stay (run_is limits steps ok)
 
 pub closings_differ : ClosingsDiffer
 closings_differ limits steps ok = closings.closings_differ limits ok steps
 
 pub new_roots_follow : NewRootsFollow
-new_roots_follow limits steps ok = following.new_roots_follow limits (states_of limits steps) (last_of limits steps) (run_is limits steps ok)
+new_roots_follow limits steps ok = following.new_roots_follow (run_is limits steps ok)
 
 pub roots_swapped_as_expected : RootsSwappedAsExpected
-roots_swapped_as_expected limits steps ok = following.roots_swapped_as_expected limits (states_of limits steps) (last_of limits steps) (run_is limits steps ok)
+roots_swapped_as_expected limits steps ok = following.roots_swapped_as_expected (run_is limits steps ok)

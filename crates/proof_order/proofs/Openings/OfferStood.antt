@@ -17,10 +17,10 @@ stood_before state s handle offer own known (put k operation go at_k does on pla
     subst (λ l. LineFits operation.call operation.id operation.opens operation.attempt l) (offer_line state operation operation.line offer does) (own k operation at_k) in
     absurd (omega (arith, known.tried k operation at_k (sym its.its), its.at_try))
 
-module _ (limits : Bounds) (states : ℕ → State) (last : ℕ) (run : IsRun limits states last) (handle : ℕ) (offer : Descriptor) where
+module _ {limits : Bounds} {states : ℕ → State} {last : ℕ} (run : IsRun limits states last) (handle : ℕ) (offer : Descriptor) where
   pub known_later : (u t : ℕ) → u ≤ t → t ≤ last → IsKnown (states u) offer → IsKnown (states t) offer
   known_later u t le within known =
-      holds_later limits states last run (λ state past. IsKnown state offer) (λ state past s o after m h. known_kept state s o after m offer h) u t le within known
+      holds_later run (λ state past. IsKnown state offer) (λ state past s o after m h. known_kept state s o after m offer h) u t le within known
 
   pub stood_since : (u t : ℕ) → u ≤ t → t ≤ last → IsKnown (states u) offer → word_at (states t) handle ≡ Offer offer → word_at (states u) handle ≡ Offer offer
   stood_since u zero le within known word = subst (λ v. word_at (states v) handle ≡ Offer offer) (none_earlier u le) word
@@ -34,7 +34,7 @@ module _ (limits : Bounds) (states : ℕ → State) (last : ℕ) (run : IsRun li
     where
       by_turn : IsKnown (states t) offer → Turn (states t) (states (suc t)) → word_at (states t) handle ≡ Offer offer
       by_turn then (turns s o m) =
-          stood_before (states t) s handle offer (ordered_at limits states last run t (omega arith)).offers.own then (words_after (states t) s o (states (suc t)) m handle offer word)
+          stood_before (states t) s handle offer (ordered_at run t (omega arith)).offers.own then (words_after (states t) s o (states (suc t)) m handle offer word)
 
   -- at first none is known
   pub known_later_than_first : (t : ℕ) → IsKnown (states t) offer → 0 < t

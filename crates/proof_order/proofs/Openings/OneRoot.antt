@@ -72,7 +72,7 @@ started limits handle root e = elim (cases_eq handle 0) [
 
 -- ---- along a run
 
-module _ (limits : Bounds) (states : ℕ → State) (last : ℕ) (run : IsRun limits states last) where
+module _ {limits : Bounds} {states : ℕ → State} {last : ℕ} (run : IsRun limits states last) where
   -- a handle had this root of this generation by this time
   abbrev pub HasRoot : ℕ → Ref → ℕ → Type 0
   HasRoot t r g = (u handle : ℕ) × (u ≤ t) × IsRootOf states u handle r g
@@ -81,10 +81,10 @@ module _ (limits : Bounds) (states : ℕ → State) (last : ℕ) (run : IsRun li
   AreOne t = (r q : Ref) (g : ℕ) → HasRoot t r g → HasRoot t q g → r ≡ q
 
   safe : (t : ℕ) → t ≤ last → IsSafe (states t)
-  safe t within = safe_at limits states last run t within
+  safe t within = safe_at run t within
 
   ordered : (t : ℕ) → t ≤ last → IsOrdered (states t) (run.records t)
-  ordered t within = ordered_at limits states last run t within
+  ordered t within = ordered_at run t within
 
   here : (t handle : ℕ) (root : Root) (r : Ref) (g : ℕ) → root_at (states t) handle ≡ Some root → root_of root.word ≡ r → gen (states t) root ≡ g → HasRoot t r g
   here t handle root r g e is its = (t, handle, omega arith, record { root = root; is_open = e; is = is; its = ap (generation_at (states t).heap) (sym is) ∙ its })
@@ -138,7 +138,7 @@ module _ (limits : Bounds) (states : ℕ → State) (last : ℕ) (run : IsRun li
       -- what is brought never stood
       never : (x : Bool) (r q : Ref) (g : ℕ) → fresh_of x offer ≡ Some r → generation_at (states t).heap r ≡ g → HasRoot t q g → ⊥
       never x r q g e its (u, handle, le, was) =
-          (new_at limits states last run t (omega arith) by.k by.owner x r by.runs by.unmarked (its_fresh by.owner.line offer x r by.completes e)).never u handle was.root le was.is_open
+          (new_at run t (omega arith) by.k by.owner x r by.runs by.unmarked (its_fresh by.owner.line offer x r by.completes e)).never u handle was.root le was.is_open
           (ap (generation_at (states u).heap) was.is ∙ was.its ∙ sym its)
 
       both_brought : (x y : Bool) (r q : Ref) → fresh_of x offer ≡ Some r → fresh_of y offer ≡ Some q → generation_at (states t).heap r ≡ generation_at (states t).heap q → r ≡ q
@@ -173,5 +173,5 @@ module _ (limits : Bounds) (states : ℕ → State) (last : ℕ) (run : IsRun li
 
   pub one_at : (t : ℕ) → t ≤ last → AreOne t
   one_at =
-      along_moves limits states last run AreOne (λ none. one_at_first)
+      along_moves run AreOne (λ none. one_at_first)
       (λ t within one s o m notes. one_next t within one s o m (step_kind (states t) (ordered t (omega arith)).offers (run.records t) (run.records (suc t)) s o (states (suc t)) m notes))

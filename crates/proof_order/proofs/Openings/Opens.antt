@@ -15,7 +15,7 @@ use Rattle.proof_order.proofs.Openings.SwapState.{old_stands}
 use Rattle.proof_order.proofs.Openings.NoLateCommit.{no_late_commit}
 use Rattle.proof_order.proofs.Openings.Brings.{swaps_bring}
 
-module _ (limits : Bounds) (states : ℕ → State) (last : ℕ) (run : IsRun limits states last) (depth path : Ref → ℕ) (t handle : ℕ) (offer : Descriptor)
+module _ {limits : Bounds} {states : ℕ → State} {last : ℕ} (run : IsRun limits states last) (depth path : Ref → ℕ) (t handle : ℕ) (offer : Descriptor)
     (swap : IsSwap states run.records last t handle offer) where
   abbrev pub trie : Trie
   trie = trie_of limits states last depth path
@@ -27,7 +27,7 @@ module _ (limits : Bounds) (states : ℕ → State) (last : ℕ) (run : IsRun li
   gen r = generation_at (states t).heap r
 
   old_one : (root_of_generation states last old ≡ offer.root) × (generation_of (node_under states last offer.root) ≡ old)
-  old_one = roots_are_one limits states last run t handle offer.root old (omega (arith, swap.taken)) (old_stands limits states last run t handle offer swap)
+  old_one = roots_are_one run t handle offer.root old (omega (arith, swap.taken)) (old_stands run t handle offer swap)
 
   -- a new root over the expected node shows, when it is opened, what the old one shows in the end
   pub opens_over : (r : Ref) → IsNewRoot states last t offer r → counting_main states last (suc t) r ≡ offer.expected → steps.Opens trie t old (gen r)
@@ -37,7 +37,7 @@ module _ (limits : Bounds) (states : ℕ → State) (last : ℕ) (run : IsRun li
     new_root = ap (λ q. generation_of (node_under states last q)) new.is_root ∙ new.keeps;
     in_range = swap.taken;
     same =
-        ap (λ q. counting_main states last (suc t) q) new.is_root ∙ main ∙ sym (no_late_commit limits states last run t handle offer swap last (omega (arith, swap.taken)) (omega arith))
+        ap (λ q. counting_main states last (suc t) q) new.is_root ∙ main ∙ sym (no_late_commit run t handle offer swap last (omega (arith, swap.taken)) (omega arith))
         ∙ ap (λ q. counting_main states last last q) (sym old_one.0);
   }
 
@@ -48,24 +48,24 @@ module _ (limits : Bounds) (states : ℕ → State) (last : ℕ) (run : IsRun li
         (empty_opens trie ok (suc t) (gen offer.successor) (ap (λ q. generation_of (node_under states last q)) new.is_root ∙ new.keeps)
         (ap (λ q. node_under states last (counting_main states last (suc t) q)) new.is_root ∙ empty))
     opens_by call (snapshots n second opens is first main copy its) =
-        facts.snapshots n second opens is (second_is_fresh limits states last run t handle offer swap second is) (second_differs limits states last run t handle offer swap second is)
+        facts.snapshots n second opens is (second_is_fresh run t handle offer swap second is) (second_differs run t handle offer swap second is)
         (copy_opens trie ok t old (gen offer.successor) (opens_over offer.successor first main)) (copy_opens trie ok t old (gen second) (opens_over second copy its))
     opens_by call (freezes n opens none first main) = facts.freezes n opens none (copy_opens trie ok t old (gen offer.successor) (opens_over offer.successor first main))
 
-pub swaps_open : (limits : Bounds) (states : ℕ → State) (last : ℕ) (run : IsRun limits states last) → SwapsOpen limits states run.records last
-swaps_open limits states last run depth path ok t handle offer swap actor offerer is id =
-    opens_by limits states last run depth path t handle offer swap ok offerer.call (swaps_bring limits states last run t handle offer swap actor offerer is id)
+pub swaps_open : {limits : Bounds} {states : ℕ → State} {last : ℕ} (run : IsRun limits states last) → SwapsOpen limits states run.records last
+swaps_open {limits} {states} {last} run depth path ok t handle offer swap actor offerer is id =
+    opens_by run depth path t handle offer swap ok offerer.call (swaps_bring run t handle offer swap actor offerer is id)
 
 -- a step that carries an offer out is a swap as the order takes it, where the operation that offered has no place yet
-pub swap_so : (limits : Bounds) (states : ℕ → State) (last : ℕ) (run : IsRun limits states last) → (depth path : Ref → ℕ) → IsTrie (trie_of limits states last depth path) →
+pub swap_so : {limits : Bounds} {states : ℕ → State} {last : ℕ} (run : IsRun limits states last) → (depth path : Ref → ℕ) → IsTrie (trie_of limits states last depth path) →
     (t : ℕ) (s : Step) (o : Outcome) → t < last → Moves (states t) s o (states (suc t)) → Notes states run.records t s → (handle : ℕ) (offer : Descriptor) → CarriesOut (states t) s handle offer →
     (k : ℕ) (offerer : Operation) → Runs (states t) k offerer → offerer.id ≡ offer.operation → is_placed (run.records t) offer.operation ≡ false →
     facts.Swap states run.records last (content (trie_of limits states last depth path)) t handle offer offerer.call
-swap_so limits states last run depth path ok t s o within m notes handle offer carries k offerer runs id unplaced =
+swap_so {limits} {states} {last} run depth path ok t s o within m notes handle offer carries k offerer runs id unplaced =
     let swap : IsSwap states run.records last t handle offer = record { taken = within; step = s; outcome = o; moves = m; notes = notes; carries = carries } in
     record {
       unplaced = unplaced;
-      stands = swap_stands limits states last run t handle offer swap;
-      is_fresh = swap_is_fresh limits states last run t handle offer swap;
-      opens = swaps_open limits states last run depth path ok t handle offer swap (suc k) offerer runs id;
+      stands = swap_stands run t handle offer swap;
+      is_fresh = swap_is_fresh run t handle offer swap;
+      opens = swaps_open run depth path ok t handle offer swap (suc k) offerer runs id;
     }

@@ -92,11 +92,11 @@ module _ (states : ℕ → State) where
 
 -- ---- along a run
 
-module _ (limits : Bounds) (states : ℕ → State) (last : ℕ) (run : IsRun limits states last) where
+module _ {limits : Bounds} {states : ℕ → State} {last : ℕ} (run : IsRun limits states last) where
   -- a handle's root is in use
   pub root_in_use : (t handle : ℕ) (r : Ref) (generation : ℕ) → t ≤ last → IsRootOf states t handle r generation → IsInUse (states t).heap r
   root_in_use t handle r generation within is =
-      subst (IsInUse (states t).heap) is.is (by is.root.word ((safe_at limits states last run t within).words handle is.root is.is_open))
+      subst (IsInUse (states t).heap) is.is (by is.root.word ((safe_at run t within).words handle is.root is.is_open))
     where
       by : (word : RootWord) → AllHold (IsInUse (states t).heap) (states t).heap (word_wants word) → IsInUse (states t).heap (root_of word)
       by (Plain q) h = safe_of h.0
@@ -108,10 +108,10 @@ module _ (limits : Bounds) (states : ℕ → State) (last : ℕ) (run : IsRun li
       by : (o : Option Ref) → root_until states generation last ≡ o → root_of_generation states last generation ≡ r
       by None e = let (q, found) = until_there states last t handle generation r within is in absurd (none-some q (sym e ∙ found))
       by (Some q) e =
-          ap (λ o. unwrap_or o 0) e ∙ one_at limits states last run last (omega arith) q r generation (until_found states last generation q e) (t, handle, within, is)
+          ap (λ o. unwrap_or o 0) e ∙ one_at run last (omega arith) q r generation (until_found states last generation q e) (t, handle, within, is)
 
       keeps : generation_of (node_under states last r) ≡ generation
       keeps =
           let used = root_in_use t handle r generation within is in
-          generation_stays limits states last run t last within (omega arith) r used.0 (grown_in_use states t r used.0 used.1)
+          generation_stays run t last within (omega arith) r used.0 (grown_in_use states t r used.0 used.1)
           ∙ sym (generation_found states t r used) ∙ is.its

@@ -57,21 +57,21 @@ was_empty : (m : Ref) (n : Node) → with_main_word m n ≡ empty_branch → n �
 was_empty m (Indirection g word) e = let wrong : ⊥ = cc e in absurd wrong
 was_empty m n e = e
 
-module _ (limits : Bounds) (states : ℕ → State) (last : ℕ) (run : IsRun limits states last) where
+module _ {limits : Bounds} {states : ℕ → State} {last : ℕ} (run : IsRun limits states last) where
   module _ (t handle : ℕ) (r : Ref) (generation : ℕ) (within : t ≤ last) (stands : IsRootOf states t handle r generation) where
     used : IsInUse (states t).heap r
-    used = root_in_use limits states last run t handle r generation within stands
+    used = root_in_use run t handle r generation within stands
 
     link : is_indirection (node_under states last r) ≡ true
-    link = ap (λ q. is_indirection (node_under states last q)) (sym stands.is) ∙ root_link limits states last run t handle stands.root within stands.is_open
+    link = ap (λ q. is_indirection (node_under states last q)) (sym stands.is) ∙ root_link run t handle stands.root within stands.is_open
 
     -- the main node of a handle's root is the trie's
     root_main : logical_main (states t).heap r ≡ trie.counting_main states last t r
-    root_main = main_there limits states last run t r within used link
+    root_main = main_there run t r within used link
 
     link_then : is_indirection (node_at (states t).heap r) ≡ true
     link_then =
-        let now = nodes_stay limits states last run t last within (omega arith) r used.0 (grown_in_use states t r used.0 used.1) in
+        let now = nodes_stay run t last within (omega arith) r used.0 (grown_in_use states t r used.0 used.1) in
         ap is_indirection (node_standing (states t).heap r used.0 used.1) ∙ sym (link_kept now.2.0 used.0.node) ∙ ap is_indirection (sym now.2.1)
         ∙ sym (ap (λ o. is_indirection (node_of o)) now.1) ∙ link
 
@@ -79,8 +79,8 @@ module _ (limits : Bounds) (states : ℕ → State) (last : ℕ) (run : IsRun li
     empty_now : node_under states last (trie.counting_main states last t r) ≡ empty_branch → node_at (states t).heap (logical_main (states t).heap r) ≡ empty_branch
     empty_now e =
         let main = logical_main (states t).heap r in
-        let there = logical_in_use (states t) (safe_at limits states last run t within) r used link_then in
-        let now = nodes_stay limits states last run t last within (omega arith) main there.0 (grown_in_use states t main there.0 there.1) in
+        let there = logical_in_use (states t) (safe_at run t within) r used link_then in
+        let now = nodes_stay run t last within (omega arith) main there.0 (grown_in_use states t main there.0 there.1) in
         node_standing (states t).heap main there.0 there.1
         ∙ was_empty now.2.0 there.0.node (sym now.2.1 ∙ sym (ap node_of now.1) ∙ ap (node_under states last) root_main ∙ e)
 
@@ -88,8 +88,8 @@ module _ (limits : Bounds) (states : ℕ → State) (last : ℕ) (run : IsRun li
     -- the old root's main node is the expected one
     expected : logical_main (states t).heap offer.root ≡ offer.expected
     expected =
-        root_main t handle offer.root _ (omega (arith, swap.taken)) (old_stands limits states last run t handle offer swap)
-        ∙ no_late_commit limits states last run t handle offer swap t (omega arith) (omega (arith, swap.taken))
+        root_main t handle offer.root _ (omega (arith, swap.taken)) (old_stands run t handle offer swap)
+        ∙ no_late_commit run t handle offer swap t (omega arith) (omega (arith, swap.taken))
 
     -- a new root over the expected node is over the old root's
     follows : (h : ℕ) (r : Ref) → IsRootOf states (suc t) h r (generation_at (states t).heap r) → trie.counting_main states last (suc t) r ≡ offer.expected →
@@ -98,15 +98,15 @@ module _ (limits : Bounds) (states : ℕ → State) (last : ℕ) (run : IsRun li
 
     follow_by : (call : Call) → Brings states last t handle offer call → RootsFollow (states t) (states (suc t)) offer call
     follow_by call (opening.clears opens new empty) =
-        clears handle (empty_now (suc t) handle offer.successor _ swap.taken (successor_stands limits states last run t handle offer swap) empty)
+        clears handle (empty_now (suc t) handle offer.successor _ swap.taken (successor_stands run t handle offer swap) empty)
     follow_by call (opening.snapshots n second opens is first main copy its) =
-        snapshots handle second is (follows handle offer.successor (successor_stands limits states last run t handle offer swap) main)
-        (follows n second (second_stands limits states last run t handle offer swap n second opens is) its)
-    follow_by call (opening.freezes n opens none first main) = freezes handle none (follows handle offer.successor (successor_stands limits states last run t handle offer swap) main)
+        snapshots handle second is (follows handle offer.successor (successor_stands run t handle offer swap) main)
+        (follows n second (second_stands run t handle offer swap n second opens is) its)
+    follow_by call (opening.freezes n opens none first main) = freezes handle none (follows handle offer.successor (successor_stands run t handle offer swap) main)
 
   pub new_roots_follow : NewRootsFollowIn states run.records last
-  new_roots_follow t handle offer swap actor offerer is id = follow_by t handle offer swap offerer.call (swaps_bring limits states last run t handle offer swap actor offerer is id)
+  new_roots_follow t handle offer swap actor offerer is id = follow_by t handle offer swap offerer.call (swaps_bring run t handle offer swap actor offerer is id)
 
   pub roots_swapped_as_expected : RootsSwappedAsExpectedIn states run.records last
   roots_swapped_as_expected t handle offer swap =
-      let old = old_stands limits states last run t handle offer swap in (old.root, old.is_open, old.is, expected t handle offer swap)
+      let old = old_stands run t handle offer swap in (old.root, old.is_open, old.is, expected t handle offer swap)

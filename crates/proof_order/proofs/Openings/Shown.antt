@@ -18,19 +18,19 @@ use Rattle.proof_order.proofs.Openings.InUse.{reaches_in_use}
 use Rattle.proof_order.proofs.Openings.RootOf.{roots_are_one, root_in_use}
 use Rattle.proof_generations.proofs.Falling.Nodes.{nodes_stay}
 
-module _ (limits : Bounds) (states : ℕ → State) (last : ℕ) (run : IsRun limits states last) where
+module _ {limits : Bounds} {states : ℕ → State} {last : ℕ} (run : IsRun limits states last) where
   pub handles_show : HandlesShow limits states last
   handles_show depth path ok handle root e =
       let g = generation_at (states last).heap (root_of root.word) in
       let stands : IsRootOf states last handle (root_of root.word) g = record { root = root; is_open = e; is = refl; its = refl } in
-      let used = root_in_use limits states last run last handle (root_of root.word) g (omega arith) stands in
-      let node = indirection_is (node_at (states last).heap (root_of root.word)) (by root.word ((safe_at limits states last run last (omega arith)).words handle root e)) in
-      content_is states last (reaches_in_use limits states last run last (omega arith)) limits depth path ok handle root g node.0 node.1 e
-      (roots_are_one limits states last run last handle (root_of root.word) g (omega arith) stands).0 (sym (node_found states last (root_of root.word) used) ∙ node.2)
+      let used = root_in_use run last handle (root_of root.word) g (omega arith) stands in
+      let node = indirection_is (node_at (states last).heap (root_of root.word)) (by root.word ((safe_at run last (omega arith)).words handle root e)) in
+      content_is states last (reaches_in_use run last (omega arith)) limits depth path ok handle root g node.0 node.1 e
+      (roots_are_one run last handle (root_of root.word) g (omega arith) stands).0 (sym (node_found states last (root_of root.word) used) ∙ node.2)
     where
       by : (word : RootWord) → AllHold (IsInUse (states last).heap) (states last).heap (word_wants word) → meets AnIndirection (node_at (states last).heap (root_of word)) ≡ true
       by (Plain r) h = meets_of h.0
       by (Offer offer) h = meets_of h.0
 
   pub starts_so : (depth path : Ref → ℕ) → IsTrie (trie_of limits states last depth path) → content (trie_of limits states last depth path) 0 0 ≡ map.empty
-  starts_so depth path ok = starts_empty limits states last run (nodes_stay limits states last run) depth path ok
+  starts_so depth path ok = starts_empty run (nodes_stay run) depth path ok

@@ -60,15 +60,15 @@ swapped_by state past s o after handle offer (Ends {actor} {operation} {answer} 
 swapped_by state past s o after handle offer (GivesUp d is a) c = let go = c.go in let wrong : ⊥ = cc go in absurd wrong
 swapped_by state past s o after handle offer (Sweeps spent) c = let go = c.go in let wrong : ⊥ = cc go in absurd wrong
 
-module _ (limits : Bounds) (states : ℕ → State) (last : ℕ) (r : IsRun limits states last) where
+module _ {limits : Bounds} {states : ℕ → State} {last : ℕ} (r : IsRun limits states last) where
   module _ (t handle : ℕ) (offer : Descriptor) (swap : IsSwap states r.records last t handle offer) where
     pub swapped : Swapped (states t) (r.records t) handle offer (states (suc t)) (r.records (suc t))
     swapped =
         subst (λ now. Swapped (states t) (r.records t) handle offer (states (suc t)) now) (sym swap.notes)
-        (swapped_by (states t) (r.records t) swap.step swap.outcome (states (suc t)) handle offer swap.moves (mover limits states last r t handle offer swap))
+        (swapped_by (states t) (r.records t) swap.step swap.outcome (states (suc t)) handle offer swap.moves (mover r t handle offer swap))
 
     abbrev old : IsOffered (states t) handle offer
-    old = root limits states last r t handle offer swap
+    old = root r t handle offer swap
 
     -- the step closes the old root's generation
     pub closes : closed_at (r.records (suc t)) (generation_at (states t).heap offer.root) ≡ Some t
@@ -76,25 +76,25 @@ module _ (limits : Bounds) (states : ℕ → State) (last : ℕ) (r : IsRun limi
         let g = generation_at (states t).heap offer.root in
         let open_then : closed_at (r.records t) g ≡ None =
         ap (closed_at (r.records t)) (ap (λ w. generation_at (states t).heap (root_of w)) (sym old.word))
-        ∙ (ordered limits states last r t handle offer swap).roots.unclosed handle old.root old.is_open old.writable in
+        ∙ (ordered r t handle offer swap).roots.unclosed handle old.root old.is_open old.writable in
         ap (λ l. closed_in l g) swapped.closings ∙ closed_last (r.records t).closings (closing_of (states t) offer) g open_then refl
-        ∙ ap Some (steps_at limits states last r t (omega (arith, swap.taken)))
+        ∙ ap Some (steps_at r t (omega (arith, swap.taken)))
 
     pub closed_for_ever : (u : ℕ) → t < u → u ≤ last → closed_at (r.records u) (generation_at (states t).heap offer.root) ≡ Some t
-    closed_for_ever u after within = closed_until limits states last r (suc t) u after within (generation_at (states t).heap offer.root) t closes
+    closed_for_ever u after within = closed_until r (suc t) u after within (generation_at (states t).heap offer.root) t closes
 
     -- ---- the new roots
 
     -- the operation that offered runs, and completes the offer
     pub offerer : StandsBy (states t) handle offer
-    offerer = (ordered limits states last r t handle offer swap).offers.offers handle offer (word limits states last r t handle offer swap)
+    offerer = (ordered r t handle offer swap).offers.offers handle offer (word r t handle offer swap)
 
     pub offers : IsOwn offerer.owner.call offerer.owner.id offerer.owner.opens offerer.owner.attempt offer
-    offers = own_numbers offerer.owner offer ((ordered limits states last r t handle offer swap).offers.own offerer.k offerer.owner offerer.runs) offerer.completes
+    offers = own_numbers offerer.owner offer ((ordered r t handle offer swap).offers.own offerer.k offerer.owner offerer.runs) offerer.completes
 
     -- the handle that it opens isn't open
     pub unopened : (n : ℕ) → offer.opens ≡ Some n → root_at (states t) n ≡ None
-    unopened n e = (ordered limits states last r t handle offer swap).handles.unopened offerer.k n offerer.owner offerer.runs offerer.unmarked (sym offers.number ∙ e)
+    unopened n e = (ordered r t handle offer swap).handles.unopened offerer.k n offerer.owner offerer.runs offerer.unmarked (sym offers.number ∙ e)
 
     here : get_or (set (states t).roots handle (rewritten (Plain offer.successor) (root_at (states t) handle))) handle None ≡ Some (record old.root { word = Plain offer.successor })
     here =
@@ -119,7 +119,7 @@ module _ (limits : Bounds) (states : ℕ → State) (last : ℕ) (r : IsRun limi
     second_by n second e f None is = absurd (none-some n (sym is ∙ e))
     second_by n second e f (Some m) is =
         let same : m ≡ n = same_Some _ _ (sym is ∙ e) in
-        let within = opens_in_range limits states last r t (omega (arith, swap.taken)) offerer.k offerer.owner offerer.runs n (sym offers.number ∙ e) in
+        let within = opens_in_range r t (omega (arith, swap.taken)) offerer.k offerer.owner offerer.runs n (sym offers.number ∙ e) in
         ap (λ i. get_or (roots_swapped (states t) handle offer (Some i)) n None) same
         ∙ get_or-set_same _ n (Some (opened_root offer offer.second)) None (rw length-set within) ∙ ap (λ x. Some (opened_root offer x)) f
 

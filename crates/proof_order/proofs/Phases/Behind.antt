@@ -31,7 +31,7 @@ use Rattle.proof_order.specs.Beneath.history.specs.declared.replies.Reply.TheVar
 use Rattle.proof_order.proofs.Phases.LineTimes.{answered_unless}
 use Rattle.proof_order.proofs.Phases.NewPlaces.{owns}
 
-module _ (limits : Bounds) (states : ℕ → State) (last : ℕ) (r : IsRun limits states last) where
+module _ {limits : Bounds} {states : ℕ → State} {last : ℕ} (r : IsRun limits states last) where
   -- an operation with this id runs just behind the step
   abbrev RunsBehind : ℕ → ℕ → Type 0
   RunsBehind n id = (k : ℕ) × (operation : Operation) × Runs (states (suc n)) k operation × (operation.id ≡ id)
@@ -44,8 +44,8 @@ module _ (limits : Bounds) (states : ℕ → State) (last : ℕ) (r : IsRun limi
   closed_behind t k operation generation c le writable its closed =
       let (root, is, access, gen) = standing_root (states its.at) (handle_of operation.call) operation.access generation its.stood in
       let within : its.at ≤ last = omega (arith, its.past) in
-      let none = (ordered_at limits states last r its.at within).roots.unclosed (handle_of operation.call) root is (access ∙ writable) in
-      closed_from limits states last r its.at generation (ap (closed_at (r.records its.at)) (sym gen) ∙ none) t c le (omega (arith, its.past)) closed
+      let none = (ordered_at r its.at within).roots.unclosed (handle_of operation.call) root is (access ∙ writable) in
+      closed_from r its.at generation (ap (closed_at (r.records its.at)) (sym gen) ∙ none) t c le (omega (arith, its.past)) closed
 
   late_behind : (t k : ℕ) (operation : Operation) (c : ℕ) → t ≤ last → Runs (states t) k operation → closing_for (r.records t) operation.generation operation.access ≡ Some c →
       c < t → RunsBehind c operation.id
@@ -54,7 +54,7 @@ module _ (limits : Bounds) (states : ℕ → State) (last : ℕ) (r : IsRun limi
       with_root : (g : Option ℕ) → operation.generation ≡ g → operation.access ≡ Writable → closed_after (r.records t) g ≡ Some c → RunsBehind c operation.id
       with_root None of_it writable closed = absurd (none-some c closed)
       with_root (Some generation) of_it writable closed =
-          let its = (run_since limits states last r t k operation le runs).tries generation of_it in
+          let its = (run_since r t k operation le runs).tries generation of_it in
           let behind = closed_behind t k operation generation c le writable its closed in
           let (was, at_k, same, rooted) = its.runs (suc c) (omega arith) (omega arith) in
           (k, was, at_k, sym same.id)
@@ -102,7 +102,7 @@ module _ (limits : Bounds) (states : ℕ → State) (last : ℕ) (r : IsRun limi
     ended_behind : (k : ℕ) (operation : Operation) (answer : _) → Runs (states t) k operation → action_of (states t) operation ≡ act.End answer → is_placed (r.records t) operation.id ≡ false →
         answer ≢ reply.NoSlots → ((moment_at (r.records t) (suc k)).moment ≤ t) × RunsBehind (moment_at (r.records t) (suc k)).moment operation.id
     ended_behind k operation answer runs does unplaced other =
-        let since = run_since limits states last r t k operation within runs in
+        let since = run_since r t k operation within runs in
         let at = only_end (states t) operation operation.line answer does in
         let moment = (since.reads no_close).moment (ap has_read at ∙ answered_unless answer other) in
         let (was, at_k, same) = since.runs (suc (moment_at (r.records t) (suc k)).moment) (omega (arith, moment.behind)) moment.past in
@@ -111,13 +111,13 @@ module _ (limits : Bounds) (states : ℕ → State) (last : ℕ) (r : IsRun limi
         no_close : is_close operation.call ≡ false
         no_close = elim (cases_Bool (is_close operation.call)) [
           | inr none ↦ none
-          | inl close ↦ absurd (true≢false (sym (closes_placed limits states last r t within k operation runs close) ∙ unplaced))
+          | inl close ↦ absurd (true≢false (sym (closes_placed r t within k operation runs close) ∙ unplaced))
         ]
 
     behind_by : (q : Place) → Enters (states t) (r.records t) s q → RunsBehind q.step q.id
     behind_by q (commits it) =
         let id : q.id ≡ it.owner.id = ap (λ (x : Place). x.id) it.is_it ∙ (place_says (closing_for (r.records t) it.owner.generation it.owner.access) (states t).steps it.owner.id false).2 in
-        let count = steps_at limits states last r t within in
+        let count = steps_at r t within in
         let now = subst (λ n. RunsBehind n it.owner.id) (sym count) (runs_on it.k it.owner it.runs (λ answer at. let wrong : ⊥ = swaps_no_end answer (sym it.swaps.at ∙ at) in wrong)) in
         let behind = placed_behind t it.k it.owner (states t).steps false within it.runs (omega (arith, count)) now in
         subst (λ (x : Place). RunsBehind x.step q.id) (sym it.is_it) (subst (λ i. RunsBehind (place_of (r.records t) (entrant_of it.owner) (states t).steps false).step i) (sym id) behind)
@@ -135,12 +135,12 @@ module _ (limits : Bounds) (states : ℕ → State) (last : ℕ) (r : IsRun limi
         subst (λ (x : Place). RunsBehind x.step q.id) (sym its)
         (subst (λ i. RunsBehind (place_of (r.records t) (entrant_of operation) (moment_at (r.records t) actor).moment true).step i) (sym id) behind)
     behind_by q (at_close actor handle number go its) =
-        let (k, runs) = begun_runs (states t) s o (states (suc t)) m (offers_at limits states last r t within).books actor (Close handle) number go in
-        let step_is : q.step ≡ t = ap (λ (x : Place). x.step) its ∙ steps_at limits states last r t within in
+        let (k, runs) = begun_runs (states t) s o (states (suc t)) m (offers_at r t within).books actor (Close handle) number go in
+        let step_is : q.step ≡ t = ap (λ (x : Place). x.step) its ∙ steps_at r t within in
         subst (λ n. RunsBehind n q.id) (sym step_is) (k, begun_operation (states t) (Close handle) number, runs, sym (ap (λ (x : Place). x.id) its))
     behind_by q (carried handle offer c its) =
-        let st = offerer_of (states t) (offers_at limits states last r t within) s handle offer c in
-        let step_is : q.step ≡ t = ap (λ (x : Place). x.step) its ∙ steps_at limits states last r t within in
+        let st = offerer_of (states t) (offers_at r t within) s handle offer c in
+        let step_is : q.step ≡ t = ap (λ (x : Place). x.step) its ∙ steps_at r t within in
         let (k, found, runs, same) = runs_on st.k st.operation st.runs (λ answer at. let wrong : ⊥ = copies_no_end st.c answer (sym st.at ∙ at) in wrong) in
         subst (λ n. RunsBehind n q.id) (sym step_is) (k, found, runs, same ∙ st.id ∙ sym (ap (λ (x : Place). x.id) its))
       where
@@ -149,8 +149,8 @@ module _ (limits : Bounds) (states : ℕ → State) (last : ℕ) (r : IsRun limi
 
     behind_after : ((q : Place) → Among q (r.records t).places → RunsBehind q.step q.id) → (q : Place) → Among q (r.records (suc t)).places → RunsBehind q.step q.id
     behind_after before q a = elim (entering (states t) (r.records t) s (states (suc t)) (noted (r.records t) (states t).steps (told_in (states t) s))
-        (changes (states t) (r.records t) s o (states (suc t)) m (honest (states t) (offers_at limits states last r t within)))
-        (owns limits states last r t lt s o m notes) q (subst (λ (x : Record). Among q x.places) notes a)) [
+        (changes (states t) (r.records t) s o (states (suc t)) m (honest (states t) (offers_at r t within)))
+        (owns r t lt s o m notes) q (subst (λ (x : Record). Among q x.places) notes a)) [
           | inl old ↦ before q old
           | inr new ↦ behind_by q new
         ]
@@ -162,12 +162,12 @@ among_contains [] x (k, lt, e) = absurd (omega (arith, lt))
 among_contains (y ∷ ys) x (zero, lt, e) = inl (sym e)
 among_contains (y ∷ ys) x (suc k, lt, e) = inr (among_contains ys x (k, omega (arith, lt), e))
 
-pub run_behind : (limits : Bounds) (states : ℕ → State) (last : ℕ) (r : IsRun limits states last) → PlacesRunBehind states r.records last
-run_behind limits states last r q within =
-    along_run limits states last r (λ t. (q : Place) → Among q (r.records t).places → RunsBehind limits states last r q.step q.id)
+pub run_behind : {limits : Bounds} {states : ℕ → State} {last : ℕ} (r : IsRun limits states last) → PlacesRunBehind states r.records last
+run_behind {limits} {states} {last} r q within =
+    along_run r (λ t. (q : Place) → Among q (r.records t).places → RunsBehind r q.step q.id)
     (λ q a. let none : Among q [] = subst (Among q) (ap (λ (x : Record). x.places) r.nothing_recorded) a in absurd none)
     (λ t lt turn before. by_turn t lt (r.turn t lt) (r.recorded t lt) before) last (omega arith) q (among_contains (r.records last).places q within)
   where
     by_turn : (t : ℕ) → t < last → (turn : Turn (states t) (states (suc t))) → r.records (suc t) ≡ noted_turn turn (r.records t) →
-        ((q : Place) → Among q (r.records t).places → RunsBehind limits states last r q.step q.id) → (q : Place) → Among q (r.records (suc t)).places → RunsBehind limits states last r q.step q.id
-    by_turn t lt (turns s o m) e before = behind_after limits states last r t lt s o m e before
+        ((q : Place) → Among q (r.records t).places → RunsBehind r q.step q.id) → (q : Place) → Among q (r.records (suc t)).places → RunsBehind r q.step q.id
+    by_turn t lt (turns s o m) e before = behind_after r t lt s o m e before

@@ -74,7 +74,7 @@ closes_by state past s o after m all k found (gave was answer go at_k may it) e 
     still_placed state past s o after m found.id
     (ap (is_placed past) (ap (λ (x : Operation). x.id) it) ∙ all k was at_k (ap (λ (x : Operation). is_close x.call) (sym it) ∙ e))
 
-pub closes_placed : (limits : Bounds) (states : ℕ → State) (last : ℕ) (r : IsRun limits states last) → (t : ℕ) → t ≤ last → ClosesPlaced (states t) (r.records t)
-closes_placed limits states last r =
-    at_each_record limits states last r ClosesPlaced (λ k operation runs. absurd (nobody limits k operation runs))
+pub closes_placed : {limits : Bounds} {states : ℕ → State} {last : ℕ} (r : IsRun limits states last) → (t : ℕ) → t ≤ last → ClosesPlaced (states t) (r.records t)
+closes_placed {limits} {states} {last} r =
+    at_each_record r ClosesPlaced (λ k operation runs. absurd (nobody limits k operation runs))
     (λ state past s o after m all k found runs. closes_by state past s o after m all k found (comes state s o after m k found runs))

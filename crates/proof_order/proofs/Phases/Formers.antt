@@ -201,15 +201,15 @@ fits_by state s all k found (went was go at_k g it) =
     subst (λ (x : Operation). FitsLine x.call x.line) (sym (it ∙ mark_only (marks_in state s) (operation_after state was))) (line_fits state was was.line (all k was at_k))
 fits_by state s all k found (gave was answer go at_k may it) = subst (λ (x : Operation). FitsLine x.call x.line) (sym it) tt
 
-all_fit : (limits : Bounds) (states : ℕ → State) (last : ℕ) (r : IsRun limits states last) → (t : ℕ) → t ≤ last → AllFit (states t)
-all_fit limits states last r =
-    along_run limits states last r (λ t. AllFit (states t)) (λ k operation runs. absurd (nobody limits k operation (subst (λ q. Runs q k operation) r.first runs)))
+all_fit : {limits : Bounds} {states : ℕ → State} {last : ℕ} (r : IsRun limits states last) → (t : ℕ) → t ≤ last → AllFit (states t)
+all_fit {limits} {states} {last} r =
+    along_run r (λ t. AllFit (states t)) (λ k operation runs. absurd (nobody limits k operation (subst (λ q. Runs q k operation) r.first runs)))
     (λ t lt turn before. by_turn (states t) (states (suc t)) turn before)
   where
     by_turn : (before after : State) → Turn before after → AllFit before → AllFit after
     by_turn before after (turns s o m) all k found runs = fits_by before s all k found (comes before s o after m k found runs)
 
 -- the change that an operation swaps in is one that its call tells of
-pub update_tells : (limits : Bounds) (states : ℕ → State) (last : ℕ) (r : IsRun limits states last) → (t k : ℕ) (operation : Operation) (path : List Ref) (former : Option ℕ) (s : Swap) →
+pub update_tells : {limits : Bounds} {states : ℕ → State} {last : ℕ} (r : IsRun limits states last) → (t k : ℕ) (operation : Operation) (path : List Ref) (former : Option ℕ) (s : Swap) →
     t ≤ last → Runs (states t) k operation → operation.line ≡ line.Swap (purpose.Update path former) s → TellsEffect operation.call former
-update_tells limits states last r t k operation path former s le runs at = subst (FitsLine operation.call) at (all_fit limits states last r t le k operation runs)
+update_tells {limits} {states} {last} r t k operation path former s le runs at = subst (FitsLine operation.call) at (all_fit r t le k operation runs)

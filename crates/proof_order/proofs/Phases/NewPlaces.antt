@@ -35,13 +35,13 @@ use Rattle.proof_order.specs.Beneath.proof_commits.proofs.Course.Changers.{chang
 use Rattle.proof_order.specs.Beneath.proof_commits.proofs.Known.Acts.{known_run}
 use Rattle.proof_order.specs.Beneath.proof_commits.proofs.Lines.Swap.{runs_deciding}
 
-module _ (limits : Bounds) (states : ℕ → State) (last : ℕ) (r : IsRun limits states last) (t : ℕ) (lt : t < last) (s : Step) (o : Outcome) (m : Moves (states t) s o (states (suc t)))
+module _ {limits : Bounds} {states : ℕ → State} {last : ℕ} (r : IsRun limits states last) (t : ℕ) (lt : t < last) (s : Step) (o : Outcome) (m : Moves (states t) s o (states (suc t)))
     (notes : Notes states r.records t s) where
   within : t ≤ last
   within = omega (arith, lt)
 
   offers : Offers (states t) (r.records t)
-  offers = offers_at limits states last r t within
+  offers = offers_at r t within
 
   books : Books (states t) (r.records t)
   books = offers.books
@@ -69,10 +69,10 @@ module _ (limits : Bounds) (states : ℕ → State) (last : ℕ) (r : IsRun limi
       by step.Sweep is e = absurd (none-some main e)
       by (step.GiveUp actor) is e = absurd (none-some main e)
 
-  pub committed : (main : Ref) → committed_by_step (states t) s ≡ Some main → Committed limits states last r t main
+  pub committed : (main : Ref) → committed_by_step (states t) s ≡ Some main → Committed r t main
   committed main e =
       let it = mover main e in
-      committed_so limits states last r t it.actor it.operation o main lt (subst (λ x. Moves (states t) x o (states (suc t))) it.go m) it.runs it.now
+      committed_so r t it.actor it.operation o main lt (subst (λ x. Moves (states t) x o (states (suc t))) it.go m) it.runs it.now
 
   -- whose change of its key it is enters
   places_of : (k actor : ℕ) (owner : Operation) (main : Ref) (why : Purpose) (i a : Ref) (l : SwapLine) → actor ≡ suc k → Runs (states t) k owner →
@@ -101,9 +101,9 @@ module _ (limits : Bounds) (states : ℕ → State) (last : ℕ) (r : IsRun limi
       by None is none = absurd none
       by (Some main) is a =
           let c = committed main is in
-          let o = (sound_at (run_words limits states last r) t within).owned main c.previous c.was in
+          let o = (sound_at (run_words r) t within).owned main c.previous c.was in
           let it = runs_deciding (operation_of (states t) o.actor) o.link c.previous main o.line o.stage in
-          let known = changers_known limits states last (known_run limits states last r) t within o.actor it.operation it.is it.swaps.0 o.link c.previous main o.line it.swaps.1 in
+          let known = changers_known limits states last (known_run r) t within o.actor it.operation it.is it.swaps.0 o.link c.previous main o.line it.swaps.1 in
           let (k, actors, runs) = place_of_actor (states t) o.actor it.operation it.is in
           places_of k o.actor it.operation main it.swaps.0 o.link c.previous (swap.Deciding o.line) actors runs it.swaps.1 known is p
           (subst (λ x. Among p (entered_by (r.records t) (states t).steps x)) known a)
@@ -113,12 +113,12 @@ module _ (limits : Bounds) (states : ℕ → State) (last : ℕ) (r : IsRun limi
     abbrev pub line_so : SwapsIn it.owner.line it.main
     line_so = it.swaps
 
-    pub commit_so : Committed limits states last r t it.main
+    pub commit_so : Committed r t it.main
     commit_so = committed it.main it.commits
 
     pub published : IsPublished line_so.its.line
     published =
-        pending_published limits states last r t it.k within it.owner it.runs (purpose.Update line_so.path line_so.former) line_so.its line_so.at commit_so.previous
+        pending_published r t it.k within it.owner it.runs (purpose.Update line_so.path line_so.former) line_so.its line_so.at commit_so.previous
         (ap (prev_word states t) line_so.fresh ∙ commit_so.was)
 
     none_now : prev_word states (suc t) line_so.its.fresh ≡ prev.None
@@ -126,7 +126,7 @@ module _ (limits : Bounds) (states : ℕ → State) (last : ℕ) (r : IsRun limi
 
     -- its call tells of such a change
     tells : TellsEffect it.owner.call line_so.former
-    tells = update_tells limits states last r t it.k it.owner line_so.path line_so.former line_so.its within it.runs line_so.at
+    tells = update_tells r t it.k it.owner line_so.path line_so.former line_so.its within it.runs line_so.at
 
     -- while it rests
     past_resting : (marks : Option ℕ) → IsPast states (suc t) (mark_one marks it.owner) line_so.former
@@ -250,4 +250,4 @@ module _ (limits : Bounds) (states : ℕ → State) (last : ℕ) (r : IsRun limi
       absurd (ended_else actor operation answer go is does k found (sym same ∙ id) from)
   new_phase p (at_close actor handle number go its) k found runs same from = closed actor handle number go k found (sym same ∙ ap (λ (q : Place). q.id) its) from
   new_phase p (carried handle offer c its) k found runs same from =
-      marked_phase limits states last r (suc t) lt k found runs (marked_now handle offer c k found (sym same ∙ ap (λ (q : Place). q.id) its) from)
+      marked_phase r (suc t) lt k found runs (marked_now handle offer c k found (sym same ∙ ap (λ (q : Place). q.id) its) from)

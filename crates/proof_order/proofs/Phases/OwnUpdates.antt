@@ -31,7 +31,7 @@ some_place : (places : List Place) → places ≢ [] → (q : Place) × Among q 
 some_place [] other = absurd (other refl)
 some_place (q ∷ places) other = (q, inl refl)
 
-module _ (limits : Bounds) (states : ℕ → State) (last : ℕ) (r : IsRun limits states last) (t : ℕ) (lt : t < last) (s : Step) (o : Outcome) (m : Moves (states t) s o (states (suc t)))
+module _ {limits : Bounds} {states : ℕ → State} {last : ℕ} (r : IsRun limits states last) (t : ℕ) (lt : t < last) (s : Step) (o : Outcome) (m : Moves (states t) s o (states (suc t)))
     (notes : Notes states r.records t s) (own : Place) (it : Owns (states t) (r.records t) s own) where
   within : t ≤ last
   within = omega (arith, lt)
@@ -44,18 +44,18 @@ module _ (limits : Bounds) (states : ℕ → State) (last : ℕ) (r : IsRun limi
   enters : entered_by_step (r.records t) (states t) s ≡ place_of (r.records t) (entrant_of it.owner) t false ∷ []
   enters =
       ap (entered (r.records t) (states t).steps) it.commits ∙ ap (entered_by (r.records t) (states t).steps) it.changer
-      ∙ ap (λ n. place_of (r.records t) (entrant_of it.owner) n false ∷ []) (steps_at limits states last r t within)
+      ∙ ap (λ n. place_of (r.records t) (entrant_of it.owner) n false ∷ []) (steps_at r t within)
 
   -- it had no place
   unplaced : is_placed (r.records t) it.owner.id ≡ false
   unplaced = elim (cases_Bool (is_placed (r.records t) it.owner.id)) [
     | inr none ↦ none
-    | inl has ↦ absurd (by (placed_phase limits states last r t it.k it.owner within it.runs has))
+    | inl has ↦ absurd (by (placed_phase r t it.k it.owner within it.runs has))
   ]
     where
       by : Phase states t it.owner → ⊥
       by (past former h) =
-          let c = commit_so limits states last r t lt s o m notes own it in
+          let c = commit_so r t lt s o m notes own it in
           let now = subst (IsPastAt states t it.owner.call former) mine.at h.0 in
           none≢pending now.2 (ap (prev_word states t) mine.fresh ∙ c.was)
       by (completes c marked on) =
@@ -72,9 +72,9 @@ module _ (limits : Bounds) (states : ℕ → State) (last : ℕ) (r : IsRun limi
       behind : (found : Operation) → Runs (states (suc t)) it.k found → found.id ≡ it.owner.id → found.call ≡ it.owner.call →
           IsReply (r.records last).events it.owner.id (changed_reply it.owner.call mine.former)
       behind found runs same calls =
-          let h = past_owner limits states last r t lt s o m notes own it it.k found same (from (states t) s o (states (suc t)) m it.k found runs) in
+          let h = past_owner r t lt s o m notes own it it.k found same (from (states t) s o (states (suc t)) m it.k found runs) in
           subst (λ i. IsReply (r.records last).events i (changed_reply it.owner.call mine.former)) same
-          (subst (λ c. IsReply (r.records last).events found.id (changed_reply c mine.former)) calls (past_answers limits states last r (suc t) it.k found mine.former lt runs h))
+          (subst (λ c. IsReply (r.records last).events found.id (changed_reply c mine.former)) calls (past_answers r (suc t) it.k found mine.former lt runs h))
 
       by : Follows (states t) s (states (suc t)) it.k it.owner → IsReply (r.records last).events it.owner.id (changed_reply it.owner.call mine.former)
       by (rests other runs) =
@@ -90,8 +90,8 @@ module _ (limits : Bounds) (states : ℕ → State) (last : ℕ) (r : IsRun limi
 
   pub own_update : OwnUpdate states r.records last t s
   own_update =
-      let writable = swaps_writable limits states last r t it.k it.owner (purpose.Update mine.path mine.former) mine.its within it.runs mine.at in
-      let (generation, of_it) = swaps_rooted limits states last r t it.k it.owner (purpose.Update mine.path mine.former) mine.its within it.runs mine.at in
+      let writable = swaps_writable r t it.k it.owner (purpose.Update mine.path mine.former) mine.its within it.runs mine.at in
+      let (generation, of_it) = swaps_rooted r t it.k it.owner (purpose.Update mine.path mine.former) mine.its within it.runs mine.at in
       record {
         k = it.k;
         owner = it.owner;
@@ -100,17 +100,17 @@ module _ (limits : Bounds) (states : ℕ → State) (last : ℕ) (r : IsRun limi
         former = mine.former;
         its = mine.its;
         at = mine.at;
-        published = published limits states last r t lt s o m notes own it;
+        published = published r t lt s o m notes own it;
         commits = it.commits ∙ ap Some (sym mine.fresh);
         enters = enters;
         unplaced = unplaced;
         writable = writable;
         generation = generation;
         of_generation = of_it;
-        rooted = rooted_at limits states last r t it.k it.owner generation within it.runs writable of_it;
+        rooted = rooted_at r t it.k it.owner generation within it.runs writable of_it;
         agrees = agrees;
       }
 
-pub own_updates_enter : (limits : Bounds) (states : ℕ → State) (last : ℕ) (r : IsRun limits states last) → OwnUpdatesEnter states r.records last
-own_updates_enter limits states last r t s o lt m notes some =
-    let (q, a) = some_place (entered_by_step (r.records t) (states t) s) some in own_update limits states last r t lt s o m notes q (owns limits states last r t lt s o m notes q a)
+pub own_updates_enter : {limits : Bounds} {states : ℕ → State} {last : ℕ} (r : IsRun limits states last) → OwnUpdatesEnter states r.records last
+own_updates_enter {limits} {states} {last} r t s o lt m notes some =
+    let (q, a) = some_place (entered_by_step (r.records t) (states t) s) some in own_update r t lt s o m notes q (owns r t lt s o m notes q a)

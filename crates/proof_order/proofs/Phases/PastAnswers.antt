@@ -18,7 +18,7 @@ use Rattle.proof_order.proofs.Phases.PastSteps.{past_by}
 use Rattle.proof_order.specs.Beneath.proof_commits.proofs.Lines.Reads.{only_end}
 use Rattle.proof_order.specs.Beneath.machine_model.proofs.Alike.{alike}
 
-module _ (limits : Bounds) (states : ℕ → State) (last : ℕ) (r : IsRun limits states last) (id : ℕ) (call : Call) (former : Option ℕ) where
+module _ {limits : Bounds} {states : ℕ → State} {last : ℕ} (r : IsRun limits states last) (id : ℕ) (call : Call) (former : Option ℕ) where
   -- it is past its commit while it runs, and has this answer once it has ended
   record Answers (t : ℕ) : Type 0 where
     low : id < begun (r.records t).events
@@ -36,20 +36,20 @@ module _ (limits : Bounds) (states : ℕ → State) (last : ℕ) (r : IsRun limi
       IsPast states (suc t) found former × (found.call ≡ call)
   goes_on t lt s o m notes h k found same (began new) =
       let low = h.low in
-      let count = (alike limits states last r t (omega arith)).begun_are in
+      let count = (alike r t (omega arith)).begun_are in
       let its : found.id ≡ (states t).begun = ap (λ (x : Operation). x.id) new.is_it in
       absurd (omega arith)
   goes_on t lt s o m notes h k found same (kept was at_k it other) =
       let is = it ∙ mark_only (marks_in (states t) s) was in
       let (past, calls) = h.going k was at_k (sym (ap (λ (x : Operation). x.id) is) ∙ same) in
-      (past_by limits states last r t lt s k was found former at_k past (ap (λ (x : Operation). x.id) is) (kept was at_k it other), ap (λ (x : Operation). x.call) is ∙ calls)
+      (past_by r t lt s k was found former at_k past (ap (λ (x : Operation). x.id) is) (kept was at_k it other), ap (λ (x : Operation). x.call) is ∙ calls)
   goes_on t lt s o m notes h k found same (stepped was at_k go goes it) =
       let is = it ∙ mark_only (marks_by (states t) (Some was)) (operation_after (states t) was) in
       let (past, calls) = h.going k was at_k (sym (ap (λ (x : Operation). x.id) is) ∙ same) in
-      (past_by limits states last r t lt s k was found former at_k past (ap (λ (x : Operation). x.id) is) (stepped was at_k go goes it), ap (λ (x : Operation). x.call) is ∙ calls)
+      (past_by r t lt s k was found former at_k past (ap (λ (x : Operation). x.id) is) (stepped was at_k go goes it), ap (λ (x : Operation). x.call) is ∙ calls)
   goes_on t lt s o m notes h k found same (gave was answer at_k go may it) =
       let (past, calls) = h.going k was at_k (sym (ap (λ (x : Operation). x.id) it) ∙ same) in
-      (past_by limits states last r t lt s k was found former at_k past (ap (λ (x : Operation). x.id) it) (gave was answer at_k go may it), ap (λ (x : Operation). x.call) it ∙ calls)
+      (past_by r t lt s k was found former at_k past (ap (λ (x : Operation). x.id) it) (gave was answer at_k go may it), ap (λ (x : Operation). x.call) it ∙ calls)
 
   answers_after : (t : ℕ) → t < last → (s : Step) (o : Outcome) → Moves (states t) s o (states (suc t)) → Notes states r.records t s → Answers t → Answers (suc t)
   answers_after t lt s o m notes h =
@@ -74,14 +74,14 @@ module _ (limits : Bounds) (states : ℕ → State) (last : ℕ) (r : IsRun limi
   answers_later : (t : ℕ) → t ≤ last → Answers t → Answers last
   answers_later t le h = from_time Answers t last h (λ v from lt so_far. answers_by v lt (r.turn v lt) (r.recorded v lt) so_far) last le (omega arith)
 
-pub past_answers : (limits : Bounds) (states : ℕ → State) (last : ℕ) (r : IsRun limits states last) → PastAnswers states r.records last
-past_answers limits states last r t k operation former le runs h answer ended =
-    let books = (offers_at limits states last r t le).books in
-    let now : Answers limits states last r operation.id operation.call former t = record {
+pub past_answers : {limits : Bounds} {states : ℕ → State} {last : ℕ} (r : IsRun limits states last) → PastAnswers states r.records last
+past_answers {limits} {states} {last} r t k operation former le runs h answer ended =
+    let books = (offers_at r t le).books in
+    let now : Answers r operation.id operation.call former t = record {
       low = running_below (states t) books k operation runs;
       going = λ j other at_j same.
           let one = (one_by_id (states t) (r.records t) books k j operation other runs at_j (sym same)).1 in
           (subst (λ x. IsPast states t x former) one h, ap (λ (x : Operation). x.call) (sym one));
       answered = λ other before. absurd ((books.told k operation runs).unended other before);
     } in
-    sym ((answers_later limits states last r operation.id operation.call former t le now).answered answer ended)
+    sym ((answers_later r operation.id operation.call former t le now).answered answer ended)

@@ -56,7 +56,7 @@ past_given_up states t call former answer l h tells e = absurd h
 pub past_marked : (states : ℕ → State) (t : ℕ) (m : Option ℕ) (operation : Operation) (former : Option ℕ) → IsPast states t operation former → IsPast states t (mark_one m operation) former
 past_marked states t m operation former h = subst (λ x. IsPast states t x former) (sym (mark_only m operation)) h
 
-module _ (limits : Bounds) (states : ℕ → State) (last : ℕ) (r : IsRun limits states last) (t : ℕ) (lt : t < last) where
+module _ {limits : Bounds} {states : ℕ → State} {last : ℕ} (r : IsRun limits states last) (t : ℕ) (lt : t < last) where
   within : t ≤ last
   within = omega (arith, lt)
 
@@ -64,12 +64,12 @@ module _ (limits : Bounds) (states : ℕ → State) (last : ℕ) (r : IsRun limi
     stays : (s : Swap) (path : List Ref) → operation.line ≡ line.Swap (purpose.Update path former) s → prev_word states (suc t) s.fresh ≡ prev.None
     stays s path at =
         let now = subst (IsPastAt states t operation.call former) at h.0 in
-        stays_none limits states last r t k within operation runs (purpose.Update path former) s at lt now.1 now.2
+        stays_none r t k within operation runs (purpose.Update path former) s at lt now.1 now.2
 
     sees : (s : Swap) (path : List Ref) → operation.line ≡ line.Swap (purpose.Update path former) s → s.line ≡ swap.Check → prev_at (states t).heap s.fresh ≡ prev.None
     sees s path at is =
         let now = subst (IsPastAt states t operation.call former) at h.0 in
-        seen limits states last r t k within operation runs (purpose.Update path former) s at lt is ∙ now.2
+        seen r t k within operation runs (purpose.Update path former) s at lt is ∙ now.2
 
     pub past_rested : (m : Option ℕ) → IsPast states (suc t) (mark_one m operation) former
     past_rested m = past_marked states (suc t) m operation former (past_rests states t operation.call former operation.line h.0 stays, h.1)
@@ -86,8 +86,8 @@ module _ (limits : Bounds) (states : ℕ → State) (last : ℕ) (r : IsRun limi
   pub past_by : (s : Step) (k : ℕ) (operation found : Operation) (former : Option ℕ) → Runs (states t) k operation → IsPast states t operation former → found.id ≡ operation.id →
       From (states t) s k found → IsPast states (suc t) found former
   past_by s k operation found former runs h same (began new) =
-      let low = running_below (states t) (offers_at limits states last r t within).books k operation runs in
-      let count = (alike limits states last r t within).begun_are in
+      let low = running_below (states t) (offers_at r t within).books k operation runs in
+      let count = (alike r t within).begun_are in
       let its : found.id ≡ (states t).begun = ap (λ (x : Operation). x.id) new.is_it in
       absurd (omega arith)
   past_by s k operation found former runs h same (kept was at_k it other) =

@@ -26,38 +26,38 @@ use Rattle.proof_order.specs.Beneath.history.proofs.Among.{Among}
 abbrev AllPhased : (ℕ → State) → (ℕ → Record) → ℕ → Type 0
 AllPhased states records t = (k : ℕ) (operation : Operation) → Runs (states t) k operation → is_placed (records t) operation.id ≡ true → Phase states t operation
 
-phased_after : (limits : Bounds) (states : ℕ → State) (last : ℕ) (r : IsRun limits states last) → (t : ℕ) → t < last → (s : Step) (o : Outcome) →
+phased_after : {limits : Bounds} {states : ℕ → State} {last : ℕ} (r : IsRun limits states last) → (t : ℕ) → t < last → (s : Step) (o : Outcome) →
     Moves (states t) s o (states (suc t)) → Notes states r.records t s → AllPhased states r.records t →
     AllPhased states r.records (suc t)
-phased_after limits states last r t lt s o m notes before k found runs is =
+phased_after {limits} {states} {last} r t lt s o m notes before k found runs is =
     let its = from (states t) s o (states (suc t)) m k found runs in
     let (p, a, same) = placed (r.records (suc t)) found.id is in
     elim (entering (states t) (r.records t) s (states (suc t)) (noted (r.records t) (states t).steps (told_in (states t) s))
-    (changes (states t) (r.records t) s o (states (suc t)) m (honest (states t) (offers_at limits states last r t (omega arith))))
-    (owns limits states last r t lt s o m notes) p (subst (λ (x : Record). Among p x.places) notes a)) [
-      | inl stood ↦ old limits states last r t lt s k found runs (before k) (is_placed_so (r.records t) p stood found.id same) its
-      | inr enters ↦ new_phase limits states last r t lt s o m notes p enters k found runs same its
+    (changes (states t) (r.records t) s o (states (suc t)) m (honest (states t) (offers_at r t (omega arith))))
+    (owns r t lt s o m notes) p (subst (λ (x : Record). Among p x.places) notes a)) [
+      | inl stood ↦ old r t lt s k found runs (before k) (is_placed_so (r.records t) p stood found.id same) its
+      | inr enters ↦ new_phase r t lt s o m notes p enters k found runs same its
     ]
 
-pub placed_phase : (limits : Bounds) (states : ℕ → State) (last : ℕ) (r : IsRun limits states last) → PlacedPhase states r.records last
-placed_phase limits states last r t k operation le runs is =
-    along_run limits states last r (λ t. AllPhased states r.records t)
+pub placed_phase : {limits : Bounds} {states : ℕ → State} {last : ℕ} (r : IsRun limits states last) → PlacedPhase states r.records last
+placed_phase {limits} {states} {last} r t k operation le runs is =
+    along_run r (λ t. AllPhased states r.records t)
     (λ k operation runs is. absurd (nobody limits k operation (subst (λ q. Runs q k operation) r.first runs)))
     (λ t lt turn before. by_turn t lt (r.turn t lt) (r.recorded t lt) before) t le k operation runs is
   where
     by_turn : (t : ℕ) → t < last → (turn : Turn (states t) (states (suc t))) → r.records (suc t) ≡ noted_turn turn (r.records t) → AllPhased states r.records t →
         AllPhased states r.records (suc t)
-    by_turn t lt (turns s o m) e before = phased_after limits states last r t lt s o m e before
+    by_turn t lt (turns s o m) e before = phased_after r t lt s o m e before
 
 -- ---- who has no place
 
 refused_reply : (call : _) (former : Option ℕ) → reply.NoSlots ≡ changed_reply call former → ⊥
 refused_reply call former e = grind arith
 
-pub refused_unplaced : (limits : Bounds) (states : ℕ → State) (last : ℕ) (r : IsRun limits states last) → RefusedAreUnplaced states r.records last
-refused_unplaced limits states last r t actor operation lt is does = elim (cases_Bool (is_placed (r.records t) operation.id)) [
+pub refused_unplaced : {limits : Bounds} {states : ℕ → State} {last : ℕ} (r : IsRun limits states last) → RefusedAreUnplaced states r.records last
+refused_unplaced {limits} {states} {last} r t actor operation lt is does = elim (cases_Bool (is_placed (r.records t) operation.id)) [
   | inr none ↦ none
-  | inl has ↦ let (k, actors, runs) = place_of_actor (states t) actor operation is in absurd (by (placed_phase limits states last r t k operation (omega (arith, lt)) runs has))
+  | inl has ↦ let (k, actors, runs) = place_of_actor (states t) actor operation is in absurd (by (placed_phase r t k operation (omega (arith, lt)) runs has))
 ]
   where
     at : operation.line ≡ line.End reply.NoSlots
@@ -71,12 +71,12 @@ refused_unplaced limits states last r t actor operation lt is does = elim (cases
         let same : reply.NoSlots ≡ answer = cc ends in
         false≢true (ap (tells_effect operation.call) same ∙ tells)
 
-pub offers_unplaced : (limits : Bounds) (states : ℕ → State) (last : ℕ) (r : IsRun limits states last) → OffersAreUnplaced states r.records last
-offers_unplaced limits states last r t s o lt m notes handle offer carries = elim (cases_Bool (is_placed (r.records t) offer.operation)) [
+pub offers_unplaced : {limits : Bounds} {states : ℕ → State} {last : ℕ} (r : IsRun limits states last) → OffersAreUnplaced states r.records last
+offers_unplaced {limits} {states} {last} r t s o lt m notes handle offer carries = elim (cases_Bool (is_placed (r.records t) offer.operation)) [
   | inr none ↦ none
   | inl has ↦
-      let st = offerer_of (states t) (offers_at limits states last r t (omega (arith, lt))) s handle offer carries in
-      absurd (by st.operation st.c st.unmarked st.at (placed_phase limits states last r t st.k st.operation (omega (arith, lt)) st.runs (ap (is_placed (r.records t)) st.id ∙ has)))
+      let st = offerer_of (states t) (offers_at r t (omega (arith, lt))) s handle offer carries in
+      absurd (by st.operation st.c st.unmarked st.at (placed_phase r t st.k st.operation (omega (arith, lt)) st.runs (ap (is_placed (r.records t)) st.id ∙ has)))
 ]
   where
     by : (offerer : Operation) (c : Complete) → offerer.is_marked ≡ false → offerer.line ≡ line.Copy (copy.Complete c) → Phase states t offerer → ⊥

@@ -24,9 +24,9 @@ use Rattle.proof_order.specs.Phases.{IsPublished}
 use Rattle.proof_order.proofs.Phases.Commits.{line_decides, now_none}
 use Rattle.proof_order.specs.Beneath.proof_commits.proofs.Lines.Read.{was_pending}
 
-module _ (limits : Bounds) (states : ℕ → State) (last : ℕ) (run : IsRun limits states last) where
+module _ {limits : Bounds} {states : ℕ → State} {last : ℕ} (run : IsRun limits states last) where
   abbrev known : Known limits states last
-  known = known_run limits states last run
+  known = known_run run
 
   -- the words of the run
   abbrev pub run_words : Protocol
@@ -70,7 +70,7 @@ module _ (limits : Bounds) (states : ℕ → State) (last : ℕ) (run : IsRun li
     seen lt is =
         let does : action_of (states t) operation ≡ act.ReadPrev s.fresh =
         ap (line_action (states t) operation) at ∙ ap (λ l. line_action (states t) operation (line.Swap why (record s { line = l }))) is in
-        let h : HasMain (states t) s.fresh = subst (Finds (states t)) does (finds limits states last run t lt (suc k) operation runs) in
+        let h : HasMain (states t) s.fresh = subst (Finds (states t)) does (finds run t lt (suc k) operation runs) in
         prev_found states t s.fresh (h.slot, h.stands)
 
   -- two actors have different nodes

@@ -86,10 +86,10 @@ quiet_by states records t I count (NotesEnd actor operation answer o m is a e n)
 quiet_by states records t I count (NotesGivingUp actor operation answer o m is a e n) = none_more records t (ap (λ (r : Record). r.commits) n)
 quiet_by states records t I count (NotesSweep o m e n) = none_more records t (ap (λ (r : Record). r.commits) n)
 
-pub quiet_commits : (limits : Bounds) (states : ℕ → State) (last : ℕ) (r : IsRun limits states last) → (t : ℕ) → t ≤ last → QuietCommits r.records t
-quiet_commits limits states last r =
-    along_run limits states last r (λ t. QuietCommits r.records t) none
-    (λ t lt turn h. quiet_by states r.records t (has_offers_at limits states last r t (omega arith)) (steps_at limits states last r t (omega arith))
+pub quiet_commits : {limits : Bounds} {states : ℕ → State} {last : ℕ} (r : IsRun limits states last) → (t : ℕ) → t ≤ last → QuietCommits r.records t
+quiet_commits {limits} {states} {last} r =
+    along_run r (λ t. QuietCommits r.records t) none
+    (λ t lt turn h. quiet_by states r.records t (has_offers_at r t (omega arith)) (steps_at r t (omega arith))
     (noted_at (r.turn t lt) (r.recorded t lt)) h)
   where
     none : (c : Commit) → Among c (r.records zero).commits → (c.step < zero) × ClosesNone r.records c.step

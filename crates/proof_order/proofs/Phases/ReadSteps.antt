@@ -29,11 +29,11 @@ pub reads_marked : (records : ℕ → Record) (at t k : ℕ) (m : Option ℕ) (o
 reads_marked records at t k m operation h = subst (ReadsWithin records at t k) (sym (mark_only m operation)) (record { read_at = h.read_at; moment = h.moment })
 
 -- in its own step
-module _ (limits : Bounds) (states : ℕ → State) (last : ℕ) (r : IsRun limits states last) (at t : ℕ) (early : at < t) (lt : t < last) (s : Step) (o : Outcome)
+module _ {limits : Bounds} {states : ℕ → State} {last : ℕ} (r : IsRun limits states last) (at t : ℕ) (early : at < t) (lt : t < last) (s : Step) (o : Outcome)
     (m : Moves (states t) s o (states (suc t))) (notes : Notes states r.records t s) (k : ℕ) (operation : Operation) (go : s ≡ step.Go (suc k))
     (is : operation_of (states t) (suc k) ≡ Some operation) (goes : GoesOn (action_of (states t) operation)) (h : ReadsWithin r.records at t k operation) where
   count : (states t).steps ≡ t
-  count = steps_at limits states last r t (omega (arith, lt))
+  count = steps_at r t (omega (arith, lt))
 
   -- what was known of its READs, and what is
   abbrev was : Moment
@@ -47,10 +47,10 @@ module _ (limits : Bounds) (states : ℕ → State) (last : ℕ) (r : IsRun limi
       let moved = subst (λ x. Moves (states t) x o (states (suc t))) go m in
       ap (λ q. moment_at q (suc k))
       (notes ∙ ap (λ x. noted (r.records t) (states t).steps (told_in (states t) x)) go ∙ noted_going (states t) (r.records t) (suc k) operation (action_of (states t) operation) is refl goes)
-      ∙ moment_goes (states t) (r.records t) (suc k) operation (alike limits states last r t (omega (arith, lt))) (go_actor (states t) (suc k) (not_denied moved))
+      ∙ moment_goes (states t) (r.records t) (suc k) operation (alike r t (omega (arith, lt))) (go_actor (states t) (suc k) (not_denied moved))
 
   closes : NoComplete (action_of (states t) operation) → ClosesNone r.records t
-  closes = closes_none (states t) (has_offers_at limits states last r t (omega (arith, lt))) (r.records t) (r.records (suc t)) s o (states (suc t)) m notes (suc k) operation go is
+  closes = closes_none (states t) (has_offers_at r t (omega (arith, lt))) (r.records t) (r.records (suc t)) s o (states (suc t)) m notes (suc k) operation go is
 
   here : ClosesNone r.records t → IsWithin r.records at (suc t) t
   here none = record { behind = early; past = omega arith; closes_none = none }
@@ -71,7 +71,7 @@ module _ (limits : Bounds) (states : ℕ → State) (last : ℕ) (r : IsRun limi
   given before (main, e) =
       subst (IsWithin r.records at (suc t)) (sym e)
       (max_within r.records at t found.read_at (commit_step (r.records t) (states t).steps main (committed_now (states t) operation)) (counted (inl before))
-      (commit_quiet r.records t (states t).steps main (committed_now (states t) operation) count (quiet_commits limits states last r t (omega (arith, lt)))
+      (commit_quiet r.records t (states t).steps main (committed_now (states t) operation) count (quiet_commits r t (omega (arith, lt)))
       (λ x now. closes (commits_complete (states t) operation x now))))
 
   moments : counts operation.line ≡ true → (has_read operation.line ≡ true) ⊎ GivesNow (states t) operation operation.line → IsWithin r.records at (suc t) found.moment

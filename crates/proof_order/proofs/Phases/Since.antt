@@ -80,15 +80,15 @@ reads_given_up records at t k operation answer may h = record {
 none_within : (records : ℕ → Record) (at t k : ℕ) (operation : Operation) → (counts operation.line ≡ true → ⊥) → (has_read operation.line ≡ true → ⊥) → ReadsWithin records at t k operation
 none_within records at t k operation a b = record { read_at = λ e. absurd (a e); moment = λ e. absurd (b e) }
 
-module _ (limits : Bounds) (states : ℕ → State) (last : ℕ) (r : IsRun limits states last) (t : ℕ) (lt : t < last) (s : Step) (o : Outcome) (m : Moves (states t) s o (states (suc t)))
+module _ {limits : Bounds} {states : ℕ → State} {last : ℕ} (r : IsRun limits states last) (t : ℕ) (lt : t < last) (s : Step) (o : Outcome) (m : Moves (states t) s o (states (suc t)))
     (notes : Notes states r.records t s) where
   -- a new try
   try_now : (k : ℕ) (was found : Operation) (generation : ℕ) → Runs (states t) k was → Runs (states (suc t)) k found → found ≡ mark_one (marks_in (states t) s) (operation_after (states t) was) →
       found.generation ≡ Some generation → GetsRoot (states t) was was.line → Try states r.records (suc t) k found generation
   try_now k was found generation at_k runs it its gets =
       let same = it ∙ mark_only (marks_in (states t) s) (operation_after (states t) was) in
-      let no_close = no_close_at limits states last r t (omega arith) k was at_k gets.goes_on in
-      let (root, is_open, access) = (has_handles_at limits states last r t (omega arith)).1.on_open k was at_k no_close in
+      let no_close = no_close_at r t (omega arith) k was at_k gets.goes_on in
+      let (root, is_open, access) = (has_handles_at r t (omega arith)).1.on_open k was at_k no_close in
       let word : root_of root.word ≡ gets.root = ap root_of (sym (ap word_of is_open) ∙ gets.word) in
       let of_root : generation_at (states t).heap gets.root ≡ generation = same_Some _ _ (sym gets.its ∙ ap (λ (x : Operation). x.generation) (sym same) ∙ its) in
       let line : found.line ≡ from_root was.call gets.root = ap (λ (x : Operation). x.line) same ∙ gets.below in
@@ -117,7 +117,7 @@ module _ (limits : Bounds) (states : ℕ → State) (last : ℕ) (r : IsRun limi
       stepped : (at : ℕ) → at < t → ReadsWithin r.records at t k was → ReadsWithin r.records at (suc t) k found
       stepped at early h =
           subst (ReadsWithin r.records at (suc t) k) (sym it)
-          (reads_marked r.records at (suc t) k (marks_in (states t) s) (operation_after (states t) was) (reads_stepped limits states last r at t early lt s o m notes k was go at_k goes h))
+          (reads_marked r.records at (suc t) k (marks_in (states t) s) (operation_after (states t) was) (reads_stepped r at t early lt s o m notes k was go at_k goes h))
 
   since_by : (k : ℕ) (found : Operation) → Runs (states (suc t)) k found → ((was : Operation) → Runs (states t) k was → Since states r.records t k was) →
       Comes (states t) s k found → Since states r.records (suc t) k found
@@ -157,7 +157,7 @@ module _ (limits : Bounds) (states : ℕ → State) (last : ℕ) (r : IsRun limi
         reads = λ no_close.
             subst (ReadsWithin r.records since.at (suc t) k) (sym it)
             (reads_marked r.records since.at (suc t) k m' (operation_after (states t) was)
-            (reads_stepped limits states last r since.at t since.past lt s o m notes k was go at_k g (since.reads (ap is_close (sym same.call) ∙ no_close))));
+            (reads_stepped r since.at t since.past lt s o m notes k was go at_k g (since.reads (ap is_close (sym same.call) ∙ no_close))));
         tries = tries_on k was found go at_k g runs it since;
       }
   since_by k found runs before (gave was answer go at_k may it) =
@@ -182,14 +182,14 @@ module _ (limits : Bounds) (states : ℕ → State) (last : ℕ) (r : IsRun limi
 
 -- ---- along a run
 
-pub run_since : (limits : Bounds) (states : ℕ → State) (last : ℕ) (r : IsRun limits states last) → RunSince states r.records last
+pub run_since : {limits : Bounds} {states : ℕ → State} {last : ℕ} (r : IsRun limits states last) → RunSince states r.records last
 unfolding first_state
-run_since limits states last r t k operation le runs =
-    along_run limits states last r (λ t. (k : ℕ) (operation : Operation) → Runs (states t) k operation → Since states r.records t k operation)
+run_since {limits} {states} {last} r t k operation le runs =
+    along_run r (λ t. (k : ℕ) (operation : Operation) → Runs (states t) k operation → Since states r.records t k operation)
     (λ k operation runs. absurd (none_found limits.actors k operation (ap (λ (s : State). get_or s.actors k None) (sym r.first) ∙ runs)))
     (λ t lt turn before. by_turn t lt (r.turn t lt) (r.recorded t lt) before) t le k operation runs
   where
     by_turn : (t : ℕ) → t < last → (turn : Turn (states t) (states (suc t))) → r.records (suc t) ≡ noted_turn turn (r.records t) →
         ((k : ℕ) (operation : Operation) → Runs (states t) k operation → Since states r.records t k operation) →
         (k : ℕ) (operation : Operation) → Runs (states (suc t)) k operation → Since states r.records (suc t) k operation
-    by_turn t lt (turns s o m) e before = since_after limits states last r t lt s o m e before
+    by_turn t lt (turns s o m) e before = since_after r t lt s o m e before

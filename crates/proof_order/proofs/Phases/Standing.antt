@@ -23,27 +23,27 @@ use Rattle.proof_order.proofs.Phases.Since.{run_since}
 from_or_behind : (at u : ℕ) → at ≤ u → (u ≡ at) ⊎ (at < u)
 from_or_behind at u h = grind arith
 
-pub rooted_since : (limits : Bounds) (states : ℕ → State) (last : ℕ) (r : IsRun limits states last) → RootedSince states r.records last
-rooted_since limits states last r t k operation generation le runs writable its u from within = elim (from_or_behind its.at u from) [
+pub rooted_since : {limits : Bounds} {states : ℕ → State} {last : ℕ} (r : IsRun limits states last) → RootedSince states r.records last
+rooted_since {limits} {states} {last} r t k operation generation le runs writable its u from within = elim (from_or_behind its.at u from) [
   | inl same ↦ inl (ap (λ v. standing (states v) (handle_of operation.call)) same ∙ its.stood ∙ ap (λ a. Some (a, generation)) writable)
   | inr behind ↦
       let (was, at_k, same, of_it) = its.runs u behind within in
       subst (λ c. IsRooted states r.records u (handle_of c) generation) (sym same.call)
-      (roots.rooted_at limits states last r u (omega arith) k was generation at_k (ap is_close (sym same.call) ∙ its.no_close) (sym same.access ∙ writable) of_it)
+      (roots.rooted_at r u (omega arith) k was generation at_k (ap is_close (sym same.call) ∙ its.no_close) (sym same.access ∙ writable) of_it)
 ]
 
 -- now, and behind its moment
-pub rooted_at : (limits : Bounds) (states : ℕ → State) (last : ℕ) (r : IsRun limits states last) → (t k : ℕ) (operation : Operation) (generation : ℕ) → t ≤ last → Runs (states t) k operation →
+pub rooted_at : {limits : Bounds} {states : ℕ → State} {last : ℕ} (r : IsRun limits states last) → (t k : ℕ) (operation : Operation) (generation : ℕ) → t ≤ last → Runs (states t) k operation →
     operation.access ≡ Writable → operation.generation ≡ Some generation → IsRooted states r.records t (handle_of operation.call) generation
-rooted_at limits states last r t k operation generation le runs writable of_it =
-    let its = (run_since limits states last r t k operation le runs).tries generation of_it in
-    rooted_since limits states last r t k operation generation le runs writable its t (omega (arith, its.past)) (omega arith)
+rooted_at {limits} {states} {last} r t k operation generation le runs writable of_it =
+    let its = (run_since r t k operation le runs).tries generation of_it in
+    rooted_since r t k operation generation le runs writable its t (omega (arith, its.past)) (omega arith)
 
-pub rooted_at_moments : (limits : Bounds) (states : ℕ → State) (last : ℕ) (r : IsRun limits states last) → RootedAtMoments states r.records last
-rooted_at_moments limits states last r t k operation generation le runs writable of_it given =
-    let its = (run_since limits states last r t k operation le runs).tries generation of_it in
+pub rooted_at_moments : {limits : Bounds} {states : ℕ → State} {last : ℕ} (r : IsRun limits states last) → RootedAtMoments states r.records last
+rooted_at_moments {limits} {states} {last} r t k operation generation le runs writable of_it given =
+    let its = (run_since r t k operation le runs).tries generation of_it in
     let within = its.reads.moment given in
-    rooted_since limits states last r t k operation generation le runs writable its (suc (moment_at (r.records t) (suc k)).moment) (omega (arith, within.behind)) (omega (arith, within.past))
+    rooted_since r t k operation generation le runs writable its (suc (moment_at (r.records t) (suc k)).moment) (omega (arith, within.behind)) (omega (arith, within.past))
 
 -- ---- read-only handles
 
@@ -80,7 +80,7 @@ module _ (state : State) (past now : Record) (S : IsSafe state) (I : IsOrdered s
   pub read_only_stays : (now : Root) → root_at after handle ≡ Some now → IsItsRoot now
   read_only_stays = stands_by (step_kind state I.offers past now s o after m notes)
 
-module _ (limits : Bounds) (states : ℕ → State) (last : ℕ) (r : IsRun limits states last) (t k : ℕ) (operation : Operation) (le : t ≤ last) (read_only : operation.access ≡ ReadOnly)
+module _ {limits : Bounds} {states : ℕ → State} {last : ℕ} (r : IsRun limits states last) (t k : ℕ) (operation : Operation) (le : t ≤ last) (read_only : operation.access ≡ ReadOnly)
     (no_close : is_close operation.call ≡ false) (since : Since states r.records t k operation) where
   -- the handle is open and read-only
   Opened : ℕ → Type 0
@@ -90,7 +90,7 @@ module _ (limits : Bounds) (states : ℕ → State) (last : ℕ) (r : IsRun limi
   unfolding Opened
   opened u behind within =
       let (was, at_k, same) = since.runs u behind within in
-      let (root, is, access) = (has_handles_at limits states last r u (omega arith)).1.on_open k was at_k (ap is_close (sym same.call) ∙ no_close) in
+      let (root, is, access) = (has_handles_at r u (omega arith)).1.on_open k was at_k (ap is_close (sym same.call) ∙ no_close) in
       (root, ap (λ c. root_at (states u) (handle_of c)) same.call ∙ is, access ∙ sym same.access ∙ read_only)
 
   standing_of_opened : (u : ℕ) → (root : Root) → root_at (states u) (handle_of operation.call) ≡ Some root → root.access ≡ ReadOnly →
@@ -104,8 +104,8 @@ module _ (limits : Bounds) (states : ℕ → State) (last : ℕ) (r : IsRun limi
       by : (turn : Turn (states u) (states (suc u))) → r.records (suc u) ≡ noted_turn turn (r.records u) →
           standing (states (suc u)) (handle_of operation.call) ≡ standing (states u) (handle_of operation.call)
       by (turns s o m) notes =
-          let its = read_only_stays (states u) (r.records u) (r.records (suc u)) (safe_at limits states last r u (omega arith))
-          (ordered_at limits states last r u (omega arith)) s o (states (suc u)) m notes (handle_of operation.call) root is access now found in
+          let its = read_only_stays (states u) (r.records u) (r.records (suc u)) (safe_at r u (omega arith))
+          (ordered_at r u (omega arith)) s o (states (suc u)) m notes (handle_of operation.call) root is access now found in
           standing_of_opened (suc u) now found read ∙ ap (λ g. Some (ReadOnly, g)) its ∙ sym (standing_of_opened u root is access)
 
   pub one_root : (generation : ℕ) × ((u : ℕ) → since.at < u → u ≤ t → standing (states u) (handle_of operation.call) ≡ Some (ReadOnly, generation))
@@ -119,5 +119,5 @@ module _ (limits : Bounds) (states : ℕ → State) (last : ℕ) (r : IsRun limi
             t within (omega arith) ∙ standing_of_opened t root is access,
       )
 
-pub read_only_stands : (limits : Bounds) (states : ℕ → State) (last : ℕ) (r : IsRun limits states last) → ReadOnlyStands states r.records last
-read_only_stands limits states last r t k operation le runs read_only no_close since = one_root limits states last r t k operation le read_only no_close since
+pub read_only_stands : {limits : Bounds} {states : ℕ → State} {last : ℕ} (r : IsRun limits states last) → ReadOnlyStands states r.records last
+read_only_stands {limits} {states} {last} r t k operation le runs read_only no_close since = one_root r t k operation le read_only no_close since

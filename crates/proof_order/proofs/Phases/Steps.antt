@@ -24,10 +24,10 @@ is_placed_so told p a id same = elim (cases_Bool (is_placed told id)) [
   | inr none ↦ absurd (unplaced told id none p a same)
 ]
 
-module _ (limits : Bounds) (states : ℕ → State) (last : ℕ) (r : IsRun limits states last) where
+module _ {limits : Bounds} {states : ℕ → State} {last : ℕ} (r : IsRun limits states last) where
   -- a marked operation
   pub marked_phase : (t : ℕ) → t ≤ last → (k : ℕ) (operation : Operation) → Runs (states t) k operation → operation.is_marked ≡ true → Phase states t operation
-  marked_phase t le k operation runs marked = elim ((phased_at limits states last r t le).done k operation runs marked) [
+  marked_phase t le k operation runs marked = elim ((phased_at r t le).done k operation runs marked) [
     | inl at ↦ completes at.0 marked at.1
     | inr at ↦ answers (copied_reply operation.call operation.opens) at (copied_tells operation.call operation.opens)
   ]
@@ -40,7 +40,7 @@ module _ (limits : Bounds) (states : ℕ → State) (last : ℕ) (r : IsRun limi
 
     phase_rested : (k : ℕ) (was found : Operation) (m : Option ℕ) → Runs (states t) k was → Runs (states (suc t)) k found → found ≡ mark_one m was → Phase states t was → Phase states (suc t) found
     phase_rested k was found m at_k runs it (past former h) =
-        past former (subst (λ x. IsPast states (suc t) x former) (sym it) (past_rested limits states last r t lt k was former at_k h m))
+        past former (subst (λ x. IsPast states (suc t) x former) (sym it) (past_rested r t lt k was former at_k h m))
     phase_rested k was found m at_k runs it (completes c marked at) =
         marked_phase (suc t) lt k found runs (ap (λ (x : Operation). x.is_marked) it ∙ stays_marked m was marked)
     phase_rested k was found m at_k runs it (answers answer at tells) =
@@ -49,9 +49,9 @@ module _ (limits : Bounds) (states : ℕ → State) (last : ℕ) (r : IsRun limi
     phase_went : (k : ℕ) (was found : Operation) (m : Option ℕ) → Runs (states t) k was → Runs (states (suc t)) k found → GoesOn (action_of (states t) was) →
         found ≡ mark_one m (operation_after (states t) was) → Phase states t was → Phase states (suc t) found
     phase_went k was found m at_k runs goes it (past former h) =
-        past former (subst (λ x. IsPast states (suc t) x former) (sym it) (past_went limits states last r t lt k was former at_k h m goes))
+        past former (subst (λ x. IsPast states (suc t) x former) (sym it) (past_went r t lt k was former at_k h m goes))
     phase_went k was found m at_k runs goes it (completes c marked at) =
-        let done = (phased_at limits states last r t within).done k was at_k in
+        let done = (phased_at r t within).done k was at_k in
         let keeps = mark_kept was.is_marked (action_of (states t) was) (no_offer (states t) was done marked) in
         marked_phase (suc t) lt k found runs (ap (λ (x : Operation). x.is_marked) it ∙ stays_marked m (operation_after (states t) was) (keeps ∙ marked))
     phase_went k was found m at_k runs goes it (answers answer at other) = absurd (subst (λ l. GoesOn (line_action (states t) was l)) at goes)
@@ -60,7 +60,7 @@ module _ (limits : Bounds) (states : ℕ → State) (last : ℕ) (r : IsRun limi
     phase_gave : (k : ℕ) (was found : Operation) (answer : Reply) → Runs (states t) k was → given_up was.call was.line ≡ Some answer → found ≡ gave_up was answer →
         Phase states t was → Phase states (suc t) found
     phase_gave k was found answer at_k may it (past former h) =
-        past former (subst (λ x. IsPast states (suc t) x former) (sym it) (past_gave limits states last r t lt k was former at_k h answer may))
+        past former (subst (λ x. IsPast states (suc t) x former) (sym it) (past_gave r t lt k was former at_k h answer may))
     phase_gave k was found answer at_k may it (completes c marked at) = absurd (none-some answer (ap (given_up was.call) (sym at) ∙ may))
     phase_gave k was found answer at_k may it (answers told at tells) = absurd (none-some answer (ap unless_effect (sym tells) ∙ ap (given_up was.call) (sym at) ∙ may))
 
@@ -68,8 +68,8 @@ module _ (limits : Bounds) (states : ℕ → State) (last : ℕ) (r : IsRun limi
         is_placed (r.records t) found.id ≡ true → From (states t) s k found → Phase states (suc t) found
     old s k found runs before is (began new) =
         let (p, a, same) = placed (r.records t) found.id is in
-        let low = places_below limits states last r t within p a in
-        let count = (alike limits states last r t within).begun_are in
+        let low = places_below r t within p a in
+        let count = (alike r t within).begun_are in
         let its : found.id ≡ (states t).begun = ap (λ (x : Operation). x.id) new.is_it in
         absurd (omega arith)
     old s k found runs before is (kept was at_k it other) =

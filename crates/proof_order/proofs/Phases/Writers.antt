@@ -28,24 +28,24 @@ readers_by state s S all k found (went was go at_k g it) e =
     subst IsReaders (sym (ap (λ (x : Operation). x.line) same)) (readers state was was.line read_only (S.fits k was at_k read_only) (all k was at_k read_only))
 readers_by state s S all k found (gave was answer go at_k may it) e = subst IsReaders (sym (ap (λ (x : Operation). x.line) it)) tt
 
-readers_at : (limits : Bounds) (states : ℕ → State) (last : ℕ) (r : IsRun limits states last) → (t : ℕ) → t ≤ last → AllReaders (states t)
-readers_at limits states last r =
-    along_run limits states last r (λ t. AllReaders (states t)) (λ k operation runs. absurd (nobody limits k operation (subst (λ q. Runs q k operation) r.first runs)))
-    (λ t lt turn before. by_turn (states t) (states (suc t)) (safe_at limits states last r t (omega arith)) turn before)
+readers_at : {limits : Bounds} {states : ℕ → State} {last : ℕ} (r : IsRun limits states last) → (t : ℕ) → t ≤ last → AllReaders (states t)
+readers_at {limits} {states} {last} r =
+    along_run r (λ t. AllReaders (states t)) (λ k operation runs. absurd (nobody limits k operation (subst (λ q. Runs q k operation) r.first runs)))
+    (λ t lt turn before. by_turn (states t) (states (suc t)) (safe_at r t (omega arith)) turn before)
   where
     by_turn : (before after : State) → IsSafe before → Turn before after → AllReaders before → AllReaders after
     by_turn before after S (turns s o m) all k found runs = readers_by before s S all k found (comes before s o after m k found runs)
 
-pub swaps_writable : (limits : Bounds) (states : ℕ → State) (last : ℕ) (r : IsRun limits states last) → (t k : ℕ) (operation : Operation) (why : Purpose) (s : Swap) →
+pub swaps_writable : {limits : Bounds} {states : ℕ → State} {last : ℕ} (r : IsRun limits states last) → (t k : ℕ) (operation : Operation) (why : Purpose) (s : Swap) →
     t ≤ last → Runs (states t) k operation →
     operation.line ≡ line.Swap why s → operation.access ≡ Writable
-swaps_writable limits states last r t k operation why s le runs at = by operation.access refl
+swaps_writable {limits} {states} {last} r t k operation why s le runs at = by operation.access refl
   where
     by : (access : Access) → operation.access ≡ access → access ≡ Writable
     by Writable e = refl
-    by ReadOnly e = absurd (subst IsReaders at (readers_at limits states last r t le k operation runs e))
+    by ReadOnly e = absurd (subst IsReaders at (readers_at r t le k operation runs e))
 
-pub swaps_rooted : (limits : Bounds) (states : ℕ → State) (last : ℕ) (r : IsRun limits states last) → (t k : ℕ) (operation : Operation) (why : Purpose) (s : Swap) →
+pub swaps_rooted : {limits : Bounds} {states : ℕ → State} {last : ℕ} (r : IsRun limits states last) → (t k : ℕ) (operation : Operation) (why : Purpose) (s : Swap) →
     t ≤ last → Runs (states t) k operation →
     operation.line ≡ line.Swap why s → (generation : ℕ) × (operation.generation ≡ Some generation)
-swaps_rooted limits states last r t k operation why s le runs at = option_tested operation.generation ((safe_at limits states last r t le).known k operation runs (ap is_past_root at))
+swaps_rooted {limits} {states} {last} r t k operation why s le runs at = option_tested operation.generation ((safe_at r t le).known k operation runs (ap is_past_root at))

@@ -19,7 +19,7 @@ use Rattle.proof_order.proofs.Places.Late.{closing_is, all_lately}
 use Rattle.proof_order.proofs.Places.OnTime.{readers_timely, of_changing, none_timely, other_timely, one_timely, still_view, update_by}
 use Rattle.proof_order.proofs.Views.Openings.{close_leads, at_last, swap_leads}
 
-module _ (limits : Bounds) (states : ℕ → State) (last : ℕ) (r : IsRun limits states last) (V : ℕ → ℕ → KeyMap) (facts : Facts limits states r.records last V) where
+module _ {limits : Bounds} {states : ℕ → State} {last : ℕ} (r : IsRun limits states last) (V : ℕ → ℕ → KeyMap) (facts : Facts limits states r.records last V) where
   abbrev LeadsOn : List Place → View → View → Type 0
   LeadsOn ps before after = Leads (hash_of limits.hash) (r.records last).events ps before after
 
@@ -31,7 +31,7 @@ module _ (limits : Bounds) (states : ℕ → State) (last : ℕ) (r : IsRun limi
   -- a step that closes nothing closed no generation
   closed_none : (t u generation : ℕ) → u ≤ last → ClosesNone limits states r.records last V t → closed_at (r.records u) generation ≡ Some t → ⊥
   closed_none t u generation le same e =
-      let (before, none, some) = closed_from limits states last r V facts u generation t le e in
+      let (before, none, some) = closed_from r V facts u generation t le e in
       none-some t (sym none ∙ ap (λ l. closed_in l generation) (sym same) ∙ some)
 
   late_closing : (u t : ℕ) (operation : Operation) (p : Place) (moment : ℕ) (changed_nothing : Bool) → p ≡ place_of (r.records u) (entrant_of operation) moment changed_nothing →
@@ -57,7 +57,7 @@ module _ (limits : Bounds) (states : ℕ → State) (last : ℕ) (r : IsRun limi
   none_late : (t : ℕ) → ClosesNone limits states r.records last V t → (p : Place) → Among p (lates r.records last t) → ⊥
   none_late t same p a =
       let (place, at, is_late) = in_lates r.records last t p a in
-      let o = origin limits states last r V facts last (omega arith) p place in
+      let o = origin r V facts last (omega arith) p place in
       none_late_by t o.u p o.is_before same is_late at o.why
 
   lates_none : (t : ℕ) → ClosesNone limits states r.records last V t → LeadsOn (lates r.records last t) (at_time t) (at_time t)
@@ -76,33 +76,33 @@ module _ (limits : Bounds) (states : ℕ → State) (last : ℕ) (r : IsRun limi
   together t middle lt first second =
       leads_parts (hash_of limits.hash) (r.records last).events timing (block r.records last t) (block_along r.records last t) (λ p. number_below p.on_time) (at_time t) middle (at_time (suc t))
       first
-      (leads_parts (hash_of limits.hash) (r.records last).events role (timely r.records last t) (timely_along limits states last r V facts t) (λ p. number_below p.changed_nothing)
-      middle (at_time (suc t)) (at_time (suc t)) second (readers_timely limits states last r V facts t lt))
+      (leads_parts (hash_of limits.hash) (r.records last).events role (timely r.records last t) (timely_along r V facts t) (λ p. number_below p.changed_nothing)
+      middle (at_time (suc t)) (at_time (suc t)) second (readers_timely r V facts t lt))
 
   block_by : (t : ℕ) → t < last → Kind limits states r.records last V t → LeadsOn (block r.records last t) (at_time t) (at_time (suc t))
   block_by t lt (plain places closings kept still) =
-      together t (at_time t) lt (lates_none t closings) (none_timely limits states last r V facts t
-      (λ p a. let (place, on, moment, e) = of_changing limits states last r V facts t p a in none_changing limits states last r V facts t places p place e moment)
-      (still_view limits states last r V facts t kept still))
+      together t (at_time t) lt (lates_none t closings) (none_timely r V facts t
+      (λ p a. let (place, on, moment, e) = of_changing r V facts t p a in none_changing r V facts t places p place e moment)
+      (still_view r V facts t kept still))
   block_by t lt (updates entered update places closings kept) =
-      together t (at_time t) lt (lates_none t closings) (update_by limits states last r V facts t lt entered update places kept _ refl)
+      together t (at_time t) lt (lates_none t closings) (update_by r V facts t lt entered update places kept _ refl)
   block_by t lt (answers k operation answer runs places unplaced agrees replied closings kept still) =
-      together t (at_time t) lt (lates_none t closings) (none_timely limits states last r V facts t
-      (other_timely limits states last r V facts t _ places
+      together t (at_time t) lt (lates_none t closings) (none_timely r V facts t
+      (other_timely r V facts t _ places
       (λ on e. true≢false (sym (place_says (closing_for (r.records t) operation.generation operation.access) (moment_at (r.records t) (suc k)).moment operation.id true).1 ∙ e)))
-      (still_view limits states last r V facts t kept still))
+      (still_view r V facts t kept still))
   block_by t lt (closes handle stood places recalls more at gone others closings still) =
       together t (at_time t) lt (lates_none t closings)
-      (subst (λ l. LeadsOn l (at_time t) (at_time (suc t))) (sym (one_timely limits states last r V facts t _ lt places refl refl refl))
-      (close_leads limits states last r V facts t handle stood recalls at gone others still))
+      (subst (λ l. LeadsOn l (at_time t) (at_time (suc t))) (sym (one_timely r V facts t _ lt places refl refl refl))
+      (close_leads r V facts t handle stood recalls at gone others still))
   block_by t lt (swaps handle offer swap places closings roots heap still) =
-      let middle = at_last limits states last r V facts t handle lt offer swap roots heap still in
-      together t middle lt (all_lately limits states last r V facts t lt handle offer swap closings still)
-      (subst (λ l. LeadsOn l middle (at_time (suc t))) (sym (one_timely limits states last r V facts t _ lt places refl refl refl))
-      (swap_leads limits states last r V facts t handle lt offer swap roots heap still))
+      let middle = at_last r V facts t handle lt offer swap roots heap still in
+      together t middle lt (all_lately r V facts t lt handle offer swap closings still)
+      (subst (λ l. LeadsOn l middle (at_time (suc t))) (sym (one_timely r V facts t _ lt places refl refl refl))
+      (swap_leads r V facts t handle lt offer swap roots heap still))
 
   pub block_leads : (t : ℕ) → t < last → LeadsOn (block r.records last t) (at_time t) (at_time (suc t))
-  block_leads t lt = block_by t lt (kind_at limits states last r V facts t lt)
+  block_leads t lt = block_by t lt (kind_at r V facts t lt)
 
   -- ---- all steps
 
@@ -110,4 +110,4 @@ module _ (limits : Bounds) (states : ℕ → State) (last : ℕ) (r : IsRun limi
   pub order_leads : LeadsOn (sorted r.records last) (at_time zero) (at_time last)
   order_leads =
       leads_all (hash_of limits.hash) (r.records last).events (λ p. p.step) (sorted r.records last) (sorted_along r.records last) at_time last
-      (λ p a. step_within limits states last r V facts p (among_rising (r.records last).places p a)) block_leads
+      (λ p a. step_within r V facts p (among_rising (r.records last).places p a)) block_leads

@@ -50,11 +50,11 @@ closing_is past operation generation writable of = ap (closing_for past operatio
 place_kept : (p : Place) → KeptByNotes (λ state past. Among p past.places)
 place_kept p state past s o after m a = among_grown past.places _ p (places_grow state past s o after m) a
 
-module _ (limits : Bounds) (states : ℕ → State) (last : ℕ) (r : IsRun limits states last) (V : ℕ → ℕ → KeyMap) (facts : Facts limits states r.records last V) where
+module _ {limits : Bounds} {states : ℕ → State} {last : ℕ} (r : IsRun limits states last) (V : ℕ → ℕ → KeyMap) (facts : Facts limits states r.records last V) where
   -- a place that a step entered is one of the run
   pub entered_place : (t : ℕ) (p : Place) → t < last → Enters limits states r.records last V t p → IsPlace r.records last p
   entered_place t p lt enters =
-      holds_later limits states last r (λ state past. Among p past.places) (place_kept p) (suc t) last lt (omega arith)
+      holds_later r (λ state past. Among p past.places) (place_kept p) (suc t) last lt (omega arith)
       (subst (Among p) (sym enters) (among_right (r.records t).places (p ∷ []) p (inl refl)))
 
   module _ (t : ℕ) (lt : t < last) (handle : ℕ) (offer : Descriptor) (swap : Carried states r.records last V t handle offer)
@@ -70,17 +70,17 @@ module _ (limits : Bounds) (states : ℕ → State) (last : ℕ) (r : IsRun limi
     -- what this step closed is its old root's generation
     closing_is_old : (u generation : ℕ) → u ≤ last → closed_at (r.records u) generation ≡ Some t → old ≡ generation
     closing_is_old u generation le e =
-        let (before, none, some) = closed_from limits states last r V facts u generation t le e in
+        let (before, none, some) = closed_from r V facts u generation t le e in
         (closed_new (r.records t).closings _ generation t none (ap (λ l. closed_in l generation) (sym closings) ∙ some)).0
 
     -- who is rooted in it is on this handle
     rooted_here : (n other generation : ℕ) → n ≤ last → closed_at (r.records n) generation ≡ Some t → old ≡ generation → IsRooted states r.records n other generation → other ≡ handle
     rooted_here n other generation le closed same (inl on) =
-        absurd (none-some t (sym ((sound_at limits states last r V facts n le).unclosed other generation on) ∙ closed))
+        absurd (none-some t (sym ((sound_at r V facts n le).unclosed other generation on) ∙ closed))
     rooted_here n other generation le closed same (inr (c, before, its, on)) =
         let now : c ≡ t = same_Some c t (sym its ∙ closed) in
         let there : On states t other old = subst (λ g. On states t other g) (sym same) (subst (λ x. On states x other generation) now on) in
-        (sound_at limits states last r V facts t (omega arith)).apart other handle old there swap.stands
+        (sound_at r V facts t (omega arith)).apart other handle old there swap.stands
 
     stood : (n : ℕ) → t ≤ n → HasStood states n old
     stood n le = (t, handle, le, swap.stands)
@@ -111,7 +111,7 @@ module _ (limits : Bounds) (states : ℕ → State) (last : ℕ) (r : IsRun limi
         Among p (Changing n) → ⊥
     other_changing n new enters is_not p a =
         let (place, at, is_late, moment, e) = of_changing n p a in
-        let same = one_changing limits states last r V facts n new enters p place e moment in
+        let same = one_changing r V facts n new enters p place e moment in
         is_not (ap (λ (q : Place). q.on_time) (sym same) ∙ is_late) (ap (λ (q : Place). q.step) (sym same) ∙ at) (ap (λ (q : Place). q.changed_nothing) (sym same) ∙ e)
 
     -- an update of this generation at a later moment
@@ -126,9 +126,9 @@ module _ (limits : Bounds) (states : ℕ → State) (last : ℕ) (r : IsRun limi
       -- the generation is closed by now
       closed_now : old ≡ update.generation → closed_at (r.records n) update.generation ≡ Some t
       closed_now same =
-          subst (λ g. closed_at (r.records n) g ≡ Some t) same (closed_until limits states last r (suc t) n behind (omega arith) old t
+          subst (λ g. closed_at (r.records n) g ≡ Some t) same (closed_until r (suc t) n behind (omega arith) old t
           (ap (λ l. closed_in l old) closings
-          ∙ closed_last (r.records t).closings _ old ((sound_at limits states last r V facts t (omega arith)).unclosed handle old swap.stands) refl))
+          ∙ closed_last (r.records t).closings _ old ((sound_at r V facts t (omega arith)).unclosed handle old swap.stands) refl))
 
       own_late : old ≡ update.generation → its ≡ late t n false update.owner.id
       own_late same = late_is _ t n update.owner.id false (update_closing ∙ closed_now same) behind
@@ -137,13 +137,13 @@ module _ (limits : Bounds) (states : ℕ → State) (last : ℕ) (r : IsRun limi
       own_changing same =
           let is = own_late same in
           let place = entered_place n its within enters in
-          only_one (equals role 0) (late_at r.records last t n) its (late_at_apart limits states last r V facts t n)
+          only_one (equals role 0) (late_at r.records last t n) its (late_at_apart r V facts t n)
           (to_late_at r.records last t n its place (ap (λ (q : Place). q.step) is) (ap (λ (q : Place). q.on_time) is) (ap (λ (q : Place). q.moment) is))
           (to_changing r.records last (late_at r.records last t n) its
           (to_late_at r.records last t n its place (ap (λ (q : Place). q.step) is) (ap (λ (q : Place). q.on_time) is) (ap (λ (q : Place). q.moment) is)) (ap (λ (q : Place). q.changed_nothing) is))
           (λ p a passes.
           let (is_place, at, is_late, moment, e) = of_changing n p (filter_among (equals role 0) (late_at r.records last t n) p a passes) in
-          one_changing limits states last r V facts n its enters p is_place e moment)
+          one_changing r V facts n its enters p is_place e moment)
 
       own_leads : old ≡ update.generation → LeadsLately (its ∷ []) n (suc n)
       own_leads same =
@@ -152,7 +152,7 @@ module _ (limits : Bounds) (states : ℕ → State) (last : ℕ) (r : IsRun limi
           let next : V update.generation (suc n) ≡ V old (suc n) = ap (λ g. V g (suc n)) (sym same) in
           let before = view limits states last V t in
           leads_same (hash_of limits.hash) (r.records last).events (its ∷ []) (lately n) _ (lately (suc n))
-          (update_leads limits states last r V n within entered update (lately n)
+          (update_leads r V n within entered update (lately n)
           (ap (lately n) here ∙ but_here before handle (Some (named Writable (V old n))) ∙ ap (λ m. Some (named Writable m)) (sym content)))
           (λ other. but_but before handle (handle_of update.owner.call) (Some (named Writable (V old n))) (Some (named Writable (V update.generation (suc n)))) here other
           ∙ ap (λ m. but before handle (Some (named Writable m)) other) next)
@@ -174,7 +174,7 @@ module _ (limits : Bounds) (states : ℕ → State) (last : ℕ) (r : IsRun limi
     changing_by : (n : ℕ) → t < n → n < last → Kind limits states r.records last V n → LeadsLately (Changing n) n (suc n)
     changing_by n behind within (plain places closings kept still) =
         none_lately (Changing n) n (suc n)
-        (λ p a. let (place, at, is_late, moment, e) = of_changing n p a in none_changing limits states last r V facts n places p place e moment)
+        (λ p a. let (place, at, is_late, moment, e) = of_changing n p a in none_changing r V facts n places p place e moment)
         (still old (stood n (omega (arith, behind))))
     changing_by n behind within (updates entered update places closings kept) = update_by n behind within entered update places (ℕ_discrete old update.generation)
     changing_by n behind within (answers k operation answer runs places unplaced agrees replied closings kept still) =
@@ -188,7 +188,7 @@ module _ (limits : Bounds) (states : ℕ → State) (last : ℕ) (r : IsRun limi
         none_lately (Changing n) n (suc n) (other_changing n _ places (λ is_late at e. true≢false is_late)) (still old (stood n (omega (arith, behind))))
 
     -- one of them that changes nothing
-    module _ (n : ℕ) (behind : t < n) (p : Place) (at : p.step ≡ t) (is_late : p.on_time ≡ false) (moment : p.moment ≡ n) (reads : Reading limits states last r V facts p) where
+    module _ (n : ℕ) (behind : t < n) (p : Place) (at : p.step ≡ t) (is_late : p.on_time ≡ false) (moment : p.moment ≡ n) (reads : Reading r V facts p) where
       abbrev LatelyReads : Type 0
       LatelyReads = Leads (hash_of limits.hash) (r.records last).events (p ∷ []) (lately (suc n)) (lately (suc n))
 
@@ -206,12 +206,12 @@ module _ (limits : Bounds) (states : ℕ → State) (last : ℕ) (r : IsRun limi
           let within = reads.within in
           let closed_u : closed_at (r.records u) generation ≡ Some t = sym (closing_is (r.records u) reads.operation generation writable of) ∙ reading_closing in
           let same = closing_is_old u generation (omega arith) closed_u in
-          let from = closed_from limits states last r V facts u generation t (omega arith) closed_u in
-          let closed_n : closed_at (r.records (suc n)) generation ≡ Some t = closed_until limits states last r (suc t) (suc n) (omega arith) (omega arith) generation t from.2 in
+          let from = closed_from r V facts u generation t (omega arith) closed_u in
+          let closed_n : closed_at (r.records (suc n)) generation ≡ Some t = closed_until r (suc t) (suc n) (omega arith) (omega arith) generation t from.2 in
           let rooted_n = subst (λ x. IsRooted states r.records (suc x) (handle_of reads.operation.call) generation) m rooted in
           let here = rooted_here (suc n) (handle_of reads.operation.call) generation (omega arith) closed_n same rooted_n in
           let before = view limits states last V t in
-          reader_leads limits states last r V u reads.k reads.operation reads.moment reads.answer p Writable (V generation (suc n)) (lately (suc n))
+          reader_leads r V u reads.k reads.operation reads.moment reads.answer p Writable (V generation (suc n)) (lately (suc n))
           (omega arith) reads.runs reads.is_its reads.agrees
           (ap (lately (suc n)) here ∙ but_here before handle (Some (named Writable (V old (suc n)))) ∙ ap (λ g. Some (named Writable (V g (suc n)))) same)
           (subst (λ x. act_in (hash_of limits.hash) Writable reads.operation.call (V generation (suc x)) ≡ Some (reads.answer, V generation (suc x))) m acts)
@@ -226,19 +226,19 @@ module _ (limits : Bounds) (states : ℕ → State) (last : ℕ) (r : IsRun limi
         leads_each (hash_of limits.hash) (r.records last).events _ (lately (suc n)) (each_of _ _ (λ p a.
         let (within, e) = in_reading r.records last (late_at r.records last t n) p a in
         let (place, at, is_late, moment) = in_late_at r.records last t n p within in
-        reader_lately n behind p at is_late moment (reading limits states last r V facts p place e)))
+        reader_lately n behind p at is_late moment (reading r V facts p place e)))
 
     -- all of one later moment
     moment_lately : (n : ℕ) → t < n → n < last → LeadsLately (late_at r.records last t n) n (suc n)
     moment_lately n behind within =
         leads_parts (hash_of limits.hash) (r.records last).events role (late_at r.records last t n) (late_at_along r.records last t n) (λ p. number_below p.changed_nothing)
-        (lately n) (lately (suc n)) (lately (suc n)) (changing_by n behind within (kind_at limits states last r V facts n within)) (readers_lately n behind)
+        (lately n) (lately (suc n)) (lately (suc n)) (changing_by n behind within (kind_at r V facts n within)) (readers_lately n behind)
 
     -- there is none of an earlier moment
     none_early : (n : ℕ) → n ≤ t → (p : Place) → Among p (late_at r.records last t n) → ⊥
     none_early n le p a =
         let (place, at, is_late, moment) = in_late_at r.records last t n p a in
-        let before = late_before limits states last r V facts p place is_late in
+        let before = late_before r V facts p place is_late in
         omega arith
 
     from_now : ℕ → ℕ
@@ -273,5 +273,5 @@ module _ (limits : Bounds) (states : ℕ → State) (last : ℕ) (r : IsRun limi
         (but_same (view limits states last V t) handle (Some (named Writable (V old t))) (view_writable limits states last V t handle old swap.stands))
         (subst (λ x. LeadsLately (lates r.records last t) x last) first (subst (λ x. LeadsLately (lates r.records last t) (max zero t) x) end
         (leads_all (hash_of limits.hash) (r.records last).events (λ p. p.moment) (lates r.records last t) (lates_along r.records last t) (λ n. lately (max n t)) last
-        (λ p a. let (place, at, is_late) = in_lates r.records last t p a in moment_within limits states last r V facts p place)
+        (λ p a. let (place, at, is_late) = in_lates r.records last t p a in moment_within r V facts p place)
         (λ n within. each_moment n within (order_of_three n t)))))

@@ -108,7 +108,7 @@ module _ (records : ℕ → Record) (last : ℕ) where
       (rises_filter (equals (λ p. p.moment) n) (lates t) (rises_filter (equals timing 0) (block t) (block_rises t)))
       (each_of (LateAt t n) (late_at t n) (λ p a. let (place, at, late, moment) = in_late_at t n p a in (at, late, moment)))
 
-module _ (limits : Bounds) (states : ℕ → State) (last : ℕ) (r : IsRun limits states last) (V : ℕ → ℕ → KeyMap) (facts : Facts limits states r.records last V) where
+module _ {limits : Bounds} {states : ℕ → State} {last : ℕ} (r : IsRun limits states last) (V : ℕ → ℕ → KeyMap) (facts : Facts limits states r.records last V) where
   -- ---- what changes something was entered at its moment
 
   changing_by : (u : ℕ) (p : Place) → Why limits states r.records last V u p → p.changed_nothing ≡ false → p.moment ≡ u
@@ -121,7 +121,7 @@ module _ (limits : Bounds) (states : ℕ → State) (last : ℕ) (r : IsRun limi
 
   pub changing_enters : (p : Place) → IsPlace r.records last p → p.changed_nothing ≡ false → (n : ℕ) → p.moment ≡ n → Enters limits states r.records last V n p
   changing_enters p a e n at =
-      let o = origin limits states last r V facts last (omega arith) p a in
+      let o = origin r V facts last (omega arith) p a in
       subst (λ u. Enters limits states r.records last V u p) (sym (changing_by o.u p o.why e) ∙ at) o.enters
 
   -- where a step enters none there is none
@@ -163,17 +163,17 @@ module _ (limits : Bounds) (states : ℕ → State) (last : ℕ) (r : IsRun limi
     agrees = agrees;
     replied = replied;
     is_moment = ap (λ (q : Place). q.moment) is ∙ (place_says (closing_for (r.records u) operation.generation operation.access) (moment_at (r.records u) (suc k)).moment operation.id true).0;
-    past = subst (λ n. (moment_at (r.records u) (suc k)).moment < n) (steps_at limits states last r u (omega arith)) ((past_at limits states last r u (omega arith)).operations k operation runs).1;
+    past = subst (λ n. (moment_at (r.records u) (suc k)).moment < n) (steps_at r u (omega arith)) ((past_at r u (omega arith)).operations k operation runs).1;
   }
   reading_by u p lt (by_change id is) e = absurd (false≢true (sym (ap (λ (q : Place). q.changed_nothing) is) ∙ e))
 
   pub reading : (p : Place) → IsPlace r.records last p → p.changed_nothing ≡ true → Reading p
-  reading p a e = let o = origin limits states last r V facts last (omega arith) p a in reading_by o.u p o.is_before o.why e
+  reading p a e = let o = origin r V facts last (omega arith) p a in reading_by o.u p o.is_before o.why e
 
   -- ---- each is of one operation
 
   pub sorted_apart : AreApart (sorted r.records last)
-  sorted_apart = rising_apart (r.records last).places (apart_at limits states last r V facts last (omega arith))
+  sorted_apart = rising_apart (r.records last).places (apart_at r V facts last (omega arith))
 
   pub timely_apart : (t : ℕ) → AreApart (timely r.records last t)
   timely_apart t = apart_filter (equals timing 1) (block r.records last t) (apart_filter (equals (λ p. p.step) t) (sorted r.records last) sorted_apart)
@@ -198,21 +198,21 @@ module _ (limits : Bounds) (states : ℕ → State) (last : ℕ) (r : IsRun limi
 
   -- a late place stands before its moment
   pub late_before : (p : Place) → IsPlace r.records last p → p.on_time ≡ false → p.step < p.moment
-  late_before p a late = let o = origin limits states last r V facts last (omega arith) p a in late_by o.u p o.why late
+  late_before p a late = let o = origin r V facts last (omega arith) p a in late_by o.u p o.why late
 
   moment_by : (u : ℕ) (p : Place) → u < last → Why limits states r.records last V u p → p.moment < last
   moment_by u p lt (by_update entered update is) =
       let m = ap (λ (q : Place). q.moment) is ∙ (place_says (closing_for (r.records u) update.owner.generation update.owner.access) u update.owner.id false).0 in omega arith
   moment_by u p lt (by_answer k operation answer runs is agrees replied) =
       let m = ap (λ (q : Place). q.moment) is ∙ (place_says (closing_for (r.records u) operation.generation operation.access) (moment_at (r.records u) (suc k)).moment operation.id true).0 in
-      let past = ((past_at limits states last r u (omega arith)).operations k operation runs).1 in
-      let steps = steps_at limits states last r u (omega arith) in
+      let past = ((past_at r u (omega arith)).operations k operation runs).1 in
+      let steps = steps_at r u (omega arith) in
       omega arith
   moment_by u p lt (by_change id is) = let m = ap (λ (q : Place). q.moment) is in omega arith
 
   -- each moment lies in the run
   pub moment_within : (p : Place) → IsPlace r.records last p → p.moment < last
-  moment_within p a = let o = origin limits states last r V facts last (omega arith) p a in moment_by o.u p o.is_before o.why
+  moment_within p a = let o = origin r V facts last (omega arith) p a in moment_by o.u p o.is_before o.why
 
   step_by : (u : ℕ) (p : Place) → Why limits states r.records last V u p → p.on_time ≡ true → p.step ≡ p.moment
   step_by u p (by_update entered update is) on =
@@ -227,7 +227,7 @@ module _ (limits : Bounds) (states : ℕ → State) (last : ℕ) (r : IsRun limi
 
   -- on time a place stands at its moment
   pub on_time_moment : (p : Place) → IsPlace r.records last p → p.on_time ≡ true → p.step ≡ p.moment
-  on_time_moment p a on = let o = origin limits states last r V facts last (omega arith) p a in step_by o.u p o.why on
+  on_time_moment p a on = let o = origin r V facts last (omega arith) p a in step_by o.u p o.why on
 
   within_by : (p : Place) → IsPlace r.records last p → (b : Bool) → p.on_time ≡ b → p.step < last
   within_by p a true e = let m = moment_within p a in let s = on_time_moment p a e in omega arith

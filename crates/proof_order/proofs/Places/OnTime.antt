@@ -21,7 +21,7 @@ use Rattle.proof_order.proofs.Views.Timeline.{view, view_writable, view_read_onl
 use Rattle.proof_order.proofs.Places.Members.{timely, IsPlace, in_timely, to_timely, in_changing, to_changing, in_reading, one_changing, Reading, reading, timely_apart, on_time_moment}
 use Rattle.proof_order.proofs.Places.Late.{closing_is, entered_place}
 
-module _ (limits : Bounds) (states : ℕ → State) (last : ℕ) (r : IsRun limits states last) (V : ℕ → ℕ → KeyMap) (facts : Facts limits states r.records last V) where
+module _ {limits : Bounds} {states : ℕ → State} {last : ℕ} (r : IsRun limits states last) (V : ℕ → ℕ → KeyMap) (facts : Facts limits states r.records last V) where
   abbrev pub LeadsOn : List Place → View → View → Type 0
   LeadsOn ps before after = Leads (hash_of limits.hash) (r.records last).events ps before after
 
@@ -30,7 +30,7 @@ module _ (limits : Bounds) (states : ℕ → State) (last : ℕ) (r : IsRun limi
 
   -- ---- who changes nothing
 
-  module _ (t : ℕ) (lt : t < last) (p : Place) (at : p.step ≡ t) (on : p.on_time ≡ true) (moment : p.moment ≡ t) (reads : Reading limits states last r V facts p) where
+  module _ (t : ℕ) (lt : t < last) (p : Place) (at : p.step ≡ t) (on : p.on_time ≡ true) (moment : p.moment ≡ t) (reads : Reading r V facts p) where
     abbrev Reads : Type 0
     Reads = LeadsOn (p ∷ []) (at_time (suc t)) (at_time (suc t))
 
@@ -49,19 +49,19 @@ module _ (limits : Bounds) (states : ℕ → State) (last : ℕ) (r : IsRun limi
           | inl stands ↦ stands
           | inr was ↦
               let (c, before, closed, stood) = was in
-              let closed_u = closed_until limits states last r (suc t) u (omega arith) (omega arith) generation c closed in
+              let closed_u = closed_until r (suc t) u (omega arith) (omega arith) generation c closed in
               let late_enough = not_early c (is_closing ∙ closed_u) in
               let now : c ≡ t = omega arith in
-              let from = closed_from limits states last r V facts (suc t) generation c lt closed in
+              let from = closed_from r V facts (suc t) generation c lt closed in
               absurd (none-some c (sym from.1 ∙ ap (λ x. closed_at (r.records x) generation) now ∙ ap (λ l. closed_in l generation) (sym none_t) ∙ closed))
         ] in
-        reader_leads limits states last r V u reads.k reads.operation reads.moment reads.answer p Writable (V generation (suc t)) (at_time (suc t)) (omega arith) reads.runs reads.is_its reads.agrees
+        reader_leads r V u reads.k reads.operation reads.moment reads.answer p Writable (V generation (suc t)) (at_time (suc t)) (omega arith) reads.runs reads.is_its reads.agrees
         (view_writable limits states last V (suc t) (handle_of reads.operation.call) generation its_on)
         (subst (λ x. act_in (hash_of limits.hash) Writable reads.operation.call (V generation (suc x)) ≡ Some (reads.answer, V generation (suc x))) m acts)
     reader_by (on_read_only generation read_only stands acts) =
         let m : reads.moment ≡ t = sym reads.is_moment ∙ moment in
         let within = reads.within in
-        reader_leads limits states last r V reads.u reads.k reads.operation reads.moment reads.answer p ReadOnly (V generation last) (at_time (suc t))
+        reader_leads r V reads.u reads.k reads.operation reads.moment reads.answer p ReadOnly (V generation last) (at_time (suc t))
         (omega arith) reads.runs reads.is_its reads.agrees
         (view_read_only limits states last V (suc t) (handle_of reads.operation.call) generation
         (subst (λ x. standing (states (suc x)) (handle_of reads.operation.call) ≡ Some (ReadOnly, generation)) m stands))
@@ -75,7 +75,7 @@ module _ (limits : Bounds) (states : ℕ → State) (last : ℕ) (r : IsRun limi
       leads_each (hash_of limits.hash) (r.records last).events _ (at_time (suc t)) (each_of _ _ (λ p a.
       let (within, e) = in_reading r.records last (timely r.records last t) p a in
       let (place, at, on) = in_timely r.records last t p within in
-      reader_timely t lt p at on (sym (on_time_moment limits states last r V facts p place on) ∙ at) (reading limits states last r V facts p place e)))
+      reader_timely t lt p at on (sym (on_time_moment r V facts p place on) ∙ at) (reading r V facts p place e)))
 
   -- ---- who changes something
 
@@ -86,7 +86,7 @@ module _ (limits : Bounds) (states : ℕ → State) (last : ℕ) (r : IsRun limi
   of_changing t p a =
       let (within, e) = in_changing r.records last (timely r.records last t) p a in
       let (place, at, on) = in_timely r.records last t p within in
-      (place, on, sym (on_time_moment limits states last r V facts p place on) ∙ at, e)
+      (place, on, sym (on_time_moment r V facts p place on) ∙ at, e)
 
   -- where there is none, and nothing else changes
   pub none_timely : (t : ℕ) → ((p : Place) → Among p (Changing t) → ⊥) → ((handle : ℕ) → at_time t handle ≡ at_time (suc t) handle) → LeadsOn (Changing t) (at_time t) (at_time (suc t))
@@ -96,18 +96,18 @@ module _ (limits : Bounds) (states : ℕ → State) (last : ℕ) (r : IsRun limi
   pub other_timely : (t : ℕ) (new : Place) → Enters limits states r.records last V t new → (new.on_time ≡ true → new.changed_nothing ≡ false → ⊥) → (p : Place) → Among p (Changing t) → ⊥
   other_timely t new enters is_not p a =
       let (place, on, moment, e) = of_changing t p a in
-      let same = one_changing limits states last r V facts t new enters p place e moment in
+      let same = one_changing r V facts t new enters p place e moment in
       is_not (ap (λ (q : Place). q.on_time) (sym same) ∙ on) (ap (λ (q : Place). q.changed_nothing) (sym same) ∙ e)
 
   -- where there is one
   pub one_timely : (t : ℕ) (new : Place) → t < last → Enters limits states r.records last V t new → new.step ≡ t → new.on_time ≡ true → new.changed_nothing ≡ false → Changing t ≡ new ∷ []
   one_timely t new lt enters at on e =
-      let place = entered_place limits states last r V facts t new lt enters in
+      let place = entered_place r V facts t new lt enters in
       let within = to_timely r.records last t new place at on in
-      only_one (equals role 0) (timely r.records last t) new (timely_apart limits states last r V facts t) within (to_changing r.records last (timely r.records last t) new within e)
+      only_one (equals role 0) (timely r.records last t) new (timely_apart r V facts t) within (to_changing r.records last (timely r.records last t) new within e)
       (λ p a passes.
       let (is_place, its_on, moment, changed) = of_changing t p (filter_among (equals role 0) (timely r.records last t) p a passes) in
-      one_changing limits states last r V facts t new enters p is_place changed moment)
+      one_changing r V facts t new enters p is_place changed moment)
 
   -- where the standing and the contents stay the views are the same
   pub still_view : (t : ℕ) → KeepsAll limits states r.records last V t → IsStill limits states r.records last V t → (handle : ℕ) → at_time t handle ≡ at_time (suc t) handle
@@ -135,7 +135,7 @@ module _ (limits : Bounds) (states : ℕ → State) (last : ℕ) (r : IsRun limi
         let closed = sym closing_at ∙ (late_says its_closing t update.owner.id false is_late).0 in
         none_timely t (other_timely t its enters (λ on e. true≢false (sym on ∙ is_late)))
         (λ handle. others_stay handle (λ generation on same.
-        none-some its.step (sym ((sound_at limits states last r V facts t (omega arith)).unclosed handle generation on) ∙ ap (closed_at (r.records t)) same ∙ closed)))
+        none-some its.step (sym ((sound_at r V facts t (omega arith)).unclosed handle generation on) ∙ ap (closed_at (r.records t)) same ∙ closed)))
 
     timely_update : its.on_time ≡ true → LeadsOn (Changing t) (at_time t) (at_time (suc t))
     timely_update on =
@@ -149,7 +149,7 @@ module _ (limits : Bounds) (states : ℕ → State) (last : ℕ) (r : IsRun limi
               absurd (omega arith)
         ] in
         let only = one_timely t its lt enters says.0 on (place_says its_closing t update.owner.id false).1 in
-        let leads = update_leads limits states last r V t lt entered update (at_time t) (view_writable limits states last V t handle update.generation stands) in
+        let leads = update_leads r V t lt entered update (at_time t) (view_writable limits states last V t handle update.generation stands) in
         subst (λ l. LeadsOn l (at_time t) (at_time (suc t))) (sym only)
         (leads_same (hash_of limits.hash) (r.records last).events (its ∷ []) (at_time t) _ (at_time (suc t)) leads (λ other. behind handle stands other (ℕ_discrete other handle)))
       where
@@ -162,7 +162,7 @@ module _ (limits : Bounds) (states : ℕ → State) (last : ℕ) (r : IsRun limi
         behind handle stands other (no there) =
             but_there (at_time t) handle (Some (named Writable (V update.generation (suc t)))) other there
             ∙ others_stay other
-            (λ generation on same. there ((sound_at limits states last r V facts t (omega arith)).apart other handle generation on (subst (λ g. On states t handle g) (sym same) stands)))
+            (λ generation on same. there ((sound_at r V facts t (omega arith)).apart other handle generation on (subst (λ g. On states t handle g) (sym same) stands)))
 
     pub update_by : (b : Bool) → its.on_time ≡ b → LeadsOn (Changing t) (at_time t) (at_time (suc t))
     update_by true on = timely_update on

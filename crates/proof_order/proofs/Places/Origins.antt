@@ -72,7 +72,7 @@ module _ (limits : Bounds) (states : ℕ → State) (records : ℕ → Record) (
     pub enters : Enters limits states records last V u p
     pub why : Why u p
 
-module _ (limits : Bounds) (states : ℕ → State) (last : ℕ) (r : IsRun limits states last) (V : ℕ → ℕ → KeyMap) (facts : Facts limits states r.records last V) where
+module _ {limits : Bounds} {states : ℕ → State} {last : ℕ} (r : IsRun limits states last) (V : ℕ → ℕ → KeyMap) (facts : Facts limits states r.records last V) where
   older : (t : ℕ) (p : Place) → Origin limits states r.records last V t p → Origin limits states r.records last V (suc t) p
   older t p o = let lt = o.is_before in record { u = o.u; is_before = omega arith; enters = o.enters; why = o.why }
 
@@ -105,7 +105,7 @@ module _ (limits : Bounds) (states : ℕ → State) (last : ℕ) (r : IsRun limi
   -- each place was entered by one step
   pub origin : (t : ℕ) → t ≤ last → (p : Place) → Among p (r.records t).places → Origin limits states r.records last V t p
   origin zero le p a = let none : Among p [] = subst (Among p) (ap (λ (q : Record). q.places) r.nothing_recorded) a in absurd none
-  origin (suc t) le p a = origin_by t p (kind_at limits states last r V facts t le) (origin t (omega (arith, le)) p) a
+  origin (suc t) le p a = origin_by t p (kind_at r V facts t le) (origin t (omega (arith, le)) p) a
 
   -- ---- the places are of different operations
 
@@ -115,13 +115,13 @@ module _ (limits : Bounds) (states : ℕ → State) (last : ℕ) (r : IsRun limi
 
   begun_later : (t : ℕ) → t < last → begun (r.records t).events ≤ begun (r.records (suc t)).events
   begun_later t lt =
-      let a = step_at limits states last r V facts t lt in
+      let a = step_at r V facts t lt in
       begun_more_or_same (r.records t).events (r.records (suc t)).events (subst (λ (q : Record). Grows (r.records t).events q.events) (sym a.notes)
       (events_grow (states t) (r.records t) a.its a.outcome (states (suc t)) a.move))
 
   running_below : (t k : ℕ) (operation : Operation) → t ≤ last → Runs (states t) k operation → operation.id < begun (r.records t).events
   running_below t k operation le runs =
-      let books = books_at limits states last r t le in
+      let books = books_at r t le in
       let told = books.told k operation runs in
       let says : Told = record { actor = suc k; call = operation.call; opens = operation.opens } in
       id_below (r.records t).events told.place operation.id says books.well_formed told.begins
@@ -164,7 +164,7 @@ module _ (limits : Bounds) (states : ℕ → State) (last : ℕ) (r : IsRun limi
   placed_at zero le =
       let e = ap (λ (q : Record). q.places) r.nothing_recorded in
       record { apart = subst AreApart (sym e) tt; below = λ p a. let none : Among p [] = subst (Among p) e a in absurd none }
-  placed_at (suc t) le = placed_by t le (kind_at limits states last r V facts t le) (placed_at t (omega (arith, le)))
+  placed_at (suc t) le = placed_by t le (kind_at r V facts t le) (placed_at t (omega (arith, le)))
 
   pub apart_at : (t : ℕ) → t ≤ last → AreApart (r.records t).places
   apart_at t le = (placed_at t le).apart

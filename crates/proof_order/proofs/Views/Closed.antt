@@ -10,13 +10,13 @@ use Rattle.proof_order.proofs.Views.Steps.{Kind, plain, updates, answers, closes
 none_at_first : (limits : Bounds) (generation c : ℕ) → closed_at (first_record limits) generation ≡ Some c → ⊥
 none_at_first limits generation c e = none-some c e
 
-module _ (limits : Bounds) (states : ℕ → State) (last : ℕ) (r : IsRun limits states last) where
+module _ {limits : Bounds} {states : ℕ → State} {last : ℕ} (r : IsRun limits states last) where
   -- the same generation is closed once
   closed_once : (t u generation c d : ℕ) → t ≤ last → u ≤ last → closed_at (r.records t) generation ≡ Some c → closed_at (r.records u) generation ≡ Some d → c ≡ d
   closed_once t u generation c d le within e f =
-      same_Some c d (sym (closed_until limits states last r t last le (omega arith) generation c e) ∙ closed_until limits states last r u last within (omega arith) generation d f)
+      same_Some c d (sym (closed_until r t last le (omega arith) generation c e) ∙ closed_until r u last within (omega arith) generation d f)
 
-module _ (limits : Bounds) (states : ℕ → State) (last : ℕ) (r : IsRun limits states last) (V : ℕ → ℕ → KeyMap) (facts : Facts limits states r.records last V) where
+module _ {limits : Bounds} {states : ℕ → State} {last : ℕ} (r : IsRun limits states last) (V : ℕ → ℕ → KeyMap) (facts : Facts limits states r.records last V) where
   -- the step that closed it lies before, and it wasn't closed then
   abbrev pub ClosedFrom : ℕ → ℕ → ℕ → Type 0
   ClosedFrom u generation c = (c < u) × (closed_at (r.records c) generation ≡ None) × (closed_at (r.records (suc c)) generation ≡ Some c)
@@ -36,11 +36,11 @@ module _ (limits : Bounds) (states : ℕ → State) (last : ℕ) (r : IsRun limi
   from_by : (u generation c : ℕ) → suc u ≤ last → closed_at (r.records (suc u)) generation ≡ Some c → ((d : ℕ) → closed_at (r.records u) generation ≡ Some d → ClosedFrom u generation d) →
       (before : Option ℕ) → closed_at (r.records u) generation ≡ before → ClosedFrom (suc u) generation c
   from_by u generation c le e rest (Some d) was =
-      let same = closed_once limits states last r u (suc u) generation d c (omega arith) le was e in
+      let same = closed_once r u (suc u) generation d c (omega arith) le was e in
       let (lt, none, some) = rest c (was ∙ ap Some same) in
       (omega arith, none, some)
   from_by u generation c le e rest None was =
-      let same : c ≡ u = closed_by_kind u generation c le (kind_at limits states last r V facts u le) was e in
+      let same : c ≡ u = closed_by_kind u generation c le (kind_at r V facts u le) was e in
       (omega arith, ap (λ n. closed_at (r.records n) generation) same ∙ was, ap (λ n. closed_at (r.records (suc n)) generation) same ∙ e)
 
   pub closed_from : (u generation c : ℕ) → u ≤ last → closed_at (r.records u) generation ≡ Some c → ClosedFrom u generation c

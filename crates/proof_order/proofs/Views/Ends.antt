@@ -44,7 +44,7 @@ first_shown V last state empty here others (suc n) =
         differs : (n : ℕ) → (suc n == 0) ≡ false
         differs n = grind arith
 
-module _ (limits : Bounds) (states : ℕ → State) (last : ℕ) (r : IsRun limits states last) (V : ℕ → ℕ → KeyMap) (facts : Facts limits states r.records last V) where
+module _ {limits : Bounds} {states : ℕ → State} {last : ℕ} (r : IsRun limits states last) (V : ℕ → ℕ → KeyMap) (facts : Facts limits states r.records last V) where
   -- the first world shows what the handles show at first
   pub shows_first : Shows first_world (view limits states last V zero)
   shows_first =

@@ -20,20 +20,20 @@ unfolding ids_by_place
 order_is records last = refl
 
 -- in any run with such contents
-pub explained : (limits : Bounds) (states : ℕ → State) (last : ℕ) (r : IsRun limits states last) (V : ℕ → ℕ → KeyMap) (facts : Facts limits states r.records last V) →
+pub explained : {limits : Bounds} {states : ℕ → State} {last : ℕ} (r : IsRun limits states last) (V : ℕ → ℕ → KeyMap) (facts : Facts limits states r.records last V) →
     IsExplained limits (states last) (r.records last)
-explained limits states last r V facts =
-    let (calls, world, recalls, replays, shows) = order_leads limits states last r V facts first_world (shows_first limits states last r V facts) in
-    let within : (p : Place) → Among p (r.records last).places → p.step < last = λ p a. step_within limits states last r V facts p a in
+explained {limits} {states} {last} r V facts =
+    let (calls, world, recalls, replays, shows) = order_leads r V facts first_world (shows_first r V facts) in
+    let within : (p : Place) → Among p (r.records last).places → p.step < last = λ p a. step_within r V facts p a in
     let explains : Explains (hash_of limits.hash) (r.records last).events (ids_of (sorted r.records last)) world = record {
-      well_formed = (books_at limits states last r last (omega arith)).well_formed;
-      candidate = is_candidate limits states last r V facts within;
-      keeps_time = keeps_time limits states last r V facts within;
+      well_formed = (books_at r last (omega arith)).well_formed;
+      candidate = is_candidate r V facts within;
+      keeps_time = keeps_time r V facts within;
       replayed = (calls, recalls, replays);
     } in (
       world,
       subst (λ order. Explains (hash_of limits.hash) (r.records last).events order world) (sym (order_is r.records last)) explains,
-      shows_last limits states last r V facts world shows,
+      shows_last r V facts world shows,
     )
 
 -- and so for each list of steps
@@ -42,4 +42,4 @@ pub legal_by_facts : (limits : Bounds) (steps : List Step) (V : ℕ → ℕ → 
 legal_by_facts limits steps V ok facts =
     subst (λ past. IsExplained limits (run limits steps) past) (record_ends limits steps)
     (subst (λ state. IsExplained limits state (records_of limits steps (last_of limits steps))) (run_ends limits steps)
-    (explained limits (states_of limits steps) (last_of limits steps) (run_is limits steps ok) V facts))
+    (explained (run_is limits steps ok) V facts))

@@ -61,9 +61,9 @@ unfolding Sized first_state
 first_sized limits =
     length-set {A = Option Root} (replicate handle_limit None) 0 (Some (record { access = Writable; word = Plain (ref_to 2 1) })) ∙ length-replicate {A = Option Root} handle_limit None
 
-pub handles_at : (limits : Bounds) (states : ℕ → State) (last : ℕ) → IsRun limits states last → (t : ℕ) → t ≤ last → length (states t).roots ≡ handle_limit
+pub handles_at : {limits : Bounds} {states : ℕ → State} {last : ℕ} → IsRun limits states last → (t : ℕ) → t ≤ last → length (states t).roots ≡ handle_limit
 unfolding Sized
-handles_at limits states last r = at_each_time limits states last r Sized (first_sized limits) sized_kept
+handles_at {limits} {states} {last} r = at_each_time r Sized (first_sized limits) sized_kept
 
 -- ---- what an operation opens is in range
 
@@ -87,8 +87,8 @@ first_in_range : (limits : Bounds) → InRange (first_state limits)
 unfolding InRange first_state
 first_in_range limits k operation at_k = absurd (none_found limits.actors k operation at_k)
 
-pub opens_in_range : (limits : Bounds) (states : ℕ → State) (last : ℕ) → IsRun limits states last → (t : ℕ) → t ≤ last → (k : ℕ) (operation : Operation) → Runs (states t) k operation →
+pub opens_in_range : {limits : Bounds} {states : ℕ → State} {last : ℕ} → IsRun limits states last → (t : ℕ) → t ≤ last → (k : ℕ) (operation : Operation) → Runs (states t) k operation →
     (n : ℕ) → operation.opens ≡ Some n → n < length (states t).roots
 unfolding InRange
-opens_in_range limits states last r t le k operation at_k n is =
-    subst (λ m. n < m) (sym (handles_at limits states last r t le)) (at_each_time limits states last r InRange (first_in_range limits) in_range_kept t le k operation at_k n is)
+opens_in_range {limits} {states} {last} r t le k operation at_k n is =
+    subst (λ m. n < m) (sym (handles_at r t le)) (at_each_time r InRange (first_in_range limits) in_range_kept t le k operation at_k n is)

@@ -21,7 +21,7 @@ shown_named : (V : ℕ → ℕ → KeyMap) (last t : ℕ) (stood : Access × ℕ
 shown_named V last t (Writable, generation) = (Writable, V generation t, refl)
 shown_named V last t (ReadOnly, generation) = (ReadOnly, V generation last, refl)
 
-module _ (limits : Bounds) (states : ℕ → State) (last : ℕ) (r : IsRun limits states last) (V : ℕ → ℕ → KeyMap) (facts : Facts limits states r.records last V) where
+module _ {limits : Bounds} {states : ℕ → State} {last : ℕ} (r : IsRun limits states last) (V : ℕ → ℕ → KeyMap) (facts : Facts limits states r.records last V) where
   abbrev LeadsOn : List Place → View → View → Type 0
   LeadsOn ps before after = Leads (hash_of limits.hash) (r.records last).events ps before after
 
@@ -70,7 +70,7 @@ module _ (limits : Bounds) (states : ℕ → State) (last : ℕ) (r : IsRun limi
         Recalls (r.records last).events offer.operation (record { call = call; opens = opens; answer = answer })
     recalled call opens answer c o is =
         let its : IsReply (r.records last).events swap.offerer.id answer = subst (λ i. IsReply (r.records last).events i answer) (sym swap.is_its) is in
-        let told = recalls_running limits states last r t swap.k swap.offerer answer (omega arith) swap.runs its in
+        let told = recalls_running r t swap.k swap.offerer answer (omega arith) swap.runs its in
         let here = subst (λ i. Recalls (r.records last).events i (record { call = swap.offerer.call; opens = swap.offerer.opens; answer = answer })) swap.is_its told in
         let with_call = subst (λ x. Recalls (r.records last).events offer.operation (record { call = x; opens = swap.offerer.opens; answer = answer })) c here in
         subst (λ x. Recalls (r.records last).events offer.operation (record { call = call; opens = x; answer = answer })) (swap.number ∙ o) with_call
@@ -84,14 +84,14 @@ module _ (limits : Bounds) (states : ℕ → State) (last : ℕ) (r : IsRun limi
     -- a handle that isn't touched shows the same
     untouched : (opens : Option ℕ) (other : ℕ) → offer.opens ≡ opens → (other ≡ handle → ⊥) → ((n : ℕ) → opens ≡ Some n → other ≡ n → ⊥) → at_time t other ≡ at_time (suc t) other
     untouched opens other e apart away =
-        view_stays limits states last V t other (stands_else limits states last r V facts t handle lt offer swap roots heap opens other e apart away)
+        view_stays limits states last V t other (stands_else r V facts t handle lt offer swap roots heap opens other e apart away)
         (λ generation on. still generation (t, other, omega arith, on))
 
     -- on its handle the new root's content shows
     new_shown : (opens : Option ℕ) → offer.opens ≡ opens → ((n : ℕ) → opens ≡ Some n → root_at (states t) n ≡ None) → (m : KeyMap) → V successor (suc t) ≡ m →
         at_time (suc t) handle ≡ Some (named Writable m)
     new_shown opens e free m is =
-        view_writable limits states last V (suc t) handle successor (stands_here limits states last r V facts t handle lt offer swap roots heap opens e free) ∙ ap (λ x. Some (named Writable x)) is
+        view_writable limits states last V (suc t) handle successor (stands_here r V facts t handle lt offer swap roots heap opens e free) ∙ ap (λ x. Some (named Writable x)) is
 
     -- behind a clear
     clear_behind : offer.opens ≡ None → V successor (suc t) ≡ fin.empty → (other : ℕ) → Dec (other ≡ handle) →
@@ -110,7 +110,7 @@ module _ (limits : Bounds) (states : ℕ → State) (last : ℕ) (r : IsRun limi
       free_one m is = subst (λ x. root_at (states t) x ≡ None) (same_Some n m is) free
 
       apart : n ≡ handle → ⊥
-      apart = opened_apart limits states last r V facts t handle lt offer swap roots heap n free
+      apart = opened_apart r V facts t handle lt offer swap roots heap n free
 
       copy_by : (other : ℕ) → Dec (other ≡ n) → Dec (other ≡ handle) → but at_last n (Some (named access (V old last))) other ≡ at_time (suc t) other
       copy_by other (yes here) d =
@@ -138,7 +138,7 @@ module _ (limits : Bounds) (states : ℕ → State) (last : ℕ) (r : IsRun limi
         (λ other. clear_behind e empty other (ℕ_discrete other handle))
     opens_lead call c (snapshots n second e s fresh differ first copy) =
         let stands : On states (suc t) n (generation_at (states t).heap second) =
-        stands_there limits states last r V facts t handle lt offer swap roots heap n e ∙ ap (λ o. standing_of (states t).heap (Some (opened_root offer o))) s in
+        stands_there r V facts t handle lt offer swap roots heap n e ∙ ap (λ o. standing_of (states t).heap (Some (opened_root offer o))) s in
         let opened : at_time (suc t) n ≡ Some (named Writable (V old last)) =
         view_writable limits states last V (suc t) n (generation_at (states t).heap second) stands ∙ ap (λ x. Some (named Writable x)) copy in
         leads_same (hash_of limits.hash) (r.records last).events (place ∷ []) at_last (but at_last n (Some (named Writable (V old last)))) (at_time (suc t))
@@ -149,7 +149,7 @@ module _ (limits : Bounds) (states : ℕ → State) (last : ℕ) (r : IsRun limi
         (λ other. copy_by n e (swap.free n e) Writable first opened other (ℕ_discrete other n) (ℕ_discrete other handle))
     opens_lead call c (freezes n e s first) =
         let stands : standing (states (suc t)) n ≡ Some (ReadOnly, old) =
-        stands_there limits states last r V facts t handle lt offer swap roots heap n e ∙ ap (λ o. standing_of (states t).heap (Some (opened_root offer o))) s in
+        stands_there r V facts t handle lt offer swap roots heap n e ∙ ap (λ o. standing_of (states t).heap (Some (opened_root offer o))) s in
         let opened : at_time (suc t) n ≡ Some (named ReadOnly (V old last)) = view_read_only limits states last V (suc t) n old stands in
         leads_same (hash_of limits.hash) (r.records last).events (place ∷ []) at_last (but at_last n (Some (named ReadOnly (V old last)))) (at_time (suc t))
         (leads_one (hash_of limits.hash) (r.records last).events place (record { call = Freeze handle; opens = Some n; answer = reply.Opened n }) at_last _

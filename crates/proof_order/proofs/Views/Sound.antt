@@ -25,7 +25,7 @@ first_standing limits (suc n) access generation e =
 nothing_closed : (limits : Bounds) (generation : ℕ) → closed_at (first_record limits) generation ≡ None
 nothing_closed limits generation = refl
 
-module _ (limits : Bounds) (states : ℕ → State) (last : ℕ) (r : IsRun limits states last) (V : ℕ → ℕ → KeyMap) (facts : Facts limits states r.records last V) where
+module _ {limits : Bounds} {states : ℕ → State} {last : ℕ} (r : IsRun limits states last) (V : ℕ → ℕ → KeyMap) (facts : Facts limits states r.records last V) where
   -- ---- what a swap makes of the handles
 
   module _ (t handle : ℕ) (lt : t < last) (offer : Descriptor) (swap : Carried states r.records last V t handle offer)
@@ -47,7 +47,7 @@ module _ (limits : Bounds) (states : ℕ → State) (last : ℕ) (r : IsRun limi
     stands_there n e =
         let (root, is, writable) = root_there in
         there_some (states t) (states (suc t)) handle offer root is writable n
-        (opens_in_range limits states last r t (omega arith) swap.k swap.offerer swap.runs n (swap.number ∙ e))
+        (opens_in_range r t (omega arith) swap.k swap.offerer swap.runs n (swap.number ∙ e))
         (roots ∙ ap (roots_swapped (states t) handle offer) e) heap
 
     -- any other handle
@@ -181,4 +181,4 @@ module _ (limits : Bounds) (states : ℕ → State) (last : ℕ) (r : IsRun limi
 
   pub sound_at : (t : ℕ) → t ≤ last → Sound t
   sound_at zero le = first_sound
-  sound_at (suc t) le = sound_by t le (kind_at limits states last r V facts t le) (sound_at t (omega (arith, le)))
+  sound_at (suc t) le = sound_by t le (kind_at r V facts t le) (sound_at t (omega (arith, le)))

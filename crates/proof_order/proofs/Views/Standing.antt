@@ -82,12 +82,12 @@ pub record AStep (before : State) (past : Record) (after : State) (now : Record)
 step_of_turn : {before after : State} {past now : Record} (turn : Turn before after) → now ≡ noted_turn turn past → AStep before past after now
 step_of_turn (turns s o m) e = record { its = s; outcome = o; move = m; notes = e }
 
-module _ (limits : Bounds) (states : ℕ → State) (last : ℕ) (r : IsRun limits states last) (V : ℕ → ℕ → KeyMap) (facts : Facts limits states r.records last V) where
+module _ {limits : Bounds} {states : ℕ → State} {last : ℕ} (r : IsRun limits states last) (V : ℕ → ℕ → KeyMap) (facts : Facts limits states r.records last V) where
   pub step_at : (t : ℕ) → t < last → AStep (states t) (r.records t) (states (suc t)) (r.records (suc t))
   step_at t lt = step_of_turn (r.turn t lt) (r.recorded t lt)
 
   honest_at : (t : ℕ) → t < last → HonestIn (states t)
-  honest_at t lt = honest (states t) (offers_at limits states last r t (omega arith))
+  honest_at t lt = honest (states t) (offers_at r t (omega arith))
 
   pub change_at : (t : ℕ) (lt : t < last) → Changes (states t) (r.records t) (step_at t lt).its (states (suc t)) (r.records (suc t))
   change_at t lt =

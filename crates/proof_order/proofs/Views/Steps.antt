@@ -69,12 +69,12 @@ module _ (limits : Bounds) (states : ℕ → State) (records : ℕ → Record) (
         (records (suc t)).closings ≡ (records t).closings ++ record { generation = generation_at (states t).heap offer.root; step = t } ∷ [] →
         (states (suc t)).roots ≡ roots_swapped (states t) handle offer offer.opens → (states (suc t)).heap ≡ (states t).heap → IsStill t → Kind t
 
-module _ (limits : Bounds) (states : ℕ → State) (last : ℕ) (r : IsRun limits states last) (V : ℕ → ℕ → KeyMap) (facts : Facts limits states r.records last V) where
+module _ {limits : Bounds} {states : ℕ → State} {last : ℕ} (r : IsRun limits states last) (V : ℕ → ℕ → KeyMap) (facts : Facts limits states r.records last V) where
   kept_all : (t : ℕ) → t < last → ((h : ℕ) → footing (states (suc t)) h ≡ footing (states t) h) → KeepsAll limits states r.records last V t
-  kept_all t lt same handle = keeps_standing limits states last r V facts t handle lt (same handle)
+  kept_all t lt same handle = keeps_standing r V facts t handle lt (same handle)
 
   number_at : (t : ℕ) → t < last → (states t).steps ≡ t
-  number_at t lt = steps_at limits states last r t (omega arith)
+  number_at t lt = steps_at r t (omega arith)
 
   quiet_kind : (t : ℕ) (lt : t < last) (s : Step) (o : Outcome) (entered : List Place) → Moves (states t) s o (states (suc t)) → Notes states r.records t s →
       entered_by_step (r.records t) (states t) s ≡ entered →
@@ -107,7 +107,7 @@ module _ (limits : Bounds) (states : ℕ → State) (last : ℕ) (r : IsRun limi
       (places ∙ ap (λ b. (r.records t).places ++ cond b [] (place_of (r.records t) (entrant_of operation) (moment_at (r.records t) actor).moment true ∷ [])) e
       ∙ ap (λ j. (r.records t).places ++ place_of (r.records t) (entrant_of operation) (moment_at (r.records t) j).moment true ∷ []) own)
       e
-      (told_reply limits states last r (suc t) operation.id answer lt ended)
+      (told_reply r (suc t) operation.id answer lt ended)
       (subst (λ j. Replied limits states r.records last V operation (moment_at (r.records t) j).moment answer) own
       (facts.replies t actor operation answer o lt m notes is does (λ no_slots. let wrong : ⊥ = cc no_slots in wrong) e))
       closings kept still
@@ -121,23 +121,23 @@ module _ (limits : Bounds) (states : ℕ → State) (last : ℕ) (r : IsRun limi
   close_kind t lt s o actor handle number stood m notes e none places closings at gone others =
       let history = (r.records t).events in
       let id : ℕ = begun history in
-      let count : (states t).begun ≡ id = sym (alike limits states last r t (omega arith)).begun_are in
+      let count : (states t).begun ≡ id = sym (alike r t (omega arith)).begun_are in
       let told : (r.records (suc t)).events ≡ history ++ Begin id actor (Close handle) None ∷ [] =
       ap (λ (q : Record). q.events) notes ∙ ap (λ x. (noted (r.records t) (states t).steps (told_in (states t) x)).events) e
       ∙ ap (λ n. history ++ Begin n actor (Close handle) None ∷ []) count in
       let here : slice_get (r.records (suc t)).events (length history) ≡ Some (Begin id actor (Close handle) None) =
       ap (λ l. slice_get l (length history)) told ∙ at_push history (Begin id actor (Close handle) None) (length history) refl in
-      let at_end = event_later limits states last r (suc t) last (length history) (Begin id actor (Close handle) None) lt (omega arith) here in
+      let at_end = event_later r (suc t) last (length history) (Begin id actor (Close handle) None) lt (omega arith) here in
       let says : Told = record { actor = actor; call = Close handle; opens = None } in
       let begins : BeginsAt (r.records last).events (length history) id says = at_end in
       let reply_is : IsReply (r.records last).events id reply.Closed =
-      λ other ends. sym (closed_reply limits states last r last (omega arith) (length history) id actor handle None other at_end ends) in
+      λ other ends. sym (closed_reply r last (omega arith) (length history) id actor handle None other at_end ends) in
       closes handle stood
       (places ∙ ap (λ n. (r.records t).places ++ on_time n false (states t).begun ∷ []) (number_at t lt) ∙ ap (λ n. (r.records t).places ++ on_time t false n ∷ []) count)
       ((length history, says, begins, refl, refl), reply_is)
       (ap begun told ∙ begun_push history (Begin id actor (Close handle) None) refl)
-      at (no_standing limits states last r V facts (states (suc t)) handle gone)
-      (λ other apart. keeps_standing limits states last r V facts t other lt (others other apart))
+      at (no_standing r V facts (states (suc t)) handle gone)
+      (λ other apart. keeps_standing r V facts t other lt (others other apart))
       closings (facts.still t s o lt m notes none)
 
   -- where an offer is carried out
@@ -147,7 +147,7 @@ module _ (limits : Bounds) (states : ℕ → State) (last : ℕ) (r : IsRun limi
       (r.records (suc t)).closings ≡ (r.records t).closings ++ record { generation = generation_at (states t).heap offer.root; step = (states t).steps } ∷ [] →
       (states (suc t)).roots ≡ roots_swapped (states t) handle offer offer.opens → (states (suc t)).heap ≡ (states t).heap → Kind limits states r.records last V t
   swap_kind t lt s o handle offer m notes carries none places closings roots heap =
-      swaps handle offer (carried limits states last r V facts t s o lt m notes handle offer carries (offers_at limits states last r t (omega arith)))
+      swaps handle offer (carried r V facts t s o lt m notes handle offer carries (offers_at r t (omega arith)))
       (places ∙ ap (λ n. (r.records t).places ++ on_time n false offer.operation ∷ []) (number_at t lt))
       (closings ∙ ap (λ n. (r.records t).closings ++ record { generation = generation_at (states t).heap offer.root; step = n } ∷ []) (number_at t lt))
       roots heap (facts.still t s o lt m notes none)
@@ -165,5 +165,5 @@ module _ (limits : Bounds) (states : ℕ → State) (last : ℕ) (r : IsRun limi
   -- the kind of each step
   pub kind_at : (t : ℕ) → t < last → Kind limits states r.records last V t
   kind_at t lt =
-      let a = step_at limits states last r V facts t lt in
-      by_change t lt a.its a.outcome a.move a.notes (change_at limits states last r V facts t lt)
+      let a = step_at r V facts t lt in
+      by_change t lt a.its a.outcome a.move a.notes (change_at r V facts t lt)

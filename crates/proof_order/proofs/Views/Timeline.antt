@@ -47,7 +47,7 @@ module _ (limits : Bounds) (states : ℕ → State) (last : ℕ) (V : ℕ → �
       ((generation : ℕ) → On states t handle generation → V generation (suc t) ≡ V generation t) → view t handle ≡ view (suc t) handle
   view_stays t handle same still = same_shown V last t (suc t) (standing (states t) handle) still ∙ ap (shown V last (suc t)) (sym same)
 
-module _ (limits : Bounds) (states : ℕ → State) (last : ℕ) (r : IsRun limits states last) (V : ℕ → ℕ → KeyMap) where
+module _ {limits : Bounds} {states : ℕ → State} {last : ℕ} (r : IsRun limits states last) (V : ℕ → ℕ → KeyMap) where
   -- an own update leads its handle from one content to the next
   pub update_leads : (t : ℕ) → t < last → (entered : List Place) (update : Update limits states r.records last V t entered) (before : View) →
       before (handle_of update.owner.call) ≡ Some (named Writable (V update.generation t)) →
@@ -57,7 +57,7 @@ module _ (limits : Bounds) (states : ℕ → State) (last : ℕ) (r : IsRun limi
       let owner : Operation = update.owner in
       let id = (place_says (closing_for (r.records t) owner.generation owner.access) t owner.id false).2 in
       let one : Answered = record { call = owner.call; opens = owner.opens; answer = update.answer } in
-      let recalls = recalls_running limits states last r t update.k owner update.answer (omega arith) update.runs update.agrees in
+      let recalls = recalls_running r t update.k owner update.answer (omega arith) update.runs update.agrees in
       leads_one (hash_of limits.hash) (r.records last).events (place_of (r.records t) (entrant_of owner) t false) one before _
       (subst (λ i. Recalls (r.records last).events i one) (sym id) recalls)
       (acts_on (hash_of limits.hash) Writable owner.call owner.opens before (V update.generation t) update.answer (V update.generation (suc t)) at update.acts)
@@ -70,7 +70,7 @@ module _ (limits : Bounds) (states : ℕ → State) (last : ℕ) (r : IsRun limi
   reader_leads u k operation moment answer p access m before le runs is agrees at acts =
       let id = ap (λ (q : Place). q.id) is ∙ (place_says (closing_for (r.records u) operation.generation operation.access) moment operation.id true).2 in
       let one : Answered = record { call = operation.call; opens = operation.opens; answer = answer } in
-      let recalls = recalls_running limits states last r u k operation answer le runs agrees in
+      let recalls = recalls_running r u k operation answer le runs agrees in
       leads_same (hash_of limits.hash) (r.records last).events (p ∷ []) before (but before (handle_of operation.call) (Some (named access m))) before
       (leads_one (hash_of limits.hash) (r.records last).events p one before _ (subst (λ i. Recalls (r.records last).events i one) (sym id) recalls)
       (acts_on (hash_of limits.hash) access operation.call operation.opens before m answer m at acts))

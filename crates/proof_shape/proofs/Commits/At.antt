@@ -34,9 +34,9 @@ use Rattle.proof_shape.proofs.Commits.Owners.{over_another, owner_then, runs_the
 use Rattle.proof_shape.proofs.Commits.Entered.{enters_owner}
 use Rattle.proof_shape.specs.Beneath.proof_commits.proofs.Known.Acts.{known_run}
 
-module _ (limits : Bounds) (states : ℕ → State) (last : ℕ) (run : IsRun limits states last) where
+module _ {limits : Bounds} {states : ℕ → State} {last : ℕ} (run : IsRun limits states last) where
   abbrev p : Protocol
-  p = protocol limits states last (known_run limits states last run)
+  p = protocol limits states last (known_run run)
 
   -- who swaps does so on a writable handle
   pub swaps_writable : (t : ℕ) → t ≤ last → (actor : ℕ) (operation : Operation) → operation_of (states t) actor ≡ Some operation → (why : Purpose) (s : Swap) → operation.line ≡ line.Swap why s →
@@ -44,7 +44,7 @@ module _ (limits : Bounds) (states : ℕ → State) (last : ℕ) (run : IsRun li
   swaps_writable t h actor operation is why s e = by_access operation.access refl
     where
       after : (steps : List Step) × (states t ≡ run_steps limits steps)
-      after = run_of limits states last run t h
+      after = run_of run t h
 
       reads : ReadsIfReadOnly operation
       reads =
@@ -60,7 +60,7 @@ module _ (limits : Bounds) (states : ℕ → State) (last : ℕ) (run : IsRun li
   FreshKnown firsts =
       (t : ℕ) → t < last → (actor : ℕ) (owner : Operation) (why : Purpose) (i a f : Ref) (l : ReadLine) (start : ℕ) → operation_of (states t) actor ≡ Some owner →
       owner.line ≡ line.Swap why (record { indirection = i; replaced = a; fresh = f; line = swap.Deciding l }) → owner.generation ≡ Some start →
-      CommitsNode (protocol limits states last (known_run limits states last run)).words t f a → KnowsFresh limits states run.records last firsts t actor start owner a f why
+      CommitsNode (protocol limits states last (known_run run)).words t f a → KnowsFresh limits states run.records last firsts t actor start owner a f why
 
   module _ (firsts : Firsts) (fresh_known : FreshKnown firsts) (t : ℕ) (h : t < last) where
     -- where a node is committed
@@ -70,10 +70,10 @@ module _ (limits : Bounds) (states : ℕ → State) (last : ℕ) (run : IsRun li
       indirection = owner.link;
       replaced = d.previous;
       fresh = x;
-      before = main_before_then limits states last run t h actor operation go x d;
-      after = main_after_then limits states last run t h actor operation go x d;
-      differ = over_another limits states last run t h actor operation go x d;
-      others = others_then limits states last run t h actor operation go x d;
+      before = main_before_then run t h actor operation go x d;
+      after = main_after_then run t h actor operation go x d;
+      differ = over_another run t h actor operation go x d;
+      others = others_then run t h actor operation go x d;
       taker = actor;
       takes = is_go;
       decider = operation;
@@ -88,31 +88,31 @@ module _ (limits : Bounds) (states : ℕ → State) (last : ℕ) (run : IsRun li
       why = runs.swaps.0;
       deciding = owner.line;
       swaps = runs.swaps.1;
-      alone = alone_then limits states last run t h actor operation go x d;
+      alone = alone_then run t h actor operation go x d;
       placed = placed.1;
       knows = fresh_known t h owner.actor runs.operation runs.swaps.0 owner.link d.previous x owner.line placed.0.0 runs.is runs.swaps.1 placed.0.1
-          (commits_then limits states last run t h actor operation go x d);
+          (commits_then run t h actor operation go x d);
       enters = enters_owner (run.records t) runs.operation t x runs.swaps.0
-          (changers_known limits states last (known_run limits states last run) t (omega arith) owner.actor runs.operation runs.is runs.swaps.0 owner.link d.previous x owner.line runs.swaps.1);
+          (changers_known limits states last (known_run run) t (omega arith) owner.actor runs.operation runs.is runs.swaps.0 owner.link d.previous x owner.line runs.swaps.1);
     }
       where
         d : DecidesNode (states t) operation x
         d = decides_node (states t) operation x now
 
         owner : Owner p.words t x d.previous
-        owner = owner_then limits states last run t h actor operation go x d
+        owner = owner_then run t h actor operation go x d
 
         runs : RunsSwap (operation_of (states t) owner.actor) owner.link d.previous x (swap.Deciding owner.line)
-        runs = runs_then limits states last run t h actor operation go x d
+        runs = runs_then run t h actor operation go x d
 
         placed : IsPlaced runs.operation.generation (line.Swap runs.swaps.0 (record { indirection = owner.link; replaced = d.previous; fresh = x; line = swap.Deciding owner.line }))
-        placed = subst (λ l. IsPlaced runs.operation.generation l) runs.swaps.1 (places_at limits states last run t (omega arith) owner.actor runs.operation runs.is)
+        placed = subst (λ l. IsPlaced runs.operation.generation l) runs.swaps.1 (places_at run t (omega arith) owner.actor runs.operation runs.is)
 
     goes_by : (actor : ℕ) (operation : Operation) → GoesAt states run.records t actor operation → (now : Option Ref) → committed_now (states t) operation ≡ now →
         MainStep limits states run.records last firsts t (step.Go actor)
     goes_by actor operation go None e =
         stays (goes actor operation go.runs e)
-        (quiet_stays limits states last run t h (ap (λ (x : Record). x.commits) go.noted ∙ ap (commits_after (run.records t) (states t).steps) e))
+        (quiet_stays run t h (ap (λ (x : Record). x.commits) go.noted ∙ ap (commits_after (run.records t) (states t).steps) e))
     goes_by actor operation go (Some x) e = changes (committed (step.Go actor) actor operation refl go x e)
 
     -- an end commits nothing
@@ -126,7 +126,7 @@ module _ (limits : Bounds) (states : ℕ → State) (last : ℕ) (run : IsRun li
 
     by_move : (s : Step) (o : Outcome) (after : State) → Moves (states t) s o after → after ≡ states (suc t) → run.records (suc t) ≡ noted (run.records t) (states t).steps (told_in (states t) s) →
         MainStep limits states run.records last firsts t s
-    by_move s o after (Begins {actor} {call} {number} d) e notes = stays (begins actor call number) (quiet_stays limits states last run t h (ap (λ (x : Record). x.commits) notes))
+    by_move s o after (Begins {actor} {call} {number} d) e notes = stays (begins actor call number) (quiet_stays run t h (ap (λ (x : Record). x.commits) notes))
     by_move s o after (Goes {actor} {operation} {action} d is a g) e notes =
         goes_by actor operation (record {
           o = o;
@@ -139,9 +139,9 @@ module _ (limits : Bounds) (states : ℕ → State) (last : ℕ) (run : IsRun li
         (committed_now (states t) operation) refl
     by_move s o after (Ends {actor} {operation} {answer} d is a) e notes =
         stays (goes actor operation is (ends_none operation answer a (committed_now (states t) operation) refl))
-        (quiet_stays limits states last run t h (ap (λ (x : Record). x.commits) (notes ∙ noted_ending (states t) (run.records t) actor operation answer is a)))
-    by_move s o after (GivesUp {actor} d is a) e notes = stays (gives_up actor) (quiet_stays limits states last run t h (ap (λ (x : Record). x.commits) notes))
-    by_move s o after (Sweeps spent) e notes = stays sweeps (quiet_stays limits states last run t h (ap (λ (x : Record). x.commits) notes))
+        (quiet_stays run t h (ap (λ (x : Record). x.commits) (notes ∙ noted_ending (states t) (run.records t) actor operation answer is a)))
+    by_move s o after (GivesUp {actor} d is a) e notes = stays (gives_up actor) (quiet_stays run t h (ap (λ (x : Record). x.commits) notes))
+    by_move s o after (Sweeps spent) e notes = stays sweeps (quiet_stays run t h (ap (λ (x : Record). x.commits) notes))
 
   pub commits_by : (firsts : Firsts) → FreshKnown firsts → CommitsAt limits states run.records last firsts
   commits_by firsts fresh_known t h s o m notes = by_move firsts fresh_known t h s o (states (suc t)) m refl notes
@@ -150,15 +150,15 @@ module _ (limits : Bounds) (states : ℕ → State) (last : ℕ) (run : IsRun li
 
   made_known : FreshKnown (made_with states last)
   made_known t h actor owner (purpose.Update path former) i a f l start runs e begun commits =
-      subst (λ x. KnowsLine (known_with limits states last (first_main states last)) owner.call x) e (knows_at limits states last run t (omega arith) actor owner runs)
+      subst (λ x. KnowsLine (known_with limits states last (first_main states last)) owner.call x) e (knows_at run t (omega arith) actor owner runs)
   made_known t h actor owner (purpose.Renew path) i a f l start runs e begun commits =
       subst (λ x. KnowsRepair (node_under states last) (first_main states last) (GaveBelow states run.records last t actor owner.id start) start x) e
-      (repairs_at limits states last run t (omega arith) actor owner runs start begun)
+      (repairs_at run t (omega arith) actor owner runs start begun)
   made_known t h actor owner purpose.Clean i a f l start runs e begun commits =
       subst (λ x. KnowsRepair (node_under states last) (first_main states last) (GaveBelow states run.records last t actor owner.id start) start x) e
-      (repairs_at limits states last run t (omega arith) actor owner runs start begun)
+      (repairs_at run t (omega arith) actor owner runs start begun)
   made_known t h actor owner (purpose.Climb c) i a f l start runs e begun commits =
-      subst (λ x. KnowsClimbing (known_with limits states last (first_main states last)) (Was states last t) owner.call x) e (climbs_at limits states last run t (omega arith) actor owner runs)
+      subst (λ x. KnowsClimbing (known_with limits states last (first_main states last)) (Was states last t) owner.call x) e (climbs_at run t (omega arith) actor owner runs)
 
   pub commits_at : CommitsAt limits states run.records last (made_with states last)
   commits_at = commits_by (made_with states last) made_known

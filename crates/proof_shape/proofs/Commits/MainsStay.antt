@@ -17,9 +17,9 @@ use Rattle.proof_shape.specs.Beneath.proof_commits.proofs.Words.OfRuns.{link_kep
 use Rattle.proof_shape.specs.Beneath.proof_commits.proofs.Known.Acts.{known_run}
 use Rattle.proof_generations.proofs.Falling.NoRef.{no_main_before}
 
-module _ (limits : Bounds) (states : ℕ → State) (last : ℕ) (run : IsRun limits states last) where
+module _ {limits : Bounds} {states : ℕ → State} {last : ℕ} (run : IsRun limits states last) where
   abbrev p : Protocol
-  p = protocol limits states last (known_run limits states last run)
+  p = protocol limits states last (known_run run)
 
   -- what was made stays what it is
   link_next : (t : ℕ) → t < last → (i : Ref) → is_made states t i ≡ true → is_indirection (node_under states (suc t) i) ≡ is_indirection (node_under states t i)
@@ -28,7 +28,7 @@ module _ (limits : Bounds) (states : ℕ → State) (last : ℕ) (run : IsRun li
       by_slot : (o : Option Slot) → grown states t i ≡ o → is_some o ≡ true → is_indirection (node_under states (suc t) i) ≡ is_indirection (node_under states t i)
       by_slot None e made = absurd (true≢false (sym made))
       by_slot (Some slot) e made =
-          let now = grown_stays limits states last run t (suc t) (omega arith) h i slot e in
+          let now = grown_stays run t (suc t) (omega arith) h i slot e in
           ap (λ o. is_indirection (node_of o)) now.1 ∙ ap is_indirection now.2.0.1 ∙ link_kept now.2.0.0 slot.node ∙ sym (ap (λ o. is_indirection (node_of o)) e)
 
   -- the main node of any reference, by that of indirections
@@ -38,7 +38,7 @@ module _ (limits : Bounds) (states : ℕ → State) (last : ℕ) (run : IsRun li
     where
       by_test : is_made states t i ≡ true → (b : Bool) → is_indirection (node_under states t i) ≡ b → main_before states (suc t) i ≡ main_before states t i
       by_test made true e = links e
-      by_test made false e = no_main_before limits states last run (suc t) h i (link_next t h i made ∙ e) ∙ sym (no_main_before limits states last run t (omega arith) i e)
+      by_test made false e = no_main_before run (suc t) h i (link_next t h i made ∙ e) ∙ sym (no_main_before run t (omega arith) i e)
 
   -- ---- a step that commits nothing
 

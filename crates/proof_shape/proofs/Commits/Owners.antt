@@ -29,14 +29,14 @@ none_set : (o : Option Slot) → prev_of (option_map (prev_changed over.None) o)
 none_set None = refl
 none_set (Some slot) = refl
 
-module _ (limits : Bounds) (states : ℕ → State) (last : ℕ) (run : IsRun limits states last) (t : ℕ) (h : t < last) (actor : ℕ) (operation : Operation)
+module _ {limits : Bounds} {states : ℕ → State} {last : ℕ} (run : IsRun limits states last) (t : ℕ) (h : t < last) (actor : ℕ) (operation : Operation)
     (go : GoesAt states run.records t actor operation)
     (x : Ref) (d : DecidesNode (states t) operation x) where
   abbrev p : Protocol
-  p = protocol limits states last (known_run limits states last run)
+  p = protocol limits states last (known_run run)
 
   acts : ActsOn states t (act.Decide d.indirection x d.previous d.told)
-  acts = subst (λ a. ActsOn states t a) d.action ((known_run limits states last run).acts t h actor go.o go.moves operation go.runs)
+  acts = subst (λ a. ActsOn states t a) d.action ((known_run run).acts t h actor go.o go.moves operation go.runs)
 
   pub pending_then : prev_word states t x ≡ over.Pending d.previous
   pending_then = sym acts.1.prev ∙ was_pending (states t).heap d.indirection x d.previous d.told d.commits
@@ -87,10 +87,10 @@ module _ (limits : Bounds) (states : ℕ → State) (last : ℕ) (run : IsRun li
   -- ---- the main nodes
 
   pub main_before_then : counting_main states last t owner_then.link ≡ d.previous
-  main_before_then = main_linked limits states last run t owner_then.link owner_then.is_link ∙ before_is
+  main_before_then = main_linked run t owner_then.link owner_then.is_link ∙ before_is
 
   pub main_after_then : counting_main states last (suc t) owner_then.link ≡ x
-  main_after_then = commit_is limits states last run t h owner_then.actor owner_then.link d.previous x owner_then.line owner_then.stage d.previous commits_then
+  main_after_then = commit_is run t h owner_then.actor owner_then.link d.previous x owner_then.line owner_then.stage d.previous commits_then
 
   pub others_then : (j : Ref) → j ≢ owner_then.link → counting_main states last (suc t) j ≡ counting_main states last t j
-  others_then j apart = others_stay limits states last run t h owner_then.link x d.previous commits_then owner_then.is_link owner_then.stands j apart
+  others_then j apart = others_stay run t h owner_then.link x d.previous commits_then owner_then.is_link owner_then.stands j apart

@@ -23,9 +23,9 @@ use Rattle.proof_shape.specs.Beneath.proof_commits.proofs.Known.Acts.{known_run}
 pub was_later : (states : ℕ → State) (last t : ℕ) (i m : Ref) → Was states last t i m → Was states last (suc t) i m
 was_later states last t i m (u, le, is) = (u, omega (arith, le), is)
 
-module _ (limits : Bounds) (states : ℕ → State) (last : ℕ) (run : IsRun limits states last) where
+module _ {limits : Bounds} {states : ℕ → State} {last : ℕ} (run : IsRun limits states last) where
   abbrev p : Protocol
-  p = protocol limits states last (known_run limits states last run)
+  p = protocol limits states last (known_run run)
 
   -- the main nodes of indirections that are made
   pub main_linked : (t : ℕ) (i : Ref) → is_indirection (node_under states t i) ≡ true → counting_main states last t i ≡ main_before states t i
@@ -42,14 +42,14 @@ module _ (limits : Bounds) (states : ℕ → State) (last : ℕ) (run : IsRun li
       by_node (Tomb s) e l = absurd (true≢false (sym l))
       by_node (Listed ss) e l = absurd (true≢false (sym l))
 
-  pub given_link : (t : ℕ) → t ≤ last → (k : ℕ) (i m : Ref) → Given (words_of states run.records last (known_run limits states last run).closing) t k i m →
+  pub given_link : (t : ℕ) → t ≤ last → (k : ℕ) (i m : Ref) → Given (words_of states run.records last (known_run run).closing) t k i m →
       (g : ℕ) × (w : Ref) × (node_under states last i ≡ Indirection g w)
   given_link t h k i m given =
       let stood = ((sound_at p t h).given k i m given).stood in
       link_in_end stood.at i (omega (arith, stood.past)) stood.link
 
   -- what a READ gave
-  pub was_given : (t : ℕ) → t ≤ last → (k : ℕ) (i m : Ref) → Given (words_of states run.records last (known_run limits states last run).closing) t k i m → Was states last t i m
+  pub was_given : (t : ℕ) → t ≤ last → (k : ℕ) (i m : Ref) → Given (words_of states run.records last (known_run run).closing) t k i m → Was states last t i m
   was_given t h k i m given =
       let moment = gives_moment p given.at (omega (arith, given.past)) k i m given.line given.stage given.gives in
       let r = counts_at given.line given.at (p.words.from given.at k) in

@@ -39,7 +39,7 @@ use Rattle.proof_shape.proofs.Full.Made.{FullNode, ActionFull}
 use Rattle.proof_shape.proofs.Full.Acts.{acts_full}
 use Rattle.proof_shape.specs.Beneath.machine_model.proofs.Grown.{node_standing, grown_in_use}
 
-module _ (limits : Bounds) (states : ℕ → State) (steps : ℕ → Step) (last : ℕ) (run : IsRun limits states last) (takes : TakesSteps states steps last) where
+module _ {limits : Bounds} {states : ℕ → State} (steps : ℕ → Step) {last : ℕ} (run : IsRun limits states last) (takes : TakesSteps states steps last) where
   abbrev s : Sites
   s = sites_of states steps last
 
@@ -47,7 +47,7 @@ module _ (limits : Bounds) (states : ℕ → State) (steps : ℕ → Step) (last
   S t = IsInUse (states t).heap
 
   same : (t : ℕ) → t ≤ last → (r : Ref) → S t r → bare (s.node r) ≡ bare (node_at (states t).heap r)
-  same t h r (slot, found) = are_bare limits states steps last run takes t h r slot found ∙ ap bare (sym (node_standing (states t).heap r slot found))
+  same t h r (slot, found) = are_bare steps run takes t h r slot found ∙ ap bare (sym (node_standing (states t).heap r slot found))
 
   abbrev Wants : ℕ → Operation → Line → Type 0
   Wants t operation l = AllHold (S t) (states t).heap (line_wants limits.hash operation.call operation.access l)
@@ -57,12 +57,12 @@ module _ (limits : Bounds) (states : ℕ → State) (steps : ℕ → Step) (last
       action_of (states t) operation ≡ act.Make (Indirection g child) →
       (made : Ref) → next_ref (states t).heap ≡ Some made → is_indirection (s.node made) ≡ true
   link_made t h actor operation go g child a made e =
-      let I = safe_at limits states last run t (omega arith) in
+      let I = safe_at run t (omega arith) in
       let n : made_node (states t) (action_of (states t) operation) ≡ Some (Indirection g child) = ap (made_node (states t)) a in
       let stood = ap (λ (x : State). standing x.heap made) go.after ∙ ap (λ heap. standing heap made)
       (made_heap _ (handle_of operation.call) (action_of (states t) operation) (Indirection g child) made n e)
       ∙ (taken_all (states t).limits.slots (states t).heap (I.sound.heap) (Indirection g child) made e).0 in
-      sym (bare_link (s.node made)) ∙ ap is_indirection (are_bare limits states steps last run takes (suc t) h made (fresh_slot (states t).heap (Indirection g child)) stood)
+      sym (bare_link (s.node made)) ∙ ap is_indirection (are_bare steps run takes (suc t) h made (fresh_slot (states t).heap (Indirection g child)) stood)
 
   line_next : (t : ℕ) (h : t < last) (actor : ℕ) (operation : Operation) → GoesAt states run.records t actor operation → (l : Line) →
       action_of (states t) operation ≡ line_action (states t) operation l → Wants t operation l →
@@ -74,7 +74,7 @@ module _ (limits : Bounds) (states : ℕ → State) (steps : ℕ → Step) (last
   line_next t h actor operation go (line.Key (key.Sibling path main position former)) a w f =
       sibling_full s (states t) operation (S t) (same t (omega arith)) path main position former _ (key_edge (states t) operation (key.Sibling path main position former)) (safe_of w.1.1.0)
       (at_position (S t) (states t).heap AnEntry (1 - position) (branch_entries (S t) (states t).heap
-      (heaped_in_use (states t) (safe_at limits states last run t (omega arith))) w.1.1.0) w.1.1.1.0).0
+      (heaped_in_use (states t) (safe_at run t (omega arith))) w.1.1.0) w.1.1.1.0).0
   line_next t h actor operation go (line.Key (key.Read path r)) a w f = free_full s _ (key_read_leads (states t) operation path r).2
   line_next t h actor operation go (line.Key (key.Main path main)) a w f = free_full s _ (key_main_leads (states t) operation path main (node_at (states t).heap main)).2
   line_next t h actor operation go (line.Renew (renew.Entry path main done)) a w f =
@@ -96,8 +96,8 @@ module _ (limits : Bounds) (states : ℕ → State) (steps : ℕ → Step) (last
 
   full_lines : OfEachAt states last (λ t actor operation. FullLine s operation.line)
   full_lines =
-      each_at (λ t actor operation. FullLine s operation.line) (λ t actor operation f. f) limits states last run (λ t h actor call number d. first_full s call)
-      (λ t h actor operation go f. line_next t h actor operation go operation.line refl (line_at limits states last run t (omega arith) actor operation go.runs) f)
+      each_at (λ t actor operation. FullLine s operation.line) (λ t actor operation f. f) run (λ t h actor call number d. first_full s call)
+      (λ t h actor operation go f. line_next t h actor operation go operation.line refl (line_at run t (omega arith) actor operation go.runs) f)
       (λ t h actor operation answer is may f. tt) (λ t h actor operation is f. f)
 
   -- ---- what is made
@@ -119,20 +119,20 @@ module _ (limits : Bounds) (states : ℕ → State) (steps : ℕ → Step) (last
         (actor : ℕ) (operation : Operation) → operation_of (states t) actor ≡ Some operation →
         ActionFull s (made_level operation.line) (action_of (states t) operation)
     acts_at t h old actor operation is =
-        let hash : limits.hash ≡ (states t).limits.hash = ap (λ (l : Bounds). l.hash) (sym (limits_at limits states last run t h)) in
-        let site = lines_have_sites limits states steps last run takes keys t h actor operation is in
+        let hash : limits.hash ≡ (states t).limits.hash = ap (λ (l : Bounds). l.hash) (sym (limits_at run t h)) in
+        let site = lines_have_sites steps run takes keys t h actor operation is in
         acts_full s (states t) operation (S t) (same t h) (first_main states last)
         (λ r u. subst (FullNode s (s.level r)) (sym (node_standing (states t).heap r u.0 u.1)) (old r u.0 (grown_in_use states t r u.0 u.1))) operation.line
-        (subst (λ k. AllHold (S t) (states t).heap (line_wants k operation.call operation.access operation.line)) hash (line_at limits states last run t h actor operation is)) site.0
+        (subst (λ k. AllHold (S t) (states t).heap (line_wants k operation.call operation.access operation.line)) hash (line_at run t h actor operation is)) site.0
         (subst (λ k. LineSite k s (hash_of k (key_of operation.call)) operation.line) hash site.1)
-        (subst (λ k. KnowsLine (record { kind = k; node = s.node; first = first_main states last }) operation.call operation.line) hash (knows_at limits states last run t h actor operation is))
+        (subst (λ k. KnowsLine (record { kind = k; node = s.node; first = first_main states last }) operation.call operation.line) hash (knows_at run t h actor operation is))
         (full_lines t h actor operation is)
 
     first_there : (r : Ref) (slot : Slot) → standing (first_state limits).heap r ≡ Some slot → FullNode s (s.level r) slot.node
     unfolding first_state
     first_there =
         first_stands (λ r slot. FullNode s (s.level r) slot.node) limits.slots run.limits_ok.0 (λ birth. tt)
-        (λ birth deep. let root = branch_old limits states steps last run takes in absurd (omega (arith, root, deep)))
+        (λ birth deep. let root = branch_old steps run takes in absurd (omega (arith, root, deep)))
 
     pub full_grown : (t : ℕ) → t ≤ last → (r : Ref) (slot : Slot) → grown states t r ≡ Some slot → FullNode s (s.level r) slot.node
     unfolding grown
@@ -141,9 +141,9 @@ module _ (limits : Bounds) (states : ℕ → State) (steps : ℕ → Step) (last
       where
         by_before : ((q : Ref) (slot : Slot) → grown states t q ≡ Some slot → FullNode s (s.level q) slot.node) → (o : Option Slot) → grown states t r ≡ o → FullNode s (s.level r) slot.node
         by_before old (Some was) e =
-            let (now, found_now, kept) = grown_stays limits states last run t (suc t) (omega arith) h r was e in
+            let (now, found_now, kept) = grown_stays run t (suc t) (omega arith) h r was e in
             subst (FullNode s (s.level r)) (sym kept.0.1 ∙ ap (λ (x : Slot). x.node) (same_Some _ _ (sym found_now ∙ found))) (main_full (s.level r) kept.0.0 was.node (old r was e))
-        by_before old None e = by_birth (born (states t) (safe_at limits states last run t (omega arith)) (steps t) (takes t h).0 (states (suc t)) (takes t h).1 r slot none now)
+        by_before old None e = by_birth (born (states t) (safe_at run t (omega arith)) (steps t) (takes t h).0 (states (suc t)) (takes t h).1 r slot none now)
           where
             none : standing (states t).heap r ≡ None
             none = by_slot (standing (states t).heap r) refl
@@ -161,7 +161,7 @@ module _ (limits : Bounds) (states : ℕ → State) (steps : ℕ → Step) (last
 
             by_birth : IsBorn (states t) (steps t) r slot → FullNode s (s.level r) slot.node
             by_birth b =
-                let level = gives_level limits states steps last run takes t h b.actor b.operation b.node r b.step_is b.runs b.makes_it b.next in
+                let level = gives_level steps run takes t h b.actor b.operation b.node r b.step_is b.runs b.makes_it b.next in
                 subst (λ (x : Slot). FullNode s (s.level r) x.node) (sym b.slot_is)
                 (subst (λ l. FullNode s l b.node) (sym level)
                 (made_full (made_level b.operation.line) (states t) (action_of (states t) b.operation) b.node b.makes_it (acts_at t (omega arith) old b.actor b.operation b.runs)))

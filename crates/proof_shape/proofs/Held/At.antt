@@ -32,16 +32,16 @@ use Rattle.proof_shape.proofs.Held.Free.{free_holds, key_single_free, key_listed
 use Rattle.proof_shape.proofs.Lines.Leads.{holds_nothing, first_leads, root_leads, copy_leads, walk_leads, climb_leads, key_read_leads, key_main_leads, key_sibling_leads}
 use Rattle.proof_shape.specs.Beneath.proof_commits.proofs.Known.Acts.{known_run}
 
-module _ (limits : Bounds) (states : ℕ → State) (last : ℕ) (run : IsRun limits states last) where
+module _ {limits : Bounds} {states : ℕ → State} {last : ℕ} (run : IsRun limits states last) where
   abbrev p : Protocol
-  p = protocol limits states last (known_run limits states last run)
+  p = protocol limits states last (known_run run)
 
   -- what is said of each running operation
   abbrev pub HoldsAt : ℕ → ℕ → Operation → Type 0
-  HoldsAt t k operation = (start : ℕ) → operation.generation ≡ Some start → HeldIn limits states last run t k operation.id start operation.call operation.line
+  HoldsAt t k operation = (start : ℕ) → operation.generation ≡ Some start → HeldIn run t k operation.id start operation.call operation.line
 
   -- with no generation yet it holds nothing
-  above_holds : (t k id start : ℕ) (call : Call) (l : Line) → (is_below l ≡ true → ⊥) → HeldIn limits states last run t k id start call l
+  above_holds : (t k id start : ℕ) (call : Call) (l : Line) → (is_below l ≡ true → ⊥) → HeldIn run t k id start call l
   above_holds t k id start call (line.Root l) not = tt
   above_holds t k id start call (line.Copy l) not = tt
   above_holds t k id start call (line.Walk l) not = tt
@@ -56,20 +56,20 @@ module _ (limits : Bounds) (states : ℕ → State) (last : ℕ) (run : IsRun li
 
   -- ---- so new nodes name what may be read, or what their maker holds
 
-  new_names_at : (t : ℕ) → t < last → ((k : ℕ) (operation : Operation) → operation_of (states t) k ≡ Some operation → HoldsAt t k operation) → NewNames limits states last run t
+  new_names_at : (t : ℕ) → t < last → ((k : ℕ) (operation : Operation) → operation_of (states t) k ≡ Some operation → HoldsAt t k operation) → NewNames run t
   new_names_at t h all m r before after names g y is =
-      let x = maker_of limits states last run t h m before after in
+      let x = maker_of run t h m before after in
       by_generation x.operation x.go x.operation.generation refl
     where
-      by_generation : (operation : Operation) → GoesAt states run.records t (taker limits states last run t) operation → (o : Option ℕ) → operation.generation ≡ o →
-          IsOpen limits states last run t r ⊎ ((s : ℕ) × IsHeld limits states last run t (taker limits states last run t) s r)
+      by_generation : (operation : Operation) → GoesAt states run.records t (taker run t) operation → (o : Option ℕ) → operation.generation ≡ o →
+          IsOpen run t r ⊎ ((s : ℕ) × IsHeld run t (taker run t) s r)
       by_generation operation go (Some start) e =
-          line_names limits states last run t h (taker limits states last run t) operation go start m r before after names g y is operation.line refl
-          (all (taker limits states last run t) operation go.runs start e)
+          line_names run t h (taker run t) operation go start m r before after names g y is operation.line refl
+          (all (taker run t) operation go.runs start e)
       by_generation operation go None e =
-          line_names limits states last run t h (taker limits states last run t) operation go 0 m r before after names g y is operation.line refl
-          (above_holds t (taker limits states last run t) operation.id 0 operation.call operation.line
-          (λ b. let s = (settled_at limits states last run t (omega arith) (taker limits states last run t) operation go.runs).starts b in no_start s.0 (sym e ∙ s.1)))
+          line_names run t h (taker run t) operation go 0 m r before after names g y is operation.line refl
+          (above_holds t (taker run t) operation.id 0 operation.call operation.line
+          (λ b. let s = (settled_at run t (omega arith) (taker run t) operation go.runs).starts b in no_start s.0 (sym e ∙ s.1)))
         where
           no_start : (start : ℕ) → None ≡ Some start → ⊥
           no_start start bad = cc
@@ -77,18 +77,18 @@ module _ (limits : Bounds) (states : ℕ → State) (last : ℕ) (run : IsRun li
   -- the main node that a link is to be made over wasn't given
   node_not_given : (t : ℕ) → t ≤ last → (k : ℕ) (operation : Operation) → operation_of (states t) k ≡ Some operation → (l : Line) → operation.line ≡ l →
       (l' : Line) → l ≡ l' → (path : List Ref) (main : Ref) (position : ℕ) (below : Ref) (depth : ℕ) → l' ≡ line.Build (build.Link path main position below depth) →
-      NotGiven limits states last run t below
+      NotGiven run t below
   node_not_given t h k operation is l e l' e' path main position below depth e'' q i g =
       let private : Private p.words t below = subst (λ s. Staged p.words t k s) (ap stage_of_actor is ∙ ap stage_of (e ∙ e' ∙ e'')) ((sound_at p t h).staged k) in
       private.apart i ((sound_at p t h).given q i below g).stood
 
   module _ (t : ℕ) (h : t < last) (all : (k : ℕ) (operation : Operation) → operation_of (states t) k ≡ Some operation → HoldsAt t k operation) where
-    new : NewNames limits states last run t
+    new : NewNames run t
     new = new_names_at t h all
 
     not_given : (k : ℕ) (operation : Operation) → operation_of (states t) k ≡ Some operation → (id start : ℕ)
-        (held : (j : Ref) → IsHeld limits states last run t k start j → IsHeld limits states last run (suc t) k start j) → (l : Line) → operation.line ≡ l →
-        NodeNotGiven limits states last run t h k id start new held l
+        (held : (j : Ref) → IsHeld run t k start j → IsHeld run (suc t) k start j) → (l : Line) → operation.line ≡ l →
+        NodeNotGiven run t h k id start new held l
     not_given k operation is id start held (line.Build (build.Link path main position below depth)) e =
         node_not_given t (omega arith) k operation is operation.line refl _ e path main position below depth refl
     not_given k operation is id start held (line.Build (build.Single path main s former)) e = tt
@@ -106,28 +106,28 @@ module _ (limits : Bounds) (states : ℕ → State) (last : ℕ) (run : IsRun li
     not_given k operation is id start held (line.End answer) e = tt
     not_given k operation is id start held line.Impossible e = tt
 
-    stays_holding : (k : ℕ) (operation : Operation) → operation_of (states t) k ≡ Some operation → (taker limits states last run t ≡ k → ⊥) → HoldsAt (suc t) k operation
+    stays_holding : (k : ℕ) (operation : Operation) → operation_of (states t) k ≡ Some operation → (taker run t ≡ k → ⊥) → HoldsAt (suc t) k operation
     stays_holding k operation is apart start begun =
-        let held : (j : Ref) → IsHeld limits states last run t k start j → IsHeld limits states last run (suc t) k start j =
-        λ j x. held_still limits states last run t k start j (omega arith) new apart x in
-        line_still limits states last run t h k operation.id start new held operation.call operation.line
+        let held : (j : Ref) → IsHeld run t k start j → IsHeld run (suc t) k start j =
+        λ j x. held_still run t k start j (omega arith) new apart x in
+        line_still run t h k operation.id start new held operation.call operation.line
         (not_given k operation is operation.id start held operation.line refl) (all k operation is start begun)
 
     -- ---- the own step
 
-    module _ (actor : ℕ) (operation : Operation) (go : GoesAt states run.records t actor operation) (takes_it : taker limits states last run t ≡ actor) (start : ℕ) where
+    module _ (actor : ℕ) (operation : Operation) (go : GoesAt states run.records t actor operation) (takes_it : taker run t ≡ actor) (start : ℕ) where
       abbrev Next : Line → Type 0
-      Next l = HeldIn limits states last run (suc t) actor operation.id start operation.call l
+      Next l = HeldIn run (suc t) actor operation.id start operation.call l
 
       free : (l : Line) → holds_nothing l ≡ true → Next l
-      free l e = free_holds limits states last run (suc t) actor operation.id start operation.call l e
+      free l e = free_holds run (suc t) actor operation.id start operation.call l e
 
       key_entry_holds : operation.generation ≡ Some start → (path : List Ref) (main : Ref) (position : ℕ) (n : Node) → Next (key_after_entry (states t) operation path main position n)
       key_entry_holds begun path main position (Indirection g w) = by_test (is_passable operation g)
         where
           by_test : (b : Bool) → Next (cond b (going_down path (entry_at (states t).heap main position)) (renew_next (states t) path main []))
           by_test true = tt
-          by_test false = renew_begins limits states last run t h actor operation go takes_it new start begun path main
+          by_test false = renew_begins run t h actor operation go takes_it new start begun path main
       key_entry_holds begun path main position (Single k v) = free _ (key_single_free (states t) operation path main position k v)
       key_entry_holds begun path main position (Branch b es) = tt
       key_entry_holds begun path main position (Tomb s) = tt
@@ -152,26 +152,26 @@ module _ (limits : Bounds) (states : ℕ → State) (last : ℕ) (run : IsRun li
       swap_holds why s x (Gives done) = free _ (swapped_free operation (node_at (states t).heap s.fresh) why done)
 
       line_holds : (l : Line) → operation.line ≡ l → generation_from (states t) operation l ≡ Some start →
-          (operation.generation ≡ Some start → HeldIn limits states last run t actor operation.id start operation.call l) → Next (line_after (states t) operation l)
+          (operation.generation ≡ Some start → HeldIn run t actor operation.id start operation.call l) → Next (line_after (states t) operation l)
       line_holds (line.Root l) e begun x = free _ (root_leads (states t) operation l).2
       line_holds (line.Key l) e begun x = key_holds begun l
-      line_holds (line.Build l) e begun x = build_holds limits states last run t h actor operation go takes_it new start begun l e (x begun)
-      line_holds (line.Renew l) e begun x = renew_holds limits states last run t h actor operation go takes_it new start begun l e (x begun)
-      line_holds (line.Clean l) e begun x = clean_holds limits states last run t h actor operation go takes_it new start begun l e (x begun)
+      line_holds (line.Build l) e begun x = build_holds run t h actor operation go takes_it new start begun l e (x begun)
+      line_holds (line.Renew l) e begun x = renew_holds run t h actor operation go takes_it new start begun l e (x begun)
+      line_holds (line.Clean l) e begun x = clean_holds run t h actor operation go takes_it new start begun l e (x begun)
       line_holds (line.Swap why s) e begun x =
-          let held = quiet_held limits states last run t h actor operation go (ap (λ y. is_making (line_action (states t) operation y)) e ∙ swap_quiet (states t) operation why s) start in
+          let held = quiet_held run t h actor operation go (ap (λ y. is_making (line_action (states t) operation y)) e ∙ swap_quiet (states t) operation why s) start in
           swap_holds why s
-          (line_still limits states last run t h actor operation.id start new held operation.call (line.Swap why s) (not_given actor operation go.runs operation.id start held _ e) (x begun)) _
+          (line_still run t h actor operation.id start new held operation.call (line.Swap why s) (not_given actor operation go.runs operation.id start held _ e) (x begun)) _
       line_holds (line.Climb l) e begun x = free _ (climb_leads (states t) operation l).2
       line_holds (line.Copy l) e begun x = free _ (copy_leads (states t) operation l).2
       line_holds (line.Walk l) e begun x = free _ (walk_leads (states t) operation l).2
       line_holds (line.End answer) e begun x = tt
       line_holds line.Impossible e begun x = tt
 
-  pub holds_at : OfEachAt states last (λ t k operation. (start : ℕ) → operation.generation ≡ Some start → HeldIn limits states last run t k operation.id start operation.call operation.line)
+  pub holds_at : OfEachAt states last (λ t k operation. (start : ℕ) → operation.generation ≡ Some start → HeldIn run t k operation.id start operation.call operation.line)
   holds_at =
-      each_with limits states last run HoldsAt (λ t k operation x. x)
-      (λ t h actor call number d takes e start begun. free_holds limits states last run (suc t) actor _ start call _ (first_leads call).2)
+      each_with run HoldsAt (λ t k operation x. x)
+      (λ t h actor call number d takes e start begun. free_holds run (suc t) actor _ start call _ (first_leads call).2)
       (λ t h actor operation go takes_it all start begun. line_holds t h all actor operation go takes_it start operation.line refl begun (λ b. all actor operation go.runs start b))
       (λ t h actor operation answer is may all start begun. tt)
       (λ t h k operation is apart all. stays_holding t h all k operation is apart)

@@ -25,39 +25,39 @@ use Rattle.proof_shape.proofs.Held.Lines.{NamedOrHeld}
 use Rattle.proof_shape.specs.Beneath.proof_memory.specs.Wants.{is_indirection}
 use Rattle.proof_shape.specs.Beneath.proof_commits.proofs.Known.Acts.{known_run}
 
-module _ (limits : Bounds) (states : ℕ → State) (last : ℕ) (run : IsRun limits states last) (t : ℕ) (h : t < last) (actor : ℕ) (operation : Operation)
+module _ {limits : Bounds} {states : ℕ → State} {last : ℕ} (run : IsRun limits states last) (t : ℕ) (h : t < last) (actor : ℕ) (operation : Operation)
     (go : GoesAt states run.records t actor operation) where
   abbrev heap : Heap
   heap = (states t).heap
 
   abbrev p : Protocol
-  p = protocol limits states last (known_run limits states last run)
+  p = protocol limits states last (known_run run)
 
   -- ---- held ones stay held, but for those that a new node names
 
-  pub quiet_held : is_making (action_of (states t) operation) ≡ false → (start : ℕ) (j : Ref) → IsHeld limits states last run t actor start j → IsHeld limits states last run (suc t) actor start j
+  pub quiet_held : is_making (action_of (states t) operation) ≡ false → (start : ℕ) (j : Ref) → IsHeld run t actor start j → IsHeld run (suc t) actor start j
   quiet_held q start j held =
-      held_by limits states last run t actor start j held (λ m before after names. true≢false (sym after ∙ quiet_step limits states last run t h actor operation go q m ∙ before))
+      held_by run t actor start j held (λ m before after names. true≢false (sym after ∙ quiet_step run t h actor operation go q m ∙ before))
 
   -- what the step makes is the only new node
   pub only_new : (n : Node) → action_of (states t) operation ≡ act.Make n → (made : Ref) → next_ref (states t).heap ≡ Some made → (m : Ref) →
       is_made states t m ≡ false → is_made states (suc t) m ≡ true → m ≡ made
-  only_new n a made next m before after = same_Some _ _ (sym (new_is limits states last run t h actor operation go n a m before after) ∙ next)
+  only_new n a made next m before after = same_Some _ _ (sym (new_is run t h actor operation go n a m before after) ∙ next)
 
   pub made_now : (n : Node) → action_of (states t) operation ≡ act.Make n → (made : Ref) → next_ref (states t).heap ≡ Some made → (is_made states t made ≡ false)
       × (is_made states (suc t) made ≡ true)
-  made_now n a made next = let x = takes limits states last run t h actor operation go n a made next in (ap is_some x.new, ap is_some x.here)
+  made_now n a made next = let x = takes run t h actor operation go n a made next in (ap is_some x.new, ap is_some x.here)
 
   -- where the new node names none of them
   pub made_held : (n : Node) → action_of (states t) operation ≡ act.Make n → (made : Ref) → next_ref (states t).heap ≡ Some made → (start : ℕ) (j : Ref) →
-      (Contains (entries_of (node_under states last made)) j → ⊥) → IsHeld limits states last run t actor start j → IsHeld limits states last run (suc t) actor start j
+      (Contains (entries_of (node_under states last made)) j → ⊥) → IsHeld run t actor start j → IsHeld run (suc t) actor start j
   made_held n a made next start j not held =
-      held_by limits states last run t actor start j held
+      held_by run t actor start j held
       (λ m before after names. not (subst (λ x. Contains (entries_of (node_under states last x)) j) (only_new n a made next m before after) names))
 
   -- where it does, it alone does
   pub made_named : (n : Node) → action_of (states t) operation ≡ act.Make n → (made : Ref) → next_ref (states t).heap ≡ Some made → (start : ℕ) (j : Ref) →
-      Contains (entries_of (node_under states last made)) j → IsHeld limits states last run t actor start j → IsNamed limits states last run (suc t) start j made
+      Contains (entries_of (node_under states last made)) j → IsHeld run t actor start j → IsNamed run (suc t) start j made
   made_named n a made next start j names held = record {
     fresh = record { word = held.fresh.word; link = held.fresh.link; deep = held.fresh.deep; made = made_next states t j held.fresh.made };
     names = names;
@@ -70,31 +70,31 @@ module _ (limits : Bounds) (states : ℕ → State) (last : ℕ) (run : IsRun li
       by_made m made_m names_m false e = only_new n a made next m e made_m
 
   pub named_or_held : (n : Node) → action_of (states t) operation ≡ act.Make n → (made : Ref) → next_ref (states t).heap ≡ Some made → (start : ℕ) (j : Ref) →
-      IsHeld limits states last run t actor start j →
-      NamedOrHeld limits states last run (suc t) actor start made j
+      IsHeld run t actor start j →
+      NamedOrHeld run (suc t) actor start made j
   named_or_held n a made next start j held = by_cases (contains_or_not (entries_of (node_under states last made)) j)
     where
-      by_cases : Contains (entries_of (node_under states last made)) j ⊎ (Contains (entries_of (node_under states last made)) j → ⊥) → NamedOrHeld limits states last run (suc t) actor start made j
+      by_cases : Contains (entries_of (node_under states last made)) j ⊎ (Contains (entries_of (node_under states last made)) j → ⊥) → NamedOrHeld run (suc t) actor start made j
       by_cases (inl names) = inl (made_named n a made next start j names held)
       by_cases (inr not) = inr (made_held n a made next start j not held)
 
   -- ---- a new indirection
 
   module _ (below : Ref) (a : action_of (states t) operation ≡ act.Make (Indirection (start_of operation) below)) (made : Ref) (next : next_ref (states t).heap ≡ Some made)
-      (takes_it : taker limits states last run t ≡ actor) (start : ℕ) (begun : operation.generation ≡ Some start) where
+      (takes_it : taker run t ≡ actor) (start : ℕ) (begun : operation.generation ≡ Some start) where
     link_is : (w : Ref) × (node_under states last made ≡ Indirection start w)
     link_is =
-        let l = made_link limits states last run t h actor operation go _ a made next (start_of operation) below refl in
+        let l = made_link run t h actor operation go _ a made next (start_of operation) below refl in
         (l.0, l.1 ∙ ap (λ g. Indirection g l.0) (ap (λ o. unwrap_or o 0) begun))
 
     new_unnamed : (m : Ref) → is_made states (suc t) m ≡ true → Contains (entries_of (node_under states last m)) made → ⊥
     new_unnamed m made_m names = by_made (is_made states t m) refl
       where
         by_made : (b : Bool) → is_made states t m ≡ b → ⊥
-        by_made true e = true≢false (sym (entries_made limits states last run t (omega arith) m made e names) ∙ (made_now _ a made next).0)
-        by_made false e = no_entry made (new_names limits states last run t h actor operation go (Indirection (start_of operation) below) a m made e made_m names)
+        by_made true e = true≢false (sym (entries_made run t (omega arith) m made e names) ∙ (made_now _ a made next).0)
+        by_made false e = no_entry made (new_names run t h actor operation go (Indirection (start_of operation) below) a m made e made_m names)
 
-    pub new_held : 2 ≤ level limits states last run made → IsHeld limits states last run (suc t) actor start made
+    pub new_held : 2 ≤ level run made → IsHeld run (suc t) actor start made
     new_held deep = record {
       fresh = record { word = link_is.0; link = link_is.1; deep = deep; made = (made_now _ a made next).1 };
       maker = record { at = t; past = omega arith; before = (made_now _ a made next).0; after = (made_now _ a made next).1; takes = takes_it };
@@ -102,11 +102,11 @@ module _ (limits : Bounds) (states : ℕ → State) (last : ℕ) (run : IsRun li
     }
 
     -- the main node over which it was made stands in it alone, if it stood nowhere
-    pub new_stands : Private p.words t below → StandsIn limits states last run (suc t) below made
+    pub new_stands : Private p.words t below → StandsIn run (suc t) below made
     new_stands private = record { stood_there = stands_now is_link_now main_is; only = λ i now. by_cases i (stood_cases p.words t i below now) }
       where
         x : GrownTakes states t made (Indirection (start_of operation) below)
-        x = takes limits states last run t h actor operation go _ a made next
+        x = takes run t h actor operation go _ a made next
 
         is_link_now : p.words.link (suc t) made ≡ true
         is_link_now = ap (λ o. is_indirection (node_of o)) x.here
@@ -127,8 +127,8 @@ module _ (limits : Bounds) (states : ℕ → State) (last : ℕ) (run : IsRun li
   -- ---- BUILD
 
   -- the level of what the next line holds
-  pub next_level : LineLevel (level limits states last run) (line_after (states t) operation operation.line)
+  pub next_level : LineLevel (level run) (line_after (states t) operation operation.line)
   next_level =
       let own : RunsAfter (states (suc t)) actor (operation_after (states t) operation) = runs_after states run.records t actor operation go in
-      subst (λ l. LineLevel (level limits states last run) l) own.line
-      (of_actor (states (suc t)) (λ k operation. LineLevel (level limits states last run) operation.line) ((levels_along limits states last run (suc t) h).lines) actor own.operation own.runs).1
+      subst (λ l. LineLevel (level run) l) own.line
+      (of_actor (states (suc t)) (λ k operation. LineLevel (level run) operation.line) ((levels_along run (suc t) h).lines) actor own.operation own.runs).1

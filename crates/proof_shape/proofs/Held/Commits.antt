@@ -91,16 +91,16 @@ module _ (kind : HashKind) (node : Ref → Node) (A B : Ref → Ref) where
           (change.Remove position, (value, had, removes, presence_moves depth (key_of call) replaced position value presence), made)
       by_change (change.Entomb other) e (value, had, removes, is) made = (change.Entomb other, (value, had, removes, other_moves depth (key_of call) replaced other value is), made)
 
-module _ (limits : Bounds) (states : ℕ → State) (last : ℕ) (run : IsRun limits states last) where
+module _ {limits : Bounds} {states : ℕ → State} {last : ℕ} (run : IsRun limits states last) where
   abbrev node : Ref → Node
   node = node_under states last
 
   -- ---- what can't be read has its first main node
 
-  untouched : (t : ℕ) → t ≤ last → (j : Ref) → (IsOpen limits states last run t j → ⊥) → counting_main states last t j ≡ first_main states last j
+  untouched : (t : ℕ) → t ≤ last → (j : Ref) → (IsOpen run t j → ⊥) → counting_main states last t j ≡ first_main states last j
   untouched t h j closed =
       from_time (λ u. counting_main states last u j ≡ first_main states last j) zero t refl
-      (λ u low below so_far. closed_keeps limits states last run u (omega arith) j (λ may. closed (open_still limits states last run u t (omega arith) j may)) ∙ so_far) t (omega arith) (omega arith)
+      (λ u low below so_far. closed_keeps run u (omega arith) j (λ may. closed (open_still run u t (omega arith) j may)) ∙ so_far) t (omega arith) (omega arith)
 
   assigned_own : (start t : ℕ) (j word : Ref) → node j ≡ Indirection start word → assigned_at states last start t j ≡ counting_main states last t j
   assigned_own start t j word is =
@@ -108,15 +108,15 @@ module _ (limits : Bounds) (states : ℕ → State) (last : ℕ) (run : IsRun li
 
   module _ (t : ℕ) (h : t < last) (start : ℕ) where
     -- at the commit, and just behind it
-    assigned_first : (j : Ref) → IsFresh limits states last run t start j → (IsOpen limits states last run t j → ⊥) → assigned_at states last start t j ≡ first_main states last j
+    assigned_first : (j : Ref) → IsFresh run t start j → (IsOpen run t j → ⊥) → assigned_at states last start t j ≡ first_main states last j
     assigned_first j fresh closed = assigned_own start t j fresh.word fresh.link ∙ untouched t (omega arith) j closed
 
-    assigned_next : (j : Ref) → IsFresh limits states last run t start j → (IsOpen limits states last run t j → ⊥) → assigned_at states last start (suc t) j ≡ first_main states last j
-    assigned_next j fresh closed = assigned_own start (suc t) j fresh.word fresh.link ∙ closed_keeps limits states last run t h j closed ∙ untouched t (omega arith) j closed
+    assigned_next : (j : Ref) → IsFresh run t start j → (IsOpen run t j → ⊥) → assigned_at states last start (suc t) j ≡ first_main states last j
+    assigned_next j fresh closed = assigned_own start (suc t) j fresh.word fresh.link ∙ closed_keeps run t h j closed ∙ untouched t (omega arith) j closed
 
     -- a chain leads on as it did
     chain_leads : (kind : HashKind) (other key : ℕ) (old s : Ref) (levels depth : ℕ) (j : Ref) → LeadsToPair node (first_main states last) kind other key old s levels depth j →
-        IsChain limits states last run t start j → IsFresh limits states last run t start j → (IsOpen limits states last run t j → ⊥) →
+        IsChain run t start j → IsFresh run t start j → (IsOpen run t j → ⊥) →
         LeadsToPair node (assigned_at states last start (suc t)) kind other key old s levels depth j
     chain_leads kind other key old s levels depth j (at_pair left d i is parts) chain fresh closed =
         at_pair left d i (ap node (assigned_next i fresh closed) ∙ is) parts
@@ -124,23 +124,23 @@ module _ (limits : Bounds) (states : ℕ → State) (last : ℕ) (run : IsRun li
     chain_leads kind other key old s levels depth j (by_rung left d i below word g is under index rest) (goes_on q next hash e next_is named stands more) fresh closed =
         let same : next ≡ below =
         one_entry below next (subst (λ n. Contains (entries_of n) next) is (subst (λ n. Contains (entries_of n) next) (sym next_is) (0, omega arith, refl))) in
-        let below_closed = named_closed limits states last run t start next (first_main states last q) (omega arith) named
-        (stands_not_given limits states last run t (first_main states last q) q (omega arith) stands closed) in
+        let below_closed = named_closed run t start next (first_main states last q) (omega arith) named
+        (stands_not_given run t (first_main states last q) q (omega arith) stands closed) in
         by_rung left d i below word g (ap node (assigned_next i fresh closed) ∙ is) under index
-        (chain_leads kind other key old s left (suc d) below rest (subst (λ r. IsChain limits states last run t start r) same more)
-        (subst (λ r. IsFresh limits states last run t start r) same named.fresh)
-        (subst (λ r. IsOpen limits states last run t r → ⊥) same below_closed))
+        (chain_leads kind other key old s left (suc d) below rest (subst (λ r. IsChain run t start r) same more)
+        (subst (λ r. IsFresh run t start r) same named.fresh)
+        (subst (λ r. IsOpen run t r → ⊥) same below_closed))
 
-    module _ (actor : ℕ) (f : Ref) (un : IsUncommitted limits states last run t f) where
-      its_fresh : (r : Ref) → NamedOrHeld limits states last run t actor start f r → IsFresh limits states last run t start r
+    module _ (actor : ℕ) (f : Ref) (un : IsUncommitted run t f) where
+      its_fresh : (r : Ref) → NamedOrHeld run t actor start f r → IsFresh run t start r
       its_fresh r (inl named) = named.fresh
       its_fresh r (inr held) = held.fresh
 
-      its_closed : (r : Ref) → NamedOrHeld limits states last run t actor start f r → IsOpen limits states last run t r → ⊥
-      its_closed r (inl named) = named_closed limits states last run t start r f (omega arith) named (uncommitted_not_given limits states last run t f (omega arith) un)
-      its_closed r (inr held) = held_closed limits states last run t actor start r (omega arith) held
+      its_closed : (r : Ref) → NamedOrHeld run t actor start f r → IsOpen run t r → ⊥
+      its_closed r (inl named) = named_closed run t start r f (omega arith) named (uncommitted_not_given run t f (omega arith) un)
+      its_closed r (inr held) = held_closed run t actor start r (omega arith) held
 
-      update_known : (call : Call) (path : List Ref) (former : Option ℕ) (a : Ref) → HeldUpdate limits states last run t actor start call path former a f →
+      update_known : (call : Call) (path : List Ref) (former : Option ℕ) (a : Ref) → HeldUpdate run t actor start call path former a f →
           KnowsSwap (known_with limits states last (assigned_at states last start (suc t))) call (depth_of path) a former f
       update_known call path former a x =
           swap_moves limits.hash node (first_main states last) (assigned_at states last start (suc t)) call (depth_of path) a f former x.knows
@@ -148,28 +148,28 @@ module _ (limits : Bounds) (states : ℕ → State) (last : ℕ) (run : IsRun li
           let it = x.chain position link is none un in
           chain_leads limits.hash other (key_of call) old s levels d link leads it.1 (its_fresh link it.0) (its_closed link it.0))
 
-      repair_known : (id : ℕ) (a : Ref) → HeldRepair limits states last run t actor id start a f →
+      repair_known : (id : ℕ) (a : Ref) → HeldRepair run t actor id start a f →
           IsRepaired node (assigned_at states last start t) (GaveBelow states run.records last t actor id start) start a f
       repair_known id a x = (x.done, x.bitmap, x.entries, record { is = x.is; each = λ n lt. by_done (x.each n lt) }, x.all, (x.may_entomb, x.made))
         where
           by_done : {entry other : Ref} →
               DoneWith node (first_main states last) (GaveBelow states run.records last t actor id start)
-              (λ r. IsUncommitted limits states last run t f → NamedOrHeld limits states last run t actor start f r) start entry other →
+              (λ r. IsUncommitted run t f → NamedOrHeld run t actor start f r) start entry other →
               IsDone node (assigned_at states last start t) (GaveBelow states run.records last t actor id start) start entry other
           by_done (kept e) = keeps e
           by_done (cleaned g word child is gave tomb) = cleans g word child is gave tomb
           by_done {entry} {other} (renewed g word word' child is apart is' gave at it) =
               renews g word word' child is apart is' gave (assigned_first other (its_fresh other (it un)) (its_closed other (it un)) ∙ at)
 
-  fresh_known : FreshKnown limits states last run (assigned_at states last)
+  fresh_known : FreshKnown run (assigned_at states last)
   fresh_known t h actor owner why i a f l start runs e begun commits = by_why why e
     where
-      un : IsUncommitted limits states last run t f
+      un : IsUncommitted run t f
       un = λ q s none. none≢pending none commits.was
 
       held : (w : Purpose) → owner.line ≡ line.Swap w (record { indirection = i; replaced = a; fresh = f; line = swap.Deciding l }) →
-          HeldIn limits states last run t actor owner.id start owner.call (line.Swap w (record { indirection = i; replaced = a; fresh = f; line = swap.Deciding l }))
-      held w e = subst (λ x. HeldIn limits states last run t actor owner.id start owner.call x) e (holds_at limits states last run t (omega arith) actor owner runs start begun)
+          HeldIn run t actor owner.id start owner.call (line.Swap w (record { indirection = i; replaced = a; fresh = f; line = swap.Deciding l }))
+      held w e = subst (λ x. HeldIn run t actor owner.id start owner.call x) e (holds_at run t (omega arith) actor owner runs start begun)
 
       by_why : (w : Purpose) → owner.line ≡ line.Swap w (record { indirection = i; replaced = a; fresh = f; line = swap.Deciding l }) →
           KnowsFresh limits states run.records last (assigned_at states last) t actor start owner a f w
@@ -177,8 +177,8 @@ module _ (limits : Bounds) (states : ℕ → State) (last : ℕ) (run : IsRun li
       by_why (purpose.Renew path) e = repair_known t h start actor f un owner.id a (held _ e)
       by_why purpose.Clean e = repair_known t h start actor f un owner.id a (held _ e)
       by_why (purpose.Climb c) e =
-          subst (λ x. KnowsClimbing (known_with limits states last (first_main states last)) (Was states last t) owner.call x) e (climbs_at limits states last run t (omega arith) actor owner runs)
+          subst (λ x. KnowsClimbing (known_with limits states last (first_main states last)) (Was states last t) owner.call x) e (climbs_at run t (omega arith) actor owner runs)
 
   -- each step commits nothing, or one fresh node, by the main nodes by which a generation's content is found then
   pub fresh_commits_at : CommitsAt limits states run.records last (assigned_at states last)
-  fresh_commits_at = commits_by limits states last run (assigned_at states last) fresh_known
+  fresh_commits_at = commits_by run (assigned_at states last) fresh_known

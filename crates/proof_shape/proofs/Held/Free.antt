@@ -40,9 +40,9 @@ key_listed_free state operation path main position (Listed ss) = refl
 pub swapped_free : (operation : Operation) (node : Node) (why : Purpose) (done : Bool) → holds_nothing (swapped operation node why done) ≡ true
 swapped_free operation node why done = grind arith
 
-module _ (limits : Bounds) (states : ℕ → State) (last : ℕ) (run : IsRun limits states last) where
+module _ {limits : Bounds} {states : ℕ → State} {last : ℕ} (run : IsRun limits states last) where
   -- such a line holds nothing
-  pub free_holds : (t k id start : ℕ) (call : Call) (l : Line) → holds_nothing l ≡ true → HeldIn limits states last run t k id start call l
+  pub free_holds : (t k id start : ℕ) (call : Call) (l : Line) → holds_nothing l ≡ true → HeldIn run t k id start call l
   free_holds t k id start call (line.Build (build.Single path main s former)) e = tt
   free_holds t k id start call (line.Build (build.Pair path main position s depth)) e = tt
   free_holds t k id start call (line.Build (build.Main path main (change.Remove position) former)) e = tt

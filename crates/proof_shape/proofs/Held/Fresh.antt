@@ -21,12 +21,12 @@ use Rattle.proof_shape.proofs.Commits.Standing.{HowStands, stood, given, private
 use Rattle.proof_shape.proofs.Opened.Mains.{IsOpen, rooted, named, given_is_open}
 use Rattle.proof_shape.specs.Beneath.proof_commits.proofs.Known.Acts.{known_run}
 
-module _ (limits : Bounds) (states : ℕ → State) (last : ℕ) (run : IsRun limits states last) where
+module _ {limits : Bounds} {states : ℕ → State} {last : ℕ} (run : IsRun limits states last) where
   abbrev p : Protocol
-  p = protocol limits states last (known_run limits states last run)
+  p = protocol limits states last (known_run run)
 
   abbrev w : Words
-  w = words_of states run.records last (known_run limits states last run).closing
+  w = words_of states run.records last (known_run run).closing
 
   -- the main node has the entry
   abbrev pub Names : Ref → Ref → Type 0
@@ -38,7 +38,7 @@ module _ (limits : Bounds) (states : ℕ → State) (last : ℕ) (run : IsRun li
   pub record IsFresh (t start : ℕ) (j : Ref) : Type 0 where
     pub word : Ref
     pub link : node_under states last j ≡ Indirection start word
-    pub deep : 2 ≤ level limits states last run j
+    pub deep : 2 ≤ level run j
     pub made : is_made states t j ≡ true
 
   -- the actor made it
@@ -47,7 +47,7 @@ module _ (limits : Bounds) (states : ℕ → State) (last : ℕ) (run : IsRun li
     pub past : at < t
     pub before : is_made states at j ≡ false
     pub after : is_made states (suc at) j ≡ true
-    pub takes : taker limits states last run at ≡ k
+    pub takes : taker run at ≡ k
 
   -- no main node names it yet
   pub record IsHeld (t k start : ℕ) (j : Ref) : Type 0 where
@@ -64,8 +64,8 @@ module _ (limits : Bounds) (states : ℕ → State) (last : ℕ) (run : IsRun li
 
   -- the main node stood in the word of this indirection alone
   pub record StandsIn (t : ℕ) (n j : Ref) : Type 0 where
-    pub stood_there : Stood (words_of states run.records last (known_run limits states last run).closing) t j n
-    pub only : (i : Ref) → Stood (words_of states run.records last (known_run limits states last run).closing) t i n → i ≡ j
+    pub stood_there : Stood (words_of states run.records last (known_run run).closing) t j n
+    pub only : (i : Ref) → Stood (words_of states run.records last (known_run run).closing) t i n → i ≡ j
 
   -- a chain of rungs down to the pair
   pub data IsChain (t start : ℕ) : Ref → Type 0 where
@@ -76,52 +76,52 @@ module _ (limits : Bounds) (states : ℕ → State) (last : ℕ) (run : IsRun li
   -- ---- such an indirection can't be read
 
   -- a root has the level of a root
-  root_level : (u : ℕ) → u ≤ last → (handle : ℕ) (j : Ref) → root_of (word_at (states u) handle) ≡ j → (level limits states last run j ≡ 1) ⊎ (j ≡ no_ref)
+  root_level : (u : ℕ) → u ≤ last → (handle : ℕ) (j : Ref) → root_of (word_at (states u) handle) ≡ j → (level run j ≡ 1) ⊎ (j ≡ no_ref)
   root_level u h handle j is = by_root (root_at (states u) handle) refl is
     where
-      by_word : (word : RootWord) → WordLevel (level limits states last run) word → root_of word ≡ j → level limits states last run j ≡ 1
-      by_word (Plain r) e is = ap (level limits states last run) (sym is) ∙ e
-      by_word (Offer offer) e is = ap (level limits states last run) (sym is) ∙ e.0
+      by_word : (word : RootWord) → WordLevel (level run) word → root_of word ≡ j → level run j ≡ 1
+      by_word (Plain r) e is = ap (level run) (sym is) ∙ e
+      by_word (Offer offer) e is = ap (level run) (sym is) ∙ e.0
 
-      by_root : (o : Option Root) → root_at (states u) handle ≡ o → root_of (word_of o) ≡ j → (level limits states last run j ≡ 1) ⊎ (j ≡ no_ref)
+      by_root : (o : Option Root) → root_at (states u) handle ≡ o → root_of (word_of o) ≡ j → (level run j ≡ 1) ⊎ (j ≡ no_ref)
       by_root None e is = inr (sym is)
-      by_root (Some root) e is = inl (by_word root.word ((levels_along limits states last run u h).words handle root e) is)
+      by_root (Some root) e is = inl (by_word root.word ((levels_along run u h).words handle root e) is)
 
   not_rooted : (t start : ℕ) (j : Ref) → t ≤ last → IsFresh t start j → (u handle : ℕ) → u ≤ t → root_of (word_at (states u) handle) ≡ j → ⊥
   not_rooted t start j h fresh u handle le is = by_level (root_level u (omega arith) handle j is)
     where
-      too_deep : 2 ≤ level limits states last run j → level limits states last run j ≡ 1 → ⊥
+      too_deep : 2 ≤ level run j → level run j ≡ 1 → ⊥
       too_deep a b = omega arith
 
-      by_level : (level limits states last run j ≡ 1) ⊎ (j ≡ no_ref) → ⊥
+      by_level : (level run j ≡ 1) ⊎ (j ≡ no_ref) → ⊥
       by_level (inl one) = too_deep fresh.deep one
-      by_level (inr nothing) = true≢false (sym fresh.made ∙ ap is_some (ap (grown states t) nothing ∙ nothing_stands limits states last run t h))
+      by_level (inr nothing) = true≢false (sym fresh.made ∙ ap is_some (ap (grown states t) nothing ∙ nothing_stands run t h))
 
   -- what was given was made
   given_made : (t : ℕ) → t ≤ last → (k : ℕ) (i m : Ref) → Given w t k i m → is_made states t m ≡ true
   given_made t h k i m g = let s = sound_at p t h in s.words.made i m (s.given k i m g).stood
 
-  pub held_closed : (t k start : ℕ) (j : Ref) → t ≤ last → IsHeld t k start j → IsOpen limits states last run t j → ⊥
+  pub held_closed : (t k start : ℕ) (j : Ref) → t ≤ last → IsHeld t k start j → IsOpen run t j → ⊥
   held_closed t k start j h held (rooted u handle le is) = not_rooted t start j h held.fresh u handle le is
   held_closed t k start j h held (named q i m g names) = held.unnamed m (given_made t h q i m g) names
 
   -- no READ gave the node
   abbrev pub NotGiven : ℕ → Ref → Type 0
-  NotGiven t n = (k : ℕ) (i : Ref) → Given (words_of states run.records last (known_run limits states last run).closing) t k i n → ⊥
+  NotGiven t n = (k : ℕ) (i : Ref) → Given (words_of states run.records last (known_run run).closing) t k i n → ⊥
 
-  pub named_closed : (t start : ℕ) (j n : Ref) → t ≤ last → IsNamed t start j n → NotGiven t n → IsOpen limits states last run t j → ⊥
+  pub named_closed : (t start : ℕ) (j n : Ref) → t ≤ last → IsNamed t start j n → NotGiven t n → IsOpen run t j → ⊥
   named_closed t start j n h it not (rooted u handle le is) = not_rooted t start j h it.fresh u handle le is
   named_closed t start j n h it not (named q i m g names) = not q i (subst (λ x. Given w t q i x) (it.only m (given_made t h q i m g) names) g)
 
   -- what stands in such an indirection alone isn't given
-  pub stands_not_given : (t : ℕ) (n j : Ref) → t ≤ last → StandsIn t n j → (IsOpen limits states last run t j → ⊥) → NotGiven t n
+  pub stands_not_given : (t : ℕ) (n j : Ref) → t ≤ last → StandsIn t n j → (IsOpen run t j → ⊥) → NotGiven t n
   stands_not_given t n j h stands closed k i g =
       let same : i ≡ j = stands.only i ((sound_at p t h).given k i n g).stood in
-      closed (subst (IsOpen limits states last run t) same (given_is_open limits states last run t h k i n g))
+      closed (subst (IsOpen run t) same (given_is_open run t h k i n g))
 
   -- a node isn't decided in any word
   abbrev pub IsUncommitted : ℕ → Ref → Type 0
-  IsUncommitted t n = (i : Ref) → Stood (words_of states run.records last (known_run limits states last run).closing) t i n → prev_word states t n ≡ over.None → ⊥
+  IsUncommitted t n = (i : Ref) → Stood (words_of states run.records last (known_run run).closing) t i n → prev_word states t n ≡ over.None → ⊥
 
   pub uncommitted_not_given : (t : ℕ) (n : Ref) → t ≤ last → IsUncommitted t n → NotGiven t n
   uncommitted_not_given t n h un k i g = let d = (sound_at p t h).given k i n g in un i d.stood d.none
@@ -135,7 +135,7 @@ module _ (limits : Bounds) (states : ℕ → State) (last : ℕ) (run : IsRun li
   abbrev pub NewNames : ℕ → Type 0
   NewNames t =
       (m r : Ref) → is_made states t m ≡ false → is_made states (suc t) m ≡ true → Names m r → (g : ℕ) (x : Ref) → node_under states last r ≡ Indirection g x →
-      IsOpen limits states last run t r ⊎ ((start : ℕ) × IsHeld t (taker limits states last run t) start r)
+      IsOpen run t r ⊎ ((start : ℕ) × IsHeld t (taker run t) start r)
 
   fresh_later : (t start : ℕ) (j : Ref) → IsFresh t start j → IsFresh (suc t) start j
   fresh_later t start j f = record { word = f.word; link = f.link; deep = f.deep; made = made_next states t j f.made }
@@ -153,7 +153,7 @@ module _ (limits : Bounds) (states : ℕ → State) (last : ℕ) (run : IsRun li
 
   -- one made it
   one_maker : (t k l : ℕ) (j : Ref) → IsMaker t k j → IsMaker t l j → k ≡ l
-  one_maker t k l j a b = sym a.takes ∙ ap (taker limits states last run) (same_time a.at b.at a.before a.after b.before b.after) ∙ b.takes
+  one_maker t k l j a b = sym a.takes ∙ ap (taker run) (same_time a.at b.at a.before a.after b.before b.after) ∙ b.takes
     where
       made_since : (u v : ℕ) → u ≤ v → is_made states u j ≡ true → is_made states v j ≡ true
       made_since u v le e = from_time (λ x. is_made states x j ≡ true) u v e (λ x low below before. made_next states x j before) v le (omega arith)
@@ -170,15 +170,15 @@ module _ (limits : Bounds) (states : ℕ → State) (last : ℕ) (run : IsRun li
           by_order (inr (inr lt)) = absurd (true≢false (sym (made_since (suc v) u lt av) ∙ bu))
 
   -- others leave it
-  pub held_still : (t k start : ℕ) (j : Ref) → t ≤ last → NewNames t → (taker limits states last run t ≡ k → ⊥) → IsHeld t k start j → IsHeld (suc t) k start j
+  pub held_still : (t k start : ℕ) (j : Ref) → t ≤ last → NewNames t → (taker run t ≡ k → ⊥) → IsHeld t k start j → IsHeld (suc t) k start j
   held_still t k start j h new apart held = held_by t k start j held (λ m before after names. by_case (new m j before after names start held.fresh.word held.fresh.link))
     where
-      by_case : IsOpen limits states last run t j ⊎ ((other : ℕ) × IsHeld t (taker limits states last run t) other j) → ⊥
+      by_case : IsOpen run t j ⊎ ((other : ℕ) × IsHeld t (taker run t) other j) → ⊥
       by_case (inl may) = held_closed t k start j h held may
-      by_case (inr (other, its)) = apart (one_maker t (taker limits states last run t) k j its.maker held.maker)
+      by_case (inr (other, its)) = apart (one_maker t (taker run t) k j its.maker held.maker)
 
   -- what is named stays named by this node alone
-  pub named_still : (t start : ℕ) (j n : Ref) → NewNames t → (IsOpen limits states last run t j → ⊥) → IsNamed t start j n → IsNamed (suc t) start j n
+  pub named_still : (t start : ℕ) (j n : Ref) → NewNames t → (IsOpen run t j → ⊥) → IsNamed t start j n → IsNamed (suc t) start j n
   named_still t start j n new closed it = record {
     fresh = fresh_later t start j it.fresh;
     names = it.names;
@@ -186,7 +186,7 @@ module _ (limits : Bounds) (states : ℕ → State) (last : ℕ) (run : IsRun li
     only = λ m made names. by_made m made names (is_made states t m) refl;
   }
     where
-      by_case : (m : Ref) → IsOpen limits states last run t j ⊎ ((other : ℕ) × IsHeld t (taker limits states last run t) other j) → m ≡ n
+      by_case : (m : Ref) → IsOpen run t j ⊎ ((other : ℕ) × IsHeld t (taker run t) other j) → m ≡ n
       by_case m (inl may) = absurd (closed may)
       by_case m (inr (other, its)) = absurd (its.unnamed n it.made it.names)
 
@@ -194,7 +194,7 @@ module _ (limits : Bounds) (states : ℕ → State) (last : ℕ) (run : IsRun li
       by_made m made names true e = it.only m e names
       by_made m made names false e = by_case m (new m j e made names start it.fresh.word it.fresh.link)
 
-  pub stands_still : (t : ℕ) (n j : Ref) → t < last → (IsOpen limits states last run t j → ⊥) → StandsIn t n j → StandsIn (suc t) n j
+  pub stands_still : (t : ℕ) (n j : Ref) → t < last → (IsOpen run t j → ⊥) → StandsIn t n j → StandsIn (suc t) n j
   stands_still t n j h closed s = record { stood_there = stood_later s.stood_there; only = λ i now. by_how i (how_stands p t h i n now) }
     where
       by_how : (i : Ref) → HowStands p.words t i n → i ≡ j
@@ -202,7 +202,7 @@ module _ (limits : Bounds) (states : ℕ → State) (last : ℕ) (run : IsRun li
       by_how i (given k q g) = absurd (stands_not_given t n j (omega arith) s closed k q g)
       by_how i (private x) = absurd (x.apart j s.stood_there)
 
-  pub chain_still : (t start : ℕ) → t < last → NewNames t → (j : Ref) → (IsOpen limits states last run t j → ⊥) → IsChain t start j → IsChain (suc t) start j
+  pub chain_still : (t start : ℕ) → t < last → NewNames t → (j : Ref) → (IsOpen run t j → ⊥) → IsChain t start j → IsChain (suc t) start j
   chain_still t start h new j closed (ends i not) = ends i not
   chain_still t start h new j closed (goes_on i below hash depth is it stands rest) =
       let below_closed = named_closed t start below (first_main states last i) (omega arith) it (stands_not_given t (first_main states last i) i (omega arith) stands closed) in

@@ -29,13 +29,13 @@ pub data DoneWith (node : Ref → Node) (first : Ref → Ref) (G : Ref → Ref �
       DoneWith node first G N start entry other
   cleaned : (h : ℕ) (word child : Ref) → node entry ≡ Indirection h word → G entry child → node child ≡ Tomb other → DoneWith node first G N start entry other
 
-module _ (limits : Bounds) (states : ℕ → State) (last : ℕ) (run : IsRun limits states last) where
+module _ {limits : Bounds} {states : ℕ → State} {last : ℕ} (run : IsRun limits states last) where
   abbrev node : Ref → Node
   node = node_under states last
 
   -- the fresh node alone names it, or none does
   abbrev pub NamedOrHeld : (t k start : ℕ) → Ref → Ref → Type 0
-  NamedOrHeld t k start f r = IsNamed limits states last run t start r f ⊎ IsHeld limits states last run t k start r
+  NamedOrHeld t k start f r = IsNamed run t start r f ⊎ IsHeld run t k start r
 
   abbrev pub AllCame : (Ref → Type 0) → Ref → List Ref → Type 0
   AllCame N main done =
@@ -49,7 +49,7 @@ module _ (limits : Bounds) (states : ℕ → State) (last : ℕ) (run : IsRun li
     pub is : node_under states last replaced ≡ Branch bitmap entries
     pub each : (n : ℕ) → n < length done →
         DoneWith (node_under states last) (first_main states last) (GaveBelow states run.records last t k id start)
-        (λ r. IsUncommitted limits states last run t fresh → NamedOrHeld t k start fresh r) start
+        (λ r. IsUncommitted run t fresh → NamedOrHeld t k start fresh r) start
         (slice_index_or entries.items n no_ref) (slice_index_or done n no_ref)
     pub all : length done ≡ length entries.items
     pub may_entomb : Bool
@@ -58,16 +58,16 @@ module _ (limits : Bounds) (states : ℕ → State) (last : ℕ) (run : IsRun li
   -- of one of an own update: the chain beside another key's single
   pub record HeldUpdate (t k start : ℕ) (call : Call) (path : List Ref) (former : Option ℕ) (replaced fresh : Ref) : Type 0 where
     pub knows : KnowsSwap (known_with limits states last (first_main states last)) call (depth_of path) replaced former fresh
-    pub chain : (position : ℕ) (link : Ref) → knows.0 ≡ change.Update position link → former ≡ None → IsUncommitted limits states last run t fresh →
-        NamedOrHeld t k start fresh link × IsChain limits states last run t start link
+    pub chain : (position : ℕ) (link : Ref) → knows.0 ≡ change.Update position link → former ≡ None → IsUncommitted run t fresh →
+        NamedOrHeld t k start fresh link × IsChain run t start link
 
   -- of a main node that is to stand in a link
   abbrev pub HeldNode : (t start : ℕ) → Ref → Type 0
   HeldNode t start n =
-      (hash depth r : ℕ) → node_under states last n ≡ rung hash depth r → IsNamed limits states last run t start r n × IsChain limits states last run t start r
+      (hash depth r : ℕ) → node_under states last n ≡ rung hash depth r → IsNamed run t start r n × IsChain run t start r
 
   abbrev pub HeldLink : (t k start : ℕ) → Ref → Type 0
-  HeldLink t k start j = IsHeld limits states last run t k start j × IsChain limits states last run t start j
+  HeldLink t k start j = IsHeld run t k start j × IsChain run t start j
 
   abbrev pub HeldChange : (t k start : ℕ) → Option ℕ → Change → Type 0
   HeldChange t k start former (change.Update position entry) = former ≡ None → HeldLink t k start entry
@@ -80,16 +80,16 @@ module _ (limits : Bounds) (states : ℕ → State) (last : ℕ) (run : IsRun li
   HeldBuild t k start l = Unit {0}
 
   abbrev pub HeldRenew : (t k start : ℕ) → RenewLine → Type 0
-  HeldRenew t k start (renew.Entry path main done) = AllCame (IsHeld limits states last run t k start) main done
-  HeldRenew t k start (renew.Read path main done r) = AllCame (IsHeld limits states last run t k start) main done
-  HeldRenew t k start (renew.Link path main done child) = AllCame (IsHeld limits states last run t k start) main done
-  HeldRenew t k start (renew.Branch path main done) = AllCame (IsHeld limits states last run t k start) main done
+  HeldRenew t k start (renew.Entry path main done) = AllCame (IsHeld run t k start) main done
+  HeldRenew t k start (renew.Read path main done r) = AllCame (IsHeld run t k start) main done
+  HeldRenew t k start (renew.Link path main done child) = AllCame (IsHeld run t k start) main done
+  HeldRenew t k start (renew.Branch path main done) = AllCame (IsHeld run t k start) main done
 
   abbrev pub HeldClean : (t k start : ℕ) → CleanLine → Type 0
-  HeldClean t k start (clean.Entry path main done) = AllCame (IsHeld limits states last run t k start) main done
-  HeldClean t k start (clean.Child path main done r) = AllCame (IsHeld limits states last run t k start) main done
-  HeldClean t k start (clean.Tomb path main done child) = AllCame (IsHeld limits states last run t k start) main done
-  HeldClean t k start (clean.Contracted path main done) = AllCame (IsHeld limits states last run t k start) main done
+  HeldClean t k start (clean.Entry path main done) = AllCame (IsHeld run t k start) main done
+  HeldClean t k start (clean.Child path main done r) = AllCame (IsHeld run t k start) main done
+  HeldClean t k start (clean.Tomb path main done child) = AllCame (IsHeld run t k start) main done
+  HeldClean t k start (clean.Contracted path main done) = AllCame (IsHeld run t k start) main done
   HeldClean t k start l = Unit {0}
 
   abbrev pub HeldIn : (t k id start : ℕ) → Call → Line → Type 0
@@ -103,35 +103,35 @@ module _ (limits : Bounds) (states : ℕ → State) (last : ℕ) (run : IsRun li
 
   -- ---- one step later, where each held one stays held
 
-  module _ (t : ℕ) (h : t < last) (k id start : ℕ) (new : NewNames limits states last run t)
-      (held : (j : Ref) → IsHeld limits states last run t k start j → IsHeld limits states last run (suc t) k start j) where
-    came_still : (entry other : Ref) → Came node (IsHeld limits states last run t k start) entry other → Came node (IsHeld limits states last run (suc t) k start) entry other
+  module _ (t : ℕ) (h : t < last) (k id start : ℕ) (new : NewNames run t)
+      (held : (j : Ref) → IsHeld run t k start j → IsHeld run (suc t) k start j) where
+    came_still : (entry other : Ref) → Came node (IsHeld run t k start) entry other → Came node (IsHeld run (suc t) k start) entry other
     came_still entry other (same e) = same e
     came_still entry other (single q v e) = single q v e
     came_still entry other (anew j) = anew (held other j)
 
-    pub all_still : (main : Ref) (done : List Ref) → AllCame (IsHeld limits states last run t k start) main done → AllCame (IsHeld limits states last run (suc t) k start) main done
+    pub all_still : (main : Ref) (done : List Ref) → AllCame (IsHeld run t k start) main done → AllCame (IsHeld run (suc t) k start) main done
     all_still main done all n lt = came_still _ _ (all n lt)
 
-    fresh_still : (f : Ref) → IsUncommitted limits states last run (suc t) f → (r : Ref) → NamedOrHeld t k start f r → NamedOrHeld (suc t) k start f r
+    fresh_still : (f : Ref) → IsUncommitted run (suc t) f → (r : Ref) → NamedOrHeld t k start f r → NamedOrHeld (suc t) k start f r
     fresh_still f un r (inl named) =
-        inl (named_still limits states last run t start r f new
-        (named_closed limits states last run t start r f (omega arith) named
-        (uncommitted_not_given limits states last run t f (omega arith) (uncommitted_before limits states last run t f h un))) named)
+        inl (named_still run t start r f new
+        (named_closed run t start r f (omega arith) named
+        (uncommitted_not_given run t f (omega arith) (uncommitted_before run t f h un))) named)
     fresh_still f un r (inr j) = inr (held r j)
 
-    fresh_closed : (f : Ref) → IsUncommitted limits states last run t f → (r : Ref) → NamedOrHeld t k start f r → IsOpen limits states last run t r → ⊥
-    fresh_closed f un r (inl named) = named_closed limits states last run t start r f (omega arith) named (uncommitted_not_given limits states last run t f (omega arith) un)
-    fresh_closed f un r (inr j) = held_closed limits states last run t k start r (omega arith) j
+    fresh_closed : (f : Ref) → IsUncommitted run t f → (r : Ref) → NamedOrHeld t k start f r → IsOpen run t r → ⊥
+    fresh_closed f un r (inl named) = named_closed run t start r f (omega arith) named (uncommitted_not_given run t f (omega arith) un)
+    fresh_closed f un r (inr j) = held_closed run t k start r (omega arith) j
 
     done_still : (f entry other : Ref) →
-        DoneWith node (first_main states last) (GaveBelow states run.records last t k id start) (λ r. IsUncommitted limits states last run t f → NamedOrHeld t k start f r) start entry other →
+        DoneWith node (first_main states last) (GaveBelow states run.records last t k id start) (λ r. IsUncommitted run t f → NamedOrHeld t k start f r) start entry other →
         DoneWith node (first_main states last) (GaveBelow states run.records last (suc t) k id start)
-        (λ r. IsUncommitted limits states last run (suc t) f → NamedOrHeld (suc t) k start f r) start entry other
+        (λ r. IsUncommitted run (suc t) f → NamedOrHeld (suc t) k start f r) start entry other
     done_still f entry other (kept e) = kept e
     done_still f entry other (renewed g word word' child is apart is' gave at it) =
         renewed g word word' child is apart is' (gave_below_later states run.records last t k id start entry child gave) at
-        (λ un. fresh_still f un other (it (uncommitted_before limits states last run t f h un)))
+        (λ un. fresh_still f un other (it (uncommitted_before run t f h un)))
     done_still f entry other (cleaned g word child is gave tomb) = cleaned g word child is (gave_below_later states run.records last t k id start entry child gave) tomb
 
     pub repair_still : (replaced fresh : Ref) → HeldRepair t k id start replaced fresh → HeldRepair (suc t) k id start replaced fresh
@@ -151,19 +151,19 @@ module _ (limits : Bounds) (states : ℕ → State) (last : ℕ) (run : IsRun li
     update_still call path former replaced fresh x = record {
       knows = x.knows;
       chain = λ position link is none un.
-          let before = uncommitted_before limits states last run t fresh h un in
+          let before = uncommitted_before run t fresh h un in
           let it = x.chain position link is none before in
-          (fresh_still fresh un link it.0, chain_still limits states last run t start h new link (fresh_closed fresh before link it.0) it.1);
+          (fresh_still fresh un link it.0, chain_still run t start h new link (fresh_closed fresh before link it.0) it.1);
     }
 
     pub link_still : (j : Ref) → HeldLink t k start j → HeldLink (suc t) k start j
-    link_still j x = (held j x.0, chain_still limits states last run t start h new j (held_closed limits states last run t k start j (omega arith) x.0) x.1)
+    link_still j x = (held j x.0, chain_still run t start h new j (held_closed run t k start j (omega arith) x.0) x.1)
 
-    pub node_still : (n : Ref) → NotGiven limits states last run t n → HeldNode t start n → HeldNode (suc t) start n
+    pub node_still : (n : Ref) → NotGiven run t n → HeldNode t start n → HeldNode (suc t) start n
     node_still n not x hash depth r is =
         let it = x hash depth r is in
-        let closed = named_closed limits states last run t start r n (omega arith) it.0 not in
-        (named_still limits states last run t start r n new closed it.0, chain_still limits states last run t start h new r closed it.1)
+        let closed = named_closed run t start r n (omega arith) it.0 not in
+        (named_still run t start r n new closed it.0, chain_still run t start h new r closed it.1)
 
     change_still : (former : Option ℕ) (c : Change) → HeldChange t k start former c → HeldChange (suc t) k start former c
     change_still former (change.Update position entry) x = λ none. link_still entry (x none)
@@ -173,7 +173,7 @@ module _ (limits : Bounds) (states : ℕ → State) (last : ℕ) (run : IsRun li
 
     -- the main node that is to stand in a link wasn't given
     abbrev pub NodeNotGiven : Line → Type 0
-    NodeNotGiven (line.Build (build.Link path main position below depth)) = NotGiven limits states last run t below
+    NodeNotGiven (line.Build (build.Link path main position below depth)) = NotGiven run t below
     NodeNotGiven l = Unit {0}
 
     build_still : (l : BuildLine) → NodeNotGiven (line.Build l) → HeldBuild t k start l → HeldBuild (suc t) k start l

@@ -38,17 +38,17 @@ use Rattle.proof_shape.proofs.Runs.Entries.{no_entry}
 use Rattle.proof_shape.proofs.Held.Build.{made_held, new_held, next_level}
 use Rattle.proof_shape.specs.Beneath.machine_model.proofs.Grown.{grown_in_use}
 
-module _ (limits : Bounds) (states : ℕ → State) (last : ℕ) (run : IsRun limits states last) (t : ℕ) (h : t < last) (actor : ℕ) (operation : Operation)
+module _ {limits : Bounds} {states : ℕ → State} {last : ℕ} (run : IsRun limits states last) (t : ℕ) (h : t < last) (actor : ℕ) (operation : Operation)
     (go : GoesAt states run.records t actor operation)
-    (takes_it : taker limits states last run t ≡ actor) (new : NewNames limits states last run t) (start : ℕ) (begun : operation.generation ≡ Some start) where
+    (takes_it : taker run t ≡ actor) (new : NewNames run t) (start : ℕ) (begun : operation.generation ≡ Some start) where
   abbrev heap : Heap
   heap = (states t).heap
 
   abbrev Came' : ℕ → Ref → List Ref → Type 0
-  Came' = AreCome limits states last run actor start
+  Came' = AreCome run actor start
 
   abbrev Next : Line → Type 0
-  Next l = HeldIn limits states last run (suc t) actor operation.id start operation.call l
+  Next l = HeldIn run (suc t) actor operation.id start operation.call l
 
   -- ---- RENEW
 
@@ -58,10 +58,10 @@ module _ (limits : Bounds) (states : ℕ → State) (last : ℕ) (run : IsRun li
     where
       by_test : (b : Bool) →
           Next (cond b (renew_next (states t) path main (done ++ next_entry (states t) main done ∷ [])) (line.Renew (renew.Read path main done (reading (next_entry (states t) main done)))))
-      by_test true = renew_next_holds limits states last run t actor operation start path main _ (with_next limits states last run actor start t (suc t) main done there all)
+      by_test true = renew_next_holds run t actor operation start path main _ (with_next run actor start t (suc t) main done there all)
       by_test false = all
   renew_entry_holds path main done there all (Single k v) =
-      renew_next_holds limits states last run t actor operation start path main _ (with_next limits states last run actor start t (suc t) main done there all)
+      renew_next_holds run t actor operation start path main _ (with_next run actor start t (suc t) main done there all)
   renew_entry_holds path main done there all (Branch b es) = tt
   renew_entry_holds path main done there all (Tomb s) = tt
   renew_entry_holds path main done there all (Listed ss) = tt
@@ -70,36 +70,36 @@ module _ (limits : Bounds) (states : ℕ → State) (last : ℕ) (run : IsRun li
   renew_read_holds path main done all (Goes r) = all
   renew_read_holds path main done all (Gives child) = all
 
-  pub renew_holds : (l : RenewLine) → operation.line ≡ line.Renew l → HeldRenew limits states last run t actor start l →
-      HeldIn limits states last run (suc t) actor operation.id start operation.call (renew_after (states t) operation l)
+  pub renew_holds : (l : RenewLine) → operation.line ≡ line.Renew l → HeldRenew run t actor start l →
+      HeldIn run (suc t) actor operation.id start operation.call (renew_after (states t) operation l)
   renew_holds (renew.Entry path main done) e x =
       renew_entry_holds path main done
-      (branch_there limits states last run t h actor operation go takes_it new start begun main (claims limits states last run t h actor operation go _ e).1.1.0)
-      (quiet_all limits states last run t h actor operation go takes_it new start begun _ e refl main done x) (node_at heap (next_entry (states t) main done))
+      (branch_there run t h actor operation go takes_it new start begun main (claims run t h actor operation go _ e).1.1.0)
+      (quiet_all run t h actor operation go takes_it new start begun _ e refl main done x) (node_at heap (next_entry (states t) main done))
   renew_holds (renew.Read path main done r) e x =
       renew_read_holds path main done
-      (quiet_all limits states last run t h actor operation go takes_it new start begun _ e (read_quiet r.indirection r.line) main done x) (read_step (states t) operation r)
+      (quiet_all run t h actor operation go takes_it new start begun _ e (read_quiet r.indirection r.line) main done x) (read_step (states t) operation r)
   renew_holds (renew.Link path main done child) e x =
-      by_made (next_ref heap) refl (subst (λ y. LineLevel (level limits states last run) (line_after (states t) operation y)) e (next_level limits states last run t h actor operation go))
+      by_made (next_ref heap) refl (subst (λ y. LineLevel (level run) (line_after (states t) operation y)) e (next_level run t h actor operation go))
     where
       a : action_of (states t) operation ≡ act.Make (Indirection (start_of operation) child)
       a = ap (line_action (states t) operation) e
 
-      last_level : (made : Ref) → LineLevel (level limits states last run) (renew_next (states t) path main (done ++ made ∷ [])) →
-          DoneLevel (level limits states last run) path main (done ++ made ∷ [])
+      last_level : (made : Ref) → LineLevel (level run) (renew_next (states t) path main (done ++ made ∷ [])) →
+          DoneLevel (level run) path main (done ++ made ∷ [])
       last_level made lv = by_test (nat_lt (length (done ++ made ∷ [])) (length (entries_of (node_at heap main)))) lv
         where
-          by_test : (b : Bool) → LineLevel (level limits states last run) (cond b (line.Renew (renew.Entry path main (done ++ made ∷ [])))
+          by_test : (b : Bool) → LineLevel (level run) (cond b (line.Renew (renew.Entry path main (done ++ made ∷ [])))
               (line.Renew (renew.Branch path main (done ++ made ∷ [])))) →
-              DoneLevel (level limits states last run) path main (done ++ made ∷ [])
+              DoneLevel (level run) path main (done ++ made ∷ [])
           by_test true lv = lv
           by_test false lv = lv
 
       -- what was made has the level below: a single's it hasn't
       deep : (made : Ref) → next_ref heap ≡ Some made → renew_after (states t) operation (renew.Link path main done child) ≡ renew_next (states t) path main (done ++ made ∷ []) →
-          DoneLevel (level limits states last run) path main (done ++ made ∷ []) → 2 ≤ level limits states last run made
+          DoneLevel (level run) path main (done ++ made ∷ []) → 2 ≤ level run made
       deep made next is lv =
-          by_level (subst (EntryLevel (level limits states last run) (depth_of path + 1)) (get_or-append_seam done made [] no_ref)
+          by_level (subst (EntryLevel (level run) (depth_of path + 1)) (get_or-append_seam done made [] no_ref)
           (lv.1 (length done) no_ref (omega (arith, length-append done (made ∷ [])))))
         where
           own : RunsAfter (states (suc t)) actor (operation_after (states t) operation)
@@ -119,52 +119,52 @@ module _ (limits : Bounds) (states : ℕ → State) (last : ℕ) (run : IsRun li
           used =
               let c = wants (nat_lt (length (done ++ made ∷ [])) (length (entries_of (node_at heap main))))
               (subst (λ l. AllHold (IsInUse (states (suc t)).heap) (states (suc t)).heap (line_wants limits.hash own.operation.call own.operation.access l)) line_is
-              (line_at limits states last run (suc t) h actor own.operation own.runs)) in
+              (line_at run (suc t) h actor own.operation own.runs)) in
               subst (IsInUse (states (suc t)).heap) (get_or-append_seam done made [] no_ref) (all_of c (length done) no_ref (omega (arith, length-append done (made ∷ [])))).0
 
           link_there : used.0.node ≡ Indirection (start_of operation) child
           link_there =
-              ap (λ (x : Slot). x.node) (same_Some _ _ (sym (grown_in_use states (suc t) made used.0 used.1) ∙ (takes limits states last run t h actor operation go _ a made next).here))
+              ap (λ (x : Slot). x.node) (same_Some _ _ (sym (grown_in_use states (suc t) made used.0 used.1) ∙ (takes run t h actor operation go _ a made next).here))
 
-          kind : 1 ≤ level limits states last run made
-          kind = subst (λ n. KindLevel (level limits states last run) (level limits states last run made) n) link_there ((levels_along limits states last run (suc t) h).nodes made used.0 used.1).0.1
+          kind : 1 ≤ level run made
+          kind = subst (λ n. KindLevel (level run) (level run made) n) link_there ((levels_along run (suc t) h).nodes made used.0 used.1).0.1
 
-          by_level : EntryLevel (level limits states last run) (depth_of path + 1) made → 2 ≤ level limits states last run made
+          by_level : EntryLevel (level run) (depth_of path + 1) made → 2 ≤ level run made
           by_level (inl zero_is) = absurd (omega (arith, zero_is, kind))
           by_level (inr below) = omega (arith, below)
 
       link_names : (made : Ref) → next_ref heap ≡ Some made → (j : Ref) → Contains (entries_of (node_under states last made)) j → ⊥
       link_names made next j names =
-          let link = made_link limits states last run t h actor operation go _ a made next (start_of operation) child refl in
+          let link = made_link run t h actor operation go _ a made next (start_of operation) child refl in
           no_entry j (subst (λ n. Contains (entries_of n) j) link.1 names)
 
-      by_made : (o : Option Ref) → next_ref heap ≡ o → LineLevel (level limits states last run) (renew_after_link (states t) path main done o) → Next (renew_after_link (states t) path main done o)
+      by_made : (o : Option Ref) → next_ref heap ≡ o → LineLevel (level run) (renew_after_link (states t) path main done o) → Next (renew_after_link (states t) path main done o)
       by_made None next lv = tt
       by_made (Some made) next lv =
-          renew_next_holds limits states last run t actor operation start path main (done ++ made ∷ [])
-          (one_more limits states last run actor start (suc t) main done made
-          (all_still limits states last run t h actor operation.id start new
-          (λ j held. made_held limits states last run t h actor operation go _ a made next start j (λ names. link_names made next j names) held) main done x)
-          (anew (new_held limits states last run t h actor operation go child a made next takes_it start begun
+          renew_next_holds run t actor operation start path main (done ++ made ∷ [])
+          (one_more run actor start (suc t) main done made
+          (all_still run t h actor operation.id start new
+          (λ j held. made_held run t h actor operation go _ a made next start j (λ names. link_names made next j names) held) main done x)
+          (anew (new_held run t h actor operation go child a made next takes_it start begun
           (deep made next (ap (renew_after_link (states t) path main done) next) (last_level made lv)))))
   renew_holds (renew.Branch path main done) e x = by_made (next_ref heap) refl
     where
       by_made : (o : Option Ref) → next_ref heap ≡ o → Next (renew_after_branch path main o)
       by_made None next = tt
       by_made (Some made) next =
-          let claim = (claims limits states last run t h actor operation go _ e).1.1.0 in
+          let claim = (claims run t h actor operation go _ e).1.1.0 in
           let a = ap (line_action (states t) operation) e in
-          fresh_repair limits states last run t h actor operation go takes_it new start begun main made done _ a next x false
-          (λ bitmap entries is. made_node limits states last run t h actor operation go (branch_of (states t) main done) a made next (renewed_no_link (bitmap_of (node_at heap main)) done)
-          ∙ ap (λ n. renewed_node (bitmap_of n) done) (branch_there limits states last run t h actor operation go takes_it new start begun main claim ∙ is))
-          (repairs limits states last run t h actor operation go takes_it new start begun _ e)
+          fresh_repair run t h actor operation go takes_it new start begun main made done _ a next x false
+          (λ bitmap entries is. made_node run t h actor operation go (branch_of (states t) main done) a made next (renewed_no_link (bitmap_of (node_at heap main)) done)
+          ∙ ap (λ n. renewed_node (bitmap_of n) done) (branch_there run t h actor operation go takes_it new start begun main claim ∙ is))
+          (repairs run t h actor operation go takes_it new start begun _ e)
 
   -- ---- CLEAN
 
   -- the next entry stays
   clean_still : (path : List Ref) (main : Ref) (done : List Ref) → node_at heap main ≡ node_under states last main → Came' (suc t) main done →
       Next (clean_next (states t) path main (done ++ next_entry (states t) main done ∷ []))
-  clean_still path main done there all = clean_next_holds limits states last run t actor operation start path main _ (with_next limits states last run actor start t (suc t) main done there all)
+  clean_still path main done there all = clean_next_holds run t actor operation start path main _ (with_next run actor start t (suc t) main done there all)
 
   clean_entry_holds : (path : List Ref) (main : Ref) (done : List Ref) → node_at heap main ≡ node_under states last main → Came' (suc t) main done → (n : Node) →
       Next (clean_after_entry (states t) path main done (next_entry (states t) main done) n)
@@ -182,11 +182,11 @@ module _ (limits : Bounds) (states : ℕ → State) (last : ℕ) (run : IsRun li
   tomb_single : (child s : Ref) → IsInUse heap child → node_at heap child ≡ Tomb s → (k : ℕ) × (v : ℕ) × (node_under states last s ≡ Single k v)
   tomb_single child s used is =
       let wants : AllHold (IsInUse heap) heap (node_wants (Tomb s)) =
-      subst (λ n. AllHold (IsInUse heap) heap (node_wants n)) is ((heaped_in_use (states t) (safe_at limits states last run t (omega arith))).inside child used) in
+      subst (λ n. AllHold (IsInUse heap) heap (node_wants n)) is ((heaped_in_use (states t) (safe_at run t (omega arith))).inside child used) in
       by_node (node_at heap s) refl (safe_of wants.0) (meets_of wants.0)
     where
       by_node : (n : Node) → node_at heap s ≡ n → IsInUse heap s → meets ASingle n ≡ true → (k : ℕ) × (v : ℕ) × (node_under states last s ≡ Single k v)
-      by_node (Single k v) e used m = (k, v, single_seen limits states last run t (omega arith) s used k v e)
+      by_node (Single k v) e used m = (k, v, single_seen run t (omega arith) s used k v e)
       by_node (Indirection g w) e used m = absurd (true≢false (sym m))
       by_node (Branch b es) e used m = absurd (true≢false (sym m))
       by_node (Tomb q) e used m = absurd (true≢false (sym m))
@@ -197,8 +197,8 @@ module _ (limits : Bounds) (states : ℕ → State) (last : ℕ) (run : IsRun li
       Next (clean_after_tomb (states t) path main done n)
   clean_tomb_holds path main done child there used all (Tomb s) is =
       let one = tomb_single child s used is in
-      clean_next_holds limits states last run t actor operation start path main (done ++ s ∷ [])
-      (one_more limits states last run actor start (suc t) main done s all (single one.0 one.1 one.2))
+      clean_next_holds run t actor operation start path main (done ++ s ∷ [])
+      (one_more run actor start (suc t) main done s all (single one.0 one.1 one.2))
   clean_tomb_holds path main done child there used all (Indirection g w) is = clean_still path main done there all
   clean_tomb_holds path main done child there used all (Branch b es) is = clean_still path main done there all
   clean_tomb_holds path main done child there used all (Single k v) is = clean_still path main done there all
@@ -210,37 +210,37 @@ module _ (limits : Bounds) (states : ℕ → State) (last : ℕ) (run : IsRun li
 
   clean_main_holds : (path : List Ref) (main : Ref) (n : Node) → Next (clean_after_main (states t) path main n)
   clean_main_holds path main (Branch b es) =
-      clean_next_holds limits states last run t actor operation start path main []
-      (none_came limits states last run actor start (suc t) main)
+      clean_next_holds run t actor operation start path main []
+      (none_came run actor start (suc t) main)
   clean_main_holds path main (Indirection g w) = tt
   clean_main_holds path main (Single k v) = tt
   clean_main_holds path main (Tomb s) = tt
   clean_main_holds path main (Listed ss) = tt
 
-  pub clean_holds : (l : CleanLine) → operation.line ≡ line.Clean l → HeldClean limits states last run t actor start l →
-      HeldIn limits states last run (suc t) actor operation.id start operation.call (clean_after (states t) operation l)
+  pub clean_holds : (l : CleanLine) → operation.line ≡ line.Clean l → HeldClean run t actor start l →
+      HeldIn run (suc t) actor operation.id start operation.call (clean_after (states t) operation l)
   clean_holds (clean.Read path r) e x = clean_read_holds path (read_step (states t) operation r)
   clean_holds (clean.Main path main) e x = clean_main_holds path main (node_at heap main)
   clean_holds (clean.Entry path main done) e x =
       clean_entry_holds path main done
-      (branch_there limits states last run t h actor operation go takes_it new start begun main (claims limits states last run t h actor operation go _ e).1.1.0)
-      (quiet_all limits states last run t h actor operation go takes_it new start begun _ e refl main done x) (node_at heap (next_entry (states t) main done))
+      (branch_there run t h actor operation go takes_it new start begun main (claims run t h actor operation go _ e).1.1.0)
+      (quiet_all run t h actor operation go takes_it new start begun _ e refl main done x) (node_at heap (next_entry (states t) main done))
   clean_holds (clean.Child path main done r) e x =
-      child_holds path main done (quiet_all limits states last run t h actor operation go takes_it new start begun _ e (read_quiet r.indirection r.line) main done x)
+      child_holds path main done (quiet_all run t h actor operation go takes_it new start begun _ e (read_quiet r.indirection r.line) main done x)
       (read_step (states t) operation r)
   clean_holds (clean.Tomb path main done child) e x =
-      let all = claims limits states last run t h actor operation go _ e in
-      clean_tomb_holds path main done child (branch_there limits states last run t h actor operation go takes_it new start begun main all.1.1.0)
-      (safe_of all.1.1.1.1.1.0) (quiet_all limits states last run t h actor operation go takes_it new start begun _ e refl main done x) (node_at heap child) refl
+      let all = claims run t h actor operation go _ e in
+      clean_tomb_holds path main done child (branch_there run t h actor operation go takes_it new start begun main all.1.1.0)
+      (safe_of all.1.1.1.1.1.0) (quiet_all run t h actor operation go takes_it new start begun _ e refl main done x) (node_at heap child) refl
   clean_holds (clean.Contracted path main done) e x = by_made (next_ref heap) refl
     where
       by_made : (o : Option Ref) → next_ref heap ≡ o → Next (clean_after_contracted path main o)
       by_made None next = tt
       by_made (Some made) next =
-          let claim = (claims limits states last run t h actor operation go _ e).1.1.0 in
+          let claim = (claims run t h actor operation go _ e).1.1.0 in
           let a = ap (line_action (states t) operation) e in
           let b = is_below_root path && leaves_single (states t) done in
-          fresh_repair limits states last run t h actor operation go takes_it new start begun main made done _ a next x b
-          (λ bitmap entries is. made_node limits states last run t h actor operation go (cleaned (states t) path main done) a made next (contracted_no_link b (bitmap_of (node_at heap main)) done)
-          ∙ ap (λ n. contracted b (bitmap_of n) done) (branch_there limits states last run t h actor operation go takes_it new start begun main claim ∙ is))
-          (repairs limits states last run t h actor operation go takes_it new start begun _ e)
+          fresh_repair run t h actor operation go takes_it new start begun main made done _ a next x b
+          (λ bitmap entries is. made_node run t h actor operation go (cleaned (states t) path main done) a made next (contracted_no_link b (bitmap_of (node_at heap main)) done)
+          ∙ ap (λ n. contracted b (bitmap_of n) done) (branch_there run t h actor operation go takes_it new start begun main claim ∙ is))
+          (repairs run t h actor operation go takes_it new start begun _ e)

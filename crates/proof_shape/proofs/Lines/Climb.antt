@@ -49,7 +49,7 @@ contracted_single true bitmap (suc zero) (x ∷ y ∷ rest) single other lt e = 
 contracted_single true bitmap (suc (suc p)) (x ∷ y ∷ rest) single other lt e = let wrong : ⊥ = cc in absurd wrong
 contracted_single false bitmap p entries single other lt e = let wrong : ⊥ = cc in absurd wrong
 
-module _ (limits : Bounds) (states : ℕ → State) (last : ℕ) (run : IsRun limits states last) where
+module _ {limits : Bounds} {states : ℕ → State} {last : ℕ} (run : IsRun limits states last) where
   -- what is an indirection isn't nothing
   pub position_within : (i : Ref) (g : ℕ) (w : Ref) → node_under states last i ≡ Indirection g w → (p : ℕ) (entries : List Ref) → slice_index_or entries p no_ref ≡ i → p < length entries
   position_within i g w is p entries at = by_test (nat_lt p (length entries)) refl
@@ -58,10 +58,10 @@ module _ (limits : Bounds) (states : ℕ → State) (last : ℕ) (run : IsRun li
       by_test true e = ltb-true p (length entries) e
       by_test false e =
           let nothing : i ≡ no_ref = sym at ∙ get_or_past entries p no_ref (ltb-false p (length entries) e) in
-          let bad : node_of None ≡ Indirection g w = sym (ap node_of (ap (grown states last) nothing ∙ nothing_stands limits states last run last (omega arith))) ∙ is in
+          let bad : node_of None ≡ Indirection g w = sym (ap node_of (ap (grown states last) nothing ∙ nothing_stands run last (omega arith))) ∙ is in
           let wrong : ⊥ = cc in absurd wrong
 
-module _ (limits : Bounds) (states : ℕ → State) (last : ℕ) (run : IsRun limits states last) (t : ℕ) (h : t < last) (actor : ℕ) (operation : Operation)
+module _ {limits : Bounds} {states : ℕ → State} {last : ℕ} (run : IsRun limits states last) (t : ℕ) (h : t < last) (actor : ℕ) (operation : Operation)
     (go : GoesAt states run.records t actor operation) where
   abbrev heap : Heap
   heap = (states t).heap
@@ -105,15 +105,15 @@ module _ (limits : Bounds) (states : ℕ → State) (last : ℕ) (run : IsRun li
       (o : Option Ref) → next_ref heap ≡ o → KnowsClimbing K W operation.call (climb_after_contracted operation c main o)
   contracted_knows c main e tombed holds None next = tt
   contracted_knows c main e tombed holds (Some made) next =
-      let claim = (claims limits states last run t h actor operation go _ e).1.1.1.0 in
-      let there : node_at heap main ≡ Branch holds.bitmap holds.entries = main_seen limits states last run t (omega arith) main ABranch branch_main claim ∙ holds.branch.is in
+      let claim = (claims run t h actor operation go _ e).1.1.1.0 in
+      let there : node_at heap main ≡ Branch holds.bitmap holds.entries = main_seen run t (omega arith) main ABranch branch_main claim ∙ holds.branch.is in
       let place : place_in (states t) operation c main ≡ holds.position = ap (λ n. position_of (flag_in (states t) operation (above c.path)) (bitmap_of n)) there ∙ sym holds.branch.at in
       let b = is_below_root (above c.path) in
       record {
         tombed = tombed;
         parent = holds;
         may_entomb = b;
-        made = made_node limits states last run t h actor operation go (climbed_node (states t) operation c main) (ap (line_action (states t) operation) e) made next
+        made = made_node run t h actor operation go (climbed_node (states t) operation c main) (ap (line_action (states t) operation) e) made next
             (contracted_no_link b (bitmap_of (node_at heap main)) (slice_set (entries_of (node_at heap main)) (place_in (states t) operation c main) c.single))
             ∙ ap₂ (λ (n : Node) (q : ℕ). contracted b (bitmap_of n) (slice_set (entries_of n) q c.single)) there place;
       }
@@ -127,18 +127,18 @@ module _ (limits : Bounds) (states : ℕ → State) (last : ℕ) (run : IsRun li
       by_test false = tt
 
   abbrev GivenTo : Ref → Ref → Type 0
-  GivenTo i m = Given (words_of states run.records last (known_run limits states last run).closing) t actor i m
+  GivenTo i m = Given (words_of states run.records last (known_run run).closing) t actor i m
 
-  pub remembered : (l : Line) → operation.line ≡ l → Remembers (λ i m. Given (words_of states run.records last (known_run limits states last run).closing) t actor i m)
+  pub remembered : (l : Line) → operation.line ≡ l → Remembers (λ i m. Given (words_of states run.records last (known_run run).closing) t actor i m)
       (operation.access ≡ Writable) l
-  remembered l e = subst (λ x. Remembers GivenTo (operation.access ≡ Writable) x) e (remembers_at limits states last (known_run limits states last run) t (omega arith) actor operation go.runs)
+  remembered l e = subst (λ x. Remembers GivenTo (operation.access ≡ Writable) x) e (remembers_at limits states last (known_run run) t (omega arith) actor operation go.runs)
 
   -- a tomb that is given
-  pub tombed_given : (i m single : Ref) → Given (words_of states run.records last (known_run limits states last run).closing) t actor i m →
+  pub tombed_given : (i m single : Ref) → Given (words_of states run.records last (known_run run).closing) t actor i m →
       node_under states last m ≡ Tomb single → WasTombed K W i single
   tombed_given i m single given is =
-      let link = given_link limits states last run t (omega arith) actor i m given in
-      record { generation = link.0; word = link.1; link = link.2; tomb = m; was = was_later states last t i m (was_given limits states last run t (omega arith) actor i m given); is = is }
+      let link = given_link run t (omega arith) actor i m given in
+      record { generation = link.0; word = link.1; link = link.2; tomb = m; was = was_later states last t i m (was_given run t (omega arith) actor i m given); is = is }
 
   read_knows : (c : Climb) → WasTombed K W (current c.path) c.single → (out : After Read Ref) → KnowsClimbing K W operation.call (climb_after_read c out)
   read_knows c tombed (Goes r) = tombed
@@ -153,6 +153,6 @@ module _ (limits : Bounds) (states : ℕ → State) (last : ℕ) (run : IsRun li
   climb_knows (climb.Read c read) e tombed = read_knows c (tombed_later _ _ tombed) (read_step (states t) operation read)
   climb_knows (climb.Main c main) e tombed =
       main_knows c main _ e (tombed_later _ _ tombed) (λ single is. tombed_given (current (above c.path)) main single (remembered _ e) is) (node_at heap main) refl
-      (main_seen limits states last run t (omega arith) main AMain (λ n x. x) (claims limits states last run t h actor operation go _ e).1.1.1.0)
+      (main_seen run t (omega arith) main AMain (λ n x. x) (claims run t h actor operation go _ e).1.1.1.0)
   climb_knows (climb.Contracted c main) e (tombed, holds) = contracted_knows c main e (tombed_later _ _ tombed) holds (next_ref heap) refl
   climb_knows (climb.Root c l) e tombed = root_knows c (tombed_later _ _ tombed) (root_after heap operation.access (word_at (states t) (handle_of operation.call)) l)

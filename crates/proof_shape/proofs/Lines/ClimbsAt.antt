@@ -51,7 +51,7 @@ fails_knows k W operation node (purpose.Update path former) s knows = tt
 fails_knows k W operation node (purpose.Renew path) s knows = tt
 fails_knows k W operation node purpose.Clean s knows = tt
 
-module _ (limits : Bounds) (states : ℕ → State) (last : ℕ) (run : IsRun limits states last) (t : ℕ) (h : t < last) (actor : ℕ) (operation : Operation)
+module _ {limits : Bounds} {states : ℕ → State} {last : ℕ} (run : IsRun limits states last) (t : ℕ) (h : t < last) (actor : ℕ) (operation : Operation)
     (go : GoesAt states run.records t actor operation) where
   abbrev heap : Heap
   heap = (states t).heap
@@ -63,7 +63,7 @@ module _ (limits : Bounds) (states : ℕ → State) (last : ℕ) (run : IsRun li
   W = Was states last (suc t)
 
   abbrev p : Protocol
-  p = protocol limits states last (known_run limits states last run)
+  p = protocol limits states last (known_run run)
 
   module _ (why : Purpose) (i a f : Ref) where
     abbrev s_at : SwapLine → Swap
@@ -80,20 +80,20 @@ module _ (limits : Bounds) (states : ℕ → State) (last : ℕ) (run : IsRun li
       -- a fresh tomb stands
       tomb_stands : (single : Ref) → node_at heap f ≡ Tomb single → WasTombed K W i single
       tomb_stands single is =
-          let claim = (claims limits states last run t h actor operation go _ e).1.1.0 in
-          let link = link_in_end limits states last run stood.at i (omega (arith, stood.past)) stood.link in
-          let was = was_committed limits states last run t (omega arith) actor i a f stage (sym (prev_found states t f (safe_of claim)) ∙ none) in
+          let claim = (claims run t h actor operation go _ e).1.1.0 in
+          let link = link_in_end run stood.at i (omega (arith, stood.past)) stood.link in
+          let was = was_committed run t (omega arith) actor i a f stage (sym (prev_found states t f (safe_of claim)) ∙ none) in
           record {
             generation = link.0;
             word = link.1;
             link = link.2;
             tomb = f;
             was = (was.0, omega (arith, was.1), was.2);
-            is = sym (main_seen limits states last run t (omega arith) f AMain (λ n x. x) claim) ∙ is;
+            is = sym (main_seen run t (omega arith) f AMain (λ n x. x) claim) ∙ is;
           }
 
       place : SwapsAt why i
-      place = (subst (λ x. IsPlaced operation.generation x) e (places_at limits states last run t (omega arith) actor operation go.runs)).1
+      place = (subst (λ x. IsPlaced operation.generation x) e (places_at run t (omega arith) actor operation go.runs)).1
 
       -- a removal that left a tomb climbs from it, and so does a climb that did
       succeeds_by : (w : Purpose) → SwapsAt w i →
@@ -108,10 +108,10 @@ module _ (limits : Bounds) (states : ℕ → State) (last : ℕ) (run : IsRun li
       succeeds_by (purpose.Climb c) at knows (Tomb single) is =
           let tombed = tomb_stands single is in
           let parent = knows.parent in
-          let within = position_within limits states last run (current c.path) knows.tombed.generation knows.tombed.word knows.tombed.link parent.position parent.entries.items parent.holds in
+          let within = position_within run (current c.path) knows.tombed.generation knows.tombed.word knows.tombed.link parent.position parent.entries.items parent.holds in
           let same : single ≡ c.single =
           contracted_single knows.may_entomb parent.bitmap parent.position parent.entries.items c.single single within
-          (sym knows.made ∙ sym (main_seen limits states last run t (omega arith) f AMain (λ n x. x) (claims limits states last run t h actor operation go _ e).1.1.0) ∙ is) in
+          (sym knows.made ∙ sym (main_seen run t (omega arith) f AMain (λ n x. x) (claims run t h actor operation go _ e).1.1.0) ∙ is) in
           climbing_knows K W operation (higher c c.single) (subst (λ j. WasTombed K W j c.single) at (subst (λ x. WasTombed K W i x) same tombed))
       succeeds_by (purpose.Climb c) at knows (Indirection g w) is = tt
       succeeds_by (purpose.Climb c) at knows (Branch b es) is = tt
@@ -154,7 +154,7 @@ module _ (limits : Bounds) (states : ℕ → State) (last : ℕ) (run : IsRun li
   -- ---- any line
 
   step_climbs : (l : Line) → operation.line ≡ l → KnowsClimbing K (Was states last t) operation.call l → KnowsClimbing K W operation.call (line_after (states t) operation l)
-  step_climbs (line.Climb l) e k = climb_knows limits states last run t h actor operation go l e k
+  step_climbs (line.Climb l) e k = climb_knows run t h actor operation go l e k
   step_climbs (line.Swap why s) e k = swap_knows why s.indirection s.replaced s.fresh s.line e (climbing_later K states last t operation.call (line.Swap why s) k)
   step_climbs (line.Root l) e k = grounded_knows K W operation.call _ (root_leads (states t) operation l).0
   step_climbs (line.Key l) e k = grounded_knows K W operation.call _ (key_leads (states t) operation l).0
@@ -166,21 +166,21 @@ module _ (limits : Bounds) (states : ℕ → State) (last : ℕ) (run : IsRun li
   step_climbs (line.End answer) e k = tt
   step_climbs line.Impossible e k = tt
 
-module _ (limits : Bounds) (states : ℕ → State) (last : ℕ) (run : IsRun limits states last) where
+module _ {limits : Bounds} {states : ℕ → State} {last : ℕ} (run : IsRun limits states last) where
   abbrev Climbs : ℕ → ℕ → Operation → Type 0
   Climbs t actor operation = KnowsClimbing (known_with limits states last (first_main states last)) (Was states last t) operation.call operation.line
 
   goes_climbs : (t : ℕ) → t < last → (actor : ℕ) (operation : Operation) → GoesAt states run.records t actor operation → Climbs t actor operation →
       Climbs (suc t) actor (operation_after (states t) operation)
   goes_climbs t h actor operation go k =
-      let same = same_known limits states last run t h actor operation go in
+      let same = same_known run t h actor operation go in
       subst (λ (x : Known). KnowsClimbing x (Was states last (suc t)) operation.call (line_after (states t) operation operation.line)) same
-      (step_climbs limits states last run t h actor operation go operation.line refl
+      (step_climbs run t h actor operation go operation.line refl
       (subst (λ (x : Known). KnowsClimbing x (Was states last t) operation.call operation.line) (sym same) k))
 
   pub climbs_at : ClimbsAt limits states last
   climbs_at =
-      each_at Climbs (λ t actor operation k. k) limits states last run
+      each_at Climbs (λ t actor operation k. k) run
       (λ t h actor call number d. grounded_knows (known_with limits states last (first_main states last)) (Was states last (suc t)) call _ (first_leads call).0) goes_climbs
       (λ t h actor operation answer is may k. tt)
       (λ t h actor operation is k. climbing_later (known_with limits states last (first_main states last)) states last t operation.call operation.line k)

@@ -79,14 +79,14 @@ swap_knows : (state : State) (operation : Operation) (known : Known) (why : Purp
 swap_knows state operation known why s knows (Goes l) = swap_stays known operation.call why s l knows
 swap_knows state operation known why s knows (Gives done) = blank_knows known operation.call _ (swapped_blank operation (node_at state.heap s.fresh) why done)
 
-module _ (limits : Bounds) (states : ℕ → State) (last : ℕ) (run : IsRun limits states last) where
+module _ {limits : Bounds} {states : ℕ → State} {last : ℕ} (run : IsRun limits states last) where
   abbrev K : Known
   K = known_with limits states last (first_main states last)
 
   step_knows : (t : ℕ) → t < last → (actor : ℕ) (operation : Operation) → GoesAt states run.records t actor operation → (l : Line) → operation.line ≡ l → KnowsLine K operation.call l →
       KnowsLine K operation.call (line_after (states t) operation l)
-  step_knows t h actor operation go (line.Key l) e knows = key_step limits states last run t h actor operation go l e knows
-  step_knows t h actor operation go (line.Build l) e knows = build_step limits states last run t h actor operation go l e knows
+  step_knows t h actor operation go (line.Key l) e knows = key_step run t h actor operation go l e knows
+  step_knows t h actor operation go (line.Build l) e knows = build_step run t h actor operation go l e knows
   step_knows t h actor operation go (line.Swap why s) e knows = swap_knows (states t) operation K why s knows _
   step_knows t h actor operation go (line.Root l) e knows = blank_knows K operation.call _ (root_blank (states t) operation l)
   step_knows t h actor operation go (line.Renew l) e knows = blank_knows K operation.call _ (renew_blank (states t) operation l)
@@ -99,7 +99,7 @@ module _ (limits : Bounds) (states : ℕ → State) (last : ℕ) (run : IsRun li
 
   pub knows_at : KnowsAt limits states last
   knows_at =
-      each_at (λ t actor operation. KnowsLine K operation.call operation.line) (λ t actor operation k. k) limits states last run
+      each_at (λ t actor operation. KnowsLine K operation.call operation.line) (λ t actor operation k. k) run
       (λ t h actor call number d. blank_knows K call _ (first_blank call)) (λ t h actor operation go k. step_knows t h actor operation go operation.line refl k)
       (λ t h actor operation answer is may k. tt)
       (λ t h actor operation is k. k)

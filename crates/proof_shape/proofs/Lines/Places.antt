@@ -140,10 +140,10 @@ first_above call e = grind arith
 first_no_swap : (call : Call) → is_swap (first_line call) ≡ false
 first_no_swap call = grind arith
 
-module _ (limits : Bounds) (states : ℕ → State) (last : ℕ) (run : IsRun limits states last) where
+module _ {limits : Bounds} {states : ℕ → State} {last : ℕ} (run : IsRun limits states last) where
   pub settled_at : OfEachAt states last (λ t actor operation. Settled operation)
   settled_at =
-      each_at (λ t actor operation. Settled operation) (λ t actor operation s. record { fits = s.fits; starts = s.starts; swaps = s.swaps }) limits states last run
+      each_at (λ t actor operation. Settled operation) (λ t actor operation s. record { fits = s.fits; starts = s.starts; swaps = s.swaps }) run
       (λ t h actor call number d. record { fits = first_fits call; starts = λ b. absurd (first_above call b); swaps = no_place _ (first_no_swap call) })
       (λ t h actor operation go s. record {
         fits = line_fits (states t) operation operation.line s.fits;

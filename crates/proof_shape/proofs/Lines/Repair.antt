@@ -57,7 +57,7 @@ key_sibling_not path main position former other node = grind arith
 pub renewed_no_link : (bitmap : ℕ) (entries : List Ref) → IsNoLink (renewed bitmap entries)
 renewed_no_link bitmap entries g w bad = cc
 
-module _ (limits : Bounds) (states : ℕ → State) (last : ℕ) (run : IsRun limits states last) (t : ℕ) (h : t < last) (actor : ℕ) (operation : Operation)
+module _ {limits : Bounds} {states : ℕ → State} {last : ℕ} (run : IsRun limits states last) (t : ℕ) (h : t < last) (actor : ℕ) (operation : Operation)
     (go : GoesAt states run.records t actor operation) where
   abbrev heap : Heap
   heap = (states t).heap
@@ -70,7 +70,7 @@ module _ (limits : Bounds) (states : ℕ → State) (last : ℕ) (run : IsRun li
 
   link_at : (l : Line) → operation.line ≡ l → (r : Ref) → line_action (states t) operation l ≡ act.Look r → (g : ℕ) (w : Ref) → node_at heap r ≡ Indirection g w →
       (m : Ref) × (node r ≡ Indirection g m)
-  link_at l e r a g w is = link_known limits states last run t (omega arith) r (looks limits states last run t h actor operation go l e r a) g w is
+  link_at l e r a g w is = link_known run t (omega arith) r (looks run t h actor operation go l e r a) g w is
 
   module _ (start : ℕ) (begun : operation.generation ≡ Some start) where
     -- what READs of repairs gave, this step's included
@@ -80,7 +80,7 @@ module _ (limits : Bounds) (states : ℕ → State) (last : ℕ) (run : IsRun li
     gives_now : (l : Line) (e : operation.line ≡ l) (read : Read) → stage_of l ≡ Reads read.indirection read.line → read_of l ≡ Some read → ReadsBelow l → (child : Ref) →
         read_step (states t) operation read ≡ Gives child → G read.indirection child
     gives_now l e read on reads below child gives = record {
-      gave = gave_now limits states last run t h actor operation go read.indirection read.line child (ap stage_of e ∙ on)
+      gave = gave_now run t h actor operation go read.indirection read.line child (ap stage_of e ∙ on)
           (given_read read.indirection (read_after heap operation.access (word_at (states t) (handle_of operation.call)) read.indirection read.line) child gives);
       at = t;
       past = omega arith;
@@ -109,7 +109,7 @@ module _ (limits : Bounds) (states : ℕ → State) (last : ℕ) (run : IsRun li
     key_repairs (key.Entry path main position) e (bitmap, entries, flagged) = by_node (node_at heap (entry_at heap main position))
       where
         there : node_at heap main ≡ node main
-        there = main_seen limits states last run t (omega arith) main ABranch branch_main (claims limits states last run t h actor operation go _ e).1.1.0
+        there = main_seen run t (omega arith) main ABranch branch_main (claims run t h actor operation go _ e).1.1.0
 
         by_test : (b : Bool) → Repairs (cond b (going_down path (entry_at heap main position)) (renew_next (states t) path main []))
         by_test true = tt
@@ -131,22 +131,22 @@ module _ (limits : Bounds) (states : ℕ → State) (last : ℕ) (run : IsRun li
     given_none : (i m : Ref) → GaveBelow states run.records last (suc t) actor operation.id start i m → prev_word states (suc t) m ≡ over.None
     given_none i m below =
         let gave = below.gave in
-        let p = protocol limits states last (known_run limits states last run) in
+        let p = protocol limits states last (known_run run) in
         none_final p i m (suc gave.moment) (suc t) (omega (arith, gave.is_moment.past, gave.past)) (omega arith)
         (record { at = suc gave.from; past = omega (arith, gave.is_moment.from); link = gave.is_moment.link; is = gave.is_moment.stood }) gave.is_moment.none
 
     branch_there : (main : Ref) (l : Line) → operation.line ≡ l → Holds (IsInUse heap) heap (Is main ABranch) → node_at heap main ≡ node main
-    branch_there main l e claim = main_seen limits states last run t (omega arith) main ABranch branch_main claim
+    branch_there main l e claim = main_seen run t (omega arith) main ABranch branch_main claim
 
     pub renew_repairs : (l : RenewLine) → operation.line ≡ line.Renew l →
         KnowsRenew (node_under states last) (first_main states last) (GaveBelow states run.records last (suc t) actor operation.id start) start l →
         KnowsRepair (node_under states last) (first_main states last) (GaveBelow states run.records last (suc t) actor operation.id start) start (renew_after (states t) operation l)
     renew_repairs (renew.Entry path main done) e knows =
-        let claim = (claims limits states last run t h actor operation go _ e).1.1.0 in
+        let claim = (claims run t h actor operation go _ e).1.1.0 in
         renew_entry_knows (states t) operation node first G start main (branch_there main _ e claim) path done knows begun
         (λ g w is. link_at _ e (next_entry (states t) main done) refl g w is) (node_at heap (next_entry (states t) main done)) refl
     renew_repairs (renew.Read path main done read) e knows =
-        let claim = (claims limits states last run t h actor operation go _ e).1.1.0 in
+        let claim = (claims run t h actor operation go _ e).1.1.0 in
         renew_read_knows (states t) operation node first G start main (branch_there main _ e claim) path done read knows (read_step (states t) operation read)
         (λ r is. read_stays (states t) operation read r is) (λ child is. gives_now _ e read refl refl tt child is)
     renew_repairs (renew.Link path main done child) e knows = by_made (next_ref heap) refl
@@ -154,20 +154,20 @@ module _ (limits : Bounds) (states : ℕ → State) (last : ℕ) (run : IsRun li
         by_made : (o : Option Ref) → next_ref heap ≡ o → Repairs (renew_after_link (states t) path main done o)
         by_made None next = tt
         by_made (Some made) next =
-            let claim = (claims limits states last run t h actor operation go _ e).1.1.0 in
+            let claim = (claims run t h actor operation go _ e).1.1.0 in
             let a = ap (line_action (states t) operation) e in
-            let link = made_link limits states last run t h actor operation go (Indirection (start_of operation) child) a made next (start_of operation) child refl in
+            let link = made_link run t h actor operation go (Indirection (start_of operation) child) a made next (start_of operation) child refl in
             let is : start_of operation ≡ start = ap (λ o. unwrap_or o 0) begun in
             renew_link_knows (states t) operation node first G start main (branch_there main _ e claim) path done child made link.0 knows (link.1 ∙ ap (λ g. Indirection g link.0) is)
-            (first_is limits states last run t h actor operation go (Indirection (start_of operation) child) a made next (start_of operation) child refl (given_none _ child knows.4.0))
+            (first_is run t h actor operation go (Indirection (start_of operation) child) a made next (start_of operation) child refl (given_none _ child knows.4.0))
     renew_repairs (renew.Branch path main done) e knows = by_made (next_ref heap) refl
       where
         by_made : (o : Option Ref) → next_ref heap ≡ o → Repairs (renew_after_branch path main o)
         by_made None next = tt
         by_made (Some made) next =
-            let claim = (claims limits states last run t h actor operation go _ e).1.1.0 in
+            let claim = (claims run t h actor operation go _ e).1.1.0 in
             renew_branch_knows (states t) operation node first G start main (branch_there main _ e claim) path done made knows
-            (made_node limits states last run t h actor operation go (branch_of (states t) main done) (ap (line_action (states t) operation) e) made next
+            (made_node run t h actor operation go (branch_of (states t) main done) (ap (line_action (states t) operation) e) made next
             (renewed_no_link (bitmap_of (node_at heap main)) done))
 
     -- ---- CLEAN
@@ -181,26 +181,26 @@ module _ (limits : Bounds) (states : ℕ → State) (last : ℕ) (run : IsRun li
         by_out (Goes r) = tt
         by_out (Gives main) = tt
     clean_repairs (clean.Main path main) e knows =
-        let there = main_seen limits states last run t (omega arith) main AMain (λ n x. x) (claims limits states last run t h actor operation go _ e).1.1.0 in
+        let there = main_seen run t (omega arith) main AMain (λ n x. x) (claims run t h actor operation go _ e).1.1.0 in
         clean_starts (states t) operation node first G start main there path (node_at heap main) (sym there)
     clean_repairs (clean.Entry path main done) e knows =
-        let claim = (claims limits states last run t h actor operation go _ e).1.1.0 in
+        let claim = (claims run t h actor operation go _ e).1.1.0 in
         clean_entry_knows (states t) operation node first G start main (branch_there main _ e claim) path done knows
         (λ g w is. link_at _ e (next_entry (states t) main done) refl g w is) (node_at heap (next_entry (states t) main done)) refl
     clean_repairs (clean.Child path main done read) e knows =
-        let claim = (claims limits states last run t h actor operation go _ e).1.1.0 in
+        let claim = (claims run t h actor operation go _ e).1.1.0 in
         clean_child_knows (states t) operation node first G start main (branch_there main _ e claim) path done read knows (read_step (states t) operation read)
         (λ r is. read_stays (states t) operation read r is) (λ child is. gives_now _ e read refl refl tt child is)
     clean_repairs (clean.Tomb path main done child) e knows =
-        let all = claims limits states last run t h actor operation go _ e in
+        let all = claims run t h actor operation go _ e in
         clean_tomb_knows (states t) operation node first G start main (branch_there main _ e all.1.1.0) path done child knows (node_at heap child)
-        (sym (main_seen limits states last run t (omega arith) child AMain (λ n x. x) all.1.1.1.1.1.0))
+        (sym (main_seen run t (omega arith) child AMain (λ n x. x) all.1.1.1.1.1.0))
     clean_repairs (clean.Contracted path main done) e knows = by_made (next_ref heap) refl
       where
         by_made : (o : Option Ref) → next_ref heap ≡ o → Repairs (clean_after_contracted path main o)
         by_made None next = tt
         by_made (Some made) next =
-            let claim = (claims limits states last run t h actor operation go _ e).1.1.0 in
+            let claim = (claims run t h actor operation go _ e).1.1.0 in
             clean_contracted_knows (states t) operation node first G start main (branch_there main _ e claim) path done made knows
-            (made_node limits states last run t h actor operation go (cleaned (states t) path main done) (ap (line_action (states t) operation) e) made next
+            (made_node run t h actor operation go (cleaned (states t) path main done) (ap (line_action (states t) operation) e) made next
             (contracted_no_link (is_below_root path && leaves_single (states t) done) (bitmap_of (node_at heap main)) done))

@@ -74,7 +74,7 @@ gave_below_later states records last t actor id start i m g = record {
   notes = g.notes;
 }
 
-module _ (limits : Bounds) (states : ℕ → State) (last : ℕ) (run : IsRun limits states last) where
+module _ {limits : Bounds} {states : ℕ → State} {last : ℕ} (run : IsRun limits states last) where
   -- what a line knows at a time
   abbrev Repairs : ℕ → ℕ → ℕ → ℕ → Line → Type 0
   Repairs t actor id start l = KnowsRepair (node_under states last) (first_main states last) (GaveBelow states run.records last t actor id start) start l
@@ -102,10 +102,10 @@ module _ (limits : Bounds) (states : ℕ → State) (last : ℕ) (run : IsRun li
     step_repairs : (l : Line) → operation.line ≡ l → generation_from (states t) operation l ≡ Some start → (operation.generation ≡ Some start → Repairs (suc t) actor operation.id start l) →
         Repairs (suc t) actor operation.id start (line_after (states t) operation l)
     step_repairs (line.Key l) e begun k =
-        key_repairs limits states last run t h actor operation go start begun l e
-        (subst (λ x. KnowsLine (known_with limits states last (first_main states last)) operation.call x) e (knows_at limits states last run t (omega arith) actor operation go.runs))
-    step_repairs (line.Renew l) e begun k = renew_repairs limits states last run t h actor operation go start begun l e (k begun)
-    step_repairs (line.Clean l) e begun k = clean_repairs limits states last run t h actor operation go start begun l e (k begun)
+        key_repairs run t h actor operation go start begun l e
+        (subst (λ x. KnowsLine (known_with limits states last (first_main states last)) operation.call x) e (knows_at run t (omega arith) actor operation go.runs))
+    step_repairs (line.Renew l) e begun k = renew_repairs run t h actor operation go start begun l e (k begun)
+    step_repairs (line.Clean l) e begun k = clean_repairs run t h actor operation go start begun l e (k begun)
     step_repairs (line.Swap why s) e begun k = swap_repairs t actor operation start why s (k begun) _
     step_repairs (line.Root l) e begun k = not_repairing (suc t) actor operation.id start _ (root_not (states t) operation l)
     step_repairs (line.Build l) e begun k = not_repairing (suc t) actor operation.id start _ (build_not (states t) operation l)
@@ -117,7 +117,7 @@ module _ (limits : Bounds) (states : ℕ → State) (last : ℕ) (run : IsRun li
 
   pub repairs_at : RepairsAt states run.records last
   repairs_at =
-      each_at (λ t actor operation. (start : ℕ) → operation.generation ≡ Some start → Repairs t actor operation.id start operation.line) (λ t actor operation k. k) limits states last run
+      each_at (λ t actor operation. (start : ℕ) → operation.generation ≡ Some start → Repairs t actor operation.id start operation.line) (λ t actor operation k. k) run
       (λ t h actor call number d start begun. not_repairing (suc t) actor _ start _ (first_not call))
       (λ t h actor operation go k start begun.
       step_repairs t h actor operation go start operation.line refl begun (λ b. repairs_later t actor operation.id start operation.line (k start b)))

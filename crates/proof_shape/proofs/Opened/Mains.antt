@@ -103,17 +103,17 @@ module _ (O : Ref → Type 0) where
 
 -- ---- what may be read before step t
 
-module _ (limits : Bounds) (states : ℕ → State) (last : ℕ) (run : IsRun limits states last) where
+module _ {limits : Bounds} {states : ℕ → State} {last : ℕ} (run : IsRun limits states last) where
   abbrev w : Words
-  w = words_of states run.records last (known_run limits states last run).closing
+  w = words_of states run.records last (known_run run).closing
 
   abbrev p : Protocol
-  p = protocol limits states last (known_run limits states last run)
+  p = protocol limits states last (known_run run)
 
   -- a root that stood by then, or an entry of a main node that was given by then
   pub data IsOpen (t : ℕ) (r : Ref) : Type 0 where
     rooted : (u handle : ℕ) → u ≤ t → root_of (word_at (states u) handle) ≡ r → IsOpen t r
-    named : (k : ℕ) (i m : Ref) → Given (words_of states run.records last (known_run limits states last run).closing) t k i m → Contains (entries_of (node_under states last m)) r → IsOpen t r
+    named : (k : ℕ) (i m : Ref) → Given (words_of states run.records last (known_run run).closing) t k i m → Contains (entries_of (node_under states last m)) r → IsOpen t r
 
   given_still : (t u : ℕ) → t ≤ u → (k : ℕ) (i m : Ref) → Given w t k i m → Given w u k i m
   given_still t u le k i m g = record { at = g.at; past = omega (arith, g.past); line = g.line; stage = g.stage; gives = g.gives }
@@ -130,8 +130,8 @@ module _ (limits : Bounds) (states : ℕ → State) (last : ℕ) (run : IsRun li
   goes_opens t h actor operation go o =
       line_opens limits.hash (states t) operation (IsOpen (suc t)) (λ i m. Given w t actor i m)
       (λ i m given used position within. named actor i m (given_later given) (named_by m used position within))
-      (rooted t (handle_of operation.call) (omega arith) refl) operation.line (line_at limits states last run t (omega arith) actor operation go.runs)
-      (remembers_at limits states last (known_run limits states last run) t (omega arith) actor operation go.runs)
+      (rooted t (handle_of operation.call) (omega arith) refl) operation.line (line_at run t (omega arith) actor operation go.runs)
+      (remembers_at limits states last (known_run run) t (omega arith) actor operation go.runs)
       (opens_more (IsOpen t) (IsOpen (suc t)) (open_still t (suc t) (omega arith)) operation.line o)
     where
       no_entries : (n : Node) (g : ℕ) (x : Ref) → n ≡ Indirection g x → (position : ℕ) → position < length (entries_of n) → ⊥
@@ -139,10 +139,10 @@ module _ (limits : Bounds) (states : ℕ → State) (last : ℕ) (run : IsRun li
 
       entries_known : (m : Ref) → IsInUse (states t).heap m → (n : Node) → node_at (states t).heap m ≡ n → (position : ℕ) → position < length (entries_of n) → node_under states last m ≡ n
       entries_known m used (Indirection g x) e position within = absurd (no_entries (Indirection g x) g x refl position within)
-      entries_known m used (Branch b es) e position within = node_known limits states last run t (omega arith) m used (λ g x bad. let wrong : Branch b es ≡ Indirection g x = sym e ∙ bad in cc) ∙ e
-      entries_known m used (Single k v) e position within = node_known limits states last run t (omega arith) m used (λ g x bad. let wrong : Single k v ≡ Indirection g x = sym e ∙ bad in cc) ∙ e
-      entries_known m used (Tomb s) e position within = node_known limits states last run t (omega arith) m used (λ g x bad. let wrong : Tomb s ≡ Indirection g x = sym e ∙ bad in cc) ∙ e
-      entries_known m used (Listed ss) e position within = node_known limits states last run t (omega arith) m used (λ g x bad. let wrong : Listed ss ≡ Indirection g x = sym e ∙ bad in cc) ∙ e
+      entries_known m used (Branch b es) e position within = node_known run t (omega arith) m used (λ g x bad. let wrong : Branch b es ≡ Indirection g x = sym e ∙ bad in cc) ∙ e
+      entries_known m used (Single k v) e position within = node_known run t (omega arith) m used (λ g x bad. let wrong : Single k v ≡ Indirection g x = sym e ∙ bad in cc) ∙ e
+      entries_known m used (Tomb s) e position within = node_known run t (omega arith) m used (λ g x bad. let wrong : Tomb s ≡ Indirection g x = sym e ∙ bad in cc) ∙ e
+      entries_known m used (Listed ss) e position within = node_known run t (omega arith) m used (λ g x bad. let wrong : Listed ss ≡ Indirection g x = sym e ∙ bad in cc) ∙ e
 
       named_by : (m : Ref) → IsInUse (states t).heap m → (position : ℕ) → position < length (entries_of (node_at (states t).heap m)) →
           Contains (entries_of (node_under states last m)) (entry_at (states t).heap m position)
@@ -152,7 +152,7 @@ module _ (limits : Bounds) (states : ℕ → State) (last : ℕ) (run : IsRun li
 
   pub opens_at : OfEachAt states last (λ t actor operation. Opens (IsOpen t) operation.line)
   opens_at =
-      each_at (λ t actor operation. Opens (IsOpen t) operation.line) (λ t actor operation o. o) limits states last run (λ t h actor call number d. first_opens (IsOpen (suc t)) call) goes_opens
+      each_at (λ t actor operation. Opens (IsOpen t) operation.line) (λ t actor operation o. o) run (λ t h actor call number d. first_opens (IsOpen (suc t)) call) goes_opens
       (λ t h actor operation answer is may o. tt)
       (λ t h actor operation is o. opens_more (IsOpen t) (IsOpen (suc t)) (open_still t (suc t) (omega arith)) operation.line o)
 
@@ -165,7 +165,7 @@ module _ (limits : Bounds) (states : ℕ → State) (last : ℕ) (run : IsRun li
       by_actor None e s = let wrong : ⊥ = cc in absurd wrong
       by_actor (Some operation) e s = reads_opens (IsOpen t) operation.line i x s (opens_at t h k operation e)
 
-  pub given_is_open : (t : ℕ) → t ≤ last → (k : ℕ) (i m : Ref) → Given (words_of states run.records last (known_run limits states last run).closing) t k i m → IsOpen t i
+  pub given_is_open : (t : ℕ) → t ≤ last → (k : ℕ) (i m : Ref) → Given (words_of states run.records last (known_run run).closing) t k i m → IsOpen t i
   given_is_open t h k i m given = open_still given.at t (omega (arith, given.past)) i (read_is_open given.at (omega (arith, given.past)) k i given.line given.stage)
 
   -- ---- so what may not be read keeps its main node
@@ -180,9 +180,9 @@ module _ (limits : Bounds) (states : ℕ → State) (last : ℕ) (run : IsRun li
           by_place : (j ≡ own.indirection) ⊎ (j ≡ own.indirection → ⊥) → counting_main states last (suc t) j ≡ counting_main states last t j
           by_place (inl same) =
               let kept = subst (λ l. Remembers (λ i m. Given w t own.actor i m) (own.owner.access ≡ Writable) l) own.swaps
-              (remembers_at limits states last (known_run limits states last run) t (omega arith) own.actor own.owner own.runs) in
+              (remembers_at limits states last (known_run run) t (omega arith) own.actor own.owner own.runs) in
               absurd (closed (subst (IsOpen t) (sym same) (given_is_open t (omega arith) own.actor own.indirection own.replaced kept.1)))
           by_place (inr apart) = own.others j apart
 
       by_turn : (turn : Turn (states t) (states (suc t))) → run.records (suc t) ≡ noted_turn turn (run.records t) → counting_main states last (suc t) j ≡ counting_main states last t j
-      by_turn (turns s o m) e = by_step s (commits_at limits states last run t h s o m e)
+      by_turn (turns s o m) e = by_step s (commits_at run t h s o m e)

@@ -84,16 +84,16 @@ counted began from t (read.Abort m p offer) after past (later b) = later b
 counted began from t (read.Decide m p told) after past (later b) = later b
 counted began from t (read.Restore m p) after past (later b) = later past
 
-module _ (limits : Bounds) (states : ℕ → State) (last : ℕ) (run : IsRun limits states last) where
+module _ {limits : Bounds} {states : ℕ → State} {last : ℕ} (run : IsRun limits states last) where
   abbrev known : Known limits states last
-  known = known_run limits states last run
+  known = known_run run
 
   abbrev w : Words
   w = words_of states run.records last known.closing
 
   -- a step of an operation is a turn of the protocol
   pub own_moves : (t : ℕ) (h : t < last) (actor : ℕ) (operation : Operation) → GoesAt states run.records t actor operation →
-      Moves (words_of states run.records last (known_run limits states last run).closing) t actor (stage_of operation.line) (stage_of (line_after (states t) operation operation.line))
+      Moves (words_of states run.records last (known_run run).closing) t actor (stage_of operation.line) (stage_of (line_after (states t) operation operation.line))
   own_moves t h actor operation go =
       line_turn limits states last known t h actor operation operation.line go.goes (record {
         facts = line_facts limits states last known t h actor operation go.o go.moves go.runs go.noted;
@@ -105,7 +105,7 @@ module _ (limits : Bounds) (states : ℕ → State) (last : ℕ) (run : IsRun li
       (moment_at (run.records (suc t)) actor).read_at ≡ counts_at x t (moment_at (run.records t) actor).read_at
   counts_to t h actor operation go i x is =
       ap (λ (m : Moment). m.read_at)
-      (ap (λ r. moment_at r actor) go.noted ∙ moment_goes (states t) (run.records t) actor operation (alike limits states last run t (omega arith)) (go_actor (states t) actor (not_denied go.moves)))
+      (ap (λ r. moment_at r actor) go.noted ∙ moment_goes (states t) (run.records t) actor operation (alike run t (omega arith)) (go_actor (states t) actor (not_denied go.moves)))
       ∙ counted_noted limits states last known t h actor operation go.o go.moves go.runs go.noted i x is
 
   goes_reading : (t : ℕ) → t < last → (actor : ℕ) (operation : Operation) → GoesAt states run.records t actor operation → IsReadingSince states run.records t actor operation →
@@ -134,7 +134,7 @@ module _ (limits : Bounds) (states : ℕ → State) (last : ℕ) (run : IsRun li
   pub reading_at : OfEachAt states last (λ t actor operation. (i : Ref) (x : ReadLine) → stage_of operation.line ≡ Reads i x →
       Reading states t actor operation.id (moment_at (run.records t) actor).read_at i x)
   reading_at =
-      each_with limits states last run (IsReadingSince states run.records) (λ t actor operation r. r)
+      each_with run (IsReadingSince states run.records) (λ t actor operation r. r)
       (λ t h actor call number d takes e i x is. let wrong : Rests ≡ Reads i x = sym (first_rests call) ∙ is in absurd (let bad : ⊥ = cc in bad))
       (λ t h actor operation go takes all. goes_reading t h actor operation go (all actor operation go.runs))
       (λ t h actor operation answer runs may all i x is. let wrong : Rests ≡ Reads i x = is in absurd (let bad : ⊥ = cc in bad))
@@ -144,7 +144,7 @@ module _ (limits : Bounds) (states : ℕ → State) (last : ℕ) (run : IsRun li
         began = r.began;
         past = omega (arith, r.past);
         first = r.first;
-        counts = subst (λ n. HasBegun r.began n x) (sym (ap (λ (m : Moment). m.read_at) (moment_kept limits states last run t h actor apart))) r.counts;
+        counts = subst (λ n. HasBegun r.began n x) (sym (ap (λ (m : Moment). m.read_at) (moment_kept run t h actor apart))) r.counts;
       })
 
   -- ---- what it gives

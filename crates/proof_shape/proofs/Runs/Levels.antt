@@ -16,7 +16,7 @@ record Leads (states : ℕ → State) (t n : ℕ) : Type 0 where
   taken : taken_from (states t) steps ≡ steps
   at : (u : ℕ) → u ≤ n → states_from (states t) steps u ≡ states (t + u)
 
-module _ (limits : Bounds) (states : ℕ → State) (last : ℕ) (run : IsRun limits states last) where
+module _ {limits : Bounds} {states : ℕ → State} {last : ℕ} (run : IsRun limits states last) where
   leads : (n t : ℕ) → t + n ≤ last → Leads states t n
   unfolding taken_from states_from
   leads zero t le = record { steps = []; taken = refl; at = λ u within. ap states (omega arith) }

@@ -79,7 +79,7 @@ module _ (states : ℕ → State) (t : ℕ) where
   quiet_made (act.Look at) q x = stays_made x
   quiet_made (act.End answer) q x = stays_made x
 
-module _ (limits : Bounds) (states : ℕ → State) (last : ℕ) (run : IsRun limits states last) where
+module _ {limits : Bounds} {states : ℕ → State} {last : ℕ} (run : IsRun limits states last) where
   -- what is new is what was drawn
   drawn : (t : ℕ) (node : Node) (o : Option Ref) → Taken states t node o → (m : Ref) → is_made states t m ≡ false → is_made states (suc t) m ≡ true → (o ≡ Some m) × GrownTakes states t m node
   drawn t node None x m before after = absurd (true≢false (sym after ∙ stays_made states t x m ∙ before))
@@ -92,23 +92,23 @@ module _ (limits : Bounds) (states : ℕ → State) (last : ℕ) (run : IsRun li
   -- a node that was made names what it is to name
   taken_names : (t : ℕ) → t < last → (m r : Ref) (n : Node) → GrownTakes states t m n → Contains (entries_of (node_under states last m)) r → Contains (entries_of n) r
   taken_names t h m r (Indirection g x) takes names =
-      let link = indirection_stays states last (nodes_stay limits states last run) (suc t) m _ g x h takes.here refl in
+      let link = indirection_stays states last (nodes_stay run) (suc t) m _ g x h takes.here refl in
       absurd (no_entry r (subst (λ n. Contains (entries_of n) r) link.1 names))
   taken_names t h m r (Branch b es) takes names =
       subst (λ n. Contains (entries_of n) r)
-      (node_stays states last (nodes_stay limits states last run) (suc t) m _ h takes.here (λ g x bad. let wrong : Branch b es ≡ Indirection g x = bad in cc)) names
+      (node_stays states last (nodes_stay run) (suc t) m _ h takes.here (λ g x bad. let wrong : Branch b es ≡ Indirection g x = bad in cc)) names
   taken_names t h m r (Single k v) takes names =
       subst (λ n. Contains (entries_of n) r)
-      (node_stays states last (nodes_stay limits states last run) (suc t) m _ h takes.here (λ g x bad. let wrong : Single k v ≡ Indirection g x = bad in cc)) names
+      (node_stays states last (nodes_stay run) (suc t) m _ h takes.here (λ g x bad. let wrong : Single k v ≡ Indirection g x = bad in cc)) names
   taken_names t h m r (Tomb s) takes names =
-      subst (λ n. Contains (entries_of n) r) (node_stays states last (nodes_stay limits states last run) (suc t) m _ h takes.here (λ g x bad. let wrong : Tomb s ≡ Indirection g x = bad in cc)) names
+      subst (λ n. Contains (entries_of n) r) (node_stays states last (nodes_stay run) (suc t) m _ h takes.here (λ g x bad. let wrong : Tomb s ≡ Indirection g x = bad in cc)) names
   taken_names t h m r (Listed ss) takes names =
       subst (λ n. Contains (entries_of n) r)
-      (node_stays states last (nodes_stay limits states last run) (suc t) m _ h takes.here (λ g x bad. let wrong : Listed ss ≡ Indirection g x = bad in cc)) names
+      (node_stays states last (nodes_stay run) (suc t) m _ h takes.here (λ g x bad. let wrong : Listed ss ≡ Indirection g x = bad in cc)) names
 
   module _ (t : ℕ) (h : t < last) (actor : ℕ) (operation : Operation) (go : GoesAt states run.records t actor operation) where
     acts : (a : Action) → action_of (states t) operation ≡ a → ActsOn states t a
-    acts a e = subst (λ x. ActsOn states t x) e ((known_run limits states last run).acts t h actor go.o go.moves operation go.runs)
+    acts a e = subst (λ x. ActsOn states t x) e ((known_run run).acts t h actor go.o go.moves operation go.runs)
 
     pub quiet_step : is_making (action_of (states t) operation) ≡ false → (m : Ref) → is_made states (suc t) m ≡ is_made states t m
     quiet_step q = quiet_made states t (action_of (states t) operation) q (acts _ refl)
@@ -129,22 +129,22 @@ module _ (limits : Bounds) (states : ℕ → State) (last : ℕ) (run : IsRun li
   -- who makes it
   pub record MakesNew (t : ℕ) : Type 0 where
     pub operation : Operation
-    pub go : GoesAt states run.records t (taker limits states last run t) operation
+    pub go : GoesAt states run.records t (taker run t) operation
 
   pub maker_of : (t : ℕ) → t < last → (m : Ref) → is_made states t m ≡ false → is_made states (suc t) m ≡ true → MakesNew t
-  maker_of t h m before after = let x = step_taken limits states last run t h in by_step x.0 x.1
+  maker_of t h m before after = let x = step_taken run t h in by_step x.0 x.1
     where
-      by_step : (x : NotedAt (states t) (run.records t) (states (suc t)) (run.records (suc t))) → taker limits states last run t ≡ taker_of x → MakesNew t
+      by_step : (x : NotedAt (states t) (run.records t) (states (suc t)) (run.records (suc t))) → taker run t ≡ taker_of x → MakesNew t
       by_step (NotesGo actor operation o moves d is g e n) takes =
           record { operation = operation; go = subst (λ k. GoesAt states run.records t k operation) (sym takes) (record { o = o; moves = moves; runs = is; goes = g; after = e; noted = n }) }
       by_step (NotesBegin actor call number o moves d e n) takes =
-          absurd (true≢false (sym after ∙ stays_made states t ((known_run limits states last run).stays t h (step.Begin actor call number) o moves tt) m ∙ before))
+          absurd (true≢false (sym after ∙ stays_made states t ((known_run run).stays t h (step.Begin actor call number) o moves tt) m ∙ before))
       by_step (NotesEnd actor operation answer o moves is a e n) takes =
-          absurd (true≢false (sym after ∙ stays_made states t (subst (λ x. ActsOn states t x) a ((known_run limits states last run).acts t h actor o moves operation is)) m ∙ before))
+          absurd (true≢false (sym after ∙ stays_made states t (subst (λ x. ActsOn states t x) a ((known_run run).acts t h actor o moves operation is)) m ∙ before))
       by_step (NotesGivingUp actor operation answer o moves is a e n) takes =
-          absurd (true≢false (sym after ∙ stays_made states t ((known_run limits states last run).stays t h (step.GiveUp actor) o moves tt) m ∙ before))
+          absurd (true≢false (sym after ∙ stays_made states t ((known_run run).stays t h (step.GiveUp actor) o moves tt) m ∙ before))
       by_step (NotesSweep o moves e n) takes =
-          absurd (true≢false (sym after ∙ stays_made states t ((known_run limits states last run).stays t h step.Sweep o moves tt) m ∙ before))
+          absurd (true≢false (sym after ∙ stays_made states t ((known_run run).stays t h step.Sweep o moves tt) m ∙ before))
 
   -- ---- what a node names was made before it
 
@@ -161,38 +161,38 @@ module _ (limits : Bounds) (states : ℕ → State) (last : ℕ) (run : IsRun li
     where
       slot_names : (slot : Slot) → standing (states zero).heap m ≡ Some slot → (n : Node) → slot.node ≡ n → Contains (entries_of n) r
       slot_names slot e (Indirection g x) is =
-          let link = indirection_stays states last (nodes_stay limits states last run) zero m slot g x (omega arith) (grown_in_use states zero m slot e) is in
+          let link = indirection_stays states last (nodes_stay run) zero m slot g x (omega arith) (grown_in_use states zero m slot e) is in
           absurd (no_entry r (subst (λ n. Contains (entries_of n) r) link.1 names))
       slot_names slot e (Branch b es) is =
           subst (λ n. Contains (entries_of n) r)
-          (node_stays states last (nodes_stay limits states last run) zero m slot (omega arith) (grown_in_use states zero m slot e)
+          (node_stays states last (nodes_stay run) zero m slot (omega arith) (grown_in_use states zero m slot e)
           (λ g x bad. let wrong : Branch b es ≡ Indirection g x = sym is ∙ bad in cc) ∙ is) names
       slot_names slot e (Single k v) is =
           subst (λ n. Contains (entries_of n) r)
-          (node_stays states last (nodes_stay limits states last run) zero m slot (omega arith) (grown_in_use states zero m slot e)
+          (node_stays states last (nodes_stay run) zero m slot (omega arith) (grown_in_use states zero m slot e)
           (λ g x bad. let wrong : Single k v ≡ Indirection g x = sym is ∙ bad in cc) ∙ is) names
       slot_names slot e (Tomb s) is =
           subst (λ n. Contains (entries_of n) r)
-          (node_stays states last (nodes_stay limits states last run) zero m slot (omega arith) (grown_in_use states zero m slot e)
+          (node_stays states last (nodes_stay run) zero m slot (omega arith) (grown_in_use states zero m slot e)
           (λ g x bad. let wrong : Tomb s ≡ Indirection g x = sym is ∙ bad in cc) ∙ is) names
       slot_names slot e (Listed ss) is =
           subst (λ n. Contains (entries_of n) r)
-          (node_stays states last (nodes_stay limits states last run) zero m slot (omega arith) (grown_in_use states zero m slot e)
+          (node_stays states last (nodes_stay run) zero m slot (omega arith) (grown_in_use states zero m slot e)
           (λ g x bad. let wrong : Listed ss ≡ Indirection g x = sym is ∙ bad in cc) ∙ is) names
 
       by_slot : (o : Option Slot) → standing (states zero).heap m ≡ o → is_some o ≡ true → is_made states zero r ≡ true
       by_slot None e made = absurd (true≢false (sym made))
       by_slot (Some slot) e made =
           in_use_made zero (omega arith) slot.node
-          (first_hold (IsInUse (states zero).heap) (states zero).heap (node_wants slot.node) (prev_wants slot.prev) ((safe_at limits states last run zero (omega arith)).nodes m slot e).0)
+          (first_hold (IsInUse (states zero).heap) (states zero).heap (node_wants slot.node) (prev_wants slot.prev) ((safe_at run zero (omega arith)).nodes m slot e).0)
           r (slot_names slot e slot.node refl)
 
   new_made : (t : ℕ) (h : t < last) (m r : Ref) → is_made states t m ≡ false → is_made states (suc t) m ≡ true → Contains (entries_of (node_under states last m)) r → is_made states t r ≡ true
-  new_made t h m r before after names = let x = maker_of t h m before after in by_action (taker limits states last run t) x.operation x.go (action_of (states t) x.operation) refl
+  new_made t h m r before after names = let x = maker_of t h m before after in by_action (taker run t) x.operation x.go (action_of (states t) x.operation) refl
     where
       by_action : (k : ℕ) (operation : Operation) → GoesAt states run.records t k operation → (a : Action) → action_of (states t) operation ≡ a → is_made states t r ≡ true
       by_action k operation go (act.Make n) e =
-          in_use_made t (omega arith) n (subst (λ a. AllHold (IsInUse (states t).heap) (states t).heap (action_wants a)) e (action_at limits states last run t (omega arith) k operation go.runs)).1 r
+          in_use_made t (omega arith) n (subst (λ a. AllHold (IsInUse (states t).heap) (states t).heap (action_wants a)) e (action_at run t (omega arith) k operation go.runs)).1 r
           (new_names t h k operation go n e m r before after names)
       by_action k operation go (act.MakeRoot main) e = absurd (root_names t h k operation go main e m r before after names)
       by_action k operation go act.ReadRoot e = absurd (true≢false (sym after ∙ quiet_step t h k operation go (ap is_making e) m ∙ before))

@@ -20,7 +20,7 @@ use Rattle.proof_shape.proofs.Runs.EachAt.{GoesAt}
 use Rattle.proof_shape.specs.Beneath.machine_model.proofs.Grown.{grown_in_use, node_standing}
 use Rattle.proof_generations.proofs.Falling.Nodes.{nodes_stay}
 
-module _ (limits : Bounds) (states : ℕ → State) (last : ℕ) (run : IsRun limits states last) where
+module _ {limits : Bounds} {states : ℕ → State} {last : ℕ} (run : IsRun limits states last) where
   -- ---- what is looked at
 
   module _ (t : ℕ) (h : t ≤ last) (r : Ref) (used : IsInUse (states t).heap r) where
@@ -30,10 +30,10 @@ module _ (limits : Bounds) (states : ℕ → State) (last : ℕ) (run : IsRun li
     -- a node that is no indirection
     pub node_known : IsNoLink (node_at (states t).heap r) → node_under states last r ≡ node_at (states t).heap r
     node_known not =
-        node_stays states last (nodes_stay limits states last run) t r used.0 h (grown_in_use states t r used.0 used.1) (λ g w e. not g w (here ∙ e)) ∙ sym here
+        node_stays states last (nodes_stay run) t r used.0 h (grown_in_use states t r used.0 used.1) (λ g w e. not g w (here ∙ e)) ∙ sym here
 
     pub link_known : (g : ℕ) (w : Ref) → node_at (states t).heap r ≡ Indirection g w → (m : Ref) × (node_under states last r ≡ Indirection g m)
-    link_known g w e = indirection_stays states last (nodes_stay limits states last run) t r used.0 g w h (grown_in_use states t r used.0 used.1) (sym here ∙ e)
+    link_known g w e = indirection_stays states last (nodes_stay run) t r used.0 g w h (grown_in_use states t r used.0 used.1) (sym here ∙ e)
 
     -- what it is in the end it is now
     pub known_node : (n : Node) → node_under states last r ≡ n → IsNoLink n → node_at (states t).heap r ≡ n
@@ -53,7 +53,7 @@ module _ (limits : Bounds) (states : ℕ → State) (last : ℕ) (run : IsRun li
     where
       by_slot : (o : Option Slot) → grown states u r ≡ o → is_some o ≡ false
       by_slot None e = refl
-      by_slot (Some slot) e = let now = grown_stays limits states last run u t le within r slot e in absurd (none-some now.0 (sym none ∙ now.1))
+      by_slot (Some slot) e = let now = grown_stays run u t le within r slot e in absurd (none-some now.0 (sym none ∙ now.1))
 
   first_until : (t : ℕ) (r : Ref) → t < last → grown states t r ≡ None → first_main states last r ≡ counting_main states last (suc t) r
   first_until t r within none =
@@ -67,13 +67,13 @@ module _ (limits : Bounds) (states : ℕ → State) (last : ℕ) (run : IsRun li
     pub takes : GrownTakes states t made node
     takes =
         subst (λ o. Taken states t node o) next
-        (subst (λ x. ActsOn states t x) a ((known_run limits states last run).acts t h actor go.o go.moves operation go.runs))
+        (subst (λ x. ActsOn states t x) a ((known_run run).acts t h actor go.o go.moves operation go.runs))
 
     pub made_node : IsNoLink node → node_under states last made ≡ node
-    made_node not = node_stays states last (nodes_stay limits states last run) (suc t) made _ h takes.here not
+    made_node not = node_stays states last (nodes_stay run) (suc t) made _ h takes.here not
 
     pub made_link : (g : ℕ) (below : Ref) → node ≡ Indirection g below → (m : Ref) × (node_under states last made ≡ Indirection g m)
-    made_link g below is = indirection_stays states last (nodes_stay limits states last run) (suc t) made _ g below h takes.here is
+    made_link g below is = indirection_stays states last (nodes_stay run) (suc t) made _ g below h takes.here is
 
     pub prev_still : (m : Ref) → prev_word states t m ≡ over.None → prev_word states (suc t) m ≡ over.None
     prev_still m none = by_ref (cases_eq m made)

@@ -47,10 +47,10 @@ after_turn limits before after (steps, is) (turns s o m) = (
   sym (ap (state_after before) (comes_to before s o after m)) ∙ ap (λ x. next_state x s) is ∙ sym (run_push (first_state limits) steps s),
 )
 
-pub run_of : (limits : Bounds) (states : ℕ → State) (last : ℕ) → IsRun limits states last → (t : ℕ) → t ≤ last → IsAfter limits (states t)
+pub run_of : {limits : Bounds} {states : ℕ → State} {last : ℕ} → IsRun limits states last → (t : ℕ) → t ≤ last → IsAfter limits (states t)
 unfolding run_from
-run_of limits states last r =
-    along_run limits states last r (λ t. IsAfter limits (states t)) ([], r.first) (λ t h turn before. after_turn limits (states t) (states (suc t)) before turn)
+run_of {limits} {states} {last} r =
+    along_run r (λ t. IsAfter limits (states t)) ([], r.first) (λ t h turn before. after_turn limits (states t) (states (suc t)) before turn)
 
 -- ---- levels
 
@@ -60,9 +60,9 @@ pub record HasSites (state : State) : Type 0 where
   pub levels : HasLevels level state
   pub shapes : HasShapes level state
 
-pub sites_at : (limits : Bounds) (states : ℕ → State) (last : ℕ) → IsRun limits states last → (t : ℕ) → t ≤ last → HasSites (states t)
-sites_at limits states last r t h =
-    let (steps, is) = run_of limits states last r t h in
+pub sites_at : {limits : Bounds} {states : ℕ → State} {last : ℕ} → IsRun limits states last → (t : ℕ) → t ≤ last → HasSites (states t)
+sites_at {limits} {states} {last} r t h =
+    let (steps, is) = run_of r t h in
     let both = has_shapes limits r.limits_ok steps in
     subst HasSites (sym is) (record { level = levels_of limits steps; levels = both.0; shapes = both.1 })
 
@@ -80,8 +80,8 @@ branch_shallow state sites path main place used is =
     by_node (Listed ss) e shape = absurd (true≢false (sym e))
 
 -- no operation comes to the impossible line
-pub never_impossible : (limits : Bounds) (states : ℕ → State) (last : ℕ) → IsRun limits states last → (t : ℕ) → t ≤ last → (actor : ℕ) (operation : Operation) →
+pub never_impossible : {limits : Bounds} {states : ℕ → State} {last : ℕ} → IsRun limits states last → (t : ℕ) → t ≤ last → (actor : ℕ) (operation : Operation) →
     operation_of (states t) actor ≡ Some operation → operation.line ≡ line.Impossible → ⊥
-never_impossible limits states last r t h actor operation is =
-    let (steps, same) = run_of limits states last r t h in
+never_impossible {limits} {states} {last} r t h actor operation is =
+    let (steps, same) = run_of r t h in
     never_there limits r.limits_ok steps actor operation (ap (λ (s : State). operation_of s actor) (sym same) ∙ is)

@@ -41,25 +41,25 @@ keyed_get (Close h) e n = absurd (true≢false (sym e))
 keyed_get (Entries h) e n = absurd (true≢false (sym e))
 keyed_get (Count h) e n = absurd (true≢false (sym e))
 
-module _ (limits : Bounds) (states : ℕ → State) (last : ℕ) (run : IsRun limits states last) (t : ℕ) (h : t ≤ last) where
+module _ {limits : Bounds} {states : ℕ → State} {last : ℕ} (run : IsRun limits states last) (t : ℕ) (h : t ≤ last) where
   abbrev heap : Heap
   heap = (states t).heap
 
   -- a reader's call needs no writable handle
   pub fits_at : (actor : ℕ) (operation : Operation) → operation_of (states t) actor ≡ Some operation → Fits operation
-  fits_at actor operation is = (of_actor (states t) (λ k operation. Fits operation) ((safe_at limits states last run t h).fits) actor operation is).1
+  fits_at actor operation is = (of_actor (states t) (λ k operation. Fits operation) ((safe_at run t h).fits) actor operation is).1
 
   -- a main node in use
   pub main_seen : (main : Ref) (wanted : Wanted) → ((n : Node) → meets wanted n ≡ true → meets AMain n ≡ true) → Holds (IsInUse (states t).heap) (states t).heap (Is main wanted) →
       node_at (states t).heap main ≡ node_under states last main
   main_seen main wanted also claim =
-      sym (node_known limits states last run t h main (safe_of claim) (main_no_link (node_at heap main) (also (node_at heap main) (meets_of claim))))
+      sym (node_known run t h main (safe_of claim) (main_no_link (node_at heap main) (also (node_at heap main) (meets_of claim))))
 
   -- a list isn't empty
   pub list_filled : (main : Ref) (singles : ArrayVec Ref) → IsInUse (states t).heap main → node_under states last main ≡ Listed singles → 0 < length singles.items
   list_filled main singles used is =
-      let there : node_at heap main ≡ Listed singles = known_node limits states last run t h main used (Listed singles) is (λ g w bad. let wrong : Listed singles ≡ Indirection g w = bad in cc) in
-      let formed = ((safe_at limits states last run t h).nodes main used.0 used.1).1 in
+      let there : node_at heap main ≡ Listed singles = known_node run t h main used (Listed singles) is (λ g w bad. let wrong : Listed singles ≡ Indirection g w = bad in cc) in
+      let formed = ((safe_at run t h).nodes main used.0 used.1).1 in
       let same : used.0.node ≡ Listed singles = sym (node_standing heap main used.0 used.1) ∙ there in
       two_or_more (leb-true 2 (length singles.items) (ap is_formed (sym same) ∙ formed))
     where
@@ -76,8 +76,8 @@ module _ (limits : Bounds) (states : ℕ → State) (last : ℕ) (run : IsRun li
   -- what the step looks at is in use
   pub look_used : (actor : ℕ) (operation : Operation) → operation_of (states t) actor ≡ Some operation → (r : Ref) → action_of (states t) operation ≡ act.Look r → IsInUse (states t).heap r
   look_used actor operation is r a =
-      safe_of (subst (λ x. AllHold (IsInUse heap) heap (action_wants x)) a (action_at limits states last run t h actor operation is)).0
+      safe_of (subst (λ x. AllHold (IsInUse heap) heap (action_wants x)) a (action_at run t h actor operation is)).0
 
   -- the single there
   pub single_seen : (r : Ref) → IsInUse (states t).heap r → (k v : ℕ) → node_at (states t).heap r ≡ Single k v → node_under states last r ≡ Single k v
-  single_seen r used k v e = node_known limits states last run t h r used (λ g w bad. let wrong : Single k v ≡ Indirection g w = sym e ∙ bad in cc) ∙ e
+  single_seen r used k v e = node_known run t h r used (λ g w bad. let wrong : Single k v ≡ Indirection g w = sym e ∙ bad in cc) ∙ e

@@ -39,7 +39,7 @@ taker_of (NotesEnd actor operation answer o m is a e n) = actor
 taker_of (NotesSweep o m e n) = 0
 taker_of (NotesGivingUp actor operation answer o m is a e n) = actor
 
-module _ (limits : Bounds) (states : ℕ → State) (last : ℕ) (run : IsRun limits states last) where
+module _ {limits : Bounds} {states : ℕ → State} {last : ℕ} (run : IsRun limits states last) where
   taker_by : (t : ℕ) (b : Bool) → nat_lt t last ≡ b → ℕ
   taker_by t true e = taker_of (noted_at (run.turn t (ltb-true t last e)) (run.recorded t (ltb-true t last e)))
   taker_by t false e = 0

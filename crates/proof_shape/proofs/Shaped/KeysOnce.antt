@@ -57,7 +57,7 @@ pub reaches_in_use : (state : State) → IsSafe state → ReachesInUse state
 reaches_in_use state I r (from_root handle q within) = in_root state I handle q within
 reaches_in_use state I r (from_slot p q reached within) = in_any_slot state I p q within
 
-module _ (limits : Bounds) (states : ℕ → State) (steps : ℕ → Step) (last : ℕ) (run : IsRun limits states last) (takes : TakesSteps states steps last) (keys : StepsFit steps last)
+module _ {limits : Bounds} {states : ℕ → State} (steps : ℕ → Step) {last : ℕ} (run : IsRun limits states last) (takes : TakesSteps states steps last) (keys : StepsFit steps last)
     (handle : ℕ) (root : Root) (at : handle_at (states last) handle ≡ Some root) where
   abbrev pub s : Sites
   s = sites_of states steps last
@@ -66,17 +66,17 @@ module _ (limits : Bounds) (states : ℕ → State) (steps : ℕ → Step) (last
   r = root_of root.word
 
   shape : HasShape (bare_trie_of_run limits states steps last)
-  shape = bare_runs_have_shape limits states steps last run takes keys
+  shape = bare_runs_have_shape steps run takes keys
 
   pub I : IsSafe (states last)
-  I = safe_at limits states last run last (omega arith)
+  I = safe_at run last (omega arith)
 
   -- the trie in the end, with this root alone
   abbrev pub trie : Trie
   trie = record (bare_trie_of_run limits states steps last) { last = 0; main = λ t i. counting_main states last last i; root = λ g. r }
 
   pub level_is : s.level r ≡ 1
-  level_is = word_root s.level root.word ((levels_there limits states steps last run takes last (omega arith)).0.words handle root at)
+  level_is = word_root s.level root.word ((levels_there steps run takes last (omega arith)).0.words handle root at)
 
   pub link : is_indirection (node_under states last r) ≡ true
   link =

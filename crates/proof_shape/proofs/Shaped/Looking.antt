@@ -60,16 +60,16 @@ stands_there (None ∷ places) (suc x) e at = stands_there places x e at
 stands_there (Some first ∷ places) zero e at = (0, omega arith, same_Some first e at)
 stands_there (Some first ∷ places) (suc x) e at = let (k, within, here) = stands_there places x e at in (suc k, omega (arith, within), here)
 
-module _ (limits : Bounds) (states : ℕ → State) (steps : ℕ → Step) (last : ℕ) (run : IsRun limits states last) (takes : TakesSteps states steps last) (keys : StepsFit steps last)
+module _ {limits : Bounds} {states : ℕ → State} (steps : ℕ → Step) {last : ℕ} (run : IsRun limits states last) (takes : TakesSteps states steps last) (keys : StepsFit steps last)
     (handle : ℕ) (root : Root) (at : handle_at (states last) handle ≡ Some root) where
   abbrev heap : Heap
   heap = (states last).heap
 
   abbrev trie : Trie
-  trie = once.trie limits states steps last run takes keys handle root at
+  trie = once.trie steps run takes keys handle root at
 
-  ok : IsTrie (once.trie limits states steps last run takes keys handle root at)
-  ok = once.ok limits states steps last run takes keys handle root at
+  ok : IsTrie (once.trie steps run takes keys handle root at)
+  ok = once.ok steps run takes keys handle root at
 
   abbrev Reached : Ref → Type 0
   Reached i = IsReached (states last) i
@@ -84,7 +84,7 @@ module _ (limits : Bounds) (states : ℕ → State) (steps : ℕ → Step) (last
   in_trie q levels depth i = find_at trie.node last_main (hash_of limits.hash) q levels depth i
 
   reaches : ReachesInUse (states last)
-  reaches = once.reaches_in_use (states last) (once.I limits states steps last run takes keys handle root at)
+  reaches = once.reaches_in_use (states last) (once.I steps run takes keys handle root at)
 
   node_is : (e : Ref) → Reached e → node_at heap e ≡ node_under states last e
   node_is = pairs.node_is states last reaches
@@ -185,17 +185,17 @@ module _ (limits : Bounds) (states : ℕ → State) (steps : ℕ → Step) (last
   all = pairs_from trie.node last_main most_levels r
 
   depth_is : trie.depth r ≡ 0
-  depth_is = once.depth_is limits states steps last run takes keys handle root at
+  depth_is = once.depth_is steps run takes keys handle root at
 
   link : is_indirection (node_under states last r) ≡ true
-  link = once.link limits states steps last run takes keys handle root at
+  link = once.link steps run takes keys handle root at
 
   pub looking_finds_at : (q : ℕ) → found_in q (content_at (states last) handle) ≡ in_heap q most_levels 0 r
   looking_finds_at q =
       let (h, w, is) = indirection_is (node_under states last r) link in
       let its = shows trie ok most_levels r 0 no_ref (omega (arith, depth_is)) (omega (arith, depth_is)) (ap bare is) in
       let content : content_at (states last) handle ≡ by_key all =
-      ap (λ o. by_key (pairs_below most_levels heap (root_of (word_of o)))) at ∙ ap by_key (once.reached limits states steps last run takes keys handle root at most_levels) in
+      ap (λ o. by_key (pairs_below most_levels heap (root_of (word_of o)))) at ∙ ap by_key (once.reached steps run takes keys handle root at most_levels) in
       ap (found_in q) content ∙ by_key_found q all its.apart ∙ its.found q ∙ sym (found_same q most_levels r h w root_reached (node_is r root_reached ∙ is))
       ∙ ap (λ d. in_heap q most_levels d r) depth_is
 
@@ -203,5 +203,5 @@ pub looking_finds : LookingFinds
 looking_finds limits steps handle root key ok fit at =
     subst (λ (state : State). found_in key (content_at state handle) ≡ find_at (node_at state.heap) (logical_main state.heap) (hash_of limits.hash) key most_levels 0 (root_of root.word))
     (run_ends limits steps)
-    (looking_finds_at limits (states_of limits steps) (steps_of limits steps) (last_of limits steps) (run_is limits steps ok) (takes_steps limits steps) (keys_fit limits steps fit) handle root
+    (looking_finds_at (steps_of limits steps) (run_is limits steps ok) (takes_steps limits steps) (keys_fit limits steps fit) handle root
     (ap (λ state. handle_at state handle) (run_ends limits steps) ∙ at) key)

@@ -47,13 +47,13 @@ module _ (limits : Bounds) (ok : AreBounds limits) (steps : List Step) (fit : Ke
   -- what stands in the end
   inside : (r : Ref) (slot : Slot) → standing heap r ≡ Some slot → InsideSite limits.hash s r slot.node
   inside r slot found =
-      ((sites_there limits (states_of limits steps) (steps_of limits steps) (last_of limits steps) (run_is limits steps ok) (takes_steps limits steps) keys
+      ((sites_there (steps_of limits steps) (run_is limits steps ok) (takes_steps limits steps) keys
       (last_of limits steps) (omega arith)).nodes r slot
       (ap (λ (x : State). standing x.heap r) (run_ends limits steps) ∙ found)).0
 
   bares : (r : Ref) → IsInUse heap r → bare (s.node r) ≡ bare (node_at heap r)
   bares r (slot, found) =
-      are_bare limits (states_of limits steps) (steps_of limits steps) (last_of limits steps) (run_is limits steps ok) (takes_steps limits steps) (last_of limits steps) (omega arith) r slot
+      are_bare (steps_of limits steps) (run_is limits steps ok) (takes_steps limits steps) (last_of limits steps) (omega arith) r slot
       (ap (λ (x : State). standing x.heap r) (run_ends limits steps) ∙ found) ∙ ap bare (sym (node_standing heap r slot found))
 
   entries_used : (r : Ref) (slot : Slot) → standing heap r ≡ Some slot → AllHold (IsInUse heap) heap (node_wants slot.node)
@@ -93,7 +93,7 @@ module _ (limits : Bounds) (ok : AreBounds limits) (steps : List Step) (fit : Ke
       full : IsFull s.node es.items
       full =
           subst (FullNode s (s.level r)) is
-          (full_grown limits (states_of limits steps) (steps_of limits steps) (last_of limits steps) (run_is limits steps ok) (takes_steps limits steps) keys
+          (full_grown (steps_of limits steps) (run_is limits steps ok) (takes_steps limits steps) keys
           (last_of limits steps) (omega arith) r slot
           (grown_in_use (states_of limits steps) (last_of limits steps) r slot (ap (λ (x : State). standing x.heap r) (run_ends limits steps) ∙ found))) (omega (arith, deep))
 
@@ -152,6 +152,6 @@ no_key_twice limits steps handle root ok fit at =
     subst (λ state. T (is_sorted nat_cmp (content_at state handle))
     × ((more : ℕ) → pairs_below (most_levels + more) state.heap (root_of root.word) ≡ pairs_below most_levels state.heap (root_of root.word)))
     (run_ends limits steps) (
-      keys_rise limits (states_of limits steps) (steps_of limits steps) (last_of limits steps) (run_is limits steps ok) (takes_steps limits steps) (keys_fit limits steps fit) handle root at_last,
-      nothing_deeper limits (states_of limits steps) (steps_of limits steps) (last_of limits steps) (run_is limits steps ok) (takes_steps limits steps) (keys_fit limits steps fit) handle root at_last,
+      keys_rise (steps_of limits steps) (run_is limits steps ok) (takes_steps limits steps) (keys_fit limits steps fit) handle root at_last,
+      nothing_deeper (steps_of limits steps) (run_is limits steps ok) (takes_steps limits steps) (keys_fit limits steps fit) handle root at_last,
     )

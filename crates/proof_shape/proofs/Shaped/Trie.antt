@@ -41,7 +41,7 @@ IsNewer trie =
     (t : ℕ) → t ≤ trie.last → (i child : Ref) (h : ℕ) (word : Ref) → Contains (entries_of (node_in trie t i)) child → trie.node child ≡ Indirection h word → generation trie child ≤ generation trie i
 
 -- whether generations of indirections are shown or not
-module _ (limits : Bounds) (states : ℕ → State) (steps : ℕ → Step) (last : ℕ) (run : IsRun limits states last) (takes : TakesSteps states steps last) (keys : StepsFit steps last)
+module _ {limits : Bounds} {states : ℕ → State} (steps : ℕ → Step) {last : ℕ} (run : IsRun limits states last) (takes : TakesSteps states steps last) (keys : StepsFit steps last)
     (shown : Node → Node) (tells : (n : Node) → bare (shown n) ≡ bare n) (newer : IsNewer (Shown limits states steps last shown)) where
   abbrev s : Sites
   s = sites_of states steps last
@@ -151,12 +151,12 @@ module _ (limits : Bounds) (states : ℕ → State) (steps : ℕ → Step) (last
   link_shaped t i h link =
       let (u, le, is, still) = main_of_some t i h in
       let (slot, found) = slot_of_made (grown states u i) (still (link_made (grown states last i) link)) in
-      let c = counts limits states steps last run takes keys u le i slot found (sym (link_same limits states steps last run takes keys u le i slot found) ∙ link) in
+      let c = counts steps run takes keys u le i slot found (sym (link_same steps run takes keys u le i slot found) ∙ link) in
       with_generations i link (node_under states last (counting_main states last t i))
       (λ k child x within its. newer t h i child k x within its)
       (subst (λ m. IsShaped T i (node_under states last m)) (sym is)
       (shape_moves T (main_before states u i) i (node_under states last (main_before states u i)) (stands limits.hash s (main_before states u i) i (sym c.level) (sym c.path))
-      (made_shaped limits states steps last run takes keys u le (main_before states u i) c.made)))
+      (made_shaped steps run takes keys u le (main_before states u i) c.made)))
 
   -- ---- anything else has no main node
 
@@ -165,11 +165,11 @@ module _ (limits : Bounds) (states : ℕ → State) (steps : ℕ → Step) (last
     where
       by_slot : (o : Option Slot) → grown states u i ≡ o → is_indirection (node_of o) ≡ false
       by_slot None e = refl
-      by_slot (Some slot) e = sym (link_same limits states steps last run takes keys u h i slot e) ∙ none
+      by_slot (Some slot) e = sym (link_same steps run takes keys u h i slot e) ∙ none
 
   no_main_at : (u : ℕ) → u ≤ last → (i : Ref) → is_indirection (node_under states last i) ≡ false → main_before states u i ≡ no_ref
   no_main_at u h i none =
-      ap (λ m. logical m (prev_of (grown states u m))) (no_main (node_under states u i) (no_link u h i none)) ∙ ap (λ o. logical no_ref (prev_of o)) (nothing_stands limits states last run u h)
+      ap (λ m. logical m (prev_of (grown states u m))) (no_main (node_under states u i) (no_link u h i none)) ∙ ap (λ o. logical no_ref (prev_of o)) (nothing_stands run u h)
 
   no_node : shown empty_branch ≡ empty_branch
   no_node = bare_branch (shown empty_branch) 0 (entries_from []) (tells empty_branch)
@@ -180,7 +180,7 @@ module _ (limits : Bounds) (states : ℕ → State) (steps : ℕ → Step) (last
       let root : trie.depth i ≡ 0 = ap (λ b. cond b (depth_at (level_until states steps last i)) 0) none in
       subst (IsShaped trie i)
       (sym (ap (λ m. shown (node_under states last m)) (is ∙ no_main_at u le i none)
-      ∙ ap (λ o. shown (node_of o)) (nothing_stands limits states last run last (omega arith)) ∙ no_node)) (empty_shaped trie fits i (omega (arith, root, deep_low limits.hash)))
+      ∙ ap (λ o. shown (node_of o)) (nothing_stands run last (omega arith)) ∙ no_node)) (empty_shaped trie fits i (omega (arith, root, deep_low limits.hash)))
 
   shaped_at : (t : ℕ) (i : Ref) → t ≤ last → IsShaped trie i (node_in trie t i)
   shaped_at t i h = by_test (is_indirection (node_under states last i)) refl
@@ -195,8 +195,8 @@ module _ (limits : Bounds) (states : ℕ → State) (steps : ℕ → Step) (last
   root_is g = by_root (root_until states g last) refl
     where
       by_root : (o : Option Ref) → root_until states g last ≡ o → (s.level (unwrap_or o no_ref) ≡ 1) ⊎ (is_indirection (node_under states last (unwrap_or o no_ref)) ≡ false)
-      by_root None e = inr (ap (λ o. is_indirection (node_of o)) (nothing_stands limits states last run last (omega arith)))
-      by_root (Some r) e = inl (level_of_root limits states steps last run takes last (omega arith) g r e)
+      by_root None e = inr (ap (λ o. is_indirection (node_of o)) (nothing_stands run last (omega arith)))
+      by_root (Some r) e = inl (level_of_root steps run takes last (omega arith) g r e)
 
   at_root : (r : Ref) → (s.level r ≡ 1) ⊎ (is_indirection (node_under states last r) ≡ false) → (trie.depth r ≡ 0) × (trie.path r ≡ 0)
   at_root r (inl level) = (
@@ -215,10 +215,10 @@ module _ (limits : Bounds) (states : ℕ → State) (steps : ℕ → Step) (last
   }
 
 pub runs_have_shape : RunsHaveShape
-runs_have_shape limits states steps last run takes keys =
+runs_have_shape steps run takes keys =
     let trie = trie_of_run limits states steps last in
-    has_shape limits states steps last run takes keys (λ n. n) (λ n. refl) (λ t h i child g word. none_is_newer limits states last run trie.depth trie.path t h i child g word)
+    has_shape steps run takes keys (λ n. n) (λ n. refl) (λ t h i child g word. none_is_newer run trie.depth trie.path t h i child g word)
 
 pub bare_runs_have_shape : BareRunsHaveShape
-bare_runs_have_shape limits states steps last run takes keys =
-    has_shape limits states steps last run takes keys bare bare_again (λ t h i child g word within is. omega (arith, bare_generation (node_under states last child)))
+bare_runs_have_shape steps run takes keys =
+    has_shape steps run takes keys bare bare_again (λ t h i child g word within is. omega (arith, bare_generation (node_under states last child)))

@@ -23,7 +23,7 @@ pub link_high : (deep level : ℕ) (n : Node) → is_indirection n ≡ true → 
 link_high deep level (Indirection g w) e h = h
 link_high deep level n e h = absurd (false≢true e)
 
-module _ (limits : Bounds) (states : ℕ → State) (steps : ℕ → Step) (last : ℕ) (run : IsRun limits states last) (takes : TakesSteps states steps last) (keys : StepsFit steps last) where
+module _ {limits : Bounds} {states : ℕ → State} (steps : ℕ → Step) {last : ℕ} (run : IsRun limits states last) (takes : TakesSteps states steps last) (keys : StepsFit steps last) where
   abbrev s : Sites
   s = sites_of states steps last
 
@@ -32,15 +32,15 @@ module _ (limits : Bounds) (states : ℕ → State) (steps : ℕ → Step) (last
   pub lines_have_sites : LinesHaveSites limits states steps last
   lines_have_sites t h actor operation e =
       let (k, found) = of_actor (states t) (λ k operation. get_or (states t).actors k None ≡ Some operation) (λ k operation e. e) actor operation e in
-      let sites = (sites_there limits states steps last run takes keys t h).lines k operation found in
-      ((levels_there limits states steps last run takes t h).0.lines k operation found, sites.0, sites.1)
+      let sites = (sites_there steps run takes keys t h).lines k operation found in
+      ((levels_there steps run takes t h).0.lines k operation found, sites.0, sites.1)
 
   stands_along : (t : ℕ) → t ≤ last → (actor : ℕ) (operation : Operation) → operation_of (states t) actor ≡ Some operation →
       IsWay s (IsInUse (states t).heap) (states t).heap limits.hash (hash_of limits.hash (key_of operation.call)) (way_of operation.line)
   stands_along t h actor operation e =
       let sites = lines_have_sites t h actor operation e in
       line_way s (IsInUse (states t).heap) (states t).heap limits.hash (hash_of limits.hash (key_of operation.call)) operation.call operation.access operation.line
-      sites.0 sites.1 (line_at limits states last run t h actor operation e)
+      sites.0 sites.1 (line_at run t h actor operation e)
 
   module _ (t : ℕ) (h : t ≤ last) (actor : ℕ) (operation : Operation) (e : operation_of (states t) actor ≡ Some operation) (d : ℕ) (within : d < length (way_of operation.line)) where
     i : Ref
@@ -54,7 +54,7 @@ module _ (limits : Bounds) (states : ℕ → State) (steps : ℕ → Step) (last
     node_is = ap is_indirection (sym (heap_node_under (states t).heap i its.0.0 its.0.1)) ∙ its.1
 
     link : is_indirection (node_under states last i) ≡ true
-    link = link_same limits states steps last run takes keys t h i its.0.0 (grown_in_use states t i its.0.0 its.0.1) ∙ node_is
+    link = link_same steps run takes keys t h i its.0.0 (grown_in_use states t i its.0.0 its.0.1) ∙ node_is
 
     level_is : s.level i ≡ d + 1
     unfolding i
@@ -62,8 +62,8 @@ module _ (limits : Bounds) (states : ℕ → State) (steps : ℕ → Step) (last
 
     high : s.level i ≤ 14
     high =
-        let shape = (levels_there limits states steps last run takes t h).1.nodes i its.0.0 its.0.1 in
-        let same = limits_at limits states last run t h in
+        let shape = (levels_there steps run takes t h).1.nodes i its.0.0 its.0.1 in
+        let same = limits_at run t h in
         let low = link_high (list_depth limits.hash) (s.level i) its.0.0.node node_is (subst (λ (l : Bounds). ShapeAt (list_depth l.hash) (s.level i) its.0.0.node) same shape) in
         omega (arith, low, list_depth-le limits.hash)
 
@@ -103,7 +103,7 @@ module _ (limits : Bounds) (states : ℕ → State) (steps : ℕ → Step) (last
   updates_have_sites t h actor operation e path former w is =
       let site = subst (LineSite limits.hash s (hash_of limits.hash (key_of operation.call))) is (lines_have_sites t h actor operation e).1 in
       let claims = subst (λ l. AllHold (IsInUse (states t).heap) (states t).heap (line_wants limits.hash operation.call operation.access l)) is
-      (line_at limits states last run t h actor operation e) in
+      (line_at run t h actor operation e) in
       let some : 0 < length path = ltb-true 0 (length path) (fact_of (last_hold (IsInUse (states t).heap) (states t).heap (swap_wants w) (purpose_wants (purpose.Update path former)) claims).1.0) in
       let same : way_of operation.line ≡ path = ap way_of is in
       let ways = ways_have_sites t h actor operation e in

@@ -100,10 +100,10 @@ keys_fit limits steps fit t h = taken_fit (first_state limits) steps fit t step.
 
 pub sites_are_fixed : SitesAreFixed
 sites_are_fixed limits steps more r ok (slot, found) = (
-  level_stays limits (states_of limits all) (steps_of limits all) (last_of limits all) (run_is limits all ok) (takes_steps limits all) (last_of limits steps)
+  level_stays (steps_of limits all) (run_is limits all ok) (takes_steps limits all) (last_of limits steps)
       (last_of limits all) longer (omega arith) r slot made
       ∙ level_same (states_of limits all) (states_of limits steps) (steps_of limits all) (steps_of limits steps) (last_of limits steps) alike r,
-  path_stays limits (states_of limits all) (steps_of limits all) (last_of limits all) (run_is limits all ok) (takes_steps limits all) (last_of limits steps)
+  path_stays (steps_of limits all) (run_is limits all ok) (takes_steps limits all) (last_of limits steps)
       (last_of limits all) longer (omega arith) r slot made
       ∙ path_same (states_of limits all) (states_of limits steps) (steps_of limits all) (steps_of limits steps) (last_of limits steps) alike r,
 )

@@ -50,20 +50,20 @@ made_stands state I s o after (Ends {actor} {operation} d is a) r e =
 made_stands state I s o after (GivesUp d is a) r e = absurd (none-some r e)
 made_stands state I s o after (Sweeps spent) r e = absurd (none-some r e)
 
-module _ (limits : Bounds) (states : ℕ → State) (steps : ℕ → Step) (last : ℕ) (run : IsRun limits states last) (takes : TakesSteps states steps last) where
+module _ {limits : Bounds} {states : ℕ → State} (steps : ℕ → Step) {last : ℕ} (run : IsRun limits states last) (takes : TakesSteps states steps last) where
   -- ---- what is made keeps what it was given
 
   made_grows : (t : ℕ) → t < last → (r : Ref) → made_now (states t) (steps t) ≡ Some r → (slot : Slot) × (grown states (suc t) r ≡ Some slot)
   made_grows t h r e =
       let (o, m) = takes t h in
-      let (slot, found) = made_stands (states t) (safe_at limits states last run t (omega arith)) (steps t) o (states (suc t)) m r e in
+      let (slot, found) = made_stands (states t) (safe_at run t (omega arith)) (steps t) o (states (suc t)) m r e in
       (slot, grown_in_use states (suc t) r slot found)
 
   -- what is made isn't made again
   not_again : (t u : ℕ) → t ≤ u → u < last → (r : Ref) (slot : Slot) → grown states t r ≡ Some slot → made_now (states u) (steps u) ≡ Some r → ⊥
   not_again t u le lt r slot found e =
-      let (now, found_now, same) = grown_stays limits states last run t u le (omega arith) r slot found in
-      none-some now (sym (not_yet_drawn limits states last run u (omega arith) r (made_next (states u) (steps u) r e)) ∙ found_now)
+      let (now, found_now, same) = grown_stays run t u le (omega arith) r slot found in
+      none-some now (sym (not_yet_drawn run u (omega arith) r (made_next (states u) (steps u) r e)) ∙ found_now)
 
   keeps_by : {A : Type 0} (r : Ref) (o : Option Ref) (x y : A) → (o ≡ Some r → ⊥) → cond (is_number r o) x y ≡ y
   keeps_by {A} r o x y other = cond_both (is_number r o) x y (λ z. z ≡ y) (λ e. absurd (other (number_is r o e))) (λ e. refl)
@@ -163,7 +163,7 @@ module _ (limits : Bounds) (states : ℕ → State) (steps : ℕ → Step) (last
   pub levels_there : (t : ℕ) → t ≤ last → HasLevels level (states t) × HasShapes level (states t)
   levels_there zero h = subst (λ s. HasLevels level s × HasShapes level s) (sym run.first) first_levels
   levels_there (suc t) h =
-      let I = safe_at limits states last run t (omega arith) in
+      let I = safe_at run t (omega arith) in
       let (o, m) = takes t (omega arith) in
       let (levels, shapes) = levels_there t (omega arith) in
       let gives = gives_level t (omega arith) in

@@ -43,12 +43,12 @@ main_no_link (Single k v) e g w is = false≢true e
 main_no_link (Tomb t) e g w is = let bad : Tomb t ≡ Indirection g w = is in cc
 main_no_link (Listed ss) e g w is = let bad : Listed ss ≡ Indirection g w = is in cc
 
-module _ (limits : Bounds) (states : ℕ → State) (steps : ℕ → Step) (last : ℕ) (run : IsRun limits states last) (takes : TakesSteps states steps last) (keys : StepsFit steps last) where
+module _ {limits : Bounds} {states : ℕ → State} (steps : ℕ → Step) {last : ℕ} (run : IsRun limits states last) (takes : TakesSteps states steps last) (keys : StepsFit steps last) where
   abbrev s : Sites
   s = sites_of states steps last
 
   pub stay : NodesStay states last
-  stay t u le h r was e = let (now, found, same) = grown_stays limits states last run t u le h r was e in (now, found, same.0)
+  stay t u le h r was e = let (now, found, same) = grown_stays run t u le h r was e in (now, found, same.0)
 
   pub record GrownSite (t : ℕ) (r : Ref) (slot : Slot) : Type 0 where
     pub inside : InsideSite limits.hash s r slot.node
@@ -72,7 +72,7 @@ module _ (limits : Bounds) (states : ℕ → State) (steps : ℕ → Step) (last
 
   main_later : (t : ℕ) → t < last → (m : Ref) → IsMadeMain states t m → IsMadeMain states (suc t) m
   main_later t h m (slot, found, is) =
-      let (now, found_now, same) = grown_stays limits states last run t (suc t) (omega arith) h m slot found in (now, found_now, meets_same AMain slot.node now.node same.0 ∙ is)
+      let (now, found_now, same) = grown_stays run t (suc t) (omega arith) h m slot found in (now, found_now, meets_same AMain slot.node now.node same.0 ∙ is)
 
   word_later : (t : ℕ) → t < last → (n : Node) → WordMade states t n → WordMade states (suc t) n
   word_later t h (Indirection g w) m = main_later t h w m
@@ -88,14 +88,14 @@ module _ (limits : Bounds) (states : ℕ → State) (steps : ℕ → Step) (last
 
   from_standing : (t : ℕ) → t ≤ last → (r : Ref) (slot : Slot) → standing (states t).heap r ≡ Some slot → GrownSite t r slot
   from_standing t h r slot found =
-      let site = (sites_there limits states steps last run takes keys t h).nodes r slot found in
-      let claims = ((safe_at limits states last run t h).nodes r slot found).0 in
+      let site = (sites_there steps run takes keys t h).nodes r slot found in
+      let claims = ((safe_at run t h).nodes r slot found).0 in
       record {
         inside = site.0;
         before = site.1;
-        levels = (levels_there limits states steps last run takes t h).0.nodes r slot found;
-        shape = subst (λ (l : Bounds). ShapeAt (list_depth l.hash) (s.level r) slot.node) (limits_at limits states last run t h)
-            ((levels_there limits states steps last run takes t h).1.nodes r slot found);
+        levels = (levels_there steps run takes t h).0.nodes r slot found;
+        shape = subst (λ (l : Bounds). ShapeAt (list_depth l.hash) (s.level r) slot.node) (limits_at run t h)
+            ((levels_there steps run takes t h).1.nodes r slot found);
         word = word_made t slot.node (first_hold (IsInUse (states t).heap) (states t).heap (node_wants slot.node) (prev_wants slot.prev) claims);
         over = prev_made t slot.prev (last_hold (IsInUse (states t).heap) (states t).heap (node_wants slot.node) (prev_wants slot.prev) claims);
       }
@@ -115,7 +115,7 @@ module _ (limits : Bounds) (states : ℕ → State) (steps : ℕ → Step) (last
   -- an indirection was one from the first
   pub link_same : (u : ℕ) → u ≤ last → (i : Ref) (slot : Slot) → grown states u i ≡ Some slot → is_indirection (node_under states last i) ≡ is_indirection slot.node
   link_same u h i slot found =
-      let (now, found_now, same) = grown_stays limits states last run u last h (omega arith) i slot found in
+      let (now, found_now, same) = grown_stays run u last h (omega arith) i slot found in
       ap (λ o. is_indirection (node_of o)) found_now ∙ meets_same AnIndirection slot.node now.node same.0
 
   -- ---- the main node that counts

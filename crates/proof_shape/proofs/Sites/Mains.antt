@@ -24,7 +24,7 @@ use Rattle.proof_shape.proofs.Sites.Fixed.{keys_fit}
 use Rattle.proof_shape.specs.Beneath.machine_model.proofs.Grown.{node_standing, prev_standing, grown_in_use}
 
 -- at a time of a run
-module _ (limits : Bounds) (states : ℕ → State) (steps : ℕ → Step) (last : ℕ) (run : IsRun limits states last) (takes : TakesSteps states steps last) (keys : StepsFit steps last) where
+module _ {limits : Bounds} {states : ℕ → State} (steps : ℕ → Step) {last : ℕ} (run : IsRun limits states last) (takes : TakesSteps states steps last) (keys : StepsFit steps last) where
   abbrev s : Sites
   s = sites_of states steps last
 
@@ -36,7 +36,7 @@ module _ (limits : Bounds) (states : ℕ → State) (steps : ℕ → Step) (last
   main_sites t h i slot g w found is = (word, subst (λ m. AtSite m i) (sym logical_is) (counted.level, counted.path))
     where
       site : AtSite (main_of slot.node) i
-      site = word_site limits states steps last run takes keys t h i slot (grown_in_use states t i slot found) (ap is_indirection is)
+      site = word_site steps run takes keys t h i slot (grown_in_use states t i slot found) (ap is_indirection is)
 
       word : AtSite w i
       word = subst (λ n. AtSite (main_of n) i) is site
@@ -45,7 +45,7 @@ module _ (limits : Bounds) (states : ℕ → State) (steps : ℕ → Step) (last
       node = node_standing (states t).heap i slot found ∙ is
 
       its : Holds (IsInUse (states t).heap) (states t).heap (Is w AMain)
-      its = (subst (λ n. AllHold (IsInUse (states t).heap) (states t).heap (node_wants n)) node ((heaped_in_use (states t) (safe_at limits states last run t h)).inside i (slot, found))).0
+      its = (subst (λ n. AllHold (IsInUse (states t).heap) (states t).heap (node_wants n)) node ((heaped_in_use (states t) (safe_at run t h)).inside i (slot, found))).0
 
       made : (q : Slot) × (standing (states t).heap w ≡ Some q)
       made = safe_of its
@@ -53,12 +53,12 @@ module _ (limits : Bounds) (states : ℕ → State) (steps : ℕ → Step) (last
       logical_is : logical_main (states t).heap i ≡ logical w made.0.prev
       logical_is = ap (λ m. logical m (prev_at (states t).heap m)) (ap main_of node) ∙ ap (logical w) (prev_standing (states t).heap w made.0 made.1)
 
-      counted : CountsFor limits states steps last run takes keys t i (logical w made.0.prev)
-      counted = counts_by limits states steps last run takes keys t h i w made.0 word.1 word.0 (kind_at states t w AMain its) (grown_in_use states t w made.0 made.1)
+      counted : CountsFor steps run takes keys t i (logical w made.0.prev)
+      counted = counts_by steps run takes keys t h i w made.0 word.1 word.0 (kind_at states t w AMain its) (grown_in_use states t w made.0 made.1)
 
   root_sites : (t : ℕ) → t ≤ last → (handle : ℕ) (root : Root) → root_at (states t) handle ≡ Some root → (s.level (root_of root.word) ≡ 1) × (s.path (root_of root.word) ≡ 0)
   root_sites t h handle root at =
-      let level = word_root s.level root.word ((levels_there limits states steps last run takes t h).0.words handle root at) in
+      let level = word_root s.level root.word ((levels_there steps run takes t h).0.words handle root at) in
       (level, root_path s (paths_fit states steps last) (root_of root.word) level)
 
 pub mains_share_sites : MainsShareSites

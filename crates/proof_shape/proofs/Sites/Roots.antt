@@ -22,14 +22,14 @@ pub word_root : (lv : Ref → ℕ) (word : RootWord) → WordLevel lv word → l
 word_root lv (Plain r) w = w
 word_root lv (Offer offer) w = w.0
 
-module _ (limits : Bounds) (states : ℕ → State) (steps : ℕ → Step) (last : ℕ) (run : IsRun limits states last) (takes : TakesSteps states steps last) where
+module _ {limits : Bounds} {states : ℕ → State} (steps : ℕ → Step) {last : ℕ} (run : IsRun limits states last) (takes : TakesSteps states steps last) where
   abbrev s : Sites
   s = sites_of states steps last
 
   root_stood : (t : ℕ) → t ≤ last → (g : ℕ) (r : Ref) → root_among (states t).heap g (states t).roots ≡ Some r → s.level r ≡ 1
   root_stood t h g r e =
       let (k, root, at, is) = root_found (states t).heap g (states t).roots r e in
-      ap s.level (sym is) ∙ word_root s.level root.word ((levels_there limits states steps last run takes t h).0.words k root at)
+      ap s.level (sym is) ∙ word_root s.level root.word ((levels_there steps run takes t h).0.words k root at)
 
   pub level_of_root : (t : ℕ) → t ≤ last → (g : ℕ) (r : Ref) → root_until states g t ≡ Some r → s.level r ≡ 1
   unfolding root_until

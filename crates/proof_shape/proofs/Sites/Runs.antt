@@ -48,13 +48,13 @@ paths_fit states steps (suc t) i =
     both true p q l m x y = x
     both false p q l m x y = y
 
-module _ (limits : Bounds) (states : ℕ → State) (steps : ℕ → Step) (last : ℕ) (run : IsRun limits states last) (takes : TakesSteps states steps last) where
+module _ {limits : Bounds} {states : ℕ → State} (steps : ℕ → Step) {last : ℕ} (run : IsRun limits states last) (takes : TakesSteps states steps last) where
   abbrev pub s : Sites
   s = sites_of states steps last
 
   pub are_bare : (t : ℕ) → t ≤ last → AreBare s (states t)
   are_bare t h r slot found =
-      let (now, found_now, same) = grown_stays limits states last run t last h (omega arith) r slot (grown_in_use states t r slot found) in
+      let (now, found_now, same) = grown_stays run t last h (omega arith) r slot (grown_in_use states t r slot found) in
       ap (λ o. bare (node_of o)) found_now ∙ ap bare same.0.1 ∙ bare_main same.0.0 slot.node
 
   -- the path that a line gives doesn't depend on what is made later
@@ -62,8 +62,8 @@ module _ (limits : Bounds) (states : ℕ → State) (steps : ℕ → Step) (last
       leads_by (states t) operation (path_until states steps t) l ≡ leads_by (states t) operation s.path l
   same_leads t h operation (line.Renew (renew.Link path main done child)) w =
       let used = (at_position (IsInUse (states t).heap) (states t).heap AnEntry (length done)
-      (branch_entries (IsInUse (states t).heap) (states t).heap (heaped_in_use (states t) (safe_at limits states last run t h)) w.1.1.0) w.1.1.1.1.0).0 in
-      sym (path_stays limits states steps last run takes t last h (omega arith) (next_entry (states t) main done) used.0 (grown_in_use states t (next_entry (states t) main done) used.0 used.1))
+      (branch_entries (IsInUse (states t).heap) (states t).heap (heaped_in_use (states t) (safe_at run t h)) w.1.1.0) w.1.1.1.1.0).0 in
+      sym (path_stays steps run takes t last h (omega arith) (next_entry (states t) main done) used.0 (grown_in_use states t (next_entry (states t) main done) used.0 used.1))
   same_leads t h operation (line.Renew (renew.Entry path main done)) w = refl
   same_leads t h operation (line.Renew (renew.Read path main done r)) w = refl
   same_leads t h operation (line.Renew (renew.Branch path main done)) w = refl
@@ -71,17 +71,17 @@ module _ (limits : Bounds) (states : ℕ → State) (steps : ℕ → Step) (last
 
   gives_path : (t : ℕ) → t < last → GivesPath s (states t) (steps t)
   gives_path t h actor operation node made is running n e =
-      path_given limits states steps last run takes t h made (ap (made_now (states t)) is ∙ ap (made_by (states t)) running ∙ ap (λ x. if_made x (next_ref (states t).heap)) n ∙ e)
+      path_given steps run takes t h made (ap (made_now (states t)) is ∙ ap (made_by (states t)) running ∙ ap (λ x. if_made x (next_ref (states t).heap)) n ∙ e)
       ∙ ap₂ (λ p l. path_to p (depth_at l))
       (ap (leads_now (states t) (path_until states steps t)) is ∙ ap (leads_of (states t) (path_until states steps t)) running) (ap (level_now (states t)) is ∙ ap level_by running)
       ∙ ap (λ p. path_to p (depth_at (made_level operation.line)))
-      (same_leads t (omega arith) operation operation.line (line_finds (states t) (safe_at limits states last run t (omega arith)) actor operation running))
+      (same_leads t (omega arith) operation operation.line (line_finds (states t) (safe_at run t (omega arith)) actor operation running))
 
   first_sites : HasSites limits.hash s (first_state limits)
   unfolding first_state
   first_sites =
-      let root = root_old limits states steps last run takes in
-      let branch = branch_old limits states steps last run takes in
+      let root = root_old steps run takes in
+      let branch = branch_old steps run takes in
       let fits = paths_fit states steps last in
       let here : depth_at (s.level (ref_to 1 0)) ≡ 0 = ap depth_at branch in
       record {
@@ -95,14 +95,14 @@ module _ (limits : Bounds) (states : ℕ → State) (steps : ℕ → Step) (last
     pub sites_there : (t : ℕ) → t ≤ last → HasSites limits.hash s (states t)
     sites_there zero h = subst (λ x. HasSites limits.hash s x) (sym run.first) first_sites
     sites_there (suc t) h =
-        let I = safe_at limits states last run t (omega arith) in
+        let I = safe_at run t (omega arith) in
         let (o, m) = takes t (omega arith) in
-        let (levels, shapes) = levels_there limits states steps last run takes t (omega arith) in
-        let same : (states t).limits ≡ limits = limits_at limits states last run t (omega arith) in
+        let (levels, shapes) = levels_there steps run takes t (omega arith) in
+        let same : (states t).limits ≡ limits = limits_at run t (omega arith) in
         let hash = ap (λ (l : Bounds). l.hash) same in
         subst (λ k. HasSites k s (states (suc t))) hash
         (sites_after s (paths_fit states steps last) (first_main states last) (states t) I levels shapes
         (subst (λ k. HasSites k s (states t)) (sym hash) (sites_there t (omega arith))) (are_bare t (omega arith))
         (λ actor operation e. subst (λ k. KnowsLine (record { kind = k; node = s.node; first = first_main states last }) operation.call operation.line) (sym hash)
-        (knows_at limits states last run t (omega arith) actor operation e))
-        (steps t) o (states (suc t)) m (keys t (omega arith)) (gives_level limits states steps last run takes t (omega arith)) (gives_path t (omega arith)) (are_bare (suc t) h))
+        (knows_at run t (omega arith) actor operation e))
+        (steps t) o (states (suc t)) m (keys t (omega arith)) (gives_level steps run takes t (omega arith)) (gives_path t (omega arith)) (are_bare (suc t) h))

@@ -73,7 +73,7 @@ module _ (limits : Bounds) (states : ℕ → State) (last : ℕ) (depth path : R
     next = operation_after state operation
 
     abbrev Right : Reply → Type 0
-    Right answer = RightAt states trie (suc t) operation.access next.generation (moment_of limits states last run (suc t) k).moment operation.call answer
+    Right answer = RightAt states trie (suc t) operation.access next.generation (moment_of run (suc t) k).moment operation.call answer
 
     abbrev Walks : WalkLine → Type 0
     Walks l = WalksAt states trie (suc t) operation.access operation.call l
@@ -83,7 +83,7 @@ module _ (limits : Bounds) (states : ℕ → State) (last : ℕ) (depth path : R
 
     -- what has its place keeps it
     keeps_place : is_placed (run.records t) operation.id ≡ true → is_placed (run.records (suc t)) operation.id ≡ true
-    keeps_place is = still limits states last run t (step.Go (suc k)) own.outcome own.moves (own_notes states run.records t k operation own) operation.id is
+    keeps_place is = still run t (step.Go (suc k)) own.outcome own.moves (own_notes states run.records t k operation own) operation.id is
 
     going : is_end operation.line ≡ false
     going = by_line operation.line own.goes
@@ -102,48 +102,48 @@ module _ (limits : Bounds) (states : ℕ → State) (last : ℕ) (depth path : R
         by_line line.Impossible g = refl
 
     no_close : is_close operation.call ≡ false
-    no_close = no_close_at limits states last run t (omega arith) k operation own.runs going
+    no_close = no_close_at run t (omega arith) k operation own.runs going
 
     stood : operation.access ≡ ReadOnly → (g : ℕ) → standing (states (suc t)) (handle_of operation.call) ≡ Some (ReadOnly, g) → standing state (handle_of operation.call) ≡ Some (ReadOnly, g)
-    stood read_only g e = stood_before limits states last run t k lt operation own.runs no_close read_only g e
+    stood read_only g e = stood_before run t k lt operation own.runs no_close read_only g e
 
     -- ---- KEY
 
     module _ (l : KeyLine) (e : operation.line ≡ line.Key l) where
       begun : (g : ℕ) × (operation.generation ≡ Some g)
-      begun = subst (λ x. IsPlaced operation.generation x) e (places_at limits states last run t (omega arith) (suc k) operation own.runs)
+      begun = subst (λ x. IsPlaced operation.generation x) e (places_at run t (omega arith) (suc k) operation own.runs)
 
       keyed : is_keyed operation.call ≡ true
-      keyed = subst (λ x. FitsCall operation.call x) e (settled_at limits states last run t (omega arith) (suc k) operation own.runs).fits
+      keyed = subst (λ x. FitsCall operation.call x) e (settled_at run t (omega arith) (suc k) operation own.runs).fits
 
       gets : operation.access ≡ ReadOnly → IsGet operation.call
-      gets a = keyed_get operation.call keyed (fits_at limits states last run t (omega arith) (suc k) operation own.runs a)
+      gets a = keyed_get operation.call keyed (fits_at run t (omega arith) (suc k) operation own.runs a)
 
       ends : EndsRight state operation (node_under states last) (first_main states last)
-          (λ answer. AnswersSo trie operation.access (begun.0) (moment_of limits states last run t k).moment operation.call answer) (key_after state operation l)
+          (λ answer. AnswersSo trie operation.access (begun.0) (moment_of run t k).moment operation.call answer) (key_after state operation l)
       ends =
           key_right limits states last depth path run ok t lt (suc k) operation (goes_at states run.records t k operation own) begun.0 (keyed_so operation.call keyed)
           (fits t (omega arith) k operation own.runs) gets l e
-          (subst (λ x. LineRoute trie operation.access begun.0 (key_of operation.call) t (moment_of limits states last run t k).read_at (moment_of limits states last run t k).moment x) e
+          (subst (λ x. LineRoute trie operation.access begun.0 (key_of operation.call) t (moment_of run t k).read_at (moment_of run t k).moment x) e
           (has_route limits states last depth path run ok t (omega arith) k operation own.runs begun.0 begun.1))
-          (subst (λ x. KnowsLine (known_with limits states last (first_main states last)) operation.call x) e (knows_at limits states last run t (omega arith) (suc k) operation own.runs))
+          (subst (λ x. KnowsLine (known_with limits states last (first_main states last)) operation.call x) e (knows_at run t (omega arith) (suc k) operation own.runs))
 
       generation_is : generation_after state operation ≡ Some begun.0
       generation_is = ap (generation_from state operation) e ∙ begun.1
 
-      right_so : (moment_of limits states last run t k).moment ≡ (moment_of limits states last run (suc t) k).moment → (answer : Reply) →
-          AnswersSo trie operation.access begun.0 (moment_of limits states last run t k).moment operation.call answer → Right answer
+      right_so : (moment_of run t k).moment ≡ (moment_of run (suc t) k).moment → (answer : Reply) →
+          AnswersSo trie operation.access begun.0 (moment_of run t k).moment operation.call answer → Right answer
       right_so moment answer h = by_access operation.access refl h
         where
-          by_access : (a : Access) → operation.access ≡ a → AnswersSo trie a begun.0 (moment_of limits states last run t k).moment operation.call answer →
-              RightAt states trie (suc t) a next.generation (moment_of limits states last run (suc t) k).moment operation.call answer
+          by_access : (a : Access) → operation.access ≡ a → AnswersSo trie a begun.0 (moment_of run t k).moment operation.call answer →
+              RightAt states trie (suc t) a next.generation (moment_of run (suc t) k).moment operation.call answer
           by_access Writable is h = (begun.0, generation_is, subst (λ mu. AnswersSo trie Writable begun.0 mu operation.call answer) moment h)
           by_access ReadOnly is h = λ g e'.
-              subst (λ x. AnswersSo trie ReadOnly x (moment_of limits states last run (suc t) k).moment operation.call answer) (sym (before.its no_close is begun.0 begun.1 g (stood is g e'))) h
+              subst (λ x. AnswersSo trie ReadOnly x (moment_of run (suc t) k).moment operation.call answer) (sym (before.its no_close is begun.0 begun.1 g (stood is g e'))) h
 
-      if_ends : (moment_of limits states last run t k).moment ≡ (moment_of limits states last run (suc t) k).moment → (x : Line) → is_still x ≡ true →
+      if_ends : (moment_of run t k).moment ≡ (moment_of run (suc t) k).moment → (x : Line) → is_still x ≡ true →
           EndsRight state operation (node_under states last) (first_main states last) (λ answer. AnswersSo trie operation.access begun.0
-          (moment_of limits states last run t k).moment operation.call answer) x →
+          (moment_of run t k).moment operation.call answer) x →
           IfEnds states run.records (suc t) operation.id Right Walks x
       if_ends moment (line.End answer) still h = right_so moment answer h
       if_ends moment (line.Root x) still h = tt
@@ -157,8 +157,8 @@ module _ (limits : Bounds) (states : ℕ → State) (last : ℕ) (depth path : R
       if_ends moment (line.Walk x) still h = tt
       if_ends moment line.Impossible still h = tt
 
-      same_moment : read_of (line.Key l) ≡ None → (moment_of limits states last run t k).moment ≡ (moment_of limits states last run (suc t) k).moment
-      same_moment none = quiet_moment limits states last run t k lt operation own (ap read_of e ∙ none)
+      same_moment : read_of (line.Key l) ≡ None → (moment_of run t k).moment ≡ (moment_of run (suc t) k).moment
+      same_moment none = quiet_moment run t k lt operation own (ap read_of e ∙ none)
 
       -- where it doesn't read
       quiet_on : read_of (line.Key l) ≡ None → On (key_after state operation l)
@@ -182,15 +182,15 @@ module _ (limits : Bounds) (states : ℕ → State) (last : ℕ) (depth path : R
     walk_on l e (read_only, walks, knows) = by_line (walk_after state operation l) (walk_leads state operation l).3 each
       where
         each : (g : ℕ) (stands : standing state (handle_of operation.call) ≡ Some (ReadOnly, g)) →
-            Walks' limits states last depth path run ok t k lt operation own read_only walks g (moment_of limits states last run (suc t) k).moment stands (walk_after state operation l)
-        each g stands = walk_right limits states last depth path run ok t k lt operation own read_only walks g (moment_of limits states last run (suc t) k).moment stands l e (knows g stands)
+            Walks' limits states last depth path run ok t k lt operation own read_only walks g (moment_of run (suc t) k).moment stands (walk_after state operation l)
+        each g stands = walk_right limits states last depth path run ok t k lt operation own read_only walks g (moment_of run (suc t) k).moment stands l e (knows g stands)
 
         by_line : (x : Line) → is_walking x ≡ true →
             ((g : ℕ) (stands : standing state (handle_of operation.call) ≡ Some (ReadOnly, g)) →
-            Walks' limits states last depth path run ok t k lt operation own read_only walks g (moment_of limits states last run (suc t) k).moment stands x) → On x
+            Walks' limits states last depth path run ok t k lt operation own read_only walks g (moment_of run (suc t) k).moment stands x) → On x
         by_line (line.Walk x) w h = (read_only, walks, λ g e'. h g (stood read_only g e'))
         by_line (line.End answer) w h =
-            is_right (subst (λ a. RightAt states trie (suc t) a next.generation (moment_of limits states last run (suc t) k).moment operation.call answer) (sym read_only)
+            is_right (subst (λ a. RightAt states trie (suc t) a next.generation (moment_of run (suc t) k).moment operation.call answer) (sym read_only)
             (λ g e'. h g (stood read_only g e')))
         by_line line.Impossible w h = tt
         by_line (line.Root x) w h = tt
@@ -205,15 +205,15 @@ module _ (limits : Bounds) (states : ℕ → State) (last : ℕ) (depth path : R
     -- ---- all lines
 
     line_on : (l : Line) → operation.line ≡ l →
-        Behind states run.records t operation.id (RightAt states trie t operation.access operation.generation (moment_of limits states last run t k).moment operation.call)
+        Behind states run.records t operation.id (RightAt states trie t operation.access operation.generation (moment_of run t k).moment operation.call)
         (WalksAt states trie t operation.access operation.call) l → On (line_after state operation l)
     line_on (line.Root l) e h = plain_behind states run.records (suc t) operation.id Right Walks _ (root_plain state operation l)
     line_on (line.Key l) e h = key_on l e
     line_on (line.Build l) e h = plain_behind states run.records (suc t) operation.id Right Walks _ (build_plain state operation l)
-    line_on (line.Swap why x) e h = swap_behind limits states last run t k lt operation own Right Walks why x e (swap_before why x h)
+    line_on (line.Swap why x) e h = swap_behind run t k lt operation own Right Walks why x e (swap_before why x h)
       where
         swap_before : (why : Purpose) (x : Swap) →
-            Behind states run.records t operation.id (RightAt states trie t operation.access operation.generation (moment_of limits states last run t k).moment operation.call)
+            Behind states run.records t operation.id (RightAt states trie t operation.access operation.generation (moment_of run t k).moment operation.call)
             (WalksAt states trie t operation.access operation.call) (line.Swap why x) →
             Behind states run.records t operation.id Right Walks (line.Swap why x)
         swap_before (purpose.Update path former) x h = h
@@ -223,7 +223,7 @@ module _ (limits : Bounds) (states : ℕ → State) (last : ℕ) (depth path : R
     line_on (line.Renew l) e h = plain_behind states run.records (suc t) operation.id Right Walks _ (renew_plain state operation l)
     line_on (line.Clean l) e h = plain_behind states run.records (suc t) operation.id Right Walks _ (clean_plain state operation l)
     line_on (line.Climb l) e h = climbing_behind states run.records (suc t) operation.id Right Walks _ (climb_climbs state operation l) (keeps_place h)
-    line_on (line.Copy l) e h = copy_behind limits states last run t k lt operation own Right Walks l e
+    line_on (line.Copy l) e h = copy_behind run t k lt operation own Right Walks l e
     line_on (line.Walk l) e h = walk_on l e h
     line_on (line.End answer) e h = absurd (true≢false (sym (ap is_end e) ∙ going))
     line_on line.Impossible e h = tt

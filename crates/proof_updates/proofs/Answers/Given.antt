@@ -22,9 +22,9 @@ pub own_after : (states : ℕ → State) (records : ℕ → Record) (t k : ℕ) 
     states (suc t) ≡ settled (states t) (gone (states t) (suc k) operation)
 own_after states records t k operation own = gone_is (states t) (suc k) own.outcome (states (suc t)) own.moves operation own.runs own.goes
 
-module _ (limits : Bounds) (states : ℕ → State) (last : ℕ) (run : IsRun limits states last) where
+module _ {limits : Bounds} {states : ℕ → State} {last : ℕ} (run : IsRun limits states last) where
   abbrev known : Known limits states last
-  known = known_run limits states last run
+  known = known_run run
 
   -- what is known of the READs of the operation at place k
   abbrev pub moment_of : ℕ → ℕ → Moment
@@ -35,7 +35,7 @@ module _ (limits : Bounds) (states : ℕ → State) (last : ℕ) (run : IsRun li
       moment_at (run.records (suc t)) (suc k) ≡ moment_after (run.records t) (states t).steps (progress_of (states t) operation) (moment_at (run.records t) (suc k))
   own_moment t k lt operation own =
       ap (λ r. moment_at r (suc k)) own.noted
-      ∙ moment_goes (states t) (run.records t) (suc k) operation (alike limits states last run t (omega (arith, lt))) (go_actor (states t) (suc k) (not_denied own.moves))
+      ∙ moment_goes (states t) (run.records t) (suc k) operation (alike run t (omega (arith, lt))) (go_actor (states t) (suc k) (not_denied own.moves))
 
   -- where it doesn't read the moment stays
   pub quiet_moment : (t k : ℕ) → t < last → (operation : Operation) → OwnStep states run.records t k operation → read_of operation.line ≡ None →

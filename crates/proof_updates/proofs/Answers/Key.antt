@@ -99,7 +99,7 @@ module _ (limits : Bounds) (states : ℕ → State) (last : ℕ) (depth path : R
       (λ answer. AnswersSo (trie_of limits states last depth path) operation.access g (moment_at (run.records t) actor).moment operation.call answer) l
 
   same_hash : (states t).limits.hash ≡ trie.kind
-  same_hash = ap (λ (l : Bounds). l.hash) (limits_at limits states last run t (omega arith))
+  same_hash = ap (λ (l : Bounds). l.hash) (limits_at run t (omega arith))
 
   rights : (p : List Ref) (main : Ref) → IsAt trie operation.access g (key_of operation.call) t moment p main → (operation.access ≡ Writable → (single : Ref) → node main ≢ Tomb single) →
       Answering (states t) operation node first Right (depth_of p) main
@@ -114,7 +114,7 @@ module _ (limits : Bounds) (states : ℕ → State) (last : ℕ) (depth path : R
   main_right : (p : List Ref) (main : Ref) → operation.line ≡ line.Key (key.Main p main) → IsAt trie operation.access g (key_of operation.call) t moment p main → (next : Line) →
       KeyEdge (states t) operation (key.Main p main) next → Ends next
   main_right p main e at next (misses_absent route m b es is f none) =
-      let seen = sees limits states last run t (omega arith) operation main AMain (λ n x. x) (claims limits states last run t lt actor operation go _ e).1.1.0 in
+      let seen = sees run t (omega arith) operation main AMain (λ n x. x) (claims run t lt actor operation go _ e).1.1.0 in
       let stands = no_tomb main (Branch b es) (sym seen.main_is ∙ is) (λ single bad. let wrong : Branch b es ≡ Tomb single = bad in cc) in
       main_ends (states t) operation node first Right main seen p (rights p main at stands) next (misses_absent route m b es is f none)
   main_right p main e at next edge = tt
@@ -123,12 +123,12 @@ module _ (limits : Bounds) (states : ℕ → State) (last : ℕ) (depth path : R
       KnowsKey (known_with limits states last (first_main states last)) operation.call (key.Entry p main position) → (next : Line) →
       KeyEdge (states t) operation (key.Entry p main position) next → Ends next
   entry_right p main position e at (b, es, f) next edge =
-      let seen = sees limits states last run t (omega arith) operation main ABranch branch_main (claims limits states last run t lt actor operation go _ e).1.1.0 in
+      let seen = sees run t (omega arith) operation main ABranch branch_main (claims run t lt actor operation go _ e).1.1.0 in
       let stands = no_tomb main (Branch b es) f.is (λ single bad. let wrong : Branch b es ≡ Tomb single = bad in cc) in
       entry_ends (states t) operation node first Right main seen p (rights p main at stands) position b es
-      (λ k v is. single_seen limits states last run t (omega arith) (entry_at (states t).heap main position)
-      (looks limits states last run t lt actor operation go _ e (entry_at (states t).heap main position) refl) k v is)
-      (subst (λ (k : Known). IsFlagged k (depth_of p) (key_of operation.call) main position b es) (sym (same_known limits states last run t lt actor operation go)) f) next edge
+      (λ k v is. single_seen run t (omega arith) (entry_at (states t).heap main position)
+      (looks run t lt actor operation go _ e (entry_at (states t).heap main position) refl) k v is)
+      (subst (λ (k : Known). IsFlagged k (depth_of p) (key_of operation.call) main position b es) (sym (same_known run t lt actor operation go)) f) next edge
 
   listed_right : (p : List Ref) (main : Ref) (position : ℕ) → operation.line ≡ line.Key (key.Listed p main position) → IsAt trie operation.access g (key_of operation.call) t moment p main →
       KnowsKey (known_with limits states last (first_main states last)) operation.call (key.Listed p main position) → (next : Line) →
@@ -136,15 +136,15 @@ module _ (limits : Bounds) (states : ℕ → State) (last : ℕ) (depth path : R
   listed_right p main position e at = by_known
     where
       claim : Holds (IsInUse (states t).heap) (states t).heap (Is main (listed operation.access))
-      claim = (claims limits states last run t lt actor operation go _ e).1.1.0
+      claim = (claims run t lt actor operation go _ e).1.1.0
 
       seen : Sees (states t) operation node first main
-      seen = sees limits states last run t (omega arith) operation main (listed operation.access) (listed_main operation.access) claim
+      seen = sees run t (omega arith) operation main (listed operation.access) (listed_main operation.access) claim
 
       single : SeesSingle (states t) operation node first main position
       single k v is =
-          single_seen limits states last run t (omega arith) (entry_at (states t).heap main position)
-          (looks limits states last run t lt actor operation go _ e (entry_at (states t).heap main position) refl) k v is
+          single_seen run t (omega arith) (entry_at (states t).heap main position)
+          (looks run t lt actor operation go _ e (entry_at (states t).heap main position) refl) k v is
 
       not_tombed : (s : Ref) → node main ≡ Tomb s → operation.access ≡ Writable → ⊥
       not_tombed s is w = true≢false (sym (ap (meets AList) (sym (seen.main_is ∙ is)) ∙ ap (λ a. meets (listed a) (node_at (states t).heap main)) (sym w) ∙ meets_of claim))
@@ -154,7 +154,7 @@ module _ (limits : Bounds) (states : ℕ → State) (last : ℕ) (depth path : R
       by_known (inl (ss, go_through)) =
           listed_ends (states t) operation node first Right main seen p
           (rights p main at (no_tomb main (Listed ss) go_through.is (λ s bad. let wrong : Listed ss ≡ Tomb s = bad in cc))) position ss single
-          (subst (λ (k : Known). GoesThrough k (key_of operation.call) main position ss) (sym (same_known limits states last run t lt actor operation go)) go_through)
+          (subst (λ (k : Known). GoesThrough k (key_of operation.call) main position ss) (sym (same_known run t lt actor operation go)) go_through)
       by_known (inr (s, is, at_first, get)) =
           subst (λ q. (next : Line) → KeyEdge (states t) operation (key.Listed p main q) next → Ends next) (sym at_first)
           (tomb_ends (states t) operation node first Right main seen p (rights p main at (λ w. absurd (not_tombed s is w))) s

@@ -30,14 +30,14 @@ stands_on state handle access g e = by_root (root_at state handle) refl e
         let same : (root.access, generation_at state.heap (root_of root.word)) ≡ (access, g) = same_Some _ _ e in
         record { root = root; is_open = is; kind = ap (λ q. q.0) same; its = ap (λ q. q.1) same }
 
-module _ (limits : Bounds) (states : ℕ → State) (last : ℕ) (run : IsRun limits states last) where
+module _ {limits : Bounds} {states : ℕ → State} {last : ℕ} (run : IsRun limits states last) where
   -- a root that stands behind a step stood there before it
   pub stood_before : (t k : ℕ) → t < last → (operation : Operation) → Runs (states t) k operation → is_close operation.call ≡ false → operation.access ≡ ReadOnly → (g : ℕ) →
       standing (states (suc t)) (handle_of operation.call) ≡ Some (ReadOnly, g) → standing (states t) (handle_of operation.call) ≡ Some (ReadOnly, g)
   stood_before t k lt operation runs no_close read_only g e = by_turn (run.turn t lt) (run.recorded t lt)
     where
       was : (root : Root) × (root_at (states t) (handle_of operation.call) ≡ Some root) × (root.access ≡ operation.access)
-      was = (ordered_at limits states last run t (omega arith)).handles.on_open k operation runs no_close
+      was = (ordered_at run t (omega arith)).handles.on_open k operation runs no_close
 
       now : StandsOn (states (suc t)) (handle_of operation.call) ReadOnly g
       now = stands_on (states (suc t)) (handle_of operation.call) ReadOnly g e
@@ -48,8 +48,8 @@ module _ (limits : Bounds) (states : ℕ → State) (last : ℕ) (run : IsRun li
 
       by_turn : (turn : Turn (states t) (states (suc t))) → run.records (suc t) ≡ noted_turn turn (run.records t) → standing (states t) (handle_of operation.call) ≡ Some (ReadOnly, g)
       by_turn (turns s o m) notes =
-          stood (sym (read_only_stays (states t) (run.records t) (run.records (suc t)) (safe_at limits states last run t (omega arith))
-          (ordered_at limits states last run t (omega arith)) s o (states (suc t)) m notes
+          stood (sym (read_only_stays (states t) (run.records t) (run.records (suc t)) (safe_at run t (omega arith))
+          (ordered_at run t (omega arith)) s o (states (suc t)) m notes
           (handle_of operation.call) was.0 was.1 (was.2 ∙ read_only) now.root now.is_open) ∙ now.its)
 
   -- an indirection, that of its generation
@@ -70,13 +70,13 @@ module _ (limits : Bounds) (states : ℕ → State) (last : ℕ) (run : IsRun li
       word_is = ap word_of on.is_open
 
       is_root : root_of_generation states last g ≡ root_of (word_at (states t) handle)
-      is_root = ap (root_of_generation states last) (sym on.its) ∙ root_is limits states last run t handle on.root within on.is_open ∙ ap root_of (sym word_is)
+      is_root = ap (root_of_generation states last) (sym on.its) ∙ root_is run t handle on.root within on.is_open ∙ ap root_of (sym word_is)
 
       plain : on.root.word ≡ Plain (root_of on.root.word)
-      plain = read_only_plain (states t) (run.records t) (safe_at limits states last run t within) (ordered_at limits states last run t within) handle on.root on.is_open on.kind
+      plain = read_only_plain (states t) (run.records t) (safe_at run t within) (ordered_at run t within) handle on.root on.is_open on.kind
 
       used : Holds (IsInUse (states t).heap) (states t).heap (Is (root_of on.root.word) AnIndirection)
-      used = (subst (λ w. AllHold (IsInUse (states t).heap) (states t).heap (word_wants w)) plain ((safe_at limits states last run t within).words handle on.root on.is_open)).0
+      used = (subst (λ w. AllHold (IsInUse (states t).heap) (states t).heap (word_wants w)) plain ((safe_at run t within).words handle on.root on.is_open)).0
 
       linked : (h : ℕ) × (w : Ref) × (node_under states last (root_of (word_at (states t) handle)) ≡ Indirection h w)
       linked = by_node (node_at (states t).heap (root_of on.root.word)) refl (meets_of used)
@@ -84,7 +84,7 @@ module _ (limits : Bounds) (states : ℕ → State) (last : ℕ) (run : IsRun li
           by_node : (n : Node) → node_at (states t).heap (root_of on.root.word) ≡ n → meets AnIndirection n ≡ true →
               (h : ℕ) × (w : Ref) × (node_under states last (root_of (word_at (states t) handle)) ≡ Indirection h w)
           by_node (Indirection h w) found m =
-              let link = link_known limits states last run t within (root_of on.root.word) (safe_of used) h w found in
+              let link = link_known run t within (root_of on.root.word) (safe_of used) h w found in
               (h, link.0, ap (λ x. node_under states last (root_of x)) word_is ∙ link.1)
           by_node (Branch b es) found m = absurd (true≢false (sym m))
           by_node (Single q v) found m = absurd (true≢false (sym m))

@@ -76,29 +76,29 @@ module _ (limits : Bounds) (states : ℕ → State) (last : ℕ) (depth path : R
     keeps_place is = subst (λ q. is_placed q operation.id ≡ true) (sym notes) (still_placed (states t) (run.records t) s o (states (suc t)) m operation.id is)
 
     module _ (no_close : is_close operation.call ≡ false) where
-      right_later : (answer : Reply) → RightAt states trie t operation.access operation.generation (moment_of limits states last run t k).moment operation.call answer →
-          RightAt states trie (suc t) operation.access operation.generation (moment_of limits states last run t k).moment operation.call answer
+      right_later : (answer : Reply) → RightAt states trie t operation.access operation.generation (moment_of run t k).moment operation.call answer →
+          RightAt states trie (suc t) operation.access operation.generation (moment_of run t k).moment operation.call answer
       right_later answer = by_access operation.access refl
         where
-          by_access : (a : Access) → operation.access ≡ a → RightAt states trie t a operation.generation (moment_of limits states last run t k).moment operation.call answer →
-              RightAt states trie (suc t) a operation.generation (moment_of limits states last run t k).moment operation.call answer
+          by_access : (a : Access) → operation.access ≡ a → RightAt states trie t a operation.generation (moment_of run t k).moment operation.call answer →
+              RightAt states trie (suc t) a operation.generation (moment_of run t k).moment operation.call answer
           by_access Writable is h = h
-          by_access ReadOnly is h = λ g e. h g (stood_before limits states last run t k lt operation runs no_close is g e)
+          by_access ReadOnly is h = λ g e. h g (stood_before run t k lt operation runs no_close is g e)
 
       line_later : (l : Line) → operation.line ≡ l →
-          Behind states run.records t operation.id (RightAt states trie t operation.access operation.generation (moment_of limits states last run t k).moment operation.call)
+          Behind states run.records t operation.id (RightAt states trie t operation.access operation.generation (moment_of run t k).moment operation.call)
           (WalksAt states trie t operation.access operation.call) l →
-          Behind states run.records (suc t) operation.id (RightAt states trie (suc t) operation.access operation.generation (moment_of limits states last run t k).moment operation.call)
+          Behind states run.records (suc t) operation.id (RightAt states trie (suc t) operation.access operation.generation (moment_of run t k).moment operation.call)
           (WalksAt states trie (suc t) operation.access operation.call) l
-      line_later (line.Swap (purpose.Update path former) x) e h = none_next limits states last run t k lt operation runs s o m notes path former x e h
+      line_later (line.Swap (purpose.Update path former) x) e h = none_next run t k lt operation runs s o m notes path former x e h
       line_later (line.Swap (purpose.Renew path) x) e h = tt
       line_later (line.Swap purpose.Clean x) e h = tt
       line_later (line.Swap (purpose.Climb c) x) e h = keeps_place h
       line_later (line.Climb l) e h = keeps_place h
       line_later (line.End answer) e h =
-          later_behind run.records t (suc t) operation.id (RightAt states trie t operation.access operation.generation (moment_of limits states last run t k).moment operation.call)
-          (RightAt states trie (suc t) operation.access operation.generation (moment_of limits states last run t k).moment operation.call) keeps_place right_later answer h
-      line_later (line.Walk l) e (read_only, walks, knows) = (read_only, walks, λ g e'. knows g (stood_before limits states last run t k lt operation runs no_close read_only g e'))
+          later_behind run.records t (suc t) operation.id (RightAt states trie t operation.access operation.generation (moment_of run t k).moment operation.call)
+          (RightAt states trie (suc t) operation.access operation.generation (moment_of run t k).moment operation.call) keeps_place right_later answer h
+      line_later (line.Walk l) e (read_only, walks, knows) = (read_only, walks, λ g e'. knows g (stood_before run t k lt operation runs no_close read_only g e'))
       line_later (line.Root l) e h = tt
       line_later (line.Key l) e h = tt
       line_later (line.Build l) e h = tt
@@ -113,7 +113,7 @@ module _ (limits : Bounds) (states : ℕ → State) (last : ℕ) (depth path : R
       behind = λ e.
           subst (λ (n : Moment). Behind states run.records (suc t) operation.id (RightAt states trie (suc t) operation.access operation.generation n.moment operation.call)
           (WalksAt states trie (suc t) operation.access operation.call) operation.line) (sym same) (line_later e operation.line refl (before.behind e));
-      its = λ e read_only g generation h stands. before.its e read_only g generation h (stood_before limits states last run t k lt operation runs e read_only h stands);
+      its = λ e read_only g generation h stands. before.its e read_only g generation h (stood_before run t k lt operation runs e read_only h stands);
     }
 
   -- ---- where one gives up
@@ -124,7 +124,7 @@ module _ (limits : Bounds) (states : ℕ → State) (last : ℕ) (depth path : R
   answering_gave_up t k lt operation answer runs may o m same before = record {
     closes = λ e. still operation.id (before.closes e);
     behind = λ e. ends (behind_given_up states run.records t operation.id _ _ (WalksAt states trie t operation.access operation.call) operation.call operation.line answer may (before.behind e));
-    its = λ e read_only g generation h stands. before.its e read_only g generation h (stood_before limits states last run t k lt operation runs e read_only h stands);
+    its = λ e read_only g generation h stands. before.its e read_only g generation h (stood_before run t k lt operation runs e read_only h stands);
   }
     where
       still : (id : ℕ) → is_placed (run.records t) id ≡ true → is_placed (run.records (suc t)) id ≡ true
@@ -146,7 +146,7 @@ module _ (limits : Bounds) (states : ℕ → State) (last : ℕ) (depth path : R
 
   pub answering_at : (t : ℕ) → t ≤ last → (k : ℕ) (operation : Operation) → Runs (states t) k operation → IsAnswering states run.records (trie_of limits states last depth path) t k operation
   answering_at =
-      each_operation limits states last run (λ t k operation. IsAnswering states run.records trie t k operation)
+      each_operation run (λ t k operation. IsAnswering states run.records trie t k operation)
       (λ t k operation b h. record { closes = h.closes; behind = h.behind; its = h.its }) answering_begins answering_gave_up rests
       (λ t k lt operation own h. answering_goes limits states last depth path run ok fits t k lt operation own h)
 
@@ -157,26 +157,26 @@ module _ (limits : Bounds) (states : ℕ → State) (last : ℕ) (depth path : R
     within = omega arith
 
     since : Since states run.records t k operation
-    since = run_since limits states last run t k operation within runs
+    since = run_since run t k operation within runs
 
     replied : is_close operation.call ≡ false → answer ≢ reply.NoSlots →
-        RightAt states trie t operation.access operation.generation (moment_of limits states last run t k).moment operation.call answer →
-        Replied limits states run.records last (content trie) operation (moment_of limits states last run t k).moment answer
+        RightAt states trie t operation.access operation.generation (moment_of run t k).moment operation.call answer →
+        Replied limits states run.records last (content trie) operation (moment_of run t k).moment answer
     replied no_close other h = by_access operation.access refl h
       where
         has : has_read operation.line ≡ true
         has = ap has_read e ∙ answered_unless answer other
 
-        moment : IsWithin run.records since.at t (moment_of limits states last run t k).moment
+        moment : IsWithin run.records since.at t (moment_of run t k).moment
         moment = (since.reads no_close).moment has
 
-        by_access : (a : Access) → operation.access ≡ a → RightAt states trie t a operation.generation (moment_of limits states last run t k).moment operation.call answer →
-            Replied limits states run.records last (content trie) operation (moment_of limits states last run t k).moment answer
+        by_access : (a : Access) → operation.access ≡ a → RightAt states trie t a operation.generation (moment_of run t k).moment operation.call answer →
+            Replied limits states run.records last (content trie) operation (moment_of run t k).moment answer
         by_access Writable is (g, generation, right) =
-            on_writable g is generation (rooted_at_moments limits states last run t k operation g within runs is generation has) moment.closes_none right
+            on_writable g is generation (rooted_at_moments run t k operation g within runs is generation has) moment.closes_none right
         by_access ReadOnly is right =
-            let stands = read_only_stands limits states last run t k operation within runs is no_close since in
-            on_read_only stands.0 is (stands.1 (suc (moment_of limits states last run t k).moment) (omega (arith, moment.behind)) (omega (arith, moment.past)))
+            let stands = read_only_stands run t k operation within runs is no_close since in
+            on_read_only stands.0 is (stands.1 (suc (moment_of run t k).moment) (omega (arith, moment.behind)) (omega (arith, moment.past)))
             (right stands.0 (stands.1 t since.past (omega arith)))
 
     no_close_unplaced : is_placed (run.records t) operation.id ≡ false → is_close operation.call ≡ false
@@ -187,15 +187,15 @@ module _ (limits : Bounds) (states : ℕ → State) (last : ℕ) (depth path : R
         by_test true is = absurd (true≢false (sym ((answering_at t within k operation runs).closes is) ∙ unplaced))
 
     right_reply : answer ≢ reply.NoSlots → is_placed (run.records t) operation.id ≡ false →
-        Replied limits states run.records last (content trie) operation (moment_of limits states last run t k).moment answer
+        Replied limits states run.records last (content trie) operation (moment_of run t k).moment answer
     right_reply other unplaced =
         by_ending
-        (subst (λ l. Behind states run.records t operation.id (RightAt states trie t operation.access operation.generation (moment_of limits states last run t k).moment operation.call)
+        (subst (λ l. Behind states run.records t operation.id (RightAt states trie t operation.access operation.generation (moment_of run t k).moment operation.call)
         (WalksAt states trie t operation.access operation.call) l) e
         ((answering_at t within k operation runs).behind (no_close_unplaced unplaced)))
       where
-        by_ending : EndsSo run.records t operation.id (RightAt states trie t operation.access operation.generation (moment_of limits states last run t k).moment operation.call) answer →
-            Replied limits states run.records last (content trie) operation (moment_of limits states last run t k).moment answer
+        by_ending : EndsSo run.records t operation.id (RightAt states trie t operation.access operation.generation (moment_of run t k).moment operation.call) answer →
+            Replied limits states run.records last (content trie) operation (moment_of run t k).moment answer
         by_ending (refused is) = absurd (other is)
         by_ending (has_place is) = absurd (true≢false (sym is ∙ unplaced))
         by_ending (is_right h) = replied (no_close_unplaced unplaced) other h

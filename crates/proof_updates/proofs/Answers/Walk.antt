@@ -52,8 +52,8 @@ module _ (limits : Bounds) (states : ℕ → State) (last : ℕ) (depth path : R
   go : GoesAt states run.records t (suc k) operation
   go = goes_at states run.records t k operation own
 
-  root : IsRoot limits states last run t (handle_of operation.call) g
-  root = root_stands limits states last run t (handle_of operation.call) g (omega arith) stands
+  root : IsRoot run t (handle_of operation.call) g
+  root = root_stands run t (handle_of operation.call) g (omega arith) stands
 
   pub right : (taken : Pairs) → taken ≡ all → Right (walked_reply operation.call taken)
   right taken whole = walked_right trie ok g root.generation mu root.word (ap trie.node root.is ∙ root.node) operation.call walks taken whole
@@ -77,19 +77,19 @@ module _ (limits : Bounds) (states : ℕ → State) (last : ℕ) (depth path : R
           gives = gives;
           notes = own_notes states run.records t k operation own;
         } in
-        let past = (given_at limits states last run t k lt operation own r.indirection r.line (ap stage_of e) main
+        let past = (given_at run t k lt operation own r.indirection r.line (ap stage_of e) main
         (given_read r.indirection (read_after (states t).heap operation.access (word_at (states t) (handle_of operation.call)) r.indirection r.line) main gives)).past in
-        given_for_ever limits states last run t lt (suc k) operation r.indirection main at (inl read_only) last (omega arith) (omega arith)
+        given_for_ever run t lt (suc k) operation r.indirection main at (inl read_only) last (omega arith) (omega arith)
 
     link : (h : ℕ) × (w : Ref) × (node_under states last r.indirection ≡ Indirection h w)
     link = by_node (node_at (states t).heap r.indirection) refl (meets_of used)
       where
         used : Holds (IsInUse (states t).heap) (states t).heap (Is r.indirection AnIndirection)
-        used = read_link (IsInUse (states t).heap) (states t).heap r.indirection r.line (claims limits states last run t lt (suc k) operation go _ e).1
+        used = read_link (IsInUse (states t).heap) (states t).heap r.indirection r.line (claims run t lt (suc k) operation go _ e).1
 
         by_node : (n : Node) → node_at (states t).heap r.indirection ≡ n → meets AnIndirection n ≡ true → (h : ℕ) × (w : Ref) × (node_under states last r.indirection ≡ Indirection h w)
         by_node (Indirection h w) found m =
-            let known = link_known limits states last run t (omega arith) r.indirection (safe_of used) h w found in
+            let known = link_known run t (omega arith) r.indirection (safe_of used) h w found in
             (h, known.0, known.1)
         by_node (Branch b es) found m = absurd (true≢false (sym m))
         by_node (Single q v) found m = absurd (true≢false (sym m))
@@ -104,10 +104,10 @@ module _ (limits : Bounds) (states : ℕ → State) (last : ℕ) (depth path : R
       (λ main is. let known = link r todo taken e in below_main trie ok known.0 r.indirection known.1 main known.2 (read_final r todo taken e main is))
   walk_right (walk.Main main todo taken) e knows =
       walk_main_knows operation (node_under states last) (below trie) all Right right main (node_at (states t).heap main) todo taken
-      (main_seen limits states last run t (omega arith) main AMain (λ n x. x) (claims limits states last run t lt (suc k) operation go _ e).1.0) knows
+      (main_seen run t (omega arith) main AMain (λ n x. x) (claims run t lt (suc k) operation go _ e).1.0) knows
   walk_right (walk.Entry todo taken) e (entry, rest, is, knows) =
       subst (λ es. Walks (walk_after_entry operation (first_of es) (rest_of es) taken (node_at (states t).heap (first_of es)))) (sym is)
       (walk_entry_knows operation (node_under states last) (below trie) all Right right entry rest taken (ap (λ es. taken ++ flat_map (below trie) es) (sym is) ∙ knows) (node_at (states t).heap entry)
       (λ q v single. walk_single trie ok q v entry
-      (single_seen limits states last run t (omega arith) entry
-      (subst (λ r. IsInUse (states t).heap r) (ap first_of is) (looks limits states last run t lt (suc k) operation go _ e (first_of todo) refl)) q v single)))
+      (single_seen run t (omega arith) entry
+      (subst (λ r. IsInUse (states t).heap r) (ap first_of is) (looks run t lt (suc k) operation go _ e (first_of todo) refl)) q v single)))

@@ -11,14 +11,14 @@ use Rattle.proof_updates.specs.Touching.{Reaches, its_root, entry_below}
 use Rattle.proof_updates.proofs.Handles.Showing.{link_same, main_used, entries_same, entry_used, root_used}
 use Rattle.proof_updates.proofs.Handles.Ways.{From, itself, through}
 
-module _ (limits : Bounds) (states : ℕ → State) (steps : ℕ → Step) (last : ℕ) (run : IsRun limits states last) (takes : TakesSteps states steps last) (keys : StepsFit steps last)
+module _ {limits : Bounds} {states : ℕ → State} (steps : ℕ → Step) {last : ℕ} (run : IsRun limits states last) (takes : TakesSteps states steps last) (keys : StepsFit steps last)
     (t : ℕ) (within : t ≤ last) (handle : ℕ) (root : Root) (at : root_at (states t) handle ≡ Some root) where
   pub reach_used : (r : Ref) → Reaches (states t) handle r → IsInUse (states t).heap r
-  reach_used r (its_root other is) = root_used limits states steps last run takes keys t within handle other is
+  reach_used r (its_root other is) = root_used steps run takes keys t within handle other is
   reach_used r (entry_below i entry main g from link c) =
       let used = reach_used i from in
-      let linked = sym (link_same limits states steps last run takes keys t within i used) ∙ ap is_indirection link in
-      entry_used limits states steps last run takes keys t within (logical_main (states t).heap i) r (main_used limits states steps last run takes keys t within i used linked) c
+      let linked = sym (link_same steps run takes keys t within i used) ∙ ap is_indirection link in
+      entry_used steps run takes keys t within (logical_main (states t).heap i) r (main_used steps run takes keys t within i used linked) c
 
   pub from_reach : (r : Ref) → Reaches (states t) handle r → From (trie_of_run limits states steps last) t (root_of root.word) r
   from_reach r (its_root other is) =
@@ -26,9 +26,9 @@ module _ (limits : Bounds) (states : ℕ → State) (steps : ℕ → Step) (last
       subst (λ (x : Root). From (trie_of_run limits states steps last) t (root_of root.word) (root_of x.word)) (sym same) itself
   from_reach r (entry_below i entry main g from link c) =
       let used = reach_used i from in
-      let linked = sym (link_same limits states steps last run takes keys t within i used) ∙ ap is_indirection link in
+      let linked = sym (link_same steps run takes keys t within i used) ∙ ap is_indirection link in
       let node = indirection_is (node_under states last i) linked in
-      through i r node.1 node.0 (from_reach i from) node.2 (subst (λ es. Contains es r) (entries_same limits states steps last run takes keys t within i used linked) c)
+      through i r node.1 node.0 (from_reach i from) node.2 (subst (λ es. Contains es r) (entries_same steps run takes keys t within i used linked) c)
 
   pub reach_from : (r : Ref) → From (trie_of_run limits states steps last) t (root_of root.word) r → Reaches (states t) handle r
   reach_from r itself = its_root root at
@@ -36,5 +36,5 @@ module _ (limits : Bounds) (states : ℕ → State) (steps : ℕ → Step) (last
       let reached = reach_from i from in
       let used = reach_used i reached in
       let linked : is_indirection (node_under states last i) ≡ true = ap is_indirection link in
-      let node = indirection_is (node_at (states t).heap i) (link_same limits states steps last run takes keys t within i used ∙ linked) in
-      entry_below i r node.1 node.0 reached node.2 (subst (λ es. Contains es r) (sym (entries_same limits states steps last run takes keys t within i used linked)) c)
+      let node = indirection_is (node_at (states t).heap i) (link_same steps run takes keys t within i used ∙ linked) in
+      entry_below i r node.1 node.0 reached node.2 (subst (λ es. Contains es r) (sym (entries_same steps run takes keys t within i used linked)) c)

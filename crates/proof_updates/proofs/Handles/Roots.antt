@@ -72,13 +72,13 @@ module _ (state after : State) (handle : ℕ) (offer : Descriptor) (roots : afte
 
 -- ---- a step of a run
 
-module _ (limits : Bounds) (states : ℕ → State) (last : ℕ) (run : IsRun limits states last) (t : ℕ) (lt : t < last) (s : Step) (o : Outcome)
+module _ {limits : Bounds} {states : ℕ → State} {last : ℕ} (run : IsRun limits states last) (t : ℕ) (lt : t < last) (s : Step) (o : Outcome)
     (m : Moves (states t) s o (states (suc t))) (notes : Notes states run.records t s) where
   pub swap_of : (handle : ℕ) (offer : Descriptor) → CarriesOut (states t) s handle offer → IsSwap states run.records last t handle offer
   swap_of handle offer carries = record { taken = lt; step = s; outcome = o; moves = m; notes = notes; carries = carries }
 
   changed : Changes (states t) (run.records t) s (states (suc t)) (noted (run.records t) (states t).steps (told_in (states t) s))
-  changed = changes (states t) (run.records t) s o (states (suc t)) m (honest (states t) (offers_at limits states last run t (omega arith)))
+  changed = changes (states t) (run.records t) s o (states (suc t)) m (honest (states t) (offers_at run t (omega arith)))
 
   -- ---- of a handle that was open
 
@@ -111,10 +111,10 @@ module _ (limits : Bounds) (states : ℕ → State) (last : ℕ) (run : IsRun li
           swap = swap_of on offer carries
 
           free : (n : ℕ) → offer.opens ≡ Some n → root_at (states t) n ≡ None
-          free = unopened limits states last run t on offer swap
+          free = unopened run t on offer swap
 
           old : Carried.IsOffered (states t) on offer
-          old = Carried.root limits states last run t on offer swap
+          old = Carried.root run t on offer swap
 
           by_handle : Dec (handle ≡ on) → HandleStep handle root
           by_handle (yes same) =
@@ -136,10 +136,10 @@ module _ (limits : Bounds) (states : ℕ → State) (last : ℕ) (run : IsRun li
   pub new_root : (handle : ℕ) (offer : Descriptor) → CarriesOut (states t) s handle offer → StandsOver (states (suc t)) handle Writable offer.successor
   new_root handle offer carries =
       let swap = swap_of handle offer carries in
-      let old = Carried.root limits states last run t handle offer swap in
+      let old = Carried.root run t handle offer swap in
       record {
         root = record old.root { word = Plain offer.successor };
-        is_open = here (states t) (states (suc t)) handle offer (swapped limits states last run t handle offer swap).roots old.root old.is_open (unopened limits states last run t handle offer swap);
+        is_open = here (states t) (states (suc t)) handle offer (swapped run t handle offer swap).roots old.root old.is_open (unopened run t handle offer swap);
         kind = old.writable;
         over = refl;
       }
@@ -173,7 +173,7 @@ module _ (limits : Bounds) (states : ℕ → State) (last : ℕ) (run : IsRun li
           swap = swap_of on offer carries
 
           apart : handle ≡ on → ⊥
-          apart same = let old = Carried.root limits states last run t on offer swap in none-some old.root (sym shut ∙ ap (root_at (states t)) same ∙ old.is_open)
+          apart same = let old = Carried.root run t on offer swap in none-some old.root (sym shut ∙ ap (root_at (states t)) same ∙ old.is_open)
 
           kept : ((n : ℕ) → offer.opens ≡ Some n → handle ≡ n → ⊥) → ⊥
           kept away = not_kept (ap footing_of (elsewhere (states t) (states (suc t)) on offer roots handle apart away))
@@ -186,9 +186,9 @@ module _ (limits : Bounds) (states : ℕ → State) (last : ℕ) (run : IsRun li
               by_handle (no away) = absurd (kept (λ k is same. away (same ∙ same_Some _ _ (sym is ∙ e))))
               by_handle (yes same) =
                   let number : offer.opens ≡ Some handle = e ∙ ap Some (sym same) in
-                  let who = offerer limits states last run t on offer swap in
-                  let its = offers limits states last run t on offer swap in
-                  let range = opens_in_range limits states last run t (omega arith) who.k who.owner who.runs handle (sym its.number ∙ number) in
+                  let who = offerer run t on offer swap in
+                  let its = offers run t on offer swap in
+                  let range = opens_in_range run t (omega arith) who.k who.owner who.runs handle (sym its.number ∙ number) in
                   record { on = on; offer = offer; carries = carries; number = number; now = there (states t) (states (suc t)) on offer roots handle number range }
 
 -- ---- a close

@@ -47,7 +47,7 @@ bare_pairs_at below heap r (Single k v) = refl
 bare_pairs_at below heap r (Tomb s) = refl
 bare_pairs_at below heap r (Listed ss) = refl
 
-module _ (limits : Bounds) (states : ℕ → State) (steps : ℕ → Step) (last : ℕ) (run : IsRun limits states last) (takes : TakesSteps states steps last) (keys : StepsFit steps last)
+module _ {limits : Bounds} {states : ℕ → State} (steps : ℕ → Step) {last : ℕ} (run : IsRun limits states last) (takes : TakesSteps states steps last) (keys : StepsFit steps last)
     (t : ℕ) (within : t ≤ last) where
   abbrev trie : Trie
   trie = trie_of_run limits states steps last
@@ -56,20 +56,20 @@ module _ (limits : Bounds) (states : ℕ → State) (steps : ℕ → Step) (last
   heap = (states t).heap
 
   safe : IsSafe (states t)
-  safe = safe_at limits states last run t within
+  safe = safe_at run t within
 
   -- ---- what is in use is the trie's
 
   pub node_same : (r : Ref) → IsInUse heap r → bare (node_at heap r) ≡ bare (node_under states last r)
   node_same r used =
-      let now = nodes_stay limits states last run t last within (omega arith) r used.0 (grown_in_use states t r used.0 used.1) in
+      let now = nodes_stay run t last within (omega arith) r used.0 (grown_in_use states t r used.0 used.1) in
       ap bare (node_standing heap r used.0 used.1) ∙ sym (ap (λ o. bare (node_of o)) now.1 ∙ ap bare now.2.1 ∙ bare_main now.2.0 used.0.node)
 
   pub link_same : (r : Ref) → IsInUse heap r → is_indirection (node_at heap r) ≡ is_indirection (node_under states last r)
   link_same r used = sym (bare_link (node_at heap r)) ∙ ap is_indirection (node_same r used) ∙ bare_link (node_under states last r)
 
   pub main_same : (r : Ref) → IsInUse heap r → is_indirection (node_under states last r) ≡ true → logical_main heap r ≡ counting_main states last t r
-  main_same r used link = main_there limits states last run t r within used link
+  main_same r used link = main_there run t r within used link
 
   pub main_used : (r : Ref) → IsInUse heap r → is_indirection (node_under states last r) ≡ true → IsInUse heap (logical_main heap r)
   main_used r used link = logical_in_use (states t) safe r used (link_same r used ∙ link)
@@ -121,7 +121,7 @@ module _ (limits : Bounds) (states : ℕ → State) (steps : ℕ → Step) (last
     root_link = sym (link_same r root_used) ∙ meets_of (root_wanted (IsInUse heap) heap root.word (safe.words handle root at))
 
     level_is : level_until states steps last r ≡ 1
-    level_is = word_root (level_until states steps last) root.word ((levels_there limits states steps last run takes t within).0.words handle root at)
+    level_is = word_root (level_until states steps last) root.word ((levels_there steps run takes t within).0.words handle root at)
 
     pub root_deep : trie.depth r ≡ 0
     root_deep = ap (λ b. cond b (depth_at (level_until states steps last r)) 0) root_link ∙ ap depth_at level_is
@@ -130,7 +130,7 @@ module _ (limits : Bounds) (states : ℕ → State) (steps : ℕ → Step) (last
     root_led = ap (λ b. cond b (path_until states steps last r) 0) root_link ∙ root_path (sites_of states steps last) (paths_fit states steps last) r level_is
 
     shape : HasShape trie
-    shape = runs_have_shape limits states steps last run takes keys
+    shape = runs_have_shape steps run takes keys
 
     -- the trie at this time, with this root alone
     abbrev pub now : Trie

@@ -15,7 +15,7 @@ use Rattle.proof_updates.proofs.Placed.Behind.{has_place, Behind, plain_behind, 
 use Rattle.proof_updates.proofs.Tries.EachOperation.{OwnStep, own_notes}
 use Rattle.proof_updates.proofs.Placed.Placing.{carried_placed, marked_placed, still}
 
-module _ (limits : Bounds) (states : ℕ → State) (last : ℕ) (run : IsRun limits states last) (t k : ℕ) (lt : t < last) (operation : Operation) (own : OwnStep states run.records t k operation)
+module _ {limits : Bounds} {states : ℕ → State} {last : ℕ} (run : IsRun limits states last) (t k : ℕ) (lt : t < last) (operation : Operation) (own : OwnStep states run.records t k operation)
     (Right : Reply → Type 0) (Walks : WalkLine → Type 0) where
   abbrev state : State
   state = states t
@@ -26,7 +26,7 @@ module _ (limits : Bounds) (states : ℕ → State) (last : ℕ) (run : IsRun li
   module _ (c : Complete) (e : operation.line ≡ line.Copy (copy.Complete c)) where
     its_offer : c.offer.operation ≡ operation.id
     its_offer =
-        let mine = subst (λ l. LineFits operation.call operation.id operation.opens operation.attempt l) e ((offers_at limits states last run t (omega arith)).own.own k operation own.runs) in
+        let mine = subst (λ l. LineFits operation.call operation.id operation.opens operation.attempt l) e ((offers_at run t (omega arith)).own.own k operation own.runs) in
         mine.its
 
     -- the step that gives so carries it out
@@ -50,8 +50,8 @@ module _ (limits : Bounds) (states : ℕ → State) (last : ℕ) (run : IsRun li
       where
         by_mark : (b : Bool) → operation.is_marked ≡ b → On (cond b (line.End (copied_reply operation.call operation.opens)) new_try)
         by_mark true marked =
-            has_place (still limits states last run t (step.Go (suc k)) own.outcome own.moves (own_notes states run.records t k operation own) operation.id
-            (marked_placed limits states last run t (omega arith) k operation own.runs marked))
+            has_place (still run t (step.Go (suc k)) own.outcome own.moves (own_notes states run.records t k operation own) operation.id
+            (marked_placed run t (omega arith) k operation own.runs marked))
         by_mark false unmarked = tt
 
   pub copy_behind : (l : CopyLine) → operation.line ≡ line.Copy l → On (copy_after state operation l)

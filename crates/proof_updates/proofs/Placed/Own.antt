@@ -30,12 +30,12 @@ use Rattle.proof_shape.proofs.Held.Commits.{fresh_commits_at}
 use Rattle.proof_updates.specs.Beneath.proof_order.specs.Facts.{Notes}
 
 -- whom a step enters among others has a place behind it
-entered_placed : (limits : Bounds) (states : ℕ → State) (last : ℕ) (run : IsRun limits states last) → (t : ℕ) → t < last → (s : Step) (o : Outcome) →
+entered_placed : {limits : Bounds} {states : ℕ → State} {last : ℕ} (run : IsRun limits states last) → (t : ℕ) → t < last → (s : Step) (o : Outcome) →
     Moves (states t) s o (states (suc t)) → Notes states run.records t s →
     (operation : Operation) → entered_by_step (run.records t) (states t) s ≡ place_of (run.records t) (entrant_of operation) t false ∷ [] → is_placed (run.records (suc t)) operation.id ≡ true
-entered_placed limits states last run t lt s o m notes operation enters =
+entered_placed {limits} {states} {last} run t lt s o m notes operation enters =
     subst (λ q. is_placed q operation.id ≡ true) (sym notes)
-    (by_changes (changes (states t) (run.records t) s o (states (suc t)) m (honest (states t) (offers_at limits states last run t (omega arith)))))
+    (by_changes (changes (states t) (run.records t) s o (states (suc t)) m (honest (states t) (offers_at run t (omega arith)))))
   where
     not_none : entered_by_step (run.records t) (states t) s ≡ [] → ⊥
     not_none none = let bad : [] ≡ place_of (run.records t) (entrant_of operation) t false ∷ [] = sym none ∙ enters in cc
@@ -51,9 +51,9 @@ entered_placed limits states last run t lt s o m notes operation enters =
     by_changes (closes actor handle number root is found none places closings gone footing) = absurd (not_none none)
     by_changes (swaps handle offer carries none places closings roots heap) = absurd (not_none none)
 
-module _ (limits : Bounds) (states : ℕ → State) (last : ℕ) (run : IsRun limits states last) where
+module _ {limits : Bounds} {states : ℕ → State} {last : ℕ} (run : IsRun limits states last) where
   abbrev p : Protocol
-  p = protocol limits states last (known_run limits states last run)
+  p = protocol limits states last (known_run run)
 
   module _ (t k : ℕ) (lt : t < last) (s : Step) (o : Outcome) (m : Moves (states t) s o (states (suc t)))
       (notes : Notes states run.records t s) (operation : Operation) (runs : Runs (states t) k operation)
@@ -65,7 +65,7 @@ module _ (limits : Bounds) (states : ℕ → State) (last : ℕ) (run : IsRun li
     module _ (q : Ref) (commit : CommitsNode p.words t f q) where
       -- the node becomes the main node of its indirection, which it wasn't before
       becomes_main : counting_main states last (suc t) i ≡ f
-      becomes_main = commit_is limits states last run t lt (suc k) i a f l stage_is q commit
+      becomes_main = commit_is run t lt (suc k) i a f l stage_is q commit
 
       link : p.words.link t i ≡ true
       link =
@@ -75,10 +75,10 @@ module _ (limits : Bounds) (states : ℕ → State) (last : ℕ) (run : IsRun li
       was_no_main : counting_main states last t i ≡ f → ⊥
       was_no_main same =
           let decided = main_decided p.words t (sound_at p t (omega arith)).words i link in
-          none≢pending decided.none (ap (p.words.prev t) (sym (main_linked limits states last run t i link) ∙ same) ∙ commit.was)
+          none≢pending decided.none (ap (p.words.prev t) (sym (main_linked run t i link) ∙ same) ∙ commit.was)
 
       enters : entered_by_step (run.records t) (states t) s ≡ place_of (run.records t) (entrant_of operation) t false ∷ []
-      enters = by_step (fresh_commits_at limits states last run t lt s o m notes)
+      enters = by_step (fresh_commits_at run t lt s o m notes)
         where
           by_step : MainStep limits states run.records last (assigned_at states last) t s →
               entered_by_step (run.records t) (states t) s ≡ place_of (run.records t) (entrant_of operation) t false ∷ []
@@ -103,9 +103,9 @@ module _ (limits : Bounds) (states : ℕ → State) (last : ℕ) (run : IsRun li
               by_test : (b : Bool) → (i == own.indirection) ≡ b → entered_by_step (run.records t) (states t) s ≡ place_of (run.records t) (entrant_of operation) t false ∷ []
               by_test true e =
                   let same : own.fresh ≡ f = sym own.after ∙ ap (counting_main states last (suc t)) (sym (eqb-true i own.indirection e)) ∙ becomes_main in
-                  own_enters limits states last run t (omega (arith, lt)) s own ∙ ap (λ w. places_for (run.records t) own.owner t w) (why same)
+                  own_enters run t (omega (arith, lt)) s own ∙ ap (λ w. places_for (run.records t) own.owner t w) (why same)
                   ∙ ap (λ x. place_of (run.records t) (entrant_of x) t false ∷ []) (owner same)
               by_test false e = absurd (was_no_main (sym (own.others i (differ i own.indirection e)) ∙ becomes_main))
 
       pub commit_places : is_placed (run.records (suc t)) operation.id ≡ true
-      commit_places = entered_placed limits states last run t lt s o m notes operation enters
+      commit_places = entered_placed run t lt s o m notes operation enters

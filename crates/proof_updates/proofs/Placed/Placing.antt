@@ -34,7 +34,7 @@ carried_placed state past actor operation offer main does carried =
     (among_right (past.places ++ entered past state.steps (committed_now state operation)) (on_time state.steps false offer.operation ∷ []) _ (inl refl)))
     offer.operation refl
 
-module _ (limits : Bounds) (states : ℕ → State) (last : ℕ) (run : IsRun limits states last) where
+module _ {limits : Bounds} {states : ℕ → State} {last : ℕ} (run : IsRun limits states last) where
   -- who is marked by a step gets a place in it
   pub marks_place : (t : ℕ) → (s : Step) (o : Outcome) → Moves (states t) s o (states (suc t)) → Notes states run.records t s → (id : ℕ) → marks_in (states t) s ≡ Some id →
       is_placed (run.records (suc t)) id ≡ true
@@ -85,7 +85,7 @@ module _ (limits : Bounds) (states : ℕ → State) (last : ℕ) (run : IsRun li
   pub marked_placed : (t : ℕ) → t ≤ last → (k : ℕ) (operation : Operation) → Runs (states t) k operation → operation.is_marked ≡ true → is_placed (run.records t) operation.id ≡ true
   unfolding MarkedPlaced
   marked_placed =
-      along_run limits states last run MarkedPlaced (λ k operation at_k. absurd (nobody limits k operation (subst (λ q. Runs q k operation) run.first at_k)))
+      along_run run MarkedPlaced (λ k operation at_k. absurd (nobody limits k operation (subst (λ q. Runs q k operation) run.first at_k)))
       (λ t lt turn all. by_turn t (run.turn t lt) (run.recorded t lt) all)
     where
       by_turn : (t : ℕ) → (turn : Turn (states t) (states (suc t))) → run.records (suc t) ≡ noted_turn turn (run.records t) → MarkedPlaced t → MarkedPlaced (suc t)

@@ -34,9 +34,9 @@ use Rattle.proof_updates.specs.Beneath.machine_model.proofs.Basics.{none≢faile
 use Rattle.proof_updates.proofs.Placed.Placing.{still}
 use Rattle.proof_updates.specs.Beneath.proof_order.specs.Facts.{Notes}
 
-module _ (limits : Bounds) (states : ℕ → State) (last : ℕ) (run : IsRun limits states last) where
+module _ {limits : Bounds} {states : ℕ → State} {last : ℕ} (run : IsRun limits states last) where
   abbrev p : Protocol
-  p = protocol limits states last (known_run limits states last run)
+  p = protocol limits states last (known_run run)
 
   module _ (t k : ℕ) (lt : t < last) (operation : Operation) (runs : Runs (states t) k operation) (s : Step) (o : Outcome)
       (m : Moves (states t) s o (states (suc t))) (notes : Notes states run.records t s) (path : List Ref) (former : Option ℕ)
@@ -50,7 +50,7 @@ module _ (limits : Bounds) (states : ℕ → State) (last : ℕ) (run : IsRun li
         by_fate : GoesOn p.words t x.fresh q → is_placed (run.records (suc t)) operation.id ≡ true
         by_fate (StaysPending still) = absurd (none≢pending none still)
         by_fate (GetsCommitted commit) =
-            commit_places limits states last run t k lt s o m notes operation runs path former x.indirection x.replaced x.fresh l
+            commit_places run t k lt s o m notes operation runs path former x.indirection x.replaced x.fresh l
             (at ∙ ap (λ y. line.Swap (purpose.Update path former) (record { indirection = x.indirection; replaced = x.replaced; fresh = x.fresh; line = y })) e) q commit
         by_fate (GetsFailed fails) = absurd (none≢failed none fails.prev.here)
 
@@ -66,7 +66,7 @@ module _ (limits : Bounds) (states : ℕ → State) (last : ℕ) (run : IsRun li
             ∙ ap (λ y. stage_of (line.Swap (purpose.Update path former) (record { indirection = x.indirection; replaced = x.replaced; fresh = x.fresh; line = y }))) e) q pending)
 
         by_word : (v : Prev) → prev_word states t x.fresh ≡ v → is_placed (run.records (suc t)) operation.id ≡ true
-        by_word prev.None e = still limits states last run t s o m notes operation.id (before published e)
+        by_word prev.None e = still run t s o m notes operation.id (before published e)
         by_word (prev.Pending q) e = by_line q e x.line refl published
         by_word (prev.Failed q) e = absurd (none≢failed none (failed_final p x.fresh q t (suc t) (omega arith) lt e))
 
@@ -92,7 +92,7 @@ module _ (limits : Bounds) (states : ℕ → State) (last : ℕ) (run : IsRun li
           ap (line_action (states t) operation) at
           ∙ ap (λ y. line_action (states t) operation (line.Swap (purpose.Update path former) (record { indirection = x.indirection; replaced = x.replaced; fresh = x.fresh; line = y }))) e in
           let acts : ActsOn states t (act.Publish x.indirection x.replaced x.fresh) =
-          subst (ActsOn states t) does (acts_at limits states last run t lt (suc k) own.outcome own.moves operation own.runs) in
+          subst (ActsOn states t) does (acts_at run t lt (suc k) own.outcome own.moves operation own.runs) in
           let written : GrownSwaps states t x.indirection x.replaced x.fresh =
           subst (λ b. Either b (GrownSwaps states t x.indirection x.replaced x.fresh) (GrownStays states t)) there acts.2 in
           ap prev_of written.prev ∙ slot_prev (prev.Pending x.replaced) (grown states t x.fresh) acts.1.made
@@ -108,9 +108,9 @@ module _ (limits : Bounds) (states : ℕ → State) (last : ℕ) (run : IsRun li
 
       checked_on : x.line ≡ swap.Check → (v : Prev) → prev_at (states t).heap x.fresh ≡ v → On (after_swap (states t) operation (purpose.Update path former) x (on_line x (after_check v)))
       checked_on e prev.None is =
-          let none = sym (seen limits states last run t k (omega arith) operation own.runs (purpose.Update path former) x at lt e) ∙ is in
+          let none = sym (seen run t k (omega arith) operation own.runs (purpose.Update path former) x at lt e) ∙ is in
           climbing_behind states run.records (suc t) operation.id Right Walks _ (update_climbs operation path former (node_at (states t).heap x.fresh))
-          (still limits states last run t (step.Go (suc k)) own.outcome own.moves (own_notes states run.records t k operation own) operation.id (before (subst IsPublished (sym e) tt) none))
+          (still run t (step.Go (suc k)) own.outcome own.moves (own_notes states run.records t k operation own) operation.id (before (subst IsPublished (sym e) tt) none))
       checked_on e (prev.Pending q) is = tt
       checked_on e (prev.Failed q) is = tt
 
@@ -133,10 +133,10 @@ module _ (limits : Bounds) (states : ℕ → State) (last : ℕ) (run : IsRun li
     other_on (purpose.Renew path) x h not (Gives false) = tt
     other_on purpose.Clean x h not (Goes y) = tt
     other_on purpose.Clean x h not (Gives done) = tt
-    other_on (purpose.Climb c) x h not (Goes y) = still limits states last run t (step.Go (suc k)) own.outcome own.moves (own_notes states run.records t k operation own) operation.id h
+    other_on (purpose.Climb c) x h not (Goes y) = still run t (step.Go (suc k)) own.outcome own.moves (own_notes states run.records t k operation own) operation.id h
     other_on (purpose.Climb c) x h not (Gives done) =
         climbing_behind states run.records (suc t) operation.id Right Walks _ (climbed_climbs operation c (node_at (states t).heap x.fresh) done)
-        (still limits states last run t (step.Go (suc k)) own.outcome own.moves (own_notes states run.records t k operation own) operation.id h)
+        (still run t (step.Go (suc k)) own.outcome own.moves (own_notes states run.records t k operation own) operation.id h)
 
     pub swap_behind : (why : Purpose) (x : Swap) → operation.line ≡ line.Swap why x → Behind states run.records t operation.id Right Walks (line.Swap why x) →
         On (after_swap (states t) operation why x (after x))

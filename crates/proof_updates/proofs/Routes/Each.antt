@@ -73,13 +73,13 @@ module _ (limits : Bounds) (states : ℕ → State) (last : ℕ) (depth path : R
     Q = key_of operation.call
 
     abbrev ra : ℕ
-    ra = (moment_of limits states last run (suc t) k).read_at
+    ra = (moment_of run (suc t) k).read_at
 
     abbrev mu : ℕ
-    mu = (moment_of limits states last run (suc t) k).moment
+    mu = (moment_of run (suc t) k).moment
 
     abbrev was : Moment
-    was = moment_of limits states last run t k
+    was = moment_of run t k
 
     abbrev On : Line → Type 0
     On l = LineRoute trie A g Q (suc t) ra mu l
@@ -92,20 +92,20 @@ module _ (limits : Bounds) (states : ℕ → State) (last : ℕ) (depth path : R
     module _ (p : List Ref) (r : Read) (e : operation.line ≡ line.Key (key.Read p r)) (h : KeyRoute trie A g Q t was.read_at was.moment (key.Read p r)) where
       early : was.read_at ≤ t
       early =
-          let past = ((past_at limits states last run t within).operations k operation own.runs).0 in
-          let count = steps_at limits states last run t within in
+          let past = ((past_at run t within).operations k operation own.runs).0 in
+          let count = steps_at run t within in
           omega arith
 
       counted : ra ≡ counts_at r.line t was.read_at
       counted =
-          own_counts limits states last run t k lt operation own r.indirection r.line (ap stage_of e)
+          own_counts run t k lt operation own r.indirection r.line (ap stage_of e)
 
       bounds : (since t was.read_at r.line ≤ ra) × (ra ≤ t)
       bounds = let c = counts_since r.line t was.read_at early in (omega (arith, c.0, counted), omega (arith, c.1, counted))
 
-      given : (m : Ref) → read_step state operation r ≡ Gives m → GivenAt limits states last run t k r.indirection m
+      given : (m : Ref) → read_step state operation r ≡ Gives m → GivenAt run t k r.indirection m
       given m gives =
-          given_at limits states last run t k lt operation own r.indirection r.line (ap stage_of e) m
+          given_at run t k lt operation own r.indirection r.line (ap stage_of e) m
           (given_read r.indirection (read_after state.heap operation.access (word_at state (handle_of operation.call)) r.indirection r.line) m gives)
 
       gives_at : (m : Ref) → read_step state operation r ≡ Gives m → GivesAt states run.records t (suc k) operation r.indirection m
@@ -127,7 +127,7 @@ module _ (limits : Bounds) (states : ℕ → State) (last : ℕ) (depth path : R
           by_access : (a : Access) → operation.access ≡ a → IsGiven trie a mu r.indirection m
           by_access Writable is = (given m gives).is
           by_access ReadOnly is =
-              given_for_ever limits states last run t lt (suc k) operation r.indirection m (gives_at m gives) (inl is) last (let past = (given m gives).past in omega arith) (omega arith)
+              given_for_ever run t lt (suc k) operation r.indirection m (gives_at m gives) (inl is) last (let past = (given m gives).past in omega arith) (omega arith)
 
       read_on : (after : After Read Ref) → read_step state operation r ≡ after → On (key_after_read p after)
       read_on (Goes next) e' =
@@ -150,29 +150,29 @@ module _ (limits : Bounds) (states : ℕ → State) (last : ℕ) (depth path : R
       main_used : Holds (IsInUse state.heap) state.heap (Is main ABranch)
       main_used =
           let wants = subst (λ l. AllHold (IsInUse state.heap) state.heap (line_wants limits.hash operation.call operation.access l)) e
-          (line_at limits states last run t within (suc k) operation own.runs) in
+          (line_at run t within (suc k) operation own.runs) in
           wants.1.1.0
 
       main_is : trie.node main ≡ node_at state.heap main
-      main_is = node_known limits states last run t within main (safe_of main_used) (main_no_link (node_at state.heap main) (branch_main (node_at state.heap main) (meets_of main_used)))
+      main_is = node_known run t within main (safe_of main_used) (main_no_link (node_at state.heap main) (branch_main (node_at state.heap main) (meets_of main_used)))
 
       entry_used : IsInUse state.heap (entry_at state.heap main position)
       entry_used =
-          let looks = subst (λ l. AllHold (IsInUse state.heap) state.heap (action_wants (line_action state operation l))) e (action_at limits states last run t within (suc k) operation own.runs) in
+          let looks = subst (λ l. AllHold (IsInUse state.heap) state.heap (action_wants (line_action state operation l))) e (action_at run t within (suc k) operation own.runs) in
           safe_of looks.0
 
       known_entry : KnowsKey (known_with limits states last (first_main states last)) operation.call (key.Entry p main position)
-      known_entry = subst (λ l. KnowsLine (known_with limits states last (first_main states last)) operation.call l) e (knows_at limits states last run t within (suc k) operation own.runs)
+      known_entry = subst (λ l. KnowsLine (known_with limits states last (first_main states last)) operation.call l) e (knows_at run t within (suc k) operation own.runs)
 
       leads_there : (h : ℕ) (w : Ref) → node_at state.heap (entry_at state.heap main position) ≡ Indirection h w → is_passable operation h ≡ true → operation.generation ≡ Some g →
           (look trie.node (hash_of trie.kind) (length p - 1) Q (trie.node main) ≡ Below (entry_at state.heap main position)) × IsOf trie A g (entry_at state.heap main position)
       leads_there h w is passes begun = by_known known_entry
         where
           word : Ref
-          word = (link_known limits states last run t within (entry_at state.heap main position) entry_used h w is).0
+          word = (link_known run t within (entry_at state.heap main position) entry_used h w is).0
 
           link : trie.node (entry_at state.heap main position) ≡ Indirection h word
-          link = (link_known limits states last run t within (entry_at state.heap main position) entry_used h w is).1
+          link = (link_known run t within (entry_at state.heap main position) entry_used h w is).1
 
           own_generation : (a : Access) → operation.access ≡ a → IsOf trie a g (entry_at state.heap main position)
           own_generation Writable writable =
@@ -197,26 +197,26 @@ module _ (limits : Bounds) (states : ℕ → State) (last : ℕ) (depth path : R
     module _ (l : RootLine) (e : operation.line ≡ line.Root l) (r : Ref) (gives : root_after state.heap operation.access (word_at state (handle_of operation.call)) l ≡ Gives r)
         (its : generation_at state.heap r ≡ g) where
       open_root : (found : Root) × (root_at state (handle_of operation.call) ≡ Some found) × (found.access ≡ operation.access)
-      open_root = (ordered_at limits states last run t within).handles.on_open k operation own.runs (no_close_at limits states last run t within k operation own.runs (ap is_end e))
+      open_root = (ordered_at run t within).handles.on_open k operation own.runs (no_close_at run t within k operation own.runs (ap is_end e))
 
       plain : (open_root.0).word ≡ Plain r
       plain = sym (ap word_of open_root.1) ∙ root_given state operation l r gives
 
       its_root : trie.root g ≡ r
       its_root =
-          ap trie.root (sym (ap (λ w. generation_at state.heap (root_of w)) plain ∙ its)) ∙ root_is limits states last run t
+          ap trie.root (sym (ap (λ w. generation_at state.heap (root_of w)) plain ∙ its)) ∙ root_is run t
           (handle_of operation.call) open_root.0 within open_root.1 ∙ ap root_of plain
 
       root_used : Holds (IsInUse state.heap) state.heap (Is r AnIndirection)
       root_used =
-          (subst (λ w. AllHold (IsInUse state.heap) state.heap (word_wants w)) plain ((safe_at limits states last run t within).words (handle_of operation.call) open_root.0 open_root.1)).0
+          (subst (λ w. AllHold (IsInUse state.heap) state.heap (word_wants w)) plain ((safe_at run t within).words (handle_of operation.call) open_root.0 open_root.1)).0
 
       generation_is : generation trie r ≡ g
       generation_is = by_node (node_at state.heap r) refl (meets_of root_used) its
         where
           by_node : (n : Node) → node_at state.heap r ≡ n → meets AnIndirection n ≡ true → generation_of (node_at state.heap r) ≡ g → generation trie r ≡ g
           by_node (Indirection h w) is m own_generation =
-              ap generation_of (link_known limits states last run t within r (safe_of root_used) h w is).1 ∙ sym (ap generation_of is) ∙ own_generation
+              ap generation_of (link_known run t within r (safe_of root_used) h w is).1 ∙ sym (ap generation_of is) ∙ own_generation
           by_node (Branch b es) is m own_generation = absurd (true≢false (sym m))
           by_node (Single q v) is m own_generation = absurd (true≢false (sym m))
           by_node (Tomb s) is m own_generation = absurd (true≢false (sym m))
@@ -237,7 +237,7 @@ module _ (limits : Bounds) (states : ℕ → State) (last : ℕ) (depth path : R
 
     -- the moment stays where no READ is
     same_moment : (l : Line) → operation.line ≡ l → read_of l ≡ None → was.moment ≡ mu
-    same_moment l e none = quiet_moment limits states last run t k lt operation own (ap read_of e ∙ none)
+    same_moment l e none = quiet_moment run t k lt operation own (ap read_of e ∙ none)
 
     at_next : (l : Line) → operation.line ≡ l → read_of l ≡ None → (p : List Ref) (main : Ref) → IsAt trie operation.access g (key_of operation.call) t was.moment p main →
         IsAt trie operation.access g (key_of operation.call) (suc t) mu p main
@@ -287,14 +287,14 @@ module _ (limits : Bounds) (states : ℕ → State) (last : ℕ) (depth path : R
 
   abbrev pub HasRoute : ℕ → ℕ → Operation → Type 0
   HasRoute t k operation =
-      (g : ℕ) → operation.generation ≡ Some g → LineRoute trie operation.access g (key_of operation.call) t (moment_of limits states last run t k).read_at
-      (moment_of limits states last run t k).moment operation.line
+      (g : ℕ) → operation.generation ≡ Some g → LineRoute trie operation.access g (key_of operation.call) t (moment_of run t k).read_at
+      (moment_of run t k).moment operation.line
 
   pub has_route : (t : ℕ) → t ≤ last → (k : ℕ) (operation : Operation) → Runs (states t) k operation → HasRoute t k operation
   has_route =
-      each_operation limits states last run HasRoute (λ t k operation b h. h) (λ t k lt call number o m d notes g e. absurd (none-some g e))
+      each_operation run HasRoute (λ t k operation b h. h) (λ t k lt call number o m d notes g e. absurd (none-some g e))
       (λ t k lt operation answer runs may o m same h g e. tt)
       (λ t k lt operation runs same h g e.
       subst (λ (n : Moment). LineRoute trie operation.access g (key_of operation.call) (suc t) n.read_at n.moment operation.line) (sym same)
-      (later trie operation.access g (key_of operation.call) t (moment_of limits states last run t k).read_at (moment_of limits states last run t k).moment operation.line (h g e)))
+      (later trie operation.access g (key_of operation.call) t (moment_of run t k).read_at (moment_of run t k).moment operation.line (h g e)))
       (λ t k lt operation own h g e. line_on t k lt operation own g operation.line refl e (h g))

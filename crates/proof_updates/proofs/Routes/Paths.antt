@@ -39,29 +39,29 @@ module _ (limits : Bounds) (states : ℕ → State) (last : ℕ) (depth path : R
     abbrev q : ℕ
     q = key_of operation.call
 
-    route : LineRoute trie Writable g q t (moment_of limits states last run t k).read_at (moment_of limits states last run t k).moment operation.line
+    route : LineRoute trie Writable g q t (moment_of run t k).read_at (moment_of run t k).moment operation.line
     route =
-        subst (λ a. LineRoute trie a g q t (moment_of limits states last run t k).read_at (moment_of limits states last run t k).moment operation.line) writable
+        subst (λ a. LineRoute trie a g q t (moment_of run t k).read_at (moment_of run t k).moment operation.line) writable
         (has_route limits states last depth path run ok t within k operation runs g begun)
 
-    read_past : counts operation.line ≡ true → (moment_of limits states last run t k).read_at < t
-    read_past e = (((run_since limits states last run t k operation within runs).tries g begun).reads.read_at e).past
+    read_past : counts operation.line ≡ true → (moment_of run t k).read_at < t
+    read_past e = (((run_since run t k operation within runs).tries g begun).reads.read_at e).past
 
-    at_lies : (p : List Ref) (main : Ref) → IsAt trie Writable g q t (moment_of limits states last run t k).moment p main → LiesOn trie t g q p
-    at_lies p main at = lies_before trie g q (suc (moment_of limits states last run t k).moment) t p (omega (arith, at.past)) at.route
+    at_lies : (p : List Ref) (main : Ref) → IsAt trie Writable g q t (moment_of run t k).moment p main → LiesOn trie t g q p
+    at_lies p main at = lies_before trie g q (suc (moment_of run t k).moment) t p (omega (arith, at.past)) at.route
 
-    key_lies : (l : KeyLine) → operation.line ≡ line.Key l → KeyRoute trie Writable g q t (moment_of limits states last run t k).read_at
-        (moment_of limits states last run t k).moment l → (p : List Ref) → path_of (line.Key l) ≡ Some p → LiesOn trie t g q p
+    key_lies : (l : KeyLine) → operation.line ≡ line.Key l → KeyRoute trie Writable g q t (moment_of run t k).read_at
+        (moment_of run t k).moment l → (p : List Ref) → path_of (line.Key l) ≡ Some p → LiesOn trie t g q p
     key_lies (key.Read x r) e h p is =
         subst (LiesOn trie t g q) (same_Some _ _ is)
-        (lies_before trie g q (since t (moment_of limits states last run t k).read_at r.line) t x
-        (since_past t (moment_of limits states last run t k).read_at r.line (λ c. read_past (ap counts e ∙ c))) h.0)
+        (lies_before trie g q (since t (moment_of run t k).read_at r.line) t x
+        (since_past t (moment_of run t k).read_at r.line (λ c. read_past (ap counts e ∙ c))) h.0)
     key_lies (key.Main x main) e h p is = subst (LiesOn trie t g q) (same_Some _ _ is) (at_lies x main h)
     key_lies (key.Entry x main position) e h p is = subst (LiesOn trie t g q) (same_Some _ _ is) (at_lies x main h)
     key_lies (key.Listed x main position) e h p is = subst (LiesOn trie t g q) (same_Some _ _ is) (at_lies x main h)
     key_lies (key.Sibling x main position former) e h p is = subst (LiesOn trie t g q) (same_Some _ _ is) (at_lies x main h)
 
-    line_lies : (l : Line) → operation.line ≡ l → LineRoute trie Writable g q t (moment_of limits states last run t k).read_at (moment_of limits states last run t k).moment l →
+    line_lies : (l : Line) → operation.line ≡ l → LineRoute trie Writable g q t (moment_of run t k).read_at (moment_of run t k).moment l →
         (p : List Ref) → path_of l ≡ Some p → LiesOn trie t g q p
     line_lies (line.Key l) e h p is = key_lies l e h p is
     line_lies (line.Build l) e h p is = subst (LiesOn trie t g q) (same_Some _ _ is) (lies_on trie g q t _ h)
@@ -82,17 +82,17 @@ module _ (limits : Bounds) (states : ℕ → State) (last : ℕ) (depth path : R
     lies p is = line_lies operation.line refl route p is
 
     abbrev Found : Line → Ref → Type 0
-    Found l main = (p : List Ref) × (path_of l ≡ Some p) × ((moment_of limits states last run t k).moment < t) × Looks trie (suc (moment_of limits states last run t k).moment) g q (current p) main
+    Found l main = (p : List Ref) × (path_of l ≡ Some p) × ((moment_of run t k).moment < t) × Looks trie (suc (moment_of run t k).moment) g q (current p) main
 
-    at_looks : (p : List Ref) (main : Ref) → IsAt trie Writable g q t (moment_of limits states last run t k).moment p main →
-        Looks trie (suc (moment_of limits states last run t k).moment) g q (current p) main
-    at_looks p main at = looks_at trie ok g q (moment_of limits states last run t k).moment (omega (arith, at.past)) p main at.route at.given
+    at_looks : (p : List Ref) (main : Ref) → IsAt trie Writable g q t (moment_of run t k).moment p main →
+        Looks trie (suc (moment_of run t k).moment) g q (current p) main
+    at_looks p main at = looks_at trie ok g q (moment_of run t k).moment (omega (arith, at.past)) p main at.route at.given
 
     found : (p : List Ref) (given main : Ref) (l : KeyLine) → path_of (line.Key l) ≡ Some p → given ≡ main →
-        IsAt trie Writable g q t (moment_of limits states last run t k).moment p given → Found (line.Key l) main
-    found p given main l has is at = (p, has, at.past, subst (λ m. Looks trie (suc (moment_of limits states last run t k).moment) g q (current p) m) is (at_looks p given at))
+        IsAt trie Writable g q t (moment_of run t k).moment p given → Found (line.Key l) main
+    found p given main l has is at = (p, has, at.past, subst (λ m. Looks trie (suc (moment_of run t k).moment) g q (current p) m) is (at_looks p given at))
 
-    key_looks : (l : KeyLine) → KeyRoute trie Writable g q t (moment_of limits states last run t k).read_at (moment_of limits states last run t k).moment l → (main : Ref) →
+    key_looks : (l : KeyLine) → KeyRoute trie Writable g q t (moment_of run t k).read_at (moment_of run t k).moment l → (main : Ref) →
         main_of_key l ≡ Some main → Found (line.Key l) main
     key_looks (key.Read p r) h main is = absurd (none-some main is)
     key_looks (key.Main p m) h main is = found p m main (key.Main p m) refl (same_Some _ _ is) h
@@ -103,7 +103,7 @@ module _ (limits : Bounds) (states : ℕ → State) (last : ℕ) (depth path : R
     looks : (l : KeyLine) → operation.line ≡ line.Key l → (main : Ref) → main_of_key l ≡ Some main → Found operation.line main
     looks l e main is =
         subst (λ x. Found x main) (sym e)
-        (key_looks l (subst (λ x. LineRoute trie Writable g q t (moment_of limits states last run t k).read_at (moment_of limits states last run t k).moment x) e route) main is)
+        (key_looks l (subst (λ x. LineRoute trie Writable g q t (moment_of run t k).read_at (moment_of run t k).moment x) e route) main is)
 
   pub paths_lie : PathsLie states last (trie_of limits states last depth path)
   paths_lie t actor g operation p within runs writable begun is =

@@ -33,11 +33,11 @@ below_no_swap (line.Renew l) b = tt
 below_no_swap (line.Clean l) b = tt
 below_no_swap line.Impossible b = tt
 
-module _ (limits : Bounds) (states : ℕ → State) (last : ℕ) (run : IsRun limits states last) where
+module _ {limits : Bounds} {states : ℕ → State} {last : ℕ} (run : IsRun limits states last) where
   -- what a repair's READ gave was given
   was_given : (t actor id start : ℕ) (i m : Ref) → t ≤ last → GaveBelow states run.records last t actor id start i m → WasGiven states last start t i m
   was_given t actor id start i m within g =
-      let given = repairs_are_given limits states last run g.at (omega (arith, g.past, within)) actor g.operation start i m (record {
+      let given = repairs_are_given run g.at (omega (arith, g.past, within)) actor g.operation start i m (record {
         outcome = g.outcome;
         moves = g.moves;
         runs = g.runs;
@@ -74,10 +74,10 @@ module _ (limits : Bounds) (states : ℕ → State) (last : ℕ) (run : IsRun li
   module _ (steps : ℕ → Step) (takes : TakesSteps states steps last) (keys : StepsFit steps last) where
     pub sites_of_updates : SitesOfUpdates limits states run.records last (depth_of_run states steps last)
     sites_of_updates t s within own path former why =
-        let site = updates_have_sites limits states steps last run takes keys t (omega (arith, within)) own.actor own.owner own.runs path former
+        let site = updates_have_sites steps run takes keys t (omega (arith, within)) own.actor own.owner own.runs path former
         (record { indirection = own.indirection; replaced = own.replaced; fresh = own.fresh; line = Deciding own.deciding })
         (own.swaps ∙ ap (λ w. line.Swap w (record { indirection = own.indirection; replaced = own.replaced; fresh = own.fresh; line = Deciding own.deciding })) why) in
         (site.1, omega (arith, site.1, site.2))
 
     pub keys_of_operations : (t : ℕ) → t ≤ last → (k : ℕ) (operation : Operation) → Runs (states t) k operation → key_of operation.call < 2 ^ 64
-    keys_of_operations t within k operation runs = (lines_have_sites limits states steps last run takes keys t within (suc k) operation runs).2
+    keys_of_operations t within k operation runs = (lines_have_sites steps run takes keys t within (suc k) operation runs).2

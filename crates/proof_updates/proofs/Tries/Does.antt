@@ -83,7 +83,7 @@ module _ (limits : Bounds) (states : ℕ → State) (last : ℕ) (depth path : R
   step_at t lt = by_turn (run.turn t lt) (run.recorded t lt)
     where
       by_turn : (turn : Turn (states t) (states (suc t))) → run.records (suc t) ≡ noted_turn turn (run.records t) → StepAt t
-      by_turn (turns s o m) notes = record { step = s; outcome = o; moves = m; does = fresh_commits_at limits states last run t lt s o m notes }
+      by_turn (turns s o m) notes = record { step = s; outcome = o; moves = m; does = fresh_commits_at run t lt s o m notes }
 
   -- ---- tombs last
 
@@ -117,7 +117,7 @@ module _ (limits : Bounds) (states : ℕ → State) (last : ℕ) (depth path : R
   module _ (sites : SitesOfUpdates limits states run.records last depth) where
     module _ (t : ℕ) (s : Step) (lt : t < last) (own : Own t s) where
       pub start_is : own.start ≡ generation trie own.indirection
-      start_is = same_Some _ _ (sym own.generation ∙ (swaps_in_own_generation limits states last run t (omega arith) own.actor own.owner own.runs own.why _ own.swaps).1)
+      start_is = same_Some _ _ (sym own.generation ∙ (swaps_in_own_generation run t (omega arith) own.actor own.owner own.runs own.why _ own.swaps).1)
 
       was : trie.node own.replaced ≡ node_in trie t own.indirection
       was = ap trie.node (sym own.before)
@@ -149,7 +149,7 @@ module _ (limits : Bounds) (states : ℕ → State) (last : ℕ) (depth path : R
       done : IsRepairing own.why → Repaired
       done why =
           repaired (repairs trie (tombs_last) own.start t (omega arith) (assigned_at states last own.start t) (WasGiven states last own.start t) stands own.replaced own.fresh
-          (repairs_are_known limits states last run t s lt own why) (λ n h word word' e apart new. own_main _ word' new))
+          (repairs_are_known run t s lt own why) (λ n h word word' e apart new. own_main _ word' new))
 
       climbed : (c : Climb) → IsClimbed (known_with limits states last (first_main states last)) (Was states last t) own.owner.call c own.replaced own.fresh → Repaired
       climbed c k =

@@ -25,7 +25,7 @@ pub own_notes : (states : ℕ → State) (records : ℕ → Record) (t k : ℕ) 
 own_notes states records t k operation own = own.noted ∙ sym (noted_going (states t) (records t) (suc k) operation (action_of (states t) operation) own.runs refl own.goes)
 
 -- P of a time, a place and an operation, whatever its mark, holds of an operation that begins or gives up, and is kept by its own steps and by all others
-module _ (limits : Bounds) (states : ℕ → State) (last : ℕ) (run : IsRun limits states last) (P : ℕ → ℕ → Operation → Type 0)
+module _ {limits : Bounds} {states : ℕ → State} {last : ℕ} (run : IsRun limits states last) (P : ℕ → ℕ → Operation → Type 0)
     (marks : (t k : ℕ) (operation : Operation) (b : Bool) → P t k operation → P t k (record operation { is_marked = b }))
     (begins : (t k : ℕ) → t < last → (call : Call) (number : Option ℕ) (o : Outcome) → Moves (states t) (step.Begin (suc k) call number) o (states (suc t)) →
     begin_denial (states t) (suc k) call number ≡ None →
@@ -73,4 +73,4 @@ module _ (limits : Bounds) (states : ℕ → State) (last : ℕ) (run : IsRun li
 
   pub each_operation : (t : ℕ) → t ≤ last → (k : ℕ) (operation : Operation) → Runs (states t) k operation → P t k operation
   unfolding AllAt
-  each_operation = along_run limits states last run AllAt none_at_first (λ t lt turn all. next t lt (run.turn t lt) (run.recorded t lt) all)
+  each_operation = along_run run AllAt none_at_first (λ t lt turn all. next t lt (run.turn t lt) (run.recorded t lt) all)

@@ -23,7 +23,7 @@ use Rattle.proof_updates.proofs.Handles.Committing.{own_committed}
 use Rattle.proof_shape.proofs.Held.Commits.{fresh_commits_at}
 use Rattle.proof_updates.specs.Beneath.machine_model.proofs.Times.{steps_at}
 
-module _ (limits : Bounds) (states : ℕ → State) (last : ℕ) (run : IsRun limits states last) (t : ℕ) (within : t ≤ last) (s : Step) where
+module _ {limits : Bounds} {states : ℕ → State} {last : ℕ} (run : IsRun limits states last) (t : ℕ) (within : t ≤ last) (s : Step) where
   abbrev Own : Type 0
   Own = OwnCommit limits states run.records last (assigned_at states last) t s
 
@@ -38,7 +38,7 @@ module _ (limits : Bounds) (states : ℕ → State) (last : ℕ) (run : IsRun li
 
   pub own_enters : (own : Own) → entered_by_step (run.records t) (states t) s ≡ places_for (run.records t) own.owner t own.why
   own_enters own = ap (entered (run.records t) (states t).steps) (own_committed limits states run.records last t s own)
-      ∙ ap (λ n. entered (run.records t) n (Some own.fresh)) (steps_at limits states last run t within) ∙ own.enters
+      ∙ ap (λ n. entered (run.records t) n (Some own.fresh)) (steps_at run t within) ∙ own.enters
 
   nobody_enters : (own : Own) → entered_by_step (run.records t) (states t) s ≡ [] → (p : List Ref) (former : Option ℕ) → own.why ≡ purpose.Update p former → ⊥
   nobody_enters own none p former e = by_places (sym none ∙ own_enters own ∙ ap (places_for (run.records t) own.owner t) e)
@@ -57,7 +57,7 @@ module _ (limits : Bounds) (states : ℕ → State) (last : ℕ) (depth path : R
 
   -- a step that commits no own update
   pub steps_keep : StepsKeep states run.records last (trie_of limits states last depth path)
-  steps_keep t s o lt m notes none g = by_step (fresh_commits_at limits states last run t lt s o m notes)
+  steps_keep t s o lt m notes none g = by_step (fresh_commits_at run t lt s o m notes)
     where
       by_step : MainStep limits states run.records last (assigned_at states last) t s → content trie g (suc t) ≡ content trie g t
       by_step (stays nothing same) = nothing_still trie ok t g lt same
@@ -65,7 +65,7 @@ module _ (limits : Bounds) (states : ℕ → State) (last : ℕ) (depth path : R
         where
           by_kind : ((p : List Ref) × (former : Option ℕ) × (own.why ≡ purpose.Update p former))
               ⊎ IsRepair trie (generation trie own.indirection) t (node_in trie t own.indirection) (node_in trie (suc t) own.indirection) → content trie g (suc t) ≡ content trie g t
-          by_kind (inl (p, former, e)) = absurd (nobody_enters limits states last run t (omega (arith, lt)) s own none p former e)
+          by_kind (inl (p, former, e)) = absurd (nobody_enters run t (omega (arith, lt)) s own none p former e)
           by_kind (inr r) = repair_still trie ok t g own.indirection lt own.others r
 
   module _ (fits : (t : ℕ) → t ≤ last → (k : ℕ) (operation : Operation) → Runs (states t) k operation → key_of operation.call < 2 ^ 64) where
@@ -115,8 +115,8 @@ module _ (limits : Bounds) (states : ℕ → State) (last : ℕ) (depth path : R
 
     -- a step that commits one
     pub updates_follow : UpdatesFollow limits states run.records last (trie_of limits states last depth path)
-    updates_follow t s o lt m notes some = by_step (fresh_commits_at limits states last run t lt s o m notes)
+    updates_follow t s o lt m notes some = by_step (fresh_commits_at run t lt s o m notes)
       where
         by_step : MainStep limits states run.records last (assigned_at states last) t s → Update limits states run.records last (content trie) t (entered_by_step (run.records t) (states t) s)
-        by_step (stays nothing same) = absurd (some (none_enters limits states last run t (omega (arith, lt)) s nothing))
-        by_step (changes own) = update_is t s lt (own_updates_enter limits states last run t s o lt m notes some) own some
+        by_step (stays nothing same) = absurd (some (none_enters run t (omega (arith, lt)) s nothing))
+        by_step (changes own) = update_is t s lt (own_updates_enter run t s o lt m notes some) own some

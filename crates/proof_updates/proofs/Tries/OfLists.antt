@@ -13,13 +13,13 @@ use Rattle.proof_updates.specs.Laws.Tries.{OfEachRun, EachStepDoes, OthersKeepCo
 use Rattle.proof_updates.proofs.Tries.OfRuns as whole
 
 of_each_run : (Law : Bounds → (ℕ → State) → (ℕ → Record) → ℕ → Trie → Type 0) →
-    ((limits : Bounds) (states : ℕ → State) (steps : ℕ → Step) (last : ℕ) (run : IsRun limits states last) → TakesSteps states steps last → StepsFit steps last →
+    ({limits : Bounds} {states : ℕ → State} (steps : ℕ → Step) {last : ℕ} (run : IsRun limits states last) → TakesSteps states steps last → StepsFit steps last →
     Law limits states run.records last (trie_of_run limits states steps last)) → OfEachRun Law
 of_each_run Law holds limits steps ok fit =
-    holds limits (states_of limits steps) (steps_of limits steps) (last_of limits steps) (run_is limits steps ok) (takes_steps limits steps) (keys_fit limits steps fit)
+    holds (steps_of limits steps) (run_is limits steps ok) (takes_steps limits steps) (keys_fit limits steps fit)
 
 pub each_step_does : EachStepDoes
-each_step_does = of_each_run (λ limits states records last trie. StepsDo trie) (λ limits states steps last run takes keys. (whole.is_trie limits states steps last run takes keys).does)
+each_step_does = of_each_run (λ limits states records last trie. StepsDo trie) (λ steps run takes keys. (whole.is_trie steps run takes keys).does)
 
 pub others_keep_contents : OthersKeepContents
 others_keep_contents = of_each_run (λ limits states records last trie. StepsKeep states records last trie) whole.steps_keep

@@ -16,7 +16,7 @@ use Rattle.proof_updates.proofs.Tries.Facts as facts
 use Rattle.proof_updates.proofs.Routes.Paths as paths
 use Rattle.proof_updates.proofs.Answers.Replies as replies
 
-module _ (limits : Bounds) (states : ℕ → State) (steps : ℕ → Step) (last : ℕ) (run : IsRun limits states last) (takes : TakesSteps states steps last) (keys : StepsFit steps last) where
+module _ {limits : Bounds} {states : ℕ → State} (steps : ℕ → Step) {last : ℕ} (run : IsRun limits states last) (takes : TakesSteps states steps last) (keys : StepsFit steps last) where
   abbrev depth : Ref → ℕ
   depth = depth_of_run states steps last
 
@@ -24,13 +24,13 @@ module _ (limits : Bounds) (states : ℕ → State) (steps : ℕ → Step) (last
   path = path_of_run states steps last
 
   sites : SitesOfUpdates limits states run.records last (depth_of_run states steps last)
-  sites = sites_of_updates limits states last run steps takes keys
+  sites = sites_of_updates run steps takes keys
 
   shape : HasShape (trie_of_run limits states steps last)
-  shape = runs_have_shape limits states steps last run takes keys
+  shape = runs_have_shape steps run takes keys
 
   fits : (t : ℕ) → t ≤ last → (k : ℕ) (operation : Operation) → Runs (states t) k operation → key_of operation.call < 2 ^ 64
-  fits = keys_of_operations limits states last run steps takes keys
+  fits = keys_of_operations run steps takes keys
 
   -- the trie is as contents ask for it: each step leaves the main nodes, repairs one, or updates a key in one
   pub is_trie : IsTrie (trie_of_run limits states steps last)

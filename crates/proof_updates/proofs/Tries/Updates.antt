@@ -53,10 +53,10 @@ module _ (limits : Bounds) (states : ℕ → State) (last : ℕ) (depth path : R
       route =
           let h = has_route limits states last depth path run trie_ok t (omega arith) place.0 own.owner place.2 own.start own.generation in
           subst (λ a. Route trie a own.start (key_of own.owner.call) t p) own.writable
-          (subst (λ why. LineRoute trie own.owner.access own.start (key_of own.owner.call) t (moment_of limits states last run t place.0).read_at
-          (moment_of limits states last run t place.0).moment (line.Swap why its)) e
-          (subst (λ l. LineRoute trie own.owner.access own.start (key_of own.owner.call) t (moment_of limits states last run t place.0).read_at
-          (moment_of limits states last run t place.0).moment l) own.swaps h))
+          (subst (λ why. LineRoute trie own.owner.access own.start (key_of own.owner.call) t (moment_of run t place.0).read_at
+          (moment_of run t place.0).moment (line.Swap why its)) e
+          (subst (λ l. LineRoute trie own.owner.access own.start (key_of own.owner.call) t (moment_of run t place.0).read_at
+          (moment_of run t place.0).moment l) own.swaps h))
 
       at : own.indirection ≡ current p
       at = subst (λ why. SwapsAt why own.indirection) e own.placed
