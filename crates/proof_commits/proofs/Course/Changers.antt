@@ -248,6 +248,6 @@ module _ (limits : Bounds) (states : ℕ → State) (last : ℕ) (known : Known 
 
   pub changers_known : (t : ℕ) → t ≤ last → All t
   changers_known =
-      along_run limits states last known.run All
+      along_run known.run All
       (λ k operation runs. absurd (none-some operation (sym (idle_at_first limits known.run.limits_ok states known.run.first k) ∙ runs)))
       (λ t h turn all. at_next t h all (noted_at (known.run.turn t h) (known.run.recorded t h)))

@@ -107,7 +107,7 @@ module _ (limits : Bounds) (states : ℕ → State) (last : ℕ) (known : Known 
   pub counted : found.read_at ≡ counts_at x t (w.from t actor)
   counted =
       ap (λ a. read_at_after (states t).steps (counts_from a) was.read_at) so.0
-      ∙ ap (λ n. read_at_after n (counts_from (read_action i x)) was.read_at) (steps_at limits states last known.run t (omega arith)) ∙ read_counts i x t was.read_at
+      ∙ ap (λ n. read_at_after n (counts_from (read_action i x)) was.read_at) (steps_at known.run t (omega arith)) ∙ read_counts i x t was.read_at
 
   moment_is : (m : Ref) → out ≡ Gives m → found.moment ≡ max found.read_at (commit_step (known.run.records t) (states t).steps m (committed_by (states t).heap i x))
   moment_is m gives =

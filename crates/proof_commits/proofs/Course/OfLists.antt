@@ -158,7 +158,7 @@ module _ (limits : Bounds) (ok : AreBounds limits) (steps : List Step) (known : 
   had_before : (t u : ℕ) → t ≤ u → u ≤ last → (i : Ref) → w.link t i ≡ true → HasIndirection (states u) i → HasIndirection (states t) i
   had_before t u below within i link has =
       let (was, made) = option_tested (grown states t i) (link_made (grown states t i) link) in
-      let used = used_before limits states last known.run t u below within i was made has.0 in
+      let used = used_before known.run t u below within i was made has.0 in
       (used, ap is_indirection (node_in_use t i used) ∙ link)
 
   main_in_use : (t : ℕ) → t ≤ last → (i : Ref) → HasIndirection (states t) i → logical_main (states t).heap i ≡ Protocol'.logical_at w t i
@@ -217,7 +217,7 @@ module _ (limits : Bounds) (ok : AreBounds limits) (steps : List Step) (known : 
       read_of operation.line ≡ Some read → HasIndirection (states (suc n)) read.indirection
   read_behind n h actor operation runs read reads =
       let heap = (states (suc n)).heap in
-      let claims = read_claims (IsInUse heap) heap read limits.hash operation.call operation.access operation.line reads (line_behind limits states last known.run n h actor operation runs) in
+      let claims = read_claims (IsInUse heap) heap read limits.hash operation.call operation.access operation.line reads (line_behind known.run n h actor operation runs) in
       let found = read_link (IsInUse heap) heap read.indirection read.line claims in
       (safe_of found, meets_of found)
 
@@ -270,7 +270,7 @@ module _ (limits : Bounds) (ok : AreBounds limits) (steps : List Step) (known : 
       subst (λ (r : ℕ → Record). r (suc n) ≡ noted_progress (r n) (states n).steps g.actor (progress_of (states n) g.operation)) (sym same) recorded in
       let told : moment_after (known.run.records n) (states n).steps (progress_of (states n) g.operation) (moment_at (known.run.records n) g.actor) ≡ known_after g =
       sym (ap (λ r. moment_at r g.actor) noted
-      ∙ moment_own (states n) (known.run.records n) g.actor _ (alike limits states last known.run n (omega arith)) (go_actor (states n) g.actor (allowed leads.1)))
+      ∙ moment_own (states n) (known.run.records n) g.actor _ (alike known.run n (omega arith)) (go_actor (states n) g.actor (allowed leads.1)))
       ∙ ap (λ (r : ℕ → Record). moment_at (r (suc n)) g.actor) same in
       subst (λ j. IsMoment w j m (known_after g).read_at (known_after g).moment n) g.of
       (subst (λ (x : Moment). IsMoment w g.read.indirection m x.read_at x.moment n) told

@@ -223,7 +223,7 @@ module _ (limits : Bounds) (states : ℕ → State) (last : ℕ) (known : Known 
       Decided states t m p (verdict_by licensed pending) → (known.run.records (suc t)).commits ≡ commits_after (known.run.records t) t (committed_so m (verdict_by licensed pending)) →
       ReadTurn w t i (read.Decide m p told) (after_decide m (verdict_by licensed pending))
   decide_turn i m p told finds found g true true l e d c =
-      let steps = steps_at limits states last known.run t (omega arith) in
+      let steps = steps_at known.run t (omega arith) in
       CommitsTurn (licensed_so told _ l ∙ ap (λ (y : ℕ). Some y) (g ∙ sym (generation_stays limits states last known t i (omega arith) finds.link)))
       (commits_words states known.run.records last known.closing t m p found.made (sym found.prev ∙ pending_so (prev_at (states t).heap m) p e) d
       (λ none. commit_here (known.run.records t) (known.run.records (suc t)) t m c none) (λ q apart. commit_elsewhere (known.run.records t) (known.run.records (suc t)) t m q c apart))

@@ -42,7 +42,7 @@ module _ (limits : Bounds) (states : ℕ → State) (last : ℕ) (known : Known 
   line_facts = record {
     acts = known.acts t h actor o moves operation is;
     commits = ap (λ (r : Record). r.commits) notes
-        ∙ ap (λ n. commits_after (known.run.records t) n (committed_now (states t) operation)) (steps_at limits states last known.run t (omega arith));
+        ∙ ap (λ n. commits_after (known.run.records t) n (committed_now (states t) operation)) (steps_at known.run t (omega arith));
     asks = λ i main p asked writable r plain c closed. known.open_root t h actor operation is i main p asked writable r plain c closed;
     stage = ap stage_of_actor is;
     built = known.built_from t h actor operation is;
@@ -52,7 +52,7 @@ module _ (limits : Bounds) (states : ℕ → State) (last : ℕ) (known : Known 
   pub reading_turn : (i : Ref) (x : ReadLine) → stage_of operation.line ≡ Reads i x →
       ReadTurn (words_of states known.run.records last known.closing) t i x (read_after (states t).heap operation.access (word_at (states t) (handle_of operation.call)) i x)
   reading_turn i x on =
-      own_turn limits states last known t h actor operation operation.line line_facts i x on (λ j m. Unit {0}) (asks_rightly limits states last known.run t (omega arith) actor operation is)
+      own_turn limits states last known t h actor operation operation.line line_facts i x on (λ j m. Unit {0}) (asks_rightly known.run t (omega arith) actor operation is)
 
   -- what it gives
   given_now : (i : Ref) (x : ReadLine) (m : Ref) → stage_of operation.line ≡ Reads i x →
@@ -70,7 +70,7 @@ pub remembers_at : (limits : Bounds) (states : ℕ → State) (last : ℕ) (know
     operation_of (states t) k ≡ Some operation → Remembers (λ i m. Given (words_of states known.run.records last known.closing) t k i m) (operation.access ≡ Writable) operation.line
 remembers_at limits states last known t h k operation is =
     subst (λ x. OfActor (λ id i m. Given (words_of states known.run.records last known.closing) t k i m) x) is
-    (each_remembers limits states last known.run (λ v j id i m. Given (words_of states known.run.records last known.closing) v j i m) (λ v j id i m g. given_later g)
+    (each_remembers known.run (λ v j id i m. Given (words_of states known.run.records last known.closing) v j i m) (λ v j id i m g. given_later g)
     (λ v b j x o m found e i l n on gives. given_now limits states last known v b j x o m found e i l n on gives) t h k)
 
 -- ---- each step is a turn
@@ -100,13 +100,13 @@ module _ (limits : Bounds) (states : ℕ → State) (last : ℕ) (known : Known 
       λ j apart. ap (λ (s : State). operation_of s j) e ∙ go_others (states t) actor operation (actor_counts (states t) actor operation is) j apart in
       let before : w.stage t actor ≡ stage_of operation.line = ap stage_of_actor is in
       let after : w.stage (suc t) actor ≡ stage_of (line_after (states t) operation operation.line) = ap stage_of_actor own ∙ mark_stage m (Some (operation_after (states t) operation)) in
-      let is_alike = alike limits states last known.run t (omega arith) in
+      let is_alike = alike known.run t (omega arith) in
       let made = moment_after (known.run.records t) (states t).steps (progress_of (states t) operation) (moment_at (known.run.records t) actor) in
       let counted = counts_from (action_of (states t) operation) in
       let from_after : w.from (suc t) actor ≡ read_at_after t counted (w.from t actor) =
       ap (λ (r : Record). (moment_at r actor).read_at) noted
       ∙ ap (λ (x : Moment). x.read_at) (moment_own (states t) (known.run.records t) actor made is_alike (go_actor (states t) actor d))
-      ∙ ap (λ n. read_at_after n counted (w.from t actor)) (steps_at limits states last known.run t (omega arith)) in
+      ∙ ap (λ n. read_at_after n counted (w.from t actor)) (steps_at known.run t (omega arith)) in
       let others_noted : (j : ℕ) → (j ≡ actor → ⊥) → moment_at (known.run.records (suc t)) j ≡ moment_at (known.run.records t) j =
       λ j apart. ap (λ r. moment_at r j) noted ∙ moment_others (known.run.records t) actor j made (actor_counts (states t) actor operation is) apart in
       Acts actor (subst (λ s. Moves w t actor s (w.stage (suc t) actor)) (sym before) (subst (λ s. Moves w t actor (stage_of operation.line) s) (sym after) next))

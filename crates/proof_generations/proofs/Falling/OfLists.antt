@@ -155,13 +155,13 @@ module _ (limits : Bounds) (steps : List Step) (ok : AreBounds limits) where
   falls_at_end : FallsIn (states last) (is_run.records last)
   unfolding FallsIn
   falls_at_end i child b =
-      let I = safe_at limits states last is_run last (omega arith) in
+      let I = safe_at is_run last (omega arith) in
       let used = b.has.0 in
       let main = has_main_used (states last) I i b.main used b.has.1 b.is_main in
       let used_child =
       All-contains (IsInUse (states last).heap) (entries_of (node_at (states last).heap b.main)) child (entries_used (IsInUse (states last).heap) (states last).heap (node_at (states last).heap b.main)
       (node_claims (states last) I b.main main)) b.among in
-      let falls = falls_so limits states last is_run i child (below_so limits states last is_run i child used used_child b.main main b.has.1 b.is_main b.among b.link) in
+      let falls = falls_so is_run i child (below_so is_run i child used used_child b.main main b.has.1 b.is_main b.among b.link) in
       (falls.0, λ opened. falls.1 (opened_so (generation_at (states last).heap i) opened))
 
 pub fall_below : FallBelow

@@ -41,16 +41,16 @@ module _ (limits : Bounds) (steps : List Step) (ok : AreBounds limits) (n : ℕ)
   late_of actor operation r at runs no_swap reads closed =
       let stage = reads_stage operation.line r no_swap reads in
       let moves = step_leads limits steps n (step.Go actor) at in
-      let goes = reads_goes limits states last is_run n within actor operation runs r stage in
+      let goes = reads_goes is_run n within actor operation runs r stage in
       let noted = step_noted limits steps n (step.Go actor) at ∙ noted_going (states n) (is_run.records n) actor operation _ runs refl goes in
-      let (c, before, is, since) = closed_before_read limits states last is_run n (omega arith) actor operation r runs reads closed in (
+      let (c, before, is, since) = closed_before_read is_run n (omega arith) actor operation r runs reads closed in (
         c,
-        closed_until limits states last is_run n last (omega arith) (omega arith) _ c is,
-        late_after limits states last is_run n within actor operation runs r stage noted (go_actor (states n) actor (not_denied moves.1)) c before since,
+        closed_until is_run n last (omega arith) (omega arith) _ c is,
+        late_after is_run n within actor operation runs r stage noted (go_actor (states n) actor (not_denied moves.1)) c before since,
       )
 
   generation_so : (i : Ref) → HasIndirection (states_of limits steps n) i → gen_of states last i ≡ generation_at (states_of limits steps n).heap i
-  generation_so i has = used_generation limits states last is_run n (omega arith) i has.0
+  generation_so i has = used_generation is_run n (omega arith) i has.0
 
 pub read_for_good : ReadForGood
 read_for_good limits steps ok n h i m given has closed k after within still =
